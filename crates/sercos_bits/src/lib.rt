@@ -1,0 +1,2 @@
+//! Bit lists, byte lists of fixed capacity, and the frame check sequence.
+#![tactic(auto)]

@@ -1,0 +1,2 @@
+//! Where bytes come from and where they go.
+#![tactic(auto)]

@@ -1,0 +1,4 @@
+pub mod Bits
+pub mod CheckSequence
+pub mod Frames
+pub mod Streams
