@@ -1,0 +1,96 @@
+-- The lines of `show`: `raw COUNT HEX` with single spaces. COUNT is a number of bits in decimal digits without
+-- leading zeros, at most 19696. HEX has two digits of either case for each eight bits begun, the first bit being the
+-- least significant one of the first byte; bits past the last one are zeros. For no bits HEX is `-`.
+use Rattle.std.specs.Prelude.{ℕ, ◌+◌, ◌-◌, ◌*◌, ◌/◌, ◌^◌, ◌==◌, nat_eq, nat_lt, nat_le, Bool, false, not, ◌&&◌, if◌then◌else◌, List, [], ◌∷◌, length, take, drop, slice_index, codes, Option, Some, None, Result, Ok, Err}
+use Rattle.std.specs.Bool.{then_some}
+use Rattle.std.specs.Char.{is_ascii_digit, is_ascii_hexdigit}
+use Rattle.std.specs.List.{prefix_len, common_prefix_len}
+use Rattle.std.specs.Option.{option_or, option_map}
+use Rattle.std.specs.Result.{result_unwrap_or}
+use Rattle.std.specs.Str.Parse.{digits_value}
+use Rattle.hex.specs.Hex.{decode_of}
+use Rattle.sercos_model.specs.Bits.{bits_of}
+
+-- the greatest COUNT: a frame of 2048 content bytes has at most so many bits
+abbrev pub most_bits : ℕ
+most_bits = 19696
+
+-- the bytes that hexadecimal digits spell, or none where they spell no bytes
+unfoldable pub hex_bytes : List ℕ → List ℕ
+hex_bytes text = result_unwrap_or (decode_of text) []
+
+-- how many digits the HEX of so many bits has
+unfoldable pub wanted_digits : ℕ → ℕ
+wanted_digits count = 2 * ((count + 7) / 8)
+
+-- whether the last byte of so many bits has a one behind the last bit
+unfoldable pub has_spare : ℕ → ℕ → Bool
+has_spare count byte = nat_le (2 ^ (count - 8 * ((count + 7) / 8 - 1))) byte
+
+-- The faults of a part of a line are places, from 0 on, counted from the part's first byte. A missing byte's place is
+-- the part's length.
+
+-- the kind: the first byte that differs from those of `raw `
+unfoldable pub kind_fault : List ℕ → Option ℕ
+kind_fault line = then_some (nat_lt (common_prefix_len nat_eq line (codes "raw ")) 4) (common_prefix_len nat_eq line (codes "raw "))
+
+-- COUNT and the space behind it: no digit, a digit behind a leading zero, a number too large (at its first digit),
+-- and another byte than a space
+unfoldable pub count_fault : List ℕ → Option ℕ
+count_fault text =
+    let digits = prefix_len is_ascii_digit text in
+    option_or (then_some (digits == 0) 0)
+    (option_or (then_some ((slice_index text 0 == 48) && nat_lt 1 digits) 1)
+    (option_or (then_some (nat_lt most_bits (digits_value 10 (take digits text))) 0)
+    (then_some (not (slice_index text digits == 32)) digits)))
+
+-- the HEX of no bits: another byte than `-`, and a byte behind it
+unfoldable pub dash_fault : List ℕ → Option ℕ
+dash_fault text = option_or (then_some (not (slice_index text 0 == 45)) 0) (then_some (nat_lt 1 (length text)) 1)
+
+-- The HEX of at least one bit. The last pair's spare bits are refused at its first digit, whether that digit alone
+-- shows them or the second one. Elsewhere the first byte that is no digit is refused, and then a byte too many.
+unfoldable pub digits_fault : ℕ → List ℕ → Option ℕ
+digits_fault count text =
+    let wanted = wanted_digits count in
+    let digits = prefix_len is_ascii_hexdigit text in
+    let last = wanted - 2 in
+    option_or (then_some (nat_le digits last) digits)
+    (option_or (then_some (has_spare count (slice_index (hex_bytes (slice_index text last ∷ 48 ∷ [])) 0)) last)
+    (option_or (then_some (nat_lt digits wanted) digits)
+    (option_or (then_some (has_spare count (slice_index (hex_bytes (take 2 (drop last text))) 0)) last)
+    (then_some (nat_lt wanted (length text)) wanted))))
+
+unfoldable pub hex_fault : ℕ → List ℕ → Option ℕ
+hex_fault count text = if count == 0 then dash_fault text else digits_fault count text
+
+-- the parts of a line whose kind has no fault
+abbrev pub count_text : List ℕ → List ℕ
+count_text line = drop 4 line
+
+abbrev pub count_of : List ℕ → ℕ
+count_of text = digits_value 10 (take (prefix_len is_ascii_digit text) text)
+
+abbrev pub hex_text : List ℕ → List ℕ
+hex_text text = drop (prefix_len is_ascii_digit text + 1) text
+
+-- a place in what stands behind so many bytes
+abbrev pub behind : ℕ → Option ℕ → Option ℕ
+behind bytes place = option_map (λ p. bytes + p) place
+
+-- COUNT HEX
+unfoldable pub numbers_fault : List ℕ → Option ℕ
+numbers_fault text =
+    option_or (count_fault text) (behind (prefix_len is_ascii_digit text + 1) (hex_fault (count_of text) (hex_text text)))
+
+-- the place of the first byte of a line that can't stand, if there is one
+unfoldable pub line_fault : List ℕ → Option ℕ
+line_fault line = option_or (kind_fault line) (behind 4 (numbers_fault (count_text line)))
+
+-- the bits of HEX
+unfoldable pub hex_bits : ℕ → List ℕ → List Bool
+hex_bits count text = take count (bits_of (hex_bytes (take (wanted_digits count) text)))
+
+-- the bits that a line without a fault gives
+unfoldable pub line_bits : List ℕ → List Bool
+line_bits line = hex_bits (count_of (count_text line)) (hex_text (count_text line))

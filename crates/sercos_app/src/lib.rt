@@ -1,0 +1,4 @@
+//! The top call: from words and bytes to a status and bytes.
+#![tactic(auto)]
+
+mod text;
