@@ -1,4 +1,5 @@
 //! The top call: from words and bytes to a status and bytes.
 #![tactic(auto)]
 
+mod line;
 mod text;
