@@ -19,6 +19,10 @@ most_bits = 19696
 unfoldable pub hex_bytes : List ℕ → List ℕ
 hex_bytes text = result_unwrap_or (decode_of text) []
 
+-- the byte that two hexadecimal digits spell, or 0 where they are no such digits
+unfoldable pub byte_of : ℕ → ℕ → ℕ
+byte_of high low = slice_index (hex_bytes (high ∷ low ∷ [])) 0
+
 -- how many digits the HEX of so many bits has
 unfoldable pub wanted_digits : ℕ → ℕ
 wanted_digits count = 2 * ((count + 7) / 8)
@@ -56,9 +60,9 @@ digits_fault count text =
     let digits = prefix_len is_ascii_hexdigit text in
     let last = wanted - 2 in
     option_or (then_some (nat_le digits last) digits)
-    (option_or (then_some (has_spare count (slice_index (hex_bytes (slice_index text last ∷ 48 ∷ [])) 0)) last)
+    (option_or (then_some (has_spare count (byte_of (slice_index text last) 48)) last)
     (option_or (then_some (nat_lt digits wanted) digits)
-    (option_or (then_some (has_spare count (slice_index (hex_bytes (take 2 (drop last text))) 0)) last)
+    (option_or (then_some (has_spare count (byte_of (slice_index text last) (slice_index text (last + 1)))) last)
     (then_some (nat_lt wanted (length text)) wanted))))
 
 unfoldable pub hex_fault : ℕ → List ℕ → Option ℕ
