@@ -95,6 +95,9 @@ line_fault line = option_or (kind_fault line) (behind 4 (numbers_fault (count_te
 unfoldable pub hex_bits : ℕ → List ℕ → List Bool
 hex_bits count text = take count (bits_of (hex_bytes (take (wanted_digits count) text)))
 
+unfoldable pub numbers_bits : List ℕ → List Bool
+numbers_bits text = hex_bits (count_of text) (hex_text text)
+
 -- the bits that a line without a fault gives
 unfoldable pub line_bits : List ℕ → List Bool
-line_bits line = hex_bits (count_of (count_text line)) (hex_text (count_text line))
+line_bits line = numbers_bits (count_text line)

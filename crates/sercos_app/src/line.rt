@@ -1,10 +1,14 @@
 // The lines of `show`: `raw COUNT HEX`. A fault is the place, from 0 on, of the first byte that can't stand; that of a
 // missing byte is one past the end.
-ghost use Rattle.std.specs.Prelude.{◌≡◌, ℕ, ◌+◌, ◌-◌, ◌*◌, ◌/◌, ◌<◌, ◌≤◌, min, [], ◌∷◌, length, take, drop, slice_index, nat_eq, codes};
+ghost use Rattle.std.specs.Prelude.{◌≡◌, ℕ, ◌+◌, ◌-◌, ◌*◌, ◌/◌, ◌<◌, ◌≤◌, min, [], ◌∷◌, OnOk, IfErr, IfSome, IfNone, length, take, drop, slice_index, nat_eq, codes};
 ghost use Rattle.std.specs.Char.{is_ascii_digit, is_ascii_hexdigit};
 ghost use Rattle.std.specs.List.{prefix_len, common_prefix_len};
+ghost use Rattle.std.specs.Result.{result_err};
 ghost use Rattle.std.specs.Str.Parse.{digits_value};
-ghost use Rattle.sercos_app.specs.Line.{byte_of, wanted_digits, has_spare, kind_fault, count_fault, dash_fault, digits_fault, hex_fault};
+ghost use Rattle.sercos_model.specs.Bits.{bits_of};
+ghost use Rattle.sercos_app.specs.Line.{hex_bytes, byte_of, wanted_digits, has_spare, kind_fault, count_fault, dash_fault, digits_fault, hex_fault, hex_bits, numbers_fault, numbers_bits, line_fault, line_bits};
+
+use sercos_bits::BitBuf;
 
 /// What a line begins with.
 const KIND: &[u8; 4] = b"raw ";
@@ -14,7 +18,8 @@ const MOST: usize = 19696;
 
 // How many bytes of the kind a line begins with.
 fn shared_with_kind(line: &[u8]) -> usize
-    ensures { result ≡ common_prefix_len nat_eq line.now (codes "raw ") }
+    ensures value { result ≡ common_prefix_len nat_eq line.now (codes "raw ") }
+    ensures bound { result ≤ length line.now }
 {
     for (place, wanted) in KIND.iter().enumerate() {
         if line.get(place) != Some(wanted) {
@@ -27,6 +32,7 @@ fn shared_with_kind(line: &[u8]) -> usize
 // How many digits a text begins with, and the number that they spell, or 19697 for a greater one.
 fn leading_number(text: &[u8]) -> (usize, usize)
     ensures digits { result.0 ≡ prefix_len is_ascii_digit text.now }
+    ensures bound { result.0 ≤ length text.now }
     ensures number { result.1 ≡ min (digits_value 10 (take result.0 text.now)) 19697 }
 {
     let mut number = 0;
@@ -87,7 +93,8 @@ fn has_spare(count: usize, byte: u8) -> bool
 // The fault of the HEX of no bits.
 #[tactic(auto, unfolding(crate::specs::Line::dash_fault))]
 fn dash_fault(text: &[u8]) -> Option<usize>
-    ensures { result ≡ dash_fault text.now }
+    ensures value { result ≡ dash_fault text.now }
+    ensures bound { IfSome result (λ place. place ≤ length text.now) }
 {
     if text.first() != Some(&b'-') {
         return Some(0);
@@ -100,7 +107,8 @@ fn dash_fault(text: &[u8]) -> Option<usize>
 fn digits_fault(count: usize, text: &[u8]) -> Option<usize>
     requires some { 0 < count }
     requires most { count ≤ 19696 }
-    ensures { result ≡ digits_fault count text.now }
+    ensures value { result ≡ digits_fault count text.now }
+    ensures bound { IfSome result (λ place. place ≤ length text.now) }
 {
     let wanted = wanted_digits(count);
     let last = wanted - 2;
@@ -123,7 +131,8 @@ fn digits_fault(count: usize, text: &[u8]) -> Option<usize>
 #[tactic(auto, unfolding(crate::specs::Line::hex_fault))]
 fn hex_fault(count: usize, text: &[u8]) -> Option<usize>
     requires { count ≤ 19696 }
-    ensures { result ≡ hex_fault count text.now }
+    ensures value { result ≡ hex_fault count text.now }
+    ensures bound { IfSome result (λ place. place ≤ length text.now) }
 {
     if count == 0 {
         dash_fault(text)
@@ -137,7 +146,9 @@ fn hex_fault(count: usize, text: &[u8]) -> Option<usize>
 fn count_fault(text: &[u8], digits: usize, number: usize) -> Option<usize>
     requires digits { digits ≡ prefix_len is_ascii_digit text.now }
     requires number { number ≡ min (digits_value 10 (take digits text.now)) 19697 }
-    ensures { result ≡ count_fault text.now }
+    ensures value { result ≡ count_fault text.now }
+    ensures none { IfNone result ((digits < length text.now) × (number ≤ 19696)) }
+    ensures bound { IfSome result (λ place. place ≤ length text.now) }
 {
     if digits == 0 {
         return Some(0);
@@ -149,4 +160,80 @@ fn count_fault(text: &[u8], digits: usize, number: usize) -> Option<usize>
         return Some(0);
     }
     (text.get(digits) != Some(&b' ')).then_some(digits)
+}
+
+// The digits of HEX, or those that are there.
+fn hex_digits(count: usize, text: &[u8]) -> &[u8]
+    requires { count ≤ 19696 }
+    ensures value { result.now ≡ take (wanted_digits count) text.now }
+    ensures most { length result.now ≤ 4924 }
+{
+    &text[..wanted_digits(count).min(text.len())]
+}
+
+// Replaces the bits by those of the bytes that digits spell.
+#[tactic(auto, unfolding(crate::specs::Line::hex_bytes, sercos_model::specs::Bits::bits_of))]
+fn set_bits(digits: &[u8], bits: &mut BitBuf)
+    requires { length digits.now ≤ 4924 }
+    ensures { bits.new ≡ bits_of (hex_bytes digits.now) }
+{
+    bits.clear();
+    let mut bytes = [0u8; 2462];
+    let room = &mut bytes[..digits.len() / 2];
+    match hex::decode_to_slice(digits, room) {
+        Ok(()) => sercos_bits::bits_of(room, bits).unwrap(),
+        Err(_) => {}
+    }
+}
+
+// Reads HEX.
+#[tactic(auto, unfolding(crate::specs::Line::hex_bits))]
+fn read_hex(count: usize, text: &[u8], bits: &mut BitBuf) -> Result<(), usize>
+    requires { count ≤ 19696 }
+    ensures fault { result_err result ≡ hex_fault count text.now }
+    ensures bits { OnOk result (bits.new ≡ hex_bits count text.now) }
+    ensures bound { IfErr result (λ place. place ≤ length text.now) }
+{
+    if let Some(place) = hex_fault(count, text) {
+        return Err(place);
+    }
+    set_bits(hex_digits(count, text), bits);
+    bits.cut(count);
+    Ok(())
+}
+
+// Reads COUNT HEX.
+#[tactic(auto, unfolding(crate::specs::Line::numbers_fault, crate::specs::Line::numbers_bits))]
+fn read_numbers(text: &[u8], bits: &mut BitBuf) -> Result<(), usize>
+    ensures fault { result_err result ≡ numbers_fault text.now }
+    ensures bits { OnOk result (bits.new ≡ numbers_bits text.now) }
+    ensures bound { IfErr result (λ place. place ≤ length text.now) }
+{
+    let (digits, count) = leading_number(text);
+    if let Some(place) = count_fault(text, digits, count) {
+        return Err(place);
+    }
+    let behind = digits + 1;
+    match read_hex(count, &text[behind..], bits) {
+        Ok(()) => Ok(()),
+        Err(place) => Err(behind + place),
+    }
+}
+
+/// Replaces the bits by those that a line gives. The error is the place, from 0 on, of the first byte of the line that
+/// can't stand; then the bits are of no use.
+#[tactic(auto, unfolding(crate::specs::Line::line_fault, crate::specs::Line::kind_fault, crate::specs::Line::line_bits))]
+pub fn read_line(line: &[u8], bits: &mut BitBuf) -> Result<(), usize>
+    ensures fault { result_err result ≡ line_fault line.now }
+    ensures bits { OnOk result (bits.new ≡ line_bits line.now) }
+    ensures bound { IfErr result (λ place. place ≤ length line.now) }
+{
+    let shared = shared_with_kind(line);
+    if shared < KIND.len() {
+        return Err(shared);
+    }
+    match read_numbers(&line[KIND.len()..], bits) {
+        Ok(()) => Ok(()),
+        Err(place) => Err(KIND.len() + place),
+    }
 }

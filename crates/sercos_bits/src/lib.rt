@@ -1,2 +1,10 @@
 //! Bit lists, byte lists of fixed capacity, and the frame check sequence.
 #![tactic(auto)]
+
+mod bit_buf;
+mod byte_list;
+mod spelling;
+
+pub use bit_buf::{BitBuf, MAX_BITS};
+pub use byte_list::{ByteList, Bytes, Content, Full, Text};
+pub use spelling::{BadBits, bits_of, bytes_of, number_of};

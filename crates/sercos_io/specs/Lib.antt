@@ -1,0 +1,4 @@
+pub mod Adapters
+pub mod Memory
+pub mod ReadAll
+pub mod Status

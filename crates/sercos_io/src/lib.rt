@@ -1,2 +1,22 @@
-//! Where bytes come from and where they go.
+//! Where bytes come from and where they go: sources and sinks with a count of their faults, in memory and over
+//! std's readers and writers, the words of a command, and the status that a command ends with.
 #![tactic(auto)]
+
+mod adapters;
+mod calls;
+mod memory_sink;
+mod memory_source;
+mod sink;
+mod source;
+mod status;
+mod whole;
+mod words;
+
+pub use adapters::{StdSink, StdSource};
+pub use memory_sink::MemorySink;
+pub use memory_source::{MemorySource, PlainSource};
+pub use sink::{Sink, WriteFailed};
+pub use source::{ReadFailed, Source};
+pub use status::Status;
+pub use whole::{ReadAll, read_all, write_all};
+pub use words::Words;

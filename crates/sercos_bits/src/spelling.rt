@@ -1,0 +1,85 @@
+ghost use Rattle.std.specs.Prelude.{◌≡◌, ℕ, ◌+◌, ◌*◌, ◌^◌, ◌<◌, ◌≤◌, ◌↔◌, Bool, List, [], ◌∷◌, ◌++◌, length, IsErr, OnOk, OnErr, IfOk, IfErr, Some, None};
+ghost use Rattle.sercos_model.specs.Bits.{low_bits, bits_of, bytes_of, number_of, AreBytes};
+ghost use Rattle.sercos_bits.specs.Spelling.{bad_bits_of};
+
+use crate::bit_buf::{BitBuf, MAX_BITS};
+use crate::byte_list::{Content, Full};
+
+/// Why bits spell no content.
+#[derive(Clone, Copy, Debug, PartialEq, Eq)]
+pub enum BadBits {
+    /// Their number is no multiple of eight: how many bits stand past the last whole byte, 1 to 7.
+    Ragged(usize),
+    /// They spell more than 2048 bytes.
+    Long,
+}
+
+/// Appends the eight bits of a byte, the least significant first, where there is room for them.
+fn push_byte(byte: u8, out: &mut BitBuf)
+    requires { length out.old + 8 ≤ 19696 }
+    ensures { out.new ≡ out.old ++ low_bits 8 byte }
+{
+    let mut rest = byte;
+    for _ in 0..u8::BITS {
+        out.push_within(rest % 2 == 1);
+        rest /= 2;
+    }
+}
+
+/// Appends the bits of bytes, the least significant of each byte first. `Full` exactly where they have no room, and then
+/// nothing is appended.
+pub fn bits_of(bytes: &[u8], out: &mut BitBuf) -> Result<(), Full>
+    ensures full { IsErr result ↔ (19696 < length out.old + 8 * length bytes.now) }
+    ensures ok { OnOk result (out.new ≡ out.old ++ bits_of bytes.now) }
+    ensures err { OnErr result (out.new ≡ out.old) }
+{
+    if bytes.len() > (MAX_BITS - out.len()) / 8 {
+        return Err(Full);
+    }
+    for byte in bytes {
+        push_byte(*byte, out);
+    }
+    Ok(())
+}
+
+/// The number that at most sixteen bits spell, the least significant first.
+pub fn number_of(bits: &[bool]) -> u16
+    requires { length bits.now ≤ 16 }
+    ensures value { result ≡ number_of bits.now }
+    ensures bound { result < 2 ^ length bits.now }
+{
+    let mut number = 0u16;
+    for place in (0..bits.len()).rev() {
+        number = 2 * number + u16::from(bits[place]);
+    }
+    number
+}
+
+/// Replaces the content by the bytes that bits spell, eight bits each, and answers their number. A refusal leaves the
+/// content as it was: `Ragged` where the number of bits is no multiple of eight, else `Long` where there are more than
+/// 2048 bytes.
+pub fn bytes_of(bits: &BitBuf, out: &mut Content) -> Result<usize, BadBits>
+    ensures ok { OnOk result (out.new ≡ bytes_of bits.now) }
+    ensures count { IfOk result (λ count. count ≡ length out.new) }
+    ensures inverse { OnOk result (bits_of out.new ≡ bits.now) }
+    ensures bytes { OnOk result (AreBytes out.new) }
+    ensures none { OnOk result (bad_bits_of bits.now ≡ None) }
+    ensures bad { IfErr result (λ bad. bad_bits_of bits.now ≡ Some bad) }
+    ensures err { OnErr result (out.new ≡ out.old) }
+{
+    let list = bits.as_slice();
+    let rest = list.len() % 8;
+    if rest != 0 {
+        return Err(BadBits::Ragged(rest));
+    }
+    let count = list.len() / 8;
+    if count > 2048 {
+        return Err(BadBits::Long);
+    }
+    out.clear();
+    for place in 0..count {
+        let number = number_of(&list[8 * place..8 * place + 8]);
+        out.push_within(number as u8);
+    }
+    Ok(count)
+}

@@ -1,0 +1,22 @@
+-- What it says that a source could not be read to its end.
+use Rattle.std.specs.Prelude.{◌≡◌, ℕ, ◌≤◌, List, length, Result, MatchResult}
+use Rattle.sercos_model.specs.Streams.{Rose}
+use Rattle.sercos_io.specs.declared.whole.ReadAll.{ReadAll}
+use Rattle.sercos_io.specs.declared.whole.ReadAll.TheVariants.{ReadFault, TooLong, Memory}
+
+-- what an answer other than Ok says of the count of faults: a read fault has raised it, and nothing else moves it
+abbrev pub FaultsBy : ReadAll → ℕ → ℕ → Type 0
+FaultsBy ReadFault old new = (old ≤ new) × Rose old new
+FaultsBy TooLong old new = new ≡ old
+FaultsBy Memory old new = new ≡ old
+
+-- the count of faults has risen where the answer is a read fault, and else stays
+abbrev pub ReadAllHasCause : {T : Type 0} → ℕ → ℕ → Result T ReadAll → Type 0
+ReadAllHasCause old new r = MatchResult r (λ _. new ≡ old) (λ why. FaultsBy why old new)
+
+-- What was taken from the source before an answer other than Ok: one byte more than an input may have makes it too
+-- long, and nothing is taken beyond that.
+abbrev pub HasTaken : ReadAll → List ℕ → Type 0
+HasTaken ReadFault taken = length taken ≤ 1048576
+HasTaken TooLong taken = length taken ≡ 1048577
+HasTaken Memory taken = length taken ≤ 1048576

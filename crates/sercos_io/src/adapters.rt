@@ -1,0 +1,122 @@
+//! Sources and sinks over the readers and writers of std.
+ghost use Rattle.std.specs.Prelude.{◌≡◌, ◌<◌, length, IfOk, OnErr};
+ghost use Rattle.std.specs.Io.{ReadsAtMost, WritesAtMost};
+ghost use Rattle.std.specs.Io.KnownBytes.{ReadConsumes, WriteAppends};
+ghost use Rattle.sercos_model.specs.Streams.{HasCause, HasRoom};
+ghost use Rattle.sercos_io.specs.Adapters.{AdapterState};
+ghost use Rattle.sercos_io.specs.Memory.{raised};
+
+use crate::calls::one_more;
+use crate::sink::{Sink, WriteFailed};
+use crate::source::{ReadFailed, Source};
+use std::io::{ErrorKind, Read, Write};
+use std::marker::Model;
+
+/// The number of interrupted calls in a row that is a failure.
+const MOST_INTERRUPTED: u32 = 1000;
+
+/// A source over a reader of std.
+///
+/// A contract sees the bytes that the reader has left, where they are known, and the number of reads that failed,
+/// which stands still at 2^64 - 1.
+#[derive(Drop)]
+pub struct StdSource<R: Read> {
+    reader: R,
+    faults: u64,
+}
+
+impl<R: Read> Model for StdSource<R> {
+    ghost use Rattle.sercos_io.specs.Adapters.{AdapterState};
+
+    ghost Value = { AdapterState };
+
+    ghost view = { λ s. record { bytes = R.remaining s.reader; faults = s.faults } };
+}
+
+impl<R: Read> StdSource<R> {
+    /// A source over this reader, with no failure yet.
+    pub fn new(reader: R) -> StdSource<R>
+        ensures { result ≡ record { bytes = R.remaining reader; faults = 0 } }
+    {
+        StdSource { reader, faults: 0 }
+    }
+}
+
+impl<R: Read> Source for StdSource<R> {
+    ghost left = { λ s. s.bytes };
+
+    ghost faults = { λ s. s.faults };
+
+    /// Reads from the reader. A call that was interrupted is made again, and the 1,000th in a row is a failure.
+    fn read(&mut self, piece: &mut [u8]) -> Result<usize, ReadFailed>
+        ensures bound { ReadsAtMost result piece.new }
+        ensures bytes { ReadConsumes self.old.bytes self.new.bytes result piece.new }
+        ensures cause { HasCause self.old.faults self.new.faults result }
+        ensures counted { OnErr result (self.new.faults ≡ raised self.old.faults) }
+    {
+        'tries: for _ in 0..MOST_INTERRUPTED {
+            match self.reader.read(piece) {
+                Ok(count) => return Ok(count),
+                Err(error) if error.kind() == ErrorKind::Interrupted => {}
+                Err(_) => break,
+            }
+        }
+        self.faults = one_more(self.faults);
+        Err(ReadFailed)
+    }
+}
+
+/// A sink over a writer of std. What stands in a writer's own buffer counts as written, so a writer with one is
+/// handed in by a `&mut` and flushed afterwards.
+///
+/// A contract sees the bytes that the writer holds, where they are known, and the number of writes that failed,
+/// which stands still at 2^64 - 1.
+#[derive(Drop)]
+pub struct StdSink<W: Write> {
+    writer: W,
+    faults: u64,
+}
+
+impl<W: Write> Model for StdSink<W> {
+    ghost use Rattle.sercos_io.specs.Adapters.{AdapterState};
+
+    ghost Value = { AdapterState };
+
+    ghost view = { λ s. record { bytes = W.contents s.writer; faults = s.faults } };
+}
+
+impl<W: Write> StdSink<W> {
+    /// A sink over this writer, with no failure yet.
+    pub fn new(writer: W) -> StdSink<W>
+        ensures { result ≡ record { bytes = W.contents writer; faults = 0 } }
+    {
+        StdSink { writer, faults: 0 }
+    }
+}
+
+impl<W: Write> Sink for StdSink<W> {
+    ghost held = { λ s. s.bytes };
+
+    ghost faults = { λ s. s.faults };
+
+    /// Writes to the writer. A call that was interrupted is made again, and the 1,000th in a row is a failure. So
+    /// is a 0 for a piece that isn't empty.
+    fn write(&mut self, piece: &[u8]) -> Result<usize, WriteFailed>
+        ensures bound { WritesAtMost result piece.now }
+        ensures some { IfOk result (λ count. 0 < length piece.now → 0 < count) }
+        ensures bytes { WriteAppends self.old.bytes self.new.bytes result piece.now }
+        ensures cause { HasCause self.old.faults self.new.faults result }
+        ensures room { HasRoom 0 0 result }
+        ensures counted { OnErr result (self.new.faults ≡ raised self.old.faults) }
+    {
+        'tries: for _ in 0..MOST_INTERRUPTED {
+            match self.writer.write(piece) {
+                Ok(count) if count > 0 || piece.is_empty() => return Ok(count),
+                Err(error) if error.kind() == ErrorKind::Interrupted => {}
+                _ => break,
+            }
+        }
+        self.faults = one_more(self.faults);
+        Err(WriteFailed)
+    }
+}

@@ -1,0 +1,151 @@
+//! Sources over bytes in memory.
+ghost use Rattle.std.specs.Prelude.{◌≡◌, ◌↔◌, ◌≤◌, ◌++◌, Some, min, length, take, drop, vec_items, Contains, IfOk, OnErr, IsErr, IsOk};
+ghost use Rattle.std.specs.Io.{ReadsAtMost};
+ghost use Rattle.std.specs.Io.KnownBytes.{ReadConsumes};
+ghost use Rattle.sercos_model.specs.Streams.{HasCause};
+ghost use Rattle.sercos_io.specs.Memory.{raised};
+
+use crate::calls::{copy_front, is_listed, one_more};
+use crate::source::{ReadFailed, Source};
+use std::marker::Model;
+
+/// Gives the bytes of a `Vec` in pieces of a set size, and fails the calls with the numbers that it is told.
+///
+/// A contract sees the record of the bytes to come, `left`, and of `piece`, `failing`, `calls` and `faults`. The
+/// two counts stand still at 2^64 - 1.
+#[derive(Drop)]
+pub struct MemorySource {
+    bytes: Vec<u8>,
+    place: usize,
+    piece: u32,
+    failing: Vec<u32>,
+    calls: u64,
+    faults: u64,
+}
+
+impl Model for MemorySource {
+    ghost use Rattle.std.specs.Prelude.{◌≤◌, length, drop};
+    ghost use Rattle.sercos_io.specs.Memory.{SourceState};
+
+    ghost Value = { SourceState };
+
+    ghost view = { λ s. record {
+      left = drop s.place s.bytes.items;
+      piece = s.piece;
+      failing = s.failing.items;
+      calls = s.calls;
+      faults = s.faults;
+    } };
+
+    ghost invariant = { λ s. (s.place ≤ length s.bytes.items) × (1 ≤ s.piece) };
+}
+
+impl MemorySource {
+    /// A source of these bytes. It gives at most `piece` bytes a call, which is at least 1, and fails the calls
+    /// whose numbers, counted from 1, stand in `failing`.
+    pub fn new(bytes: Vec<u8>, piece: u32, failing: Vec<u32>) -> MemorySource
+        requires { 1 ≤ piece }
+        ensures { result ≡ record {
+          left = bytes.items;
+          piece = piece;
+          failing = failing.items;
+          calls = 0;
+          faults = 0;
+        } }
+    {
+        MemorySource {
+            bytes,
+            place: 0,
+            piece,
+            failing,
+            calls: 0,
+            faults: 0,
+        }
+    }
+}
+
+impl Source for MemorySource {
+    ghost left = { λ s. Some s.left };
+
+    ghost faults = { λ s. s.faults };
+
+    /// Gives the next bytes, as many as a call gives, as the piece holds and as are left. Exactly the calls
+    /// whose numbers are listed fail.
+    fn read(&mut self, piece: &mut [u8]) -> Result<usize, ReadFailed>
+        ensures bound { ReadsAtMost result piece.new }
+        ensures bytes { ReadConsumes (Some self.old.left) (Some self.new.left) result piece.new }
+        ensures cause { HasCause self.old.faults self.new.faults result }
+        ensures fails { IsErr result ↔ Contains self.old.failing (raised self.old.calls) }
+        ensures count { IfOk result (λ count.
+            count ≡ min self.old.piece (min (length piece.old) (length self.old.left))) }
+        ensures copied { IfOk result (λ count. piece.new ≡ take count self.old.left ++ drop count piece.old) }
+        ensures ok { IfOk result (λ count. self.new ≡ record self.old {
+          left = drop count self.old.left;
+          calls = raised self.old.calls;
+        }) }
+        ensures err { OnErr result (self.new ≡ record self.old {
+          calls = raised self.old.calls;
+          faults = raised self.old.faults;
+        }) }
+        ensures err_piece { OnErr result (piece.new ≡ piece.old) }
+    {
+        self.calls = one_more(self.calls);
+        if is_listed(&self.failing, self.calls) {
+            self.faults = one_more(self.faults);
+            return Err(ReadFailed);
+        }
+        let count = copy_front(&self.bytes[self.place..], self.piece as usize, piece);
+        self.place += count;
+        Ok(count)
+    }
+}
+
+/// Gives the bytes of a `Vec`, and never fails.
+///
+/// A contract sees the list of the bytes to come.
+#[derive(Drop)]
+pub struct PlainSource {
+    bytes: Vec<u8>,
+    place: usize,
+}
+
+impl Model for PlainSource {
+    ghost use Rattle.std.specs.Prelude.{ℕ, ◌≤◌, List, length, drop};
+
+    ghost Value = { List ℕ };
+
+    ghost view = { λ s. drop s.place s.bytes.items };
+
+    ghost invariant = { λ s. s.place ≤ length s.bytes.items };
+}
+
+impl PlainSource {
+    /// A source of these bytes.
+    pub fn new(bytes: Vec<u8>) -> PlainSource
+        ensures { result ≡ bytes.items }
+    {
+        PlainSource { bytes, place: 0 }
+    }
+}
+
+impl Source for PlainSource {
+    ghost left = { λ s. Some s };
+
+    ghost faults = { λ _. 0 };
+
+    /// Gives the next bytes, as many as the piece holds and as are left. It never fails.
+    fn read(&mut self, piece: &mut [u8]) -> Result<usize, ReadFailed>
+        ensures bound { ReadsAtMost result piece.new }
+        ensures bytes { ReadConsumes (Some self.old) (Some self.new) result piece.new }
+        ensures cause { HasCause 0 0 result }
+        ensures never { IsOk result }
+        ensures count { IfOk result (λ count. count ≡ min (length piece.old) (length self.old)) }
+        ensures copied { IfOk result (λ count. piece.new ≡ take count self.old ++ drop count piece.old) }
+        ensures ok { IfOk result (λ count. self.new ≡ drop count self.old) }
+    {
+        let most = piece.len();
+        let count = copy_front(&self.bytes[self.place..], most, piece);
+        self.place += count;
+        Ok(count)
+    }
+}

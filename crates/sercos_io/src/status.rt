@@ -1,0 +1,50 @@
+//! What a command ends with.
+ghost use Rattle.std.specs.Prelude.{◌≡◌};
+
+/// What a command ends with, in the order of the exit statuses 0 to 7.
+#[derive(Clone, Copy, Debug, PartialEq, Eq)]
+pub enum Status {
+    /// The command did its work: 0.
+    Done,
+    /// The answer is no, and the output says why: 1.
+    No,
+    /// The words are no command: 2.
+    BadWords,
+    /// The input is refused, and the output says why: 3.
+    Refused,
+    /// The input could not be read: 4.
+    ReadFault,
+    /// The output could not be written: 5.
+    WriteFault,
+    /// No memory was found: 6.
+    Memory,
+    /// The input has more than 1,048,576 bytes: 7.
+    TooLong,
+}
+
+impl Status {
+    ghost use Rattle.sercos_io.specs.Status.{status_code, status_name};
+
+    /// The exit status, 0 to 7.
+    pub fn code(self) -> u8
+        ensures { result ≡ status_code self }
+    {
+        self as u8
+    }
+
+    /// The status's name, as `BadWords`.
+    pub fn name(self) -> &'static str
+        ensures { result.now ≡ status_name self }
+    {
+        match self {
+            Status::Done => "Done",
+            Status::No => "No",
+            Status::BadWords => "BadWords",
+            Status::Refused => "Refused",
+            Status::ReadFault => "ReadFault",
+            Status::WriteFault => "WriteFault",
+            Status::Memory => "Memory",
+            Status::TooLong => "TooLong",
+        }
+    }
+}

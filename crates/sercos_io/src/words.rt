@@ -1,0 +1,62 @@
+//! The words of a command.
+ghost use Rattle.std.specs.Prelude.{◌≡◌, ◌<◌, ◌↔◌, [], ◌∷◌, ◌++◌, Some, length, IsTrue, OnOk, OnErr, slice_get};
+
+use std::alloc::{AllocError, Global};
+use std::marker::Model;
+
+/// The words of a command, first to last. A contract sees the list of them, each a list of bytes.
+#[derive(Drop)]
+pub struct Words {
+    words: Vec<String>,
+}
+
+impl Model for Words {
+    ghost use Rattle.std.specs.Prelude.{ℕ, List, map, string_bytes};
+
+    ghost Value = { List (List ℕ) };
+
+    ghost view = { λ w. map string_bytes w.words.items };
+}
+
+impl Words {
+    /// No words. It takes no memory, and keeps the allocator for `push`.
+    pub fn new(alloc: Global) -> Words
+        ensures { result ≡ [] }
+    {
+        Words {
+            words: Vec::new(alloc),
+        }
+    }
+
+    /// Appends a word. The error is want of memory, after which the words are as before.
+    pub fn push(&mut self, word: &str) -> Result<(), AllocError>
+        ensures ok { OnOk result (self.new ≡ self.old ++ word.now ∷ []) }
+        ensures err { OnErr result (self.new ≡ self.old) }
+    {
+        let text = String::from_str(*self.words.allocator(), word)?;
+        self.words.push(text)?;
+        Ok(())
+    }
+
+    /// The number of words.
+    pub fn len(&self) -> usize
+        ensures { result ≡ length self.now }
+    {
+        self.words.len()
+    }
+
+    /// Whether there is no word.
+    pub fn is_empty(&self) -> bool
+        ensures { IsTrue result ↔ (self.now ≡ []) }
+    {
+        self.words.is_empty()
+    }
+
+    /// The word at a place, counted from 0. The place is below `len`.
+    pub fn get(&self, place: usize) -> &str
+        requires { place < length self.now }
+        ensures { slice_get self.now place ≡ Some result.now }
+    {
+        self.words[place].as_str()
+    }
+}
