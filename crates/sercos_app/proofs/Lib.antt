@@ -1,1 +1,3 @@
 pub mod LineLemmas
+pub mod FormLemmas
+pub mod ShowLemmas

@@ -1,2 +1,4 @@
 pub mod Line
 pub mod Show
+pub mod Form
+pub mod Answer

@@ -1,11 +1,14 @@
 -- What `show` answers to its lines.
 use Rattle.std.specs.Prelude.{ℕ, ◌+◌, ◌/◌, ◌%◌, ◌==◌, Bool, cond, List, [], ◌∷◌, ◌++◌, codes, decimal, Option, Some, None, is_some, length, slice_index_or}
 use Rattle.std.specs.List.{flat_map}
+use Rattle.std.specs.Option.{option_or, option_map}
 use Rattle.std.specs.Int.{to_be_bytes, w16}
 use Rattle.hex.specs.Hex.{encode_lower}
 use Rattle.sercos_hdlc.specs.declared.bad_frame.BadFrame.{BadFrame}
 use Rattle.sercos_hdlc.specs.declared.bad_frame.BadFrame.TheVariants.{NoOpen, Abort, NoClose, Ragged, Short, Check, After, Long}
 use Rattle.sercos_hdlc.specs.Reason.{reason_of, content_of, plain}
+use Rattle.sercos_io.specs.declared.status.Status.{Status}
+use Rattle.sercos_io.specs.declared.status.Status.TheVariants.{Done, Refused}
 use Rattle.sercos_app.specs.Line.{line_fault, line_bits}
 
 -- a line feed
@@ -45,3 +48,29 @@ with_front byte (line ∷ lines) = (byte ∷ line) ∷ lines
 unfoldable pub lines_of : List ℕ → List (List ℕ)
 lines_of [] = []
 lines_of (byte ∷ bytes) = cond (byte == 10) ([] ∷ lines_of bytes) (with_front byte (lines_of bytes))
+
+-- a status, and the bytes that are written
+pub record Answer : Type 0 where
+  pub status : Status
+  pub output : List ℕ
+
+-- the first line with a fault: its number, the lines being counted from this one on, and the fault's column, from 1 on
+unfoldable pub first_fault : ℕ → List (List ℕ) → Option (ℕ × ℕ)
+first_fault number [] = None
+first_fault number (line ∷ lines) = option_or (option_map (λ place. (number, place + 1)) (line_fault line)) (first_fault (number + 1) lines)
+
+-- the line that refuses an input at a line and a column
+abbrev pub refused_text : ℕ → ℕ → List ℕ
+refused_text line column = codes "refused line " ++ decimal line ++ codes " column " ++ decimal column ++ line_feed
+
+-- the refusal of the first line that has a fault; else the answer to each line, in order
+unfoldable pub show_text : List ℕ → Option (ℕ × ℕ) → List ℕ
+show_text bytes None = flat_map line_answer (lines_of bytes)
+show_text bytes (Some fault) = refused_text fault.0 fault.1
+
+unfoldable pub show_status : Option (ℕ × ℕ) → Status
+show_status None = Done
+show_status (Some fault) = Refused
+
+unfoldable pub show_answer : List ℕ → Answer
+show_answer bytes = let fault = first_fault 1 (lines_of bytes) in record { status = show_status fault; output = show_text bytes fault }

@@ -1,5 +1,7 @@
 //! The top call: from words and bytes to a status and bytes.
 #![tactic(auto)]
 
+mod form;
 mod line;
+mod show;
 mod text;

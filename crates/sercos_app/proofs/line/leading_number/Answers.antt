@@ -1,6 +1,5 @@
 use Rattle.std.proofs.Common.{arith}
 use Rattle.std.proofs.lemmas.Grind.{common_steps}
-use Rattle.std.proofs.lemmas.List.Sums.{prefix_len-drop_yes}
 use Rattle.sercos_app.proofs.LineLemmas.{number_more}
 use Rattle.sercos_app.proofs.line.leading_number.Goals as goal
 
