@@ -1,12 +1,14 @@
 // `show`: what lines of frames say.
 ghost use Rattle.std.specs.Prelude.{◌≡◌, ◌==◌, ◌<◌, ◌≤◌, ◌++◌, length, IfOk, OnOk, codes, decimal};
 ghost use Rattle.std.specs.List.{before_first, after_first, position_or_len};
-ghost use Rattle.sercos_app.specs.Show.{frame_text, refused_text, show_answer};
+ghost use Rattle.sercos_app.specs.Show.{line_feed, refusal_text, frame_text, refused_text, show_answer};
+ghost use Rattle.hex.specs.Hex.{encode_lower};
 ghost use Rattle.sercos_hdlc.specs.Reason.{reason_of};
 
 use crate::line::read_line;
 use crate::text::{push_hex, push_number, push_refusal, push_text};
 use sercos_bits::{BitBuf, Content};
+use sercos_hdlc::{BadFrame, unframe};
 use sercos_io::Status;
 use std::alloc::{AllocError, Global};
 
@@ -66,11 +68,36 @@ fn refusal(alloc: Global, line: u64, column: u64) -> Result<Reply, AllocError>
     })
 }
 
+// Appends `ok` and a content.
+fn push_ok(content: &[u8], out: &mut Vec<u8>) -> Result<(), AllocError>
+    requires { length content.now ≤ 2048 }
+    ensures { OnOk result (out.new.items
+        ≡ out.old.items ++ (codes "ok " ++ encode_lower content.now ++ line_feed)) }
+{
+    push_text("ok ", out)?;
+    push_hex(content, out)?;
+    push_text("\n", out)
+}
+
+// Appends `error` and a refusal of framing.
+fn push_error(bad: BadFrame, out: &mut Vec<u8>) -> Result<(), AllocError>
+    ensures { OnOk result (out.new.items
+        ≡ out.old.items ++ (codes "error " ++ refusal_text bad ++ line_feed)) }
+{
+    push_text("error ", out)?;
+    push_refusal(bad, out)?;
+    push_text("\n", out)
+}
+
 // Appends the answer to a line of these bits.
+#[tactic(auto, unfolding(crate::specs::Show::frame_text))]
 fn push_answer(bits: &BitBuf, content: &mut Content, out: &mut Vec<u8>) -> Result<(), AllocError>
     ensures { OnOk result (out.new.items ≡ out.old.items ++ frame_text bits.now (reason_of bits.now)) }
 {
-    Err(AllocError)
+    match unframe(bits, content) {
+        Ok(_) => push_ok(content.as_slice(), out),
+        Err(bad) => push_error(bad, out),
+    }
 }
 
 /// Answers the lines of a text: the refusal of the first line that has a fault, else the answer to each, in order.

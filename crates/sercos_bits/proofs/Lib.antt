@@ -1,1 +1,3 @@
+pub mod Division
+pub mod Law
 pub mod SpellingLemmas

@@ -108,7 +108,7 @@ impl BitBuf {
     pub fn assign(&mut self, other: &BitBuf)
         ensures { self.new ≡ other.now }
     {
-        self.bits.clear();
+        self.clear();
         self.bits.try_extend_from_slice(other.as_slice()).unwrap();
     }
 }

@@ -14,8 +14,11 @@ pub struct ByteList<const CAPACITY: usize> {
     bytes: ArrayVec<u8, CAPACITY>,
 }
 
-/// The content of a frame: at most 2048 bytes, the address first.
-pub type Content = ByteList<2048>;
+/// The most bytes of a frame's content.
+pub const MAX_CONTENT: usize = 2048;
+
+/// The content of a frame: at most [`MAX_CONTENT`] bytes, the address first.
+pub type Content = ByteList<MAX_CONTENT>;
 
 /// The bytes of a data block's element: at most 1024.
 pub type Bytes = ByteList<1024>;

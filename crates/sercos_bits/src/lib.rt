@@ -3,8 +3,10 @@
 
 mod bit_buf;
 mod byte_list;
+mod check_sequence;
 mod spelling;
 
 pub use bit_buf::{BitBuf, MAX_BITS};
-pub use byte_list::{ByteList, Bytes, Content, Full, Text};
+pub use byte_list::{ByteList, Bytes, Content, Full, MAX_CONTENT, Text};
+pub use check_sequence::{division_law, fcs};
 pub use spelling::{BadBits, bits_of, bytes_of, number_of};

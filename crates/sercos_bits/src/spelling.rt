@@ -3,7 +3,7 @@ ghost use Rattle.sercos_model.specs.Bits.{low_bits, bits_of, bytes_of, number_of
 ghost use Rattle.sercos_bits.specs.Spelling.{bad_bits_of};
 
 use crate::bit_buf::{BitBuf, MAX_BITS};
-use crate::byte_list::{Content, Full};
+use crate::byte_list::{Content, Full, MAX_CONTENT};
 
 /// Why bits spell no content.
 #[derive(Clone, Copy, Debug, PartialEq, Eq)]
@@ -31,6 +31,7 @@ fn push_byte(byte: u8, out: &mut BitBuf)
 pub fn bits_of(bytes: &[u8], out: &mut BitBuf) -> Result<(), Full>
     ensures full { IsErr result ↔ (19696 < length out.old + 8 * length bytes.now) }
     ensures ok { OnOk result (out.new ≡ out.old ++ bits_of bytes.now) }
+    ensures len { OnOk result (length out.new ≡ length out.old + 8 * length bytes.now) }
     ensures err { OnErr result (out.new ≡ out.old) }
 {
     if bytes.len() > (MAX_BITS - out.len()) / 8 {
@@ -73,7 +74,7 @@ pub fn bytes_of(bits: &BitBuf, out: &mut Content) -> Result<usize, BadBits>
         return Err(BadBits::Ragged(rest));
     }
     let count = list.len() / 8;
-    if count > 2048 {
+    if count > MAX_CONTENT {
         return Err(BadBits::Long);
     }
     out.clear();

@@ -2,5 +2,9 @@
 #![tactic(auto)]
 
 mod bad_frame;
+mod flags;
+mod reading;
+mod stuffing;
 
 pub use bad_frame::BadFrame;
+pub use reading::{frame_law, unframe};

@@ -6,6 +6,7 @@ mod adapters;
 mod calls;
 mod memory_sink;
 mod memory_source;
+mod plain_source;
 mod sink;
 mod source;
 mod status;
@@ -14,7 +15,8 @@ mod words;
 
 pub use adapters::{StdSink, StdSource};
 pub use memory_sink::MemorySink;
-pub use memory_source::{MemorySource, PlainSource};
+pub use memory_source::MemorySource;
+pub use plain_source::PlainSource;
 pub use sink::{Sink, WriteFailed};
 pub use source::{ReadFailed, Source};
 pub use status::Status;

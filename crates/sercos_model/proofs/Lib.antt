@@ -1,3 +1,4 @@
 pub mod BitLemmas
 pub mod CheckVectors
+pub mod FrameLemmas
 pub mod KnownBytes

@@ -11,10 +11,10 @@ pub returns-in-Err : goal.returns-in-Err
 returns-in-Err c =
     let some : 0 < length c.loop-rest.rest.now = grind (arith, nat_tests) in
     let cut : Cut c.loop-rest.rest.now c.cut_line.result.0.now c.cut_line.result.1.now =
-        record { some = some; line_is = c.cut_line.ensures.line; others_are = c.cut_line.ensures.rest } in
+    record { some = some; line_is = c.cut_line.ensures.line; others_are = c.cut_line.ensures.rest } in
     let bad : line_fault c.cut_line.result.0.now ≡ Some c.in-Err.place = sym c.in-Err.ensures.fault in
     let fault : first_fault 1 (lines_of c.args.text.now) ≡ Some (c.loop-rest.number, c.in-Err.place + 1) =
-        sym c.loop-rest.invariant.1 ∙ first_fault-bad _ _ _ _ _ cut bad in
+    sym c.loop-rest.invariant.1 ∙ first_fault-bad _ _ _ _ _ cut bad in
     record {
       status = IfOk-weaker c.refusal.result _ _ (λ reply e. e ∙ sym (show_answer-refused _ _ _ fault)) c.refusal.ensures.status;
       text = IfOk-weaker c.refusal.result _ _ (λ reply e. e ∙ sym (show_answer-refusal _ _ _ fault)) c.refusal.ensures.text;
@@ -24,7 +24,7 @@ pub loop-rest-preserved : goal.loop-rest-preserved
 loop-rest-preserved c =
     let some : 0 < length c.loop-rest.rest.now = grind (arith, nat_tests) in
     let cut : Cut c.loop-rest.rest.now c.cut_line.result.0.now c.cut_line.result.1.now =
-        record { some = some; line_is = c.cut_line.ensures.line; others_are = c.cut_line.ensures.rest } in
+    record { some = some; line_is = c.cut_line.ensures.line; others_are = c.cut_line.ensures.rest } in
     let good : line_fault c.cut_line.result.0.now ≡ None = sym c.in-Ok.ensures.fault in
     (answers-more _ _ _ _ _ _ _ cut c.in-Ok.ensures.bits c.in_ok-push_answer-in-Ok.ensures c.loop-rest.invariant.0, sym (first_fault-good _ _ _ _ cut good) ∙ c.loop-rest.invariant.1, omega (arith, c.cut_line.ensures.shorter some))
 

@@ -1,5 +1,5 @@
 use Rattle.sercos_io.proofs.Copies.{reads_front}
-use Rattle.sercos_io.proofs.memory_source.PlainSourceSource.read.Goals as goal
+use Rattle.sercos_io.proofs.plain_source.PlainSourceSource.read.Goals as goal
 
 pub returns-clause-bytes : goal.returns-clause-bytes
 returns-clause-bytes c =
