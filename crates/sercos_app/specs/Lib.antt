@@ -2,3 +2,5 @@ pub mod Line
 pub mod Show
 pub mod Form
 pub mod Answer
+pub mod TopCall
+pub mod Outcome

@@ -5,3 +5,6 @@ mod form;
 mod line;
 mod show;
 mod text;
+mod top_call;
+
+pub use top_call::sercos;

@@ -1,0 +1,269 @@
+-- What each way in which the top call can end says for its clauses.
+use Rattle.std.proofs.Common.{◌≡◌, ◌≢◌, ℕ, ◌<◌, ◌≤◌, ◌⊎◌, inl, inr, Bool, true, false, IsTrue, List, [], ◌++◌, length, take, Option, Some, None, IsSome, refl, sym, ◌∙◌, ap, subst, arith, ◌↔◌, ◌+◌, append-nil, length-append}
+use Rattle.std.proofs.lemmas.Bool.{false≢true}
+use Rattle.std.specs.Io.KnownBytes.{Appends, Consumes, IsAtEnd}
+use Rattle.sercos_model.specs.Streams.{Rose}
+use Rattle.sercos_io.specs.declared.status.Status.{Status}
+use Rattle.sercos_io.specs.declared.status.Status.TheVariants.{Done, No, BadWords, Refused, ReadFault, WriteFault, Memory, TooLong}
+use Rattle.sercos_app.specs.declared.form.Form.{Form}
+use Rattle.sercos_app.specs.declared.form.Form.TheVariants.{Show}
+use Rattle.sercos_app.specs.Answer.{command_answer, form_answer, answer_of}
+use Rattle.sercos_app.specs.Form.{form_of}
+use Rattle.sercos_app.specs.Show.{Answer, show_answer, show_status, first_fault, lines_of}
+use Rattle.sercos_app.specs.Outcome.{SourceChange, SinkChange, Writes, Outcome}
+use Rattle.sercos_app.specs.Outcome.Writes.{whole, short}
+use Rattle.sercos_app.specs.Outcome.Outcome.{no_form, unreadable, too_many, no_memory, answered}
+use Rattle.sercos_app.specs.TopCall.{writes_nothing, fault_status, ReadsWhole, TakesTooMany, IsAnswered, IsCutShort, IsAnswer}
+
+-- the statuses of answers
+data IsGiven : Status → Type 0 where
+  done : IsGiven Done
+  refused : IsGiven Refused
+
+IsGiven-fault : (fault : Option (ℕ × ℕ)) → IsGiven (show_status fault)
+unfolding show_status
+IsGiven-fault None = done
+IsGiven-fault (Some place) = refused
+
+IsGiven-answer : (form : Form) (bytes : List ℕ) → IsGiven (command_answer form bytes).status
+unfolding command_answer show_answer
+IsGiven-answer Show bytes = IsGiven-fault (first_fault 1 (lines_of bytes))
+
+answer_of-form : (words : List (List ℕ)) (bytes : List ℕ) (form : Form) → form_of words ≡ Some form → answer_of words bytes ≡ command_answer form bytes
+unfolding answer_of form_answer
+answer_of-form words bytes form e = rw e refl
+
+-- no status that is written is one of those that come before
+IsGiven-writes_nothing : {status : Status} → IsGiven status → writes_nothing status ≡ false
+unfolding writes_nothing
+IsGiven-writes_nothing done = refl
+IsGiven-writes_nothing refused = refl
+
+IsGiven-fault_writes : {status : Status} → IsGiven status → writes_nothing (fault_status status) ≡ false
+unfolding writes_nothing fault_status
+IsGiven-fault_writes done = refl
+IsGiven-fault_writes refused = refl
+
+-- a status that writing an answer ends with
+writes_nothing-Writes : {first status : Status} {text : List ℕ} {sink : SinkChange} → IsGiven first → Writes first text sink status → writes_nothing status ≡ false
+writes_nothing-Writes given (whole appends same) = IsGiven-writes_nothing given
+writes_nothing-Writes given (short count below appends kept rose full) = IsGiven-fault_writes given
+
+-- a status that comes after writing is none of those that come before
+not_before : {status other : Status} → writes_nothing status ≡ false → writes_nothing other ≡ true → status ≡ other → ⊥
+not_before after before same = false≢true (sym after ∙ ap writes_nothing same ∙ before)
+
+some_same : {A : Type 0} {x y : A} → Some x ≡ Some y → x ≡ y
+some_same e = cc
+
+-- whole bytes that a source told
+read_told : (bytes read : List ℕ) (left left' : Option (List ℕ)) → left ≡ Some bytes → ReadsWhole left left' read → read ≡ bytes
+read_told bytes read None left' told reads = absurd (cc)
+read_told bytes read (Some xs) None told reads = absurd reads.consumed
+read_told bytes read (Some xs) (Some ys) told reads =
+    let all : xs ≡ bytes = some_same told in
+    let none : ys ≡ [] = reads.ended in
+    let front : xs ≡ read ++ ys = reads.consumed in
+    sym (append-nil read) ∙ ap (λ zs. read ++ zs) (sym none) ∙ sym front ∙ all
+
+-- a source that told its bytes gave them all
+many_told : (bytes : List ℕ) (left left' : Option (List ℕ)) → left ≡ Some bytes → TakesTooMany left left' → 1048577 ≤ length bytes
+many_told bytes None left' told takes = absurd (cc)
+many_told bytes (Some xs) None told takes = absurd takes.consumed
+many_told bytes (Some xs) (Some ys) told takes =
+    let all : xs ≡ bytes = some_same told in
+    let front : xs ≡ takes.taken ++ ys = takes.consumed in
+    let lengths : length xs ≡ length takes.taken + length ys = ap length front ∙ length-append takes.taken ys in
+    omega (arith, takes.many, lengths, ap length all)
+
+-- The clauses of the top call, each from how the call ended.
+
+form_clash : (words : List (List ℕ)) (form : Form) → form_of words ≡ Some form → form_of words ≡ None → ⊥
+form_clash words form some none = cc
+
+pub at_bad_words : {words : List (List ℕ)} {source : SourceChange} {sink : SinkChange} {Unread Unwritten : Type 0} {status : Status} → Outcome words source sink Unread Unwritten status → (status ≡ BadWords) ↔ (form_of words ≡ None)
+unfolding writes_nothing
+at_bad_words (no_form nothing source_same sink_same reads writes) = (λ _. nothing, λ _. refl)
+at_bad_words (unreadable form is falls rose sink_same writes) = (λ e. absurd (cc), λ none. absurd (form_clash _ _ is none))
+at_bad_words (too_many form is reads takes sink_same writes) = (λ e. absurd (cc), λ none. absurd (form_clash _ _ is none))
+at_bad_words (no_memory form is reads sink_same writes) = (λ e. absurd (cc), λ none. absurd (form_clash _ _ is none))
+at_bad_words (answered form bytes status is reads input ends) = (λ e. absurd (not_before (writes_nothing-Writes (IsGiven-answer form bytes) ends) refl e), λ none. absurd (form_clash _ _ is none))
+
+pub at_unread : {words : List (List ℕ)} {source : SourceChange} {sink : SinkChange} {Unread Unwritten : Type 0} {status : Status} → Outcome words source sink Unread Unwritten status → status ≡ BadWords → Unread
+unfolding writes_nothing
+at_unread (no_form nothing source_same sink_same reads writes) e = source_same
+at_unread (unreadable form is falls rose sink_same writes) e = absurd (cc)
+at_unread (too_many form is reads takes sink_same writes) e = absurd (cc)
+at_unread (no_memory form is reads sink_same writes) e = absurd (cc)
+at_unread (answered form bytes status is reads input ends) e = absurd (not_before (writes_nothing-Writes (IsGiven-answer form bytes) ends) refl e)
+
+pub at_unwritten : {words : List (List ℕ)} {source : SourceChange} {sink : SinkChange} {Unread Unwritten : Type 0} {status : Status} → Outcome words source sink Unread Unwritten status → IsTrue (writes_nothing status) → Unwritten
+at_unwritten (no_form nothing source_same sink_same reads writes) e = sink_same
+at_unwritten (unreadable form is falls rose sink_same writes) e = sink_same
+at_unwritten (too_many form is reads takes sink_same writes) e = sink_same
+at_unwritten (no_memory form is reads sink_same writes) e = sink_same
+at_unwritten (answered form bytes status is reads input ends) e = absurd (false≢true (sym (writes_nothing-Writes (IsGiven-answer form bytes) ends) ∙ e))
+
+pub at_read_fault : {words : List (List ℕ)} {source : SourceChange} {sink : SinkChange} {Unread Unwritten : Type 0} {status : Status} → Outcome words source sink Unread Unwritten status → status ≡ ReadFault → Rose source.faults source.faults'
+unfolding writes_nothing
+at_read_fault (no_form nothing source_same sink_same reads writes) e = absurd (cc)
+at_read_fault (unreadable form is falls rose sink_same writes) e = rose
+at_read_fault (too_many form is reads takes sink_same writes) e = absurd (cc)
+at_read_fault (no_memory form is reads sink_same writes) e = absurd (cc)
+at_read_fault (answered form bytes status is reads input ends) e = absurd (not_before (writes_nothing-Writes (IsGiven-answer form bytes) ends) refl e)
+
+pub at_read_count : {words : List (List ℕ)} {source : SourceChange} {sink : SinkChange} {Unread Unwritten : Type 0} {status : Status} → Outcome words source sink Unread Unwritten status → source.faults ≤ source.faults'
+at_read_count (no_form nothing source_same sink_same reads writes) = omega arith
+at_read_count (unreadable form is falls rose sink_same writes) = falls
+at_read_count (too_many form is reads takes sink_same writes) = omega arith
+at_read_count (no_memory form is reads sink_same writes) = omega arith
+at_read_count (answered form bytes status is reads input ends) = omega arith
+
+pub at_read_well : {words : List (List ℕ)} {source : SourceChange} {sink : SinkChange} {Unread Unwritten : Type 0} {status : Status} → Outcome words source sink Unread Unwritten status → status ≢ ReadFault → source.faults' ≡ source.faults
+at_read_well (no_form nothing source_same sink_same reads writes) e = reads
+at_read_well (unreadable form is falls rose sink_same writes) e = absurd (e refl)
+at_read_well (too_many form is reads takes sink_same writes) e = reads
+at_read_well (no_memory form is reads sink_same writes) e = reads
+at_read_well (answered form bytes status is reads input ends) e = reads
+
+pub at_too_long : {words : List (List ℕ)} {source : SourceChange} {sink : SinkChange} {Unread Unwritten : Type 0} {status : Status} → Outcome words source sink Unread Unwritten status → status ≡ TooLong → TakesTooMany source.left source.left'
+unfolding writes_nothing
+at_too_long (no_form nothing source_same sink_same reads writes) e = absurd (cc)
+at_too_long (unreadable form is falls rose sink_same writes) e = absurd (cc)
+at_too_long (too_many form is reads takes sink_same writes) e = takes
+at_too_long (no_memory form is reads sink_same writes) e = absurd (cc)
+at_too_long (answered form bytes status is reads input ends) e = absurd (not_before (writes_nothing-Writes (IsGiven-answer form bytes) ends) refl e)
+
+-- a failed write's status is no other answer's
+fault-done : {status : Status} → IsGiven status → fault_status status ≢ Done
+unfolding fault_status
+fault-done done e = absurd (cc)
+fault-done refused e = absurd (cc)
+
+fault-no : {status : Status} → IsGiven status → fault_status status ≢ No
+unfolding fault_status
+fault-no done e = absurd (cc)
+fault-no refused e = absurd (cc)
+
+not_write_fault : {status : Status} → IsGiven status → status ≢ WriteFault
+not_write_fault done e = absurd (cc)
+not_write_fault refused e = absurd (cc)
+
+-- an answer that was written as a whole
+record IsWhole (first status : Status) (text : List ℕ) (sink : SinkChange) : Type 0 where
+  pub status_is : first ≡ status
+  pub written : Appends sink.held sink.held' text
+  pub same : sink.faults' ≡ sink.faults
+
+-- one whose writing failed
+record IsShort (first status : Status) (text : List ℕ) (sink : SinkChange) : Type 0 where
+  pub status_is : fault_status first ≡ status
+  pub count : ℕ
+  pub short : count < length text
+  pub written : Appends sink.held sink.held' (take count text)
+  pub falls : sink.faults ≤ sink.faults'
+  pub rose : Rose sink.faults sink.faults'
+  pub full : length text ≤ sink.room → ⊥
+
+whole_or_short : {first status : Status} {text : List ℕ} {sink : SinkChange} → Writes first text sink status → IsWhole first status text sink ⊎ IsShort first status text sink
+whole_or_short (whole appends same) = inl (record { status_is = refl; written = appends; same = same })
+whole_or_short (short count below appends falls rose full) =
+    inr (record { status_is = refl; count = count; short = below; written = appends; falls = falls; rose = rose; full = full })
+
+answered-whole : (words : List (List ℕ)) (form : Form) (bytes : List ℕ) (status wanted : Status) (left left' : Option (List ℕ)) (sink : SinkChange) → form_of words ≡ Some form → ReadsWhole left left' bytes → IsWhole (command_answer form bytes).status status (command_answer form bytes).output sink → status ≡ wanted → IsAnswered words wanted left left' sink.held sink.held'
+answered-whole words form bytes status wanted left left' sink is input w e =
+    record { bytes = bytes; read = input; status_is = rw (answer_of-form words bytes form is) (w.status_is ∙ e); written = rw (answer_of-form words bytes form is) w.written }
+
+answered-short : (words : List (List ℕ)) (form : Form) (bytes : List ℕ) (status wanted : Status) (left left' : Option (List ℕ)) (sink : SinkChange) → form_of words ≡ Some form → ReadsWhole left left' bytes → IsShort (command_answer form bytes).status status (command_answer form bytes).output sink → status ≡ wanted → IsCutShort words wanted left left' sink.held sink.held'
+answered-short words form bytes status wanted left left' sink is input w e =
+    record {
+      bytes = bytes;
+      read = input;
+      status_is = rw (answer_of-form words bytes form is) (w.status_is ∙ e);
+      count = w.count;
+      short = rw (answer_of-form words bytes form is) w.short;
+      written = rw (answer_of-form words bytes form is) w.written;
+    }
+
+pub at_done : {words : List (List ℕ)} {source : SourceChange} {sink : SinkChange} {Unread Unwritten : Type 0} {status : Status} → Outcome words source sink Unread Unwritten status → status ≡ Done → IsAnswered words Done source.left source.left' sink.held sink.held'
+at_done (no_form nothing source_same sink_same reads writes) e = absurd (cc)
+at_done (unreadable form is falls rose sink_same writes) e = absurd (cc)
+at_done (too_many form is reads takes sink_same writes) e = absurd (cc)
+at_done (no_memory form is reads sink_same writes) e = absurd (cc)
+at_done (answered form bytes status is reads input ends) e = elim (whole_or_short ends) [ inl w ↦ answered-whole _ form bytes _ Done _ _ _ is input w e | inr w ↦ absurd (fault-done (IsGiven-answer form bytes) (w.status_is ∙ e)) ]
+
+pub at_no : {words : List (List ℕ)} {source : SourceChange} {sink : SinkChange} {Unread Unwritten : Type 0} {status : Status} → Outcome words source sink Unread Unwritten status → status ≡ No → IsAnswered words No source.left source.left' sink.held sink.held'
+at_no (no_form nothing source_same sink_same reads writes) e = absurd (cc)
+at_no (unreadable form is falls rose sink_same writes) e = absurd (cc)
+at_no (too_many form is reads takes sink_same writes) e = absurd (cc)
+at_no (no_memory form is reads sink_same writes) e = absurd (cc)
+at_no (answered form bytes status is reads input ends) e = elim (whole_or_short ends) [ inl w ↦ answered-whole _ form bytes _ No _ _ _ is input w e | inr w ↦ absurd (fault-no (IsGiven-answer form bytes) (w.status_is ∙ e)) ]
+
+pub at_refused : {words : List (List ℕ)} {source : SourceChange} {sink : SinkChange} {Unread Unwritten : Type 0} {status : Status} → Outcome words source sink Unread Unwritten status → status ≡ Refused → ((sink.faults' ≡ sink.faults) × IsAnswered words Refused source.left source.left' sink.held sink.held') ⊎ (Rose sink.faults sink.faults' × IsCutShort words Refused source.left source.left' sink.held sink.held')
+at_refused (no_form nothing source_same sink_same reads writes) e = absurd (cc)
+at_refused (unreadable form is falls rose sink_same writes) e = absurd (cc)
+at_refused (too_many form is reads takes sink_same writes) e = absurd (cc)
+at_refused (no_memory form is reads sink_same writes) e = absurd (cc)
+at_refused (answered form bytes status is reads input ends) e = elim (whole_or_short ends) [ inl w ↦ inl (w.same, answered-whole _ form bytes _ Refused _ _ _ is input w e) | inr w ↦ inr (w.rose, answered-short _ form bytes _ Refused _ _ _ is input w e) ]
+
+pub at_write_fault : {words : List (List ℕ)} {source : SourceChange} {sink : SinkChange} {Unread Unwritten : Type 0} {status : Status} → Outcome words source sink Unread Unwritten status → status ≡ WriteFault → Rose sink.faults sink.faults' × IsCutShort words WriteFault source.left source.left' sink.held sink.held'
+at_write_fault (no_form nothing source_same sink_same reads writes) e = absurd (cc)
+at_write_fault (unreadable form is falls rose sink_same writes) e = absurd (cc)
+at_write_fault (too_many form is reads takes sink_same writes) e = absurd (cc)
+at_write_fault (no_memory form is reads sink_same writes) e = absurd (cc)
+at_write_fault (answered form bytes status is reads input ends) e = elim (whole_or_short ends) [ inl w ↦ absurd (not_write_fault (IsGiven-answer form bytes) (w.status_is ∙ e)) | inr w ↦ (w.rose, answered-short _ form bytes _ WriteFault _ _ _ is input w e) ]
+
+pub at_write_count : {words : List (List ℕ)} {source : SourceChange} {sink : SinkChange} {Unread Unwritten : Type 0} {status : Status} → Outcome words source sink Unread Unwritten status → sink.faults ≤ sink.faults'
+at_write_count (no_form nothing source_same sink_same reads writes) = omega arith
+at_write_count (unreadable form is falls rose sink_same writes) = omega arith
+at_write_count (too_many form is reads takes sink_same writes) = omega arith
+at_write_count (no_memory form is reads sink_same writes) = omega arith
+at_write_count (answered form bytes status is reads input ends) = elim (whole_or_short ends) [ inl w ↦ omega (arith, w.same) | inr w ↦ w.falls ]
+
+fault_is : {status : Status} → IsGiven status → fault_status status ≢ WriteFault → fault_status status ≡ Refused
+unfolding fault_status
+fault_is done e = absurd (e refl)
+fault_is refused e = refl
+
+pub at_write_well : {words : List (List ℕ)} {source : SourceChange} {sink : SinkChange} {Unread Unwritten : Type 0} {status : Status} → Outcome words source sink Unread Unwritten status → status ≢ WriteFault → status ≢ Refused → sink.faults' ≡ sink.faults
+at_write_well (no_form nothing source_same sink_same reads writes) e f = writes
+at_write_well (unreadable form is falls rose sink_same writes) e f = writes
+at_write_well (too_many form is reads takes sink_same writes) e f = writes
+at_write_well (no_memory form is reads sink_same writes) e f = writes
+at_write_well (answered form bytes status is reads input ends) e f = elim (whole_or_short ends) [ inl w ↦ w.same | inr w ↦ absurd (f (sym w.status_is ∙ fault_is (IsGiven-answer form bytes) (λ same. e (sym w.status_is ∙ same)))) ]
+
+-- the answer to the bytes that a source told
+told_answer : (words : List (List ℕ)) (form : Form) (bytes read : List ℕ) → form_of words ≡ Some form → read ≡ bytes → command_answer form read ≡ answer_of words bytes
+told_answer words form bytes read is same = ap (command_answer form) same ∙ sym (answer_of-form words bytes form is)
+
+pub at_answers : {words : List (List ℕ)} {source : SourceChange} {sink : SinkChange} {Unread Unwritten : Type 0} {status : Status} → Outcome words source sink Unread Unwritten status → (bytes : List ℕ) → source.left ≡ Some bytes → length bytes ≤ 1048576 → form_of words ≢ None → (Rose source.faults source.faults' → ⊥) → (Rose sink.faults sink.faults' → ⊥) → (status ≡ Memory) ⊎ IsAnswer (answer_of words bytes) status sink.held sink.held'
+at_answers (no_form nothing source_same sink_same reads writes) all told fits some well taken = absurd (some nothing)
+at_answers (unreadable form is falls rose sink_same writes) all told fits some well taken = absurd (well rose)
+at_answers (too_many form is reads takes sink_same writes) all told fits some well taken = absurd (omega (arith, many_told all _ _ told takes))
+at_answers (no_memory form is reads sink_same writes) all told fits some well taken = inl refl
+at_answers (answered form bytes status is reads input ends) all told fits some well taken = let answer = told_answer _ form all bytes is (read_told all bytes _ _ told input) in elim (whole_or_short ends) [ inl w ↦ inr (record { status_is = sym w.status_is ∙ ap (λ a. a.status) answer; written = rw (← answer) w.written }) | inr w ↦ absurd (taken w.rose) ]
+
+fault-refused : {status : Status} → status ≡ Refused → fault_status status ≡ Refused
+unfolding fault_status
+fault-refused e = rw e refl
+
+pub at_refuses : {words : List (List ℕ)} {source : SourceChange} {sink : SinkChange} {Unread Unwritten : Type 0} {status : Status} → Outcome words source sink Unread Unwritten status → (bytes : List ℕ) → source.left ≡ Some bytes → length bytes ≤ 1048576 → form_of words ≢ None → (Rose source.faults source.faults' → ⊥) → (answer_of words bytes).status ≡ Refused → (status ≡ Memory) ⊎ (status ≡ Refused)
+at_refuses (no_form nothing source_same sink_same reads writes) all told fits some well refusal = absurd (some nothing)
+at_refuses (unreadable form is falls rose sink_same writes) all told fits some well refusal = absurd (well rose)
+at_refuses (too_many form is reads takes sink_same writes) all told fits some well refusal = absurd (omega (arith, many_told all _ _ told takes))
+at_refuses (no_memory form is reads sink_same writes) all told fits some well refusal = inl refl
+at_refuses (answered form bytes status is reads input ends) all told fits some well refusal = let first : (command_answer form bytes).status ≡ Refused = ap (λ a. a.status) (told_answer _ form all bytes is (read_told all bytes _ _ told input)) ∙ refusal in elim (whole_or_short ends) [ inl w ↦ inr (sym w.status_is ∙ first) | inr w ↦ inr (sym w.status_is ∙ fault-refused first) ]
+
+pub at_exceeds : {words : List (List ℕ)} {source : SourceChange} {sink : SinkChange} {Unread Unwritten : Type 0} {status : Status} → Outcome words source sink Unread Unwritten status → (bytes : List ℕ) → source.left ≡ Some bytes → 1048577 ≤ length bytes → form_of words ≢ None → (Rose source.faults source.faults' → ⊥) → (status ≡ Memory) ⊎ (status ≡ TooLong)
+at_exceeds (no_form nothing source_same sink_same reads writes) all told many some well = absurd (some nothing)
+at_exceeds (unreadable form is falls rose sink_same writes) all told many some well = absurd (well rose)
+at_exceeds (too_many form is reads takes sink_same writes) all told many some well = inr refl
+at_exceeds (no_memory form is reads sink_same writes) all told many some well = inl refl
+at_exceeds (answered form bytes status is reads input ends) all told many some well = let same : bytes ≡ all = read_told all bytes _ _ told input in absurd (omega (arith, input.fits, ap length same))
+
+pub at_room : {words : List (List ℕ)} {source : SourceChange} {sink : SinkChange} {Unread Unwritten : Type 0} {status : Status} → Outcome words source sink Unread Unwritten status → (bytes : List ℕ) → source.left ≡ Some bytes → length (answer_of words bytes).output ≤ sink.room → sink.faults' ≡ sink.faults
+at_room (no_form nothing source_same sink_same reads writes) all told fits = writes
+at_room (unreadable form is falls rose sink_same writes) all told fits = writes
+at_room (too_many form is reads takes sink_same writes) all told fits = writes
+at_room (no_memory form is reads sink_same writes) all told fits = writes
+at_room (answered form bytes status is reads input ends) all told fits = let answer = told_answer _ form all bytes is (read_told all bytes _ _ told input) in elim (whole_or_short ends) [ inl w ↦ w.same | inr w ↦ absurd (w.full (rw answer fits)) ]

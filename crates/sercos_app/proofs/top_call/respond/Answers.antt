@@ -1,0 +1,37 @@
+use Rattle.std.proofs.Common.{sym, ◌∙◌, refl, ap, Err, ◌≡◌, ◌++◌}
+use Rattle.sercos_app.specs.TopCall.{ReadsWhole, TakesTooMany}
+use Rattle.sercos_app.specs.Outcome.{Outcome}
+use Rattle.sercos_app.specs.Outcome.Outcome.{no_form, unreadable, too_many, no_memory, answered}
+use Rattle.sercos_app.proofs.top_call.respond.Goals as goal
+
+pub returns-in_default : goal.returns-in_default
+returns-in_default g c = no_form (sym c.form_of.ensures ∙ c.in_default.is) refl refl refl refl
+
+pub returns-in-Err-ReadFault : goal.returns-in-Err-ReadFault
+returns-in-Err-ReadFault g c =
+    let cause = rw (c.in-Err-ReadFault.field-0-is) at c.in-Err-ReadFault.ensures.cause in
+    unreadable c.in-Some.form (sym c.in-Some.ensures) cause.0 cause.1 refl refl
+
+pub returns-in-Err-TooLong : goal.returns-in-Err-TooLong
+returns-in-Err-TooLong g c =
+    let cause = rw (c.in-Err-TooLong.field-0-is) at c.in-Err-TooLong.ensures.cause in
+    let taken = c.in-Err-TooLong.ensures.too_long (ap Err c.in-Err-TooLong.field-0-is) in
+    too_many c.in-Some.form (sym c.in-Some.ensures) cause (record { taken = taken.0; many = taken.2; consumed = taken.1 }) refl refl
+
+pub returns-in-Err-Memory : goal.returns-in-Err-Memory
+returns-in-Err-Memory g c =
+    let cause = rw (c.in-Err-Memory.field-0-is) at c.in-Err-Memory.ensures.cause in
+    no_memory c.in-Some.form (sym c.in-Some.ensures) cause refl refl
+
+pub returns-in-Ok-reply_of : goal.returns-in-Ok-reply_of
+returns-in-Ok-reply_of g c =
+    let read = c.in-Ok.ensures.ok in
+    let bytes_are = c.as_slice.ensures.value in
+    let status = rw bytes_are at c.in-Ok-reply_of.ensures.status in
+    let text = rw bytes_are at c.in-Ok-reply_of.ensures.text in
+    answered c.in-Some.form c.in-Ok.bytes.items _ (sym c.in-Some.ensures) c.in-Ok.ensures.cause
+    (record { consumed = read.0; ended = read.1; fits = read.2 })
+    (rw (← status, ← text) c.give.ensures)
+
+pub returns : goal.returns
+returns g c = no_memory c.in-Some.form (sym c.in-Some.ensures) c.in-Ok.ensures.cause refl refl

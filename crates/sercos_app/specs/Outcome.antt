@@ -1,0 +1,39 @@
+-- How a call of the top call went: each way in which it can end, with what is known then. The clauses of the top call
+-- are read off this.
+use Rattle.std.specs.Prelude.{◌≡◌, ℕ, ◌<◌, ◌≤◌, List, length, take, Option, Some, None}
+use Rattle.std.specs.Io.KnownBytes.{Appends}
+use Rattle.sercos_model.specs.Streams.{Rose}
+use Rattle.sercos_io.specs.declared.status.Status.{Status}
+use Rattle.sercos_io.specs.declared.status.Status.TheVariants.{BadWords, ReadFault, Memory, TooLong}
+use Rattle.sercos_app.specs.declared.form.Form.{Form}
+use Rattle.sercos_app.specs.Answer.{command_answer}
+use Rattle.sercos_app.specs.Form.{form_of}
+use Rattle.sercos_app.specs.TopCall.{fault_status, ReadsWhole, TakesTooMany}
+
+-- a source before and after: the bytes that it has left, and its count of faults
+pub record SourceChange : Type 0 where
+  pub left : Option (List ℕ)
+  pub left' : Option (List ℕ)
+  pub faults : ℕ
+  pub faults' : ℕ
+
+-- a sink before and after: the bytes that it holds, its count of faults, and the room that it had
+pub record SinkChange : Type 0 where
+  pub held : Option (List ℕ)
+  pub held' : Option (List ℕ)
+  pub faults : ℕ
+  pub faults' : ℕ
+  pub room : ℕ
+
+-- how writing a text with its status ends: the whole text was appended, or a prefix of it, short of the whole
+pub data Writes (status : Status) (text : List ℕ) (sink : SinkChange) : Status → Type 0 where
+  whole : Appends sink.held sink.held' text → sink.faults' ≡ sink.faults → Writes status text sink status
+  short : (count : ℕ) → count < length text → Appends sink.held sink.held' (take count text) → sink.faults ≤ sink.faults' → Rose sink.faults sink.faults' → (length text ≤ sink.room → ⊥) → Writes status text sink (fault_status status)
+
+-- How the call ends. Unread says that the source is as it was, and Unwritten that the sink is.
+pub data Outcome (words : List (List ℕ)) (source : SourceChange) (sink : SinkChange) (Unread Unwritten : Type 0) : Status → Type 0 where
+  no_form : form_of words ≡ None → Unread → Unwritten → source.faults' ≡ source.faults → sink.faults' ≡ sink.faults → Outcome words source sink Unread Unwritten BadWords
+  unreadable : (form : Form) → form_of words ≡ Some form → source.faults ≤ source.faults' → Rose source.faults source.faults' → Unwritten → sink.faults' ≡ sink.faults → Outcome words source sink Unread Unwritten ReadFault
+  too_many : (form : Form) → form_of words ≡ Some form → source.faults' ≡ source.faults → TakesTooMany source.left source.left' → Unwritten → sink.faults' ≡ sink.faults → Outcome words source sink Unread Unwritten TooLong
+  no_memory : (form : Form) → form_of words ≡ Some form → source.faults' ≡ source.faults → Unwritten → sink.faults' ≡ sink.faults → Outcome words source sink Unread Unwritten Memory
+  answered : (form : Form) (bytes : List ℕ) (status : Status) → form_of words ≡ Some form → source.faults' ≡ source.faults → ReadsWhole source.left source.left' bytes → Writes (command_answer form bytes).status (command_answer form bytes).output sink status → Outcome words source sink Unread Unwritten status

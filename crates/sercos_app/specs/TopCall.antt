@@ -1,0 +1,54 @@
+-- What the top call does with its source and its sink. The bytes that a source has left and those that a sink holds are
+-- known where it tells them.
+use Rattle.std.specs.Prelude.{◌≡◌, ℕ, ◌<◌, ◌≤◌, ◌⊎◌, Bool, true, false, List, length, take, Option}
+use Rattle.std.specs.Io.KnownBytes.{Appends, Consumes, IsAtEnd}
+use Rattle.sercos_io.specs.declared.status.Status.{Status}
+use Rattle.sercos_io.specs.declared.status.Status.TheVariants.{Done, No, BadWords, Refused, ReadFault, WriteFault, Memory, TooLong}
+use Rattle.sercos_app.specs.Answer.{answer_of}
+use Rattle.sercos_app.specs.Show.{Answer}
+
+-- the statuses that come before anything is written
+unfoldable pub writes_nothing : Status → Bool
+writes_nothing BadWords = true
+writes_nothing ReadFault = true
+writes_nothing Memory = true
+writes_nothing TooLong = true
+writes_nothing _ = false
+
+-- the status where writing an answer of this status fails: a refusal stays one
+unfoldable pub fault_status : Status → Status
+fault_status Refused = Refused
+fault_status _ = WriteFault
+
+-- a source was read to its end, and gave these bytes
+pub record ReadsWhole (old new : Option (List ℕ)) (bytes : List ℕ) : Type 0 where
+  pub consumed : Consumes old new bytes
+  pub ended : IsAtEnd new
+  pub fits : length bytes ≤ 1048576
+
+-- one byte more than an input may have was taken from a source
+pub record TakesTooMany (old new : Option (List ℕ)) : Type 0 where
+  pub taken : List ℕ
+  pub many : length taken ≡ 1048577
+  pub consumed : Consumes old new taken
+
+-- the source was read to its end, the answer to its bytes has this status, and its whole output was appended
+pub record IsAnswered (words : List (List ℕ)) (status : Status) (left left' held held' : Option (List ℕ)) : Type 0 where
+  pub bytes : List ℕ
+  pub read : ReadsWhole left left' bytes
+  pub status_is : (answer_of words bytes).status ≡ status
+  pub written : Appends held held' (answer_of words bytes).output
+
+-- the same, but that writing failed after a prefix of the output, short of the whole
+pub record IsCutShort (words : List (List ℕ)) (status : Status) (left left' held held' : Option (List ℕ)) : Type 0 where
+  pub bytes : List ℕ
+  pub read : ReadsWhole left left' bytes
+  pub status_is : fault_status (answer_of words bytes).status ≡ status
+  pub count : ℕ
+  pub short : count < length (answer_of words bytes).output
+  pub written : Appends held held' (take count (answer_of words bytes).output)
+
+-- the answer, or want of memory
+pub record IsAnswer (answer : Answer) (status : Status) (held held' : Option (List ℕ)) : Type 0 where
+  pub status_is : status ≡ answer.status
+  pub written : Appends held held' answer.output

@@ -1,0 +1,162 @@
+// The top call.
+ghost use Rattle.std.specs.Prelude.{◌≡◌, ◌≢◌, ◌↔◌, ℕ, ◌≤◌, ◌<◌, ◌⊎◌, ◌^◌, List, length, Some, None, IsTrue, IfOk};
+ghost use Rattle.sercos_model.specs.Streams.{Rose};
+ghost use Rattle.sercos_app.specs.Answer.{answer_of, command_answer};
+ghost use Rattle.sercos_app.specs.Form.{form_of};
+ghost use Rattle.sercos_app.specs.Outcome.{Writes, Outcome};
+ghost use Rattle.sercos_app.specs.TopCall.{writes_nothing, fault_status, TakesTooMany, IsAnswered, IsCutShort, IsAnswer};
+
+use crate::form::{Form, form_of};
+use crate::show::{Reply, show};
+use sercos_io::{ReadAll, Sink, Source, Status, Words, read_all, write_all};
+use std::alloc::{AllocError, Global};
+
+// The reply of a command to an input.
+#[tactic(auto, unfolding(crate::specs::Answer::command_answer))]
+fn reply_of(alloc: Global, form: Form, bytes: &[u8]) -> Result<Reply, AllocError>
+    ensures status { IfOk result (λ reply. reply.status ≡ (command_answer form bytes.now).status) }
+    ensures text { IfOk result (λ reply. reply.text.items ≡ (command_answer form bytes.now).output) }
+{
+    match form {
+        Form::Show => show(alloc, bytes),
+    }
+}
+
+// The status where writing a reply of this status fails.
+#[tactic(auto, unfolding(crate::specs::TopCall::fault_status))]
+fn fault_status(status: Status) -> Status
+    ensures { result ≡ fault_status status }
+{
+    match status {
+        Status::Refused => Status::Refused,
+        _ => Status::WriteFault,
+    }
+}
+
+// Writes a reply, and answers its status, or that of a failed write.
+fn give<K: Sink>(reply: &Reply, sink: &mut K) -> Status
+    ensures { Writes reply.now.status reply.now.text.items
+        (record {
+          held = K.held sink.old;
+          held' = K.held sink.new;
+          faults = K.faults sink.old;
+          faults' = K.faults sink.new;
+          room = K.room sink.old;
+        })
+        result }
+{
+    match write_all(sink, reply.text.as_slice()) {
+        Ok(()) => reply.status,
+        Err(_) => fault_status(reply.status),
+    }
+}
+
+// Reads the input, and gives the reply to it.
+fn respond<S: Source, K: Sink>(alloc: Global, words: &Words, source: &mut S, sink: &mut K) -> Status
+    ensures { Outcome words.now
+        (record {
+          left = S.left source.old;
+          left' = S.left source.new;
+          faults = S.faults source.old;
+          faults' = S.faults source.new;
+        })
+        (record {
+          held = K.held sink.old;
+          held' = K.held sink.new;
+          faults = K.faults sink.old;
+          faults' = K.faults sink.new;
+          room = K.room sink.old;
+        })
+        (source.new ≡ source.old) (sink.new ≡ sink.old) result }
+{
+    let Some(form) = form_of(words) else {
+        return Status::BadWords;
+    };
+    let bytes = match read_all(alloc, source) {
+        Ok(bytes) => bytes,
+        Err(ReadAll::ReadFault) => return Status::ReadFault,
+        Err(ReadAll::TooLong) => return Status::TooLong,
+        Err(ReadAll::Memory) => return Status::Memory,
+    };
+    match reply_of(alloc, form, bytes.as_slice()) {
+        Ok(reply) => give(&reply, sink),
+        Err(_) => Status::Memory,
+    }
+}
+
+/// Runs the command that the words name, over one input and one output, and answers the status with which it ends.
+///
+/// The input is the source's bytes up to its end, at most 1,048,576 of them; the output is one text, written where it
+/// is whole. The clauses on the bytes of source and sink hold where these tell them, as those in memory do.
+///
+/// The only form of words so far is `show`, with at most one word `--` anywhere.
+pub fn sercos<S: Source, K: Sink>(
+    alloc: Global,
+    words: &Words,
+    source: &mut S,
+    sink: &mut K,
+) -> Status
+    // The words come first: those in no form are refused before anything is read.
+    ensures bad_words { (result ≡ Status.BadWords) ↔ (form_of words.now ≡ None) }
+    ensures unread { result ≡ Status.BadWords → source.new ≡ source.old }
+
+    // BadWords, ReadFault, TooLong and Memory come before anything is written.
+    ensures unwritten { IsTrue (writes_nothing result) → sink.new ≡ sink.old }
+
+    // ReadFault comes only where the source's count rose; elsewhere no read failed.
+    ensures read_fault { result ≡ Status.ReadFault → Rose (S.faults source.old) (S.faults source.new) }
+    ensures read_count { S.faults source.old ≤ S.faults source.new }
+    ensures read_well { result ≢ Status.ReadFault → S.faults source.new ≡ S.faults source.old }
+
+    // TooLong comes only where 1,048,577 bytes were taken.
+    ensures too_long { result ≡ Status.TooLong → TakesTooMany (S.left source.old) (S.left source.new) }
+
+    // Done and No come only where the input was read to its end, its answer has this status, and the whole output was
+    // appended.
+    ensures done { result ≡ Status.Done → IsAnswered words.now Status.Done
+        (S.left source.old) (S.left source.new) (K.held sink.old) (K.held sink.new) }
+    ensures no { result ≡ Status.No → IsAnswered words.now Status.No
+        (S.left source.old) (S.left source.new) (K.held sink.old) (K.held sink.new) }
+
+    // So does Refused; but where writing the refusal failed, a prefix of it was appended.
+    ensures refused { result ≡ Status.Refused →
+        ((K.faults sink.new ≡ K.faults sink.old) × IsAnswered words.now Status.Refused
+        (S.left source.old) (S.left source.new) (K.held sink.old) (K.held sink.new))
+        ⊎ (Rose (K.faults sink.old) (K.faults sink.new) × IsCutShort words.now Status.Refused
+        (S.left source.old) (S.left source.new) (K.held sink.old) (K.held sink.new)) }
+
+    // WriteFault comes only where the sink's count rose, after a prefix of the output; elsewhere no write failed.
+    ensures write_fault { result ≡ Status.WriteFault →
+        Rose (K.faults sink.old) (K.faults sink.new) × IsCutShort words.now Status.WriteFault
+        (S.left source.old) (S.left source.new) (K.held sink.old) (K.held sink.new) }
+    ensures write_count { K.faults sink.old ≤ K.faults sink.new }
+    ensures write_well { result ≢ Status.WriteFault → result ≢ Status.Refused →
+        K.faults sink.new ≡ K.faults sink.old }
+
+    // Completeness: of a source that tells an input of at most 1,048,576 bytes, where no count rose, the call gives the
+    // answer whole, or Memory. Its refusal is given whatever the sink does.
+    ensures answers { (bytes : List ℕ) → S.left source.old ≡ Some bytes → length bytes ≤ 1048576
+        → form_of words.now ≢ None
+        → (Rose (S.faults source.old) (S.faults source.new) → ⊥)
+        → (Rose (K.faults sink.old) (K.faults sink.new) → ⊥)
+        → (result ≡ Status.Memory)
+        ⊎ IsAnswer (answer_of words.now bytes) result (K.held sink.old) (K.held sink.new) }
+    ensures refuses { (bytes : List ℕ) → S.left source.old ≡ Some bytes → length bytes ≤ 1048576
+        → form_of words.now ≢ None
+        → (Rose (S.faults source.old) (S.faults source.new) → ⊥)
+        → (answer_of words.now bytes).status ≡ Status.Refused
+        → (result ≡ Status.Memory) ⊎ (result ≡ Status.Refused) }
+
+    // A longer input is TooLong, or Memory.
+    ensures exceeds { (bytes : List ℕ) → S.left source.old ≡ Some bytes → 1048577 ≤ length bytes
+        → form_of words.now ≢ None
+        → (Rose (S.faults source.old) (S.faults source.new) → ⊥)
+        → (result ≡ Status.Memory) ⊎ (result ≡ Status.TooLong) }
+
+    // A sink that has room for the whole output doesn't fail.
+    ensures room { (bytes : List ℕ) → S.left source.old ≡ Some bytes
+        → length (answer_of words.now bytes).output ≤ K.room sink.old
+        → K.faults sink.new ≡ K.faults sink.old }
+{
+    respond(alloc, words, source, sink)
+}
