@@ -91,7 +91,8 @@ impl Sink for MemorySink {
         ensures room { HasRoom (room_of self.old) (room_of self.new) result }
         ensures fails { IsErr result ↔ (Contains self.old.failing (raised self.old.calls)
             ⊎ ((self.old.spare ≡ 0) × (0 < length piece.now))) }
-        ensures count { IfOk result (λ count. count ≡ min self.old.piece (min (length piece.now) self.old.spare)) }
+        ensures count { IfOk result (λ count.
+            count ≡ min self.old.piece (min (length piece.now) self.old.spare)) }
         ensures ok { IfOk result (λ count. self.new ≡ record self.old {
           held = self.old.held ++ take count piece.now;
           spare = self.old.spare - count;

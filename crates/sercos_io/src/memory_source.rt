@@ -78,7 +78,8 @@ impl Source for MemorySource {
         ensures fails { IsErr result ↔ Contains self.old.failing (raised self.old.calls) }
         ensures count { IfOk result (λ count.
             count ≡ min self.old.piece (min (length piece.old) (length self.old.left))) }
-        ensures copied { IfOk result (λ count. piece.new ≡ take count self.old.left ++ drop count piece.old) }
+        ensures copied { IfOk result (λ count.
+            piece.new ≡ take count self.old.left ++ drop count piece.old) }
         ensures ok { IfOk result (λ count. self.new ≡ record self.old {
           left = drop count self.old.left;
           calls = raised self.old.calls;

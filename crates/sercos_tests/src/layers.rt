@@ -1,0 +1,74 @@
+// Worked examples of the layers below the top call.
+use sercos_bits::{BadBits, BitBuf, Bytes, Content, Text, bits_of, bytes_of, fcs};
+use sercos_hdlc::{BadFrame, unframe};
+use sercos_io::{PlainSource, Words, read_all};
+use std::test::Fail;
+
+// The check value that catalogues of check sequences give for this one.
+#[test]
+fn check_value(rt: HostRuntime) {
+    assert_eq!(rt; fcs(b"123456789"), 0x906e);
+}
+
+#[test]
+fn bits(rt: HostRuntime) -> Result<(), Fail> {
+    let mut bits = BitBuf::new();
+    assert!(rt; bits_of(b"\x05", &mut bits).is_ok());
+    assert!(rt; bits.push(true).is_ok());
+    assert_eq!(rt;
+        bits.as_slice(),
+        [true, false, true, false, false, false, false, false, true].as_slice()
+    );
+    let mut other = BitBuf::new();
+    other.assign(&bits);
+    assert_eq!(rt; other.len(), 9);
+    other.flip(1);
+    other.cut(8);
+    let mut content = Content::new();
+    assert_eq!(rt; bytes_of(&bits, &mut content), Err(BadBits::Ragged(1)));
+    assert_eq!(rt; bytes_of(&other, &mut content), Ok(1));
+    assert_eq!(rt; content.as_slice(), b"\x07".as_slice());
+    Ok(())
+}
+
+#[test]
+fn byte_lists(rt: HostRuntime) {
+    let mut bytes = Bytes::new();
+    let mut text = Text::new();
+    for _ in 0..1024u32 {
+        assert!(rt; bytes.push(7).is_ok());
+        assert!(rt; text.push(b'A').is_ok());
+    }
+    assert!(rt; bytes.push(7).is_err());
+    assert!(rt; text.push(b'A').is_err());
+    assert_eq!(rt; text.as_slice().len(), 1024);
+    bytes.clear();
+    assert_eq!(rt; bytes.as_slice().len(), 0);
+}
+
+// A frame of more than 2050 bytes: a flag, zeros and a flag.
+#[test]
+fn too_long_a_frame(rt: HostRuntime) {
+    let mut bits = BitBuf::new();
+    assert!(rt; bits_of(b"\x7e", &mut bits).is_ok());
+    for _ in 0..16408u32 {
+        assert!(rt; bits.push(false).is_ok());
+    }
+    assert!(rt; bits_of(b"\x7e", &mut bits).is_ok());
+    let mut content = Content::new();
+    assert_eq!(rt; unframe(&bits, &mut content), Err(BadFrame::Long(2051)));
+    assert_eq!(rt; content.as_slice().len(), 0);
+}
+
+#[test]
+fn with_ample_memory(rt: HostRuntime) -> Result<(), Fail> {
+    let mut words = Words::new(rt.alloc());
+    words.push("show")?;
+    words.push("--")?;
+    assert_eq!(rt; words.len(), 2);
+    assert_eq!(rt; words.get(1), "--");
+    let mut source = PlainSource::new(Vec::from_slice(rt.alloc(), b"a text")?);
+    let bytes = read_all(rt.alloc(), &mut source)?;
+    assert_eq!(rt; bytes.as_slice(), b"a text".as_slice());
+    Ok(())
+}

@@ -1,0 +1,9 @@
+//! Tests that cross the crates: what the top call and the layers below it answer to worked examples.
+#![tactic(auto)]
+
+#[cfg(test)]
+mod faults;
+#[cfg(test)]
+mod layers;
+#[cfg(test)]
+mod show;
