@@ -4,12 +4,12 @@ use crate::byte_list::Full;
 use arrayvec::ArrayVec;
 use std::marker::Model;
 
-/// The most bits that a [`BitBuf`] holds: those of the longest frame, sixteen of its flags and six for each five of the
-/// bits of 2050 bytes.
+/// The most bits that a [`BitBuf`] holds, which the longest frame can have: sixteen of its flags, 16400 of its 2050 bytes,
+/// and an inserted zero for each five of those.
 pub const MAX_BITS: usize = 19696;
 
 /// A list of at most [`MAX_BITS`] bits, in the order in which they stand on the link.
-#[derive(Drop)]
+#[derive(Clone, Debug, Default, PartialEq, Eq, Drop)]
 pub struct BitBuf {
     bits: ArrayVec<bool, MAX_BITS>,
 }
@@ -21,6 +21,8 @@ impl Model for BitBuf {
     ghost Value = { List Bool };
 
     ghost view = { λ buf. buf.bits.items };
+
+    ghost inverse = { λ bits. record { bits = record { items = bits } } };
 }
 
 impl BitBuf {

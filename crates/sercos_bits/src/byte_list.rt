@@ -9,7 +9,7 @@ use std::marker::Model;
 pub struct Full;
 
 /// A list of at most `CAPACITY` bytes.
-#[derive(Drop)]
+#[derive(Clone, Debug, Default, PartialEq, Eq, Drop)]
 pub struct ByteList<const CAPACITY: usize> {
     bytes: ArrayVec<u8, CAPACITY>,
 }
@@ -20,10 +20,10 @@ pub const MAX_CONTENT: usize = 2048;
 /// The content of a frame: at most [`MAX_CONTENT`] bytes, the address first.
 pub type Content = ByteList<MAX_CONTENT>;
 
-/// The bytes of a data block's element: at most 1024.
+/// The bytes that a request on the service channel writes, or that its outcome gives: at most 1024.
 pub type Bytes = ByteList<1024>;
 
-/// A line of text: at most 1024 bytes.
+/// A name, a unit or a value of a data block: at most 1024 bytes.
 pub type Text = ByteList<1024>;
 
 // What the type of a slice says of its elements, as a fact for callers.
@@ -38,6 +38,8 @@ impl<const CAPACITY: usize> Model for ByteList<CAPACITY> {
     ghost Value = { List ℕ };
 
     ghost view = { λ list. list.bytes.items };
+
+    ghost inverse = { λ bytes. record { bytes = record { items = bytes } } };
 }
 
 impl<const CAPACITY: usize> ByteList<CAPACITY> {

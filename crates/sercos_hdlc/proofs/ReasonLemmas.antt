@@ -15,7 +15,7 @@ use Rattle.sercos_model.proofs.FrameLemmas.{length-plain_of, content-plain_of, c
 use Rattle.sercos_hdlc.proofs.RunLemmas.{six_place-here, six_place-next, six_place-le, six_place-take, six_place-none_before}
 use Rattle.sercos_hdlc.proofs.StuffLemmas.{unstuffed-IsStuffed, six_place-IsStuffed, ends_in_five-IsStuffed, IsStuffed-unstuffed}
 
--- no rule of a sequence applies where neither its first nor one of the others does
+-- where no rule of a sequence applies, neither its first does nor one of the others
 given_or_none : (test : Bool) (reason : BadFrame) (others : Option BadFrame) → option_or (given test reason) others ≡ None → (test ≡ false) × (others ≡ None)
 unfolding given
 given_or_none true reason others h = cc
@@ -26,6 +26,7 @@ unfolding given
 given_none true reason h = cc
 given_none false reason h = refl
 
+-- and where neither does, none applies
 none_given_or : (test : Bool) (reason : BadFrame) (others : Option BadFrame) → test ≡ false → others ≡ None → option_or (given test reason) others ≡ None
 unfolding given
 none_given_or true reason others h k = cc
@@ -71,6 +72,7 @@ record IsFlagged (bits : List Bool) : Type 0 where
   pub whole : bits ≡ flag ++ body bits ++ flag
   pub no_six : six_place (body bits) ≡ length (body bits)
 
+-- where no rule on flags applies and nothing follows the closing flag, the bits stand between two flags
 flagged : (bits : List Bool) → unclosed bits ≡ None → length bits ≤ closing_at bits + 8 → IsFlagged bits
 unfolding unclosed
 flagged bits h ends =
@@ -108,6 +110,7 @@ readable bits h =
       checked = eqb-true _ _ (not-false _ check);
     }
 
+-- such bits are those of their content and its check sequence
 plain_of-content_of : (bits : List Bool) → IsReadable bits → plain_of (content_of bits) ≡ bits
 plain_of-content_of bits h =
     let front = length-take-le (length bits - 16) bits (omega arith) in
@@ -127,6 +130,7 @@ pub check_differs-same : (bits : List Bool) (found wanted : ℕ) → found ≡ f
 check_differs-same bits found wanted is_found is_wanted same =
     sym (none_given _ _ (ap not (eq-eqb (found_in bits) (fcs_of (content_of bits)) (sym is_found ∙ same ∙ is_wanted))))
 
+-- bits to which no rule applies are a frame of their content
 pub IsFrame-reason_none : (bits : List Bool) → reason_of bits ≡ None → IsFrame (content_of (plain bits)) bits
 unfolding reason_of
 IsFrame-reason_none bits h =
@@ -149,6 +153,7 @@ IsFrame-reason_none bits h =
 both_none : (first others : Option BadFrame) → first ≡ None → others ≡ None → option_or first others ≡ None
 both_none first others h k = rw (h, k)
 
+-- no rule speaks of the bits of a content and its check sequence
 unreadable-plain_of : (content : List ℕ) → AreBytes content → 0 < length content → length content ≤ 2048 → unreadable (plain_of content) ≡ None
 unfolding unreadable
 unreadable-plain_of content bytes some fits =
@@ -192,6 +197,7 @@ framed content out bytes some fits stuffed =
     let none_after = none_given _ (bad.After (closing_at (flag ++ out ++ flag) + 8)) (le-ltb (closing_at (flag ++ out ++ flag) + 8) (length (flag ++ out ++ flag)) (omega (arith, ones_at-framed p out stuffed, length-framed p out stuffed))) in
     (both_none _ _ (unclosed-framed p out stuffed) (none_given_or _ (bad.Abort (closing_at (flag ++ out ++ flag))) _ ends (both_none _ _ readable_bits none_after)), ap content_of plain_is ∙ content-plain_of content bytes)
 
+-- no rule applies to a frame, and its content is what the bits contain
 pub reason_of-IsFrame : (content : List ℕ) (bits : List Bool) → IsFrame content bits → (reason_of bits ≡ None) × (content_of (plain bits) ≡ content)
 reason_of-IsFrame content bits h =
     subst (λ b. (reason_of b ≡ None) × (content_of (plain b) ≡ content)) (sym h.whole) (framed content h.out h.bytes h.some h.fits h.stuffed)

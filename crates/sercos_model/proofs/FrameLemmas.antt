@@ -1,5 +1,5 @@
 -- The bits between the flags of a frame: a content and its check sequence, and back.
-use Rattle.std.proofs.Common.{◌≡◌, ℕ, zero, suc, ◌+◌, ◌-◌, ◌*◌, ◌^◌, ◌<◌, ◌≤◌, Bool, true, false, not, List, [], ◌∷◌, ◌++◌, length, take, drop, map, refl, ap, subst, ◌∙◌, arith}
+use Rattle.std.proofs.Common.{◌≡◌, ℕ, zero, suc, ◌+◌, ◌-◌, ◌*◌, ◌^◌, ◌<◌, Bool, true, false, not, List, [], ◌∷◌, ◌++◌, length, take, drop, map, refl, ap, subst, ◌∙◌, arith}
 use Rattle.std.proofs.lemmas.List.{take_at, drop_at, length-append, length-map}
 use Rattle.sercos_model.specs.Bits.{low_bits, number_of, bits_of, bytes_of, AreBytes}
 use Rattle.sercos_model.specs.CheckSequence.{added, generator, sixteen_zeros, sixteen_ones, divided, remainder, dividend, fcs_of}
