@@ -99,35 +99,35 @@ pub counted_more : (len more all : ℕ) (now left : List Bool) {whole : List Boo
 counted_more len more all now left grown is before = omega (arith, ap length is, length-append now left)
 
 -- the bits that are left of a byte
-pub stuffed-next : (ones rest k : ℕ) → k < 8 → stuffed ones (low_bits (8 - k) rest) ≡ sent_for ones (is_odd rest) ++ stuffed (ones_behind ones (is_odd rest)) (low_bits (8 - (k + 1)) (rest / 2))
+pub stuffed_next : (ones rest k : ℕ) → k < 8 → stuffed ones (low_bits (8 - k) rest) ≡ sent_for ones (is_odd rest) ++ stuffed (ones_behind ones (is_odd rest)) (low_bits (8 - (k + 1)) (rest / 2))
 unfolding stuffed
-stuffed-next ones rest k left = ap (stuffed ones) (low_bits-next 8 k rest left)
+stuffed_next ones rest k left = ap (stuffed ones) (low_bits-next 8 k rest left)
 
-pub ones-next : (ones rest k : ℕ) → k < 8 → fold ones_behind ones (low_bits (8 - k) rest) ≡ fold ones_behind (ones_behind ones (is_odd rest)) (low_bits (8 - (k + 1)) (rest / 2))
-ones-next ones rest k left = ap (fold ones_behind ones) (low_bits-next 8 k rest left)
+pub ones_next : (ones rest k : ℕ) → k < 8 → fold ones_behind ones (low_bits (8 - k) rest) ≡ fold ones_behind (ones_behind ones (is_odd rest)) (low_bits (8 - (k + 1)) (rest / 2))
+ones_next ones rest k left = ap (fold ones_behind ones) (low_bits-next 8 k rest left)
 
-pub stuffed-end : (ones rest k : ℕ) → 8 ≤ k → stuffed ones (low_bits (8 - k) rest) ≡ []
+pub stuffed_end : (ones rest k : ℕ) → 8 ≤ k → stuffed ones (low_bits (8 - k) rest) ≡ []
 unfolding stuffed
-stuffed-end ones rest k done = ap (stuffed ones) (low_bits-none 8 k rest done)
+stuffed_end ones rest k done = ap (stuffed ones) (low_bits-none 8 k rest done)
 
-pub ones-end : (ones rest k : ℕ) → 8 ≤ k → fold ones_behind ones (low_bits (8 - k) rest) ≡ ones
-ones-end ones rest k done = ap (fold ones_behind ones) (low_bits-none 8 k rest done)
+pub ones_end : (ones rest k : ℕ) → 8 ≤ k → fold ones_behind ones (low_bits (8 - k) rest) ≡ ones
+ones_end ones rest k done = ap (fold ones_behind ones) (low_bits-none 8 k rest done)
 
 -- the bytes that are left
-pub stuffed-next_byte : (ones : ℕ) (bytes : List ℕ) (i : ℕ) → i < length bytes → stuffed ones (bits_of (drop i bytes)) ≡ stuffed ones (low_bits 8 (get_or bytes i 0)) ++ stuffed (fold ones_behind ones (low_bits 8 (get_or bytes i 0))) (bits_of (drop (i + 1) bytes))
-stuffed-next_byte ones bytes i inside =
+pub stuffed_next_byte : (ones : ℕ) (bytes : List ℕ) (i : ℕ) → i < length bytes → stuffed ones (bits_of (drop i bytes)) ≡ stuffed ones (low_bits 8 (get_or bytes i 0)) ++ stuffed (fold ones_behind ones (low_bits 8 (get_or bytes i 0))) (bits_of (drop (i + 1) bytes))
+stuffed_next_byte ones bytes i inside =
     ap (stuffed ones) (bits_of-next bytes i inside) ∙ stuffed-append ones (low_bits 8 (get_or bytes i 0)) (bits_of (drop (i + 1) bytes))
 
-pub ones-next_byte : (ones : ℕ) (bytes : List ℕ) (i : ℕ) → i < length bytes → fold ones_behind ones (bits_of (drop i bytes)) ≡ fold ones_behind (fold ones_behind ones (low_bits 8 (get_or bytes i 0))) (bits_of (drop (i + 1) bytes))
-ones-next_byte ones bytes i inside =
+pub ones_next_byte : (ones : ℕ) (bytes : List ℕ) (i : ℕ) → i < length bytes → fold ones_behind ones (bits_of (drop i bytes)) ≡ fold ones_behind (fold ones_behind ones (low_bits 8 (get_or bytes i 0))) (bits_of (drop (i + 1) bytes))
+ones_next_byte ones bytes i inside =
     ap (fold ones_behind ones) (bits_of-next bytes i inside) ∙ fold-append ones_behind ones (low_bits 8 (get_or bytes i 0)) (bits_of (drop (i + 1) bytes))
 
-pub stuffed-no_byte : (ones : ℕ) (bytes : List ℕ) (i : ℕ) → length bytes ≤ i → stuffed ones (bits_of (drop i bytes)) ≡ []
+pub stuffed_no_byte : (ones : ℕ) (bytes : List ℕ) (i : ℕ) → length bytes ≤ i → stuffed ones (bits_of (drop i bytes)) ≡ []
 unfolding stuffed
-stuffed-no_byte ones bytes i past = ap (stuffed ones) (bits_of-none bytes i past)
+stuffed_no_byte ones bytes i past = ap (stuffed ones) (bits_of-none bytes i past)
 
-pub ones-no_byte : (ones : ℕ) (bytes : List ℕ) (i : ℕ) → length bytes ≤ i → fold ones_behind ones (bits_of (drop i bytes)) ≡ ones
-ones-no_byte ones bytes i past = ap (fold ones_behind ones) (bits_of-none bytes i past)
+pub ones_no_byte : (ones : ℕ) (bytes : List ℕ) (i : ℕ) → length bytes ≤ i → fold ones_behind ones (bits_of (drop i bytes)) ≡ ones
+ones_no_byte ones bytes i past = ap (fold ones_behind ones) (bits_of-none bytes i past)
 
 -- nothing is left
 pub sent_all : (out all : List Bool) {whole : List Bool} → whole ≡ [] → out ++ whole ≡ all → out ≡ all
@@ -136,10 +136,14 @@ sent_all out all none before = rw (none, append-nil) at before
 pub counted_all : (len all : ℕ) {whole : List Bool} → whole ≡ [] → len + length whole ≡ all → len ≡ all
 counted_all len all none before = omega (arith, ap length none)
 
+-- what is sent for the content is appended, and then what is sent for its check sequence
+pub stuffed_then : (out more all : List Bool) (content : List ℕ) (ones : ℕ) → more ≡ out ++ stuffed 0 (bits_of content) → ones ≡ fold ones_behind 0 (bits_of content) → all ≡ more ++ stuffed ones (low_bits 16 (fcs_of content)) → all ≡ out ++ stuffed 0 (plain_of content)
+stuffed_then out more all content ones first is second = rw (second, first, is, append_assoc, stuffed-append)
+
 -- a number of two bytes, the low one first
-low_bits-low_byte : (n : ℕ) → low_bits 8 (n % 256) ≡ low_bits 8 n
+low_bits_low_byte : (n : ℕ) → low_bits 8 (n % 256) ≡ low_bits 8 n
 unfolding low_bits is_odd
-low_bits-low_byte n =
+low_bits_low_byte n =
     let a : n % 256 % 2 ≡ n % 2 = omega arith in
     let b : n % 256 / 2 % 2 ≡ n / 2 % 2 = omega arith in
     let c : n % 256 / 2 / 2 % 2 ≡ n / 2 / 2 % 2 = omega arith in
@@ -150,17 +154,17 @@ low_bits-low_byte n =
     let h : n % 256 / 2 / 2 / 2 / 2 / 2 / 2 / 2 % 2 ≡ n / 2 / 2 / 2 / 2 / 2 / 2 / 2 % 2 = omega arith in
     rw (a, b, c, d, e, f, g, h)
 
-low_bits-two : (n : ℕ) → low_bits 16 n ≡ low_bits 8 n ++ low_bits 8 (n / 256)
+low_bits_two : (n : ℕ) → low_bits 16 n ≡ low_bits 8 n ++ low_bits 8 (n / 256)
 unfolding low_bits
-low_bits-two n = let high : n / 2 / 2 / 2 / 2 / 2 / 2 / 2 / 2 ≡ n / 256 = omega arith in rw high
+low_bits_two n = let high : n / 2 / 2 / 2 / 2 / 2 / 2 / 2 / 2 ≡ n / 256 = omega arith in rw high
 
-pub bits_of-two : (n : ℕ) → bits_of (to_le_bytes w16 n) ≡ low_bits 16 n
+pub bits_of_two : (n : ℕ) → bits_of (to_le_bytes w16 n) ≡ low_bits 16 n
 unfolding bits_of
-bits_of-two n =
-    rw (low_bits-low_byte n, low_bits-low_byte (n / 256), append-nil (low_bits 8 (n / 256))) (sym (low_bits-two n))
+bits_of_two n =
+    rw (low_bits_low_byte n, low_bits_low_byte (n / 256), append-nil (low_bits 8 (n / 256))) (sym (low_bits_two n))
 
 -- the bits of a frame, counted flag by flag and byte by byte
-pub length-framed : (content : List ℕ) → length (flag ++ stuffed 0 (plain_of content) ++ flag) ≡ 16 + length (stuffed 0 (bits_of content)) + length (stuffed (fold ones_behind 0 (bits_of content)) (low_bits 16 (fcs_of content)))
-length-framed content =
+pub length_framed : (content : List ℕ) → length (flag ++ stuffed 0 (plain_of content) ++ flag) ≡ 16 + length (stuffed 0 (bits_of content)) + length (stuffed (fold ones_behind 0 (bits_of content)) (low_bits 16 (fcs_of content)))
+length_framed content =
     let parts = ap length (stuffed-append 0 (bits_of content) (low_bits 16 (fcs_of content))) in
     omega (arith, parts, length-append (stuffed 0 (plain_of content)) flag, length-append (stuffed 0 (bits_of content)) (stuffed (fold ones_behind 0 (bits_of content)) (low_bits 16 (fcs_of content))))

@@ -26,6 +26,7 @@ fn push_flag(out: &mut BitBuf)
 }
 
 // The check sequence as it is sent: its low byte, and then its high byte.
+#[tactic(auto, using(crate::proofs::FramingLemmas::bits_of_two))]
 fn check_bytes(content: &[u8]) -> [u8; 2]
     ensures { bits_of result ≡ low_bits 16 (fcs_of content.now) }
 {
@@ -33,6 +34,7 @@ fn check_bytes(content: &[u8]) -> [u8; 2]
 }
 
 // Appends what is sent between the flags of a content's frame.
+#[tactic(auto, using(crate::proofs::FramingLemmas::stuffed_then))]
 fn push_body(content: &[u8], out: &mut BitBuf)
     requires fits { length content.now ≤ 2048 }
     requires room { length out.old ≤ 8 }
@@ -41,6 +43,17 @@ fn push_body(content: &[u8], out: &mut BitBuf)
 {
     let ones = push_bytes(content, 0, out);
     push_bytes(&check_bytes(content), ones, out);
+}
+
+// Replaces the bits by a content's frame.
+fn write_frame(content: &[u8], out: &mut BitBuf)
+    requires { length content.now ≤ 2048 }
+    ensures { out.new ≡ flag ++ stuffed 0 (plain_of content.now) ++ flag }
+{
+    out.clear();
+    push_flag(out);
+    push_body(content, out);
+    push_flag(out);
 }
 
 /// Replaces the bits by the one frame of a content, from the first bit of its opening flag to the last bit of its closing
@@ -56,10 +69,7 @@ pub fn frame(content: &[u8], out: &mut BitBuf) -> Result<(), TooLong>
     if content.len() > MAX_CONTENT {
         return Err(TooLong);
     }
-    out.clear();
-    push_flag(out);
-    push_body(content, out);
-    push_flag(out);
+    write_frame(content, out);
     Ok(())
 }
 

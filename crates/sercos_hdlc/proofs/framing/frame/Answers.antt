@@ -5,9 +5,9 @@ use Rattle.sercos_hdlc.proofs.FramingLemmas.{IsFrame-framed, length-IsFrame}
 use Rattle.sercos_hdlc.proofs.framing.frame.Goals as goal
 
 -- what was appended is a frame of the content
-framed : (c : goal.After-push_flag-2) → IsFrame c.args.content.now c.push_flag-2.new.out
+framed : (c : goal.After-write_frame) → IsFrame c.args.content.now c.write_frame.new.out
 framed c =
-    IsFrame-framed _ _ (AreBytes-by_index c.args.content.now (λ i. omega (arith, c.type_inv.content i))) (omega arith) (omega arith) (rw (c.push_flag-2.ensures, c.push_body.ensures.bits, c.push_flag.ensures, c.clear.ensures))
+    IsFrame-framed _ _ (AreBytes-by_index c.args.content.now (λ i. omega (arith, c.type_inv.content i))) (omega arith) (omega arith) c.write_frame.ensures
 
 pub returns-clause-ok : goal.returns-clause-ok
 returns-clause-ok c = framed c

@@ -2,7 +2,7 @@ use Rattle.std.proofs.Common.{◌≡◌, ◌++◌, ap, arith, length, refl, sym,
 use Rattle.sercos_model.specs.Frames.{flag, plain_of, IsFrame}
 use Rattle.sercos_model.proofs.BitLemmas.{AreBytes-by_index}
 use Rattle.sercos_hdlc.specs.Stuffed.{stuffed}
-use Rattle.sercos_hdlc.proofs.FramingLemmas.{IsFrame-framed, length-framed, one_frame}
+use Rattle.sercos_hdlc.proofs.FramingLemmas.{IsFrame-framed, length_framed, one_frame}
 use Rattle.sercos_hdlc.proofs.framing.frame_len.Goals as goal
 
 framed : (c : goal.After-count_bytes) → IsFrame c.args.content.now (flag ++ stuffed 0 (plain_of c.args.content.now) ++ flag)
@@ -11,7 +11,7 @@ framed c =
 
 counted : (c : goal.After-count_bytes) → c.count_bytes.new.len ≡ length (flag ++ stuffed 0 (plain_of c.args.content.now) ++ flag)
 counted c =
-    rw (c.count_bytes.ensures.len, c.check_bytes.ensures, c.count_bytes-ones.ensures.ones, c.count_bytes-ones.ensures.len) (sym (length-framed c.args.content.now))
+    rw (c.count_bytes.ensures.len, c.check_bytes.ensures, c.count_bytes-ones.ensures.ones, c.count_bytes-ones.ensures.len) (sym (length_framed c.args.content.now))
 
 pub returns-clause-bits : goal.returns-clause-bits
 returns-clause-bits c = (_, framed c, counted c)
