@@ -1,3 +1,4 @@
+pub mod FramingLemmas
 pub mod ReasonLemmas
 pub mod RunLemmas
 pub mod StuffLemmas

@@ -168,7 +168,7 @@ module _ (plain_bits out : List Bool) (stuffed : IsStuffed 0 plain_bits out) whe
 
   ones_at-framed : ones_at framed_bits ≡ length out + 9
   unfolding framed_bits
-  ones_at-framed = omega (arith, six_place-IsStuffed stuffed)
+  ones_at-framed = omega (arith, six_place-IsStuffed [] stuffed)
 
   length-framed : length framed_bits ≡ length out + 16
   unfolding framed_bits
@@ -177,7 +177,7 @@ module _ (plain_bits out : List Bool) (stuffed : IsStuffed 0 plain_bits out) whe
   body-framed : body framed_bits ≡ out
   unfolding framed_bits
   body-framed =
-      let end : closing_at framed_bits - 8 ≡ length out = omega (arith, six_place-IsStuffed stuffed) in
+      let end : closing_at framed_bits - 8 ≡ length out = omega (arith, six_place-IsStuffed [] stuffed) in
       ap (λ n. take n (out ++ flag)) end ∙ take_at out flag (length out) refl
 
   unclosed-framed : unclosed framed_bits ≡ None

@@ -26,20 +26,20 @@ unstuffed-IsStuffed {k = k} (zero_kept {plain = plain} {out = out} below rest) =
 unstuffed-IsStuffed (one_kept below rest) = ap (λ x. true ∷ x) (unstuffed-IsStuffed rest)
 unstuffed-IsStuffed (zero_inserted rest) = unstuffed-IsStuffed rest
 
--- the closing flag has the first six ones behind a stuffed list, which doesn't end in five
-pub six_place-IsStuffed : {k : ℕ} {plain out : List Bool} → IsStuffed k plain out → six_place (ones_then k (out ++ flag)) ≡ k + length out + 1
+-- the closing flag has the first six ones behind a stuffed list, which doesn't end in five, whatever stands behind it
+pub six_place-IsStuffed : {k : ℕ} {plain out : List Bool} (more : List Bool) → IsStuffed k plain out → six_place (ones_then k (out ++ (flag ++ more))) ≡ k + length out + 1
 unfolding six_place begins_with_six
-six_place-IsStuffed {k = k} (both_end below) =
+six_place-IsStuffed {k = k} more (both_end below) =
     let few : k ≤ 5 = omega arith in
-    omega (arith, six_place-ones_then_false k (true ∷ true ∷ true ∷ true ∷ true ∷ true ∷ false ∷ []) few)
-six_place-IsStuffed {k = k} (zero_kept {out = out} below rest) =
+    omega (arith, six_place-ones_then_false k (true ∷ true ∷ true ∷ true ∷ true ∷ true ∷ false ∷ more) few)
+six_place-IsStuffed {k = k} more (zero_kept {out = out} below rest) =
     let few : k ≤ 5 = omega arith in
-    omega (arith, six_place-ones_then_false k (out ++ flag) few, six_place-IsStuffed rest)
-six_place-IsStuffed {k = k} (one_kept {out = out} below rest) =
-    omega (arith, ap six_place (ones_then-true k (out ++ flag)), six_place-IsStuffed rest)
-six_place-IsStuffed (zero_inserted {out = out} rest) =
+    omega (arith, six_place-ones_then_false k (out ++ (flag ++ more)) few, six_place-IsStuffed more rest)
+six_place-IsStuffed {k = k} more (one_kept {out = out} below rest) =
+    omega (arith, ap six_place (ones_then-true k (out ++ (flag ++ more))), six_place-IsStuffed more rest)
+six_place-IsStuffed more (zero_inserted {out = out} rest) =
     let few : 5 ≤ 5 = omega arith in
-    omega (arith, six_place-ones_then_false 5 (out ++ flag) few, six_place-IsStuffed rest)
+    omega (arith, six_place-ones_then_false 5 (out ++ (flag ++ more)) few, six_place-IsStuffed more rest)
 
 pub ends_in_five-IsStuffed : {k : ℕ} {plain out : List Bool} → IsStuffed k plain out → ends_in_five (ones_then k out) ≡ false
 ends_in_five-IsStuffed {k = k} (both_end below) = ends_in_five-few k below

@@ -1,6 +1,6 @@
 -- Frames: a content and its check sequence between two flags, with a zero inserted after each five ones in a row
 -- (ISO/IEC 3309).
-use Rattle.std.specs.Prelude.{◌≡◌, ℕ, suc, ◌<◌, ◌≤◌, Bool, true, false, List, [], ◌∷◌, ◌++◌, length}
+use Rattle.std.specs.Prelude.{◌≡◌, ℕ, suc, ◌+◌, ◌*◌, ◌/◌, ◌<◌, ◌≤◌, Bool, true, false, List, [], ◌∷◌, ◌++◌, length}
 use Rattle.sercos_model.specs.Bits.{low_bits, bits_of, AreBytes}
 use Rattle.sercos_model.specs.CheckSequence.{fcs_of}
 
@@ -29,3 +29,8 @@ pub record IsFrame (content : List ℕ) (bits : List Bool) : Type 0 where
   pub out : List Bool
   pub stuffed : IsStuffed 0 (plain_of content) out
   pub whole : bits ≡ flag ++ out ++ flag
+
+-- the bits that no frame of so many bytes of content exceeds: those of two flags, of the content and the check sequence,
+-- and an inserted zero for each five of these
+abbrev pub wire_bits : ℕ → ℕ
+wire_bits bytes = 16 + 8 * (bytes + 2) + (8 * (bytes + 2)) / 5

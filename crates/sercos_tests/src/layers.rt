@@ -1,6 +1,6 @@
 // Worked examples of the layers below the top call.
 use sercos_bits::{BadBits, BitBuf, Bytes, Content, Text, bits_of, bytes_of, fcs};
-use sercos_hdlc::{BadFrame, unframe};
+use sercos_hdlc::{BadFrame, TooLong, frame, frame_len, unframe};
 use sercos_io::{PlainSource, Words, read_all};
 use std::test::Fail;
 
@@ -58,6 +58,44 @@ fn too_long_a_frame(rt: HostRuntime) {
     let mut content = Content::new();
     assert_eq!(rt; unframe(&bits, &mut content), Err(BadFrame::Long(2051)));
     assert_eq!(rt; content.as_slice().len(), 0);
+}
+
+// A frame of 49 bits, told by the bytes that its bits fill, and read again.
+#[test]
+fn frame_and_content(rt: HostRuntime) -> Result<(), Fail> {
+    let mut bits = BitBuf::new();
+    assert_eq!(rt; frame(b"\xff\x00", &mut bits), Ok(()));
+    assert_eq!(rt; bits.len(), 49);
+    let mut wanted = BitBuf::new();
+    assert!(rt; bits_of(b"\x7e\xdf\x01\x0e\xe1\xfd\x00", &mut wanted).is_ok());
+    wanted.cut(49);
+    assert_eq!(rt; bits.as_slice(), wanted.as_slice());
+    let mut content = Content::new();
+    assert_eq!(rt; unframe(&bits, &mut content), Ok(2));
+    assert_eq!(rt; content.as_slice(), b"\xff\x00".as_slice());
+    Ok(())
+}
+
+#[test]
+fn frame_lengths(rt: HostRuntime) {
+    assert_eq!(rt; frame_len(b"\xff\x02"), 49);
+    assert_eq!(rt; frame_len(b"\xff\x03"), 50);
+    assert_eq!(rt; frame_len(b"\x88"), 41);
+    assert_eq!(rt; frame_len(b"\x01\x0f\x00\x03\x00"), 72);
+}
+
+// The longest content, all ones, and one byte more.
+#[test]
+fn long_frames(rt: HostRuntime) {
+    let ones = [0xff; 2049];
+    let mut bits = BitBuf::new();
+    assert_eq!(rt; frame(&ones[..2048], &mut bits), Ok(()));
+    assert_eq!(rt; bits.len(), 19693);
+    assert_eq!(rt; frame_len(&ones[..2048]), 19693);
+    let mut content = Content::new();
+    assert_eq!(rt; unframe(&bits, &mut content), Ok(2048));
+    assert_eq!(rt; frame(&ones, &mut bits), Err(TooLong));
+    assert_eq!(rt; bits.len(), 19693);
 }
 
 #[test]

@@ -1,0 +1,19 @@
+-- What is sent between the flags: the plain bits, and a zero behind each five ones in a row.
+use Rattle.std.specs.Prelude.{ℕ, suc, ◌==◌, Bool, false, not, ◌&&◌, cond, List, [], ◌∷◌, ◌++◌}
+
+-- whether a bit, behind so many ones in a row, is the fifth of them
+abbrev pub is_fifth : ℕ → Bool → Bool
+is_fifth ones bit = bit && (ones == 4)
+
+-- what is sent for the bit
+abbrev pub sent_for : ℕ → Bool → List Bool
+sent_for ones bit = cond (is_fifth ones bit) (bit ∷ false ∷ []) (bit ∷ [])
+
+-- the ones in a row that then end what was sent
+abbrev pub ones_behind : ℕ → Bool → ℕ
+ones_behind ones bit = cond (bit && not (is_fifth ones bit)) (suc ones) 0
+
+-- what is sent for bits, behind so many ones in a row
+unfoldable pub stuffed : ℕ → List Bool → List Bool
+stuffed ones [] = []
+stuffed ones (bit ∷ bits) = sent_for ones bit ++ stuffed (ones_behind ones bit) bits

@@ -1,0 +1,102 @@
+ghost use Rattle.std.specs.Prelude.{◌≡◌, ℕ, ◌+◌, ◌*◌, ◌<◌, ◌≤◌, ◌↔◌, Bool, List, [], ◌++◌, length, IsErr, OnOk, OnErr};
+ghost use Rattle.sercos_model.specs.Bits.{low_bits, bits_of, AreBytes};
+ghost use Rattle.sercos_model.specs.CheckSequence.{fcs_of};
+ghost use Rattle.sercos_model.specs.Frames.{flag, plain_of, wire_bits, IsFrame};
+ghost use Rattle.sercos_hdlc.specs.Stuffed.{stuffed};
+
+use crate::stuffing::{count_bytes, push_bytes};
+use sercos_bits::{BitBuf, MAX_CONTENT, bits_of, fcs};
+
+/// A content has more than 2048 bytes.
+#[derive(Clone, Copy, Debug, PartialEq, Eq)]
+pub struct TooLong;
+
+// 01111110
+const FLAG_BYTE: u8 = 0x7e;
+
+// The bits of two flags.
+const FLAGS_BITS: u32 = 16;
+
+// Appends a flag, where there is room for it.
+fn push_flag(out: &mut BitBuf)
+    requires { length out.old + 8 ≤ 19696 }
+    ensures { out.new ≡ out.old ++ flag }
+{
+    bits_of(&[FLAG_BYTE], out).unwrap();
+}
+
+// The check sequence as it is sent: its low byte, and then its high byte.
+#[tactic(auto, using(crate::proofs::FramingLemmas::bits_of_two))]
+fn check_bytes(content: &[u8]) -> [u8; 2]
+    ensures { bits_of result ≡ low_bits 16 (fcs_of content.now) }
+{
+    fcs(content).to_le_bytes()
+}
+
+// Appends what is sent between the flags of a content's frame.
+#[tactic(auto, using(crate::proofs::FramingLemmas::stuffed_then))]
+fn push_body(content: &[u8], out: &mut BitBuf)
+    requires fits { length content.now ≤ 2048 }
+    requires room { length out.old ≤ 8 }
+    ensures bits { out.new ≡ out.old ++ stuffed 0 (plain_of content.now) }
+    ensures room { length out.new ≤ 19688 }
+{
+    let ones = push_bytes(content, 0, out);
+    push_bytes(&check_bytes(content), ones, out);
+}
+
+// Replaces the bits by a content's frame.
+fn write_frame(content: &[u8], out: &mut BitBuf)
+    requires { length content.now ≤ 2048 }
+    ensures { out.new ≡ flag ++ stuffed 0 (plain_of content.now) ++ flag }
+{
+    out.clear();
+    push_flag(out);
+    push_body(content, out);
+    push_flag(out);
+}
+
+/// Replaces the bits by the one frame of a content, from the first bit of its opening flag to the last bit of its closing
+/// flag. `TooLong` exactly above 2048 bytes, and then the bits stay as they were. [`unframe`](crate::unframe) gives the
+/// content back: `ok` says that the bits are its frame, and of a frame of any content `unframe` answers that content.
+pub fn frame(content: &[u8], out: &mut BitBuf) -> Result<(), TooLong>
+    requires { 0 < length content.now }
+    ensures ok { OnOk result (IsFrame content.now out.new) }
+    ensures wire { OnOk result (length out.new ≤ wire_bits (length content.now)) }
+    ensures too_long { IsErr result ↔ (2048 < length content.now) }
+    ensures err { OnErr result (out.new ≡ out.old) }
+{
+    if content.len() > MAX_CONTENT {
+        return Err(TooLong);
+    }
+    write_frame(content, out);
+    Ok(())
+}
+
+/// How many bits the frame of a content of 1 to 2048 bytes has, flags and inserted zeros with it.
+pub fn frame_len(content: &[u8]) -> u32
+    requires some { 0 < length content.now }
+    requires fits { length content.now ≤ 2048 }
+    ensures bits { (bits : List Bool) × IsFrame content.now bits × (result ≡ length bits) }
+    ensures only { (bits : List Bool) → IsFrame content.now bits → result ≡ length bits }
+{
+    let mut len = FLAGS_BITS;
+    let ones = count_bytes(content, 0, &mut len);
+    count_bytes(&check_bytes(content), ones, &mut len);
+    len
+}
+
+/// Laws and no code. Every content of 1 to 2048 bytes has a frame, and one alone. A frame has no more bits than
+/// `wire_bits` says of its content's length, so each fits a [`BitBuf`]. No frame is a proper prefix of another, and so what
+/// was framed is read again from its own bits alone.
+pub fn framing_law()
+    ensures some { (content : List ℕ) → AreBytes content → 0 < length content → length content ≤ 2048
+        → (bits : List Bool) × IsFrame content bits }
+    ensures one { (content : List ℕ) (a b : List Bool) → IsFrame content a → IsFrame content b → a ≡ b }
+    ensures wire { (content : List ℕ) (bits : List Bool) → IsFrame content bits
+        → length bits ≤ wire_bits (length content) }
+    ensures fits { (content : List ℕ) (bits : List Bool) → IsFrame content bits
+        → length bits ≤ 19696 }
+    ensures prefix { (content other : List ℕ) (bits more : List Bool) → IsFrame content bits
+        → IsFrame other (bits ++ more) → (more ≡ []) × (content ≡ other) }
+{}
