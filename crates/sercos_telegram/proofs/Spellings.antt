@@ -1,8 +1,11 @@
 -- Lemmas on spellings: what a content spells is one thing, and has no fault.
-use Rattle.std.proofs.Common.{◌≡◌, ℕ, ◌+◌, ◌*◌, ◌/◌, ◌%◌, ◌^◌, ◌<◌, Bool, true, false, List, [], ◌∷◌, ◌++◌, length, take, drop, get_or, Option, Some, None, refl, sym, ◌∙◌, ap, arith}
+use Rattle.std.proofs.Common.{◌≡◌, ℕ, ◌+◌, ◌*◌, ◌/◌, ◌%◌, ◌^◌, ◌<◌, Bool, true, false, List, [], ◌∷◌, ◌++◌, length, take, drop, get_or, Option, Some, None, ◌-◌, refl, sym, ◌∙◌, ap, arith, append_assoc, length-append}
+use Rattle.std.proofs.Math.Seq.{take-append_seam, drop-append_seam}
 use Rattle.sercos_telegram.specs.declared.layout.Layout.{Layout}
 use Rattle.sercos_telegram.specs.Faults.{head_fault}
-use Rattle.sercos_telegram.specs.Spells.{word_bytes, fields}
+use Rattle.sercos_telegram.specs.Spells.{word_bytes, word_at, fields, all_drives, record_bytes, SpellsRecord}
+use Rattle.sercos_telegram.specs.Words.{control_word}
+use Rattle.sercos_telegram.specs.declared.words.Control.{Control}
 
 -- two words and values that are spelled alike
 pub record IsSame (word info word' info' : ℕ) (values values' : List ℕ) : Type 0 where
@@ -54,3 +57,36 @@ single-whole address word info (value ∷ values) content five there rest =
     let whole = first_byte address content (omega arith) there in
     let lengths = ap length (whole ∙ ap (λ xs. address ∷ xs) rest) in
     absurd (omega (arith, lengths))
+
+-- the words behind an address
+pub word_at-first : (content : List ℕ) → word_at (drop 1 content) 0 ≡ word_at content 1
+unfolding word_at
+word_at-first [] = refl
+word_at-first (byte ∷ content) = refl
+
+pub word_at-second : (content : List ℕ) → word_at (drop 1 content) 2 ≡ word_at content 3
+unfolding word_at
+word_at-second [] = refl
+word_at-second (byte ∷ content) = refl
+
+length-fields : (word info : ℕ) (values : List ℕ) → length (fields word info values) ≡ 4 + length values
+unfolding fields word_bytes
+length-fields word info values = omega arith
+
+record-there : (before middle after : List ℕ) → take (length middle) (drop (length before) (before ++ middle ++ after)) ≡ middle
+record-there before middle after =
+    rw (append_assoc before middle after, drop-append_seam before (middle ++ after)) (take-append_seam middle after)
+
+first-append : (before rest : List ℕ) → 0 < length before → get_or (before ++ rest) 0 0 ≡ get_or before 0 0
+first-append [] rest some = absurd (omega arith)
+first-append (byte ∷ before) rest some = refl
+
+pub record-appended : (control : Control) (info : ℕ) (before values after : List ℕ) → 0 < length before → get_or before 0 0 ≡ all_drives → SpellsRecord (length (before ++ record_bytes control info values ++ after) - 1) (length before) (4 + length values) control info values (before ++ record_bytes control info values ++ after)
+record-appended control info before values after some address =
+    let middle = record_bytes control info values in
+    let long : length (before ++ middle ++ after) ≡ length before + length middle + length after = length-append (before ++ middle) after ∙ ap (λ n. n + length after) (length-append before middle) in
+    record {
+      long = omega (arith, long);
+      address = ap (λ xs. get_or xs 0 0) (append_assoc before middle after) ∙ first-append before (middle ++ after) some ∙ address;
+      there = ap (λ n. take n (drop (length before) (before ++ middle ++ after))) (sym (length-fields (control_word control) info values)) ∙ record-there before middle after;
+    }

@@ -1,6 +1,6 @@
 -- How the telegrams are spelled, after IEC 61491:1995. The kind of a telegram is known by its place in the cycle, so the
 -- layout to read by is known too. Words are sixteen bits, the low byte first.
-use Rattle.std.specs.Prelude.{◌≡◌, ℕ, ◌+◌, ◌≤◌, List, [], ◌∷◌, ◌++◌, length, take, drop, slice_index}
+use Rattle.std.specs.Prelude.{◌≡◌, ℕ, ◌+◌, ◌*◌, ◌≤◌, List, [], ◌∷◌, ◌++◌, length, take, drop, slice_index}
 use Rattle.std.specs.Int.{to_le_bytes, w16}
 use Rattle.sercos_telegram.specs.declared.words.Control.{Control}
 use Rattle.sercos_telegram.specs.declared.words.Status.{Status}
@@ -13,6 +13,10 @@ all_drives = 255
 -- the bytes of a word
 unfoldable pub word_bytes : ℕ → List ℕ
 word_bytes word = to_le_bytes w16 word
+
+-- the word whose low byte stands at a place
+unfoldable pub word_at : List ℕ → ℕ → ℕ
+word_at content place = slice_index content place + 256 * slice_index content (place + 1)
 
 -- an MST of a phase
 abbrev pub mst_content : ℕ → List ℕ

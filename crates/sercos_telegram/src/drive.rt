@@ -1,9 +1,9 @@
 //! What a drive says: the AT.
-ghost use Rattle.std.specs.Prelude.{◌≡◌, ℕ, ◌+◌, ◌^◌, ◌<◌, ◌≤◌, List, length, IfOk, IsOkAnd};
+ghost use Rattle.std.specs.Prelude.{◌≡◌, ℕ, ◌+◌, ◌^◌, ◌<◌, ◌≤◌, List, length, drop, IfOk, IsOkAnd};
 ghost use Rattle.std.specs.Result.{result_err};
 ghost use Rattle.sercos_telegram.specs.Faults.{at_fault};
-ghost use Rattle.sercos_telegram.specs.Words.{status_word};
-ghost use Rattle.sercos_telegram.specs.Spells.{at_content, SpellsAt};
+ghost use Rattle.sercos_telegram.specs.Words.{status_word, status_of};
+ghost use Rattle.sercos_telegram.specs.Spells.{at_content, word_at, SpellsAt};
 
 use crate::fields::{push_fields, read_fields};
 use crate::layout::{Layout, test_head};
@@ -28,6 +28,9 @@ pub struct At<'a> {
 pub fn read_at(address: u8, len: u16, content: &[u8]) -> Result<At<'_>, Layout>
     requires { 4 ≤ len }
     ensures address { IfOk result (λ at. at.address ≡ address) }
+    ensures status { IfOk result (λ at. at.status ≡ status_of (word_at content.now 1)) }
+    ensures info { IfOk result (λ at. at.info ≡ word_at content.now 3) }
+    ensures values { IfOk result (λ at. at.values.now ≡ drop 5 content.now) }
     ensures spells { IfOk result (λ at. SpellsAt address len at.status at.info at.values.now content.now) }
     ensures only { (status : Status) (info : ℕ) (values : List ℕ) → status_word status < 2 ^ 16 → info < 2 ^ 16
         → SpellsAt address len status info values content.now

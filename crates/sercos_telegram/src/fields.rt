@@ -1,6 +1,6 @@
 // What stands behind an address, or in a record: two words and values.
-ghost use Rattle.std.specs.Prelude.{◌≡◌, ℕ, ◌+◌, ◌^◌, ◌<◌, ◌≤◌, ◌++◌, length};
-ghost use Rattle.sercos_telegram.specs.Spells.{word_bytes, fields};
+ghost use Rattle.std.specs.Prelude.{◌≡◌, ℕ, ◌+◌, ◌^◌, ◌<◌, ◌≤◌, ◌++◌, length, drop};
+ghost use Rattle.sercos_telegram.specs.Spells.{word_bytes, word_at, fields};
 
 use sercos_bits::Content;
 
@@ -13,10 +13,13 @@ pub struct Fields<'a> {
 }
 
 /// The two words and the values that bytes are.
-#[tactic(auto, unfolding(crate::specs::Spells::fields, crate::specs::Spells::word_bytes))]
+#[tactic(auto, unfolding(crate::specs::Spells::fields, crate::specs::Spells::word_bytes, crate::specs::Spells::word_at))]
 pub fn read_fields(bytes: &[u8]) -> Fields<'_>
     requires { 4 ≤ length bytes.now }
     ensures spells { bytes.now ≡ fields result.word result.info result.values.now }
+    ensures word { result.word ≡ word_at bytes.now 0 }
+    ensures info { result.info ≡ word_at bytes.now 2 }
+    ensures values { result.values.now ≡ drop 4 bytes.now }
     ensures words { (result.word < 2 ^ 16) × (result.info < 2 ^ 16) }
 {
     Fields {

@@ -6,11 +6,13 @@
 
 mod drive;
 mod fields;
+mod law;
 mod layout;
 mod master;
 mod words;
 
 pub use drive::{At, read_at, write_at};
+pub use law::joint_law;
 pub use layout::{Kind, Layout};
 pub use master::{
     Mst, Record, joint_begin, joint_record, read_joint, read_mst, read_single, write_mst,

@@ -1,9 +1,9 @@
 //! What the master says: the MST and the MDT.
-ghost use Rattle.std.specs.Prelude.{◌≡◌, ℕ, ◌+◌, ◌^◌, ◌<◌, ◌≤◌, ◌↔◌, [], ◌∷◌, ◌++◌, List, length, IfOk, IsOkAnd, IsErr, OnOk, OnErr};
+ghost use Rattle.std.specs.Prelude.{◌≡◌, ℕ, ◌+◌, ◌^◌, ◌<◌, ◌≤◌, ◌↔◌, [], ◌∷◌, ◌++◌, List, length, slice_index, IfOk, IsOkAnd, IsErr, OnOk, OnErr};
 ghost use Rattle.std.specs.Result.{result_err};
 ghost use Rattle.sercos_telegram.specs.Faults.{mst_fault, single_fault, joint_fault};
-ghost use Rattle.sercos_telegram.specs.Words.{control_word};
-ghost use Rattle.sercos_telegram.specs.Spells.{all_drives, mst_content, single_content, record_bytes, SpellsRecord};
+ghost use Rattle.sercos_telegram.specs.Words.{control_word, control_of};
+ghost use Rattle.sercos_telegram.specs.Spells.{all_drives, word_at, mst_content, single_content, record_bytes, SpellsRecord};
 
 use crate::fields::{push_fields, read_fields};
 use crate::layout::{Layout, test_head};
@@ -39,6 +39,7 @@ pub struct Record<'a> {
 /// Reads an MST. The first of a wrong length, a wrong address and a byte that is no phase is the error.
 #[tactic(auto, unfolding(crate::specs::Faults::mst_fault))]
 pub fn read_mst(content: &[u8]) -> Result<Mst, Layout>
+    ensures phase { IfOk result (λ mst. mst.phase ≡ slice_index content.now 1) }
     ensures spells { IfOk result (λ mst. content.now ≡ mst_content mst.phase) }
     ensures only { (phase : ℕ) → phase ≤ 4 → content.now ≡ mst_content phase
         → IsOkAnd result (λ mst. mst.phase ≡ phase) }
@@ -64,6 +65,8 @@ pub fn write_mst(m: &Mst, out: &mut Content)
 /// Reads the MDT of phases 1 and 2 for the drive of an address: its control word and information word. The first of a
 /// wrong length and a wrong address is the error.
 pub fn read_single(address: u8, content: &[u8]) -> Result<(Control, u16), Layout>
+    ensures control { IfOk result (λ words. words.0 ≡ control_of (word_at content.now 1)) }
+    ensures info { IfOk result (λ words. words.1 ≡ word_at content.now 3) }
     ensures spells { IfOk result (λ words. content.now ≡ single_content address words.0 words.1) }
     ensures only { (control : Control) (info : ℕ) → control_word control < 2 ^ 16 → info < 2 ^ 16
         → content.now ≡ single_content address control info

@@ -61,10 +61,12 @@ pub struct Control {
 }
 
 impl Control {
-    ghost use Rattle.sercos_telegram.specs.Words.{control_word};
+    ghost use Rattle.sercos_telegram.specs.Words.{control_word, control_of};
 
     /// The control word that a word is. Every word is one, and `write` gives it back.
+    #[tactic(auto, unfolding(crate::specs::Words::control_of))]
     pub fn read(word: u16) -> Control
+        ensures value { result ≡ control_of word }
         ensures word { control_word result ≡ word }
         ensures only { (control : Control) → control_word control ≡ word → result ≡ control }
     {
@@ -108,10 +110,12 @@ pub struct Status {
 }
 
 impl Status {
-    ghost use Rattle.sercos_telegram.specs.Words.{status_word};
+    ghost use Rattle.sercos_telegram.specs.Words.{status_word, status_of};
 
     /// The status word that a word is. Every word is one, and `write` gives it back.
+    #[tactic(auto, unfolding(crate::specs::Words::status_of))]
     pub fn read(word: u16) -> Status
+        ensures value { result ≡ status_of word }
         ensures word { status_word result ≡ word }
         ensures only { (status : Status) → status_word status ≡ word → result ≡ status }
     {
