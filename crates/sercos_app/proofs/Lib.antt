@@ -1,4 +1,10 @@
 pub mod LineLemmas
+pub mod FaultLemmas
+pub mod SpareBits
+pub mod HexPairs
+pub mod HexLines
+pub mod RawLines
+pub mod WrittenLines
 pub mod FormLemmas
 pub mod ShowLemmas
 pub mod Outcomes

@@ -1,4 +1,5 @@
 pub mod Line
+pub mod RawLine
 pub mod Show
 pub mod Form
 pub mod Answer

@@ -2,9 +2,11 @@
 #![tactic(auto)]
 
 mod form;
+mod law;
 mod line;
 mod show;
 mod text;
 mod top_call;
 
+pub use law::line_law;
 pub use top_call::sercos;
