@@ -101,12 +101,21 @@ fn telegrams(rt: HostRuntime) -> Result<(), Fail> {
         ),
         // Content ff08.
         ("mst 50 7edf119ef9f801", "layout 3 field 1\n"),
-        ("single 49 7edf010ee1fd00", "layout 1 length found 2 wanted 5\n"),
+        (
+            "single 49 7edf010ee1fd00",
+            "layout 1 length found 2 wanted 5\n",
+        ),
         ("mst 41 7e8838f8fc00", "layout 1 length found 1 wanted 2\n"),
         // Content 0100: the length is right, the address isn't.
-        ("mst 49 7e01001f2dfc00", "layout 2 address found 1 wanted 255\n"),
+        (
+            "mst 49 7e01001f2dfc00",
+            "layout 2 address found 1 wanted 255\n",
+        ),
         // Content ff00000000.
-        ("single 73 7edf010000005a74fc00", "layout 2 address found 255 wanted 1\n"),
+        (
+            "single 73 7edf010000005a74fc00",
+            "layout 2 address found 255 wanted 1\n",
+        ),
         // A frame that is refused is answered as for `raw`.
         ("at 40 7e8838f87e", "error 2 abort 32\n"),
     ];
