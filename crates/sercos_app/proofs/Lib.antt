@@ -3,7 +3,7 @@ pub mod FaultLemmas
 pub mod SpareBits
 pub mod HexPairs
 pub mod HexLines
-pub mod RawLines
+pub mod SpelledLines
 pub mod WrittenLines
 pub mod FormLemmas
 pub mod ShowLemmas

@@ -4,8 +4,9 @@ use Rattle.std.specs.List.{before_first, after_first, position_or_len, flat_map}
 use Rattle.std.specs.Option.{option_or, option_map}
 use Rattle.sercos_hdlc.specs.Reason.{reason_of}
 use Rattle.sercos_io.specs.declared.status.Status.TheVariants as status
-use Rattle.sercos_app.specs.Line.{line_fault, line_bits}
-use Rattle.sercos_app.specs.Show.{lines_of, with_front, first_fault, line_answer, show_answer, show_text, show_status, refused_text, frame_text}
+use Rattle.sercos_app.specs.Line.{kind_of, line_fault, line_bits}
+use Rattle.sercos_app.specs.declared.line.LineKind.{LineKind}
+use Rattle.sercos_app.specs.Show.{lines_of, with_front, first_fault, line_answer, show_answer, show_text, show_status, refused_text, frame_text, answer_by}
 
 abbrev pub is_feed : ℕ → Bool
 is_feed byte = byte == 10
@@ -68,11 +69,11 @@ answers-good : (before : List ℕ) (rest line others : List ℕ) → Cut rest li
 answers-good before rest line others cut = rw (lines_of-cut rest line others cut) (sym (append_assoc before (line_answer line) (flat_map line_answer (lines_of others))))
 
 -- the answers so far, and one more
-pub answers-more : (before after all rest line others : List ℕ) (bits : List Bool) → Cut rest line others → bits ≡ line_bits line → after ≡ before ++ frame_text bits (reason_of bits) → before ++ flat_map line_answer (lines_of rest) ≡ all → after ++ flat_map line_answer (lines_of others) ≡ all
-unfolding line_answer
-answers-more before after all rest line others bits cut bits_are after_is so_far =
-    let answer : after ≡ before ++ line_answer line = rw (← bits_are) after_is in
-    rw answer (sym (answers-good before rest line others cut) ∙ so_far)
+pub answers-more : (before after all rest line others : List ℕ) (kind : LineKind) (bits : List Bool) → Cut rest line others → kind_of line ≡ Some kind → bits ≡ line_bits line → after ≡ before ++ frame_text kind bits (reason_of bits) → before ++ flat_map line_answer (lines_of rest) ≡ all → after ++ flat_map line_answer (lines_of others) ≡ all
+unfolding line_answer answer_by
+answers-more before after all rest line others kind bits cut kind_is bits_are after_is so_far =
+    let answer : line_answer line ≡ frame_text kind bits (reason_of bits) = rw (kind_is, ← bits_are) refl in
+    rw (after_is, ← answer) (sym (answers-good before rest line others cut) ∙ so_far)
 
 -- a line with a fault
 pub first_fault-bad : (number place : ℕ) (rest line others : List ℕ) → Cut rest line others → line_fault line ≡ Some place → first_fault number (lines_of rest) ≡ Some (number, place + 1)

@@ -1,14 +1,15 @@
--- The line `raw COUNT HEX` of any bits, and one such line computed.
-use Rattle.std.proofs.Common.{◌≡◌, ℕ, ◌+◌, ◌-◌, ◌*◌, ◌/◌, ◌%◌, ◌≤◌, ◌==◌, Bool, false, List, [], ◌∷◌, ◌++◌, length, map, replicate, None, refl, arith, codes, decimal, length-append}
+-- The line `KIND COUNT HEX` of any bits, and one such line computed.
+use Rattle.std.proofs.Common.{◌≡◌, ℕ, ◌+◌, ◌-◌, ◌*◌, ◌/◌, ◌%◌, ◌≤◌, ◌==◌, Bool, false, List, [], ◌∷◌, ◌++◌, length, map, replicate, Some, None, refl, arith, codes, decimal, length-append}
 use Rattle.std.proofs.lemmas.List.{length-replicate}
 use Rattle.hex.specs.Hex.{encode_lower}
 use Rattle.hex.proofs.HexLemmas.{decode_of-encode_lower}
 use Rattle.hex.proofs.OnLiterals.{hex_on_literals}
 use Rattle.sercos_model.specs.Bits.{is_odd, low_bits, bits_of, bytes_of}
 use Rattle.sercos_model.proofs.BitLemmas.{bits_of-bytes_of, AreBytes-bytes_of, AreBytes-get_or}
-use Rattle.sercos_app.specs.Line.{hex_bytes, byte_of, wanted_digits, has_spare, kind_fault, count_fault, digits_fault, hex_fault, numbers_fault, line_fault, hex_bits, numbers_bits, line_bits}
-use Rattle.sercos_app.specs.RawLine.{AreDigitsOf, IsHexOf, IsRawLine}
-use Rattle.sercos_app.proofs.RawLines.{line_spelled}
+use Rattle.sercos_app.specs.Line.{hex_bytes, byte_of, wanted_digits, has_spare, kind_text, kind_of, fault_by, bits_by, count_fault, digits_fault, hex_fault, numbers_fault, line_fault, hex_bits, numbers_bits, line_bits}
+use Rattle.sercos_app.specs.declared.line.LineKind.{LineKind}
+use Rattle.sercos_app.specs.SpelledLine.{AreDigitsOf, IsHexOf, IsLine}
+use Rattle.sercos_app.proofs.SpelledLines.{line_spelled}
 
 -- the digits of some bits, in lower case
 written_digits : (bits : List Bool) → (text : List ℕ) × AreDigitsOf text bits
@@ -26,10 +27,10 @@ written_hex [] = (codes "-", refl)
 written_hex (bit ∷ bits) = written_digits (bit ∷ bits)
 
 -- bits that aren't too many have a line
-pub line_written : (bits : List Bool) → length bits ≤ 19696 → (line : List ℕ) × IsRawLine line bits
-line_written bits fits =
+pub line_written : (kind : LineKind) (bits : List Bool) → length bits ≤ 19696 → (line : List ℕ) × IsLine kind line bits
+line_written kind bits fits =
     let hex = written_hex bits in
-    (codes "raw " ++ decimal (length bits) ++ codes " " ++ hex.0, record { fits = fits; hex = hex.0; spelled = hex.1; whole = refl })
+    (kind_text kind ++ decimal (length bits) ++ codes " " ++ hex.0, record { fits = fits; hex = hex.0; spelled = hex.1; whole = refl })
 
 -- the line of a frame, and its bits in their order on the ring
 abbrev frame_line : List ℕ
@@ -39,12 +40,12 @@ abbrev frame_bits : List Bool
 frame_bits = map (λ digit. digit == 49) (codes "0111111011111011100000000111000010000111101111110")
 
 frame_line-line_fault : line_fault frame_line ≡ None
-unfolding line_fault kind_fault numbers_fault count_fault hex_fault digits_fault has_spare byte_of hex_bytes wanted_digits hex_on_literals
+unfolding line_fault fault_by kind_of numbers_fault count_fault hex_fault digits_fault has_spare byte_of hex_bytes wanted_digits hex_on_literals
 frame_line-line_fault = refl
 
 frame_line-line_bits : line_bits frame_line ≡ frame_bits
-unfolding line_bits numbers_bits hex_bits hex_bytes wanted_digits hex_on_literals bits_of low_bits is_odd
+unfolding line_bits bits_by kind_of numbers_bits hex_bits hex_bytes wanted_digits hex_on_literals bits_of low_bits is_odd
 frame_line-line_bits = refl
 
-frame_line-IsRawLine : IsRawLine frame_line frame_bits
-frame_line-IsRawLine = rw (← frame_line-line_bits) (line_spelled frame_line frame_line-line_fault)
+frame_line-IsLine : (kind : LineKind) × (kind_of frame_line ≡ Some kind) × IsLine kind frame_line frame_bits
+frame_line-IsLine = rw (← frame_line-line_bits) (line_spelled frame_line frame_line-line_fault)

@@ -1,5 +1,5 @@
 pub mod Line
-pub mod RawLine
+pub mod SpelledLine
 pub mod Show
 pub mod Form
 pub mod Answer

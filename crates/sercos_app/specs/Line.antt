@@ -1,15 +1,17 @@
--- The lines of `show`: `raw COUNT HEX` with single spaces. COUNT is a number of bits in decimal digits without
+-- The lines of `show`: `KIND COUNT HEX` with single spaces. KIND is `raw`, `mst`, `single` or `at`. COUNT is a number of bits in decimal digits without
 -- leading zeros, at most 19696. HEX has two digits of either case for each eight bits begun, the first bit being the
 -- least significant one of the first byte; bits past the last one are zeros. For no bits HEX is `-`.
-use Rattle.std.specs.Prelude.{ℕ, ◌+◌, ◌-◌, ◌*◌, ◌/◌, ◌^◌, ◌==◌, nat_eq, nat_lt, nat_le, Bool, false, not, ◌&&◌, if◌then◌else◌, List, [], ◌∷◌, length, take, drop, slice_index, codes, Option, Some, None, Result, Ok, Err}
+use Rattle.std.specs.Prelude.{ℕ, ◌+◌, ◌-◌, ◌*◌, ◌/◌, ◌^◌, ◌==◌, nat_eq, nat_lt, nat_le, max, Bool, false, not, ◌&&◌, if◌then◌else◌, List, [], ◌∷◌, length, take, drop, slice_index, codes, Option, Some, None, Result, Ok, Err}
 use Rattle.std.specs.Bool.{then_some}
 use Rattle.std.specs.Char.{is_ascii_digit, is_ascii_hexdigit}
-use Rattle.std.specs.List.{prefix_len, common_prefix_len}
+use Rattle.std.specs.List.{prefix_len, common_prefix_len, find}
 use Rattle.std.specs.Option.{option_or, option_map}
 use Rattle.std.specs.Result.{result_unwrap_or}
 use Rattle.std.specs.Str.Parse.{digits_value}
 use Rattle.hex.specs.Hex.{decode_of}
 use Rattle.sercos_model.specs.Bits.{bits_of}
+use Rattle.sercos_app.specs.declared.line.LineKind.{LineKind}
+use Rattle.sercos_app.specs.declared.line.LineKind.TheVariants.{Raw, Mst, Single, At}
 
 -- the greatest COUNT: a frame of 2048 content bytes has at most so many bits
 abbrev pub most_bits : ℕ
@@ -34,9 +36,24 @@ has_spare count byte = nat_le (2 ^ (count - 8 * ((count + 7) / 8 - 1))) byte
 -- The faults of a part of a line are places, from 0 on, counted from the part's first byte. A missing byte's place is
 -- the part's length.
 
--- the kind: the first byte that differs from those of `raw `
-unfoldable pub kind_fault : List ℕ → Option ℕ
-kind_fault line = then_some (nat_lt (common_prefix_len nat_eq line (codes "raw ")) 4) (common_prefix_len nat_eq line (codes "raw "))
+-- the kinds, each with the space behind it
+abbrev pub kind_text : LineKind → List ℕ
+kind_text Raw = codes "raw "
+kind_text Mst = codes "mst "
+kind_text Single = codes "single "
+kind_text At = codes "at "
+
+-- how many bytes of a kind's text a line begins with
+abbrev pub shared_with : List ℕ → LineKind → ℕ
+shared_with line kind = common_prefix_len nat_eq line (kind_text kind)
+
+-- the kind that a line is of
+unfoldable pub kind_of : List ℕ → Option LineKind
+kind_of line = find (λ kind. shared_with line kind == length (kind_text kind)) (Raw ∷ Mst ∷ Single ∷ At ∷ [])
+
+-- where a line is of no kind: the first byte with which no kind goes on
+unfoldable pub kind_fault : List ℕ → ℕ
+kind_fault line = max (max (max (shared_with line Raw) (shared_with line Mst)) (shared_with line Single)) (shared_with line At)
 
 -- COUNT and the space behind it: no digit, a digit behind a leading zero, a number too large (at its first digit),
 -- and another byte than a space
@@ -68,10 +85,11 @@ digits_fault count text =
 unfoldable pub hex_fault : ℕ → List ℕ → Option ℕ
 hex_fault count text = if count == 0 then dash_fault text else digits_fault count text
 
--- the parts of a line whose kind has no fault
-abbrev pub count_text : List ℕ → List ℕ
-count_text line = drop 4 line
+-- what stands behind the kind
+abbrev pub count_text : LineKind → List ℕ → List ℕ
+count_text kind line = drop (length (kind_text kind)) line
 
+-- the number that COUNT spells, and what stands behind the space
 abbrev pub count_of : List ℕ → ℕ
 count_of text = digits_value 10 (take (prefix_len is_ascii_digit text) text)
 
@@ -87,9 +105,13 @@ unfoldable pub numbers_fault : List ℕ → Option ℕ
 numbers_fault text =
     option_or (count_fault text) (behind (prefix_len is_ascii_digit text + 1) (hex_fault (count_of text) (hex_text text)))
 
+unfoldable pub fault_by : Option LineKind → List ℕ → Option ℕ
+fault_by None line = Some (kind_fault line)
+fault_by (Some kind) line = behind (length (kind_text kind)) (numbers_fault (count_text kind line))
+
 -- the place of the first byte of a line that can't stand, if there is one
 unfoldable pub line_fault : List ℕ → Option ℕ
-line_fault line = option_or (kind_fault line) (behind 4 (numbers_fault (count_text line)))
+line_fault line = fault_by (kind_of line) line
 
 -- the bits of HEX
 unfoldable pub hex_bits : ℕ → List ℕ → List Bool
@@ -98,6 +120,10 @@ hex_bits count text = take count (bits_of (hex_bytes (take (wanted_digits count)
 unfoldable pub numbers_bits : List ℕ → List Bool
 numbers_bits text = hex_bits (count_of text) (hex_text text)
 
+unfoldable pub bits_by : Option LineKind → List ℕ → List Bool
+bits_by None line = []
+bits_by (Some kind) line = numbers_bits (count_text kind line)
+
 -- the bits that a line without a fault gives
 unfoldable pub line_bits : List ℕ → List Bool
-line_bits line = numbers_bits (count_text line)
+line_bits line = bits_by (kind_of line) line

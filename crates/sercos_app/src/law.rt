@@ -1,16 +1,17 @@
 // What the rules on a line of `show` come to, seen from the bits.
-ghost use Rattle.std.specs.Prelude.{◌≡◌, ℕ, ◌≤◌, Bool, List, length};
-ghost use Rattle.sercos_app.specs.Line.{line_fault, line_bits};
-ghost use Rattle.sercos_app.specs.RawLine.{IsRawLine};
+ghost use Rattle.std.specs.Prelude.{◌≡◌, ℕ, ◌≤◌, Bool, List, Option, Some, None, length};
+ghost use Rattle.sercos_app.specs.Line.{kind_of, line_fault, line_bits};
+ghost use Rattle.sercos_app.specs.SpelledLine.{IsLine};
+ghost use Rattle.sercos_app.specs.declared.line.LineKind.{LineKind};
 
-/// A law and no code: a line of `show` has no fault exactly where it is the line `raw COUNT HEX` of some bits, which are
-/// then those that it gives. So a line is read as one list of bits at most, and each list of at most 19696 bits has a
-/// line.
+/// A law and no code: a line of `show` has no fault exactly where it is the line `KIND COUNT HEX` of some bits, which
+/// are then those that it gives, with that kind. So a line is read as one list of bits at most, of one kind, and each
+/// list of at most 19696 bits has a line of each kind.
 pub fn line_law()
     ensures spelled { (line : List ℕ) → line_fault line ≡ None
-        → IsRawLine line (line_bits line) }
-    ensures taken { (line : List ℕ) (bits : List Bool) → IsRawLine line bits
-        → (line_fault line ≡ None) × (line_bits line ≡ bits) }
-    ensures written { (bits : List Bool) → length bits ≤ 19696
-        → (line : List ℕ) × IsRawLine line bits }
+        → (kind : LineKind) × (kind_of line ≡ Some kind) × IsLine kind line (line_bits line) }
+    ensures taken { (kind : LineKind) (line : List ℕ) (bits : List Bool) → IsLine kind line bits
+        → (line_fault line ≡ None) × (kind_of line ≡ Some kind) × (line_bits line ≡ bits) }
+    ensures written { (kind : LineKind) (bits : List Bool) → length bits ≤ 19696
+        → (line : List ℕ) × IsLine kind line bits }
 {}

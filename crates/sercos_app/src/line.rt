@@ -1,32 +1,78 @@
 // The lines of `show`: `raw COUNT HEX`. A fault is the place, from 0 on, of the first byte that can't stand; that of a
 // missing byte is one past the end.
-ghost use Rattle.std.specs.Prelude.{◌≡◌, ℕ, ◌+◌, ◌-◌, ◌*◌, ◌/◌, ◌<◌, ◌≤◌, min, [], ◌∷◌, OnOk, IfErr, IfSome, IfNone, length, take, drop, slice_index, nat_eq, codes};
+ghost use Rattle.std.specs.Prelude.{◌≡◌, ℕ, ◌+◌, ◌-◌, ◌*◌, ◌/◌, ◌<◌, ◌≤◌, min, [], ◌∷◌, OnOk, IfOk, IfErr, IfSome, IfNone, length, take, drop, slice_index, nat_eq, Some};
 ghost use Rattle.std.specs.Char.{is_ascii_digit, is_ascii_hexdigit};
 ghost use Rattle.std.specs.List.{prefix_len, common_prefix_len};
-ghost use Rattle.std.specs.Result.{result_err};
+ghost use Rattle.std.specs.Result.{result_ok, result_err};
 ghost use Rattle.std.specs.Str.Parse.{digits_value};
 ghost use Rattle.sercos_model.specs.Bits.{bits_of};
-ghost use Rattle.sercos_app.specs.Line.{hex_bytes, byte_of, wanted_digits, has_spare, kind_fault, count_fault, dash_fault, digits_fault, hex_fault, hex_bits, numbers_fault, numbers_bits, line_fault, line_bits};
+ghost use Rattle.sercos_app.specs.Line.{hex_bytes, byte_of, wanted_digits, has_spare, kind_text, kind_of, kind_fault, count_fault, dash_fault, digits_fault, hex_fault, hex_bits, numbers_fault, numbers_bits, line_fault, line_bits};
 
 use sercos_bits::BitBuf;
 
-/// What a line begins with.
-const KIND: &[u8; 4] = b"raw ";
+/// What the bits of a line are read as.
+#[derive(Clone, Copy, Debug, PartialEq, Eq)]
+pub enum LineKind {
+    /// `raw`: a frame.
+    Raw,
+    /// `mst`: the frame of an MST.
+    Mst,
+    /// `single`: that of an MDT of phases 1 and 2.
+    Single,
+    /// `at`: that of an AT.
+    At,
+}
 
 /// The greatest COUNT.
 const MOST: usize = 19696;
 
-// How many bytes of the kind a line begins with.
-fn shared_with_kind(line: &[u8]) -> usize
-    ensures value { result ≡ common_prefix_len nat_eq line.now (codes "raw ") }
+// How many bytes of a text a line begins with.
+fn shared_with(line: &[u8], text: &[u8]) -> usize
+    ensures value { result ≡ common_prefix_len nat_eq line.now text.now }
     ensures bound { result ≤ length line.now }
 {
-    for (place, wanted) in KIND.iter().enumerate() {
+    for (place, wanted) in text.iter().enumerate() {
         if line.get(place) != Some(wanted) {
             return place;
         }
     }
-    KIND.len()
+    text.len()
+}
+
+// The kind that a line is of, or the place of the first byte with which no kind goes on.
+#[tactic(auto, unfolding(crate::specs::Line::kind_of, crate::specs::Line::kind_fault))]
+fn kind_of(line: &[u8]) -> Result<LineKind, usize>
+    ensures kind { result_ok result ≡ kind_of line.now }
+    ensures fault { IfErr result (λ place. place ≡ kind_fault line.now) }
+    ensures bound { IfErr result (λ place. place ≤ length line.now) }
+    ensures there { IfOk result (λ kind. length (kind_text kind) ≤ length line.now) }
+{
+    let raw = shared_with(line, b"raw ");
+    let mst = shared_with(line, b"mst ");
+    let single = shared_with(line, b"single ");
+    let at = shared_with(line, b"at ");
+    if raw == 4 {
+        Ok(LineKind::Raw)
+    } else if mst == 4 {
+        Ok(LineKind::Mst)
+    } else if single == 7 {
+        Ok(LineKind::Single)
+    } else if at == 3 {
+        Ok(LineKind::At)
+    } else {
+        Err(raw.max(mst).max(single).max(at))
+    }
+}
+
+// How many bytes stand in front of COUNT.
+fn kind_len(kind: LineKind) -> usize
+    ensures { result ≡ length (kind_text kind) }
+{
+    match kind {
+        LineKind::Raw | LineKind::Mst => 4,
+        LineKind::Single => 7,
+        LineKind::At => 3,
+    }
 }
 
 // How many digits a text begins with, and the number that they spell, or 19697 for a greater one.
@@ -220,20 +266,22 @@ fn read_numbers(text: &[u8], bits: &mut BitBuf) -> Result<(), usize>
     }
 }
 
-/// Replaces the bits by those that a line gives. The error is the place, from 0 on, of the first byte of the line that
-/// can't stand; then the bits are of no use.
-#[tactic(auto, unfolding(crate::specs::Line::line_fault, crate::specs::Line::kind_fault, crate::specs::Line::line_bits))]
-pub fn read_line(line: &[u8], bits: &mut BitBuf) -> Result<(), usize>
+/// Replaces the bits by those that a line gives, and answers its kind. The error is the place, from 0 on, of the first
+/// byte of the line that can't stand; then the bits are of no use.
+#[tactic(auto, unfolding(crate::specs::Line::line_fault, crate::specs::Line::fault_by, crate::specs::Line::line_bits, crate::specs::Line::bits_by))]
+pub fn read_line(line: &[u8], bits: &mut BitBuf) -> Result<LineKind, usize>
     ensures fault { result_err result ≡ line_fault line.now }
+    ensures kind { IfOk result (λ kind. kind_of line.now ≡ Some kind) }
     ensures bits { OnOk result (bits.new ≡ line_bits line.now) }
     ensures bound { IfErr result (λ place. place ≤ length line.now) }
 {
-    let shared = shared_with_kind(line);
-    if shared < KIND.len() {
-        return Err(shared);
-    }
-    match read_numbers(&line[KIND.len()..], bits) {
-        Ok(()) => Ok(()),
-        Err(place) => Err(KIND.len() + place),
+    let kind = match kind_of(line) {
+        Ok(kind) => kind,
+        Err(place) => return Err(place),
+    };
+    let begin = kind_len(kind);
+    match read_numbers(&line[begin..], bits) {
+        Ok(()) => Ok(kind),
+        Err(place) => Err(begin + place),
     }
 }

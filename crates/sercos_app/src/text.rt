@@ -1,10 +1,11 @@
 // The texts of answers, appended to what is written in the end.
 ghost use Rattle.std.specs.Prelude.{◌≡◌, ◌++◌, OnOk, codes, decimal, length, ◌≤◌};
 ghost use Rattle.hex.specs.Hex.{encode_lower};
-ghost use Rattle.sercos_app.specs.Show.{word_text, refusal_text};
+ghost use Rattle.sercos_app.specs.Show.{word_text, bit_text, two_bits, bit_and_number, two_words, data_text, layout_text, mst_text, single_text, at_text, refusal_text};
 
 use itoa::Buffer;
 use sercos_hdlc::BadFrame;
+use sercos_telegram::{At, Control, Layout};
 use std::alloc::AllocError;
 
 /// Appends a text.
@@ -34,28 +35,87 @@ pub fn push_word(word: u16, out: &mut Vec<u8>) -> Result<(), AllocError>
 }
 
 // Appends a text and a number.
-fn push_place(text: &str, place: u32, out: &mut Vec<u8>) -> Result<(), AllocError>
+fn push_place(text: &str, place: u64, out: &mut Vec<u8>) -> Result<(), AllocError>
     ensures { OnOk result (out.new.items ≡ out.old.items ++ text.now ++ decimal place) }
 {
     push_text(text, out)?;
-    push_number(u64::from(place), out)
+    push_number(place, out)
 }
 
-// Appends two words, each behind its name.
-fn push_words(
+// Appends a bit.
+fn push_bit(bit: bool, out: &mut Vec<u8>) -> Result<(), AllocError>
+    ensures { OnOk result (out.new.items ≡ out.old.items ++ bit_text bit) }
+{
+    push_text(if bit { "1" } else { "0" }, out)
+}
+
+// Appends two bits, each behind its name.
+#[tactic(auto, unfolding(crate::specs::Show::two_bits))]
+fn push_bits(
     first: &str,
-    found: u16,
+    a: bool,
     second: &str,
-    wanted: u16,
+    b: bool,
+    out: &mut Vec<u8>,
+) -> Result<(), AllocError>
+    ensures { OnOk result (out.new.items ≡ out.old.items ++ two_bits first.now a second.now b) }
+{
+    push_text(first, out)?;
+    push_bit(a, out)?;
+    push_text(second, out)?;
+    push_bit(b, out)
+}
+
+// Appends a bit and a number, each behind its name.
+#[tactic(auto, unfolding(crate::specs::Show::bit_and_number))]
+fn push_bit_and_number(
+    first: &str,
+    bit: bool,
+    second: &str,
+    number: u64,
     out: &mut Vec<u8>,
 ) -> Result<(), AllocError>
     ensures { OnOk result (out.new.items
-        ≡ out.old.items ++ (first.now ++ word_text found ++ second.now ++ word_text wanted)) }
+        ≡ out.old.items ++ bit_and_number first.now bit second.now number) }
 {
     push_text(first, out)?;
-    push_word(found, out)?;
+    push_bit(bit, out)?;
     push_text(second, out)?;
-    push_word(wanted, out)
+    push_number(number, out)
+}
+
+// Appends two numbers, each behind its name.
+fn push_numbers(
+    first: &str,
+    a: u64,
+    second: &str,
+    b: u64,
+    out: &mut Vec<u8>,
+) -> Result<(), AllocError>
+    ensures { OnOk result (out.new.items
+        ≡ out.old.items ++ (first.now ++ decimal a ++ second.now ++ decimal b)) }
+{
+    push_text(first, out)?;
+    push_number(a, out)?;
+    push_text(second, out)?;
+    push_number(b, out)
+}
+
+// Appends two words, each behind its name.
+#[tactic(auto, unfolding(crate::specs::Show::two_words))]
+fn push_words(
+    first: &str,
+    a: u16,
+    second: &str,
+    b: u16,
+    out: &mut Vec<u8>,
+) -> Result<(), AllocError>
+    ensures { OnOk result (out.new.items ≡ out.old.items ++ two_words first.now a second.now b) }
+{
+    push_text(first, out)?;
+    push_word(a, out)?;
+    push_text(second, out)?;
+    push_word(b, out)
 }
 
 /// Appends number, name and places of a refusal of framing.
@@ -65,15 +125,15 @@ pub fn push_refusal(bad: BadFrame, out: &mut Vec<u8>) -> Result<(), AllocError>
 {
     match bad {
         BadFrame::NoOpen => push_text("1 no open", out),
-        BadFrame::Abort(place) => push_place("2 abort ", place, out),
-        BadFrame::NoClose(bits) => push_place("3 no close ", bits, out),
-        BadFrame::Ragged(bits) => push_place("4 ragged ", bits, out),
-        BadFrame::Short(bytes) => push_place("5 short ", bytes, out),
+        BadFrame::Abort(place) => push_place("2 abort ", u64::from(place), out),
+        BadFrame::NoClose(bits) => push_place("3 no close ", u64::from(bits), out),
+        BadFrame::Ragged(bits) => push_place("4 ragged ", u64::from(bits), out),
+        BadFrame::Short(bytes) => push_place("5 short ", u64::from(bytes), out),
         BadFrame::Check(found, wanted) => {
             push_words("6 check found ", found, " wanted ", wanted, out)
         },
-        BadFrame::After(place) => push_place("7 after ", place, out),
-        BadFrame::Long(bytes) => push_place("8 long ", bytes, out),
+        BadFrame::After(place) => push_place("7 after ", u64::from(place), out),
+        BadFrame::Long(bytes) => push_place("8 long ", u64::from(bytes), out),
     }
 }
 
@@ -86,4 +146,95 @@ pub fn push_hex(bytes: &[u8], out: &mut Vec<u8>) -> Result<(), AllocError>
     let text = &mut digits[..2 * bytes.len()];
     hex::encode_to_slice(bytes, text).unwrap();
     out.extend_from_slice(text)
+}
+
+// Appends bytes in hexadecimal digits, or `-` where there are none.
+#[tactic(auto, unfolding(crate::specs::Show::data_text))]
+fn push_data(bytes: &[u8], out: &mut Vec<u8>) -> Result<(), AllocError>
+    requires { length bytes.now ≤ 2048 }
+    ensures { OnOk result (out.new.items ≡ out.old.items ++ data_text bytes.now) }
+{
+    match bytes {
+        [] => push_text("-", out),
+        [_, ..] => push_hex(bytes, out),
+    }
+}
+
+/// Appends number, name and values of a fault of layout.
+#[tactic(auto, unfolding(crate::specs::Show::layout_text))]
+pub fn push_layout(fault: Layout, out: &mut Vec<u8>) -> Result<(), AllocError>
+    ensures { OnOk result (out.new.items ≡ out.old.items ++ layout_text fault) }
+{
+    match fault {
+        Layout::Length(found, wanted) => {
+            push_numbers(
+                "1 length found ",
+                found as u64,
+                " wanted ",
+                wanted as u64,
+                out,
+            )
+        }
+        Layout::Address(found, wanted) => {
+            push_numbers(
+                "2 address found ",
+                found as u64,
+                " wanted ",
+                wanted as u64,
+                out,
+            )
+        }
+        Layout::BadField(place) => push_place("3 field ", place as u64, out),
+    }
+}
+
+/// Appends the fields of an MST.
+#[tactic(auto, unfolding(crate::specs::Show::mst_text))]
+pub fn push_mst(phase: u8, out: &mut Vec<u8>) -> Result<(), AllocError>
+    ensures { OnOk result (out.new.items ≡ out.old.items ++ mst_text phase) }
+{
+    push_place("mst phase ", u64::from(phase), out)
+}
+
+/// Appends the fields of an MDT of phases 1 and 2.
+#[tactic(auto, unfolding(crate::specs::Show::single_text))]
+pub fn push_single(
+    address: u8,
+    control: &Control,
+    info: u16,
+    out: &mut Vec<u8>,
+) -> Result<(), AllocError>
+    ensures { OnOk result (out.new.items ≡ out.old.items ++ single_text address control.now info) }
+{
+    push_place("single ", u64::from(address), out)?;
+    push_bits(" mhs ", control.mhs, " write ", control.write, out)?;
+    push_bit_and_number(
+        " last ",
+        control.last,
+        " element ",
+        u64::from(control.element),
+        out,
+    )?;
+    push_words(" info ", info, " cyclic ", control.cyclic, out)
+}
+
+/// Appends the fields of an AT.
+#[tactic(auto, unfolding(crate::specs::Show::at_text))]
+pub fn push_at(at: &At<'_>, out: &mut Vec<u8>) -> Result<(), AllocError>
+    requires { length at.now.values.now ≤ 2048 }
+    ensures { OnOk result (out.new.items
+        ≡ out.old.items ++ at_text at.now.address at.now.status at.now.info at.now.values.now) }
+{
+    push_place("at ", u64::from(at.address), out)?;
+    push_bits(" ahs ", at.status.ahs, " busy ", at.status.busy, out)?;
+    push_bits(
+        " error ",
+        at.status.error,
+        " change ",
+        at.status.change,
+        out,
+    )?;
+    push_words(" info ", at.info, " cyclic ", at.status.cyclic, out)?;
+    push_text(" data ", out)?;
+    push_data(at.values, out)
 }

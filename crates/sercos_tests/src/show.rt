@@ -86,15 +86,60 @@ fn frames_and_refusals(rt: HostRuntime) -> Result<(), Fail> {
     Ok(())
 }
 
+// The fields of telegrams, and the faults of layout.
+#[test]
+fn telegrams(rt: HostRuntime) -> Result<(), Fail> {
+    let rows: [(&'static str, &'static str); 9] = [
+        ("mst 49 7edf010ee1fd00", "mst phase 0\n"),
+        (
+            "single 72 7e010f000300a25c7e",
+            "single 1 mhs 1 write 1 last 1 element 1 info 0x0003 cyclic 0x0000\n",
+        ),
+        (
+            "at 72 7e010100000088d87e",
+            "at 1 ahs 1 busy 0 error 0 change 0 info 0x0000 cyclic 0x0000 data -\n",
+        ),
+        // Content ff08.
+        ("mst 50 7edf119ef9f801", "layout 3 field 1\n"),
+        (
+            "single 49 7edf010ee1fd00",
+            "layout 1 length found 2 wanted 5\n",
+        ),
+        ("mst 41 7e8838f8fc00", "layout 1 length found 1 wanted 2\n"),
+        // Content 0100: the length is right, the address isn't.
+        (
+            "mst 49 7e01001f2dfc00",
+            "layout 2 address found 1 wanted 255\n",
+        ),
+        // Content ff00000000.
+        (
+            "single 73 7edf010000005a74fc00",
+            "layout 2 address found 255 wanted 1\n",
+        ),
+        // A frame that is refused is answered as for `raw`.
+        ("at 40 7e8838f87e", "error 2 abort 32\n"),
+    ];
+    for (line, output) in rows {
+        let (answered, sink) = answer(rt.alloc(), "show", line)?;
+        assert_eq!(rt; answered, Status::Done, "{line}");
+        assert_eq!(rt; sink.as_slice(), output.as_bytes(), "{line}");
+    }
+    Ok(())
+}
+
 // Where a line is refused: the first byte that can't stand, a number too large at its first digit, spare bits at their
 // pair's first digit, a missing byte at one past the end.
 #[test]
 fn columns(rt: HostRuntime) -> Result<(), Fail> {
-    let rows: [(&'static str, &'static str); 24] = [
+    let rows: [(&'static str, &'static str); 28] = [
         ("", "refused line 1 column 1\n"),
         ("ra", "refused line 1 column 3\n"),
         ("raw", "refused line 1 column 4\n"),
-        ("mst 49 7edf010ee1fd00", "refused line 1 column 1\n"),
+        ("mdt 49 7edf010ee1fd00", "refused line 1 column 2\n"),
+        ("sin", "refused line 1 column 4\n"),
+        ("singel 8 7e", "refused line 1 column 5\n"),
+        ("at8 7e", "refused line 1 column 3\n"),
+        ("single 8 7", "refused line 1 column 11\n"),
         ("raw  8 7e", "refused line 1 column 5\n"),
         ("raw 8", "refused line 1 column 6\n"),
         ("raw 8\r7e", "refused line 1 column 6\n"),

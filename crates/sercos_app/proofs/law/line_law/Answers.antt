@@ -1,4 +1,4 @@
-use Rattle.sercos_app.proofs.RawLines.{line_spelled, line_taken}
+use Rattle.sercos_app.proofs.SpelledLines.{line_spelled, line_taken}
 use Rattle.sercos_app.proofs.WrittenLines.{line_written}
 use Rattle.sercos_app.proofs.law.line_law.Goals as goal
 

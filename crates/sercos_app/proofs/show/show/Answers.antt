@@ -26,7 +26,7 @@ loop-rest-preserved c =
     let cut : Cut c.loop-rest.rest.now c.cut_line.result.0.now c.cut_line.result.1.now =
     record { some = some; line_is = c.cut_line.ensures.line; others_are = c.cut_line.ensures.rest } in
     let good : line_fault c.cut_line.result.0.now ≡ None = sym c.in-Ok.ensures.fault in
-    (answers-more _ _ _ _ _ _ _ cut c.in-Ok.ensures.bits c.in_ok-push_answer-in-Ok.ensures c.loop-rest.invariant.0, sym (first_fault-good _ _ _ _ cut good) ∙ c.loop-rest.invariant.1, omega (arith, c.cut_line.ensures.shorter some))
+    (answers-more _ _ _ _ _ _ _ _ cut c.in-Ok.ensures.kind c.in-Ok.ensures.bits c.in_ok-push_answer-in-Ok.ensures c.loop-rest.invariant.0, sym (first_fault-good _ _ _ _ cut good) ∙ c.loop-rest.invariant.1, omega (arith, c.cut_line.ensures.shorter some))
 
 pub returns-clause-status : goal.returns-clause-status
 returns-clause-status c =

@@ -1,7 +1,9 @@
--- What the line `raw COUNT HEX` of some bits is, apart from the rules that find a line's faults.
+-- What the line `KIND COUNT HEX` of some bits is, apart from the rules that find a line's faults.
 use Rattle.std.specs.Prelude.{◌≡◌, ℕ, ◌<◌, ◌≤◌, Bool, false, List, [], ◌∷◌, ◌++◌, length, replicate, codes, Ok, decimal}
 use Rattle.hex.specs.Hex.{decode_of}
 use Rattle.sercos_model.specs.Bits.{bits_of}
+use Rattle.sercos_app.specs.declared.line.LineKind.{LineKind}
+use Rattle.sercos_app.specs.Line.{kind_text}
 
 -- Hexadecimal digits of either case spell bits: two digits a byte, the bytes' bits from the least significant one of
 -- the first byte on, and fewer than eight zeros behind the last bit
@@ -17,9 +19,9 @@ unfoldable pub IsHexOf : List ℕ → List Bool → Type 0
 IsHexOf text [] = text ≡ codes "-"
 IsHexOf text (bit ∷ bits) = AreDigitsOf text (bit ∷ bits)
 
--- the line `raw COUNT HEX` of at most 19696 bits, COUNT being how many in decimal digits without leading zeros
-pub record IsRawLine (line : List ℕ) (bits : List Bool) : Type 0 where
+-- the line `KIND COUNT HEX` of at most 19696 bits, COUNT being how many in decimal digits without leading zeros
+pub record IsLine (kind : LineKind) (line : List ℕ) (bits : List Bool) : Type 0 where
   pub fits : length bits ≤ 19696
   pub hex : List ℕ
   pub spelled : IsHexOf hex bits
-  pub whole : line ≡ codes "raw " ++ decimal (length bits) ++ codes " " ++ hex
+  pub whole : line ≡ kind_text kind ++ decimal (length bits) ++ codes " " ++ hex

@@ -1,9 +1,9 @@
--- A line of `show` has no fault exactly where it is `raw COUNT HEX` of some bits, and it gives these.
-use Rattle.std.proofs.Common.{◌≡◌, ℕ, zero, suc, ◌+◌, ◌^◌, ◌<◌, ◌≤◌, Bool, true, false, not, cond, ◌==◌, ◌&&◌, inl, inr, nat_eq, nat_lt, List, [], ◌∷◌, ◌++◌, length, take, drop, get_or, None, refl, sym, ap, ◌∙◌, arith, codes, decimal, append_assoc, length-append}
+-- A line of `show` has no fault exactly where it is `KIND COUNT HEX` of some bits, and it gives these.
+use Rattle.std.proofs.Common.{◌≡◌, ℕ, zero, suc, ◌+◌, ◌^◌, ◌<◌, ◌≤◌, Bool, true, false, not, cond, ◌==◌, ◌&&◌, inl, inr, nat_eq, nat_lt, List, [], ◌∷◌, ◌++◌, length, take, drop, get_or, Option, Some, None, refl, sym, ap, ◌∙◌, arith, codes, decimal, append_assoc, length-append}
 use Rattle.std.specs.Bool.{then_some}
 use Rattle.std.specs.Char.{is_ascii_digit}
 use Rattle.std.specs.Int.{IsInRange}
-use Rattle.std.specs.List.{prefix_len, common_prefix_len}
+use Rattle.std.specs.List.{prefix_len, common_prefix_len, find}
 use Rattle.std.specs.Str.Parse.{digits_value}
 use Rattle.std.proofs.lemmas.Bool.{cases_lt}
 use Rattle.std.proofs.lemmas.Bool.Decides.{nat_tests}
@@ -11,8 +11,11 @@ use Rattle.std.proofs.lemmas.Fmt.{decimal-digits_value, digits_value-decimal, di
 use Rattle.std.proofs.lemmas.List.{take-append-drop, length-take-le, get_or-take, get_or_past, get_or_at, get_or_append_left, drop_more, drop_at, take_at}
 use Rattle.std.proofs.lemmas.List.Sums.{prefix_len_passes, prefix_len_is}
 use Rattle.std.proofs.lemmas.Str.Parse.{IsNumeralModel, numerals_by_value, tells_by_index}
-use Rattle.sercos_app.specs.Line.{kind_fault, count_fault, count_text, count_of, hex_text, hex_fault, hex_bits, behind, numbers_fault, numbers_bits, line_fault, line_bits}
-use Rattle.sercos_app.specs.RawLine.{IsRawLine}
+use Rattle.sercos_app.specs.Line.{kind_text, shared_with, kind_of, fault_by, bits_by, count_fault, count_text, count_of, hex_text, hex_fault, hex_bits, behind, numbers_fault, numbers_bits, line_fault, line_bits}
+use Rattle.sercos_app.specs.declared.line.LineKind.{LineKind}
+use Rattle.sercos_app.specs.declared.line.LineKind.TheVariants.{Raw, Mst, Single, At}
+use Rattle.std.proofs.Math.Seq.{drop-append_seam}
+use Rattle.sercos_app.specs.SpelledLine.{IsLine}
 use Rattle.sercos_app.proofs.LineLemmas.{common_prefix_len-nil}
 use Rattle.sercos_app.proofs.FaultLemmas.{none_of-or, none_of-then, none_of-map, at_least, nat_lt-at_least}
 use Rattle.sercos_app.proofs.HexLines.{IsHexOf-hex_fault, hex_fault-IsHexOf}
@@ -145,39 +148,74 @@ reads_count count hex most =
       rest = rest;
     })
 
--- a line without a fault spells the bits that it gives
-pub line_spelled : (line : List ℕ) → line_fault line ≡ None → IsRawLine line (line_bits line)
-unfolding line_fault kind_fault numbers_fault line_bits numbers_bits
-line_spelled line none =
-    let text : List ℕ = count_text line in
-    let shared : ℕ = common_prefix_len nat_eq line (codes "raw ") in
-    let line_is = none_of-or (then_some (nat_lt shared 4) shared) (behind 4 (numbers_fault text)) none in
-    let text_is = none_of-or (count_fault text) _ (none_of-map _ (numbers_fault text) line_is.1) in
-    let kind = shared_all line (codes "raw ") (at_least shared 4 (none_of-then _ shared line_is.0)) in
-    let count = IsGoodCount-count_fault text text_is.0 in
-    let hex = IsHexOf-hex_fault (count_of text) (hex_text text) (none_of-map _ (hex_fault (count_of text) (hex_text text)) text_is.1) in
-    record {
-      fits = omega (arith, hex.1, count.most);
-      hex = hex_text text;
-      spelled = hex.0;
-      whole = rw (hex.1) (kind ∙ ap (λ rest. codes "raw " ++ rest) (text_of_count text count));
-    }
+some_same : {A : Type 0} {x y : A} → Some x ≡ Some y → x ≡ y
+some_same e = cc
 
-kind_taken : (text : List ℕ) → kind_fault (codes "raw " ++ text) ≡ None
-unfolding kind_fault
-kind_taken text = rw (common_prefix_len-nil text) refl
+-- what is found passes
+found_passes : {A : Type 0} (p : A → Bool) (y : A) (xs : List A) (x : A) (test : Bool) → p y ≡ test → cond test (Some y) (find p xs) ≡ Some x → (find p xs ≡ Some x → p x ≡ true) → p x ≡ true
+found_passes p y xs x true is found rest = let same : y ≡ x = some_same found in rw (← same) is
+found_passes p y xs x false is found rest = rest found
+
+find_passes : {A : Type 0} (p : A → Bool) (xs : List A) (x : A) → find p xs ≡ Some x → p x ≡ true
+find_passes p [] x found = absurd (cc)
+find_passes p (y ∷ xs) x found = found_passes p y xs x (p y) refl found (λ rest. find_passes p xs x rest)
+
+-- the kind that a line is of
+kind_found : (line : List ℕ) (kind : LineKind) → kind_of line ≡ Some kind → length (kind_text kind) ≤ shared_with line kind
+unfolding kind_of
+kind_found line kind found = grind (arith, nat_tests, find_passes (λ kind. shared_with line kind == length (kind_text kind)) (Raw ∷ Mst ∷ Single ∷ At ∷ []) kind found)
+
+-- a line of a kind is of that kind
+kind_taken : (kind : LineKind) (text : List ℕ) → kind_of (kind_text kind ++ text) ≡ Some kind
+unfolding kind_of
+kind_taken Raw text = rw (common_prefix_len-nil text) refl
+kind_taken Mst text = rw (common_prefix_len-nil text) refl
+kind_taken Single text = rw (common_prefix_len-nil text) refl
+kind_taken At text = rw (common_prefix_len-nil text) refl
 
 numbers_taken : (text : List ℕ) (count : ℕ) (hex : List ℕ) → ReadsCount text count hex → hex_fault count hex ≡ None → (numbers_fault text ≡ None) × (numbers_bits text ≡ hex_bits count hex)
 unfolding numbers_fault numbers_bits
 numbers_taken text count hex reads none =
     (rw (count_fault-IsGoodCount text reads.good, reads.number, reads.rest, none) refl, rw (reads.number, reads.rest) refl)
 
--- what spells bits has no fault, and gives them
-pub line_taken : (line : List ℕ) (bits : List Bool) → IsRawLine line bits → (line_fault line ≡ None) × (line_bits line ≡ bits)
+regrouped : (kind count space hex : List ℕ) → kind ++ (count ++ space ++ hex) ≡ kind ++ count ++ space ++ hex
+regrouped kind count space hex = simp append_assoc refl
+
+-- a line of a kind whose numbers have no fault spells the bits that it gives
+numbers_spelled : (kind : LineKind) (line : List ℕ) → length (kind_text kind) ≤ shared_with line kind → numbers_fault (count_text kind line) ≡ None → IsLine kind line (numbers_bits (count_text kind line))
+unfolding numbers_fault numbers_bits
+numbers_spelled kind line shared none =
+    let text : List ℕ = count_text kind line in
+    let text_is = none_of-or (count_fault text) _ none in
+    let whole = shared_all line (kind_text kind) shared in
+    let count = IsGoodCount-count_fault text text_is.0 in
+    let hex = IsHexOf-hex_fault (count_of text) (hex_text text) (none_of-map _ (hex_fault (count_of text) (hex_text text)) text_is.1) in
+    record {
+      fits = omega (arith, hex.1, count.most);
+      hex = hex_text text;
+      spelled = hex.0;
+      whole = rw (hex.1) (whole ∙ ap (λ rest. kind_text kind ++ rest) (text_of_count text count) ∙ regrouped (kind_text kind) (decimal (count_of text)) (codes " ") (hex_text text));
+    }
+
+spelled_by : (line : List ℕ) (found : Option LineKind) → kind_of line ≡ found → fault_by found line ≡ None → (kind : LineKind) × (kind_of line ≡ Some kind) × IsLine kind line (bits_by found line)
+unfolding fault_by bits_by
+spelled_by line None is none = absurd (cc)
+spelled_by line (Some kind) is none =
+    (kind, is, numbers_spelled kind line (kind_found line kind is) (none_of-map _ (numbers_fault (count_text kind line)) none))
+
+-- a line without a fault spells the bits that it gives
+pub line_spelled : (line : List ℕ) → line_fault line ≡ None → (kind : LineKind) × (kind_of line ≡ Some kind) × IsLine kind line (line_bits line)
 unfolding line_fault line_bits
-line_taken line bits is =
+line_spelled line none = spelled_by line (kind_of line) refl none
+
+-- what spells bits has no fault, and gives them
+pub line_taken : (kind : LineKind) (line : List ℕ) (bits : List Bool) → IsLine kind line bits → (line_fault line ≡ None) × (kind_of line ≡ Some kind) × (line_bits line ≡ bits)
+unfolding line_fault line_bits fault_by bits_by
+line_taken kind line bits is =
     let text : List ℕ = decimal (length bits) ++ codes " " ++ is.hex in
     let hex = hex_fault-IsHexOf is.hex bits is.spelled in
     let numbers = numbers_taken text (length bits) is.hex (reads_count (length bits) is.hex is.fits) hex.0 in
-    let whole : line ≡ codes "raw " ++ text = is.whole in
-    rw whole (rw (kind_taken text, numbers.0) refl, numbers.1 ∙ hex.1)
+    let whole : line ≡ kind_text kind ++ text = is.whole ∙ sym (regrouped (kind_text kind) (decimal (length bits)) (codes " ") is.hex) in
+    let kind_is : kind_of (kind_text kind ++ text) ≡ Some kind = kind_taken kind text in
+    let rest : count_text kind (kind_text kind ++ text) ≡ text = drop-append_seam (kind_text kind) text in
+    rw whole (rw (kind_is, rest, numbers.0) refl, kind_is, rw (kind_is, rest) (numbers.1 ∙ hex.1))

@@ -1,0 +1,7 @@
+use Rattle.std.proofs.Common.{◌≡◌, length, drop, arith}
+use Rattle.std.specs.List.{common_prefix_len}
+use Rattle.sercos_app.proofs.LineLemmas.{shared-end}
+use Rattle.sercos_app.proofs.line.shared_with.Goals as goal
+
+pub returns-clause-value : goal.returns-clause-value
+returns-clause-value c = shared-end c.args.line.now c.args.text.now c.loop-place.place (omega arith) c.loop-place.invariant.0

@@ -1,0 +1,51 @@
+-- How the telegrams are spelled, after IEC 61491:1995. The kind of a telegram is known by its place in the cycle, so the
+-- layout to read by is known too. Words are sixteen bits, the low byte first.
+use Rattle.std.specs.Prelude.{◌≡◌, ℕ, ◌+◌, ◌*◌, ◌≤◌, List, [], ◌∷◌, ◌++◌, length, take, drop, slice_index}
+use Rattle.std.specs.Int.{to_le_bytes, w16}
+use Rattle.sercos_telegram.specs.declared.words.Control.{Control}
+use Rattle.sercos_telegram.specs.declared.words.Status.{Status}
+use Rattle.sercos_telegram.specs.Words.{control_word, status_word}
+
+-- the address of the master's telegrams to all drives
+abbrev pub all_drives : ℕ
+all_drives = 255
+
+-- the bytes of a word
+unfoldable pub word_bytes : ℕ → List ℕ
+word_bytes word = to_le_bytes w16 word
+
+-- the word whose low byte stands at a place
+unfoldable pub word_at : List ℕ → ℕ → ℕ
+word_at content place = slice_index content place + 256 * slice_index content (place + 1)
+
+-- an MST of a phase
+abbrev pub mst_content : ℕ → List ℕ
+mst_content phase = all_drives ∷ phase ∷ []
+
+-- what stands behind the address, or in a record: a control or status word, an information word, and values
+unfoldable pub fields : ℕ → ℕ → List ℕ → List ℕ
+fields word info values = word_bytes word ++ word_bytes info ++ values
+
+-- an MDT for one drive
+abbrev pub single_content : ℕ → Control → ℕ → List ℕ
+single_content address control info = address ∷ fields (control_word control) info []
+
+-- an AT
+abbrev pub at_content : ℕ → Status → ℕ → List ℕ → List ℕ
+at_content address status info values = address ∷ fields (status_word status) info values
+
+-- a drive's record
+abbrev pub record_bytes : Control → ℕ → List ℕ → List ℕ
+record_bytes control info values = fields (control_word control) info values
+
+-- an AT of an address with so many bytes behind it
+pub record SpellsAt (address len : ℕ) (status : Status) (info : ℕ) (values content : List ℕ) : Type 0 where
+  pub long : length content ≡ 1 + len
+  pub whole : content ≡ at_content address status info values
+
+-- A joint MDT with so many bytes behind the address, whose record of a length stands at a position. Position 1 is that
+-- of the first byte behind the address.
+pub record SpellsRecord (mdt_len position len : ℕ) (control : Control) (info : ℕ) (values content : List ℕ) : Type 0 where
+  pub long : length content ≡ 1 + mdt_len
+  pub address : slice_index content 0 ≡ all_drives
+  pub there : take len (drop position content) ≡ record_bytes control info values
