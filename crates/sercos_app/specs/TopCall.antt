@@ -26,6 +26,12 @@ pub record ReadsWhole (old new : Option (List ℕ)) (bytes : List ℕ) : Type 0 
   pub ended : IsAtEnd new
   pub fits : length bytes ≤ 1048576
 
+-- at most so many bytes were taken from a source, from the front of those that it had left
+pub record TakesAtMost (most : ℕ) (old new : Option (List ℕ)) : Type 0 where
+  pub taken : List ℕ
+  pub few : length taken ≤ most
+  pub consumed : Consumes old new taken
+
 -- one byte more than an input may have was taken from a source
 pub record TakesTooMany (old new : Option (List ℕ)) : Type 0 where
   pub taken : List ℕ
@@ -48,7 +54,7 @@ pub record IsCutShort (words : List (List ℕ)) (status : Status) (left left' he
   pub short : count < length (answer_of words bytes).output
   pub written : Appends held held' (take count (answer_of words bytes).output)
 
--- the answer, or want of memory
+-- this answer was given: its status, and its whole output, which was appended
 pub record IsAnswer (answer : Answer) (status : Status) (held held' : Option (List ℕ)) : Type 0 where
   pub status_is : status ≡ answer.status
   pub written : Appends held held' answer.output

@@ -4,7 +4,7 @@ ghost use Rattle.sercos_model.specs.Streams.{Rose};
 ghost use Rattle.sercos_app.specs.Answer.{answer_of, command_answer};
 ghost use Rattle.sercos_app.specs.Form.{form_of};
 ghost use Rattle.sercos_app.specs.Outcome.{Writes, Outcome};
-ghost use Rattle.sercos_app.specs.TopCall.{writes_nothing, fault_status, TakesTooMany, IsAnswered, IsCutShort, IsAnswer};
+ghost use Rattle.sercos_app.specs.TopCall.{writes_nothing, fault_status, TakesAtMost, TakesTooMany, IsAnswered, IsCutShort, IsAnswer};
 
 use crate::form::{Form, form_of};
 use crate::show::{Reply, show};
@@ -99,6 +99,9 @@ pub fn sercos<S: Source, K: Sink>(
     // The words come first: those in no form are refused before anything is read.
     ensures bad_words { (result ≡ Status.BadWords) ↔ (form_of words.now ≡ None) }
     ensures unread { result ≡ Status.BadWords → source.new ≡ source.old }
+
+    // What is taken from the source is lost: at most 1,048,577 bytes, whatever the answer is.
+    ensures taken { TakesAtMost 1048577 (S.left source.old) (S.left source.new) }
 
     // BadWords, ReadFault, TooLong and Memory come before anything is written.
     ensures unwritten { IsTrue (writes_nothing result) → sink.new ≡ sink.old }

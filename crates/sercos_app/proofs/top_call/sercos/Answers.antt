@@ -1,4 +1,5 @@
-use Rattle.sercos_app.proofs.Outcomes.{at_bad_words, at_unread, at_unwritten, at_read_fault, at_read_count, at_read_well, at_too_long, at_done, at_no, at_refused, at_write_fault, at_write_count, at_write_well, at_answers, at_refuses, at_exceeds, at_room}
+use Rattle.std.proofs.Common.{ap}
+use Rattle.sercos_app.proofs.Outcomes.{at_bad_words, at_unread, at_taken, at_unwritten, at_read_fault, at_read_count, at_read_well, at_too_long, at_done, at_no, at_refused, at_write_fault, at_write_count, at_write_well, at_answers, at_refuses, at_exceeds, at_room}
 use Rattle.sercos_app.proofs.top_call.sercos.Goals as goal
 
 pub returns-clause-bad_words : goal.returns-clause-bad_words
@@ -6,6 +7,9 @@ returns-clause-bad_words g c = at_bad_words c.respond.ensures
 
 pub returns-clause-unread : goal.returns-clause-unread
 returns-clause-unread g c = at_unread c.respond.ensures
+
+pub returns-clause-taken : goal.returns-clause-taken
+returns-clause-taken g c = at_taken (ap g.S.Source.left) c.respond.ensures
 
 pub returns-clause-unwritten : goal.returns-clause-unwritten
 returns-clause-unwritten g c = at_unwritten c.respond.ensures
