@@ -1,7 +1,7 @@
 -- What each way in which the top call can end says for its clauses.
-use Rattle.std.proofs.Common.{◌≡◌, ◌≢◌, ℕ, ◌<◌, ◌≤◌, ◌⊎◌, inl, inr, Bool, true, false, IsTrue, List, [], ◌++◌, length, take, Option, Some, None, IsSome, refl, sym, ◌∙◌, ap, subst, arith, ◌↔◌, ◌+◌, append-nil, length-append}
+use Rattle.std.proofs.Common.{◌≡◌, ◌≢◌, ℕ, ◌<◌, ◌≤◌, ◌⊎◌, inl, inr, true, false, IsTrue, List, [], ◌++◌, length, take, Option, Some, None, refl, sym, ◌∙◌, ap, subst, arith, ◌↔◌, ◌+◌, append-nil, length-append}
 use Rattle.std.proofs.lemmas.Bool.{false≢true}
-use Rattle.std.specs.Io.KnownBytes.{Appends, Consumes, IsAtEnd}
+use Rattle.std.specs.Io.KnownBytes.{Appends, Consumes}
 use Rattle.sercos_model.specs.Streams.{Rose}
 use Rattle.sercos_io.specs.declared.status.Status.{Status}
 use Rattle.sercos_io.specs.declared.status.Status.TheVariants.{Done, No, BadWords, Refused, ReadFault, WriteFault, Memory, TooLong}
@@ -9,7 +9,7 @@ use Rattle.sercos_app.specs.declared.form.Form.{Form}
 use Rattle.sercos_app.specs.declared.form.Form.TheVariants.{Show}
 use Rattle.sercos_app.specs.Answer.{command_answer, form_answer, answer_of}
 use Rattle.sercos_app.specs.Form.{form_of}
-use Rattle.sercos_app.specs.Show.{Answer, show_answer, show_status, first_fault, lines_of}
+use Rattle.sercos_app.specs.Show.{show_answer, show_status, first_fault, lines_of}
 use Rattle.sercos_app.specs.Outcome.{SourceChange, SinkChange, Writes, Outcome}
 use Rattle.sercos_app.specs.Outcome.Writes.{whole, short}
 use Rattle.sercos_app.specs.Outcome.Outcome.{no_form, unreadable, too_many, no_memory, answered}

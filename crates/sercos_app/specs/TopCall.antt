@@ -1,9 +1,9 @@
 -- What the top call does with its source and its sink. The bytes that a source has left and those that a sink holds are
 -- known where it tells them.
-use Rattle.std.specs.Prelude.{◌≡◌, ℕ, ◌<◌, ◌≤◌, ◌⊎◌, Bool, true, false, List, length, take, Option}
+use Rattle.std.specs.Prelude.{◌≡◌, ℕ, ◌<◌, ◌≤◌, Bool, true, false, List, length, take, Option}
 use Rattle.std.specs.Io.KnownBytes.{Appends, Consumes, IsAtEnd}
 use Rattle.sercos_io.specs.declared.status.Status.{Status}
-use Rattle.sercos_io.specs.declared.status.Status.TheVariants.{Done, No, BadWords, Refused, ReadFault, WriteFault, Memory, TooLong}
+use Rattle.sercos_io.specs.declared.status.Status.TheVariants.{BadWords, Refused, ReadFault, WriteFault, Memory, TooLong}
 use Rattle.sercos_app.specs.Answer.{answer_of}
 use Rattle.sercos_app.specs.Show.{Answer}
 

@@ -89,7 +89,10 @@ fn respond<S: Source, K: Sink>(alloc: Global, words: &Words, source: &mut S, sin
 /// The input is the source's bytes up to its end, at most 1,048,576 of them; the output is one text, written where it
 /// is whole. The clauses on the bytes of source and sink hold where these tell them, as those in memory do.
 ///
-/// The only form of words so far is `show`, with at most one word `--` anywhere.
+/// The only form of words so far is `show`, with at most one word `--` anywhere. Words in no form are `BadWords`, and
+/// nothing is read. `ReadFault` comes where a read failed, `TooLong` where the input is longer, and `Memory` where no
+/// memory was found; then nothing is written. A refused input is `Refused`, also where its line could not be written
+/// whole. Where a write failed else, the status is `WriteFault`, and the sink has taken a prefix of the output.
 pub fn sercos<S: Source, K: Sink>(
     alloc: Global,
     words: &Words,

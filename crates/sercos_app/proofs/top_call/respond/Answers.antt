@@ -1,6 +1,5 @@
-use Rattle.std.proofs.Common.{sym, ◌∙◌, refl, ap, Err, ◌≡◌, ◌++◌}
-use Rattle.sercos_app.specs.TopCall.{ReadsWhole, TakesAtMost, TakesTooMany}
-use Rattle.sercos_app.specs.Outcome.{Outcome}
+use Rattle.std.proofs.Common.{sym, ◌∙◌, refl, ap, Err}
+use Rattle.sercos_app.specs.TopCall.{TakesAtMost}
 use Rattle.sercos_app.specs.Outcome.Outcome.{no_form, unreadable, too_many, no_memory, answered}
 use Rattle.sercos_app.proofs.top_call.respond.Goals as goal
 
