@@ -1,9 +1,8 @@
 -- Lemmas on the words of the commands.
-use Rattle.std.proofs.Common.{◌≡◌, ◌≢◌, ℕ, Bool, true, false, cond, List, [], ◌∷◌, length, Option, Some, None, refl, sym, ◌∙◌, ap, arith, slice_get}
+use Rattle.std.proofs.Common.{◌≡◌, ◌≢◌, ℕ, Bool, true, false, cond, List, [], ◌∷◌, length, Some, None, refl, sym, arith, slice_get}
 use Rattle.std.specs.Prelude.{codes}
 use Rattle.std.specs.Str.{bytes_eq}
 use Rattle.std.proofs.lemmas.Slice.Eq.{bytes_eq-Decides}
-use Rattle.sercos_app.specs.declared.form.Form.{Form}
 use Rattle.sercos_app.specs.Form.{without_dashes, word_form, plain_form, form_of}
 
 alone : (word : List ℕ) (is_dashes : Bool) → bytes_eq word (codes "--") ≡ is_dashes → plain_form (cond is_dashes [] (word ∷ [])) ≡ word_form word

@@ -1,7 +1,6 @@
 -- Lemmas on the answers of `show`.
-use Rattle.std.proofs.Common.{◌≡◌, ℕ, ◌+◌, ◌<◌, ◌==◌, Bool, true, false, cond, List, [], ◌∷◌, ◌++◌, length, zero, suc, Option, Some, None, refl, sym, ◌∙◌, ap, arith, rules, append_assoc, append-nil}
+use Rattle.std.proofs.Common.{◌≡◌, ℕ, ◌+◌, ◌<◌, ◌==◌, Bool, true, false, List, [], ◌∷◌, ◌++◌, length, suc, Some, None, refl, sym, ◌∙◌, ap, arith, append_assoc, append-nil}
 use Rattle.std.specs.List.{before_first, after_first, position_or_len, flat_map}
-use Rattle.std.specs.Option.{option_or, option_map}
 use Rattle.sercos_hdlc.specs.Reason.{reason_of}
 use Rattle.sercos_io.specs.declared.status.Status.TheVariants as status
 use Rattle.sercos_app.specs.Line.{kind_of, line_fault, line_bits}

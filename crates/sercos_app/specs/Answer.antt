@@ -1,6 +1,5 @@
 -- What a command answers: a status, and the bytes that it writes.
 use Rattle.std.specs.Prelude.{ℕ, List, [], Option, Some, None}
-use Rattle.sercos_io.specs.declared.status.Status.{Status}
 use Rattle.sercos_io.specs.declared.status.Status.TheVariants.{BadWords}
 use Rattle.sercos_app.specs.declared.form.Form.{Form}
 use Rattle.sercos_app.specs.declared.form.Form.TheVariants as forms

@@ -8,7 +8,7 @@ use Rattle.sercos_io.specs.declared.status.Status.TheVariants.{BadWords, ReadFau
 use Rattle.sercos_app.specs.declared.form.Form.{Form}
 use Rattle.sercos_app.specs.Answer.{command_answer}
 use Rattle.sercos_app.specs.Form.{form_of}
-use Rattle.sercos_app.specs.TopCall.{fault_status, ReadsWhole, TakesTooMany}
+use Rattle.sercos_app.specs.TopCall.{fault_status, ReadsWhole, TakesAtMost, TakesTooMany}
 
 -- a source before and after: the bytes that it has left, and its count of faults
 pub record SourceChange : Type 0 where
@@ -33,7 +33,7 @@ pub data Writes (status : Status) (text : List ℕ) (sink : SinkChange) : Status
 -- How the call ends. Unread says that the source is as it was, and Unwritten that the sink is.
 pub data Outcome (words : List (List ℕ)) (source : SourceChange) (sink : SinkChange) (Unread Unwritten : Type 0) : Status → Type 0 where
   no_form : form_of words ≡ None → Unread → Unwritten → source.faults' ≡ source.faults → sink.faults' ≡ sink.faults → Outcome words source sink Unread Unwritten BadWords
-  unreadable : (form : Form) → form_of words ≡ Some form → source.faults ≤ source.faults' → Rose source.faults source.faults' → Unwritten → sink.faults' ≡ sink.faults → Outcome words source sink Unread Unwritten ReadFault
+  unreadable : (form : Form) → form_of words ≡ Some form → source.faults ≤ source.faults' → Rose source.faults source.faults' → TakesAtMost 1048576 source.left source.left' → Unwritten → sink.faults' ≡ sink.faults → Outcome words source sink Unread Unwritten ReadFault
   too_many : (form : Form) → form_of words ≡ Some form → source.faults' ≡ source.faults → TakesTooMany source.left source.left' → Unwritten → sink.faults' ≡ sink.faults → Outcome words source sink Unread Unwritten TooLong
-  no_memory : (form : Form) → form_of words ≡ Some form → source.faults' ≡ source.faults → Unwritten → sink.faults' ≡ sink.faults → Outcome words source sink Unread Unwritten Memory
+  no_memory : (form : Form) → form_of words ≡ Some form → source.faults' ≡ source.faults → TakesAtMost 1048576 source.left source.left' → Unwritten → sink.faults' ≡ sink.faults → Outcome words source sink Unread Unwritten Memory
   answered : (form : Form) (bytes : List ℕ) (status : Status) → form_of words ≡ Some form → source.faults' ≡ source.faults → ReadsWhole source.left source.left' bytes → Writes (command_answer form bytes).status (command_answer form bytes).output sink status → Outcome words source sink Unread Unwritten status

@@ -1,9 +1,9 @@
 -- What the top call does with its source and its sink. The bytes that a source has left and those that a sink holds are
 -- known where it tells them.
-use Rattle.std.specs.Prelude.{◌≡◌, ℕ, ◌<◌, ◌≤◌, ◌⊎◌, Bool, true, false, List, length, take, Option}
+use Rattle.std.specs.Prelude.{◌≡◌, ℕ, ◌<◌, ◌≤◌, Bool, true, false, List, length, take, Option}
 use Rattle.std.specs.Io.KnownBytes.{Appends, Consumes, IsAtEnd}
 use Rattle.sercos_io.specs.declared.status.Status.{Status}
-use Rattle.sercos_io.specs.declared.status.Status.TheVariants.{Done, No, BadWords, Refused, ReadFault, WriteFault, Memory, TooLong}
+use Rattle.sercos_io.specs.declared.status.Status.TheVariants.{BadWords, Refused, ReadFault, WriteFault, Memory, TooLong}
 use Rattle.sercos_app.specs.Answer.{answer_of}
 use Rattle.sercos_app.specs.Show.{Answer}
 
@@ -25,6 +25,12 @@ pub record ReadsWhole (old new : Option (List ℕ)) (bytes : List ℕ) : Type 0 
   pub consumed : Consumes old new bytes
   pub ended : IsAtEnd new
   pub fits : length bytes ≤ 1048576
+
+-- at most so many bytes were taken from a source, from the front of those that it had left
+pub record TakesAtMost (most : ℕ) (old new : Option (List ℕ)) : Type 0 where
+  pub taken : List ℕ
+  pub few : length taken ≤ most
+  pub consumed : Consumes old new taken
 
 -- one byte more than an input may have was taken from a source
 pub record TakesTooMany (old new : Option (List ℕ)) : Type 0 where
@@ -48,7 +54,7 @@ pub record IsCutShort (words : List (List ℕ)) (status : Status) (left left' he
   pub short : count < length (answer_of words bytes).output
   pub written : Appends held held' (take count (answer_of words bytes).output)
 
--- the answer, or want of memory
+-- this answer was given: its status, and its whole output, which was appended
 pub record IsAnswer (answer : Answer) (status : Status) (held held' : Option (List ℕ)) : Type 0 where
   pub status_is : status ≡ answer.status
   pub written : Appends held held' answer.output

@@ -4,7 +4,7 @@ ghost use Rattle.sercos_model.specs.Streams.{Rose};
 ghost use Rattle.sercos_app.specs.Answer.{answer_of, command_answer};
 ghost use Rattle.sercos_app.specs.Form.{form_of};
 ghost use Rattle.sercos_app.specs.Outcome.{Writes, Outcome};
-ghost use Rattle.sercos_app.specs.TopCall.{writes_nothing, fault_status, TakesTooMany, IsAnswered, IsCutShort, IsAnswer};
+ghost use Rattle.sercos_app.specs.TopCall.{writes_nothing, fault_status, TakesAtMost, TakesTooMany, IsAnswered, IsCutShort, IsAnswer};
 
 use crate::form::{Form, form_of};
 use crate::show::{Reply, show};
@@ -89,7 +89,10 @@ fn respond<S: Source, K: Sink>(alloc: Global, words: &Words, source: &mut S, sin
 /// The input is the source's bytes up to its end, at most 1,048,576 of them; the output is one text, written where it
 /// is whole. The clauses on the bytes of source and sink hold where these tell them, as those in memory do.
 ///
-/// The only form of words so far is `show`, with at most one word `--` anywhere.
+/// The only form of words so far is `show`, with at most one word `--` anywhere. Words in no form are `BadWords`, and
+/// nothing is read. `ReadFault` comes where a read failed, `TooLong` where the input is longer, and `Memory` where no
+/// memory was found; then nothing is written. A refused input is `Refused`, also where its line could not be written
+/// whole. Where a write failed else, the status is `WriteFault`, and the sink has taken a prefix of the output.
 pub fn sercos<S: Source, K: Sink>(
     alloc: Global,
     words: &Words,
@@ -99,6 +102,9 @@ pub fn sercos<S: Source, K: Sink>(
     // The words come first: those in no form are refused before anything is read.
     ensures bad_words { (result ≡ Status.BadWords) ↔ (form_of words.now ≡ None) }
     ensures unread { result ≡ Status.BadWords → source.new ≡ source.old }
+
+    // What is taken from the source is lost: at most 1,048,577 bytes, whatever the answer is.
+    ensures taken { TakesAtMost 1048577 (S.left source.old) (S.left source.new) }
 
     // BadWords, ReadFault, TooLong and Memory come before anything is written.
     ensures unwritten { IsTrue (writes_nothing result) → sink.new ≡ sink.old }

@@ -1,9 +1,8 @@
-use Rattle.std.proofs.Common.{◌≡◌, ◌+◌, ◌<◌, List, ℕ, length, Some, None, sym, ◌∙◌, ap, arith}
+use Rattle.std.proofs.Common.{◌≡◌, ◌+◌, ◌<◌, length, Some, None, sym, ◌∙◌, arith}
 use Rattle.std.proofs.lemmas.Bool.Decides.{nat_tests}
 use Rattle.std.proofs.lemmas.Result.{IfOk-weaker}
-use Rattle.std.specs.List.{flat_map}
 use Rattle.sercos_app.specs.Line.{line_fault}
-use Rattle.sercos_app.specs.Show.{lines_of, first_fault, line_answer, frame_text}
+use Rattle.sercos_app.specs.Show.{lines_of, first_fault}
 use Rattle.sercos_app.proofs.ShowLemmas.{Cut, first_fault-good, answers-more, first_fault-bad, first_fault-end, answers-end, show_answer-done, show_answer-answers, show_answer-refused, show_answer-refusal}
 use Rattle.sercos_app.proofs.show.show.Goals as goal
 

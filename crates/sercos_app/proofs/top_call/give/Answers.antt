@@ -1,6 +1,4 @@
-use Rattle.std.proofs.Common.{sym, subst, ◌≡◌, false, true}
 use Rattle.std.proofs.lemmas.Bool.{false≢true}
-use Rattle.sercos_app.specs.Outcome.{Writes}
 use Rattle.sercos_app.specs.Outcome.Writes.{whole, short}
 use Rattle.sercos_app.proofs.top_call.give.Goals as goal
 

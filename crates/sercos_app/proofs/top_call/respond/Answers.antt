@@ -1,6 +1,5 @@
-use Rattle.std.proofs.Common.{sym, ◌∙◌, refl, ap, Err, ◌≡◌, ◌++◌}
-use Rattle.sercos_app.specs.TopCall.{ReadsWhole, TakesTooMany}
-use Rattle.sercos_app.specs.Outcome.{Outcome}
+use Rattle.std.proofs.Common.{sym, ◌∙◌, refl, ap, Err}
+use Rattle.sercos_app.specs.TopCall.{TakesAtMost}
 use Rattle.sercos_app.specs.Outcome.Outcome.{no_form, unreadable, too_many, no_memory, answered}
 use Rattle.sercos_app.proofs.top_call.respond.Goals as goal
 
@@ -10,7 +9,9 @@ returns-in_default g c = no_form (sym c.form_of.ensures ∙ c.in_default.is) ref
 pub returns-in-Err-ReadFault : goal.returns-in-Err-ReadFault
 returns-in-Err-ReadFault g c =
     let cause = rw (c.in-Err-ReadFault.field-0-is) at c.in-Err-ReadFault.ensures.cause in
-    unreadable c.in-Some.form (sym c.in-Some.ensures) cause.0 cause.1 refl refl
+    let lost = rw (c.in-Err-ReadFault.field-0-is) at c.in-Err-ReadFault.ensures.lost in
+    let takes : TakesAtMost 1048576 _ _ = record { taken = lost.0; few = lost.2; consumed = lost.1 } in
+    unreadable c.in-Some.form (sym c.in-Some.ensures) cause.0 cause.1 takes refl refl
 
 pub returns-in-Err-TooLong : goal.returns-in-Err-TooLong
 returns-in-Err-TooLong g c =
@@ -21,7 +22,9 @@ returns-in-Err-TooLong g c =
 pub returns-in-Err-Memory : goal.returns-in-Err-Memory
 returns-in-Err-Memory g c =
     let cause = rw (c.in-Err-Memory.field-0-is) at c.in-Err-Memory.ensures.cause in
-    no_memory c.in-Some.form (sym c.in-Some.ensures) cause refl refl
+    let lost = rw (c.in-Err-Memory.field-0-is) at c.in-Err-Memory.ensures.lost in
+    let takes : TakesAtMost 1048576 _ _ = record { taken = lost.0; few = lost.2; consumed = lost.1 } in
+    no_memory c.in-Some.form (sym c.in-Some.ensures) cause takes refl refl
 
 pub returns-in-Ok-reply_of : goal.returns-in-Ok-reply_of
 returns-in-Ok-reply_of g c =
@@ -34,4 +37,7 @@ returns-in-Ok-reply_of g c =
     (rw (← status, ← text) c.give.ensures)
 
 pub returns : goal.returns
-returns g c = no_memory c.in-Some.form (sym c.in-Some.ensures) c.in-Ok.ensures.cause refl refl
+returns g c =
+    let read = c.in-Ok.ensures.ok in
+    no_memory c.in-Some.form (sym c.in-Some.ensures) c.in-Ok.ensures.cause
+    (record { taken = c.in-Ok.bytes.items; few = read.2; consumed = read.0 }) refl refl
