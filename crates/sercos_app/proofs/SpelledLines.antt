@@ -11,7 +11,7 @@ use Rattle.std.proofs.lemmas.Fmt.{decimal-digits_value, digits_value-decimal, di
 use Rattle.std.proofs.lemmas.List.{take-append-drop, length-take-le, get_or-take, get_or_past, get_or_at, get_or_append_left, drop_more, drop_at, take_at}
 use Rattle.std.proofs.lemmas.List.Sums.{prefix_len_passes, prefix_len_is}
 use Rattle.std.proofs.lemmas.Str.Parse.{IsNumeralModel, numerals_by_value, tells_by_index}
-use Rattle.sercos_app.specs.Line.{kind_text, shared_with, kind_of, fault_by, bits_by, count_fault, count_text, count_of, hex_text, hex_fault, hex_bits, behind, numbers_fault, numbers_bits, line_fault, line_bits}
+use Rattle.sercos_app.specs.Line.{kind_text, shared_with, kind_of, fault_by, bits_by, count_fault, count_text, count_of, hex_text, hex_fault, hex_bits, numbers_fault, numbers_bits, line_fault, line_bits}
 use Rattle.sercos_app.specs.declared.line.LineKind.{LineKind}
 use Rattle.sercos_app.specs.declared.line.LineKind.TheVariants.{Raw, Mst, Single, At}
 use Rattle.std.proofs.Math.Seq.{drop-append_seam}

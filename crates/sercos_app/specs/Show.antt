@@ -1,5 +1,5 @@
 -- What `show` answers to its lines.
-use Rattle.std.specs.Prelude.{ℕ, ◌+◌, ◌/◌, ◌%◌, ◌==◌, ◌-◌, nat_lt, max, ◌&&◌, if◌then◌else◌, drop, slice_index, Bool, cond, List, [], ◌∷◌, ◌++◌, codes, decimal, Option, Some, None, is_some, length, slice_index_or}
+use Rattle.std.specs.Prelude.{ℕ, ◌+◌, ◌==◌, ◌-◌, nat_lt, max, ◌&&◌, if◌then◌else◌, drop, slice_index, Bool, cond, List, [], ◌∷◌, ◌++◌, codes, decimal, Option, Some, None, length}
 use Rattle.std.specs.List.{flat_map}
 use Rattle.std.specs.Option.{option_or, option_map}
 use Rattle.std.specs.Int.{to_be_bytes, w16}

@@ -1,5 +1,4 @@
-use Rattle.std.proofs.Common.{◌≡◌, length, drop, arith}
-use Rattle.std.specs.List.{common_prefix_len}
+use Rattle.std.proofs.Common.{arith}
 use Rattle.sercos_app.proofs.LineLemmas.{shared-end}
 use Rattle.sercos_app.proofs.line.shared_with.Goals as goal
 
