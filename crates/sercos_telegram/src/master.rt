@@ -1,5 +1,5 @@
 //! What the master says: the MST and the MDT.
-ghost use Rattle.std.specs.Prelude.{◌≡◌, ℕ, ◌+◌, ◌^◌, ◌<◌, ◌≤◌, ◌↔◌, [], ◌∷◌, ◌++◌, List, length, slice_index, IfOk, IsOkAnd, IsErr, OnOk, OnErr};
+ghost use Rattle.std.specs.Prelude.{◌≡◌, ℕ, ◌+◌, ◌^◌, ◌<◌, ◌≤◌, ◌↔◌, [], ◌∷◌, ◌++◌, List, length, slice_index, slice_range, IfOk, IsOkAnd, IsErr, OnOk, OnErr};
 ghost use Rattle.std.specs.Result.{result_err};
 ghost use Rattle.sercos_telegram.specs.Faults.{mst_fault, single_fault, joint_fault};
 ghost use Rattle.sercos_telegram.specs.Words.{control_word, control_of};
@@ -19,7 +19,8 @@ const LAST_PHASE: u8 = 4;
 /// An MST: the master's synchronisation telegram.
 #[derive(Clone, Copy, Debug, PartialEq, Eq)]
 pub struct Mst {
-    /// The phase that is commanded, 0 to 4.
+    /// The phase that is commanded, 0 to 4. It is the byte behind the address, so its bits 7 to 3 are sent as 0, and
+    /// refused otherwise (this profile).
     pub phase: u8,
     ghost phase_in_range: { phase ≤ 4 },
 }
@@ -99,6 +100,9 @@ pub fn read_joint(
     requires behind_address { 1 ≤ position }
     requires words { 4 ≤ len }
     requires within { position + len ≤ mdt_len + 1 }
+    ensures control { IfOk result (λ r. r.control ≡ control_of (word_at content.now position)) }
+    ensures info { IfOk result (λ r. r.info ≡ word_at content.now (position + 2)) }
+    ensures values { IfOk result (λ r. r.values.now ≡ slice_range content.now (position + 4) (position + len)) }
     ensures spells { IfOk result (λ r. SpellsRecord mdt_len position len r.control r.info r.values.now content.now) }
     ensures only { (control : Control) (info : ℕ) (values : List ℕ) → control_word control < 2 ^ 16 → info < 2 ^ 16
         → SpellsRecord mdt_len position len control info values content.now
