@@ -1,5 +1,5 @@
 //! What the master says: the MST and the MDT.
-ghost use Rattle.std.specs.Prelude.{◌≡◌, ℕ, ◌+◌, ◌^◌, ◌<◌, ◌≤◌, ◌↔◌, [], ◌∷◌, ◌++◌, List, length, slice_index, slice_range, IfOk, IsOkAnd, IsErr, OnOk, OnErr};
+ghost use Rattle.std.specs.Prelude.{◌≡◌, ℕ, ◌+◌, ◌^◌, ◌<◌, ◌≤◌, ◌↔◌, [], ◌∷◌, ◌++◌, List, length, take, drop, slice_index, slice_range, IfOk, IsOkAnd, IsErr, OnOk, OnErr};
 ghost use Rattle.std.specs.Result.{result_err};
 ghost use Rattle.sercos_telegram.specs.Faults.{mst_fault, single_fault, joint_fault};
 ghost use Rattle.sercos_telegram.specs.Words.{control_word, control_of};
@@ -88,6 +88,16 @@ pub fn write_single(address: u8, control: &Control, info: u16, out: &mut Content
     push_fields(control.write(), info, &[], out);
 }
 
+// The bytes of a record: `len` of them from `position` on.
+fn record_part(position: u16, len: u16, content: &[u8]) -> &[u8]
+    requires behind_address { 1 ≤ position }
+    requires within { position + len ≤ length content.now }
+    ensures { result.now ≡ take len (drop position content.now) }
+{
+    let begin = usize::from(position);
+    &content[begin..begin + usize::from(len)]
+}
+
 /// Reads one record of the MDT of phases 3 and 4, which has `mdt_len` bytes behind its address: the one of `len` bytes
 /// from `position` on, 1 being that of the first byte behind the address. The first of a wrong length and a wrong
 /// address is the error. The values are part of the content.
@@ -110,9 +120,7 @@ pub fn read_joint(
     ensures fault { result_err result ≡ joint_fault mdt_len content.now }
 {
     test_head(1 + usize::from(mdt_len), ALL_DRIVES, content)?;
-    let begin = usize::from(position);
-    let end = begin + usize::from(len);
-    let fields = read_fields(&content[begin..end]);
+    let fields = read_fields(record_part(position, len, content));
     Ok(Record {
         control: Control::read(fields.word),
         info: fields.info,
