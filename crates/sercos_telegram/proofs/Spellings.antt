@@ -1,12 +1,13 @@
 -- Lemmas on spellings: what a content spells is one thing, and has no fault.
-use Rattle.std.proofs.Common.{◌≡◌, ℕ, ◌+◌, ◌*◌, ◌/◌, ◌%◌, ◌^◌, ◌<◌, Bool, true, false, List, [], ◌∷◌, ◌++◌, length, take, drop, get_or, Option, Some, None, ◌-◌, refl, sym, ◌∙◌, ap, arith, append_assoc, length-append, length-drop, ◌≤◌}
+use Rattle.std.proofs.Common.{◌≡◌, ℕ, ◌+◌, ◌^◌, ◌<◌, List, [], ◌∷◌, ◌++◌, length, take, drop, get_or, Some, None, ◌-◌, refl, sym, ◌∙◌, ap, arith, append_assoc, length-append, length-drop, ◌≤◌}
 use Rattle.std.specs.List.{slice_range}
 use Rattle.std.proofs.lemmas.List.{get_or-take, get_or-drop, drop-take, drop-drop, length-take-le}
 use Rattle.std.proofs.Math.Seq.{take-append_seam, drop-append_seam}
 use Rattle.sercos_telegram.specs.declared.layout.Layout.{Layout}
 use Rattle.sercos_telegram.specs.Faults.{head_fault}
-use Rattle.sercos_telegram.specs.Spells.{word_bytes, word_at, fields, all_drives, record_bytes, SpellsRecord}
+use Rattle.sercos_telegram.specs.Spells.{word_bytes, word_at, fields, all_drives, at_content, record_bytes, SpellsAt, SpellsRecord}
 use Rattle.sercos_telegram.specs.Words.{control_word}
+use Rattle.sercos_telegram.specs.declared.words.Status.{Status}
 use Rattle.sercos_telegram.specs.declared.words.Control.{Control}
 
 -- two words and values that are spelled alike
@@ -97,6 +98,10 @@ pub record-size : (position len word info : ℕ) (values content : List ℕ) →
 record-size position len word info values content within there =
     let room : len ≤ length (drop position content) = omega (arith, length-drop position content) in
     sym (length-take-le len (drop position content) room) ∙ ap length there ∙ length-fields word info values
+
+pub at-spelled : (address : ℕ) (status : Status) (info : ℕ) (values content : List ℕ) → content ≡ at_content address status info values → SpellsAt address (4 + length values) status info values content
+unfolding word_bytes fields
+at-spelled address status info values content whole = record { long = rw whole (omega arith); whole = whole }
 
 record-there : (before middle after : List ℕ) → take (length middle) (drop (length before) (before ++ middle ++ after)) ≡ middle
 record-there before middle after =

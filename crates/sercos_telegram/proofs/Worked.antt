@@ -3,7 +3,7 @@ use Rattle.std.proofs.Common.{◌≡◌, true, false, [], ◌∷◌, refl, Some,
 use Rattle.sercos_telegram.specs.declared.layout.Layout.TheVariants.{Length, Address, BadField}
 use Rattle.sercos_telegram.specs.declared.words.Control.{Control}
 use Rattle.sercos_telegram.specs.declared.words.Status.{Status}
-use Rattle.sercos_telegram.specs.Words.{control_word, control_of, status_word, status_of}
+use Rattle.sercos_telegram.specs.Words.{control_of, status_of}
 use Rattle.sercos_telegram.specs.Spells.{word_bytes, fields, single_content, at_content}
 use Rattle.sercos_telegram.specs.Faults.{head_fault, mst_fault, single_fault}
 

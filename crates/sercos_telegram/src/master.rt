@@ -81,7 +81,8 @@ pub fn read_single(address: u8, content: &[u8]) -> Result<(Control, u16), Layout
 
 /// Replaces the content by an MDT of phases 1 and 2.
 pub fn write_single(address: u8, control: &Control, info: u16, out: &mut Content)
-    ensures { out.new ≡ single_content address control.now info }
+    ensures content { out.new ≡ single_content address control.now info }
+    ensures words { (control_word control.now < 2 ^ 16) × (info < 2 ^ 16) }
 {
     out.clear();
     out.push_within(address);
@@ -140,6 +141,7 @@ pub fn joint_begin(out: &mut Content)
 pub fn joint_record(r: &Record<'_>, out: &mut Content) -> Result<(), Full>
     ensures full { IsErr result ↔ (2048 < length out.old + 4 + length r.now.values.now) }
     ensures ok { OnOk result (out.new ≡ out.old ++ record_bytes r.now.control r.now.info r.now.values.now) }
+    ensures words { OnOk result ((control_word r.now.control < 2 ^ 16) × (r.now.info < 2 ^ 16)) }
     ensures err { OnErr result (out.new ≡ out.old) }
 {
     if out.len() + 4 > MAX_CONTENT || r.values.len() > MAX_CONTENT - 4 - out.len() {

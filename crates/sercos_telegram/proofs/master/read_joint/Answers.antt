@@ -1,6 +1,6 @@
-use Rattle.std.proofs.Common.{◌≡◌, ℕ, ◌+◌, ◌-◌, List, ap, sym, refl, ◌∙◌, arith}
+use Rattle.std.proofs.Common.{◌+◌, ap, sym, refl, ◌∙◌, arith}
 use Rattle.sercos_telegram.specs.Words.{control_of}
-use Rattle.sercos_telegram.specs.Spells.{fields, SpellsRecord}
+use Rattle.sercos_telegram.specs.Spells.{fields}
 use Rattle.sercos_telegram.proofs.Spellings.{no_fault, fields-same, word_at-part, part-part, record-size}
 use Rattle.sercos_telegram.proofs.master.read_joint.Goals as goal
 
