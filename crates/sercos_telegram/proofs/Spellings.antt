@@ -1,10 +1,13 @@
 -- Lemmas on spellings: what a content spells is one thing, and has no fault.
-use Rattle.std.proofs.Common.{◌≡◌, ℕ, ◌+◌, ◌*◌, ◌/◌, ◌%◌, ◌^◌, ◌<◌, Bool, true, false, List, [], ◌∷◌, ◌++◌, length, take, drop, get_or, Option, Some, None, ◌-◌, refl, sym, ◌∙◌, ap, arith, append_assoc, length-append}
+use Rattle.std.proofs.Common.{◌≡◌, ℕ, ◌+◌, ◌^◌, ◌<◌, List, [], ◌∷◌, ◌++◌, length, take, drop, get_or, Some, None, ◌-◌, refl, sym, ◌∙◌, ap, arith, append_assoc, length-append, length-drop, ◌≤◌}
+use Rattle.std.specs.List.{slice_range}
+use Rattle.std.proofs.lemmas.List.{get_or-take, get_or-drop, drop-take, drop-drop, length-take-le}
 use Rattle.std.proofs.Math.Seq.{take-append_seam, drop-append_seam}
 use Rattle.sercos_telegram.specs.declared.layout.Layout.{Layout}
 use Rattle.sercos_telegram.specs.Faults.{head_fault}
-use Rattle.sercos_telegram.specs.Spells.{word_bytes, word_at, fields, all_drives, record_bytes, SpellsRecord}
+use Rattle.sercos_telegram.specs.Spells.{word_bytes, word_at, fields, all_drives, at_content, record_bytes, SpellsAt, SpellsRecord}
 use Rattle.sercos_telegram.specs.Words.{control_word}
+use Rattle.sercos_telegram.specs.declared.words.Status.{Status}
 use Rattle.sercos_telegram.specs.declared.words.Control.{Control}
 
 -- two words and values that are spelled alike
@@ -73,6 +76,33 @@ length-fields : (word info : ℕ) (values : List ℕ) → length (fields word in
 unfolding fields word_bytes
 length-fields word info values = omega arith
 
+-- a part of a content
+byte-part : (content : List ℕ) (position len k at : ℕ) → k < len → at ≡ position + k → get_or (take len (drop position content)) k 0 ≡ get_or content at 0
+byte-part content position len k at within there =
+    get_or-take len (drop position content) k 0 within ∙ get_or-drop position content k 0 ∙ ap (λ n. get_or content n 0) (sym there)
+
+pub word_at-part : (content : List ℕ) (position len k at : ℕ) → k + 1 < len → at ≡ position + k → word_at (take len (drop position content)) k ≡ word_at content at
+unfolding word_at
+word_at-part content position len k at within there =
+    let low = byte-part content position len k at (omega arith) there in
+    let high = byte-part content position len (k + 1) (at + 1) within (omega arith) in
+    omega (arith, low, high)
+
+pub part-part : (content : List ℕ) (position len n : ℕ) → n ≤ len → drop n (take len (drop position content)) ≡ slice_range content (position + n) (position + len)
+part-part content position len n within =
+    let whole : n + (len - n) ≡ len = omega arith in
+    let rest : position + len - (position + n) ≡ len - n = omega arith in
+    ap (λ m. drop n (take m (drop position content))) (sym whole) ∙ drop-take n (len - n) (drop position content) ∙ ap (take (len - n)) (drop-drop n position content) ∙ ap (λ m. take m (drop (position + n) content)) (sym rest)
+
+pub record-size : (position len word info : ℕ) (values content : List ℕ) → position + len ≤ length content → take len (drop position content) ≡ fields word info values → len ≡ 4 + length values
+record-size position len word info values content within there =
+    let room : len ≤ length (drop position content) = omega (arith, length-drop position content) in
+    sym (length-take-le len (drop position content) room) ∙ ap length there ∙ length-fields word info values
+
+pub at-spelled : (address : ℕ) (status : Status) (info : ℕ) (values content : List ℕ) → content ≡ at_content address status info values → SpellsAt address (4 + length values) status info values content
+unfolding word_bytes fields
+at-spelled address status info values content whole = record { long = rw whole (omega arith); whole = whole }
+
 record-there : (before middle after : List ℕ) → take (length middle) (drop (length before) (before ++ middle ++ after)) ≡ middle
 record-there before middle after =
     rw (append_assoc before middle after, drop-append_seam before (middle ++ after)) (take-append_seam middle after)
@@ -87,6 +117,8 @@ record-appended control info before values after some address =
     let long : length (before ++ middle ++ after) ≡ length before + length middle + length after = length-append (before ++ middle) after ∙ ap (λ n. n + length after) (length-append before middle) in
     record {
       long = omega (arith, long);
+      behind_address = omega arith;
+      size = refl;
       address = ap (λ xs. get_or xs 0 0) (append_assoc before middle after) ∙ first-append before (middle ++ after) some ∙ address;
       there = ap (λ n. take n (drop (length before) (before ++ middle ++ after))) (sym (length-fields (control_word control) info values)) ∙ record-there before middle after;
     }

@@ -44,8 +44,10 @@ pub record SpellsAt (address len : ℕ) (status : Status) (info : ℕ) (values c
   pub whole : content ≡ at_content address status info values
 
 -- A joint MDT with so many bytes behind the address, whose record of a length stands at a position. Position 1 is that
--- of the first byte behind the address.
+-- of the first byte behind the address. The record has no other length, so it ends within the content.
 pub record SpellsRecord (mdt_len position len : ℕ) (control : Control) (info : ℕ) (values content : List ℕ) : Type 0 where
   pub long : length content ≡ 1 + mdt_len
   pub address : slice_index content 0 ≡ all_drives
+  pub behind_address : 1 ≤ position
+  pub size : len ≡ 4 + length values
   pub there : take len (drop position content) ≡ record_bytes control info values

@@ -50,7 +50,9 @@ pub fn read_at(address: u8, len: u16, content: &[u8]) -> Result<At<'_>, Layout>
 /// Replaces the content by an AT of at most 64 bytes of values.
 pub fn write_at(at: &At<'_>, out: &mut Content)
     requires { length at.now.values.now ≤ 64 }
-    ensures { out.new ≡ at_content at.now.address at.now.status at.now.info at.now.values.now }
+    ensures content { out.new ≡ at_content at.now.address at.now.status at.now.info at.now.values.now }
+    ensures spells { SpellsAt at.now.address (4 + length at.now.values.now) at.now.status at.now.info at.now.values.now out.new }
+    ensures words { (status_word at.now.status < 2 ^ 16) × (at.now.info < 2 ^ 16) }
 {
     out.clear();
     out.push_within(at.address);

@@ -1,5 +1,5 @@
 //! What the master says: the MST and the MDT.
-ghost use Rattle.std.specs.Prelude.{◌≡◌, ℕ, ◌+◌, ◌^◌, ◌<◌, ◌≤◌, ◌↔◌, [], ◌∷◌, ◌++◌, List, length, slice_index, IfOk, IsOkAnd, IsErr, OnOk, OnErr};
+ghost use Rattle.std.specs.Prelude.{◌≡◌, ℕ, ◌+◌, ◌^◌, ◌<◌, ◌≤◌, ◌↔◌, [], ◌∷◌, ◌++◌, List, length, take, drop, slice_index, slice_range, IfOk, IsOkAnd, IsErr, OnOk, OnErr};
 ghost use Rattle.std.specs.Result.{result_err};
 ghost use Rattle.sercos_telegram.specs.Faults.{mst_fault, single_fault, joint_fault};
 ghost use Rattle.sercos_telegram.specs.Words.{control_word, control_of};
@@ -19,7 +19,8 @@ const LAST_PHASE: u8 = 4;
 /// An MST: the master's synchronisation telegram.
 #[derive(Clone, Copy, Debug, PartialEq, Eq)]
 pub struct Mst {
-    /// The phase that is commanded, 0 to 4.
+    /// The phase that is commanded, 0 to 4. It is the byte behind the address, so its bits 7 to 3 are sent as 0, and
+    /// refused otherwise (this profile).
     pub phase: u8,
     ghost phase_in_range: { phase ≤ 4 },
 }
@@ -80,11 +81,22 @@ pub fn read_single(address: u8, content: &[u8]) -> Result<(Control, u16), Layout
 
 /// Replaces the content by an MDT of phases 1 and 2.
 pub fn write_single(address: u8, control: &Control, info: u16, out: &mut Content)
-    ensures { out.new ≡ single_content address control.now info }
+    ensures content { out.new ≡ single_content address control.now info }
+    ensures words { (control_word control.now < 2 ^ 16) × (info < 2 ^ 16) }
 {
     out.clear();
     out.push_within(address);
     push_fields(control.write(), info, &[], out);
+}
+
+// The bytes of a record: `len` of them from `position` on.
+fn record_part(position: u16, len: u16, content: &[u8]) -> &[u8]
+    requires behind_address { 1 ≤ position }
+    requires within { position + len ≤ length content.now }
+    ensures { result.now ≡ take len (drop position content.now) }
+{
+    let begin = usize::from(position);
+    &content[begin..begin + usize::from(len)]
 }
 
 /// Reads one record of the MDT of phases 3 and 4, which has `mdt_len` bytes behind its address: the one of `len` bytes
@@ -99,6 +111,9 @@ pub fn read_joint(
     requires behind_address { 1 ≤ position }
     requires words { 4 ≤ len }
     requires within { position + len ≤ mdt_len + 1 }
+    ensures control { IfOk result (λ r. r.control ≡ control_of (word_at content.now position)) }
+    ensures info { IfOk result (λ r. r.info ≡ word_at content.now (position + 2)) }
+    ensures values { IfOk result (λ r. r.values.now ≡ slice_range content.now (position + 4) (position + len)) }
     ensures spells { IfOk result (λ r. SpellsRecord mdt_len position len r.control r.info r.values.now content.now) }
     ensures only { (control : Control) (info : ℕ) (values : List ℕ) → control_word control < 2 ^ 16 → info < 2 ^ 16
         → SpellsRecord mdt_len position len control info values content.now
@@ -106,9 +121,7 @@ pub fn read_joint(
     ensures fault { result_err result ≡ joint_fault mdt_len content.now }
 {
     test_head(1 + usize::from(mdt_len), ALL_DRIVES, content)?;
-    let begin = usize::from(position);
-    let end = begin + usize::from(len);
-    let fields = read_fields(&content[begin..end]);
+    let fields = read_fields(record_part(position, len, content));
     Ok(Record {
         control: Control::read(fields.word),
         info: fields.info,
@@ -128,6 +141,7 @@ pub fn joint_begin(out: &mut Content)
 pub fn joint_record(r: &Record<'_>, out: &mut Content) -> Result<(), Full>
     ensures full { IsErr result ↔ (2048 < length out.old + 4 + length r.now.values.now) }
     ensures ok { OnOk result (out.new ≡ out.old ++ record_bytes r.now.control r.now.info r.now.values.now) }
+    ensures words { OnOk result ((control_word r.now.control < 2 ^ 16) × (r.now.info < 2 ^ 16)) }
     ensures err { OnErr result (out.new ≡ out.old) }
 {
     if out.len() + 4 > MAX_CONTENT || r.values.len() > MAX_CONTENT - 4 - out.len() {

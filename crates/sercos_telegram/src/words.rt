@@ -54,7 +54,7 @@ pub struct Control {
     pub last: bool,
     /// The element of the data block, 0 to 7: bits 5 to 3.
     pub element: u8,
-    /// The other bits, 15 to 6, at their places.
+    /// The other bits, 15 to 6, at their places. This profile reads any value, and its stations send 0.
     pub cyclic: u16,
     ghost element_in_range: { element < 8 },
     ghost cyclic_apart: { cyclic % 64 ≡ 0 },
@@ -103,7 +103,7 @@ pub struct Status {
     pub error: bool,
     /// Whether a procedure command has ended: bit 5.
     pub change: bool,
-    /// The other bits, 3, 4 and 15 to 6, at their places.
+    /// The other bits, 3, 4 and 15 to 6, at their places. This profile reads any value, and its stations send 0.
     pub cyclic: u16,
     ghost cyclic_low: { cyclic % 8 ≡ 0 },
     ghost cyclic_apart: { cyclic % 64 < 32 },

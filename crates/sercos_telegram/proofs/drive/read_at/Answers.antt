@@ -1,4 +1,4 @@
-use Rattle.std.proofs.Common.{◌≡◌, ℕ, ◌+◌, List, ap, sym, ◌∙◌, get_or, drop}
+use Rattle.std.proofs.Common.{◌≡◌, ◌+◌, ap, sym, ◌∙◌, get_or, drop}
 use Rattle.std.proofs.lemmas.List.{take_rest}
 use Rattle.sercos_telegram.specs.Spells.{fields}
 use Rattle.sercos_telegram.specs.Words.{status_word, status_of}

@@ -1,6 +1,7 @@
-use Rattle.std.proofs.Common.{◌≡◌, ℕ, ◌+◌, ◌-◌, List, ap, sym, ◌∙◌, arith}
-use Rattle.sercos_telegram.specs.Spells.{fields, SpellsRecord}
-use Rattle.sercos_telegram.proofs.Spellings.{no_fault, fields-same}
+use Rattle.std.proofs.Common.{◌+◌, ap, sym, refl, ◌∙◌, arith}
+use Rattle.sercos_telegram.specs.Words.{control_of}
+use Rattle.sercos_telegram.specs.Spells.{fields}
+use Rattle.sercos_telegram.proofs.Spellings.{no_fault, fields-same, word_at-part, part-part, record-size}
 use Rattle.sercos_telegram.proofs.master.read_joint.Goals as goal
 
 pub returns-in_err-test_head-clause-only : goal.returns-in_err-test_head-clause-only
@@ -9,17 +10,32 @@ returns-in_err-test_head-clause-only c = λ control info values w f spells.
 
 pub returns-clause-spells : goal.returns-clause-spells
 returns-clause-spells c =
-    let span : c.from-begin.result + c.from-2.result - c.from-begin.result ≡ c.args.len = omega arith in
-    let got = rw (span, c.from-begin.ensures) at c.read_fields-fields.ensures.spells in
+    let got = rw c.record_part.ensures at c.read_fields-fields.ensures.spells in
     record {
       long = c.in_ok-test_head.ensures.length ∙ ap (λ n. 1 + n) c.from.ensures;
       address = c.in_ok-test_head.ensures.address;
+      behind_address = c.requires.behind_address;
+      size = record-size c.args.position c.args.len _ _ _ c.args.content.now (omega (arith, c.in_ok-test_head.ensures.length)) got;
       there = got ∙ ap (λ w. fields w c.read_fields-fields.result.info c.read_fields-fields.result.values.now) (sym c.read.ensures.word);
     }
 
 pub returns-clause-only : goal.returns-clause-only
 returns-clause-only c = λ control info values w f spells.
-    let span : c.from-begin.result + c.from-2.result - c.from-begin.result ≡ c.args.len = omega arith in
-    let got = rw (span, c.from-begin.ensures) at c.read_fields-fields.ensures.spells in
+    let got = rw c.record_part.ensures at c.read_fields-fields.ensures.spells in
     let same = fields-same _ _ _ _ _ _ w f c.read_fields-fields.ensures.words.0 c.read_fields-fields.ensures.words.1 (sym spells.there ∙ got) in
     (c.read.ensures.only control same.words, sym same.infos, sym same.rests)
+
+pub returns-clause-control : goal.returns-clause-control
+returns-clause-control c =
+    let word = rw c.record_part.ensures at c.read_fields-fields.ensures.word in
+    c.read.ensures.value ∙ ap control_of (word ∙ word_at-part c.args.content.now c.args.position c.args.len 0 c.args.position (omega arith) (omega arith))
+
+pub returns-clause-info : goal.returns-clause-info
+returns-clause-info c =
+    let info = rw c.record_part.ensures at c.read_fields-fields.ensures.info in
+    info ∙ word_at-part c.args.content.now c.args.position c.args.len 2 (c.args.position + 2) (omega arith) refl
+
+pub returns-clause-values : goal.returns-clause-values
+returns-clause-values c =
+    let values = rw c.record_part.ensures at c.read_fields-fields.ensures.values in
+    values ∙ part-part c.args.content.now c.args.position c.args.len 4 c.requires.words

@@ -1,4 +1,4 @@
-use Rattle.std.proofs.Common.{◌≡◌, ℕ, List, [], ap, sym, ◌∙◌, get_or, length, drop, arith}
+use Rattle.std.proofs.Common.{◌≡◌, [], ap, sym, ◌∙◌, get_or, length, drop}
 use Rattle.std.proofs.lemmas.List.{take_rest}
 use Rattle.sercos_telegram.specs.Spells.{fields, word_bytes}
 use Rattle.sercos_telegram.specs.Words.{control_word, control_of}
