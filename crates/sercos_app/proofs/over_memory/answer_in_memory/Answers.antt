@@ -1,0 +1,18 @@
+use Rattle.std.proofs.Common.{◌≡◌, ◌<◌, inl, inr, ℕ, length, refl, arith}
+use Rattle.std.proofs.lemmas.Bool.Decides.{nat_tests}
+use Rattle.sercos_model.specs.Streams.{Rose}
+use Rattle.sercos_io.specs.Memory.{SinkState, room_of}
+use Rattle.sercos_app.proofs.over_memory.answer_in_memory.Goals as goal
+
+room : (s : SinkState) → length s.failing ≡ 0 → s.faults < 18446744073709551615 → room_of s ≡ s.spare
+room s none below = grind (arith, nat_tests)
+
+still : (a b : ℕ) → b ≡ a → a < 18446744073709551615 → Rose a b → ⊥
+still a b same below (inl more) = omega arith
+still a b same below (inr last) = omega arith
+
+pub returns : goal.returns
+returns c =
+    let whole = room c.args.sink.now c.requires.no_failing c.requires.countable in
+    let same = c.sercos.ensures.room c.args.source.now refl (rw whole c.requires.spare) in
+    c.sercos.ensures.answers c.args.source.now refl c.requires.fits c.requires.form (still 0 0 refl (omega arith)) (still _ _ same c.requires.countable)

@@ -1,0 +1,29 @@
+// The top call over memory.
+ghost use Rattle.std.specs.Prelude.{◌≡◌, ◌≢◌, ◌≤◌, ◌<◌, ◌⊎◌, length, Some, None};
+ghost use Rattle.sercos_model.specs.Streams.{last_count};
+ghost use Rattle.sercos_app.specs.Answer.{answer_of};
+ghost use Rattle.sercos_app.specs.Form.{form_of};
+ghost use Rattle.sercos_app.specs.TopCall.{IsAnswer};
+
+use crate::top_call::sercos;
+use sercos_io::{MemorySink, PlainSource, Status, Words};
+use std::alloc::Global;
+
+/// The top call over a source that never fails and a sink in memory that fails no call and has room for the whole
+/// output. Nothing outside can fail there, so the answer is given whole, or memory was wanting.
+pub fn answer_in_memory(
+    alloc: Global,
+    words: &Words,
+    source: &mut PlainSource,
+    sink: &mut MemorySink,
+) -> Status
+    requires form { form_of words.now ≢ None }
+    requires fits { length source.old ≤ 1048576 }
+    requires no_failing { length sink.old.failing ≡ 0 }
+    requires countable { sink.old.faults < last_count }
+    requires spare { length (answer_of words.now source.old).output ≤ sink.old.spare }
+    ensures { (result ≡ Status.Memory)
+        ⊎ IsAnswer (answer_of words.now source.old) result (Some sink.old.held) (Some sink.new.held) }
+{
+    sercos(alloc, words, source, sink)
+}
