@@ -1,3 +1,4 @@
 pub mod FaultLemmas
 pub mod IdnLemmas
 pub mod PrintLemmas
+pub mod AttributeLemmas
