@@ -2,3 +2,4 @@ pub mod FaultLemmas
 pub mod IdnLemmas
 pub mod PrintLemmas
 pub mod AttributeLemmas
+pub mod Worked

@@ -117,9 +117,10 @@ impl Attribute {
         }
     }
 
-    /// The word.
+    /// The word. `read` gives the attribute back.
     pub fn write(&self) -> u32
-        ensures { result ≡ attribute_word self.now }
+        ensures value { result ≡ attribute_word self.now }
+        ensures factor { self.now.factor < 2 ^ 16 }
     {
         u32::from(self.factor)
             + length_code(self.length) * LENGTH

@@ -2,9 +2,11 @@
 #![tactic(auto)]
 
 mod attribute;
+mod code;
 mod idn;
 mod kinds;
 
 pub use attribute::{Attribute, BadAttribute};
+pub use code::Code;
 pub use idn::{BadIdn, Idn};
 pub use kinds::{Form, Length};
