@@ -1,0 +1,5 @@
+pub mod FaultLemmas
+pub mod IdnLemmas
+pub mod PrintLemmas
+pub mod AttributeLemmas
+pub mod Worked

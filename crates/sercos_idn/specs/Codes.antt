@@ -1,0 +1,52 @@
+-- The codes and bits of a data block's attribute, after IEC 61491:1995.
+use Rattle.std.specs.Prelude.{ℕ, ◌/◌, ◌%◌, ◌^◌, ◌==◌, nat_le, Bool, not, ◌||◌, ◌&&◌, Option}
+use Rattle.std.specs.Bool.{then_some}
+use Rattle.std.specs.Option.{option_or}
+use Rattle.sercos_idn.specs.declared.kinds.Length.{Length}
+use Rattle.sercos_idn.specs.declared.kinds.Length.TheVariants.{Two, Four, List1, List2, List4}
+use Rattle.sercos_idn.specs.declared.kinds.Form.{Form}
+use Rattle.sercos_idn.specs.declared.kinds.Form.TheVariants as forms
+
+-- the codes of the lengths, bits 18 to 16; 0, 3 and 7 are none
+abbrev pub length_code : Length → ℕ
+length_code Two = 1
+length_code Four = 2
+length_code List1 = 4
+length_code List2 = 5
+length_code List4 = 6
+
+abbrev pub is_length : ℕ → Bool
+is_length code = not ((code == 0) || (code == 3) || nat_le 7 code)
+
+-- the codes of the display forms, bits 22 to 20; 6 and 7 are none
+abbrev pub form_code : Form → ℕ
+form_code forms.Binary = 0
+form_code forms.Unsigned = 1
+form_code forms.Signed = 2
+form_code forms.Hexadecimal = 3
+form_code forms.Text = 4
+form_code forms.Idn = 5
+
+abbrev pub is_form : ℕ → Bool
+is_form code = nat_le code 5
+
+-- whether a word has the bit at a place
+abbrev pub has_bit : ℕ → ℕ → Bool
+has_bit word place = word / 2 ^ place % 2 == 1
+
+-- the codes of a word
+abbrev pub length_bits : ℕ → ℕ
+length_bits word = word / 2 ^ 16 % 8
+
+abbrev pub form_bits : ℕ → ℕ
+form_bits word = word / 2 ^ 20 % 8
+
+-- The first of the bits 16, 19, 20, 23 and 31 that is refused: 16 for a length that is none, 19 for a command of another
+-- length than two bytes, 20 for a display form that is none, and 23 and 31 where they are ones.
+unfoldable pub attribute_fault : ℕ → Option ℕ
+attribute_fault word =
+    option_or (then_some (not (is_length (length_bits word))) 16)
+    (option_or (then_some (has_bit word 19 && not (length_bits word == 1)) 19)
+    (option_or (then_some (not (is_form (form_bits word))) 20)
+    (option_or (then_some (has_bit word 23) 23)
+    (then_some (has_bit word 31) 31))))

@@ -1,0 +1,3 @@
+pub mod Idns
+pub mod Codes
+pub mod Attributes

@@ -1,0 +1,152 @@
+ghost use Rattle.std.specs.Prelude.{◌≡◌, ℕ, ◌+◌, ◌*◌, ◌/◌, ◌%◌, ◌^◌, ◌<◌, ◌≤◌, ◌==◌, if◌then◌else◌, true, Some, None, Ok, IfOk, MatchResult};
+ghost use Rattle.sercos_idn.specs.declared.kinds.Length.TheVariants.{Two};
+ghost use Rattle.sercos_idn.specs.Codes.{length_bits, form_bits, attribute_fault};
+
+use crate::kinds::{
+    Form, Length, TWO, form_code, form_of, is_form, is_length, length_code, length_of,
+};
+
+// The parts of the word, as the numbers that their lowest bits stand for.
+const LENGTH: u32 = 65536;
+
+const COMMAND: u32 = 524288;
+
+const FORM: u32 = 1048576;
+
+const UNUSED: u32 = 8388608;
+
+const DECIMALS: u32 = 16777216;
+
+const PROTECT2: u32 = 268435456;
+
+const PROTECT3: u32 = 536870912;
+
+const PROTECT4: u32 = 1073741824;
+
+const HIGHEST: u32 = 2147483648;
+
+// How many codes a part of three bits has, and how many numbers of decimal places there are.
+const CODES: u32 = 8;
+
+const PLACES: u32 = 16;
+
+// Whether a word has a bit.
+fn has(word: u32, bit: u32) -> bool
+    requires { 0 < bit }
+    ensures { result ≡ (word / bit % 2 == 1) }
+{
+    word / bit % 2 == 1
+}
+
+// A bit, where it is set.
+fn placed(set: bool, bit: u32) -> u32
+    ensures value { result ≡ (if set then 1 else 0) * bit }
+    ensures bound { result ≤ bit }
+{
+    if set { bit } else { 0 }
+}
+
+// The first bit that is refused.
+#[tactic(auto, unfolding(crate::specs::Codes::attribute_fault))]
+fn attribute_fault(word: u32) -> Option<u8>
+    ensures { result ≡ attribute_fault word }
+{
+    if !is_length(word / LENGTH % CODES) {
+        return Some(16);
+    }
+    if has(word, COMMAND) && word / LENGTH % CODES != TWO {
+        return Some(19);
+    }
+    if !is_form(word / FORM % CODES) {
+        return Some(20);
+    }
+    if has(word, UNUSED) {
+        return Some(23);
+    }
+    if has(word, HIGHEST) {
+        return Some(31);
+    }
+    None
+}
+
+/// The attribute of a data block, its third element (IEC 61491:1995): how its operation data is read, shown and
+/// protected.
+#[derive(Clone, Copy, Debug, PartialEq, Eq)]
+pub struct Attribute {
+    /// The conversion factor: bits 15 to 0.
+    pub factor: u16,
+    /// The length of the operation data: bits 18 to 16. It is `Two` where the block is a procedure command.
+    pub length: Length,
+    /// Whether the block is a procedure command: bit 19.
+    pub command: bool,
+    /// The display form: bits 22 to 20.
+    pub form: Form,
+    /// The number of decimal places, 0 to 15: bits 27 to 24.
+    pub decimals: u8,
+    /// Whether the operation data is write protected in phase 2: bit 28.
+    pub protect2: bool,
+    /// Whether the operation data is write protected in phase 3: bit 29.
+    pub protect3: bool,
+    /// Whether the operation data is write protected in phase 4: bit 30.
+    pub protect4: bool,
+    ghost decimals_in_range: { decimals < 16 },
+    ghost command_is_two: { command ≡ true → length ≡ Two },
+}
+
+/// A word that is no attribute.
+#[derive(Clone, Copy, Debug, PartialEq, Eq)]
+pub struct BadAttribute {
+    /// The first of these bits that is refused: 16, where bits 18 to 16 are no length; 19, a procedure command of
+    /// another length than two bytes; 20, where bits 22 to 20 are no display form; 23 and 31, which are always 0.
+    pub bit: u8,
+}
+
+impl Attribute {
+    ghost use Rattle.sercos_idn.specs.Attributes.{attribute_word};
+
+    /// The attribute that a word is. One attribute has one word, which `write` gives; any other word is refused at the
+    /// first bit that is.
+    pub fn read(word: u32) -> Result<Attribute, BadAttribute>
+        ensures ok { IfOk result (λ attribute. attribute_word attribute ≡ word) }
+        ensures only { (attribute : Attribute) → attribute.factor < 2 ^ 16 → attribute_word attribute ≡ word → result ≡ Ok attribute }
+        ensures fault { MatchResult result (λ _. attribute_fault word ≡ None) (λ bad. attribute_fault word ≡ Some bad.bit) }
+    {
+        match attribute_fault(word) {
+            Some(bit) => Err(BadAttribute { bit }),
+            None => Ok(Attribute::of_word(word)),
+        }
+    }
+
+    /// The word. `read` gives the attribute back.
+    pub fn write(&self) -> u32
+        ensures value { result ≡ attribute_word self.now }
+        ensures factor { self.now.factor < 2 ^ 16 }
+    {
+        u32::from(self.factor)
+            + length_code(self.length) * LENGTH
+            + placed(self.command, COMMAND)
+            + form_code(self.form) * FORM
+            + u32::from(self.decimals) * DECIMALS
+            + placed(self.protect2, PROTECT2)
+            + placed(self.protect3, PROTECT3)
+            + placed(self.protect4, PROTECT4)
+    }
+
+    // The attribute that a word without a fault is.
+    fn of_word(word: u32) -> Attribute
+        requires { attribute_fault word ≡ None }
+        ensures value { attribute_word result ≡ word }
+        ensures factor { result.factor < 2 ^ 16 }
+    {
+        Attribute {
+            factor: (word % LENGTH) as u16,
+            length: length_of(word / LENGTH % CODES),
+            command: has(word, COMMAND),
+            form: form_of(word / FORM % CODES),
+            decimals: (word / DECIMALS % PLACES) as u8,
+            protect2: has(word, PROTECT2),
+            protect3: has(word, PROTECT3),
+            protect4: has(word, PROTECT4),
+        }
+    }
+}

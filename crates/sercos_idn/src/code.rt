@@ -1,0 +1,61 @@
+ghost use Rattle.std.specs.Prelude.{◌≡◌, ◌+◌, ◌*◌, ◌<◌};
+
+// The codes on an element begin with it.
+const ELEMENT: u16 = 4096;
+
+const MISSING: u16 = 1;
+
+const PROTECTED: u16 = 4;
+
+/// Why a drive refuses a step of the service channel: the code that it sends as information word, after IEC 61491:1995.
+///
+/// The elements of a data block are 1 the identifier number, 2 the name, 3 the attribute, 4 the unit, 5 the minimum, 6
+/// the maximum and 7 the operation data.
+#[derive(Clone, Copy, Debug, PartialEq, Eq)]
+pub struct Code {
+    /// The sixteen bits of the information word. Bits 15 to 12 are the element that the code is on.
+    pub raw: u16,
+}
+
+impl Code {
+    /// The service channel isn't open: no identifier number was opened.
+    pub const NOT_OPEN: Code = Code { raw: 0x0001 };
+    /// The drive has no such identifier number.
+    pub const NO_IDN: Code = Code { raw: 0x1001 };
+    /// The operation data was transmitted too short.
+    pub const TOO_SHORT: Code = Code { raw: 0x7002 };
+    /// The operation data was transmitted too long.
+    pub const TOO_LONG: Code = Code { raw: 0x7003 };
+    /// The operation data can't be changed.
+    pub const FIXED: Code = Code { raw: 0x7004 };
+    /// The operation data is write protected at this time.
+    pub const PROTECTED_NOW: Code = Code { raw: 0x7005 };
+    /// The operation data is smaller than the minimum.
+    pub const BELOW_MINIMUM: Code = Code { raw: 0x7006 };
+    /// The operation data is greater than the maximum.
+    pub const ABOVE_MAXIMUM: Code = Code { raw: 0x7007 };
+    /// The operation data is invalid.
+    pub const INVALID: Code = Code { raw: 0x7008 };
+
+    /// The element, 0 to 7, is missing: 0x2001 for the name, 0x4001 for the unit, 0x5001 for the minimum, 0x6001 for the
+    /// maximum.
+    pub fn missing(element: u8) -> Code
+        requires { element < 8 }
+        ensures { result.raw ≡ 4096 * element + 1 }
+    {
+        Code {
+            raw: ELEMENT * u16::from(element) + MISSING,
+        }
+    }
+
+    /// The element, 0 to 7, can't be changed: 0x2004 for the name, to 0x6004 for the maximum. For the operation data it
+    /// is `FIXED`.
+    pub fn protected(element: u8) -> Code
+        requires { element < 8 }
+        ensures { result.raw ≡ 4096 * element + 4 }
+    {
+        Code {
+            raw: ELEMENT * u16::from(element) + PROTECTED,
+        }
+    }
+}

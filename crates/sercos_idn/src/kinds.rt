@@ -1,0 +1,108 @@
+ghost use Rattle.std.specs.Prelude.{◌≡◌, true};
+ghost use Rattle.sercos_idn.specs.Codes.{length_code, form_code, is_length, is_form};
+
+/// The code of a length of two bytes.
+pub const TWO: u32 = 1;
+
+/// The length of a data block's operation data: two or four bytes, or a list of variable length whose items have one,
+/// two or four bytes.
+#[derive(Clone, Copy, Debug, PartialEq, Eq)]
+pub enum Length {
+    /// Two bytes.
+    Two,
+    /// Four bytes.
+    Four,
+    /// A list of one-byte items.
+    List1,
+    /// A list of two-byte items.
+    List2,
+    /// A list of four-byte items.
+    List4,
+}
+
+/// How operation data is shown.
+#[derive(Clone, Copy, Debug, PartialEq, Eq)]
+pub enum Form {
+    /// Bits.
+    Binary,
+    /// A number without sign.
+    Unsigned,
+    /// A number with sign, in two's complement.
+    Signed,
+    /// A number in hexadecimal digits.
+    Hexadecimal,
+    /// Characters.
+    Text,
+    /// An identifier number.
+    Idn,
+}
+
+/// Whether a code is one of a length.
+pub fn is_length(code: u32) -> bool
+    ensures { result ≡ is_length code }
+{
+    code != 0 && code != 3 && code < 7
+}
+
+/// The length of a code.
+pub fn length_of(code: u32) -> Length
+    requires { is_length code ≡ true }
+    ensures { length_code result ≡ code }
+{
+    match code {
+        1 => Length::Two,
+        2 => Length::Four,
+        4 => Length::List1,
+        5 => Length::List2,
+        _ => Length::List4,
+    }
+}
+
+/// The code of a length.
+pub fn length_code(length: Length) -> u32
+    ensures { result ≡ length_code length }
+{
+    match length {
+        Length::Two => 1,
+        Length::Four => 2,
+        Length::List1 => 4,
+        Length::List2 => 5,
+        Length::List4 => 6,
+    }
+}
+
+/// Whether a code is one of a display form.
+pub fn is_form(code: u32) -> bool
+    ensures { result ≡ is_form code }
+{
+    code <= 5
+}
+
+/// The display form of a code.
+pub fn form_of(code: u32) -> Form
+    requires { is_form code ≡ true }
+    ensures { form_code result ≡ code }
+{
+    match code {
+        0 => Form::Binary,
+        1 => Form::Unsigned,
+        2 => Form::Signed,
+        3 => Form::Hexadecimal,
+        4 => Form::Text,
+        _ => Form::Idn,
+    }
+}
+
+/// The code of a display form.
+pub fn form_code(form: Form) -> u32
+    ensures { result ≡ form_code form }
+{
+    match form {
+        Form::Binary => 0,
+        Form::Unsigned => 1,
+        Form::Signed => 2,
+        Form::Hexadecimal => 3,
+        Form::Text => 4,
+        Form::Idn => 5,
+    }
+}

@@ -1,0 +1,12 @@
+//! Identifier numbers of data blocks, their attributes, and the codes of the service channel's errors.
+#![tactic(auto)]
+
+mod attribute;
+mod code;
+mod idn;
+mod kinds;
+
+pub use attribute::{Attribute, BadAttribute};
+pub use code::Code;
+pub use idn::{BadIdn, Idn};
+pub use kinds::{Form, Length};
