@@ -6,6 +6,8 @@ mod adapters;
 #[cfg(test)]
 mod faults;
 #[cfg(test)]
+mod identifiers;
+#[cfg(test)]
 mod layers;
 #[cfg(test)]
 mod show;
