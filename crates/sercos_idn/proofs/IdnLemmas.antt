@@ -38,33 +38,6 @@ eight (a ∷ b ∷ []) all = absurd (omega arith)
 eight (a ∷ []) all = absurd (omega arith)
 eight [] all = absurd (omega arith)
 
--- the digits of a number that four digits spell
-pub thousands_of : (a b c d : ℕ) → b < 10 → c < 10 → d < 10 → (1000 * a + 100 * b + 10 * c + d) / 1000 ≡ a
-thousands_of a b c d tens ones last = omega arith
-
-pub hundreds_of : (a b c d : ℕ) → b < 10 → c < 10 → d < 10 → (1000 * a + 100 * b + 10 * c + d) / 100 % 10 ≡ b
-hundreds_of a b c d tens ones last = omega arith
-
-pub tens_of : (a b c d : ℕ) → b < 10 → c < 10 → d < 10 → (1000 * a + 100 * b + 10 * c + d) / 10 % 10 ≡ c
-tens_of a b c d tens ones last = omega arith
-
-pub ones_of : (a b c d : ℕ) → d < 10 → (1000 * a + 100 * b + 10 * c + d) % 10 ≡ d
-ones_of a b c d last = omega arith
-
--- the number that the four digits of a number spell
-pub digits_number : (n : ℕ) → n < 10000 → 1000 * (n / 1000) + 100 * (n / 100 % 10) + 10 * (n / 10 % 10) + n % 10 ≡ n
-digits_number n small = omega arith
-
--- the parts of a number that a letter, a set and a number make
-pub set_part : (letter set number : ℕ) → set < 8 → number < 4096 → (32768 * letter + 4096 * set + number) / 4096 % 8 ≡ set
-set_part letter set number a b = omega arith
-
-pub number_part : (letter set number : ℕ) → number < 4096 → (32768 * letter + 4096 * set + number) % 4096 ≡ number
-number_part letter set number b = omega arith
-
-pub raw_parts : (raw : ℕ) → raw < 2 ^ 16 → 32768 * (raw / 32768) + 4096 * (raw / 4096 % 8) + raw % 4096 ≡ raw
-raw_parts raw small = omega arith
-
 -- what a byte that can stand in a slot is
 letter_stands : (text : List ℕ) (place : ℕ) → slot_fault text place Letter ≡ None → (place < length text) × ((get_or text place 0 ≡ 83) ⊎ (get_or text place 0 ≡ 80))
 letter_stands text place none = let has = none_of-then _ place none in (in_text place (length text) _ has, is_letter (get_or text place 0) (nat_lt place (length text)) has)
@@ -129,10 +102,7 @@ IsSpelled-idn_fault text none =
       small = at_least 4095 (spelled_number text) (none_of-then _ 4 last.0);
     }
 
--- the digits and the letter of a number that is made of its parts
-raw_by : ℕ → ℕ → ℕ → ℕ → ℕ → ℕ → ℕ → ℕ
-raw_by product set a b c d number = 32768 * product + 4096 * set + number
-
+-- the letter, the set and the digits of the number that is made of them
 letter_by : (letter raw rest : ℕ) → (letter ≡ 83) ⊎ (letter ≡ 80) → rest < 32768 → raw ≡ cond (letter == 80) 32768 0 + rest → letter_of raw ≡ letter
 letter_by letter raw rest (inl e) small is = grind (arith, nat_tests)
 letter_by letter raw rest (inr e) small is = grind (arith, nat_tests)
