@@ -11,7 +11,7 @@ use Rattle.sercos_model.specs.Bits.{bits_of}
 use Rattle.sercos_model.proofs.BitLemmas.{length-bits_of}
 use Rattle.sercos_app.specs.Line.{hex_bytes, byte_of, wanted_digits, has_spare, dash_fault, digits_fault, hex_fault, hex_bits}
 use Rattle.sercos_app.specs.SpelledLine.{AreDigitsOf, IsHexOf}
-use Rattle.sercos_app.proofs.FaultLemmas.{none_of-or, none_of-then, at_least, nat_lt-at_least}
+use Rattle.sercos_model.proofs.FaultLemmas.{none_of-or, none_of-then, at_least, nat_lt-at_least}
 use Rattle.sercos_app.proofs.HexPairs.{pair_bytes, pair_bytes-at, byte_of-least, AllPass-prefix_len, prefix_len-AllPass, decode_of-pair_bytes, ArePairs-decoded}
 use Rattle.sercos_app.proofs.SpareBits.{spare_zeros, last_below}
 

@@ -1,5 +1,4 @@
 pub mod LineLemmas
-pub mod FaultLemmas
 pub mod SpareBits
 pub mod HexPairs
 pub mod HexLines

@@ -17,7 +17,7 @@ use Rattle.sercos_app.specs.declared.line.LineKind.TheVariants.{Raw, Mst, Single
 use Rattle.std.proofs.Math.Seq.{drop-append_seam}
 use Rattle.sercos_app.specs.SpelledLine.{IsLine}
 use Rattle.sercos_app.proofs.LineLemmas.{common_prefix_len-nil}
-use Rattle.sercos_app.proofs.FaultLemmas.{none_of-or, none_of-then, none_of-map, at_least, nat_lt-at_least}
+use Rattle.sercos_model.proofs.FaultLemmas.{none_of-or, none_of-then, none_of-map, at_least, nat_lt-at_least}
 use Rattle.sercos_app.proofs.HexLines.{IsHexOf-hex_fault, hex_fault-IsHexOf}
 
 -- the kind

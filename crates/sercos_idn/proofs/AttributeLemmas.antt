@@ -10,7 +10,7 @@ use Rattle.sercos_idn.specs.declared.kinds.Form.{Form}
 use Rattle.sercos_idn.specs.declared.kinds.Form.TheVariants as forms
 use Rattle.sercos_idn.specs.Codes.{length_code, form_code, is_length, is_form, has_bit, length_bits, form_bits, attribute_fault}
 use Rattle.sercos_idn.specs.Attributes.{bit_of, attribute_word}
-use Rattle.sercos_idn.proofs.FaultLemmas.{none_of-or, none_of-then}
+use Rattle.sercos_model.proofs.FaultLemmas.{none_of-or, none_of-then}
 
 -- a word as the sum of its parts
 abbrev whole_of : ℕ → ℕ → ℕ → ℕ → ℕ → ℕ → ℕ → ℕ → ℕ

@@ -4,7 +4,7 @@ use Rattle.std.specs.Bool.{then_some}
 use Rattle.std.proofs.lemmas.Bool.Decides.{nat_tests}
 use Rattle.sercos_idn.specs.Idns.{idn_fault, head_fault, digits_fault, slot_fault, idn_text, four_digits, letter_of, set_of, number_of, digit_at, spelled_number, spelled_raw}
 use Rattle.sercos_idn.specs.declared.idn.Slot.TheVariants.{Letter, Dash, Octal, Decimal}
-use Rattle.sercos_idn.proofs.FaultLemmas.{none_of-or, none_of-then, at_least, nat_lt-at_least}
+use Rattle.sercos_model.proofs.FaultLemmas.{none_of-or, none_of-then, at_least, nat_lt-at_least}
 
 -- what a text without a fault is: eight bytes that can stand, and a number that is small enough
 pub record IsSpelled (text : List ℕ) : Type 0 where

@@ -1,4 +1,3 @@
-pub mod FaultLemmas
 pub mod IdnLemmas
 pub mod PrintLemmas
 pub mod AttributeLemmas

@@ -1,4 +1,5 @@
 pub mod BitLemmas
 pub mod CheckVectors
+pub mod FaultLemmas
 pub mod FrameLemmas
 pub mod KnownBytes

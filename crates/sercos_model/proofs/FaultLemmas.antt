@@ -1,4 +1,4 @@
--- A line without a fault: none of its parts has one.
+-- Where no rule of a chain finds a fault.
 use Rattle.std.proofs.Common.{◌≡◌, ℕ, ◌≤◌, Bool, true, false, nat_lt, Option, Some, None, refl, arith}
 use Rattle.std.specs.Bool.{then_some}
 use Rattle.std.specs.Option.{option_or, option_map}
