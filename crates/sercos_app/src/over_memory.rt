@@ -9,20 +9,21 @@ use crate::top_call::sercos;
 use sercos_io::{MemorySink, PlainSource, Status, Words};
 use std::alloc::Global;
 
-/// The top call over a source that never fails and a sink in memory that fails no call and has room for the whole
-/// output. Nothing outside can fail there, so the answer is given whole, or memory was wanting.
+/// The top call over a source that never fails and a sink in memory. Where the words are a command's, the input has at
+/// most 1,048,576 bytes, and the sink fails no call and has room for the whole output, nothing outside can fail: the
+/// answer is given whole, or memory was wanting. Else the answer is that of [`sercos`], by its causes.
 pub fn answer_in_memory(
     alloc: Global,
     words: &Words,
     source: &mut PlainSource,
     sink: &mut MemorySink,
 ) -> Status
-    requires form { form_of words.now ≢ None }
-    requires fits { length source.old ≤ 1048576 }
-    requires no_failing { length sink.old.failing ≡ 0 }
-    requires countable { sink.old.faults < last_count }
-    requires spare { length (answer_of words.now source.old).output ≤ sink.old.spare }
-    ensures { (result ≡ Status.Memory)
+    ensures { form_of words.now ≢ None
+        → length source.old ≤ 1048576
+        → length sink.old.failing ≡ 0
+        → sink.old.faults < last_count
+        → length (answer_of words.now source.old).output ≤ sink.old.spare
+        → (result ≡ Status.Memory)
         ⊎ IsAnswer (answer_of words.now source.old) result (Some sink.old.held) (Some sink.new.held) }
 {
     sercos(alloc, words, source, sink)

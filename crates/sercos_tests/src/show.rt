@@ -1,6 +1,6 @@
 // Worked examples of `show`, over a source and a sink in memory.
-use sercos_app::sercos;
-use sercos_io::{MemorySink, MemorySource, Status, Words};
+use sercos_app::{answer_in_memory, sercos};
+use sercos_io::{MemorySink, MemorySource, PlainSource, Status, Words};
 use std::alloc::{AllocError, Global};
 use std::test::Fail;
 
@@ -166,6 +166,39 @@ fn columns(rt: HostRuntime) -> Result<(), Fail> {
         let (answered, sink) = answer(rt.alloc(), "show", input.as_str())?;
         assert_eq!(rt; answered, Status::Refused, "{line}");
         assert_eq!(rt; sink.as_slice(), output.as_bytes(), "{line}");
+    }
+    Ok(())
+}
+
+// Over a source that never fails and a sink with room, with ample memory, the answer is given whole.
+#[test]
+fn answered_in_memory(rt: HostRuntime) -> Result<(), Fail> {
+    let alloc = rt.alloc();
+    let rows: [Row; 3] = [
+        (
+            "show",
+            "raw 49 7edf010ee1fd00\nraw 40 7e8838f87e\n",
+            Status::Done,
+            "ok ff00\nerror 2 abort 32\n",
+        ),
+        (
+            "-- show",
+            "raw x 7e",
+            Status::Refused,
+            "refused line 1 column 5\n",
+        ),
+        ("plan", "raw x 7e", Status::BadWords, ""),
+    ];
+    for (words, input, status, output) in rows {
+        let words = words_of(alloc, words)?;
+        let mut source = PlainSource::new(Vec::from_slice(alloc, input.as_bytes())?);
+        let mut sink = MemorySink::new(Vec::with_capacity(alloc, 64)?, 64, Vec::new(alloc));
+        assert_eq!(rt;
+            answer_in_memory(alloc, &words, &mut source, &mut sink),
+            status,
+            "{input}"
+        );
+        assert_eq!(rt; sink.as_slice(), output.as_bytes(), "{input}");
     }
     Ok(())
 }
