@@ -95,6 +95,15 @@ impl<const CAPACITY: usize> ByteList<CAPACITY> {
         self.bytes.push(byte);
     }
 
+    /// Replaces all bytes by these, where there is room for them.
+    pub fn assign(&mut self, bytes: &[u8])
+        requires { length bytes.now ≤ CAPACITY }
+        ensures { self.new ≡ bytes.now }
+    {
+        self.bytes.clear();
+        let _fits = self.bytes.try_extend_from_slice(bytes);
+    }
+
     /// Drops all bytes.
     pub fn clear(&mut self)
         ensures { self.new ≡ [] }

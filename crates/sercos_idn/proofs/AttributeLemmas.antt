@@ -1,5 +1,5 @@
 -- A word without a fault is an attribute's, and the word of an attribute gives back its parts.
-use Rattle.std.proofs.Common.{◌≡◌, ℕ, ◌+◌, ◌*◌, ◌/◌, ◌%◌, ◌<◌, ◌==◌, ◌&&◌, Bool, true, false, not, cond, None, refl, sym, ◌∙◌, ap, subst, arith}
+use Rattle.std.proofs.Common.{◌≡◌, ℕ, ◌+◌, ◌*◌, ◌/◌, ◌%◌, ◌<◌, ◌==◌, ◌&&◌, Bool, true, false, not, None, refl, sym, ◌∙◌, ap, subst, arith}
 use Rattle.std.proofs.Props.{props}
 use Rattle.std.specs.Bool.{then_some}
 use Rattle.std.proofs.lemmas.Bool.Decides.{nat_tests}
@@ -9,7 +9,7 @@ use Rattle.sercos_idn.specs.declared.kinds.Length.TheVariants.{Two, Four, List1,
 use Rattle.sercos_idn.specs.declared.kinds.Form.{Form}
 use Rattle.sercos_idn.specs.declared.kinds.Form.TheVariants as forms
 use Rattle.sercos_idn.specs.Codes.{length_code, form_code, is_length, is_form, has_bit, length_bits, form_bits, attribute_fault}
-use Rattle.sercos_idn.specs.Attributes.{bit_of, attribute_word}
+use Rattle.sercos_idn.specs.Attributes.{bit_of, attribute_word, length_of, form_of, attribute_of}
 use Rattle.sercos_model.proofs.FaultLemmas.{none_of-or, none_of-then}
 
 -- a word as the sum of its parts
@@ -216,22 +216,14 @@ attribute_fault-attribute_word a fits = good (attribute_word a) (HasParts-attrib
     good word parts = rw (parts.length, length_good a.length, parts.command, command_good a.command a.length a.command_is_two, parts.form, form_good a.form, parts.unused, parts.highest) refl
 
 -- an attribute has one word
-length_by : ℕ → Length
-length_by code = cond (code == 1) Two (cond (code == 2) Four (cond (code == 4) List1 (cond (code == 5) List2 List4)))
-
-length_again : (length : Length) → length_by (length_code length) ≡ length
-unfolding length_by
+length_again : (length : Length) → length_of (length_code length) ≡ length
 length_again Two = refl
 length_again Four = refl
 length_again List1 = refl
 length_again List2 = refl
 length_again List4 = refl
 
-form_by : ℕ → Form
-form_by code = cond (code == 0) forms.Binary (cond (code == 1) forms.Unsigned (cond (code == 2) forms.Signed (cond (code == 3) forms.Hexadecimal (cond (code == 4) forms.Text forms.Idn))))
-
-form_again : (form : Form) → form_by (form_code form) ≡ form
-unfolding form_by
+form_again : (form : Form) → form_of (form_code form) ≡ form
 form_again forms.Binary = refl
 form_again forms.Unsigned = refl
 form_again forms.Signed = refl
@@ -283,12 +275,33 @@ attribute_word-injective a b fa fb e = same (attribute_word b) (rw e at (HasPart
     same : (word : ℕ) → HasParts word a → HasParts word b → a ≡ b
     same word pa pb =
         let factor : a.factor ≡ b.factor = sym pa.factor ∙ pb.factor in
-        let length : a.length ≡ b.length = sym (length_again a.length) ∙ ap length_by (sym pa.length ∙ pb.length) ∙ length_again b.length in
+        let length : a.length ≡ b.length = sym (length_again a.length) ∙ ap length_of (sym pa.length ∙ pb.length) ∙ length_again b.length in
         let command : a.command ≡ b.command = same_bit _ a.command b.command pa.command pb.command in
-        let form : a.form ≡ b.form = sym (form_again a.form) ∙ ap form_by (sym pa.form ∙ pb.form) ∙ form_again b.form in
+        let form : a.form ≡ b.form = sym (form_again a.form) ∙ ap form_of (sym pa.form ∙ pb.form) ∙ form_again b.form in
         let decimals : a.decimals ≡ b.decimals = sym pa.decimals ∙ pb.decimals in
         let protect2 : a.protect2 ≡ b.protect2 = same_bit _ a.protect2 b.protect2 pa.protect2 pb.protect2 in
         let protect3 : a.protect3 ≡ b.protect3 = same_bit _ a.protect3 b.protect3 pa.protect3 pb.protect3 in
         let protect4 : a.protect4 ≡ b.protect4 = same_bit _ a.protect4 b.protect4 pa.protect4 pb.protect4 in
         let parts : parts_of a ≡ parts_of b = cc in
         same_parts (parts_of a) (parts_of b) (a.decimals_in_range, a.command_is_two) (b.decimals_in_range, b.command_is_two) parts
+
+-- a word without a fault is that of the attribute that it is
+length_code_again : (code : ℕ) → is_length code ≡ true → length_code (length_of code) ≡ code
+length_code_again code h = grind (arith, nat_tests)
+
+form_code_again : (code : ℕ) → is_form code ≡ true → form_code (form_of code) ≡ code
+form_code_again code h = grind (arith, nat_tests)
+
+command_again : (set : Bool) (code : ℕ) → (set ≡ true → code ≡ 1) → (set && (code == 1)) ≡ set
+command_again true code one = rw (one refl) refl
+command_again false code one = refl
+
+pub attribute_word-attribute_of : (word : ℕ) → word < 4294967296 → IsSound word → attribute_word (attribute_of word) ≡ word
+unfolding attribute_of
+attribute_word-attribute_of word small is =
+    rw (command_again (has_bit word 19) (length_bits word) is.command)
+    (word_again word _ _ small is (length_code_again (length_bits word) is.length) (form_code_again (form_bits word) is.form))
+
+pub attribute_of-factor : (word : ℕ) → (attribute_of word).factor < 65536
+unfolding attribute_of
+attribute_of-factor word = omega arith

@@ -1,5 +1,5 @@
 -- The codes and bits of a data block's attribute, after IEC 61491:1995.
-use Rattle.std.specs.Prelude.{ℕ, ◌/◌, ◌%◌, ◌^◌, ◌==◌, nat_le, Bool, not, ◌||◌, ◌&&◌, Option}
+use Rattle.std.specs.Prelude.{ℕ, ◌/◌, ◌%◌, ◌^◌, ◌==◌, nat_le, Bool, true, false, not, ◌||◌, ◌&&◌, Option}
 use Rattle.std.specs.Bool.{then_some}
 use Rattle.std.specs.Option.{option_or}
 use Rattle.sercos_idn.specs.declared.kinds.Length.{Length}
@@ -17,6 +17,20 @@ length_code List4 = 6
 
 abbrev pub is_length : ℕ → Bool
 is_length code = not ((code == 0) || (code == 3) || nat_le 7 code)
+
+-- whether the operation data is a list of variable length
+abbrev pub is_list : Length → Bool
+is_list Two = false
+is_list Four = false
+is_list _ = true
+
+-- the bytes of a value, or of an item of a list
+abbrev pub item_len : Length → ℕ
+item_len Two = 2
+item_len Four = 4
+item_len List1 = 1
+item_len List2 = 2
+item_len List4 = 4
 
 -- the codes of the display forms, bits 22 to 20; 6 and 7 are none
 abbrev pub form_code : Form → ℕ

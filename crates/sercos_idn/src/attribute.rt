@@ -7,23 +7,23 @@ use crate::kinds::{
 };
 
 // The parts of the word, as the numbers that their lowest bits stand for.
-const LENGTH: u32 = 65536;
+const LENGTH: u32 = 0x0001_0000;
 
-const COMMAND: u32 = 524288;
+const COMMAND: u32 = 0x0008_0000;
 
-const FORM: u32 = 1048576;
+const FORM: u32 = 0x0010_0000;
 
-const UNUSED: u32 = 8388608;
+const UNUSED: u32 = 0x0080_0000;
 
-const DECIMALS: u32 = 16777216;
+const DECIMALS: u32 = 0x0100_0000;
 
-const PROTECT2: u32 = 268435456;
+const PROTECT2: u32 = 0x1000_0000;
 
-const PROTECT3: u32 = 536870912;
+const PROTECT3: u32 = 0x2000_0000;
 
-const PROTECT4: u32 = 1073741824;
+const PROTECT4: u32 = 0x4000_0000;
 
-const HIGHEST: u32 = 2147483648;
+const HIGHEST: u32 = 0x8000_0000;
 
 // How many codes a part of three bits has, and how many numbers of decimal places there are.
 const CODES: u32 = 8;
@@ -102,12 +102,13 @@ pub struct BadAttribute {
 }
 
 impl Attribute {
-    ghost use Rattle.sercos_idn.specs.Attributes.{attribute_word};
+    ghost use Rattle.sercos_idn.specs.Attributes.{attribute_word, attribute_of};
 
     /// The attribute that a word is. One attribute has one word, which `write` gives; any other word is refused at the
     /// first bit that is.
     pub fn read(word: u32) -> Result<Attribute, BadAttribute>
         ensures ok { IfOk result (λ attribute. attribute_word attribute ≡ word) }
+        ensures value { IfOk result (λ attribute. attribute ≡ attribute_of word) }
         ensures only { (attribute : Attribute) → attribute.factor < 2 ^ 16 → attribute_word attribute ≡ word → result ≡ Ok attribute }
         ensures fault { MatchResult result (λ _. attribute_fault word ≡ None) (λ bad. attribute_fault word ≡ Some bad.bit) }
     {
@@ -135,7 +136,8 @@ impl Attribute {
     // The attribute that a word without a fault is.
     fn of_word(word: u32) -> Attribute
         requires { attribute_fault word ≡ None }
-        ensures value { attribute_word result ≡ word }
+        ensures word { attribute_word result ≡ word }
+        ensures value { result ≡ attribute_of word }
         ensures factor { result.factor < 2 ^ 16 }
     {
         Attribute {

@@ -148,7 +148,7 @@ fn spelled_raw(text: &[u8]) -> u16
 /// An identifier number (IDN) of a data block, after IEC 61491:1995.
 ///
 /// Its text is `S-0-0127`: the letter, the parameter set and the number.
-#[derive(Clone, Copy, Debug, PartialEq, Eq, PartialOrd, Ord)]
+#[derive(Clone, Copy, Debug, Default, PartialEq, Eq, PartialOrd, Ord)]
 pub struct Idn {
     /// The sixteen bits: bit 15 is 0 for S, the standard's numbers, and 1 for P, those of the product; bits 14 to 12 are
     /// the parameter set, bits 11 to 0 the number.

@@ -20,6 +20,33 @@ pub enum Length {
     List4,
 }
 
+impl Length {
+    ghost use Rattle.std.specs.Prelude.{◌≤◌};
+    ghost use Rattle.sercos_idn.specs.Codes.{is_list, item_len};
+
+    /// Whether the operation data is a list of variable length.
+    pub fn is_list(self) -> bool
+        ensures { result ≡ is_list self }
+    {
+        match self {
+            Length::Two | Length::Four => false,
+            Length::List1 | Length::List2 | Length::List4 => true,
+        }
+    }
+
+    /// How many bytes the value has, or each item of the list: 1, 2 or 4.
+    pub fn item_len(self) -> usize
+        ensures value { result ≡ item_len self }
+        ensures bounds { (1 ≤ result) × (result ≤ 4) }
+    {
+        match self {
+            Length::List1 => 1,
+            Length::Two | Length::List2 => 2,
+            Length::Four | Length::List4 => 4,
+        }
+    }
+}
+
 /// How operation data is shown.
 #[derive(Clone, Copy, Debug, PartialEq, Eq)]
 pub enum Form {

@@ -10,4 +10,4 @@ returns-in-Some-clause-only c = λ attribute fits is.
 
 pub returns-in-None-clause-only : goal.returns-in-None-clause-only
 returns-in-None-clause-only c = λ attribute fits is.
-    ap (λ a. Ok a) (attribute_word-injective c.of_word.result attribute c.of_word.ensures.factor fits (c.of_word.ensures.value ∙ sym is))
+    ap (λ a. Ok a) (attribute_word-injective c.of_word.result attribute c.of_word.ensures.factor fits (c.of_word.ensures.word ∙ sym is))

@@ -1,0 +1,30 @@
+// A data block.
+use sercos_bits::Text;
+use sercos_idn::{Attribute, Idn};
+
+/// A data block of a drive, after IEC 61491:1995: its seven elements, and what the drive makes of them.
+#[derive(Clone, Debug, PartialEq, Eq, Drop)]
+pub struct Block {
+    /// The identifier number, element 1.
+    pub idn: Idn,
+    /// The attribute, element 3.
+    pub attribute: Attribute,
+    /// The name, element 2: 1 to 60 printable bytes, where there is one.
+    pub name: Option<Text>,
+    /// The unit, element 4: 1 to 12 printable bytes, where there is one.
+    pub unit: Option<Text>,
+    /// The bits of the minimum, element 5, where there is one.
+    pub min: Option<u32>,
+    /// The bits of the maximum, element 6, where there is one.
+    pub max: Option<u32>,
+    /// The operation data, element 7: the bytes of a number, low byte first, or of a list.
+    pub value: Text,
+    /// The most bytes of the list; 0 where the operation data is no list.
+    pub max_len: u16,
+    /// Whether the operation data can never be written. Neither can that of a block with a step.
+    pub fixed: bool,
+    /// How much the number grows in each cycle.
+    pub step: u32,
+    /// Whether the procedure command ends with an error.
+    pub fails: bool,
+}

@@ -1,0 +1,177 @@
+// The rules that a drive's own data blocks keep.
+ghost use Rattle.std.specs.Prelude.{◌≡◌, ◌==◌, []};
+ghost use Rattle.std.specs.Result.{result_err};
+ghost use Rattle.std.specs.List.{list_all};
+ghost use Rattle.sercos_block.specs.Blocks.{is_number};
+ghost use Rattle.sercos_block.specs.Rules.{has_block, is_printable, is_text, is_limit, is_max_len, is_value, is_step, block_fault, blocks_fault};
+
+use crate::block::Block;
+use crate::built_in::is_built_in;
+use crate::setup::DriveSetup;
+use sercos_bits::Text;
+use sercos_idn::{Attribute, Idn, Length};
+
+/// Which part of a data block breaks a rule.
+#[derive(Clone, Copy, Debug, PartialEq, Eq)]
+pub enum Field {
+    /// A built-in block, or an earlier one of the drive, has the identifier number.
+    Idn,
+    /// The name has not 1 to 60 bytes, or one that isn't printable.
+    Name,
+    /// The unit has not 1 to 12 bytes, or one that isn't printable.
+    Unit,
+    /// There is a minimum and the operation data isn't a number, or the minimum has more bits than the number.
+    Min,
+    /// The same of the maximum.
+    Max,
+    /// The most bytes of a list aren't 1 to 1024 or no whole items; or they aren't 0 and there is no list.
+    MaxLen,
+    /// The operation data of a list has more than the most bytes, or no whole items; that of a number has another length;
+    /// or that of a procedure command isn't 0.
+    Value,
+    /// There is a step and the operation data isn't a number, or it has a minimum or a maximum.
+    Step,
+    /// The block is to fail and is no procedure command.
+    Fails,
+}
+
+/// A data block that a drive can't have.
+#[derive(Clone, Copy, Debug, PartialEq, Eq)]
+pub struct BadBlock {
+    /// The place of the block in the setup, from 0 on.
+    pub index: usize,
+    /// The part that breaks a rule.
+    pub field: Field,
+}
+
+// Whether one of the blocks has the identifier number.
+fn has_block(blocks: &[Block], idn: Idn) -> bool
+    ensures { result ≡ has_block idn.raw blocks.now }
+{
+    blocks.iter().any(|block| block.idn == idn)
+}
+
+// Whether all bytes can be printed.
+fn are_printable(bytes: &[u8]) -> bool
+    ensures { result ≡ list_all is_printable bytes.now }
+{
+    bytes.iter().all(|byte| 0x20 <= *byte && *byte <= 0x7e)
+}
+
+// Whether a name or a unit can stand.
+fn is_text(text: &Option<Text>, most: usize) -> bool
+    ensures { result ≡ is_text most text.now }
+{
+    match text {
+        None => true,
+        Some(text) => {
+            let bytes = text.as_slice();
+            1 <= bytes.len() && bytes.len() <= most && are_printable(bytes)
+        }
+    }
+}
+
+// Whether the operation data is one number.
+pub(crate) fn is_number(attribute: &Attribute) -> bool
+    ensures { result ≡ is_number attribute.now }
+{
+    !attribute.length.is_list() && !attribute.command
+}
+
+// Whether a minimum or a maximum can stand.
+fn is_limit(attribute: &Attribute, limit: Option<u32>) -> bool
+    ensures { result ≡ is_limit attribute.now limit }
+{
+    match limit {
+        None => true,
+        Some(bits) => is_number(attribute) && (attribute.length != Length::Two || bits < 0x1_0000),
+    }
+}
+
+// Whether these can be the most bytes of the list, or of what is none.
+fn is_max_len(attribute: &Attribute, most: u16) -> bool
+    ensures { result ≡ is_max_len attribute.now most }
+{
+    if attribute.length.is_list() {
+        1 <= most && most <= 1024 && usize::from(most) % attribute.length.item_len() == 0
+    } else {
+        most == 0
+    }
+}
+
+// Whether all bytes are 0.
+fn are_zero(bytes: &[u8]) -> bool
+    ensures { result ≡ list_all (λ byte. byte == 0) bytes.now }
+{
+    bytes.iter().all(|byte| *byte == 0)
+}
+
+// Whether the operation data can stand.
+fn is_value(block: &Block) -> bool
+    ensures { result ≡ is_value block.now }
+{
+    let item = block.attribute.length.item_len();
+    let value = block.value.as_slice();
+    if block.attribute.length.is_list() {
+        value.len() <= usize::from(block.max_len) && value.len() % item == 0
+    } else {
+        value.len() == item && (!block.attribute.command || are_zero(value))
+    }
+}
+
+// Whether the step can stand.
+fn is_step(block: &Block) -> bool
+    ensures { result ≡ is_step block.now }
+{
+    block.step == 0 || is_number(&block.attribute) && block.min.is_none() && block.max.is_none()
+}
+
+// The first rule that a block breaks behind these.
+#[tactic(auto, unfolding(crate::specs::Rules::block_fault))]
+fn block_fault(before: &[Block], block: &Block) -> Option<Field>
+    ensures { result ≡ block_fault before.now block.now }
+{
+    if is_built_in(block.idn) || has_block(before, block.idn) {
+        return Some(Field::Idn);
+    }
+    if !is_text(&block.name, 60) {
+        return Some(Field::Name);
+    }
+    if !is_text(&block.unit, 12) {
+        return Some(Field::Unit);
+    }
+    if !is_limit(&block.attribute, block.min) {
+        return Some(Field::Min);
+    }
+    if !is_limit(&block.attribute, block.max) {
+        return Some(Field::Max);
+    }
+    if !is_max_len(&block.attribute, block.max_len) {
+        return Some(Field::MaxLen);
+    }
+    if !is_value(block) {
+        return Some(Field::Value);
+    }
+    if !is_step(block) {
+        return Some(Field::Step);
+    }
+    if block.fails && !block.attribute.command {
+        return Some(Field::Fails);
+    }
+    None
+}
+
+/// Whether the drive can have its data blocks beside the built-in ones; else the first block that breaks a rule, and the
+/// first rule that it breaks, in the order of [`Field`].
+#[tactic(auto, unfolding(crate::specs::Rules::blocks_fault))]
+pub fn check_blocks(setup: &DriveSetup) -> Result<(), BadBlock>
+    ensures { result_err result ≡ blocks_fault [] setup.now.blocks }
+{
+    let blocks = setup.blocks.as_slice();
+    for index in 0..blocks.len() {
+        if let Some(field) = block_fault(&blocks[..index], &blocks[index]) {
+            return Err(BadBlock { index, field });
+        }
+    }
+    Ok(())
+}

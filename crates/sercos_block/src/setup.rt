@@ -1,0 +1,85 @@
+// What a drive is made of.
+use crate::block::Block;
+use arrayvec::ArrayVec;
+use sercos_idn::Idn;
+use sercos_timing::Times;
+use std::marker::Model;
+
+/// What a drive is made of. Contracts see the record of its fields, each vector as the list of its items.
+#[derive(Drop)]
+pub struct DriveSetup {
+    /// The address, 1 to 254.
+    pub address: u8,
+    /// The slave that the drive belongs to, 1 to 254.
+    pub slave: u8,
+    /// For how many cycles the drive is busy with a step of the service channel.
+    pub busy: u8,
+    /// For how many cycles a procedure command runs.
+    pub command: u16,
+    /// The times that the drive declares.
+    pub times: Times,
+    /// The shortest cycle time that it takes, in microseconds.
+    pub cycle_min: u16,
+    /// The longest cycle time that it takes, in microseconds.
+    pub cycle_max: u16,
+    /// What its AT carries.
+    pub at: ArrayVec<Idn, 16>,
+    /// What its data record in the MDT carries.
+    pub mdt: ArrayVec<Idn, 16>,
+    /// Its data blocks beside the built-in ones.
+    pub blocks: Vec<Block>,
+}
+
+impl Model for DriveSetup {
+    ghost use Rattle.sercos_block.specs.Views.{DriveView};
+
+    ghost Value = { DriveView };
+
+    ghost view = { λ d. record {
+      address = d.address;
+      slave = d.slave;
+      busy = d.busy;
+      command = d.command;
+      times = d.times;
+      cycle_min = d.cycle_min;
+      cycle_max = d.cycle_max;
+      at = d.at.items;
+      mdt = d.mdt.items;
+      blocks = d.blocks.items;
+    } };
+}
+
+/// What a ring is made of. Contracts see the record of its fields, each vector as the list of its items.
+#[derive(Drop)]
+pub struct RingSetup {
+    /// The rate, in bits per microsecond: 2 or 4.
+    pub rate: u8,
+    /// The cycle time, in microseconds.
+    pub cycle: u16,
+    /// The control unit cycle time, in microseconds.
+    pub control: u16,
+    /// The gap between telegrams, in microseconds.
+    pub gap: u16,
+    /// How many cycles the ring runs.
+    pub cycles: u32,
+    /// The order of the ATs in the cycle: places in `drives`.
+    pub order: ArrayVec<u8, 64>,
+    /// The drives in the order of the ring.
+    pub drives: Vec<DriveSetup>,
+}
+
+impl Model for RingSetup {
+    ghost use Rattle.sercos_block.specs.Views.{RingView};
+
+    ghost Value = { RingView };
+
+    ghost view = { λ r. record {
+      rate = r.rate;
+      cycle = r.cycle;
+      control = r.control;
+      gap = r.gap;
+      cycles = r.cycles;
+      order = r.order.items;
+      drives = r.drives.items;
+    } };
+}
