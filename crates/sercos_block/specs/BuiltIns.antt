@@ -31,13 +31,9 @@ opening_max_len (Empty most) = most
 opening_max_len _ = 0
 
 -- the cycle time has the limits that the drive declares
-abbrev pub opening_min : DriveView → Opening → Option ℕ
-opening_min d CycleTime = Some d.cycle_min
-opening_min d _ = None
-
-abbrev pub opening_max : DriveView → Opening → Option ℕ
-opening_max d CycleTime = Some d.cycle_max
-opening_max d _ = None
+abbrev pub opening_limit : Opening → ℕ → Option ℕ
+opening_limit CycleTime limit = Some limit
+opening_limit _ limit = None
 
 -- the built-in block of a row of the table: it has no name, no unit and no step, and never fails
 abbrev pub built_in_block : DriveView → BuiltIn → Block
@@ -46,8 +42,8 @@ built_in_block d row = record {
   attribute = attribute_of row.attribute;
   name = None;
   unit = None;
-  min = opening_min d row.opening;
-  max = opening_max d row.opening;
+  min = opening_limit row.opening d.cycle_min;
+  max = opening_limit row.opening d.cycle_max;
   value = opening_value d row.opening;
   max_len = opening_max_len row.opening;
   fixed = row.fixed;

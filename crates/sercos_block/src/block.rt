@@ -1,9 +1,12 @@
 // A data block.
+ghost use Rattle.std.specs.Prelude.{◌≡◌, IfOk};
+
 use sercos_bits::Text;
 use sercos_idn::{Attribute, Idn};
+use std::alloc::AllocError;
 
 /// A data block of a drive, after IEC 61491:1995: its seven elements, and what the drive makes of them.
-#[derive(Clone, Debug, PartialEq, Eq, Drop)]
+#[derive(Debug, PartialEq, Eq, Drop)]
 pub struct Block {
     /// The identifier number, element 1.
     pub idn: Idn,
@@ -27,4 +30,36 @@ pub struct Block {
     pub step: u32,
     /// Whether the procedure command ends with an error.
     pub fails: bool,
+}
+
+// A copy of a name or a unit.
+fn copied(text: &Option<Text>) -> Result<Option<Text>, AllocError>
+    ensures { IfOk result (λ copy. copy ≡ text.now) }
+{
+    match text {
+        None => Ok(None),
+        Some(text) => Ok(Some(text.clone()?)),
+    }
+}
+
+impl Clone for Block {
+    ghost use Rattle.std.specs.Prelude.{◌≡◌};
+
+    ghost is_clone = { λ block clone. clone ≡ block };
+
+    fn clone(&self) -> Result<Block, AllocError> {
+        Ok(Block {
+            idn: self.idn,
+            attribute: self.attribute,
+            name: copied(&self.name)?,
+            unit: copied(&self.unit)?,
+            min: self.min,
+            max: self.max,
+            value: self.value.clone()?,
+            max_len: self.max_len,
+            fixed: self.fixed,
+            step: self.step,
+            fails: self.fails,
+        })
+    }
 }

@@ -1,14 +1,18 @@
 // The data blocks that every drive has.
-ghost use Rattle.std.specs.Prelude.{◌≡◌};
-ghost use Rattle.sercos_block.specs.BuiltIns.{is_built_in};
+ghost use Rattle.std.specs.Prelude.{◌≡◌, None};
+ghost use Rattle.std.specs.Int.{w16, to_le_bytes};
+ghost use Rattle.sercos_idn.specs.Codes.{attribute_fault};
+ghost use Rattle.sercos_block.specs.BuiltIns.{is_built_in, opening_value, opening_max_len, opening_limit, built_in_block};
 
+use crate::block::Block;
 use crate::numbers::{
     AT_LIST, CONTROL_CYCLE_TIME, CYCLE_TIME, INVALID_FOR_PHASE_2, INVALID_FOR_PHASE_3, MDT_LENGTH,
     MDT_LIST, PHASE_3_CHECK, PHASE_4_CHECK, POSITION, T1, T1MIN, T2, T3, T4, T4MIN, TATAT, TATMT,
     TELEGRAM_TYPE, TMTSG, TMTSY,
 };
-use sercos_idn::Idn;
-
+use crate::setup::DriveSetup;
+use sercos_bits::Text;
+use sercos_idn::{Attribute, Idn};
 /// What the operation data of a built-in block is at opening.
 #[derive(Clone, Copy, Debug, PartialEq, Eq)]
 pub enum Opening {
@@ -191,6 +195,74 @@ pub const BUILT_IN: [BuiltIn; 21] = [
         opening: Opening::Zero,
     },
 ];
+
+// The bytes of a number.
+fn number_text(number: u16) -> Text
+    ensures { result ≡ to_le_bytes w16 number }
+{
+    let mut text = Text::new();
+    text.assign(&number.to_le_bytes());
+    text
+}
+
+// The operation data at opening.
+fn opening_value(setup: &DriveSetup, opening: Opening) -> Text
+    ensures { result ≡ opening_value setup.now opening }
+{
+    match opening {
+        Opening::Zero | Opening::CycleTime => number_text(0),
+        Opening::T1min => number_text(setup.times.t1min),
+        Opening::Tatmt => number_text(setup.times.tatmt),
+        Opening::T4min => number_text(setup.times.t4min),
+        Opening::Tatat => number_text(setup.times.tatat),
+        Opening::Tmtsy => number_text(setup.times.tmtsy),
+        Opening::Tmtsg => number_text(setup.times.tmtsg),
+        Opening::Empty(_) => Text::new(),
+    }
+}
+
+// The most bytes of the list.
+fn opening_max_len(opening: Opening) -> u16
+    ensures { result ≡ opening_max_len opening }
+{
+    match opening {
+        Opening::Empty(most) => most,
+        _ => 0,
+    }
+}
+
+// A limit of the cycle time, where the block has it.
+fn opening_limit(opening: Opening, limit: u16) -> Option<u32>
+    ensures { result ≡ opening_limit opening limit }
+{
+    match opening {
+        Opening::CycleTime => Some(u32::from(limit)),
+        _ => None,
+    }
+}
+
+// The built-in block of a row of the table.
+pub(crate) fn built_in_block(setup: &DriveSetup, row: &BuiltIn) -> Block
+    requires { attribute_fault row.now.attribute ≡ None }
+    ensures { result ≡ built_in_block setup.now row.now }
+{
+    let Ok(attribute) = Attribute::read(row.attribute) else {
+        unreachable!()
+    };
+    Block {
+        idn: row.idn,
+        attribute,
+        name: None,
+        unit: None,
+        min: opening_limit(row.opening, setup.cycle_min),
+        max: opening_limit(row.opening, setup.cycle_max),
+        value: opening_value(setup, row.opening),
+        max_len: opening_max_len(row.opening),
+        fixed: row.fixed,
+        step: 0,
+        fails: false,
+    }
+}
 
 /// Whether every drive has a block with this identifier number.
 pub fn is_built_in(idn: Idn) -> bool

@@ -4,10 +4,14 @@
 mod block;
 mod built_in;
 mod check;
+mod entry;
 pub mod numbers;
 mod setup;
+mod store;
+mod write;
 
 pub use block::Block;
 pub use built_in::{BUILT_IN, BuiltIn, Opening, is_built_in};
 pub use check::{BadBlock, Field, check_blocks};
 pub use setup::{DriveSetup, RingSetup};
+pub use store::Store;

@@ -1,0 +1,3 @@
+pub mod SoundLemmas
+pub mod PutLemmas
+pub mod OpenLemmas

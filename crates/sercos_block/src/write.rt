@@ -1,0 +1,164 @@
+// Why operation data can't be written.
+ghost use Rattle.std.specs.Prelude.{◌≡◌, ◌≤◌, ◌<◌, IfSome, int_lt, length, option_map, true, false, None};
+ghost use Rattle.sercos_idn.specs.Codes.{is_list, item_len};
+ghost use Rattle.sercos_block.specs.Blocks.{bits_in, number_end, meant, is_fixed, is_protected};
+ghost use Rattle.sercos_block.specs.Stores.{is_short, is_long, is_invalid, is_below, is_above, write_fault, data_fault, is_sound};
+
+use crate::block::Block;
+use crate::check::is_number;
+use sercos_idn::{Attribute, Code, Form, Length};
+
+// Whether the operation data can never be written.
+fn is_fixed(block: &Block) -> bool
+    ensures { result ≡ is_fixed block.now }
+{
+    block.fixed || block.step > 0
+}
+
+// Whether the operation data is write protected in a phase from 2 to 4.
+fn is_protected(attribute: &Attribute, phase: u8) -> bool
+    ensures { result ≡ is_protected attribute.now phase }
+{
+    if phase == 2 {
+        attribute.protect2
+    } else if phase == 3 {
+        attribute.protect3
+    } else {
+        attribute.protect4
+    }
+}
+
+// The first cause for which the operation data of a block can't be written in a phase.
+#[tactic(auto, unfolding(crate::specs::Stores::write_fault))]
+pub(crate) fn write_fault(block: &Block, phase: u8) -> Option<Code>
+    ensures { option_map (λ code. code.raw) result ≡ write_fault (Some block.now) phase }
+{
+    if is_fixed(block) {
+        return Some(Code::FIXED);
+    }
+    if is_protected(&block.attribute, phase) {
+        return Some(Code::PROTECTED_NOW);
+    }
+    None
+}
+
+// Whether there are fewer bytes than the value has.
+fn is_short(block: &Block, bytes: &[u8]) -> bool
+    ensures { result ≡ is_short block.now bytes.now }
+{
+    !block.attribute.length.is_list() && bytes.len() < block.attribute.length.item_len()
+}
+
+// Whether there are more bytes than the value has, or than the list can have.
+fn is_long(block: &Block, bytes: &[u8]) -> bool
+    ensures { result ≡ is_long block.now bytes.now }
+{
+    let most = if block.attribute.length.is_list() {
+        usize::from(block.max_len)
+    } else {
+        block.attribute.length.item_len()
+    };
+    bytes.len() > most
+}
+
+// The bits of the number that the bytes of a value are.
+fn bits_in(attribute: &Attribute, bytes: &[u8]) -> u32
+    requires value { is_list attribute.now.length ≡ false }
+    requires len { length bytes.now ≡ item_len attribute.now.length }
+    ensures value { result ≡ bits_in attribute.now bytes.now }
+    ensures bound { result < number_end attribute.now.length }
+{
+    if attribute.length == Length::Two {
+        u32::from(u16::from_le_bytes([bytes[0], bytes[1]]))
+    } else {
+        u32::from_le_bytes([bytes[0], bytes[1], bytes[2], bytes[3]])
+    }
+}
+
+// The number that bits mean.
+fn meant(attribute: &Attribute, bits: u32) -> i64
+    requires { bits < number_end attribute.now.length }
+    ensures { result ≡ meant attribute.now bits }
+{
+    if attribute.form == Form::Signed {
+        if attribute.length == Length::Two {
+            i64::from((bits as u16).cast_signed())
+        } else {
+            i64::from(bits.cast_signed())
+        }
+    } else {
+        i64::from(bits)
+    }
+}
+
+// Whether one number is less than another, each given by its bits.
+fn is_less(attribute: &Attribute, first: u32, second: u32) -> bool
+    requires first { first < number_end attribute.now.length }
+    requires second { second < number_end attribute.now.length }
+    ensures { result ≡ int_lt (meant attribute.now first) (meant attribute.now second) }
+{
+    meant(attribute, first) < meant(attribute, second)
+}
+
+// Whether the bytes, of which there are as many as a value has, are no value.
+fn is_invalid(block: &Block, bytes: &[u8]) -> bool
+    requires { is_list block.now.attribute.length ≡ false → length bytes.now ≡ item_len block.now.attribute.length }
+    ensures { result ≡ is_invalid block.now bytes.now }
+{
+    let attribute = &block.attribute;
+    if attribute.length.is_list() {
+        return bytes.len() % attribute.length.item_len() != 0;
+    }
+    let bits = bits_in(attribute, bytes);
+    attribute.command && !(bits == 0 || bits == 3)
+}
+
+// Whether the number lies below the minimum, if there is one.
+fn is_below(block: &Block, bytes: &[u8], limit: Option<u32>) -> bool
+    requires len { is_list block.now.attribute.length ≡ false → length bytes.now ≡ item_len block.now.attribute.length }
+    requires limit { IfSome limit (λ bits. bits < number_end block.now.attribute.length) }
+    ensures { result ≡ is_below block.now bytes.now limit }
+{
+    let attribute = &block.attribute;
+    match limit {
+        Some(bits) if is_number(attribute) => is_less(attribute, bits_in(attribute, bytes), bits),
+        _ => false,
+    }
+}
+
+// Whether the number lies above the maximum, if there is one.
+fn is_above(block: &Block, bytes: &[u8], limit: Option<u32>) -> bool
+    requires len { is_list block.now.attribute.length ≡ false → length bytes.now ≡ item_len block.now.attribute.length }
+    requires limit { IfSome limit (λ bits. bits < number_end block.now.attribute.length) }
+    ensures { result ≡ is_above block.now bytes.now limit }
+{
+    let attribute = &block.attribute;
+    match limit {
+        Some(bits) if is_number(attribute) => is_less(attribute, bits, bits_in(attribute, bytes)),
+        _ => false,
+    }
+}
+
+// The first cause for which bytes can't be the operation data of a block.
+#[tactic(auto, using(crate::proofs::SoundLemmas::min_below, crate::proofs::SoundLemmas::max_below), unfolding(crate::specs::Stores::data_fault))]
+pub(crate) fn data_fault(block: &Block, bytes: &[u8]) -> Option<Code>
+    requires { is_sound block.now ≡ true }
+    ensures { option_map (λ code. code.raw) result ≡ data_fault block.now bytes.now }
+{
+    if is_short(block, bytes) {
+        return Some(Code::TOO_SHORT);
+    }
+    if is_long(block, bytes) {
+        return Some(Code::TOO_LONG);
+    }
+    if is_invalid(block, bytes) {
+        return Some(Code::INVALID);
+    }
+    if is_below(block, bytes, block.min) {
+        return Some(Code::BELOW_MINIMUM);
+    }
+    if is_above(block, bytes, block.max) {
+        return Some(Code::ABOVE_MAXIMUM);
+    }
+    None
+}
