@@ -1,3 +1,4 @@
 pub mod SoundLemmas
 pub mod PutLemmas
 pub mod OpenLemmas
+mod Worked

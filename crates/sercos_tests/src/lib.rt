@@ -11,3 +11,5 @@ mod identifiers;
 mod layers;
 #[cfg(test)]
 mod show;
+#[cfg(test)]
+mod stores;
