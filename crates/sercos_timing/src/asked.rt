@@ -20,13 +20,15 @@ pub enum StartRule {
 }
 
 /// The bit time at which the AT of the drive at a place of the ring has ended, where it starts at its T1, and so many
-/// microseconds more have passed. `t1` has the T1 of each drive in microseconds, in the order of the ring.
+/// microseconds more have passed, below 65,536. `t1` has the T1 of each drive in microseconds, in the order of the ring.
 pub fn after(w: &Wishes, t1: &[u32], place: usize, micros: u32) -> u64
     requires valid { IsValid w.now }
     requires count { length t1.now ≡ length w.now.drives }
     requires within { place < length w.now.drives }
+    requires micros { micros < 65536 }
     ensures value { result ≡ bits_of w.now t1.now place + (at_bits w.now place + w.now.rate * micros) }
-    ensures limit { result < 2 ^ 42 }
+    ensures range { result < 2 ^ 42 }
+    ensures limit { (n : ℕ) → slice_index t1.now place ≤ n → result ≤ w.now.rate * (n + 66_300) }
 {
     w.bits(t1[place]) + (w.at_bits(place) + w.bits(micros))
 }
@@ -36,9 +38,12 @@ fn after_at(w: &Wishes, t1: &[u32], at: Option<usize>, micros: u32) -> Option<u6
     requires valid { IsValid w.now }
     requires count { length t1.now ≡ length w.now.drives }
     requires within { IfSome at (λ i. i < length w.now.order) }
+    requires micros { micros < 65536 }
     ensures value { result
         ≡ option_map (λ k. bits_of w.now t1.now k + (at_bits w.now k + w.now.rate * micros)) (place_at w.now at) }
-    ensures limit { IfSome result (λ asked. asked < 2 ^ 42) }
+    ensures range { IfSome result (λ asked. asked < 2 ^ 42) }
+    ensures limit { (n : ℕ) → ((j : ℕ) → slice_index t1.now j ≤ n)
+        → IfSome result (λ asked. asked ≤ w.now.rate * (n + 66_300)) }
 {
     match at {
         Some(i) => Some(after(w, t1, usize::from(w.order()[i]), micros)),
@@ -54,7 +59,9 @@ pub fn asked_of_start(w: &Wishes, t1: &[u32], rule: StartRule, at: usize) -> Opt
     requires within { at < length w.now.order }
     ensures value { result
         ≡ asked_of_start w.now rule (bits_of w.now t1.now) (slice_index w.now.order at) (first_sent w.now.order at) }
-    ensures limit { IfSome result (λ asked. asked < 2 ^ 42) }
+    ensures range { IfSome result (λ asked. asked < 2 ^ 42) }
+    ensures limit { (n : ℕ) → ((j : ℕ) → slice_index t1.now j ≤ n)
+        → IfSome result (λ asked. asked ≤ w.now.rate * (n + 66_300)) }
 {
     let times = w.wish(usize::from(w.order()[at])).times;
     match rule {

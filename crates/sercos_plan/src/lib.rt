@@ -1,0 +1,7 @@
+//! The least plan of a ring's time slots.
+#![tactic(auto)]
+
+mod least;
+mod planning;
+
+pub use planning::{NoFit, plan};
