@@ -1,10 +1,8 @@
 -- What the answer that the least times give says of every plan.
-use Rattle.std.proofs.Common.{◌≡◌, ℕ, ◌-◌, ◌*◌, ◌<◌, true, List, length, refl, sym, ap, subst, ◌∙◌, arith, slice_index}
-use Rattle.std.specs.Prelude.{Result, Ok, Err, IfOk, OnErr, map, nat_le, ◌&&◌}
-use Rattle.std.specs.Result.{result_ok}
+use Rattle.std.proofs.Common.{◌≡◌, ℕ, ◌-◌, ◌*◌, ◌<◌, true, false, inl, inr, List, length, refl, sym, ap, subst, ◌∙◌, arith, slice_index}
+use Rattle.std.specs.Prelude.{Result, Ok, IfOk, OnErr, map, nat_le, ◌&&◌}
 use Rattle.std.specs.List.{range_with_len}
-use Rattle.std.proofs.lemmas.Bool.{leb-true, le-leb, and_parts, and_from, cond-true}
-use Rattle.std.proofs.lemmas.Option.{cond_some, none-some}
+use Rattle.std.proofs.lemmas.Bool.{leb-true, le-leb, and_parts, and_from, cond-true, cond-false, cases_Bool, false≢true}
 use Rattle.std.proofs.lemmas.List.FromFn.{length-map-range_with_len, get_or-map-range_with_len}
 use Rattle.std.proofs.lemmas.Grind.{same_number_lists}
 use Rattle.sercos_timing.specs.Views.{WishesView, PlanView}
@@ -12,7 +10,9 @@ use Rattle.sercos_timing.specs.Order.{sent, record_bytes}
 use Rattle.sercos_timing.specs.Inequalities.{sum_9, bound_9, greatest_tmtsy, positions}
 use Rattle.sercos_timing.specs.Valid.{IsValid}
 use Rattle.sercos_plan.specs.Least.{IsLeast, NoneFits}
-use Rattle.sercos_plan.specs.LeastTimes.{least_t1, least_t2, least_t3, greatest_t4min, is_roomy, least_plan, planned}
+use Rattle.sercos_plan.specs.LeastTimes.{least_t1, least_t2, least_t3, greatest_t4min, is_roomy, least_plan}
+use Rattle.sercos_plan.specs.Views.{ChainView}
+use Rattle.sercos_plan.specs.ChainOf.{planned}
 use Rattle.sercos_plan.proofs.PlanLemmas.{IsRoomy, IsOfLeast, made, made_same, is_least, none_fits, one_least}
 
 -- the test of the bounds decides
@@ -55,18 +55,27 @@ is_of_least w = record {
   mdt_len = refl;
 }
 
-module _ (w : WishesView) (valid : IsValid w) {E : Type 0} where
-  pub planned_least : (r : Result PlanView E) → result_ok r ≡ planned w → IfOk r (IsLeast w)
-  planned_least (Err e) is = tt
-  planned_least (Ok p) is =
-      let parts = cond_some (is_roomy w) (least_plan w) p (sym is) in
-      let P : PlanView → Type 0 = λ q. IsLeast w q in
-      subst P parts.1 (is_least w (least_plan w) valid (is_of_least w) (roomy_test w parts.0))
+module _ (w : WishesView) (valid : IsValid w) where
+  roomy_least : is_roomy w ≡ true → IsLeast w (least_plan w)
+  roomy_least room = is_least w (least_plan w) valid (is_of_least w) (roomy_test w room)
 
-  pub planned_none : (r : Result PlanView E) → result_ok r ≡ planned w → OnErr r (NoneFits w)
-  planned_none (Err e) is = none_fits w valid (λ room. none-some (least_plan w) (is ∙ cond-true (is_roomy w) _ _ (test_roomy w room)))
-  planned_none (Ok p) is = tt
+  pub full_none : is_roomy w ≡ false → NoneFits w
+  full_none full = none_fits w valid (λ room. false≢true (sym full ∙ test_roomy w room))
 
-  pub planned_only : (r : Result PlanView E) → result_ok r ≡ planned w → (p : PlanView) → IsLeast w p → r ≡ Ok p
-  planned_only (Err e) is p least = absurd (planned_none (Err e) is p least.fits)
-  planned_only (Ok q) is p least = ap Ok (one_least w q p (planned_least (Ok q) is) least)
+  pub planned_least : (r : Result PlanView ChainView) → r ≡ planned w → IfOk r (IsLeast w)
+  planned_least r is = elim (cases_Bool (is_roomy w)) [
+    | inl room ↦ subst (λ (q : Result PlanView ChainView). IfOk q (IsLeast w)) (sym (is ∙ cond-true _ _ _ room)) (roomy_least room)
+    | inr full ↦ subst (λ (q : Result PlanView ChainView). IfOk q (IsLeast w)) (sym (is ∙ cond-false _ _ _ full)) tt
+  ]
+
+  pub planned_none : (r : Result PlanView ChainView) → r ≡ planned w → OnErr r (NoneFits w)
+  planned_none r is = elim (cases_Bool (is_roomy w)) [
+    | inl room ↦ subst (λ (q : Result PlanView ChainView). OnErr q (NoneFits w)) (sym (is ∙ cond-true _ _ _ room)) tt
+    | inr full ↦ subst (λ (q : Result PlanView ChainView). OnErr q (NoneFits w)) (sym (is ∙ cond-false _ _ _ full)) (full_none full)
+  ]
+
+  pub planned_only : (r : Result PlanView ChainView) → r ≡ planned w → (p : PlanView) → IsLeast w p → r ≡ Ok p
+  planned_only r is p least = elim (cases_Bool (is_roomy w)) [
+    | inl room ↦ is ∙ cond-true _ _ _ room ∙ ap Ok (one_least w (least_plan w) p (roomy_least room) least)
+    | inr full ↦ absurd (full_none full p least.fits)
+  ]

@@ -5,7 +5,9 @@ use Rattle.std.proofs.Math.Nat.{mul-le-mul_left, div-lt_iff_lt-mul}
 use Rattle.std.proofs.lemmas.Bool.{cond_both, eqb-true, cond-true, cond-false, ne_eqb, eq-eqb}
 use Rattle.sercos_timing.specs.Views.{WishesView}
 use Rattle.sercos_timing.specs.Order.{times, neighbor, previous, same_slave, at_bits}
-use Rattle.sercos_timing.specs.Inequalities.{asked_1, asked_2, asked_3, asked_4, Meets, Keeps}
+use Rattle.sercos_timing.specs.Inequalities.{asked_1, asked_2, asked_3, asked_4, asked_of_start, Meets, Keeps}
+use Rattle.sercos_timing.specs.declared.asked.StartRule.{StartRule}
+use Rattle.sercos_timing.specs.declared.asked.StartRule.TheVariants.{Own, Gap, Neighbor, Slave}
 use Rattle.sercos_plan.specs.LeastTimes.{round_up, needed, least_t1, least_bits}
 
 -- rounding up
@@ -22,9 +24,9 @@ abbrev pub Among : ℕ → List ℕ → Type 0
 Among j [] = ⊥
 Among j (k ∷ ks) = (j ≡ k) ⊎ Among j ks
 
-abbrev pub IsDistinct : List ℕ → Type 0
-IsDistinct [] = Unit {0}
-IsDistinct (k ∷ ks) = (Among k ks → ⊥) × IsDistinct ks
+abbrev pub AreApart : List ℕ → Type 0
+AreApart [] = Unit {0}
+AreApart (k ∷ ks) = (Among k ks → ⊥) × AreApart ks
 
 abbrev pub AgreeOn : List ℕ → (ℕ → ℕ) → (ℕ → ℕ) → Type 0
 AgreeOn ks b c = (j : ℕ) → Among j ks → b j ≡ c j
@@ -153,10 +155,10 @@ asked_below : (w : WishesView) (b : ℕ → ℕ) (k : ℕ) (before : List ℕ) �
     × (unwrap_or (asked_3 w b k before) 0 ≤ needed w b k before) × (unwrap_or (asked_4 w b k before) 0 ≤ needed w b k before)
 asked_below w b k before = (omega arith, omega arith, omega arith, omega arith)
 
-least_here : (w : WishesView) (k : ℕ) (before : List ℕ) → least_t1 w (k ∷ before) k ≡ round_up w.rate (needed w (least_bits w before) k before)
+pub least_here : (w : WishesView) (k : ℕ) (before : List ℕ) → least_t1 w (k ∷ before) k ≡ round_up w.rate (needed w (least_bits w before) k before)
 least_here w k before = cond-true (k == k) _ _ (eq-eqb k k refl)
 
-least_there : (w : WishesView) (k : ℕ) (before : List ℕ) → (Among k before → ⊥) → AgreeOn before (least_bits w before) (least_bits w (k ∷ before))
+pub least_there : (w : WishesView) (k : ℕ) (before : List ℕ) → (Among k before → ⊥) → AgreeOn before (least_bits w before) (least_bits w (k ∷ before))
 least_there w k before fresh j among =
     let other : j ≡ k → ⊥ = λ e. let P : ℕ → Type 0 = λ i. Among i before in fresh (subst P e among) in
     ap (λ x. w.rate * x) (sym (cond-false (j == k) _ _ (ne_eqb j k other)))
@@ -170,7 +172,7 @@ at_head w asked local k before some fresh below =
     (local (least_bits w before) (least_bits w (k ∷ before)) k before (least_there w k before fresh)) (ap (λ x. w.rate * x) (sym (least_here w k before)))
     (meets (asked (least_bits w before) k before) _ has)
 
-pub least_keeps : (w : WishesView) (ats : List ℕ) → 0 < w.rate → IsDistinct ats → KeepStarts w (least_bits w ats) ats
+pub least_keeps : (w : WishesView) (ats : List ℕ) → 0 < w.rate → AreApart ats → KeepStarts w (least_bits w ats) ats
 least_keeps w [] some distinct = record { rule_1 = tt; rule_2 = tt; rule_3 = tt; rule_4 = tt }
 least_keeps w (k ∷ before) some distinct =
     let rest : KeepStarts w (least_bits w (k ∷ before)) before =
@@ -183,10 +185,20 @@ least_keeps w (k ∷ before) some distinct =
       rule_4 = (at_head w (asked_4 w) (local_4 w) k before some distinct.0 below.3, rest.rule_4);
     }
 
--- what is needed depends on the values of the times alone
-pub needed_same : (w : WishesView) (b c : ℕ → ℕ) (k : ℕ) (before : List ℕ) → ((j : ℕ) → b j ≡ c j) → needed w b k before ≡ needed w c k before
-needed_same w b c k before same =
-    let two = local_2 w b c k before (λ j among. same j) in
-    let three = local_3 w b c k before (λ j among. same j) in
-    let four = local_4 w b c k before (λ j among. same j) in
+-- what is needed depends on the times of the ATs before alone
+pub needed_local : (w : WishesView) (b c : ℕ → ℕ) (k : ℕ) (before : List ℕ) → AgreeOn before b c → needed w b k before ≡ needed w c k before
+needed_local w b c k before agree =
+    let two = local_2 w b c k before agree in
+    let three = local_3 w b c k before agree in
+    let four = local_4 w b c k before agree in
     rw (two, three, four) refl
+
+pub needed_same : (w : WishesView) (b c : ℕ → ℕ) (k : ℕ) (before : List ℕ) → ((j : ℕ) → b j ≡ c j) → needed w b k before ≡ needed w c k before
+needed_same w b c k before same = needed_local w b c k before (λ j among. same j)
+
+-- what is asked of a start depends on the values of the times alone
+pub asked_same : (w : WishesView) (rule : StartRule) (b c : ℕ → ℕ) (k : ℕ) (before : List ℕ) → ((j : ℕ) → b j ≡ c j) → asked_of_start w rule b k before ≡ asked_of_start w rule c k before
+asked_same w Own b c k before same = refl
+asked_same w Gap b c k before same = local_2 w b c k before (λ j among. same j)
+asked_same w Neighbor b c k before same = local_3 w b c k before (λ j among. same j)
+asked_same w Slave b c k before same = local_4 w b c k before (λ j among. same j)

@@ -10,7 +10,7 @@ use Rattle.sercos_timing.specs.Inequalities.{asked_5, asked_6, asked_7, greatest
 use Rattle.sercos_plan.specs.Least.{IsLeast, NoneFits}
 use Rattle.sercos_plan.specs.LeastTimes.{least_t1, least_bits, least_t2, least_t3, greatest_t4min}
 use Rattle.sercos_timing.specs.Valid.{IsValid}
-use Rattle.sercos_plan.proofs.LeastLemmas.{round_up-covers, round_up-least, Among, IsDistinct, AgreeOn, starts_same, least_below, least_keeps, met, meets, meets_same}
+use Rattle.sercos_plan.proofs.LeastLemmas.{round_up-covers, round_up-least, Among, AreApart, AgreeOn, starts_same, least_below, least_keeps, met, meets, meets_same}
 use Rattle.sercos_timing.specs.declared.wishes.Wish.{Wish}
 
 -- the least times keep the bounds
@@ -30,17 +30,17 @@ pub record IsOfLeast (w : WishesView) (p : PlanView) : Type 0 where
   pub mdt_len : p.mdt_len ≡ record_bytes w.drives
 
 -- who stands among the first ATs
-among_first : (order : List ℕ) (n j : ℕ) → Among j (first_sent order n) → (i : ℕ) × (i < n) × (j ≡ slice_index order i)
+pub among_first : (order : List ℕ) (n j : ℕ) → Among j (first_sent order n) → (i : ℕ) × (i < n) × (j ≡ slice_index order i)
 among_first order zero j h = absurd h
 among_first order (suc n) j (inl e) = (n, omega arith, e)
 among_first order (suc n) j (inr h) = let found = among_first order n j h in let lt = found.1 in (found.0, omega arith, found.2)
 
-pub distinct_first : (order : List ℕ) (n : ℕ) → ((i j : ℕ) → i < j → j < length order → slice_index order i ≡ slice_index order j → ⊥) → n ≤ length order → IsDistinct (first_sent order n)
+pub distinct_first : (order : List ℕ) (n : ℕ) → ((i j : ℕ) → i < j → j < length order → slice_index order i ≡ slice_index order j → ⊥) → n ≤ length order → AreApart (first_sent order n)
 distinct_first order zero once within = tt
 distinct_first order (suc n) once within =
     (λ h. let found = among_first order n (slice_index order n) h in let lt = found.1 in once found.0 n lt (omega arith) (sym found.2), distinct_first order n once (omega arith))
 
-pub distinct_sent : (w : WishesView) → IsValid w → IsDistinct (sent w)
+pub distinct_sent : (w : WishesView) → IsValid w → AreApart (sent w)
 distinct_sent w valid = distinct_first w.order (length w.order) valid.order.once (omega arith)
 
 pub among_within : (w : WishesView) → IsValid w → (j : ℕ) → Among j (sent w) → j < length w.drives
@@ -75,7 +75,7 @@ pub rest_keeps : (f : ℕ → ℕ) (t z : ℕ) (ats : List ℕ) → t + greatest
 rest_keeps f t z [] h = tt
 rest_keeps f t z (k ∷ before) h = (omega arith, rest_keeps f t z before (omega arith))
 
-length_first : (order : List ℕ) (n : ℕ) → length (first_sent order n) ≡ n
+pub length_first : (order : List ℕ) (n : ℕ) → length (first_sent order n) ≡ n
 length_first order zero = refl
 length_first order (suc n) = let rest = length_first order n in omega arith
 

@@ -1,6 +1,6 @@
 -- The least times that the inequalities 1 to 7 leave, by going through the order once. That no plan has less is proved of
 -- them, and that the plan of these times fits where any plan does.
-use Rattle.std.specs.Prelude.{ℕ, ◌+◌, ◌-◌, ◌*◌, ◌/◌, max, Bool, List, [], ◌∷◌, length, map, Option, Some, None, unwrap_or, nat_le, ◌==◌, ◌&&◌, if◌then◌else◌}
+use Rattle.std.specs.Prelude.{ℕ, ◌+◌, ◌-◌, ◌*◌, ◌/◌, max, Bool, List, [], ◌∷◌, length, map, unwrap_or, nat_le, ◌==◌, ◌&&◌, if◌then◌else◌}
 use Rattle.std.specs.List.{range_with_len}
 use Rattle.sercos_timing.specs.Views.{WishesView, PlanView}
 use Rattle.sercos_timing.specs.Order.{times, sent, record_bytes}
@@ -51,7 +51,3 @@ least_plan w = record {
   position = positions 1 w.drives;
   mdt_len = record_bytes w.drives;
 }
-
--- the plan, where one fits
-abbrev pub planned : WishesView → Option PlanView
-planned w = if is_roomy w then Some (least_plan w) else None

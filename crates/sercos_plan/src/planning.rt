@@ -1,20 +1,19 @@
-// The least plan.
-ghost use Rattle.std.specs.Prelude.{◌≡◌, ℕ, ◌+◌, ◌*◌, ◌<◌, ◌≤◌, length, slice_index, true, IfOk, OnErr, Ok, nat_le};
-ghost use Rattle.std.specs.Result.{result_ok};
+// The least plan, or the chain that proves that none fits.
+ghost use Rattle.std.specs.Prelude.{◌≡◌, ℕ, ◌+◌, ◌*◌, ◌<◌, ◌≤◌, length, slice_index, true, IfOk, IfErr, OnErr, Ok, nat_le};
 ghost use Rattle.sercos_timing.specs.Views.{PlanView};
 ghost use Rattle.sercos_timing.specs.Order.{sent, record_bytes};
 ghost use Rattle.sercos_timing.specs.Inequalities.{positions, sum_9, bound_9, greatest_tmtsy};
 ghost use Rattle.sercos_timing.specs.Valid.{IsValid};
 ghost use Rattle.sercos_plan.specs.Least.{IsLeast, NoneFits};
-ghost use Rattle.sercos_plan.specs.LeastTimes.{least_t1, least_t2, least_t3, is_roomy, least_plan, planned};
+ghost use Rattle.sercos_plan.specs.LeastTimes.{least_t1, least_t2, least_t3, is_roomy, least_plan};
+ghost use Rattle.sercos_plan.specs.Chains.{IsChain};
+ghost use Rattle.sercos_plan.specs.ChainOf.{chain_of, planned};
 
+use crate::chain::Chain;
+use crate::chaining::chain_of;
 use crate::least::{greatest_t4min, records, starts, turn};
 use arrayvec::ArrayVec;
 use sercos_timing::{Plan, Wish, Wishes};
-
-/// No plan fits the wishes.
-#[derive(Clone, Copy, Debug, PartialEq, Eq)]
-pub struct NoFit;
 
 // The positions of the data records in the MDT.
 fn positions(drives: &[Wish]) -> ArrayVec<u16, 64>
@@ -85,10 +84,10 @@ fn least_plan(w: &Wishes, t1: &[u32], t2: u32, t3: u32) -> Plan
     }
 }
 
-// The plan of the least times, where it keeps the bounds.
-fn planned(w: &Wishes) -> Result<Plan, NoFit>
+// The plan of the least times, where they keep the bounds; else the chain to the first that they break.
+fn planned(w: &Wishes) -> Result<Plan, Chain>
     requires { IsValid w.now }
-    ensures { result_ok result ≡ planned w.now }
+    ensures { result ≡ planned w.now }
 {
     let starts = starts(w);
     let t1 = starts.as_slice();
@@ -97,19 +96,24 @@ fn planned(w: &Wishes) -> Result<Plan, NoFit>
     if is_roomy(w, t2, t3) {
         Ok(least_plan(w, t1, t2, t3))
     } else {
-        Err(NoFit)
+        Err(chain_of(w, t1, t2, t3))
     }
 }
 
 /// The least plan, made in one pass through the order: it keeps the twelve inequalities, and every plan that does has each
-/// T1, T2 and T3 at least as late, and T4 at most as late. `NoFit` exactly where no plan keeps them.
-pub fn plan(w: &Wishes) -> Result<Plan, NoFit>
+/// T1, T2 and T3 at least as late, and T4 at most as late. Exactly where no plan keeps them, the answer is a chain of
+/// inequalities that proves it: from an inequality 1 or 2 along the least times to the first of the bounds 9, 8 and 10 that
+/// these break.
+pub fn plan(w: &Wishes) -> Result<Plan, Chain>
     requires { IsValid w.now }
     ensures least { IfOk result (IsLeast w.now) }
     ensures only { (p : PlanView) → IsLeast w.now p → result ≡ Ok p }
     ensures none { OnErr result (NoneFits w.now) }
-    // it is the plan of the least times, where these keep the bounds
-    ensures answer { result_ok result ≡ planned w.now }
+    // it is the plan of the least times, where these keep the bounds, and else their chain
+    ensures answer { result ≡ planned w.now }
+    ensures chain { IfErr result (λ chain. chain ≡ chain_of w.now) }
+    // which `check_chain` takes
+    ensures proof { IfErr result (IsChain w.now) }
 {
     planned(w)
 }

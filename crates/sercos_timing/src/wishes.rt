@@ -208,7 +208,7 @@ impl Wishes {
     pub fn recovered_by(&self) -> u64
         requires { IsValid self.now }
         ensures value { result ≡ bound_9 self.now }
-        ensures limit { result < 2 ^ 40 }
+        ensures limit { result < 2 ^ 24 }
     {
         self.bits(self.cycle()) - u64::from(wire(2))
     }
