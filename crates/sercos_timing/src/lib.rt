@@ -1,8 +1,17 @@
-//! The times that drives declare, what a ring asks of the plan of its time slots, and the plan itself.
+//! The times that drives declare, what a ring asks of the plan of its time slots, the plan itself, and the inequalities
+//! between them.
 #![tactic(auto)]
 
+mod asked;
+mod fitting;
+mod frame_bits;
 mod plan;
+mod validity;
 mod wishes;
 
+pub use asked::{StartRule, after, asked_of_start};
+pub use fitting::{Broken, fits};
+pub use frame_bits::wire;
 pub use plan::Plan;
+pub use validity::valid;
 pub use wishes::{Times, Wish, Wishes};

@@ -1,4 +1,6 @@
 // A plan of time slots.
+ghost use Rattle.std.specs.Prelude.{◌≡◌, ◌<◌, ◌≤◌, length};
+
 use arrayvec::ArrayVec;
 use std::marker::Model;
 
@@ -43,4 +45,54 @@ impl Model for Plan {
       position = record { items = v.position };
       mdt_len = v.mdt_len;
     } };
+}
+
+impl Plan {
+    /// T1 of each drive, in microseconds, in the order of the ring.
+    pub fn t1(&self) -> &[u16]
+        ensures value { result.now ≡ self.now.t1 }
+        ensures limit { length result.now ≤ 64 }
+    {
+        self.t1.as_slice()
+    }
+
+    /// T2, in microseconds.
+    pub fn t2(&self) -> u32
+        ensures value { result ≡ self.now.t2 }
+        ensures limit { result < 65536 }
+    {
+        u32::from(self.t2)
+    }
+
+    /// T3, in microseconds.
+    pub fn t3(&self) -> u32
+        ensures value { result ≡ self.now.t3 }
+        ensures limit { result < 65536 }
+    {
+        u32::from(self.t3)
+    }
+
+    /// T4, in microseconds.
+    pub fn t4(&self) -> u32
+        ensures value { result ≡ self.now.t4 }
+        ensures limit { result < 65536 }
+    {
+        u32::from(self.t4)
+    }
+
+    /// The position of each drive's data record, in the order of the ring.
+    pub fn position(&self) -> &[u16]
+        ensures value { result.now ≡ self.now.position }
+        ensures limit { length result.now ≤ 64 }
+    {
+        self.position.as_slice()
+    }
+
+    /// The length of the MDT, in bytes after the address.
+    pub fn mdt_len(&self) -> u32
+        ensures value { result ≡ self.now.mdt_len }
+        ensures limit { result < 65536 }
+    {
+        u32::from(self.mdt_len)
+    }
 }

@@ -1,4 +1,10 @@
 // What a ring asks of its plan.
+ghost use Rattle.std.specs.Prelude.{◌≡◌, ◌+◌, ◌*◌, ◌^◌, ◌<◌, ◌≤◌, length, slice_index, sum_by, IfSome, Some};
+ghost use Rattle.sercos_timing.specs.Order.{wish, first_sent, place_at, neighbor, previous, at_bits, mdt_bits, record_bytes};
+ghost use Rattle.sercos_timing.specs.Inequalities.{greatest_tmtsy, bound_9};
+ghost use Rattle.sercos_timing.specs.Valid.{IsValid};
+
+use crate::frame_bits::wire;
 use arrayvec::ArrayVec;
 use std::marker::Model;
 
@@ -76,4 +82,134 @@ impl Model for Wishes {
       order = record { items = v.order };
       drives = record { items = v.drives };
     } };
+}
+
+impl Wishes {
+    /// The order of the ATs: places in the drives.
+    pub fn order(&self) -> &[u8]
+        ensures value { result.now ≡ self.now.order }
+        ensures limit { length result.now ≤ 64 }
+    {
+        self.order.as_slice()
+    }
+
+    /// The wishes of the drives in the order of the ring.
+    pub fn drives(&self) -> &[Wish]
+        ensures value { result.now ≡ self.now.drives }
+        ensures limit { length result.now ≤ 64 }
+    {
+        self.drives.as_slice()
+    }
+
+    /// The wish of the drive at a place of the ring.
+    pub fn wish(&self, place: usize) -> Wish
+        requires { place < length self.now.drives }
+        ensures { result ≡ wish self.now place }
+    {
+        self.drives.as_slice()[place]
+    }
+
+    /// The cycle time, in microseconds.
+    pub fn cycle(&self) -> u32
+        ensures value { result ≡ self.now.cycle }
+        ensures limit { result < 65536 }
+    {
+        u32::from(self.cycle)
+    }
+
+    /// The gap between telegrams, in microseconds.
+    pub fn gap(&self) -> u32
+        ensures value { result ≡ self.now.gap }
+        ensures limit { result < 65536 }
+    {
+        u32::from(self.gap)
+    }
+
+    /// So many microseconds in bit times.
+    pub fn bits(&self, micros: u32) -> u64
+        ensures value { result ≡ self.now.rate * micros }
+        ensures limit { result < 2 ^ 40 }
+    {
+        u64::from(self.rate) * u64::from(micros)
+    }
+
+    /// The bits that no frame of the AT of the drive at a place exceeds.
+    pub fn at_bits(&self, place: usize) -> u64
+        requires valid { IsValid self.now }
+        requires within { place < length self.now.drives }
+        ensures value { result ≡ at_bits self.now place }
+        ensures limit { result ≤ 697 }
+    {
+        u64::from(wire(u32::from(self.wish(place).at_len) + 1))
+    }
+
+    /// The length of the MDT in bytes after the address: that of all data records together.
+    pub fn record_bytes(&self) -> u32
+        ensures { result ≡ record_bytes self.now.drives }
+    {
+        self.drives()
+            .iter()
+            .map(|drive| u32::from(drive.record_len))
+            .sum()
+    }
+
+    /// The bits that no frame of the MDT exceeds.
+    pub fn mdt_bits(&self) -> u64
+        requires { IsValid self.now }
+        ensures value { result ≡ mdt_bits self.now }
+        ensures limit { result ≤ 20_000 }
+    {
+        u64::from(wire(self.record_bytes() + 1))
+    }
+
+    /// The place in the order of the AT that is sent right before the one at this place of the order.
+    pub fn neighbor_at(&self, at: usize) -> Option<usize>
+        requires { at < length self.now.order }
+        ensures value { place_at self.now result
+            ≡ neighbor self.now (slice_index self.now.order at) (first_sent self.now.order at) }
+        ensures before { IfSome result (λ earlier. earlier < at) }
+    {
+        if at == 0 { None } else { Some(at - 1) }
+    }
+
+    /// The place in the order of the last AT before this one that the same slave sends.
+    pub fn previous_at(&self, at: usize) -> Option<usize>
+        requires valid { IsValid self.now }
+        requires within { at < length self.now.order }
+        ensures value { place_at self.now result
+            ≡ previous self.now (slice_index self.now.order at) (first_sent self.now.order at) }
+        ensures before { IfSome result (λ earlier. earlier < at) }
+    {
+        let order = self.order();
+        let slave = self.wish(usize::from(order[at])).slave;
+        let mut found = None;
+        for earlier in 0..at {
+            if self.wish(usize::from(order[earlier])).slave == slave {
+                found = Some(earlier);
+            }
+        }
+        found
+    }
+
+    /// The greatest TMTSY, in microseconds.
+    pub fn greatest_tmtsy(&self) -> u32
+        requires { IsValid self.now }
+        ensures value { result ≡ greatest_tmtsy self.now }
+        ensures limit { result < 65536 }
+    {
+        let mut most = 0u32;
+        for &place in self.order() {
+            most = most.max(u32::from(self.wish(usize::from(place)).times.tmtsy));
+        }
+        most
+    }
+
+    /// The bit time by which the next MST begins at the latest, where the MST ends with the cycle.
+    pub fn recovered_by(&self) -> u64
+        requires { IsValid self.now }
+        ensures value { result ≡ bound_9 self.now }
+        ensures limit { result < 2 ^ 24 }
+    {
+        self.bits(self.cycle()) - u64::from(wire(2))
+    }
 }

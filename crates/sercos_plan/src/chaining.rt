@@ -1,0 +1,348 @@
+// The chain of the least times.
+ghost use Rattle.std.specs.Prelude.{◌≡◌, ℕ, ◌+◌, ◌*◌, ◌^◌, ◌<◌, ◌≤◌, [], ◌∷◌, ◌++◌, length, slice_index, IfSome};
+ghost use Rattle.sercos_timing.specs.Order.{first_sent, sent, place_at, at_bits};
+ghost use Rattle.sercos_timing.specs.Inequalities.{asked_of_start, asked_5, asked_6};
+ghost use Rattle.sercos_timing.specs.Valid.{IsValid};
+ghost use Rattle.sercos_plan.specs.LeastTimes.{least_t2, least_t3};
+ghost use Rattle.sercos_plan.specs.ChainOf.{is_tight, link_of, starts, bits_of_starts, is_tight_at, AreStarts, trail, trail_to, trail_to_some, time_of, greatest_of, first_with, first_greatest, first_tight, trail_t2, trail_t3, chain_of, turn_chain, cycle_chain, capture_chain};
+
+use crate::chain::{Chain, Link};
+use crate::least::{greatest_t4min, round_up};
+use crate::planning::is_turn_roomy;
+use arrayvec::ArrayVec;
+use sercos_timing::{StartRule, Wish, Wishes, after, asked_of_start};
+
+// So many microseconds in bit times, as a number of 32 bits.
+fn bits(w: &Wishes, micros: u32) -> u32
+    requires valid { IsValid w.now }
+    requires micros { micros ≤ 10_000_000 }
+    ensures value { result ≡ w.now.rate * micros }
+    ensures limit { result ≤ 40_000_000 }
+{
+    w.bits(micros) as u32
+}
+
+// Whether what is asked gives this time.
+fn is_tight(w: &Wishes, asked: Option<u64>, t: u32) -> bool
+    requires valid { IsValid w.now }
+    requires limit { IfSome asked (λ bits. bits < 2 ^ 43) }
+    ensures { result ≡ is_tight w.now asked t }
+{
+    match asked {
+        Some(bits) => round_up(w, bits) == u64::from(t),
+        None => false,
+    }
+}
+
+// Whether an inequality gives the T1 of the AT at a place of the order.
+fn is_start_tight(w: &Wishes, t1: &[u32], rule: StartRule, at: usize) -> bool
+    requires valid { IsValid w.now }
+    requires starts { AreStarts w.now t1.now }
+    requires within { at < length w.now.order }
+    ensures { result ≡ is_tight_at w.now (asked_of_start w.now rule) at }
+{
+    is_tight(
+        w,
+        asked_of_start(w, t1, rule, at),
+        t1[usize::from(w.order()[at])],
+    )
+}
+
+// The link to the T1 of the AT at a place of the order.
+fn start_link(w: &Wishes, t1: &[u32], rule: u8, at: usize) -> Link
+    requires valid { IsValid w.now }
+    requires starts { AreStarts w.now t1.now }
+    requires within { at < length w.now.order }
+    ensures { result
+        ≡ link_of w.now rule (slice_index w.now.order at) (starts w.now (slice_index w.now.order at)) }
+{
+    let place = usize::from(w.order()[at]);
+    Link {
+        rule,
+        drive: w.wish(place).address,
+        at: bits(w, t1[place]),
+    }
+}
+
+// The last link to the T1 of the AT at a place of the order, and the AT with whose T1 it begins.
+fn step(w: &Wishes, t1: &[u32], at: usize) -> (Option<usize>, Link)
+    requires valid { IsValid w.now }
+    requires starts { AreStarts w.now t1.now }
+    requires within { at < length w.now.order }
+    ensures value { trail_to w.now at ≡ trail_to_some w.now result.0 ++ result.1 ∷ [] }
+    ensures before { IfSome result.0 (λ earlier. earlier < at) }
+{
+    let own = is_start_tight(w, t1, StartRule::Own, at);
+    let gap = is_start_tight(w, t1, StartRule::Gap, at);
+    let neighbor = is_start_tight(w, t1, StartRule::Neighbor, at);
+    if own {
+        return (None, start_link(w, t1, 1, at));
+    }
+    if gap {
+        return (None, start_link(w, t1, 2, at));
+    }
+    if neighbor {
+        return (w.neighbor_at(at), start_link(w, t1, 3, at));
+    }
+    (w.previous_at(at), start_link(w, t1, 4, at))
+}
+
+// Appends the links to the T1 of the AT at a place of the order.
+fn push_trail(w: &Wishes, t1: &[u32], at: usize, links: &mut ArrayVec<Link, 66>)
+    requires valid { IsValid w.now }
+    requires starts { AreStarts w.now t1.now }
+    requires within { at < length w.now.order }
+    requires room { length links.old.items + at < 66 }
+    ensures links { links.new.items ≡ links.old.items ++ trail_to w.now at }
+    ensures room { length links.new.items ≤ length links.old.items + at + 1 }
+{
+    let (earlier, link) = step(w, t1, at);
+    if let Some(start) = earlier {
+        push_trail(w, t1, start, links);
+    }
+    links.push(link);
+}
+
+// The times whose greatest stands in an inequality.
+#[derive(Clone, Copy, Debug, PartialEq, Eq)]
+enum Time {
+    Tmtsy,
+    Tmtsg,
+    T4min,
+}
+
+fn time_of(time: Time, wish: &Wish) -> u16
+    ensures { result ≡ time_of time wish.now }
+{
+    match time {
+        Time::Tmtsy => wish.times.tmtsy,
+        Time::Tmtsg => wish.times.tmtsg,
+        Time::T4min => wish.times.t4min,
+    }
+}
+
+fn greatest_of(time: Time, drives: &[Wish]) -> u16
+    ensures { result ≡ greatest_of (time_of time) drives.now }
+{
+    let mut most = 0u16;
+    for drive in drives {
+        most = most.max(time_of(time, drive));
+    }
+    most
+}
+
+fn first_with(time: Time, value: u16, drives: &[Wish]) -> u8
+    ensures { result ≡ first_with (time_of time) value drives.now }
+{
+    for drive in drives {
+        if time_of(time, drive) == value {
+            return drive.address;
+        }
+    }
+    0
+}
+
+// The address of the first drive of the ring with the greatest time.
+fn first_greatest(time: Time, drives: &[Wish]) -> u8
+    ensures { result ≡ first_greatest (time_of time) drives.now }
+{
+    first_with(time, greatest_of(time, drives), drives)
+}
+
+// The bit time at which the AT of a drive has ended and so many microseconds have passed, at the least T1.
+fn after_start(w: &Wishes, t1: &[u32], place: usize, micros: u32) -> u64
+    requires valid { IsValid w.now }
+    requires starts { AreStarts w.now t1.now }
+    requires within { place < length w.now.drives }
+    requires micros { micros < 65536 }
+    ensures value { result ≡ bits_of_starts w.now place + (at_bits w.now place + w.now.rate * micros) }
+    ensures limit { result < 2 ^ 42 }
+{
+    after(w, t1, place, micros)
+}
+
+// Whether 5 gives T2.
+fn is_last_tight(w: &Wishes, t1: &[u32], t2: u32) -> bool
+    requires valid { IsValid w.now }
+    requires starts { AreStarts w.now t1.now }
+    ensures { result ≡ is_tight w.now (asked_5 w.now (bits_of_starts w.now) (sent w.now)) t2 }
+{
+    let order = w.order();
+    let last = usize::from(order[order.len() - 1]);
+    is_tight(w, Some(after_start(w, t1, last, w.gap())), t2)
+}
+
+// Whether 6 of the AT at a place of the order gives T2.
+fn is_master_tight(w: &Wishes, t1: &[u32], t2: u32, at: usize) -> bool
+    requires valid { IsValid w.now }
+    requires starts { AreStarts w.now t1.now }
+    requires within { at < length w.now.order }
+    ensures { result
+        ≡ is_tight w.now (asked_6 w.now (bits_of_starts w.now) (slice_index w.now.order at) (first_sent w.now.order at)) t2 }
+{
+    let place = usize::from(w.order()[at]);
+    let tatmt = u32::from(w.wish(place).times.tatmt);
+    is_tight(w, Some(after_start(w, t1, place, tatmt)), t2)
+}
+
+// The place in the order of the first AT whose 6 gives T2.
+fn first_tight(w: &Wishes, t1: &[u32], t2: u32) -> Option<usize>
+    requires valid { IsValid w.now }
+    requires starts { AreStarts w.now t1.now }
+    ensures within { IfSome result (λ at. at < length w.now.order) }
+    ensures value { place_at w.now result ≡ first_tight w.now (bits_of_starts w.now) t2 (sent w.now) }
+{
+    for at in 0..w.order().len() {
+        if is_master_tight(w, t1, t2, at) {
+            return Some(at);
+        }
+    }
+    None
+}
+
+// The link to T2 of the drive at a place of the order.
+fn turn_link(w: &Wishes, rule: u8, at: usize, t2: u32) -> Link
+    requires valid { IsValid w.now }
+    requires within { at < length w.now.order }
+    requires t2 { t2 ≤ 10_000_000 }
+    ensures { result ≡ link_of w.now rule (slice_index w.now.order at) t2 }
+{
+    Link {
+        rule,
+        drive: w.wish(usize::from(w.order()[at])).address,
+        at: bits(w, t2),
+    }
+}
+
+// The links to T2 by way of the T1 of the AT at a place of the order.
+fn links_through(w: &Wishes, t1: &[u32], at: usize, rule: u8, t2: u32) -> ArrayVec<Link, 66>
+    requires valid { IsValid w.now }
+    requires starts { AreStarts w.now t1.now }
+    requires within { at < length w.now.order }
+    requires t2 { t2 ≤ 10_000_000 }
+    ensures links { result.items
+        ≡ trail w.now (starts w.now) (sent w.now) (slice_index w.now.order at)
+        ++ link_of w.now rule (slice_index w.now.order at) t2 ∷ [] }
+    ensures room { length result.items ≤ 65 }
+{
+    let mut links = ArrayVec::new();
+    push_trail(w, t1, at, &mut links);
+    let link = turn_link(w, rule, at, t2);
+    links.push(link);
+    links
+}
+
+// The links to T2.
+fn turn_links(w: &Wishes, t1: &[u32], t2: u32) -> ArrayVec<Link, 66>
+    requires valid { IsValid w.now }
+    requires starts { AreStarts w.now t1.now }
+    requires t2 { t2 ≡ least_t2 w.now }
+    requires limit { t2 ≤ 10_000_000 }
+    ensures links { result.items ≡ trail_t2 w.now }
+    ensures room { length result.items ≤ 65 }
+{
+    if is_last_tight(w, t1, t2) {
+        links_through(w, t1, w.order().len() - 1, 5, t2)
+    } else {
+        match first_tight(w, t1, t2) {
+            Some(at) => links_through(w, t1, at, 6, t2),
+            None => ArrayVec::new(),
+        }
+    }
+}
+
+// The links to T3.
+#[tactic(auto, unfolding(crate::specs::ChainOf::trail_t3))]
+fn third_links(w: &Wishes, t1: &[u32], t2: u32, t3: u32) -> ArrayVec<Link, 66>
+    requires valid { IsValid w.now }
+    requires starts { AreStarts w.now t1.now }
+    requires t2 { t2 ≡ least_t2 w.now }
+    requires limit { t2 ≤ 10_000_000 }
+    requires t3 { t3 ≡ least_t3 w.now }
+    requires end { t3 ≤ 10_000_000 }
+    ensures { result.items ≡ trail_t3 w.now }
+{
+    let mut links = turn_links(w, t1, t2);
+    let link = Link {
+        rule: 7,
+        drive: first_greatest(Time::Tmtsg, w.drives()),
+        at: bits(w, t3),
+    };
+    links.push(link);
+    links
+}
+
+// The chain to the bound of 9.
+fn turn_chain(w: &Wishes, links: ArrayVec<Link, 66>, t2: u32) -> Chain
+    requires valid { IsValid w.now }
+    requires t2 { t2 ≡ least_t2 w.now }
+    requires limit { t2 ≤ 10_000_000 }
+    requires links { links.items ≡ trail_t2 w.now }
+    ensures { result ≡ turn_chain w.now }
+{
+    let tmtsy = w.greatest_tmtsy();
+    let most = w.gap().max(tmtsy);
+    let drive = if tmtsy <= w.gap() {
+        0
+    } else {
+        first_greatest(Time::Tmtsy, w.drives())
+    };
+    Chain {
+        links,
+        rule: 9,
+        drive,
+        sum: bits(w, t2) + (w.mdt_bits() as u32 + bits(w, most)),
+        bound: w.recovered_by() as u32,
+    }
+}
+
+// The chain to the bound of 8.
+fn cycle_chain(w: &Wishes, links: ArrayVec<Link, 66>, t3: u32) -> Chain
+    requires valid { IsValid w.now }
+    requires t3 { t3 ≡ least_t3 w.now }
+    requires end { t3 ≤ 10_000_000 }
+    requires links { links.items ≡ trail_t3 w.now }
+    ensures { result ≡ cycle_chain w.now }
+{
+    Chain {
+        links,
+        rule: 8,
+        drive: first_greatest(Time::Tmtsg, w.drives()),
+        sum: bits(w, t3),
+        bound: bits(w, w.cycle()),
+    }
+}
+
+// The chain to the bound of 10.
+fn capture_chain(w: &Wishes) -> Chain
+    requires { IsValid w.now }
+    ensures { result ≡ capture_chain w.now }
+{
+    Chain {
+        links: ArrayVec::new(),
+        rule: 10,
+        drive: first_greatest(Time::T4min, w.drives()),
+        sum: bits(w, greatest_t4min(w)),
+        bound: bits(w, w.cycle()),
+    }
+}
+
+// The chain of the least times to the first bound that they break.
+#[tactic(auto, unfolding(crate::specs::ChainOf::chain_of))]
+pub fn chain_of(w: &Wishes, t1: &[u32], t2: u32, t3: u32) -> Chain
+    requires valid { IsValid w.now }
+    requires starts { AreStarts w.now t1.now }
+    requires t2 { t2 ≡ least_t2 w.now }
+    requires limit { t2 ≤ 10_000_000 }
+    requires t3 { t3 ≡ least_t3 w.now }
+    requires end { t3 ≤ 10_000_000 }
+    ensures { result ≡ chain_of w.now }
+{
+    if !is_turn_roomy(w, t2) {
+        turn_chain(w, turn_links(w, t1, t2), t2)
+    } else if t3 > w.cycle() {
+        cycle_chain(w, third_links(w, t1, t2, t3), t3)
+    } else {
+        capture_chain(w)
+    }
+}

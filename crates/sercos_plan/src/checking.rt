@@ -1,0 +1,345 @@
+// Whether a chain proves that no plan fits, from the wishes and the chain alone.
+ghost use Rattle.std.specs.Prelude.{◌≡◌, ℕ, ◌+◌, ◌*◌, ◌^◌, ◌<◌, ◌≤◌, ◌↔◌, length, slice_index, IsTrue, IfSome, Some, None, option_map, ◌&&◌, ◌==◌};
+ghost use Rattle.sercos_timing.specs.Order.{at_bits, first_sent, sent, place_at};
+ghost use Rattle.sercos_timing.specs.Inequalities.{asked_5, asked_7};
+ghost use Rattle.sercos_timing.specs.Valid.{IsValid};
+ghost use Rattle.sercos_plan.specs.Least.{NoneFits};
+ghost use Rattle.sercos_plan.specs.Chains.{rule_of, place_of, is_start, is_turn, is_third, up_to, last_place, is_start_of, given_if, asked_after, last_link, pause_of, ends, IsChain, gives, are_linked, ats_at};
+ghost use Rattle.sercos_plan.specs.declared.chain.Rule.TheVariants.{Cycle, Turn, Capture};
+
+use crate::chain::{Chain, Link, Rule, rule_of};
+use sercos_timing::Wishes;
+
+// The place in the order of the AT of the drive with this address.
+fn find(w: &Wishes, address: u8) -> Option<usize>
+    requires { IsValid w.now }
+    ensures within { IfSome result (λ at. at < length w.now.order) }
+    ensures value { up_to w.now address (sent w.now) ≡ ats_at w.now.order result }
+{
+    let order = w.order();
+    let mut found = None;
+    for at in 0..order.len() {
+        if w.wish(usize::from(order[at])).address == address {
+            found = Some(at);
+        }
+    }
+    found
+}
+
+// Whether a link with this number says something of T1 of its drive.
+fn is_start(number: u8) -> bool
+    ensures { result ≡ is_start (place_of (rule_of number)) }
+{
+    matches!(
+        rule_of(number),
+        Rule::Own | Rule::Gap | Rule::Neighbor | Rule::Slave
+    )
+}
+
+// Whether it says something of T2.
+fn is_turn(number: u8) -> bool
+    ensures { result ≡ is_turn (place_of (rule_of number)) }
+{
+    matches!(rule_of(number), Rule::Last | Rule::Master)
+}
+
+// Whether it says something of T3.
+fn is_third(number: u8) -> bool
+    ensures { result ≡ is_third (place_of (rule_of number)) }
+{
+    matches!(rule_of(number), Rule::Records)
+}
+
+// The drive at a place of the order.
+fn place(w: &Wishes, at: Option<usize>) -> Option<usize>
+    requires valid { IsValid w.now }
+    requires within { IfSome at (λ i. i < length w.now.order) }
+    ensures within { IfSome result (λ place. place < length w.now.drives) }
+    ensures value { result ≡ place_at w.now at }
+{
+    match at {
+        Some(i) => Some(usize::from(w.order()[i])),
+        None => None,
+    }
+}
+
+// Whether the link says something of T1 of the drive at this place of the ring.
+fn is_start_of(w: &Wishes, link: Link, place: Option<usize>) -> bool
+    requires valid { IsValid w.now }
+    requires within { IfSome place (λ j. j < length w.now.drives) }
+    ensures { result ≡ is_start_of w.now link place }
+{
+    match place {
+        Some(j) => is_start(link.rule) && w.wish(j).address == link.drive,
+        None => false,
+    }
+}
+
+// The bit time at which the AT of this drive has ended and so many microseconds have passed, where the link gives its start.
+fn after_start(w: &Wishes, link: Link, place: Option<usize>, micros: u32) -> Option<u64>
+    requires valid { IsValid w.now }
+    requires within { IfSome place (λ j. j < length w.now.drives) }
+    requires micros { micros < 65536 }
+    ensures value { result
+        ≡ given_if (is_start_of w.now link place) (option_map (λ j. link.at + (at_bits w.now j + w.now.rate * micros)) place) }
+    ensures limit { IfSome result (λ asked. asked < 2 ^ 42) }
+{
+    match place {
+        Some(j) => {
+            if is_start_of(w, link, Some(j)) {
+                Some(u64::from(link.at) + (w.at_bits(j) + w.bits(micros)))
+            } else {
+                None
+            }
+        }
+        None => None,
+    }
+}
+
+// What 5 asks behind the link.
+fn after_last(w: &Wishes, link: Link, at: usize) -> Option<u64>
+    requires valid { IsValid w.now }
+    requires within { at < length w.now.order }
+    ensures value { let k = slice_index w.now.order at in
+        result
+        ≡ given_if (is_start_of w.now link (Some k) && (k == last_place w.now)) (asked_5 w.now (λ _. link.at) (sent w.now)) }
+    ensures limit { IfSome result (λ asked. asked < 2 ^ 42) }
+{
+    let order = w.order();
+    let place = usize::from(order[at]);
+    let last = usize::from(order[order.len() - 1]);
+    if is_start_of(w, link, Some(place)) && place == last {
+        Some(u64::from(link.at) + (w.at_bits(last) + w.bits(w.gap())))
+    } else {
+        None
+    }
+}
+
+// What 7 asks behind the link.
+fn after_records(w: &Wishes, link: Link, at: usize) -> Option<u64>
+    requires valid { IsValid w.now }
+    requires within { at < length w.now.order }
+    ensures value { result
+        ≡ given_if (is_turn (place_of (rule_of link.rule)))
+        (asked_7 w.now link.at (slice_index w.now.order at) (first_sent w.now.order at)) }
+    ensures limit { IfSome result (λ asked. asked < 2 ^ 42) }
+{
+    if is_turn(link.rule) {
+        let tmtsg = u32::from(w.wish(usize::from(w.order()[at])).times.tmtsg);
+        Some(u64::from(link.at) + (w.mdt_bits() + w.bits(tmtsg)))
+    } else {
+        None
+    }
+}
+
+// What the inequality of the first link asks.
+fn asked_first(w: &Wishes, rule: Rule, at: usize) -> Option<u64>
+    requires valid { IsValid w.now }
+    requires within { at < length w.now.order }
+    ensures value { result ≡ asked_after w.now rule None (ats_at w.now.order (Some at)) }
+    ensures limit { IfSome result (λ asked. asked < 2 ^ 42) }
+{
+    let t1min = u32::from(w.wish(usize::from(w.order()[at])).times.t1min);
+    match rule {
+        Rule::Own => Some(w.bits(t1min)),
+        Rule::Gap => { if at == 0 { Some(w.bits(w.gap())) } else { None } }
+        _ => None,
+    }
+}
+
+// What the inequality of a later link asks behind this one.
+fn asked_next(w: &Wishes, rule: Rule, link: Link, at: usize) -> Option<u64>
+    requires valid { IsValid w.now }
+    requires within { at < length w.now.order }
+    ensures value { result ≡ asked_after w.now rule (Some link) (ats_at w.now.order (Some at)) }
+    ensures limit { IfSome result (λ asked. asked < 2 ^ 42) }
+{
+    let own = usize::from(w.order()[at]);
+    let times = w.wish(own).times;
+    match rule {
+        Rule::Neighbor => after_start(w, link, place(w, w.neighbor_at(at)), w.gap()),
+        Rule::Slave => after_start(w, link, place(w, w.previous_at(at)), u32::from(times.tatat)),
+        Rule::Last => after_last(w, link, at),
+        Rule::Master => after_start(w, link, Some(own), u32::from(times.tatmt)),
+        Rule::Records => after_records(w, link, at),
+        _ => None,
+    }
+}
+
+// Whether the bit time is what is asked, rounded up to a microsecond.
+fn gives(w: &Wishes, asked: Option<u64>, at: u32) -> bool
+    requires valid { IsValid w.now }
+    requires limit { IfSome asked (λ bits. bits < 2 ^ 42) }
+    ensures { result ≡ gives w.now asked at }
+{
+    let rate = w.bits(1);
+    match asked {
+        Some(bits) => u64::from(at) == rate * ((bits + (rate - 1)) / rate),
+        None => false,
+    }
+}
+
+// Whether a link follows from the wishes and the link before it.
+fn follows(w: &Wishes, from: Option<Link>, link: Link) -> bool
+    requires { IsValid w.now }
+    ensures { result
+        ≡ gives w.now (asked_after w.now (rule_of link.rule) from (up_to w.now link.drive (sent w.now))) link.at }
+{
+    let rule = rule_of(link.rule);
+    match find(w, link.drive) {
+        Some(at) => match from {
+            Some(before) => gives(w, asked_next(w, rule, before, at), link.at),
+            None => gives(w, asked_first(w, rule, at), link.at),
+        },
+        None => false,
+    }
+}
+
+fn are_linked(w: &Wishes, links: &[Link]) -> bool
+    requires { IsValid w.now }
+    ensures { result ≡ are_linked w.now None links.now }
+{
+    let mut from = None;
+    for link in links {
+        if !follows(w, from, *link) {
+            return false;
+        }
+        from = Some(*link);
+    }
+    true
+}
+
+fn last_link(links: &[Link]) -> Option<Link>
+    ensures { result ≡ last_link None links.now }
+{
+    let mut last = None;
+    for link in links {
+        last = Some(*link);
+    }
+    last
+}
+
+// The time that stands for the greatest TMTSY: that of the drive, or the gap at drive 0.
+fn pause(w: &Wishes, drive: u8) -> Option<u32>
+    requires { IsValid w.now }
+    ensures value { result ≡ pause_of w.now drive }
+    ensures limit { IfSome result (λ micros. micros < 65536) }
+{
+    if drive == 0 {
+        Some(w.gap())
+    } else {
+        match find(w, drive) {
+            Some(at) => Some(u32::from(w.wish(usize::from(w.order()[at])).times.tmtsy)),
+            None => None,
+        }
+    }
+}
+
+// The sum and the bound of 9 behind this last link.
+fn end_turn(w: &Wishes, drive: u8, last: Option<Link>) -> Option<(u64, u64)>
+    requires { IsValid w.now }
+    ensures { result ≡ ends w.now Turn drive last }
+{
+    match last {
+        Some(link) => {
+            if is_turn(link.rule) {
+                match pause(w, drive) {
+                    Some(micros) => {
+                        let most = w.gap().max(micros);
+                        let sum = u64::from(link.at) + (w.mdt_bits() + w.bits(most));
+                        Some((sum, w.recovered_by()))
+                    }
+                    None => None,
+                }
+            } else {
+                None
+            }
+        }
+        None => None,
+    }
+}
+
+// The sum and the bound of 8 behind this last link.
+fn end_cycle(w: &Wishes, drive: u8, last: Option<Link>) -> Option<(u64, u64)>
+    requires { IsValid w.now }
+    ensures { result ≡ ends w.now Cycle drive last }
+{
+    match last {
+        Some(link) => {
+            if is_third(link.rule) && drive == link.drive {
+                Some((u64::from(link.at), w.bits(w.cycle())))
+            } else {
+                None
+            }
+        }
+        None => None,
+    }
+}
+
+// The sum and the bound of 10, which stands behind no link.
+fn end_capture(w: &Wishes, drive: u8, last: Option<Link>) -> Option<(u64, u64)>
+    requires { IsValid w.now }
+    ensures { result ≡ ends w.now Capture drive last }
+{
+    match last {
+        Some(_) => None,
+        None => match find(w, drive) {
+            Some(at) => {
+                let t4min = u32::from(w.wish(usize::from(w.order()[at])).times.t4min);
+                Some((w.bits(t4min), w.bits(w.cycle())))
+            }
+            None => None,
+        },
+    }
+}
+
+// The sum and the bound of an inequality behind this last link.
+fn end(w: &Wishes, rule: Rule, drive: u8, last: Option<Link>) -> Option<(u64, u64)>
+    requires { IsValid w.now }
+    ensures { result ≡ ends w.now rule drive last }
+{
+    match rule {
+        Rule::Cycle => end_cycle(w, drive, last),
+        Rule::Turn => end_turn(w, drive, last),
+        Rule::Capture => end_capture(w, drive, last),
+        _ => None,
+    }
+}
+
+fn is_ended(w: &Wishes, c: &Chain) -> bool
+    requires { IsValid w.now }
+    ensures { IsTrue result
+        ↔ (ends w.now (rule_of c.now.rule) c.now.drive (last_link None c.now.links) ≡ Some (c.now.sum, c.now.bound)) }
+{
+    let last = last_link(c.links());
+    match end(w, rule_of(c.rule()), c.drive(), last) {
+        Some((sum, bound)) => sum == u64::from(c.sum()) && bound == u64::from(c.bound()),
+        None => false,
+    }
+}
+
+fn are_all(linked: bool, ended: bool, above: bool) -> bool
+    ensures { IsTrue result ↔ (IsTrue linked × IsTrue ended × IsTrue above) }
+{
+    linked && ended && above
+}
+
+fn is_chain(w: &Wishes, c: &Chain) -> bool
+    requires { IsValid w.now }
+    ensures { IsTrue result ↔ IsChain w.now c.now }
+{
+    let linked = are_linked(w, c.links());
+    let ended = is_ended(w, c);
+    let above = c.sum() > c.bound();
+    are_all(linked, ended, above)
+}
+
+/// Whether each link of a chain follows from the wishes and the link before it, and the chain ends in a sum that is above its
+/// bound. Then no plan fits. It stands on the wishes and the chain alone, and calls no planner.
+pub fn check_chain(w: &Wishes, c: &Chain) -> bool
+    requires { IsValid w.now }
+    ensures exact { IsTrue result ↔ IsChain w.now c.now }
+    ensures none { IsTrue result → NoneFits w.now }
+{
+    is_chain(w, c)
+}

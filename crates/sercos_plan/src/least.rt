@@ -1,0 +1,163 @@
+// The least times, in one pass through the order.
+ghost use Rattle.std.specs.Prelude.{◌≡◌, ℕ, ◌+◌, ◌*◌, ◌^◌, ◌<◌, ◌≤◌, length, slice_index, unwrap_or};
+ghost use Rattle.sercos_timing.specs.Order.{first_sent, sent, times, mdt_bits, bits_of};
+ghost use Rattle.sercos_timing.specs.Inequalities.{asked_of_start, asked_5};
+ghost use Rattle.sercos_timing.specs.Valid.{IsValid};
+ghost use Rattle.sercos_plan.specs.LeastTimes.{round_up, needed, least_t1, least_t2, least_t3, greatest_t4min};
+
+use arrayvec::ArrayVec;
+use sercos_timing::{StartRule, Wishes, after, asked_of_start};
+
+// The least number of microseconds that has so many bit times.
+pub fn round_up(w: &Wishes, bits: u64) -> u64
+    requires valid { IsValid w.now }
+    requires bits { bits < 2 ^ 43 }
+    ensures { result ≡ round_up w.now.rate bits }
+{
+    let rate = w.bits(1);
+    (bits + (rate - 1)) / rate
+}
+
+// What an inequality asks of the start of the AT at a place of the order, in bit times; 0 where it asks nothing. Each AT
+// takes at most 66,300 microseconds with what is asked behind it, and `t1` has the least T1 of the ATs before.
+fn start_bits(w: &Wishes, t1: &[u32], rule: StartRule, at: usize) -> u64
+    requires valid { IsValid w.now }
+    requires within { at < length w.now.order }
+    requires count { length t1.now ≡ length w.now.drives }
+    requires limit { (j : ℕ) → slice_index t1.now j ≤ 66_300 * at }
+    ensures value { result
+        ≡ unwrap_or (asked_of_start w.now rule (bits_of w.now t1.now) (slice_index w.now.order at) (first_sent w.now.order at)) 0 }
+    ensures limit { result ≤ w.now.rate * (66_300 * at + 66_300) }
+{
+    match asked_of_start(w, t1, rule, at) {
+        Some(bits) => bits,
+        None => 0,
+    }
+}
+
+// The least T1 of the AT at a place of the order, from those of the ATs before it.
+fn start(w: &Wishes, t1: &[u32], at: usize) -> u32
+    requires valid { IsValid w.now }
+    requires within { at < length w.now.order }
+    requires count { length t1.now ≡ length w.now.drives }
+    requires limit { (j : ℕ) → slice_index t1.now j ≤ 66_300 * at }
+    ensures value { result
+        ≡ round_up w.now.rate (needed w.now (bits_of w.now t1.now) (slice_index w.now.order at) (first_sent w.now.order at)) }
+    ensures limit { result ≤ 66_300 * at + 66_300 }
+{
+    let own = start_bits(w, t1, StartRule::Own, at);
+    let gap = start_bits(w, t1, StartRule::Gap, at);
+    let neighbor = start_bits(w, t1, StartRule::Neighbor, at);
+    let slave = start_bits(w, t1, StartRule::Slave, at);
+    round_up(w, own.max(gap.max(neighbor.max(slave)))) as u32
+}
+
+// The greedy pass: the least T1 of each drive, into the drive's place in the ring.
+fn fill_starts(w: &Wishes, t1: &mut [u32])
+    requires valid { IsValid w.now }
+    requires count { length t1.old ≡ length w.now.drives }
+    requires blank { (j : ℕ) → slice_index t1.old j ≡ 0 }
+    ensures value { (j : ℕ) → slice_index t1.new j ≡ least_t1 w.now (sent w.now) j }
+    ensures limit { (j : ℕ) → slice_index t1.new j ≤ 66_300 * 64 }
+{
+    let order = w.order();
+    for at in 0..order.len() {
+        let start = start(w, t1, at);
+        t1[usize::from(order[at])] = start;
+    }
+}
+
+fn blank(count: usize) -> ArrayVec<u32, 64>
+    requires { count ≤ 64 }
+    ensures count { length result.items ≡ count }
+    ensures blank { (j : ℕ) → slice_index result.items j ≡ 0 }
+{
+    let mut blank = ArrayVec::new();
+    for _ in 0..count {
+        blank.push(0);
+    }
+    blank
+}
+
+// The least T1 of each drive, in microseconds, in the order of the ring.
+pub fn starts(w: &Wishes) -> ArrayVec<u32, 64>
+    requires { IsValid w.now }
+    ensures count { length result.items ≡ length w.now.drives }
+    ensures value { (j : ℕ) → slice_index result.items j ≡ least_t1 w.now (sent w.now) j }
+    ensures limit { (j : ℕ) → slice_index result.items j ≤ 66_300 * 64 }
+{
+    let mut t1 = blank(w.drives().len());
+    fill_starts(w, t1.as_mut_slice());
+    t1
+}
+
+// What inequality 5 asks of T2.
+pub fn last_bits(w: &Wishes, t1: &[u32]) -> u64
+    requires valid { IsValid w.now }
+    requires count { length t1.now ≡ length w.now.drives }
+    requires limit { (j : ℕ) → slice_index t1.now j ≤ 66_300 * 64 }
+    ensures value { result ≡ unwrap_or (asked_5 w.now (bits_of w.now t1.now) (sent w.now)) 0 }
+    ensures limit { result ≤ w.now.rate * (66_300 * 65) }
+{
+    let order = w.order();
+    after(w, t1, usize::from(order[order.len() - 1]), w.gap())
+}
+
+// The least T2, in microseconds, from the least T1 of each drive.
+pub fn turn(w: &Wishes, t1: &[u32]) -> u32
+    requires valid { IsValid w.now }
+    requires count { length t1.now ≡ length w.now.drives }
+    requires value { (j : ℕ) → slice_index t1.now j ≡ least_t1 w.now (sent w.now) j }
+    requires limit { (j : ℕ) → slice_index t1.now j ≤ 66_300 * 64 }
+    ensures value { result ≡ least_t2 w.now }
+    ensures limit { result ≤ 66_300 * 65 }
+{
+    let order = w.order();
+    let gap = last_bits(w, t1);
+    let mut most = 0u64;
+    for at in 0..order.len() {
+        let place = usize::from(order[at]);
+        let tatmt = u32::from(w.wish(place).times.tatmt);
+        most = most.max(after(w, t1, place, tatmt));
+    }
+    round_up(w, gap.max(most)) as u32
+}
+
+// What inequality 7 asks of T3 for the drive at a place of the ring.
+fn record_bits(w: &Wishes, t2: u32, place: usize) -> u64
+    requires valid { IsValid w.now }
+    requires within { place < length w.now.drives }
+    ensures value { result ≡ w.now.rate * t2 + (mdt_bits w.now + w.now.rate * (times w.now place).tmtsg) }
+    ensures limit { result ≤ w.now.rate * (t2 + 75_535) }
+{
+    w.bits(t2) + (w.mdt_bits() + w.bits(u32::from(w.wish(place).times.tmtsg)))
+}
+
+// The least T3, in microseconds, from the least T2.
+pub fn records(w: &Wishes, t2: u32) -> u32
+    requires valid { IsValid w.now }
+    requires value { t2 ≡ least_t2 w.now }
+    requires limit { t2 ≤ 66_300 * 65 }
+    ensures value { result ≡ least_t3 w.now }
+    ensures limit { result ≤ 66_300 * 67 }
+{
+    let order = w.order();
+    let mut most = 0u64;
+    for at in 0..order.len() {
+        most = most.max(record_bits(w, t2, usize::from(order[at])));
+    }
+    round_up(w, most) as u32
+}
+
+// The greatest T4min, in microseconds.
+pub fn greatest_t4min(w: &Wishes) -> u32
+    requires { IsValid w.now }
+    ensures value { result ≡ greatest_t4min w.now }
+    ensures limit { result < 65536 }
+{
+    let mut most = 0u32;
+    for &place in w.order() {
+        most = most.max(u32::from(w.wish(usize::from(place)).times.t4min));
+    }
+    most
+}

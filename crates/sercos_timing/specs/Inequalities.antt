@@ -1,0 +1,101 @@
+-- The twelve inequalities between wishes and a plan. What each asks is written once, in bit times after the MST's end.
+use Rattle.std.specs.Prelude.{◌≡◌, ℕ, ◌+◌, ◌-◌, ◌*◌, ◌%◌, ◌<◌, ◌≤◌, max, List, [], ◌∷◌, length, Option, Some, None, option_map}
+use Rattle.sercos_model.specs.Frames.{wire_bits}
+use Rattle.sercos_timing.specs.Views.{WishesView, PlanView}
+use Rattle.sercos_timing.specs.Order.{times, sent, neighbor, previous, at_bits, mdt_bits, record_bytes, bits_of}
+use Rattle.sercos_timing.specs.declared.wishes.Wish.{Wish}
+use Rattle.sercos_timing.specs.declared.asked.StartRule.{StartRule}
+use Rattle.sercos_timing.specs.declared.asked.StartRule.TheVariants.{Own, Gap, Neighbor, Slave}
+
+-- What inequalities 1 to 4 ask of T1 of the drive k, whose AT is sent after those of `before`, where each AT begins at
+-- the bit time `b` of its drive. None where one asks nothing of this AT.
+-- 1: T1 is at least the drive's T1min
+abbrev pub asked_1 : WishesView → (ℕ → ℕ) → ℕ → List ℕ → Option ℕ
+asked_1 w b k before = Some (w.rate * (times w k).t1min)
+
+-- 2: the first AT of the order begins at least the gap after the MST
+abbrev pub asked_2 : WishesView → (ℕ → ℕ) → ℕ → List ℕ → Option ℕ
+asked_2 w b k [] = Some (w.rate * w.gap)
+asked_2 w b k (j ∷ before) = None
+
+-- 3: an AT begins at least the gap after the end of the AT right before it
+abbrev pub asked_3 : WishesView → (ℕ → ℕ) → ℕ → List ℕ → Option ℕ
+asked_3 w b k before = option_map (λ j. b j + (at_bits w j + w.rate * w.gap)) (neighbor w k before)
+
+-- 4: and at least the drive's TATAT after the end of the previous AT of the same slave
+abbrev pub asked_4 : WishesView → (ℕ → ℕ) → ℕ → List ℕ → Option ℕ
+asked_4 w b k before = option_map (λ j. b j + (at_bits w j + w.rate * (times w k).tatat)) (previous w k before)
+
+abbrev pub asked_of_start : WishesView → StartRule → (ℕ → ℕ) → ℕ → List ℕ → Option ℕ
+asked_of_start w Own = asked_1 w
+asked_of_start w Gap = asked_2 w
+asked_of_start w Neighbor = asked_3 w
+asked_of_start w Slave = asked_4 w
+
+-- What 5 and 6 ask of T2. 5: the MDT begins at least the gap after the end of the last AT
+abbrev pub asked_5 : WishesView → (ℕ → ℕ) → List ℕ → Option ℕ
+asked_5 w b [] = None
+asked_5 w b (last ∷ before) = Some (b last + (at_bits w last + w.rate * w.gap))
+
+-- 6: and at least the drive's TATMT after the end of its AT
+abbrev pub asked_6 : WishesView → (ℕ → ℕ) → ℕ → List ℕ → Option ℕ
+asked_6 w b k before = Some (b k + (at_bits w k + w.rate * (times w k).tatmt))
+
+-- 7, of T3, where the MDT begins at the bit time `b2`: at least the drive's TMTSG after the end of the MDT
+abbrev pub asked_7 : WishesView → ℕ → ℕ → List ℕ → Option ℕ
+asked_7 w b2 k before = Some (b2 + (mdt_bits w + w.rate * (times w k).tmtsg))
+
+-- 9: the MDT begins at `b2`, and after its end there is room for the gap and each drive's TMTSY before the next MST,
+-- which ends with the cycle. `switch` is the greatest TMTSY
+abbrev pub sum_9 : WishesView → ℕ → ℕ → ℕ
+sum_9 w b2 switch = b2 + (mdt_bits w + w.rate * max w.gap switch)
+
+-- an MST has two bytes of content
+abbrev pub bound_9 : WishesView → ℕ
+bound_9 w = w.rate * w.cycle - wire_bits 2
+
+abbrev pub greatest : (ℕ → ℕ) → List ℕ → ℕ
+greatest f [] = 0
+greatest f (k ∷ before) = max (f k) (greatest f before)
+
+abbrev pub greatest_tmtsy : WishesView → ℕ
+greatest_tmtsy w = greatest (λ k. (times w k).tmtsy) (sent w)
+
+-- 10, in microseconds: between T4 and the end of the cycle there is at least the drive's T4min
+abbrev pub asked_10 : WishesView → ℕ → ℕ → List ℕ → Option ℕ
+asked_10 w t4 k before = Some (t4 + (times w k).t4min)
+
+-- 12: the positions of the data records in the MDT, one after the other, the first one at `next`
+abbrev pub positions : ℕ → List Wish → List ℕ
+positions next [] = []
+positions next (d ∷ drives) = next ∷ positions (next + d.record_len) drives
+
+-- what is asked is met
+abbrev pub Meets : Option ℕ → ℕ → Type 0
+Meets None has = Unit {0}
+Meets (Some asked) has = asked ≤ has
+
+-- what is asked of each AT of a list, with those before it, is met
+abbrev pub Keeps : (ℕ → List ℕ → Option ℕ) → (ℕ → ℕ) → List ℕ → Type 0
+Keeps asked has [] = Unit {0}
+Keeps asked has (k ∷ before) = Meets (asked k before) (has k) × Keeps asked has before
+
+-- the plan keeps all inequalities
+pub record Fits (w : WishesView) (p : PlanView) : Type 0 where
+  pub times : length p.t1 ≡ length w.drives
+  pub places : length p.position ≡ length w.drives
+  pub rule_1 : Keeps (asked_1 w (bits_of w p.t1)) (bits_of w p.t1) (sent w)
+  pub rule_2 : Keeps (asked_2 w (bits_of w p.t1)) (bits_of w p.t1) (sent w)
+  pub rule_3 : Keeps (asked_3 w (bits_of w p.t1)) (bits_of w p.t1) (sent w)
+  pub rule_4 : Keeps (asked_4 w (bits_of w p.t1)) (bits_of w p.t1) (sent w)
+  pub rule_5 : Meets (asked_5 w (bits_of w p.t1) (sent w)) (w.rate * p.t2)
+  pub rule_6 : Keeps (asked_6 w (bits_of w p.t1)) (λ k. w.rate * p.t2) (sent w)
+  pub rule_7 : Keeps (asked_7 w (w.rate * p.t2)) (λ k. w.rate * p.t3) (sent w)
+  -- T3 lies within the cycle
+  pub rule_8 : p.t3 ≤ w.cycle
+  pub rule_9 : sum_9 w (w.rate * p.t2) (greatest_tmtsy w) ≤ bound_9 w
+  pub rule_10 : Keeps (asked_10 w p.t4) (λ k. w.cycle) (sent w)
+  -- the control unit cycle time is a positive multiple of the cycle time
+  pub rule_11 : (0 < w.control) × (w.control % w.cycle ≡ 0)
+  -- and the length of the MDT is that of all records together
+  pub rule_12 : (p.position ≡ positions 1 w.drives) × (p.mdt_len ≡ record_bytes w.drives)

@@ -1,0 +1,73 @@
+// What the inequalities ask of the start of an AT.
+ghost use Rattle.std.specs.Prelude.{◌≡◌, ℕ, ◌+◌, ◌*◌, ◌^◌, ◌<◌, ◌≤◌, length, slice_index, option_map, IfSome};
+ghost use Rattle.sercos_timing.specs.Order.{first_sent, place_at, at_bits, bits_of};
+ghost use Rattle.sercos_timing.specs.Inequalities.{asked_of_start};
+ghost use Rattle.sercos_timing.specs.Valid.{IsValid};
+
+use crate::wishes::Wishes;
+
+/// The inequalities that ask something of the starting time T1 of one drive.
+#[derive(Clone, Copy, Debug, PartialEq, Eq)]
+pub enum StartRule {
+    /// 1: T1 is at least the drive's T1min.
+    Own,
+    /// 2: the first AT of the order begins at least the gap after the MST.
+    Gap,
+    /// 3: an AT begins at least the gap after the end of the AT right before it.
+    Neighbor,
+    /// 4: an AT begins at least the drive's TATAT after the end of the previous AT of the same slave.
+    Slave,
+}
+
+/// The bit time at which the AT of the drive at a place of the ring has ended, where it starts at its T1, and so many
+/// microseconds more have passed, below 65,536. `t1` has the T1 of each drive in microseconds, in the order of the ring.
+pub fn after(w: &Wishes, t1: &[u32], place: usize, micros: u32) -> u64
+    requires valid { IsValid w.now }
+    requires count { length t1.now ≡ length w.now.drives }
+    requires within { place < length w.now.drives }
+    requires micros { micros < 65536 }
+    ensures value { result ≡ bits_of w.now t1.now place + (at_bits w.now place + w.now.rate * micros) }
+    ensures range { result < 2 ^ 42 }
+    ensures limit { (n : ℕ) → slice_index t1.now place ≤ n → result ≤ w.now.rate * (n + 66_300) }
+{
+    w.bits(t1[place]) + (w.at_bits(place) + w.bits(micros))
+}
+
+// The same for the AT at a place of the order, where there is one.
+fn after_at(w: &Wishes, t1: &[u32], at: Option<usize>, micros: u32) -> Option<u64>
+    requires valid { IsValid w.now }
+    requires count { length t1.now ≡ length w.now.drives }
+    requires within { IfSome at (λ i. i < length w.now.order) }
+    requires micros { micros < 65536 }
+    ensures value { result
+        ≡ option_map (λ k. bits_of w.now t1.now k + (at_bits w.now k + w.now.rate * micros)) (place_at w.now at) }
+    ensures range { IfSome result (λ asked. asked < 2 ^ 42) }
+    ensures limit { (n : ℕ) → ((j : ℕ) → slice_index t1.now j ≤ n)
+        → IfSome result (λ asked. asked ≤ w.now.rate * (n + 66_300)) }
+{
+    match at {
+        Some(i) => Some(after(w, t1, usize::from(w.order()[i]), micros)),
+        None => None,
+    }
+}
+
+/// What an inequality asks of the start of the AT at a place of the order, in bit times after the MST's end; None where it
+/// asks nothing. `t1` has the T1 of each drive in microseconds, in the order of the ring.
+pub fn asked_of_start(w: &Wishes, t1: &[u32], rule: StartRule, at: usize) -> Option<u64>
+    requires valid { IsValid w.now }
+    requires count { length t1.now ≡ length w.now.drives }
+    requires within { at < length w.now.order }
+    ensures value { result
+        ≡ asked_of_start w.now rule (bits_of w.now t1.now) (slice_index w.now.order at) (first_sent w.now.order at) }
+    ensures range { IfSome result (λ asked. asked < 2 ^ 42) }
+    ensures limit { (n : ℕ) → ((j : ℕ) → slice_index t1.now j ≤ n)
+        → IfSome result (λ asked. asked ≤ w.now.rate * (n + 66_300)) }
+{
+    let times = w.wish(usize::from(w.order()[at])).times;
+    match rule {
+        StartRule::Own => Some(w.bits(u32::from(times.t1min))),
+        StartRule::Gap => { if at == 0 { Some(w.bits(w.gap())) } else { None } }
+        StartRule::Neighbor => after_at(w, t1, w.neighbor_at(at), w.gap()),
+        StartRule::Slave => after_at(w, t1, w.previous_at(at), u32::from(times.tatat)),
+    }
+}

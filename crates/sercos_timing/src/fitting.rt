@@ -1,0 +1,229 @@
+// Whether a plan keeps the inequalities, and which one it breaks first.
+ghost use Rattle.std.specs.Prelude.{◌≡◌, ℕ, ◌+◌, ◌*◌, ◌^◌, ◌<◌, ◌≤◌, ◌↔◌, length, slice_index, IsOk, IfSome, IfErr, Some, nat_le};
+ghost use Rattle.sercos_timing.specs.Order.{first_sent, sent, bits_of};
+ghost use Rattle.sercos_timing.specs.Inequalities.{asked_5, sum_9, bound_9, greatest_tmtsy, Fits};
+ghost use Rattle.sercos_timing.specs.FirstBroken.{asked_by, has_by, is_met, first_unmet, first_misplaced, broken_by, broken_unless, broken_position, first_broken};
+ghost use Rattle.sercos_timing.specs.Valid.{IsValid};
+
+use crate::asked::{StartRule, after, asked_of_start};
+use crate::plan::Plan;
+use crate::wishes::Wishes;
+use arrayvec::ArrayVec;
+
+/// An inequality that a plan breaks.
+#[derive(Clone, Copy, Debug, PartialEq, Eq)]
+pub struct Broken {
+    /// Its number, 1 to 12.
+    pub rule: u8,
+    /// The address of the drive for which it is broken; 0 where it is no drive's own.
+    pub drive: u8,
+}
+
+// The inequalities that are asked of each AT of the order.
+#[derive(Clone, Copy, Debug, PartialEq, Eq)]
+enum AtRule {
+    // 1 to 4, of its start
+    Start(StartRule),
+    // 6: the MDT begins at least TATMT after its end
+    Master,
+    // 7: T3 is at least TMTSG after the end of the MDT
+    Records,
+    // 10: T4 is at least T4min before the end of the cycle
+    Capture,
+}
+
+// What an inequality asks of the AT at a place of the order; `t1` has the T1 of the plan.
+fn asked(w: &Wishes, p: &Plan, t1: &[u32], rule: AtRule, at: usize) -> Option<u64>
+    requires valid { IsValid w.now }
+    requires count { length p.now.t1 ≡ length w.now.drives }
+    requires t1 { t1.now ≡ p.now.t1 }
+    requires within { at < length w.now.order }
+    ensures { result ≡ asked_by w.now p.now rule (slice_index w.now.order at) (first_sent w.now.order at) }
+{
+    let place = usize::from(w.order()[at]);
+    let times = w.wish(place).times;
+    match rule {
+        AtRule::Start(start) => asked_of_start(w, t1, start, at),
+        AtRule::Master => Some(after(w, t1, place, u32::from(times.tatmt))),
+        AtRule::Records => Some(w.bits(p.t2()) + (w.mdt_bits() + w.bits(u32::from(times.tmtsg)))),
+        AtRule::Capture => Some(u64::from(p.t4()) + u64::from(times.t4min)),
+    }
+}
+
+// What stands at the place of which it is asked.
+fn has(w: &Wishes, p: &Plan, rule: AtRule, at: usize) -> u64
+    requires valid { IsValid w.now }
+    requires count { length p.now.t1 ≡ length w.now.drives }
+    requires within { at < length w.now.order }
+    ensures { result ≡ has_by w.now p.now rule (slice_index w.now.order at) }
+{
+    match rule {
+        AtRule::Start(_) => w.bits(u32::from(p.t1()[usize::from(w.order()[at])])),
+        AtRule::Master => w.bits(p.t2()),
+        AtRule::Records => w.bits(p.t3()),
+        AtRule::Capture => u64::from(w.cycle()),
+    }
+}
+
+fn is_met(asked: Option<u64>, has: u64) -> bool
+    ensures { result ≡ is_met asked has }
+{
+    match asked {
+        Some(least) => least <= has,
+        None => true,
+    }
+}
+
+// The T1 of a plan, as numbers of 32 bits.
+fn widened(times: &[u16]) -> ArrayVec<u32, 64>
+    requires { length times.now ≤ 64 }
+    ensures { result.items ≡ times.now }
+{
+    let mut wide = ArrayVec::new();
+    for &time in times {
+        wide.push(u32::from(time));
+    }
+    wide
+}
+
+// The place in the ring of the drive of the first AT for which an inequality isn't kept.
+fn unmet(w: &Wishes, p: &Plan, t1: &[u32], rule: AtRule) -> Option<usize>
+    requires valid { IsValid w.now }
+    requires count { length p.now.t1 ≡ length w.now.drives }
+    requires t1 { t1.now ≡ p.now.t1 }
+    ensures within { IfSome result (λ place. place < length w.now.drives) }
+    ensures value { result ≡ first_unmet (asked_by w.now p.now rule) (has_by w.now p.now rule) (sent w.now) }
+{
+    let order = w.order();
+    for at in 0..order.len() {
+        if !is_met(asked(w, p, t1, rule, at), has(w, p, rule, at)) {
+            return Some(usize::from(order[at]));
+        }
+    }
+    None
+}
+
+#[tactic(auto, unfolding(crate::specs::FirstBroken::broken_by))]
+fn broken_by(w: &Wishes, p: &Plan, t1: &[u32], number: u8, rule: AtRule) -> Option<Broken>
+    requires valid { IsValid w.now }
+    requires count { length p.now.t1 ≡ length w.now.drives }
+    requires t1 { t1.now ≡ p.now.t1 }
+    ensures { result ≡ broken_by w.now p.now number rule }
+{
+    match unmet(w, p, t1, rule) {
+        Some(place) => Some(Broken {
+            rule: number,
+            drive: w.wish(place).address,
+        }),
+        None => None,
+    }
+}
+
+fn broken_unless(number: u8, kept: bool) -> Option<Broken>
+    ensures { result ≡ broken_unless number kept }
+{
+    if kept {
+        None
+    } else {
+        Some(Broken {
+            rule: number,
+            drive: 0,
+        })
+    }
+}
+
+// Whether 5 is kept: the MDT begins at least the gap after the end of the last AT.
+fn is_last_kept(w: &Wishes, p: &Plan, t1: &[u32]) -> bool
+    requires valid { IsValid w.now }
+    requires count { length p.now.t1 ≡ length w.now.drives }
+    requires t1 { t1.now ≡ p.now.t1 }
+    ensures { result ≡ is_met (asked_5 w.now (bits_of w.now p.now.t1) (sent w.now)) (w.now.rate * p.now.t2) }
+{
+    let order = w.order();
+    let last = usize::from(order[order.len() - 1]);
+    after(w, t1, last, w.gap()) <= w.bits(p.t2())
+}
+
+// Whether 9 is kept: after the MDT there is room for the gap and the recovery of each drive before the next MST.
+fn is_turn_kept(w: &Wishes, p: &Plan) -> bool
+    requires valid { IsValid w.now }
+    ensures { result ≡ nat_le (sum_9 w.now (w.now.rate * p.now.t2) (greatest_tmtsy w.now)) (bound_9 w.now) }
+{
+    let pause = w.gap().max(w.greatest_tmtsy());
+    w.bits(p.t2()) + (w.mdt_bits() + w.bits(pause)) <= w.recovered_by()
+}
+
+// The address of the first drive of the ring whose position isn't right behind the record before it.
+fn misplaced(w: &Wishes, p: &Plan) -> Option<u8>
+    requires valid { IsValid w.now }
+    requires count { length p.now.position ≡ length w.now.drives }
+    ensures { result ≡ first_misplaced 1 w.now.drives p.now.position }
+{
+    let drives = w.drives();
+    let places = p.position();
+    let mut next = 1u16;
+    for i in 0..drives.len() {
+        if places[i] != next {
+            return Some(drives[i].address);
+        }
+        next += drives[i].record_len;
+    }
+    None
+}
+
+#[tactic(auto, unfolding(crate::specs::FirstBroken::broken_position))]
+fn broken_position(w: &Wishes, p: &Plan) -> Option<Broken>
+    requires valid { IsValid w.now }
+    requires count { length p.now.position ≡ length w.now.drives }
+    ensures { result ≡ broken_position w.now p.now }
+{
+    match misplaced(w, p) {
+        Some(address) => Some(Broken {
+            rule: 12,
+            drive: address,
+        }),
+        None => None,
+    }
+}
+
+// The first inequality that the plan breaks.
+#[tactic(auto, unfolding(crate::specs::FirstBroken::first_broken))]
+fn first_broken(w: &Wishes, p: &Plan) -> Option<Broken>
+    requires valid { IsValid w.now }
+    requires times { length p.now.t1 ≡ length w.now.drives }
+    requires places { length p.now.position ≡ length w.now.drives }
+    ensures { result ≡ first_broken w.now p.now }
+{
+    let starts = widened(p.t1());
+    let t1 = starts.as_slice();
+    let own = broken_by(w, p, t1, 1, AtRule::Start(StartRule::Own));
+    let gap = broken_by(w, p, t1, 2, AtRule::Start(StartRule::Gap));
+    let neighbor = broken_by(w, p, t1, 3, AtRule::Start(StartRule::Neighbor));
+    let slave = broken_by(w, p, t1, 4, AtRule::Start(StartRule::Slave));
+    let last = broken_unless(5, is_last_kept(w, p, t1));
+    let master = broken_by(w, p, t1, 6, AtRule::Master);
+    let records = broken_by(w, p, t1, 7, AtRule::Records);
+    let cycle = broken_unless(8, p.t3() <= w.cycle());
+    let turn = broken_unless(9, is_turn_kept(w, p));
+    let capture = broken_by(w, p, t1, 10, AtRule::Capture);
+    let position = broken_position(w, p);
+    let length = broken_unless(12, p.mdt_len() == w.record_bytes());
+    let of_cycle = cycle.or(turn.or(capture.or(position.or(length))));
+    own.or(gap.or(neighbor.or(slave.or(last.or(master.or(records.or(of_cycle)))))))
+}
+
+/// Whether a plan keeps the twelve inequalities. Else the answer is the first that it breaks: the least in number, and of
+/// that the first AT in the order of the telegrams. In 12 the drive is the first of the ring whose position is wrong; it is
+/// 0 in 5, 8 and 9, and in 12 where only the length of the MDT is wrong.
+pub fn fits(w: &Wishes, p: &Plan) -> Result<(), Broken>
+    requires valid { IsValid w.now }
+    requires times { length p.now.t1 ≡ length w.now.drives }
+    requires places { length p.now.position ≡ length w.now.drives }
+    ensures fits { IsOk result ↔ Fits w.now p.now }
+    ensures first { IfErr result (λ broken. first_broken w.now p.now ≡ Some broken) }
+{
+    match first_broken(w, p) {
+        Some(broken) => Err(broken),
+        None => Ok(()),
+    }
+}

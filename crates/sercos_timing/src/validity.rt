@@ -1,0 +1,116 @@
+// Wishes for which a plan may be asked.
+ghost use Rattle.std.specs.Prelude.{◌≡◌, ℕ, ◌+◌, ◌<◌, ◌≤◌, ◌↔◌, ◌⊎◌, ◌%◌, length, slice_index_or, IsTrue};
+ghost use Rattle.sercos_timing.specs.Order.{no_wish};
+ghost use Rattle.sercos_timing.specs.Valid.{AreDistinct, AreBelow, addresses, IsWish, AreDrives, IsOrder, AreCycles, IsValid};
+
+use crate::wishes::{Wish, Wishes};
+use arrayvec::ArrayVec;
+
+// The greatest length of all data records together: the address and they are the content of one frame.
+const MDT_LEN: u32 = 2047;
+
+const CYCLE: u16 = 64_000;
+
+const GAP: u16 = 1_000;
+
+fn is_wish(wish: &Wish) -> bool
+    ensures { IsTrue result ↔ IsWish wish.now }
+{
+    let address = 1 <= wish.address && wish.address <= 254;
+    let at_len = 4 <= wish.at_len && wish.at_len <= 68;
+    let record_len = 4 <= wish.record_len && wish.record_len <= 68;
+    address && at_len && record_len
+}
+
+fn are_wishes(drives: &[Wish]) -> bool
+    ensures { IsTrue result ↔ ((k : ℕ) → k < length drives.now → IsWish (slice_index_or drives.now k no_wish)) }
+{
+    for k in 0..drives.len() {
+        if !is_wish(&drives[k]) {
+            return false;
+        }
+    }
+    true
+}
+
+fn are_distinct(numbers: &[u8]) -> bool
+    ensures { IsTrue result ↔ AreDistinct numbers.now }
+{
+    for end in 0..numbers.len() {
+        if numbers[..end].contains(&numbers[end]) {
+            return false;
+        }
+    }
+    true
+}
+
+fn are_below(numbers: &[u8], limit: usize) -> bool
+    ensures { IsTrue result ↔ AreBelow numbers.now limit }
+{
+    for i in 0..numbers.len() {
+        if usize::from(numbers[i]) >= limit {
+            return false;
+        }
+    }
+    true
+}
+
+fn addresses(drives: &[Wish]) -> ArrayVec<u8, 64>
+    requires { length drives.now ≤ 64 }
+    ensures { result.items ≡ addresses drives.now }
+{
+    let mut addresses = ArrayVec::new();
+    for drive in drives {
+        addresses.push(drive.address);
+    }
+    addresses
+}
+
+// Whether a cycle time, in microseconds, is one of the standard.
+fn is_cycle(cycle: u16) -> bool
+    ensures { IsTrue result ↔ ((cycle ≡ 125) ⊎ ((250 ≤ cycle) × (cycle ≤ 64000) × (cycle % 250 ≡ 0))) }
+{
+    cycle == 125 || (250 <= cycle && cycle <= CYCLE && cycle % 250 == 0)
+}
+
+// Whether a control unit cycle time is a positive multiple of the cycle time.
+fn is_control(control: u16, cycle: u16) -> bool
+    requires { 0 < cycle }
+    ensures { IsTrue result ↔ ((1 ≤ control) × (control % cycle ≡ 0)) }
+{
+    1 <= control && control % cycle == 0
+}
+
+fn are_drives(w: &Wishes) -> bool
+    ensures { IsTrue result ↔ AreDrives w.now }
+{
+    let drives = w.drives();
+    let some = 1 <= drives.len();
+    let wishes = are_wishes(drives);
+    let apart = are_distinct(addresses(drives).as_slice());
+    let fit = w.record_bytes() <= MDT_LEN;
+    some && wishes && apart && fit
+}
+
+fn is_order(order: &[u8], drives: usize) -> bool
+    ensures { IsTrue result ↔ IsOrder order.now drives }
+{
+    order.len() == drives && are_below(order, drives) && are_distinct(order)
+}
+
+fn are_cycles(w: &Wishes) -> bool
+    ensures { IsTrue result ↔ AreCycles w.now }
+{
+    let rate = w.rate == 2 || w.rate == 4;
+    rate && w.gap <= GAP && is_cycle(w.cycle) && is_control(w.control, w.cycle)
+}
+
+/// Whether a plan may be asked for: 1 to 64 drives with addresses of their own from 1 to 254, an order that lists the place
+/// of each once, a rate of 2 or 4 bits per microsecond, a cycle time of 125 microseconds or a multiple of 250 from 250 to
+/// 64,000, a control unit cycle time that is a positive multiple of it, a gap of at most 1,000 microseconds, and lengths
+/// that frames have room for: 4 to 68 bytes for each AT and each data record, and at most 2,047 for all records together.
+pub fn valid(w: &Wishes) -> bool
+    ensures { IsTrue result ↔ IsValid w.now }
+{
+    are_drives(w) && is_order(w.order(), w.drives().len()) && are_cycles(w)
+}
