@@ -1,0 +1,5 @@
+pub mod Paths
+pub mod Answers
+pub mod Tables
+pub mod Lists
+pub mod Located

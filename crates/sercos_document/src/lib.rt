@@ -1,0 +1,11 @@
+//! Documents: tables with places, the values under their keys, and the refusals that name the path of a key.
+#![tactic(auto)]
+
+mod keys;
+mod lists;
+mod path;
+mod refusal;
+
+pub use keys::Keys;
+pub use path::{Path, Place};
+pub use refusal::BadDocument;
