@@ -3,3 +3,4 @@ pub mod Answers
 pub mod Tables
 pub mod Lists
 pub mod Located
+pub mod Lines

@@ -2,10 +2,12 @@
 #![tactic(auto)]
 
 mod keys;
+mod line;
 mod lists;
 mod path;
 mod refusal;
 
 pub use keys::Keys;
+pub use line::write_refusal;
 pub use path::{Path, Place};
 pub use refusal::BadDocument;
