@@ -2,3 +2,4 @@ pub mod Views
 pub mod Blocks
 pub mod BuiltIns
 pub mod Rules
+pub mod Rings

@@ -5,9 +5,11 @@ mod block;
 mod built_in;
 mod check;
 pub mod numbers;
+mod ring;
 mod setup;
 
 pub use block::Block;
 pub use built_in::{BUILT_IN, BuiltIn, Opening, is_built_in};
 pub use check::{BadBlock, Field, check_blocks};
+pub use ring::{attribute_in, cyclic_len, has_address, is_cycle, mdt_len};
 pub use setup::{DriveSetup, RingSetup};
