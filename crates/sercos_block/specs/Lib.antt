@@ -3,3 +3,4 @@ pub mod Blocks
 pub mod BuiltIns
 pub mod Rules
 pub mod Stores
+pub mod Rings

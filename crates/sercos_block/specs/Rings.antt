@@ -1,0 +1,154 @@
+-- The rules that a ring and its drives keep, and what a ring asks of its plan.
+use Rattle.std.specs.Prelude.{ℕ, ◌+◌, ◌%◌, ◌==◌, nat_lt, nat_le, Bool, true, not, ◌&&◌, ◌||◌, if◌then◌else◌, List, [], ◌∷◌, ◌++◌, length, map, Option, Some, None, is_some, is_none, unwrap_or, option_map, option_and_then}
+use Rattle.std.specs.List.{list_all, list_any, find, sum_by}
+use Rattle.std.specs.Option.{option_or}
+use Rattle.sercos_idn.specs.declared.idn.Idn.{Idn}
+use Rattle.sercos_idn.specs.declared.attribute.Attribute.{Attribute}
+use Rattle.sercos_idn.specs.Codes.{item_len, attribute_fault}
+use Rattle.sercos_idn.specs.Attributes.{attribute_of}
+use Rattle.sercos_timing.specs.declared.wishes.Times.{Times}
+use Rattle.sercos_timing.specs.declared.wishes.Wish.{Wish}
+use Rattle.sercos_timing.specs.Views.{WishesView}
+use Rattle.sercos_block.specs.declared.block.Block.{Block}
+use Rattle.sercos_block.specs.declared.built_in.BuiltIn.{BuiltIn}
+use Rattle.sercos_block.specs.BuiltIns.{built_ins}
+use Rattle.sercos_block.specs.Views.{DriveView, RingView}
+use Rattle.sercos_block.specs.Blocks.{is_number}
+use Rattle.sercos_block.specs.Rules.{blocks_fault}
+
+-- the attribute that a word is, if it is one's
+unfoldable pub attribute_in : ℕ → Option Attribute
+attribute_in word = if is_none (attribute_fault word) then Some (attribute_of word) else None
+
+-- the first of these rows of the table of built-in blocks with an identifier number
+unfoldable pub row_in : List BuiltIn → ℕ → Option BuiltIn
+row_in rows raw = find (λ row. row.idn.raw == raw) rows
+
+-- the attribute of the data block with an identifier number: a built-in one, or one of these of a drive
+unfoldable pub built_in_attribute : ℕ → Option Attribute
+built_in_attribute raw = option_and_then (λ row. attribute_in row.attribute) (row_in built_ins raw)
+
+unfoldable pub own_attribute : List Block → ℕ → Option Attribute
+own_attribute blocks raw = option_map (λ b. b.attribute) (find (λ b. b.idn.raw == raw) blocks)
+
+unfoldable pub block_attribute : List Block → ℕ → Option Attribute
+block_attribute blocks raw = option_or (built_in_attribute raw) (own_attribute blocks raw)
+
+-- How many bytes an identifier number adds to a telegram of a drive with these data blocks: two or four, those of the
+-- operation data of its block. Only a number can stand in a telegram, and no procedure command.
+abbrev pub number_len : Attribute → Option ℕ
+number_len a = if is_number a then Some (item_len a.length) else None
+
+unfoldable pub cyclic_len : List Block → ℕ → Option ℕ
+cyclic_len blocks raw = option_and_then number_len (block_attribute blocks raw)
+
+abbrev pub is_cyclic : List Block → ℕ → Bool
+is_cyclic blocks raw = is_some (cyclic_len blocks raw)
+
+-- how many bytes an AT has after its address, or a data record in the MDT: two words, and the operation data of a list of
+-- identifier numbers
+abbrev pub value_len : List Block → ℕ → ℕ
+value_len blocks raw = unwrap_or (cyclic_len blocks raw) 0
+
+unfoldable pub listed_len : List Block → List Idn → ℕ
+listed_len blocks idns = 4 + sum_by (λ idn. value_len blocks idn.raw) idns
+
+abbrev pub at_len : DriveView → ℕ
+at_len d = listed_len d.blocks d.at
+
+abbrev pub record_len : DriveView → ℕ
+record_len d = listed_len d.blocks d.mdt
+
+-- how many bytes the MDT has after its address
+unfoldable pub mdt_len : List DriveView → ℕ
+mdt_len drives = sum_by record_len drives
+
+-- the cycle times of the standard, in microseconds: 125, 250 and multiples of 250, here up to 64000
+unfoldable pub is_cycle : ℕ → Bool
+is_cycle cycle = (cycle == 125) || (nat_le 250 cycle && (nat_le cycle 64000 && (cycle % 250 == 0)))
+
+-- the control unit cycle time is a positive multiple of the cycle time, at most 64000
+unfoldable pub is_control : ℕ → ℕ → Bool
+is_control cycle control = nat_le 1 control && (nat_le control 64000 && (control % cycle == 0))
+
+-- the ring's own numbers: the rate, the cycle time, the control unit cycle time, the gap, and how many cycles it runs
+unfoldable pub are_ring_numbers : ℕ → ℕ → ℕ → ℕ → ℕ → Bool
+are_ring_numbers rate cycle control gap cycles =
+    ((rate == 2) || (rate == 4)) && (is_cycle cycle && (is_control cycle control
+    && (nat_le gap 1000 && (nat_le 1 cycles && nat_le cycles 50000))))
+
+abbrev pub has_ring_numbers : RingView → Bool
+has_ring_numbers r = are_ring_numbers r.rate r.cycle r.control r.gap r.cycles
+
+-- the times that a drive declares, in microseconds
+unfoldable pub are_times : Times → Bool
+are_times t =
+    nat_le t.t1min 300 && (nat_le t.tatmt 300 && (nat_le t.t4min 64000 && (nat_le t.tatat 64000
+    && (nat_le t.tmtsy 250 && nat_le t.tmtsg 64000))))
+
+-- an address of a drive or a slave
+abbrev pub is_address : ℕ → Bool
+is_address n = nat_le 1 n && nat_le n 254
+
+-- a drive's own numbers: busy and command are cycles
+unfoldable pub has_drive_numbers : DriveView → Bool
+has_drive_numbers d =
+    is_address d.address && (is_address d.slave && (nat_le d.busy 20 && (nat_le d.command 200 && (are_times d.times
+    && (nat_le d.cycle_min 64000 && nat_le d.cycle_max 64000)))))
+
+-- at most 36 data blocks, which keep their rules
+unfoldable pub has_blocks : DriveView → Bool
+has_blocks d = nat_le (length d.blocks) 36 && is_none (blocks_fault [] d.blocks)
+
+-- what its telegrams carry can stand in them
+unfoldable pub are_cyclic : List Block → List Idn → Bool
+are_cyclic blocks idns = list_all (λ idn. is_cyclic blocks idn.raw) idns
+
+-- one of the drives has the address
+unfoldable pub has_address : ℕ → List DriveView → Bool
+has_address address drives = list_any (λ d. d.address == address) drives
+
+-- a drive may stand behind these in the ring
+unfoldable pub is_drive : List DriveView → DriveView → Bool
+is_drive before d =
+    not (has_address d.address before) && (has_drive_numbers d && (has_blocks d
+    && (are_cyclic d.blocks d.at && are_cyclic d.blocks d.mdt)))
+
+-- each drive may stand behind those before it
+unfoldable pub are_drives : List DriveView → List DriveView → Bool
+are_drives before [] = true
+are_drives before (d ∷ drives) = is_drive before d && are_drives (before ++ d ∷ []) drives
+
+-- one of so many places may stand behind these in the order
+unfoldable pub is_turn : ℕ → List ℕ → ℕ → Bool
+is_turn drives before place = nat_lt place drives && not (list_any (λ k. k == place) before)
+
+unfoldable pub are_turns : ℕ → List ℕ → List ℕ → Bool
+are_turns drives before [] = true
+are_turns drives before (place ∷ order) = is_turn drives before place && are_turns drives (before ++ place ∷ []) order
+
+-- the order lists the place of each of so many drives once
+unfoldable pub is_order : ℕ → List ℕ → Bool
+is_order drives order = (length order == drives) && are_turns drives [] order
+
+-- 1 to 64 drives, whose data records fit into an MDT of 2048 bytes of content
+unfoldable pub has_drives : RingView → Bool
+has_drives r =
+    nat_le 1 (length r.drives) && (nat_le (length r.drives) 64 && (are_drives [] r.drives && nat_le (mdt_len r.drives) 2047))
+
+unfoldable pub is_ring : RingView → Bool
+is_ring r = has_ring_numbers r && (has_drives r && is_order (length r.drives) r.order)
+
+-- what a ring asks of its plan: the times that its drives declare, and the lengths of their telegrams
+abbrev pub wish_of : DriveView → Wish
+wish_of d = record { address = d.address; slave = d.slave; times = d.times; at_len = at_len d; record_len = record_len d }
+
+unfoldable pub wishes_of : RingView → WishesView
+wishes_of r = record {
+  rate = r.rate;
+  cycle = r.cycle;
+  control = r.control;
+  gap = r.gap;
+  order = r.order;
+  drives = map wish_of r.drives;
+}

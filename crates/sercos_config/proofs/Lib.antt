@@ -1,0 +1,5 @@
+pub mod BlockLemmas
+pub mod DriveLemmas
+pub mod OrderLemmas
+pub mod TextLemmas
+pub mod IdnLemmas

@@ -1,0 +1,76 @@
+-- A drive of a document.
+use Rattle.std.specs.Prelude.{ℕ, pos, ◌++◌, not, Bool, List, [], ◌∷◌, length, codes, Result, Ok, Err}
+use Rattle.toml.specs.Data.{Members, Items, as_str}
+use Rattle.sercos_idn.specs.declared.idn.Idn.{Idn}
+use Rattle.sercos_timing.specs.declared.wishes.Times.{Times}
+use Rattle.sercos_block.specs.declared.block.Block.{Block}
+use Rattle.sercos_block.specs.Views.{DriveView}
+use Rattle.sercos_block.specs.Rings.{is_cyclic, has_address}
+use Rattle.sercos_document.specs.declared.path.Place.{Place}
+use Rattle.sercos_document.specs.declared.path.Place.TheVariants as place
+use Rattle.sercos_document.specs.declared.refusal.BadDocument.TheVariants as bad
+use Rattle.sercos_document.specs.Paths.{path, item_path}
+use Rattle.sercos_document.specs.Answers.{Answer, ◌>>=◌, ◌>>◌, demand}
+use Rattle.sercos_document.specs.Tables.{Located, number, number_or, known}
+use Rattle.sercos_document.specs.Lists.{tables, short_list, all_onto}
+use Rattle.sercos_config.specs.Block.{idn_in, blocks_onto}
+
+-- the identifier number of an item, which can stand in a telegram of the drive; else Range with the raw number
+unfoldable pub idn_at : List Block → Place → List ℕ → ℕ → List ℕ → Answer Idn
+idn_at blocks place key item text = do
+  idn ← idn_in (item_path place key item) text
+  demand (is_cyclic blocks idn.raw) (bad.Range (item_path place key item) (pos idn.raw))
+  Ok idn
+
+-- those of these texts, behind those
+unfoldable pub idns_onto : List Block → Place → List ℕ → List Idn → List (List ℕ) → Answer (List Idn)
+idns_onto blocks place key done [] = Ok done
+idns_onto blocks place key done (text ∷ rest) =
+    idn_at blocks place key (length done) text >>= (λ idn. idns_onto blocks place key (done ++ idn ∷ []) rest)
+
+-- those of a list, whose items are all texts
+unfoldable pub idns_of : List Block → Place → List ℕ → Items → Answer (List Idn)
+idns_of blocks place key items = all_onto as_str place key [] items >>= idns_onto blocks place key []
+
+-- the times that a drive declares, in microseconds
+unfoldable pub times_of : Located → Answer Times
+times_of t = do
+  t1min ← number t (codes "t1min") 0 300
+  tatmt ← number t (codes "tatmt") 0 300
+  t4min ← number t (codes "t4min") 0 64000
+  tatat ← number t (codes "tatat") 0 64000
+  tmtsy ← number t (codes "tmtsy") 0 250
+  tmtsg ← number t (codes "tmtsg") 0 64000
+  Ok (record { t1min = t1min; tatmt = tatmt; t4min = t4min; tatat = tatat; tmtsy = tmtsy; tmtsg = tmtsg })
+
+unfoldable pub drive_keys : List (List ℕ)
+drive_keys =
+    codes "address" ∷ codes "slave" ∷ codes "busy" ∷ codes "command" ∷ codes "t1min" ∷ codes "tatmt" ∷ codes "t4min" ∷ codes "tatat"
+    ∷ codes "tmtsy" ∷ codes "tmtsg" ∷ codes "cycle_min" ∷ codes "cycle_max" ∷ codes "block" ∷ codes "at" ∷ codes "mdt" ∷ []
+
+-- The drive of a table, behind these drives. Its blocks come after its own keys, and the items of `at` and `mdt` after the
+-- blocks, in which they are looked up.
+unfoldable pub drive_of : List DriveView → Located → Answer DriveView
+drive_of before t = do
+  known t drive_keys
+  address ← number t (codes "address") 1 254
+  demand (not (has_address address before)) (bad.Twice (path t.place (codes "address")))
+  slave ← number_or t (codes "slave") 1 254 address
+  busy ← number_or t (codes "busy") 0 20 0
+  command ← number_or t (codes "command") 0 200 0
+  times ← times_of t
+  cycle_min ← number_or t (codes "cycle_min") 0 64000 125
+  cycle_max ← number_or t (codes "cycle_max") 0 64000 64000
+  tables ← tables t (codes "block") 0 36
+  at_items ← short_list t (codes "at") 16
+  mdt_items ← short_list t (codes "mdt") 16
+  blocks ← blocks_onto (length before) [] tables
+  at ← idns_of blocks t.place (codes "at") at_items
+  mdt ← idns_of blocks t.place (codes "mdt") mdt_items
+  Ok (record { address = address; slave = slave; busy = busy; command = command; times = times; cycle_min = cycle_min; cycle_max = cycle_max; at = at; mdt = mdt; blocks = blocks })
+
+-- the drives of these tables, behind those
+unfoldable pub drives_onto : List DriveView → List Members → Answer (List DriveView)
+drives_onto done [] = Ok done
+drives_onto done (t ∷ ts) =
+    drive_of done (record { place = place.Drive (length done); members = t }) >>= (λ drive. drives_onto (done ++ drive ∷ []) ts)

@@ -1,0 +1,5 @@
+pub mod Numbers
+pub mod Block
+pub mod Drive
+pub mod Ring
+pub mod Document

@@ -1,0 +1,219 @@
+// The data blocks of a drive.
+ghost use Rattle.std.specs.Prelude.{◌≡◌, ◌<◌, ◌≤◌, ◌^◌, true, None, Some, [], ◌==◌, ◌&&◌, ◌||◌, not, is_none, length, map, IfOk};
+ghost use Rattle.std.specs.List.{list_all};
+ghost use Rattle.toml.specs.View.{table_view};
+ghost use Rattle.sercos_block.specs.Blocks.{is_number};
+ghost use Rattle.sercos_block.specs.BuiltIns.{is_built_in};
+ghost use Rattle.sercos_block.specs.Rules.{has_block, is_printable, is_text, block_fault, blocks_fault};
+ghost use Rattle.sercos_document.specs.Paths.{path};
+ghost use Rattle.sercos_document.specs.Answers.{Gives, Shows};
+ghost use Rattle.sercos_document.specs.Tables.{known};
+ghost use Rattle.sercos_document.specs.Located.{located};
+ghost use Rattle.sercos_config.specs.Block.{idn_of, idn_in, attribute_under, text_under, step_under, fails_under, block_keys, block_of, blocks_onto};
+
+use crate::data::{read_data, read_limit, read_max_len, text_of};
+use sercos_bits::Text;
+use sercos_block::{Block, attribute_in, is_built_in};
+use sercos_document::{BadDocument, Keys, Place};
+use sercos_idn::{Attribute, Idn};
+use std::alloc::Global;
+use toml::Table;
+
+/// The data blocks of a drive's tables. The drive is named by its place.
+#[tactic(auto, using(crate::proofs::BlockLemmas::blocks_none, crate::proofs::BlockLemmas::blocks_more), unfolding(crate::specs::Block::blocks_onto))]
+pub(crate) fn read_blocks(
+    alloc: Global,
+    drive: usize,
+    tables: &[&Table],
+) -> Result<Vec<Block>, BadDocument>
+    ensures value { Shows (λ v. v.items) result (blocks_onto drive [] (map (λ t. table_view t.now) tables.now)) }
+    ensures valid { IfOk result (λ v. blocks_fault [] v.items ≡ None) }
+    ensures count { IfOk result (λ v. length v.items ≡ length tables.now) }
+{
+    let mut blocks = Vec::new(alloc);
+    for table in tables {
+        let keys = Keys {
+            alloc,
+            place: Place::Block(drive, blocks.len()),
+            table: *table,
+        };
+        let block = read_block(&keys, blocks.as_slice())?;
+        blocks.push(block)?;
+    }
+    Ok(blocks)
+}
+
+// The data block of a table, behind these blocks of its drive.
+#[tactic(auto, unfolding(crate::specs::Block::block_of, sercos_block::specs::Rules::block_fault))]
+fn read_block(keys: &Keys<'_>, before: &[Block]) -> Result<Block, BadDocument>
+    ensures value { Gives result (block_of before.now (located keys.now)) }
+    ensures valid { IfOk result (λ b. block_fault before.now b ≡ None) }
+{
+    known(keys)?;
+    let idn = read_idn(keys, "idn", keys.required_text("idn")?)?;
+    let taken = is_taken(idn, before);
+    keys.demand_once(!taken, "idn")?;
+    let attribute = read_attribute(keys)?;
+    let name = read_text(keys, "name", 60)?;
+    let unit = read_text(keys, "unit", 12)?;
+    let min = read_limit(keys, "min", attribute)?;
+    let max = read_limit(keys, "max", attribute)?;
+    let max_len = read_max_len(keys, attribute)?;
+    let value = read_data(keys, max_len, attribute)?;
+    let fixed = keys.boolean_or("fixed", false)?;
+    let step = read_step(keys, attribute, min, max)?;
+    let fails = read_fails(keys, attribute)?;
+    Ok(Block {
+        idn,
+        attribute,
+        name,
+        unit,
+        min,
+        max,
+        value,
+        max_len,
+        fixed,
+        step,
+        fails,
+    })
+}
+
+#[tactic(auto, unfolding(crate::specs::Block::block_keys))]
+fn known(keys: &Keys<'_>) -> Result<(), BadDocument>
+    ensures { Gives result (known (located keys.now) block_keys) }
+{
+    keys.known(&[
+        "idn",
+        "attribute",
+        "name",
+        "unit",
+        "min",
+        "max",
+        "max_len",
+        "data",
+        "fixed",
+        "step",
+        "fails",
+    ])
+}
+
+/// The identifier number that a text spells.
+#[tactic(auto, unfolding(crate::specs::Block::idn_of))]
+pub(crate) fn idn_of(text: &str) -> Option<Idn>
+    ensures { result ≡ idn_of text.now }
+{
+    match Idn::parse(text) {
+        Ok(idn) => Some(numbered(idn.raw)),
+        Err(_) => None,
+    }
+}
+
+// An identifier number, with the range of its bits as a fact for callers.
+fn numbered(raw: u16) -> Idn
+    ensures value { result ≡ record { raw = raw } }
+    ensures bound { raw < 2 ^ 16 }
+{
+    Idn { raw }
+}
+
+// The identifier number of the text under a key.
+#[tactic(auto, unfolding(crate::specs::Block::idn_in))]
+fn read_idn(keys: &Keys<'_>, key: &str, text: &str) -> Result<Idn, BadDocument>
+    ensures { Gives result (idn_in (path keys.now.place key.now) text.now) }
+{
+    match idn_of(text) {
+        Some(idn) => Ok(idn),
+        None => Err(keys.range(key, text.len() as i64)),
+    }
+}
+
+// Whether a built-in block or one of these has the identifier number.
+fn is_taken(idn: Idn, blocks: &[Block]) -> bool
+    ensures { result ≡ (is_built_in idn.raw || has_block idn.raw blocks.now) }
+{
+    let built_in = is_built_in(idn);
+    let own = has_block(idn, blocks);
+    built_in || own
+}
+
+fn has_block(idn: Idn, blocks: &[Block]) -> bool
+    ensures { result ≡ has_block idn.raw blocks.now }
+{
+    blocks.iter().any(|block| block.idn == idn)
+}
+
+// The attribute whose word stands under its key.
+#[tactic(auto, unfolding(crate::specs::Block::attribute_under))]
+fn read_attribute(keys: &Keys<'_>) -> Result<Attribute, BadDocument>
+    ensures { Gives result (attribute_under (located keys.now)) }
+{
+    let word = keys.number("attribute", 0, u32::MAX)?;
+    match attribute_in(word) {
+        Some(attribute) => Ok(attribute),
+        None => Err(keys.range("attribute", i64::from(word))),
+    }
+}
+
+// The name or unit of at most so many bytes under a key, if the key stands.
+#[tactic(auto, unfolding(crate::specs::Block::text_under))]
+fn read_text(keys: &Keys<'_>, key: &str, most: usize) -> Result<Option<Text>, BadDocument>
+    requires { most ≤ 1024 }
+    ensures value { Gives result (text_under (located keys.now) key.now most) }
+    ensures valid { IfOk result (λ text. is_text most text ≡ true) }
+{
+    match keys.text(key)? {
+        None => Ok(None),
+        Some(text) => {
+            let bytes = text.as_bytes();
+            let allowed = is_text(bytes, most);
+            keys.demand(allowed, key, bytes.len() as i64)?;
+            Ok(Some(text_of(bytes)))
+        }
+    }
+}
+
+// Whether a name or a unit can be this text.
+fn is_text(text: &[u8], most: usize) -> bool
+    ensures value { result ≡ is_text most (Some text.now) }
+    ensures short { result ≡ true → length text.now ≤ most }
+{
+    let some = 1 <= text.len();
+    let few = text.len() <= most;
+    let plain = are_printable(text);
+    some && few && plain
+}
+
+fn are_printable(bytes: &[u8]) -> bool
+    ensures { result ≡ list_all is_printable bytes.now }
+{
+    bytes.iter().all(|byte| 0x20 <= *byte && *byte <= 0x7e)
+}
+
+// The step under its key, or 0.
+#[tactic(auto, unfolding(crate::specs::Block::step_under))]
+fn read_step(
+    keys: &Keys<'_>,
+    attribute: Attribute,
+    min: Option<u32>,
+    max: Option<u32>,
+) -> Result<u32, BadDocument>
+    ensures value { Gives result (step_under attribute min max (located keys.now)) }
+    ensures valid { IfOk result (λ step. ((step == 0) || (is_number attribute && (is_none min && is_none max))) ≡ true) }
+{
+    let step = keys.number_or("step", 0, u32::MAX, 0)?;
+    let number = !attribute.length.is_list() && !attribute.command;
+    let free = min.is_none() && max.is_none();
+    keys.demand(step == 0 || number && free, "step", i64::from(step))?;
+    Ok(step)
+}
+
+// Whether the block fails.
+#[tactic(auto, unfolding(crate::specs::Block::fails_under))]
+fn read_fails(keys: &Keys<'_>, attribute: Attribute) -> Result<bool, BadDocument>
+    ensures value { Gives result (fails_under attribute (located keys.now)) }
+    ensures valid { IfOk result (λ fails. not (fails && not attribute.command) ≡ true) }
+{
+    let fails = keys.boolean_or("fails", false)?;
+    keys.demand(!(fails && !attribute.command), "fails", 1)?;
+    Ok(fails)
+}

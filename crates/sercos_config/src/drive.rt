@@ -1,0 +1,189 @@
+// The drives of a ring.
+ghost use Rattle.std.specs.Prelude.{◌≡◌, ◌≤◌, true, [], length, map, IfOk};
+ghost use Rattle.toml.specs.View.{table_view, items_view};
+ghost use Rattle.sercos_block.specs.Rings.{is_cyclic, are_cyclic, are_times, are_drives, is_drive};
+ghost use Rattle.sercos_document.specs.Paths.{item_path};
+ghost use Rattle.sercos_document.specs.Answers.{Gives, Shows};
+ghost use Rattle.sercos_document.specs.Tables.{known};
+ghost use Rattle.sercos_document.specs.Located.{located};
+ghost use Rattle.sercos_config.specs.Block.{idn_in};
+ghost use Rattle.sercos_config.specs.Drive.{idn_at, idns_onto, idns_of, times_of, drive_keys, drive_of, drives_onto};
+
+use crate::block::{idn_of, read_blocks};
+use arrayvec::ArrayVec;
+use sercos_block::{Block, DriveSetup, cyclic_len, has_address};
+use sercos_document::{BadDocument, Keys, Place};
+use sercos_idn::Idn;
+use sercos_timing::Times;
+use std::alloc::Global;
+use toml::{Table, Value};
+
+/// The drives of a document's tables.
+#[tactic(auto, using(crate::proofs::DriveLemmas::drives_none, crate::proofs::DriveLemmas::drives_more), unfolding(crate::specs::Drive::drives_onto))]
+pub(crate) fn read_drives(alloc: Global, tables: &[&Table]) -> Result<Vec<DriveSetup>, BadDocument>
+    ensures value { Shows (λ v. v.items) result (drives_onto [] (map (λ t. table_view t.now) tables.now)) }
+    ensures valid { IfOk result (λ v. are_drives [] v.items ≡ true) }
+    ensures count { IfOk result (λ v. length v.items ≡ length tables.now) }
+{
+    let mut drives = Vec::new(alloc);
+    for table in tables {
+        let keys = Keys {
+            alloc,
+            place: Place::Drive(drives.len()),
+            table: *table,
+        };
+        let drive = read_drive(&keys, drives.as_slice())?;
+        drives.push(drive)?;
+    }
+    Ok(drives)
+}
+
+// The drive of a table, behind these drives.
+#[tactic(auto, unfolding(crate::specs::Drive::drive_of, sercos_block::specs::Rings::is_drive, sercos_block::specs::Rings::has_drive_numbers, sercos_block::specs::Rings::has_blocks))]
+fn read_drive(keys: &Keys<'_>, before: &[DriveSetup]) -> Result<DriveSetup, BadDocument>
+    ensures value { Gives result (drive_of before.now (located keys.now)) }
+    ensures valid { IfOk result (λ d. is_drive before.now d ≡ true) }
+{
+    known(keys)?;
+    let address = keys.number("address", 1, 254)?;
+    let taken = has_address(address as u8, before);
+    keys.demand_once(!taken, "address")?;
+    let slave = keys.number_or("slave", 1, 254, address)?;
+    let busy = keys.number_or("busy", 0, 20, 0)?;
+    let command = keys.number_or("command", 0, 200, 0)?;
+    let times = read_times(keys)?;
+    let cycle_min = keys.number_or("cycle_min", 0, 64000, 125)?;
+    let cycle_max = keys.number_or("cycle_max", 0, 64000, 64000)?;
+    let tables = keys.tables("block", 0, 36)?;
+    let at_items = keys.short_list("at", 16)?;
+    let mdt_items = keys.short_list("mdt", 16)?;
+    let blocks = read_blocks(keys.alloc, before.len(), tables.as_slice())?;
+    let at = read_idns(keys, blocks.as_slice(), "at", at_items)?;
+    let mdt = read_idns(keys, blocks.as_slice(), "mdt", mdt_items)?;
+    Ok(DriveSetup {
+        address: address as u8,
+        slave: slave as u8,
+        busy: busy as u8,
+        command: command as u16,
+        times,
+        cycle_min: cycle_min as u16,
+        cycle_max: cycle_max as u16,
+        at,
+        mdt,
+        blocks,
+    })
+}
+
+#[tactic(auto, unfolding(crate::specs::Drive::drive_keys))]
+fn known(keys: &Keys<'_>) -> Result<(), BadDocument>
+    ensures { Gives result (known (located keys.now) drive_keys) }
+{
+    keys.known(&[
+        "address",
+        "slave",
+        "busy",
+        "command",
+        "t1min",
+        "tatmt",
+        "t4min",
+        "tatat",
+        "tmtsy",
+        "tmtsg",
+        "cycle_min",
+        "cycle_max",
+        "block",
+        "at",
+        "mdt",
+    ])
+}
+
+// The times that the drive declares.
+#[tactic(auto, unfolding(crate::specs::Drive::times_of, sercos_block::specs::Rings::are_times))]
+fn read_times(keys: &Keys<'_>) -> Result<Times, BadDocument>
+    ensures value { Gives result (times_of (located keys.now)) }
+    ensures valid { IfOk result (λ times. are_times times ≡ true) }
+{
+    let t1min = keys.number("t1min", 0, 300)?;
+    let tatmt = keys.number("tatmt", 0, 300)?;
+    let t4min = keys.number("t4min", 0, 64000)?;
+    let tatat = keys.number("tatat", 0, 64000)?;
+    let tmtsy = keys.number("tmtsy", 0, 250)?;
+    let tmtsg = keys.number("tmtsg", 0, 64000)?;
+    Ok(Times {
+        t1min: t1min as u16,
+        tatmt: tatmt as u16,
+        t4min: t4min as u16,
+        tatat: tatat as u16,
+        tmtsy: tmtsy as u16,
+        tmtsg: tmtsg as u16,
+    })
+}
+
+// The identifier numbers of a list, which can stand in a telegram of a drive with these blocks.
+#[tactic(auto, unfolding(crate::specs::Drive::idns_of))]
+fn read_idns(
+    keys: &Keys<'_>,
+    blocks: &[Block],
+    key: &str,
+    items: &[Value],
+) -> Result<ArrayVec<Idn, 16>, BadDocument>
+    requires { length items.now ≤ 16 }
+    ensures value { Shows (λ v. v.items) result
+        (idns_of blocks.now keys.now.place key.now (items_view items.now)) }
+    ensures valid { IfOk result (λ v. are_cyclic blocks.now v.items ≡ true) }
+{
+    let texts = keys.texts(key, items)?;
+    read_texts(keys, blocks, key, texts.as_slice())
+}
+
+// Those of these texts.
+#[tactic(auto, unfolding(crate::specs::Drive::idns_onto, sercos_block::specs::Rings::are_cyclic))]
+fn read_texts(
+    keys: &Keys<'_>,
+    blocks: &[Block],
+    key: &str,
+    texts: &[&str],
+) -> Result<ArrayVec<Idn, 16>, BadDocument>
+    requires { length texts.now ≤ 16 }
+    ensures value { Shows (λ v. v.items) result
+        (idns_onto blocks.now keys.now.place key.now [] (map (λ t. t.now) texts.now)) }
+    ensures valid { IfOk result (λ v. are_cyclic blocks.now v.items ≡ true) }
+{
+    let mut idns = ArrayVec::new();
+    for text in texts {
+        let idn = read_item(keys, blocks, key, idns.len(), *text)?;
+        idns.push(idn);
+    }
+    Ok(idns)
+}
+
+// That of an item.
+#[tactic(auto, unfolding(crate::specs::Drive::idn_at, sercos_document::specs::Answers::demand))]
+fn read_item(
+    keys: &Keys<'_>,
+    blocks: &[Block],
+    key: &str,
+    item: usize,
+    text: &str,
+) -> Result<Idn, BadDocument>
+    ensures value { Gives result (idn_at blocks.now keys.now.place key.now item text.now) }
+    ensures valid { IfOk result (λ idn. is_cyclic blocks.now idn.raw ≡ true) }
+{
+    let idn = read_item_idn(keys, key, item, text)?;
+    if cyclic_len(blocks, idn).is_some() {
+        Ok(idn)
+    } else {
+        Err(keys.item_range(key, item, i64::from(idn.raw)))
+    }
+}
+
+// The identifier number that an item spells.
+#[tactic(auto, unfolding(crate::specs::Block::idn_in))]
+fn read_item_idn(keys: &Keys<'_>, key: &str, item: usize, text: &str) -> Result<Idn, BadDocument>
+    ensures { Gives result (idn_in (item_path keys.now.place key.now item) text.now) }
+{
+    match idn_of(text) {
+        Some(idn) => Ok(idn),
+        None => Err(keys.item_range(key, item, text.len() as i64)),
+    }
+}

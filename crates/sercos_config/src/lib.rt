@@ -1,0 +1,11 @@
+//! Ring documents: what a TOML text says of a ring, or the first reason to refuse it.
+#![tactic(auto)]
+
+mod block;
+mod data;
+mod document;
+mod drive;
+mod ring;
+
+pub use document::{Document, read_ring};
+pub use sercos_document::{BadDocument, Path, write_refusal};

@@ -1,0 +1,171 @@
+// The ring's own keys, and the order of its drives.
+ghost use Rattle.std.specs.Prelude.{◌≡◌, ◌≤◌, ◌<◌, ◌==◌, true, [], length, IfOk, IfSome};
+ghost use Rattle.std.specs.List.{list_any};
+ghost use Rattle.toml.specs.View.{items_view};
+ghost use Rattle.sercos_block.specs.Rings.{are_ring_numbers, is_turn, are_turns, is_order};
+ghost use Rattle.sercos_document.specs.Answers.{Gives, Shows};
+ghost use Rattle.sercos_document.specs.Tables.{known};
+ghost use Rattle.sercos_document.specs.Located.{located};
+ghost use Rattle.sercos_config.specs.Ring.{ring_keys, head_of, place_from, turn_of, turns_onto, listed_order, places_below, order_of};
+
+use arrayvec::ArrayVec;
+use sercos_block::{DriveSetup, is_cycle};
+use sercos_document::{BadDocument, Keys};
+use toml::Value;
+
+/// The numbers of a ring: times in microseconds, and how many cycles it runs.
+#[derive(Clone, Copy, Debug, PartialEq, Eq)]
+pub(crate) struct Head {
+    pub rate: u8,
+    pub cycle: u16,
+    pub control: u16,
+    pub gap: u16,
+    pub cycles: u32,
+}
+
+/// The numbers of the ring's table.
+#[tactic(auto, unfolding(crate::specs::Ring::head_of, sercos_block::specs::Rings::are_ring_numbers, sercos_block::specs::Rings::is_control))]
+pub(crate) fn read_head(keys: &Keys<'_>) -> Result<Head, BadDocument>
+    ensures value { Gives result (head_of (located keys.now)) }
+    ensures valid { IfOk result (λ h. are_ring_numbers h.rate h.cycle h.control h.gap h.cycles ≡ true) }
+{
+    known(keys)?;
+    let rate = keys.number("rate", 2, 4)?;
+    keys.demand(rate != 3, "rate", i64::from(rate))?;
+    let cycle = keys.number("cycle", 125, 64000)?;
+    keys.demand(is_cycle(cycle), "cycle", i64::from(cycle))?;
+    let control = keys.number_or("control", 1, 64000, cycle)?;
+    keys.demand(control % cycle == 0, "control", i64::from(control))?;
+    let gap = keys.number_or("gap", 0, 1000, 5)?;
+    let cycles = keys.number("cycles", 1, 50000)?;
+    Ok(Head {
+        rate: rate as u8,
+        cycle: cycle as u16,
+        control: control as u16,
+        gap: gap as u16,
+        cycles,
+    })
+}
+
+#[tactic(auto, unfolding(crate::specs::Ring::ring_keys))]
+fn known(keys: &Keys<'_>) -> Result<(), BadDocument>
+    ensures { Gives result (known (located keys.now) ring_keys) }
+{
+    keys.known(&["rate", "cycle", "control", "gap", "cycles", "order"])
+}
+
+/// The order of the drives, by their places in the ring.
+#[tactic(auto, unfolding(crate::specs::Ring::order_of))]
+pub(crate) fn read_order(
+    keys: &Keys<'_>,
+    drives: &[DriveSetup],
+) -> Result<ArrayVec<u8, 64>, BadDocument>
+    requires { length drives.now ≤ 64 }
+    ensures value { Shows (λ v. v.items) result (order_of drives.now (located keys.now)) }
+    ensures valid { IfOk result (λ v. is_order (length drives.now) v.items ≡ true) }
+{
+    match keys.list("order")? {
+        None => Ok(all_drives(drives.len())),
+        Some(list) => read_listed(keys, drives, "order", list.as_slice()),
+    }
+}
+
+// All drives, in the order of the ring.
+#[tactic(auto, using(crate::proofs::OrderLemmas::places_more, crate::proofs::OrderLemmas::is_order_places), unfolding(crate::specs::Ring::places_below))]
+fn all_drives(count: usize) -> ArrayVec<u8, 64>
+    requires { count ≤ 64 }
+    ensures value { result.items ≡ places_below count }
+    ensures valid { is_order count result.items ≡ true }
+{
+    let mut order = ArrayVec::new();
+    for place in 0..count {
+        order.push(place as u8);
+    }
+    order
+}
+
+// The order of a list of addresses.
+#[tactic(auto, unfolding(crate::specs::Ring::listed_order, sercos_block::specs::Rings::is_order))]
+fn read_listed(
+    keys: &Keys<'_>,
+    drives: &[DriveSetup],
+    key: &str,
+    items: &[Value],
+) -> Result<ArrayVec<u8, 64>, BadDocument>
+    requires { length drives.now ≤ 64 }
+    ensures value { Shows (λ v. v.items) result
+        (listed_order drives.now keys.now.place key.now (items_view items.now)) }
+    ensures valid { IfOk result (λ v. is_order (length drives.now) v.items ≡ true) }
+{
+    let addresses = keys.numbers(key, items)?;
+    keys.demand(addresses.len() == drives.len(), key, addresses.len() as i64)?;
+    read_turns(keys, drives, key, addresses.as_slice())
+}
+
+// The drives of these addresses.
+#[tactic(auto, using(crate::proofs::OrderLemmas::turns_none, crate::proofs::OrderLemmas::turns_more), unfolding(crate::specs::Ring::turns_onto))]
+fn read_turns(
+    keys: &Keys<'_>,
+    drives: &[DriveSetup],
+    key: &str,
+    addresses: &[i64],
+) -> Result<ArrayVec<u8, 64>, BadDocument>
+    requires many { length addresses.now ≤ 64 }
+    requires drives { length drives.now ≤ 64 }
+    ensures value { Shows (λ v. v.items) result
+        (turns_onto drives.now keys.now.place key.now [] addresses.now) }
+    ensures valid { IfOk result (λ v. are_turns (length drives.now) [] v.items ≡ true) }
+    ensures count { IfOk result (λ v. length v.items ≡ length addresses.now) }
+{
+    let mut order = ArrayVec::new();
+    for address in addresses {
+        let place = read_turn(keys, drives, key, order.as_slice(), *address)?;
+        order.push(place);
+    }
+    Ok(order)
+}
+
+// The drive of an address, which doesn't stand among these.
+#[tactic(auto, unfolding(crate::specs::Ring::turn_of, sercos_document::specs::Answers::demand, sercos_block::specs::Rings::is_turn))]
+fn read_turn(
+    keys: &Keys<'_>,
+    drives: &[DriveSetup],
+    key: &str,
+    done: &[u8],
+    address: i64,
+) -> Result<u8, BadDocument>
+    requires { length drives.now ≤ 64 }
+    ensures value { Gives result (turn_of drives.now keys.now.place key.now done.now address) }
+    ensures valid { IfOk result (λ place. is_turn (length drives.now) done.now place ≡ true) }
+{
+    match place_of(address, drives) {
+        None => Err(keys.item_range(key, done.len(), address)),
+        Some(place) => {
+            if is_among(place as u8, done) {
+                Err(keys.item_twice(key, done.len()))
+            } else {
+                Ok(place as u8)
+            }
+        }
+    }
+}
+
+fn is_among(place: u8, done: &[u8]) -> bool
+    ensures { result ≡ list_any (λ k. k == place) done.now }
+{
+    done.iter().any(|k| *k == place)
+}
+
+// The place of the first drive that has this address.
+#[tactic(auto, unfolding(crate::specs::Ring::place_from))]
+fn place_of(address: i64, drives: &[DriveSetup]) -> Option<usize>
+    ensures value { result ≡ place_from 0 address drives.now }
+    ensures within { IfSome result (λ place. place < length drives.now) }
+{
+    for (place, drive) in drives.iter().enumerate() {
+        if i64::from(drive.address) == address {
+            return Some(place);
+        }
+    }
+    None
+}

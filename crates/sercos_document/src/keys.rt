@@ -1,0 +1,283 @@
+// The keys of a table, and the values under them.
+ghost use Rattle.std.specs.Prelude.{◌≡◌, ◌≤◌, true, option_map, option_copied, map, IfOk, OnOk};
+ghost use Rattle.toml.specs.Data.{get_member, as_integer, as_str, as_table};
+ghost use Rattle.toml.specs.View.{view, table_view};
+ghost use Rattle.sercos_document.specs.Paths.{path, item_path};
+ghost use Rattle.sercos_document.specs.Answers.{Refuses, Gives, Shows, demand};
+ghost use Rattle.sercos_document.specs.Tables.{optional, required, between, number, number_or, is_among, known, boolean_or};
+
+use crate::path::{Path, Place};
+use crate::refusal::BadDocument;
+use std::alloc::Global;
+use toml::{Table, Value};
+
+/// A table of a document, and where it stands. Each call answers a value or the refusal that the document's rules give;
+/// want of memory is the one other answer.
+#[derive(Clone, Copy)]
+pub struct Keys<'a> {
+    /// What takes memory for lists, and for the paths of refusals.
+    pub alloc: Global,
+    /// Where the table stands.
+    pub place: Place,
+    /// The table.
+    pub table: &'a Table,
+}
+
+impl<'a> Keys<'a> {
+    ghost use Rattle.sercos_document.specs.Located.{located};
+
+    /// The refusal of a required key that is absent.
+    pub fn missing(&self, key: &str) -> BadDocument
+        ensures { Refuses result (BadDocument.Missing (path self.now.place key.now)) }
+    {
+        match Path::to_key(self.alloc, self.place, key) {
+            Ok(path) => BadDocument::Missing(path),
+            Err(_) => BadDocument::Memory,
+        }
+    }
+
+    /// The refusal of a value of another type.
+    pub fn kind(&self, key: &str) -> BadDocument
+        ensures { Refuses result (BadDocument.Kind (path self.now.place key.now)) }
+    {
+        match Path::to_key(self.alloc, self.place, key) {
+            Ok(path) => BadDocument::Kind(path),
+            Err(_) => BadDocument::Memory,
+        }
+    }
+
+    /// The refusal of a list's item of another type.
+    pub fn item_kind(&self, key: &str, item: usize) -> BadDocument
+        ensures { Refuses result (BadDocument.Kind (item_path self.now.place key.now item)) }
+    {
+        match Path::to_item(self.alloc, self.place, key, item) {
+            Ok(path) => BadDocument::Kind(path),
+            Err(_) => BadDocument::Memory,
+        }
+    }
+
+    /// The refusal of a value that isn't allowed.
+    pub fn range(&self, key: &str, value: i64) -> BadDocument
+        ensures { Refuses result (BadDocument.Range (path self.now.place key.now) value) }
+    {
+        match Path::to_key(self.alloc, self.place, key) {
+            Ok(path) => BadDocument::Range(path, value),
+            Err(_) => BadDocument::Memory,
+        }
+    }
+
+    /// The refusal of a list's item that isn't allowed.
+    pub fn item_range(&self, key: &str, item: usize, value: i64) -> BadDocument
+        ensures { Refuses result (BadDocument.Range (item_path self.now.place key.now item) value) }
+    {
+        match Path::to_item(self.alloc, self.place, key, item) {
+            Ok(path) => BadDocument::Range(path, value),
+            Err(_) => BadDocument::Memory,
+        }
+    }
+
+    /// The refusal of a value that stands twice.
+    pub fn twice(&self, key: &str) -> BadDocument
+        ensures { Refuses result (BadDocument.Twice (path self.now.place key.now)) }
+    {
+        match Path::to_key(self.alloc, self.place, key) {
+            Ok(path) => BadDocument::Twice(path),
+            Err(_) => BadDocument::Memory,
+        }
+    }
+
+    /// The refusal of a list's item that stands twice.
+    pub fn item_twice(&self, key: &str, item: usize) -> BadDocument
+        ensures { Refuses result (BadDocument.Twice (item_path self.now.place key.now item)) }
+    {
+        match Path::to_item(self.alloc, self.place, key, item) {
+            Ok(path) => BadDocument::Twice(path),
+            Err(_) => BadDocument::Memory,
+        }
+    }
+
+    /// The refusal of a key that has no meaning.
+    pub fn unknown(&self, key: &str) -> BadDocument
+        ensures { Refuses result (BadDocument.Unknown (path self.now.place key.now)) }
+    {
+        match Path::to_key(self.alloc, self.place, key) {
+            Ok(path) => BadDocument::Unknown(path),
+            Err(_) => BadDocument::Memory,
+        }
+    }
+
+    /// Refuses the value under a key, unless it is allowed.
+    #[tactic(auto, unfolding(crate::specs::Answers::demand))]
+    pub fn demand(&self, allowed: bool, key: &str, value: i64) -> Result<(), BadDocument>
+        ensures value { Gives result (demand allowed (BadDocument.Range (path self.now.place key.now) value)) }
+        ensures allowed { OnOk result (allowed ≡ true) }
+    {
+        if allowed {
+            Ok(())
+        } else {
+            Err(self.range(key, value))
+        }
+    }
+
+    /// Refuses the value under a key, unless it stands once.
+    #[tactic(auto, unfolding(crate::specs::Answers::demand))]
+    pub fn demand_once(&self, once: bool, key: &str) -> Result<(), BadDocument>
+        ensures value { Gives result (demand once (BadDocument.Twice (path self.now.place key.now))) }
+        ensures once { OnOk result (once ≡ true) }
+    {
+        if once { Ok(()) } else { Err(self.twice(key)) }
+    }
+
+    /// The value under a key, if the key stands.
+    pub fn value(&self, key: &str) -> Option<&'a Value>
+        ensures { option_map (λ v. view v.now) result ≡ get_member key.now (located self.now).members }
+    {
+        self.table.get(key)
+    }
+
+    /// The whole number under a key, if the key stands; else `Kind`.
+    #[tactic(auto, unfolding(crate::specs::Tables::optional))]
+    pub fn integer(&self, key: &str) -> Result<Option<i64>, BadDocument>
+        ensures { Gives result (optional as_integer (located self.now) key.now) }
+    {
+        match self.value(key) {
+            None => Ok(None),
+            Some(value) => match value.as_integer() {
+                Some(number) => Ok(Some(number)),
+                None => Err(self.kind(key)),
+            },
+        }
+    }
+
+    /// The whole number under a key; else `Missing` or `Kind`.
+    #[tactic(auto, unfolding(crate::specs::Tables::required))]
+    pub fn required_integer(&self, key: &str) -> Result<i64, BadDocument>
+        ensures { Gives result (required as_integer (located self.now) key.now) }
+    {
+        match self.integer(key)? {
+            Some(number) => Ok(number),
+            None => Err(self.missing(key)),
+        }
+    }
+
+    /// The number, where it isn't below `low` nor above `high`; else `Range` with the number.
+    #[tactic(auto, unfolding(crate::specs::Tables::between))]
+    pub fn between(&self, key: &str, low: u32, high: u32, number: i64) -> Result<u32, BadDocument>
+        ensures value { Gives result (between (path self.now.place key.now) low high number) }
+        ensures within { IfOk result (λ n. (low ≤ n) × (n ≤ high)) }
+    {
+        match u32::try_from(number) {
+            Ok(n) if low <= n && n <= high => Ok(n),
+            _ => Err(self.range(key, number)),
+        }
+    }
+
+    /// The number under a key, from `low` to `high`; else `Missing`, `Kind` or `Range`.
+    #[tactic(auto, unfolding(crate::specs::Tables::number))]
+    pub fn number(&self, key: &str, low: u32, high: u32) -> Result<u32, BadDocument>
+        ensures value { Gives result (number (located self.now) key.now low high) }
+        ensures within { IfOk result (λ n. (low ≤ n) × (n ≤ high)) }
+    {
+        let number = self.required_integer(key)?;
+        self.between(key, low, high, number)
+    }
+
+    /// The number under a key, from `low` to `high`, or the default where the key is absent; else `Kind` or `Range`.
+    #[tactic(auto, unfolding(crate::specs::Tables::number_or))]
+    pub fn number_or(
+        &self,
+        key: &str,
+        low: u32,
+        high: u32,
+        default: u32,
+    ) -> Result<u32, BadDocument>
+        requires low { low ≤ default }
+        requires high { default ≤ high }
+        ensures value { Gives result (number_or (located self.now) key.now low high default) }
+        ensures within { IfOk result (λ n. (low ≤ n) × (n ≤ high)) }
+    {
+        match self.integer(key)? {
+            Some(number) => self.between(key, low, high, number),
+            None => Ok(default),
+        }
+    }
+
+    /// The boolean under a key, or the default where the key is absent; else `Kind`.
+    #[tactic(auto, unfolding(crate::specs::Tables::optional, crate::specs::Tables::boolean_or))]
+    pub fn boolean_or(&self, key: &str, default: bool) -> Result<bool, BadDocument>
+        ensures { Gives result (boolean_or (located self.now) key.now default) }
+    {
+        match self.value(key) {
+            None => Ok(default),
+            Some(value) => match value.as_bool() {
+                Some(truth) => Ok(truth),
+                None => Err(self.kind(key)),
+            },
+        }
+    }
+
+    /// The text under a key, if the key stands; else `Kind`.
+    #[tactic(auto, unfolding(crate::specs::Tables::optional))]
+    pub fn text(&self, key: &str) -> Result<Option<&'a str>, BadDocument>
+        ensures { Shows option_copied result (optional as_str (located self.now) key.now) }
+    {
+        match self.value(key) {
+            None => Ok(None),
+            Some(value) => match value.as_str() {
+                Some(text) => Ok(Some(text)),
+                None => Err(self.kind(key)),
+            },
+        }
+    }
+
+    /// The text under a key; else `Missing` or `Kind`.
+    #[tactic(auto, unfolding(crate::specs::Tables::required))]
+    pub fn required_text(&self, key: &str) -> Result<&'a str, BadDocument>
+        ensures { Shows (λ t. t.now) result (required as_str (located self.now) key.now) }
+    {
+        match self.text(key)? {
+            Some(text) => Ok(text),
+            None => Err(self.missing(key)),
+        }
+    }
+
+    /// The table under a key; else `Missing` or `Kind`.
+    #[tactic(auto, unfolding(crate::specs::Tables::optional, crate::specs::Tables::required))]
+    pub fn required_table(&self, key: &str) -> Result<&'a Table, BadDocument>
+        ensures { Shows (λ t. table_view t.now) result (required as_table (located self.now) key.now) }
+    {
+        match self.value(key) {
+            None => Err(self.missing(key)),
+            Some(value) => match value.as_table() {
+                Some(table) => Ok(table),
+                None => Err(self.kind(key)),
+            },
+        }
+    }
+
+    /// Refuses the least key, in the order of bytes, that isn't one of these, as `Unknown`.
+    #[tactic(auto, using(crate::proofs::Least::least_first), unfolding(crate::specs::Tables::known, crate::proofs::Least::first_unknown))]
+    pub fn known(&self, keys: &[&str]) -> Result<(), BadDocument>
+        ensures { Gives result (known (located self.now) (map (λ k. k.now) keys.now)) }
+    {
+        for (key, _) in self.table.iter() {
+            if !is_among(key.as_str(), keys) {
+                return Err(self.unknown(key.as_str()));
+            }
+        }
+        Ok(())
+    }
+}
+
+// Whether the key is one of these.
+#[tactic(auto, unfolding(crate::specs::Tables::is_among))]
+fn is_among(key: &str, keys: &[&str]) -> bool
+    ensures { result ≡ is_among key.now (map (λ k. k.now) keys.now) }
+{
+    for k in keys {
+        if key == *k {
+            return true;
+        }
+    }
+    false
+}

@@ -1,0 +1,13 @@
+//! Documents: tables with places, the values under their keys, and the refusals that name the path of a key.
+#![tactic(auto)]
+
+mod keys;
+mod line;
+mod lists;
+mod path;
+mod refusal;
+
+pub use keys::Keys;
+pub use line::write_refusal;
+pub use path::{Path, Place};
+pub use refusal::BadDocument;

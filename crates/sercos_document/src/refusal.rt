@@ -1,0 +1,36 @@
+// Why a document is refused.
+ghost use Rattle.std.specs.Prelude.{◌≡◌};
+
+use crate::path::Path;
+use std::alloc::AllocFailed;
+
+/// The first reason for which a document is refused, with the path of the key; or want of memory.
+#[derive(Drop)]
+pub enum BadDocument {
+    /// The bytes are no TOML document.
+    Toml,
+    /// A required key is absent.
+    Missing(Path),
+    /// A value has another of TOML's types than its key asks for. Of a list, the path is that of the item, or that of the
+    /// list where its items are tables.
+    Kind(Path),
+    /// A value isn't allowed. The number is the value itself; of a text or a list that of its bytes or items; of a text that
+    /// should name a data block and does, but can't stand there, the raw identifier number; of a boolean 1.
+    Range(Path, i64),
+    /// A value stands for the second time where it may stand once.
+    Twice(Path),
+    /// A key has no meaning in its table.
+    Unknown(Path),
+    /// There was no memory.
+    Memory,
+}
+
+impl<T: Drop> From<AllocFailed<T>> for BadDocument {
+    ghost use Rattle.sercos_document.specs.declared.refusal.BadDocument.TheVariants.{Memory};
+
+    ghost from_gives = { λ _ e. e ≡ Memory };
+
+    fn from(_e: AllocFailed<T>) -> BadDocument {
+        BadDocument::Memory
+    }
+}
