@@ -1,4 +1,5 @@
 pub mod SoundLemmas
 pub mod PutLemmas
 pub mod OpenLemmas
+pub mod WishLemmas
 mod Worked

@@ -11,33 +11,35 @@ use Rattle.sercos_block.specs.Stores.{find_block, inserted, with_own, store_of, 
 
 abbrev four : ℕ → Option (List ℕ) → List ℕ → ℕ → Block
 four raw unit value step = record {
-    idn = record { raw = raw };
-    attribute = attribute_of 0x00220001;
-    name = None;
-    unit = unit;
-    min = None;
-    max = None;
-    value = value;
-    max_len = 0;
-    fixed = false;
-    step = step;
-    fails = false }
+  idn = record { raw = raw };
+  attribute = attribute_of 0x00220001;
+  name = None;
+  unit = unit;
+  min = None;
+  max = None;
+  value = value;
+  max_len = 0;
+  fixed = false;
+  step = step;
+  fails = false;
+}
 
 abbrev own : Option (List ℕ) → List Block
 own unit = four 47 unit (0 ∷ 0 ∷ 0 ∷ 0 ∷ []) 0 ∷ four 51 None (244 ∷ 251 ∷ 0 ∷ 0 ∷ []) 10 ∷ []
 
 abbrev drive : DriveView
 drive = record {
-    address = 1;
-    slave = 1;
-    busy = 0;
-    command = 0;
-    times = record { t1min = 10; tatmt = 6; t4min = 20; tatat = 5; tmtsy = 10; tmtsg = 20 };
-    cycle_min = 125;
-    cycle_max = 64000;
-    at = record { raw = 51 } ∷ [];
-    mdt = record { raw = 47 } ∷ [];
-    blocks = own None }
+  address = 1;
+  slave = 1;
+  busy = 0;
+  command = 0;
+  times = record { t1min = 10; tatmt = 6; t4min = 20; tatat = 5; tmtsy = 10; tmtsg = 20 };
+  cycle_min = 125;
+  cycle_max = 64000;
+  at = record { raw = 51 } ∷ [];
+  mdt = record { raw = 47 } ∷ [];
+  blocks = own None;
+}
 
 numbers : map (λ (b : Block). b.idn.raw) (store_of drive)
     ≡ 1 ∷ 2 ∷ 3 ∷ 4 ∷ 5 ∷ 6 ∷ 7 ∷ 8 ∷ 9 ∷ 10 ∷ 15 ∷ 16 ∷ 21 ∷ 22 ∷ 24 ∷ 47 ∷ 51 ∷ 87 ∷ 88 ∷ 89 ∷ 90 ∷ 127 ∷ 128 ∷ []

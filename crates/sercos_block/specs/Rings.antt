@@ -1,5 +1,5 @@
 -- The rules that a ring and its drives keep, and what a ring asks of its plan.
-use Rattle.std.specs.Prelude.{ℕ, ◌+◌, ◌%◌, ◌==◌, nat_lt, nat_le, Bool, true, not, ◌&&◌, ◌||◌, if◌then◌else◌, List, [], ◌∷◌, ◌++◌, length, map, Option, Some, None, is_some, is_none, unwrap_or, option_map, option_and_then}
+use Rattle.std.specs.Prelude.{ℕ, ◌+◌, ◌≤◌, ◌%◌, ◌==◌, nat_lt, nat_le, Bool, true, not, ◌&&◌, ◌||◌, if◌then◌else◌, List, [], ◌∷◌, ◌++◌, length, map, Option, Some, None, is_some, is_none, unwrap_or, option_map, option_and_then}
 use Rattle.std.specs.List.{list_all, list_any, find, sum_by}
 use Rattle.std.specs.Option.{option_or}
 use Rattle.sercos_idn.specs.declared.idn.Idn.{Idn}
@@ -142,6 +142,10 @@ is_ring r = has_ring_numbers r && (has_drives r && is_order (length r.drives) r.
 -- what a ring asks of its plan: the times that its drives declare, and the lengths of their telegrams
 abbrev pub wish_of : DriveView → Wish
 wish_of d = record { address = d.address; slave = d.slave; times = d.times; at_len = at_len d; record_len = record_len d }
+
+-- a drive's telegrams have at least their words, and at most sixteen numbers of four bytes beside them
+abbrev pub HasLens : Wish → Type 0
+HasLens w = (4 ≤ w.at_len) × (w.at_len ≤ 68) × (4 ≤ w.record_len) × (w.record_len ≤ 68)
 
 unfoldable pub wishes_of : RingView → WishesView
 wishes_of r = record {

@@ -1,8 +1,9 @@
 // The rules that a ring keeps, and what it asks of its plan.
 ghost use Rattle.std.specs.Prelude.{◌≡◌, ◌≤◌, ◌==◌, true, [], length, map, option_map, IfSome};
-ghost use Rattle.std.specs.List.{find, list_any, list_all};
+ghost use Rattle.std.specs.List.{All, find, list_any, list_all};
+ghost use Rattle.sercos_timing.specs.Valid.{IsValid};
 ghost use Rattle.sercos_idn.specs.Codes.{item_len};
-ghost use Rattle.sercos_block.specs.Rings.{attribute_in, row_in, built_in_attribute, own_attribute, block_attribute, number_len, cyclic_len, is_cyclic, value_len, listed_len, at_len, record_len, mdt_len, is_cycle, is_control, has_ring_numbers, are_times, is_address, has_drive_numbers, has_blocks, are_cyclic, has_address, is_drive, are_drives, is_turn, are_turns, is_order, has_drives, is_ring, wish_of, wishes_of};
+ghost use Rattle.sercos_block.specs.Rings.{attribute_in, row_in, built_in_attribute, own_attribute, block_attribute, number_len, cyclic_len, is_cyclic, value_len, listed_len, at_len, record_len, mdt_len, is_cycle, is_control, has_ring_numbers, are_times, is_address, has_drive_numbers, has_blocks, are_cyclic, has_address, is_drive, are_drives, is_turn, are_turns, is_order, has_drives, is_ring, wish_of, HasLens, wishes_of};
 
 use crate::block::Block;
 use crate::built_in::{BUILT_IN, BuiltIn};
@@ -246,7 +247,8 @@ fn copied(order: &[u8]) -> ArrayVec<u8, 64>
 // What the drives ask of their plan.
 fn wish_list(drives: &[DriveSetup]) -> ArrayVec<Wish, 64>
     requires { length drives.now ≤ 64 }
-    ensures { result.items ≡ map wish_of drives.now }
+    ensures value { result.items ≡ map wish_of drives.now }
+    ensures lens { All HasLens result.items }
 {
     let mut wishes = ArrayVec::new();
     for drive in drives {
@@ -276,7 +278,8 @@ impl DriveSetup {
 
     // What the drive asks of the plan.
     fn wish(&self) -> Wish
-        ensures { result ≡ wish_of self.now }
+        ensures value { result ≡ wish_of self.now }
+        ensures lens { HasLens result }
     {
         Wish {
             address: self.address,
@@ -361,7 +364,8 @@ impl RingSetup {
     #[tactic(auto, unfolding(crate::specs::Rings::is_ring, crate::specs::Rings::has_drives, crate::specs::Rings::wishes_of))]
     pub fn wishes(&self) -> Wishes
         requires { is_ring self.now ≡ true }
-        ensures { result ≡ wishes_of self.now }
+        ensures value { result ≡ wishes_of self.now }
+        ensures valid { IsValid result }
     {
         Wishes {
             rate: self.rate,
