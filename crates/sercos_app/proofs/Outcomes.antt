@@ -1,15 +1,23 @@
 -- What each way in which the top call can end says for its clauses.
-use Rattle.std.proofs.Common.{◌≡◌, ◌≢◌, ℕ, ◌<◌, ◌≤◌, ◌⊎◌, inl, inr, true, false, IsTrue, List, [], ◌++◌, length, take, Option, Some, None, refl, sym, ◌∙◌, ap, subst, arith, ◌↔◌, ◌+◌, append-nil, length-append}
+use Rattle.std.proofs.Common.{◌≡◌, ◌≢◌, ℕ, ◌<◌, ◌≤◌, ◌⊎◌, inl, inr, true, false, IsTrue, List, [], ◌++◌, length, take, Option, Some, None, Result, Ok, Err, refl, sym, ◌∙◌, ap, subst, arith, ◌↔◌, ◌+◌, append-nil, length-append}
 use Rattle.std.proofs.lemmas.Bool.{false≢true}
 use Rattle.std.specs.Io.KnownBytes.{Appends, Consumes}
 use Rattle.sercos_model.specs.Streams.{Rose}
 use Rattle.sercos_io.specs.declared.status.Status.{Status}
 use Rattle.sercos_io.specs.declared.status.Status.TheVariants.{Done, No, BadWords, Refused, ReadFault, WriteFault, Memory, TooLong}
 use Rattle.sercos_app.specs.declared.form.Form.{Form}
-use Rattle.sercos_app.specs.declared.form.Form.TheVariants.{Show}
+use Rattle.sercos_app.specs.declared.form.Form.TheVariants.{Show, Plan}
 use Rattle.sercos_app.specs.Answer.{command_answer, form_answer, answer_of}
 use Rattle.sercos_app.specs.Form.{form_of}
 use Rattle.sercos_app.specs.Show.{show_answer, show_status, first_fault, lines_of}
+use Rattle.sercos_app.specs.Planning.{wishes_answer, ring_answer, plan_answer}
+use Rattle.sercos_timing.specs.Views.{WishesView, PlanView}
+use Rattle.sercos_plan.specs.Views.{ChainView}
+use Rattle.sercos_plan.specs.ChainOf.{planned}
+use Rattle.sercos_block.specs.Views.{RingView}
+use Rattle.sercos_block.specs.Rings.{wishes_of}
+use Rattle.sercos_document.specs.declared.refusal.BadDocument.{BadDocument}
+use Rattle.sercos_config.specs.Document.{document_of}
 use Rattle.sercos_app.specs.Outcome.{SourceChange, SinkChange, Writes, Outcome}
 use Rattle.sercos_app.specs.Outcome.Writes.{whole, short}
 use Rattle.sercos_app.specs.Outcome.Outcome.{no_form, unreadable, too_many, no_memory, answered}
@@ -19,15 +27,27 @@ use Rattle.sercos_app.specs.TopCall.{writes_nothing, fault_status, ReadsWhole, T
 data IsGiven : Status → Type 0 where
   done : IsGiven Done
   refused : IsGiven Refused
+  declined : IsGiven No
 
 IsGiven-fault : (fault : Option (ℕ × ℕ)) → IsGiven (show_status fault)
 unfolding show_status
 IsGiven-fault None = done
 IsGiven-fault (Some place) = refused
 
+IsGiven-wishes : (w : WishesView) (made : Result PlanView ChainView) → IsGiven (wishes_answer w made).status
+unfolding wishes_answer
+IsGiven-wishes w (Ok p) = done
+IsGiven-wishes w (Err c) = declined
+
+IsGiven-ring : (document : Result RingView BadDocument) → IsGiven (ring_answer document).status
+unfolding ring_answer
+IsGiven-ring (Ok r) = IsGiven-wishes (wishes_of r) (planned (wishes_of r))
+IsGiven-ring (Err bad) = refused
+
 IsGiven-answer : (form : Form) (bytes : List ℕ) → IsGiven (command_answer form bytes).status
-unfolding command_answer show_answer
+unfolding command_answer show_answer plan_answer
 IsGiven-answer Show bytes = IsGiven-fault (first_fault 1 (lines_of bytes))
+IsGiven-answer Plan bytes = IsGiven-ring (document_of bytes)
 
 answer_of-form : (words : List (List ℕ)) (bytes : List ℕ) (form : Form) → form_of words ≡ Some form → answer_of words bytes ≡ command_answer form bytes
 unfolding answer_of form_answer
@@ -38,11 +58,13 @@ IsGiven-writes_nothing : {status : Status} → IsGiven status → writes_nothing
 unfolding writes_nothing
 IsGiven-writes_nothing done = refl
 IsGiven-writes_nothing refused = refl
+IsGiven-writes_nothing declined = refl
 
 IsGiven-fault_writes : {status : Status} → IsGiven status → writes_nothing (fault_status status) ≡ false
 unfolding writes_nothing fault_status
 IsGiven-fault_writes done = refl
 IsGiven-fault_writes refused = refl
+IsGiven-fault_writes declined = refl
 
 -- a status that writing an answer ends with
 writes_nothing-Writes : {first status : Status} {text : List ℕ} {sink : SinkChange} → IsGiven first → Writes first text sink status → writes_nothing status ≡ false
@@ -160,15 +182,18 @@ fault-done : {status : Status} → IsGiven status → fault_status status ≢ Do
 unfolding fault_status
 fault-done done e = absurd (cc)
 fault-done refused e = absurd (cc)
+fault-done declined e = absurd (cc)
 
 fault-no : {status : Status} → IsGiven status → fault_status status ≢ No
 unfolding fault_status
 fault-no done e = absurd (cc)
 fault-no refused e = absurd (cc)
+fault-no declined e = absurd (cc)
 
 not_write_fault : {status : Status} → IsGiven status → status ≢ WriteFault
 not_write_fault done e = absurd (cc)
 not_write_fault refused e = absurd (cc)
+not_write_fault declined e = absurd (cc)
 
 -- an answer that was written as a whole
 record IsWhole (first status : Status) (text : List ℕ) (sink : SinkChange) : Type 0 where
@@ -245,6 +270,7 @@ fault_is : {status : Status} → IsGiven status → fault_status status ≢ Writ
 unfolding fault_status
 fault_is done e = absurd (e refl)
 fault_is refused e = refl
+fault_is declined e = absurd (e refl)
 
 pub at_write_well : {words : List (List ℕ)} {source : SourceChange} {sink : SinkChange} {Unread Unwritten : Type 0} {status : Status} → Outcome words source sink Unread Unwritten status → status ≢ WriteFault → status ≢ Refused → sink.faults' ≡ sink.faults
 at_write_well (no_form nothing source_same sink_same reads writes) e f = writes

@@ -5,10 +5,12 @@ use Rattle.sercos_app.specs.declared.form.Form.{Form}
 use Rattle.sercos_app.specs.declared.form.Form.TheVariants as forms
 use Rattle.sercos_app.specs.Form.{form_of}
 use Rattle.sercos_app.specs.Show.{Answer, show_answer}
+use Rattle.sercos_app.specs.Planning.{plan_answer}
 
 -- the answer of each command to an input
 unfoldable pub command_answer : Form → List ℕ → Answer
 command_answer forms.Show bytes = show_answer bytes
+command_answer forms.Plan bytes = plan_answer bytes
 
 unfoldable pub form_answer : Option Form → List ℕ → Answer
 form_answer None bytes = record { status = BadWords; output = [] }

@@ -2,6 +2,8 @@ pub mod Line
 pub mod SpelledLine
 pub mod Show
 pub mod Form
+pub mod Planning
+pub mod Given
 pub mod Answer
 pub mod TopCall
 pub mod Outcome

@@ -9,6 +9,8 @@ use sercos_io::Words;
 pub enum Form {
     /// `show`: lines of frames are answered by their bytes.
     Show,
+    /// `plan`: a ring document is answered by the least plan of its time slots.
+    Plan,
 }
 
 // The form of one word.
@@ -16,7 +18,13 @@ pub enum Form {
 fn word_form(word: &str) -> Option<Form>
     ensures { result ≡ word_form word.now }
 {
-    (word == "show").then_some(Form::Show)
+    if word == "show" {
+        Some(Form::Show)
+    } else if word == "plan" {
+        Some(Form::Plan)
+    } else {
+        None
+    }
 }
 
 // The form of two words.

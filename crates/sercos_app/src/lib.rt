@@ -2,9 +2,12 @@
 #![tactic(auto)]
 
 mod form;
+mod given;
 mod law;
 mod line;
 mod over_memory;
+mod plan_text;
+mod planning;
 mod show;
 mod text;
 mod top_call;

@@ -1,6 +1,7 @@
 // The texts of answers, appended to what is written in the end.
 ghost use Rattle.std.specs.Prelude.{◌≡◌, ◌++◌, OnOk, codes, decimal, length, ◌≤◌};
 ghost use Rattle.hex.specs.Hex.{encode_lower};
+ghost use Rattle.sercos_app.specs.Planning.{two_numbers};
 ghost use Rattle.sercos_app.specs.Show.{word_text, bit_text, two_bits, bit_and_number, two_words, data_text, layout_text, mst_text, single_text, at_text, refusal_text};
 
 use itoa::Buffer;
@@ -82,6 +83,23 @@ fn push_bit_and_number(
     push_bit(bit, out)?;
     push_text(second, out)?;
     push_number(number, out)
+}
+
+/// Appends two numbers, each behind its name.
+#[tactic(auto, unfolding(crate::specs::Planning::two_numbers))]
+pub fn push_two_numbers(
+    first: &str,
+    a: u64,
+    second: &str,
+    b: u64,
+    out: &mut Vec<u8>,
+) -> Result<(), AllocError>
+    ensures { OnOk result (out.new.items ≡ out.old.items ++ two_numbers first.now a second.now b) }
+{
+    push_text(first, out)?;
+    push_number(a, out)?;
+    push_text(second, out)?;
+    push_number(b, out)
 }
 
 // Appends two numbers, each behind its name.

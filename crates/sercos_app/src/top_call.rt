@@ -3,51 +3,28 @@ ghost use Rattle.std.specs.Prelude.{◌≡◌, ◌≢◌, ◌↔◌, ℕ, ◌≤
 ghost use Rattle.sercos_model.specs.Streams.{Rose};
 ghost use Rattle.sercos_app.specs.Answer.{answer_of, command_answer};
 ghost use Rattle.sercos_app.specs.Form.{form_of};
-ghost use Rattle.sercos_app.specs.Outcome.{Writes, Outcome};
-ghost use Rattle.sercos_app.specs.TopCall.{writes_nothing, fault_status, TakesAtMost, TakesTooMany, IsAnswered, IsCutShort, IsAnswer};
+ghost use Rattle.sercos_app.specs.Given.{Gives};
+ghost use Rattle.sercos_app.specs.Outcome.{Outcome};
+ghost use Rattle.sercos_app.specs.TopCall.{writes_nothing, TakesAtMost, TakesTooMany, IsAnswered, IsCutShort, IsAnswer};
 
 use crate::form::{Form, form_of};
-use crate::show::{Reply, show};
-use sercos_io::{ReadAll, Sink, Source, Status, Words, read_all, write_all};
+use crate::given::{Given, give, refused};
+use crate::planning::plan;
+use crate::show::show;
+use sercos_io::{ReadAll, Sink, Source, Status, Words, read_all};
 use std::alloc::{AllocError, Global};
 
-// The reply of a command to an input.
+// What a command gives for an input.
 #[tactic(auto, unfolding(crate::specs::Answer::command_answer))]
-fn reply_of(alloc: Global, form: Form, bytes: &[u8]) -> Result<Reply, AllocError>
-    ensures status { IfOk result (λ reply. reply.status ≡ (command_answer form bytes.now).status) }
-    ensures text { IfOk result (λ reply. reply.text.items ≡ (command_answer form bytes.now).output) }
+fn given_by(alloc: Global, form: Form, bytes: &[u8]) -> Result<Given, AllocError>
+    ensures { IfOk result (λ given. Gives given (command_answer form bytes.now)) }
 {
     match form {
-        Form::Show => show(alloc, bytes),
-    }
-}
-
-// The status where writing a reply of this status fails.
-#[tactic(auto, unfolding(crate::specs::TopCall::fault_status))]
-fn fault_status(status: Status) -> Status
-    ensures { result ≡ fault_status status }
-{
-    match status {
-        Status::Refused => Status::Refused,
-        _ => Status::WriteFault,
-    }
-}
-
-// Writes a reply, and answers its status, or that of a failed write.
-fn give<K: Sink>(reply: &Reply, sink: &mut K) -> Status
-    ensures { Writes reply.now.status reply.now.text.items
-        (record {
-          held = K.held sink.old;
-          held' = K.held sink.new;
-          faults = K.faults sink.old;
-          faults' = K.faults sink.new;
-          room = K.room sink.old;
-        })
-        result }
-{
-    match write_all(sink, reply.text.as_slice()) {
-        Ok(()) => reply.status,
-        Err(_) => fault_status(reply.status),
+        Form::Show => Ok(Given::Reply(show(alloc, bytes)?)),
+        Form::Plan => match plan(alloc, bytes) {
+            Ok(reply) => Ok(Given::Reply(reply)),
+            Err(bad) => refused(bad),
+        },
     }
 }
 
@@ -78,8 +55,8 @@ fn respond<S: Source, K: Sink>(alloc: Global, words: &Words, source: &mut S, sin
         Err(ReadAll::TooLong) => return Status::TooLong,
         Err(ReadAll::Memory) => return Status::Memory,
     };
-    match reply_of(alloc, form, bytes.as_slice()) {
-        Ok(reply) => give(&reply, sink),
+    match given_by(alloc, form, bytes.as_slice()) {
+        Ok(given) => give(&given, sink),
         Err(_) => Status::Memory,
     }
 }
@@ -89,7 +66,7 @@ fn respond<S: Source, K: Sink>(alloc: Global, words: &Words, source: &mut S, sin
 /// The input is the source's bytes up to its end, at most 1,048,576 of them; the output is one text, written where it
 /// is whole. The clauses on the bytes of source and sink hold where these tell them, as those in memory do.
 ///
-/// The only form of words so far is `show`, with at most one word `--` anywhere. Words in no form are `BadWords`, and
+/// The forms of words are `show` and `plan` so far, with at most one word `--` anywhere. Words in no form are `BadWords`, and
 /// nothing is read. `ReadFault` comes where a read failed, `TooLong` where the input is longer, and `Memory` where no
 /// memory was found; then nothing is written. A refused input is `Refused`, also where its line could not be written
 /// whole. Where a write failed else, the status is `WriteFault`, and the sink has taken a prefix of the output.

@@ -26,15 +26,13 @@ returns-in-Err-Memory g c =
     let takes : TakesAtMost 1048576 _ _ = record { taken = lost.0; few = lost.2; consumed = lost.1 } in
     no_memory c.in-Some.form (sym c.in-Some.ensures) cause takes refl refl
 
-pub returns-in-Ok-reply_of : goal.returns-in-Ok-reply_of
-returns-in-Ok-reply_of g c =
+pub returns-in-Ok-given_by : goal.returns-in-Ok-given_by
+returns-in-Ok-given_by g c =
     let read = c.in-Ok.ensures.ok in
-    let bytes_are = c.as_slice.ensures.value in
-    let status = rw bytes_are at c.in-Ok-reply_of.ensures.status in
-    let text = rw bytes_are at c.in-Ok-reply_of.ensures.text in
+    let gives = rw (c.as_slice.ensures.value) at c.in-Ok-given_by.ensures in
     answered c.in-Some.form c.in-Ok.bytes.items _ (sym c.in-Some.ensures) c.in-Ok.ensures.cause
     (record { consumed = read.0; ended = read.1; fits = read.2 })
-    (rw (← status, ← text) c.give.ensures)
+    (rw (← gives.status, ← gives.text) c.give.ensures)
 
 pub returns : goal.returns
 returns g c =
