@@ -10,7 +10,7 @@ use crate::chain::{Chain, Link};
 use crate::least::{greatest_t4min, round_up};
 use crate::planning::is_turn_roomy;
 use arrayvec::ArrayVec;
-use sercos_timing::{StartRule, Wish, Wishes, after, asked_of_start};
+use sercos_timing::{StartRule, Wish, Wishes, asked_of_start, bits_after};
 
 // So many microseconds in bit times, as a number of 32 bits.
 fn bits(w: &Wishes, micros: u32) -> u32
@@ -158,7 +158,7 @@ fn after_start(w: &Wishes, t1: &[u32], place: usize, micros: u32) -> u64
     ensures value { result ≡ bits_of_starts w.now place + (at_bits w.now place + w.now.rate * micros) }
     ensures limit { result < 2 ^ 42 }
 {
-    after(w, t1, place, micros)
+    bits_after(w, t1, place, micros)
 }
 
 // Whether 5 gives T2.

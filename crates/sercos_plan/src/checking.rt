@@ -336,6 +336,7 @@ fn is_chain(w: &Wishes, c: &Chain) -> bool
 
 /// Whether each link of a chain follows from the wishes and the link before it, and the chain ends in a sum that is above its
 /// bound. Then no plan fits. It stands on the wishes and the chain alone, and calls no planner.
+#[tactic(auto, using(crate::proofs::SoundLemmas::chain_none))]
 pub fn check_chain(w: &Wishes, c: &Chain) -> bool
     requires { IsValid w.now }
     ensures exact { IsTrue result ↔ IsChain w.now c.now }

@@ -6,7 +6,7 @@ ghost use Rattle.sercos_timing.specs.Valid.{IsValid};
 ghost use Rattle.sercos_plan.specs.LeastTimes.{round_up, needed, least_t1, least_t2, least_t3, greatest_t4min};
 
 use arrayvec::ArrayVec;
-use sercos_timing::{StartRule, Wishes, after, asked_of_start};
+use sercos_timing::{StartRule, Wishes, asked_of_start, bits_after};
 
 // The least number of microseconds that has so many bit times.
 pub fn round_up(w: &Wishes, bits: u64) -> u64
@@ -100,7 +100,7 @@ pub fn last_bits(w: &Wishes, t1: &[u32]) -> u64
     ensures limit { result ≤ w.now.rate * (66_300 * 65) }
 {
     let order = w.order();
-    after(w, t1, usize::from(order[order.len() - 1]), w.gap())
+    bits_after(w, t1, usize::from(order[order.len() - 1]), w.gap())
 }
 
 // The least T2, in microseconds, from the least T1 of each drive.
@@ -118,7 +118,7 @@ pub fn turn(w: &Wishes, t1: &[u32]) -> u32
     for at in 0..order.len() {
         let place = usize::from(order[at]);
         let tatmt = u32::from(w.wish(place).times.tatmt);
-        most = most.max(after(w, t1, place, tatmt));
+        most = most.max(bits_after(w, t1, place, tatmt));
     }
     round_up(w, gap.max(most)) as u32
 }

@@ -21,7 +21,7 @@ pub enum StartRule {
 
 /// The bit time at which the AT of the drive at a place of the ring has ended, where it starts at its T1, and so many
 /// microseconds more have passed, below 65,536. `t1` has the T1 of each drive in microseconds, in the order of the ring.
-pub fn after(w: &Wishes, t1: &[u32], place: usize, micros: u32) -> u64
+pub fn bits_after(w: &Wishes, t1: &[u32], place: usize, micros: u32) -> u64
     requires valid { IsValid w.now }
     requires count { length t1.now ≡ length w.now.drives }
     requires within { place < length w.now.drives }
@@ -34,7 +34,7 @@ pub fn after(w: &Wishes, t1: &[u32], place: usize, micros: u32) -> u64
 }
 
 // The same for the AT at a place of the order, where there is one.
-fn after_at(w: &Wishes, t1: &[u32], at: Option<usize>, micros: u32) -> Option<u64>
+fn bits_after_at(w: &Wishes, t1: &[u32], at: Option<usize>, micros: u32) -> Option<u64>
     requires valid { IsValid w.now }
     requires count { length t1.now ≡ length w.now.drives }
     requires within { IfSome at (λ i. i < length w.now.order) }
@@ -46,7 +46,7 @@ fn after_at(w: &Wishes, t1: &[u32], at: Option<usize>, micros: u32) -> Option<u6
         → IfSome result (λ asked. asked ≤ w.now.rate * (n + 66_300)) }
 {
     match at {
-        Some(i) => Some(after(w, t1, usize::from(w.order()[i]), micros)),
+        Some(i) => Some(bits_after(w, t1, usize::from(w.order()[i]), micros)),
         None => None,
     }
 }
@@ -67,7 +67,7 @@ pub fn asked_of_start(w: &Wishes, t1: &[u32], rule: StartRule, at: usize) -> Opt
     match rule {
         StartRule::Own => Some(w.bits(u32::from(times.t1min))),
         StartRule::Gap => { if at == 0 { Some(w.bits(w.gap())) } else { None } }
-        StartRule::Neighbor => after_at(w, t1, w.neighbor_at(at), w.gap()),
-        StartRule::Slave => after_at(w, t1, w.previous_at(at), u32::from(times.tatat)),
+        StartRule::Neighbor => bits_after_at(w, t1, w.neighbor_at(at), w.gap()),
+        StartRule::Slave => bits_after_at(w, t1, w.previous_at(at), u32::from(times.tatat)),
     }
 }

@@ -5,7 +5,7 @@ ghost use Rattle.sercos_timing.specs.Inequalities.{asked_5, sum_9, bound_9, grea
 ghost use Rattle.sercos_timing.specs.FirstBroken.{asked_by, has_by, is_met, first_unmet, first_misplaced, broken_by, broken_unless, broken_position, first_broken};
 ghost use Rattle.sercos_timing.specs.Valid.{IsValid};
 
-use crate::asked::{StartRule, after, asked_of_start};
+use crate::asked::{StartRule, asked_of_start, bits_after};
 use crate::plan::Plan;
 use crate::wishes::Wishes;
 use arrayvec::ArrayVec;
@@ -44,7 +44,7 @@ fn asked(w: &Wishes, p: &Plan, t1: &[u32], rule: AtRule, at: usize) -> Option<u6
     let times = w.wish(place).times;
     match rule {
         AtRule::Start(start) => asked_of_start(w, t1, start, at),
-        AtRule::Master => Some(after(w, t1, place, u32::from(times.tatmt))),
+        AtRule::Master => Some(bits_after(w, t1, place, u32::from(times.tatmt))),
         AtRule::Records => Some(w.bits(p.t2()) + (w.mdt_bits() + w.bits(u32::from(times.tmtsg)))),
         AtRule::Capture => Some(u64::from(p.t4()) + u64::from(times.t4min)),
     }
@@ -141,7 +141,7 @@ fn is_last_kept(w: &Wishes, p: &Plan, t1: &[u32]) -> bool
 {
     let order = w.order();
     let last = usize::from(order[order.len() - 1]);
-    after(w, t1, last, w.gap()) <= w.bits(p.t2())
+    bits_after(w, t1, last, w.gap()) <= w.bits(p.t2())
 }
 
 // Whether 9 is kept: after the MDT there is room for the gap and the recovery of each drive before the next MST.

@@ -9,7 +9,7 @@ mod plan;
 mod validity;
 mod wishes;
 
-pub use asked::{StartRule, after, asked_of_start};
+pub use asked::{StartRule, asked_of_start, bits_after};
 pub use fitting::{Broken, fits};
 pub use frame_bits::wire;
 pub use plan::Plan;

@@ -6,5 +6,5 @@ pub returns-clause-value : goal.returns-clause-value
 returns-clause-value c =
     let some : 0 < length c.args.w.now.order = search rules in
     let last = five_at c.args.w.now (λ j. c.args.w.now.rate * slice_index c.args.t1.now j) c.args.w.now.order (length c.args.w.now.order) some in
-    let value = c.after.ensures.value in
+    let value = c.bits_after.ensures.value in
     cc

@@ -19,11 +19,11 @@ pub loop-at-preserved : goal.loop-at-preserved
 loop-at-preserved c =
     let w = c.args.w.now in
     let place : c.from-place.result ≡ slice_index w.order c.loop-at.at = search rules in
-    let more : c.max-most.result ≡ max c.loop-at.most c.after.result = search rules in
+    let more : c.max-most.result ≡ max c.loop-at.most c.bits_after.result = search rules in
     let time : c.from-tatmt.result ≡ (times w (slice_index w.order c.loop-at.at)).tatmt = search rules in
-    let limit = c.after.ensures.limit (66300 * 64) (search rules) in
-    let at = after_is w c.args.t1.now (slice_index w.order c.loop-at.at) c.from-place.result c.from-tatmt.result c.after.result place (c.requires.value (slice_index w.order c.loop-at.at)) time c.after.ensures.value in
+    let limit = c.bits_after.ensures.limit (66300 * 64) (search rules) in
+    let at = after_is w c.args.t1.now (slice_index w.order c.loop-at.at) c.from-place.result c.from-tatmt.result c.bits_after.result place (c.requires.value (slice_index w.order c.loop-at.at)) time c.bits_after.ensures.value in
     record {
-      value = greatest_more (λ k. least_bits w (sent w) k + (at_bits w k + w.rate * (times w k).tatmt)) w.order c.loop-at.at c.loop-at.most c.after.result c.max-most.result c.loop-at.invariant.value at more;
+      value = greatest_more (λ k. least_bits w (sent w) k + (at_bits w k + w.rate * (times w k).tatmt)) w.order c.loop-at.at c.loop-at.most c.bits_after.result c.max-most.result c.loop-at.invariant.value at more;
       limit = omega arith;
     }
