@@ -16,7 +16,8 @@ pub struct Block {
     pub name: Option<Text>,
     /// The unit, element 4: 1 to 12 printable bytes, where there is one.
     pub unit: Option<Text>,
-    /// The bits of the minimum, element 5, where there is one.
+    /// The bits of the minimum, element 5, where there is one: as many as the number has, in two's complement where the
+    /// display form is signed. So -10 is 0xfff6 in two bytes.
     pub min: Option<u32>,
     /// The bits of the maximum, element 6, where there is one.
     pub max: Option<u32>,
@@ -24,9 +25,9 @@ pub struct Block {
     pub value: Text,
     /// The most bytes of the list; 0 where the operation data is no list.
     pub max_len: u16,
-    /// Whether the operation data can never be written. Neither can that of a block with a step.
+    /// Whether the master can never write the operation data. Neither can it write that of a block with a step.
     pub fixed: bool,
-    /// How much the number grows in each cycle.
+    /// How much the number grows in each cycle, modulo 2 to the power of its bits.
     pub step: u32,
     /// Whether the procedure command ends with an error.
     pub fails: bool,

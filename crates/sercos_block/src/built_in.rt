@@ -18,19 +18,19 @@ use sercos_idn::{Attribute, Idn};
 pub enum Opening {
     /// The number 0.
     Zero,
-    /// The number 0, which must lie between the shortest and the longest cycle time that the drive takes.
+    /// The number 0, with the shortest and the longest cycle time that the drive takes as its limits.
     CycleTime,
-    /// The time that the drive declares.
+    /// The time that the drive declares, in microseconds.
     T1min,
-    /// The time that the drive declares.
+    /// The time that the drive declares, in microseconds.
     Tatmt,
-    /// The time that the drive declares.
+    /// The time that the drive declares, in microseconds.
     T4min,
-    /// The time that the drive declares.
+    /// The time that the drive declares, in microseconds.
     Tatat,
-    /// The time that the drive declares.
+    /// The time that the drive declares, in microseconds.
     Tmtsy,
-    /// The time that the drive declares.
+    /// The time that the drive declares, in microseconds.
     Tmtsg,
     /// The empty list, of at most so many bytes.
     Empty(u16),

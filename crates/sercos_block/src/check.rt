@@ -26,8 +26,8 @@ pub enum Field {
     Max,
     /// The most bytes of a list aren't 1 to 1024 or no whole items; or they aren't 0 and there is no list.
     MaxLen,
-    /// The operation data of a list has more than the most bytes, or no whole items; that of a number has another length;
-    /// or that of a procedure command isn't 0.
+    /// The operation data of a list has more than the most bytes, or no whole items; other operation data has another
+    /// length than its attribute says; or that of a procedure command isn't 0.
     Value,
     /// There is a step and the operation data isn't a number, or it has a minimum or a maximum.
     Step,
@@ -162,7 +162,7 @@ fn block_fault(before: &[Block], block: &Block) -> Option<Field>
 }
 
 /// Whether the drive can have its data blocks beside the built-in ones; else the first block that breaks a rule, and the
-/// first rule that it breaks, in the order of [`Field`].
+/// first rule that it breaks, in the order of [`Field`]. How many blocks there are isn't looked at.
 #[tactic(auto, unfolding(crate::specs::Rules::blocks_fault))]
 pub fn check_blocks(setup: &DriveSetup) -> Result<(), BadBlock>
     ensures { result_err result ≡ blocks_fault [] setup.now.blocks }

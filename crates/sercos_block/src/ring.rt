@@ -127,7 +127,7 @@ fn are_cyclic(blocks: &[Block], idns: &[Idn]) -> bool
     idns.iter().all(|idn| cyclic_len(blocks, *idn).is_some())
 }
 
-/// Whether the drives have a cycle time: 125, 250 or a multiple of 250, at most 64000 microseconds.
+/// Whether a ring can have the cycle time: 125, 250 or a multiple of 250, at most 64000 microseconds.
 #[tactic(auto, unfolding(crate::specs::Rings::is_cycle))]
 pub fn is_cycle(cycle: u32) -> bool
     ensures { result ≡ is_cycle cycle }

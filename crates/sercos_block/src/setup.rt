@@ -12,9 +12,9 @@ pub struct DriveSetup {
     pub address: u8,
     /// The slave that the drive belongs to, 1 to 254.
     pub slave: u8,
-    /// For how many cycles the drive is busy with a step of the service channel.
+    /// For how many cycles the drive is busy with a step of the service channel, 0 to 20.
     pub busy: u8,
-    /// For how many cycles a procedure command runs.
+    /// For how many cycles a procedure command runs, 0 to 200.
     pub command: u16,
     /// The times that the drive declares.
     pub times: Times,

@@ -7,7 +7,8 @@ const MISSING: u16 = 1;
 
 const PROTECTED: u16 = 4;
 
-/// Why a drive refuses a step of the service channel: the code that it sends as information word, after IEC 61491:1995.
+/// Why a drive refuses a step of the service channel: the code that it sends as information word. The codes are this
+/// profile's.
 ///
 /// The elements of a data block are 1 the identifier number, 2 the name, 3 the attribute, 4 the unit, 5 the minimum, 6
 /// the maximum and 7 the operation data.

@@ -4,9 +4,11 @@
 mod chain;
 mod chaining;
 mod checking;
+mod law;
 mod least;
 mod planning;
 
 pub use chain::{Chain, Link};
 pub use checking::check_chain;
+pub use law::plan_law;
 pub use planning::plan;

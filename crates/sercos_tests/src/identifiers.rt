@@ -1,5 +1,5 @@
 // Worked examples of identifier numbers and attributes.
-use sercos_idn::{Attribute, BadAttribute, BadIdn, Form, Idn, Length};
+use sercos_idn::{Attribute, BadAttribute, BadIdn, Code, Form, Idn, Length};
 use std::test::Fail;
 
 #[test]
@@ -46,5 +46,23 @@ fn attributes(rt: HostRuntime) {
     ];
     for (word, bit) in refused {
         assert_eq!(rt; Attribute::read(word), Err(BadAttribute { bit }), "{word}");
+    }
+}
+
+#[test]
+fn codes(rt: HostRuntime) {
+    let codes = [
+        (Code::NOT_OPEN, 0x0001),
+        (Code::NO_IDN, 0x1001),
+        (Code::TOO_SHORT, 0x7002),
+        (Code::TOO_LONG, 0x7003),
+        (Code::FIXED, 0x7004),
+        (Code::PROTECTED_NOW, 0x7005),
+        (Code::BELOW_MINIMUM, 0x7006),
+        (Code::ABOVE_MAXIMUM, 0x7007),
+        (Code::INVALID, 0x7008),
+    ];
+    for (code, raw) in codes {
+        assert_eq!(rt; code.raw, raw);
     }
 }
