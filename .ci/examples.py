@@ -2,7 +2,9 @@
 """Runs the examples of documents as they are printed: examples.py DOCUMENT..
 
 An example stands in a block that begins with ```console: each line that begins with `$ ` is a command, run at the top of
-the repository, and the lines behind it are the standard output that it must have. Ends with 0 where each is as printed.
+the repository, and the lines behind it are the standard output that it must have. In a ring document the comment at the
+head has a command in a line of its own, and behind `prints` the lines of its output, all set in. Ends with 0 where each
+is as printed.
 """
 import re
 import subprocess
@@ -16,12 +18,20 @@ def examples(text):
             yield command, output
 
 
+def headed(text):
+    head = text.partition("\n\n")[0]
+    before, _, after = head.partition("# prints\n")
+    command = re.findall(r"^#   (.*)$", before, re.M)
+    output = re.findall(r"^#   (.*)$", after, re.M)
+    yield command[0], "".join(line + "\n" for line in output)
+
+
 def main():
     passed = failed = 0
     for name in sys.argv[1:]:
         with open(name, encoding="utf-8") as document:
             text = document.read()
-        for command, output in examples(text):
+        for command, output in headed(text) if name.endswith(".toml") else examples(text):
             run = subprocess.run(["bash", "-c", command], capture_output=True, text=True, timeout=600)
             if run.stdout == output:
                 passed += 1
