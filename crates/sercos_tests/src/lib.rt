@@ -10,6 +10,8 @@ mod identifiers;
 #[cfg(test)]
 mod layers;
 #[cfg(test)]
+mod plans;
+#[cfg(test)]
 mod show;
 #[cfg(test)]
 mod stores;
