@@ -20,7 +20,7 @@ use Rattle.sercos_plan.proofs.LeastLemmas.{Among}
 use Rattle.sercos_plan.proofs.PlanLemmas.{among_first, among_greatest, length_first, rate_some}
 use Rattle.sercos_plan.proofs.TurnLemmas.{five_some}
 use Rattle.sercos_plan.proofs.ListedLemmas.{up_to_at, IsFirstGreatest, first_greatest_at, greatest_within}
-use Rattle.sercos_plan.proofs.ReachLemmas.{linked_more, last_more, gives_time, tight_is, Reaches, after_from, start_reaches}
+use Rattle.sercos_plan.proofs.ReachLemmas.{linked_more, last_more, gives_time, tight_is, one_of, Reaches, after_from, start_reaches}
 
 -- the greatest of numbers is one of them
 greatest_one : (f : ℕ → ℕ) (ats : List ℕ) → 0 < length ats → (k : ℕ) × Among k ats × (f k ≡ greatest f ats)
@@ -164,13 +164,6 @@ module _ (w : WishesView) (valid : IsValid w) where
             false≢true (sym (none_tight w (bits_of_starts w) _ one.0 (sent w) none one.1) ∙ eq-eqb _ _ given)
       ]
     where
-      one_of : (x y : ℕ) → (max x y ≡ x) ⊎ (max x y ≡ y)
-      one_of x y = elim (cases_order x y) [
-        | inl e ↦ inl (omega arith)
-        | inr (inl less) ↦ inr (omega arith)
-        | inr (inr more) ↦ inl (omega arith)
-      ]
-
       five_tight : (o : Option ℕ) (v t : ℕ) → o ≡ Some v → t ≡ round_up w.rate (unwrap_or o 0) → is_tight w o t ≡ false → ⊥
       five_tight None v t is e h = cc
       five_tight (Some a) v t is e h = false≢true (sym h ∙ eq-eqb (round_up w.rate a) t (sym e))
@@ -260,11 +253,8 @@ module _ (w : WishesView) (valid : IsValid w) where
     end =
         ap (ends w Cycle (records_drive w)) third_last
         ∙ ap (λ c. ended_if c (Some (w.rate * least_t3 w, w.rate * w.cycle))) (eq-eqb (records_drive w) (records_drive w) refl);
-    above = more _ _ _ (rate_some w valid) (leb-false _ _ broken);
+    above = mul-lt-mul_of_pos_left (leb-false _ _ broken) (rate_some w valid);
   }
-    where
-      more : (r a b : ℕ) → 0 < r → a < b → r * a < r * b
-      more r a b some less = mul-lt-mul_of_pos_left less some
 
   -- the chain to 10
   capture_is_chain : nat_le (greatest_t4min w) w.cycle ≡ false → IsChain w (capture_chain w)
@@ -273,12 +263,9 @@ module _ (w : WishesView) (valid : IsValid w) where
       record {
         links = tt;
         end = mapped _ _ (named_time (λ d. d.times.t4min) first.0 first.1);
-        above = more _ _ _ (rate_some w valid) (leb-false _ _ broken);
+        above = mul-lt-mul_of_pos_left (leb-false _ _ broken) (rate_some w valid);
       }
     where
-      more : (r a b : ℕ) → 0 < r → a < b → r * a < r * b
-      more r a b some less = mul-lt-mul_of_pos_left less some
-
       mapped : (o : Option ℕ) (most : ℕ) → option_map (λ k. (times w k).t4min) o ≡ Some most → option_map {U = ℕ × ℕ} (λ k. (w.rate * (times w k).t4min, w.rate * w.cycle)) o ≡ Some (w.rate * most, w.rate * w.cycle)
       mapped None most h = cc
       mapped (Some k) most h = ap (λ x. Some (w.rate * x, w.rate * w.cycle)) (same_Some _ _ h)

@@ -58,6 +58,14 @@ the_greatest w None first most t own below is value =
     not_both (is_tight w (Some first) t) own (tight_by w first t (ap (round_up w.rate) same ∙ sym is))
 the_greatest w (Some a) first most t own below is value = tight_by w a t (ap (round_up w.rate) (sym value) ∙ sym is)
 
+-- the greatest of numbers is one of them
+pub one_of : (x y : ℕ) → (max x y ≡ x) ⊎ (max x y ≡ y)
+one_of x y = elim (cases_order x y) [
+  | inl e ↦ inl (omega arith)
+  | inr (inl less) ↦ inr (omega arith)
+  | inr (inr more) ↦ inl (omega arith)
+]
+
 one_of_four : (a b c d : ℕ) → (max a (max b (max c d)) ≡ a) ⊎ ((max a (max b (max c d)) ≡ b) ⊎ ((max a (max b (max c d)) ≡ c) ⊎ (max a (max b (max c d)) ≡ d)))
 one_of_four a b c d = elim (one_of a (max b (max c d))) [
   | inl e ↦ inl e
@@ -69,13 +77,6 @@ one_of_four a b c d = elim (one_of a (max b (max c d))) [
     ]
   ]
 ]
-  where
-    one_of : (x y : ℕ) → (max x y ≡ x) ⊎ (max x y ≡ y)
-    one_of x y = elim (cases_order x y) [
-      | inl e ↦ inl (omega arith)
-      | inr (inl less) ↦ inr (omega arith)
-      | inr (inr more) ↦ inl (omega arith)
-    ]
 
 four_tight : (w : WishesView) (first t : ℕ) (o2 o3 o4 : Option ℕ) →
     t ≡ round_up w.rate (max first (max (unwrap_or o2 0) (max (unwrap_or o3 0) (unwrap_or o4 0)))) →
