@@ -1,5 +1,5 @@
 -- What the answer to wishes says, by the kind of answer.
-use Rattle.std.proofs.Common.{◌≡◌, ◌↔◌, ℕ, List, Result, Ok, Err, IfOk, OnErr, refl, sym, ◌∙◌, ap}
+use Rattle.std.proofs.Common.{◌≡◌, ◌↔◌, ℕ, List, Result, Ok, Err, IfOk, OnErr, refl}
 use Rattle.sercos_io.specs.declared.status.Status.TheVariants.{Done, No, Refused}
 use Rattle.sercos_timing.specs.Views.{WishesView, PlanView}
 use Rattle.sercos_plan.specs.Views.{ChainView}
@@ -10,7 +10,6 @@ use Rattle.sercos_block.specs.Rings.{wishes_of}
 use Rattle.sercos_document.specs.declared.refusal.BadDocument.{BadDocument}
 use Rattle.sercos_document.specs.Lines.{line_of}
 use Rattle.sercos_config.specs.Document.{document_of}
-use Rattle.sercos_app.specs.Show.{Answer}
 use Rattle.sercos_app.specs.Planning.{plan_text, wishes_answer, ring_answer, plan_answer}
 
 pub answer-ring : (bytes : List ℕ) (ring : RingView) → document_of bytes ≡ Ok ring → plan_answer bytes ≡ wishes_answer (wishes_of ring) (planned (wishes_of ring))

@@ -12,11 +12,7 @@ use Rattle.sercos_block.specs.Rings.{wishes_of}
 use Rattle.sercos_document.specs.declared.refusal.BadDocument.{BadDocument}
 use Rattle.sercos_document.specs.Lines.{line_of}
 use Rattle.sercos_config.specs.Document.{document_of}
-use Rattle.sercos_app.specs.Show.{Answer, line_feed}
-
--- two numbers, each behind its name
-unfoldable pub two_numbers : List ℕ → ℕ → List ℕ → ℕ → List ℕ
-two_numbers first a second b = first ++ decimal a ++ second ++ decimal b
+use Rattle.sercos_app.specs.Show.{Answer, line_feed, two_numbers}
 
 -- the times of all drives, and the length of the MDT
 unfoldable pub plan_line : PlanView → List ℕ

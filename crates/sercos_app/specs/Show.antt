@@ -28,7 +28,7 @@ line_feed = 10 ∷ []
 unfoldable pub word_text : ℕ → List ℕ
 word_text word = codes "0x" ++ encode_lower (to_be_bytes w16 word)
 
--- the texts of two bits, of a bit and a number, and of two words, each behind its name
+-- the texts of two bits, of a bit and a number, of two numbers, and of two words, each behind its name
 abbrev pub bit_text : Bool → List ℕ
 bit_text bit = cond bit (codes "1") (codes "0")
 
@@ -37,6 +37,9 @@ two_bits first a second b = first ++ bit_text a ++ second ++ bit_text b
 
 unfoldable pub bit_and_number : List ℕ → Bool → List ℕ → ℕ → List ℕ
 bit_and_number first bit second number = first ++ bit_text bit ++ second ++ decimal number
+
+unfoldable pub two_numbers : List ℕ → ℕ → List ℕ → ℕ → List ℕ
+two_numbers first a second b = first ++ decimal a ++ second ++ decimal b
 
 unfoldable pub two_words : List ℕ → ℕ → List ℕ → ℕ → List ℕ
 two_words first a second b = first ++ word_text a ++ second ++ word_text b
@@ -59,8 +62,8 @@ refusal_text (Long bytes) = codes "8 long " ++ decimal bytes
 
 -- number, name and values of a fault of layout
 unfoldable pub layout_text : Layout → List ℕ
-layout_text (Length found wanted) = codes "1 length found " ++ decimal found ++ codes " wanted " ++ decimal wanted
-layout_text (Address found wanted) = codes "2 address found " ++ decimal found ++ codes " wanted " ++ decimal wanted
+layout_text (Length found wanted) = two_numbers (codes "1 length found ") found (codes " wanted ") wanted
+layout_text (Address found wanted) = two_numbers (codes "2 address found ") found (codes " wanted ") wanted
 layout_text (BadField place) = codes "3 field " ++ decimal place
 
 -- a text, or the fault in its place

@@ -1,8 +1,8 @@
 // The texts of plans and of chains, appended to what is written in the end.
 ghost use Rattle.std.specs.Prelude.{◌≡◌, ◌++◌, ◌<◌, ◌≤◌, OnOk, codes, decimal, length};
 ghost use Rattle.std.specs.List.{flat_map};
-ghost use Rattle.sercos_app.specs.Planning.{two_numbers, plan_line, slot_line, slot_lines, plan_text, link_line, end_line, chain_text};
-ghost use Rattle.sercos_app.specs.Show.{line_feed};
+ghost use Rattle.sercos_app.specs.Planning.{plan_line, slot_line, slot_lines, plan_text, link_line, end_line, chain_text};
+ghost use Rattle.sercos_app.specs.Show.{line_feed, two_numbers};
 
 use crate::text::{push_number, push_text, push_two_numbers};
 use sercos_plan::{Chain, Link};

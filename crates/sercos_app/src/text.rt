@@ -1,8 +1,7 @@
 // The texts of answers, appended to what is written in the end.
 ghost use Rattle.std.specs.Prelude.{◌≡◌, ◌++◌, OnOk, codes, decimal, length, ◌≤◌};
 ghost use Rattle.hex.specs.Hex.{encode_lower};
-ghost use Rattle.sercos_app.specs.Planning.{two_numbers};
-ghost use Rattle.sercos_app.specs.Show.{word_text, bit_text, two_bits, bit_and_number, two_words, data_text, layout_text, mst_text, single_text, at_text, refusal_text};
+ghost use Rattle.sercos_app.specs.Show.{word_text, bit_text, two_bits, bit_and_number, two_numbers, two_words, data_text, layout_text, mst_text, single_text, at_text, refusal_text};
 
 use itoa::Buffer;
 use sercos_hdlc::BadFrame;
@@ -86,7 +85,7 @@ fn push_bit_and_number(
 }
 
 /// Appends two numbers, each behind its name.
-#[tactic(auto, unfolding(crate::specs::Planning::two_numbers))]
+#[tactic(auto, unfolding(crate::specs::Show::two_numbers))]
 pub fn push_two_numbers(
     first: &str,
     a: u64,
@@ -95,23 +94,6 @@ pub fn push_two_numbers(
     out: &mut Vec<u8>,
 ) -> Result<(), AllocError>
     ensures { OnOk result (out.new.items ≡ out.old.items ++ two_numbers first.now a second.now b) }
-{
-    push_text(first, out)?;
-    push_number(a, out)?;
-    push_text(second, out)?;
-    push_number(b, out)
-}
-
-// Appends two numbers, each behind its name.
-fn push_numbers(
-    first: &str,
-    a: u64,
-    second: &str,
-    b: u64,
-    out: &mut Vec<u8>,
-) -> Result<(), AllocError>
-    ensures { OnOk result (out.new.items
-        ≡ out.old.items ++ (first.now ++ decimal a ++ second.now ++ decimal b)) }
 {
     push_text(first, out)?;
     push_number(a, out)?;
@@ -185,7 +167,7 @@ pub fn push_layout(fault: Layout, out: &mut Vec<u8>) -> Result<(), AllocError>
 {
     match fault {
         Layout::Length(found, wanted) => {
-            push_numbers(
+            push_two_numbers(
                 "1 length found ",
                 found as u64,
                 " wanted ",
@@ -194,7 +176,7 @@ pub fn push_layout(fault: Layout, out: &mut Vec<u8>) -> Result<(), AllocError>
             )
         }
         Layout::Address(found, wanted) => {
-            push_numbers(
+            push_two_numbers(
                 "2 address found ",
                 found as u64,
                 " wanted ",

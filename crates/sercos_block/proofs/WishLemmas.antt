@@ -7,17 +7,13 @@ use Rattle.std.proofs.lemmas.List.Elements.{All-tail}
 use Rattle.sercos_timing.specs.declared.wishes.Wish.{Wish}
 use Rattle.sercos_timing.specs.Order.{no_wish, record_bytes}
 use Rattle.sercos_timing.specs.Valid.{AreDistinct, addresses, IsWish, AreDrives, IsOrder, AreCycles, IsValid}
+use Rattle.sercos_block.proofs.OpenLemmas.{either_none}
 use Rattle.sercos_block.specs.Views.{DriveView, RingView}
 use Rattle.sercos_block.specs.Rings.{HasLens, is_cycle, is_control, are_ring_numbers, has_ring_numbers, is_address, has_drive_numbers, has_address, is_drive, are_drives, is_turn, are_turns, is_order, has_drives, is_ring, mdt_len, record_len, wish_of, wishes_of}
 
 not_false : (b : Bool) → not b ≡ true → b ≡ false
 not_false false h = refl
 not_false true h = cc
-
-or_parts : (x y : Bool) → (x || y) ≡ false → (x ≡ false) × (y ≡ false)
-or_parts false false h = (refl, refl)
-or_parts true y h = cc
-or_parts false true h = cc
 
 or_cases : (x y : Bool) → (x || y) ≡ true → (x ≡ true) ⊎ (y ≡ true)
 or_cases true y h = inl refl
@@ -51,7 +47,7 @@ turn_at drives before (place ∷ order) ok zero in' =
 turn_at drives before (place ∷ order) ok (suc i) in' =
     let (here, rest) = and_parts (is_turn drives before place) (are_turns drives (before ++ place ∷ []) order) ok in
     let (below, new) = turn_at drives (before ++ place ∷ []) order rest i (omega arith) in
-    (below, (or_parts _ _ (sym (any_appended (λ k. k == slice_index order i) before place) ∙ new)).0)
+    (below, (either_none _ _ (sym (any_appended (λ k. k == slice_index order i) before place) ∙ new)).0)
 
 turns_apart : (drives : ℕ) (before order : List ℕ) → are_turns drives before order ≡ true → AreDistinct order
 unfolding are_turns
@@ -60,7 +56,7 @@ turns_apart drives before (place ∷ order) ok i zero less in' = absurd (omega a
 turns_apart drives before (place ∷ order) ok zero (suc j) less in' =
     let (here, rest) = and_parts (is_turn drives before place) (are_turns drives (before ++ place ∷ []) order) ok in
     let (below, new) = turn_at drives (before ++ place ∷ []) order rest j (omega arith) in
-    apart_from place (slice_index order j) (or_parts _ _ (sym (any_appended (λ k. k == slice_index order j) before place) ∙ new)).1
+    apart_from place (slice_index order j) (either_none _ _ (sym (any_appended (λ k. k == slice_index order j) before place) ∙ new)).1
 turns_apart drives before (place ∷ order) ok (suc i) (suc j) less in' =
     let (here, rest) = and_parts (is_turn drives before place) (are_turns drives (before ++ place ∷ []) order) ok in
     turns_apart drives (before ++ place ∷ []) order rest i j (omega arith) (omega arith)
@@ -102,7 +98,7 @@ address_new before (d ∷ drives) ok zero in' =
 address_new before (d ∷ drives) ok (suc k) in' =
     let (here, rest) = and_parts (is_drive before d) (are_drives (before ++ d ∷ []) drives) ok in
     let new = address_new (before ++ d ∷ []) drives rest k (omega arith) in
-    (or_parts _ _ (sym (any_appended (λ (e : DriveView). e.address == slice_index (addresses (map wish_of drives)) k) before d) ∙ new)).0
+    (either_none _ _ (sym (any_appended (λ (e : DriveView). e.address == slice_index (addresses (map wish_of drives)) k) before d) ∙ new)).0
 
 addresses_apart : (before drives : List DriveView) → are_drives before drives ≡ true → AreDistinct (addresses (map wish_of drives))
 unfolding are_drives has_address
@@ -111,7 +107,7 @@ addresses_apart before (d ∷ drives) ok i zero less in' = absurd (omega arith)
 addresses_apart before (d ∷ drives) ok zero (suc j) less in' =
     let (here, rest) = and_parts (is_drive before d) (are_drives (before ++ d ∷ []) drives) ok in
     let new = address_new (before ++ d ∷ []) drives rest j (omega arith) in
-    apart_from d.address _ (or_parts _ _ (sym (any_appended (λ (e : DriveView). e.address == slice_index (addresses (map wish_of drives)) j) before d) ∙ new)).1
+    apart_from d.address _ (either_none _ _ (sym (any_appended (λ (e : DriveView). e.address == slice_index (addresses (map wish_of drives)) j) before d) ∙ new)).1
 addresses_apart before (d ∷ drives) ok (suc i) (suc j) less in' =
     let (here, rest) = and_parts (is_drive before d) (are_drives (before ++ d ∷ []) drives) ok in
     addresses_apart (before ++ d ∷ []) drives rest i j (omega arith) (omega arith)

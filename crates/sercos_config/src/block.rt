@@ -30,7 +30,9 @@ pub(crate) fn read_blocks(
     ensures valid { IfOk result (λ v. blocks_fault [] v.items ≡ None) }
     ensures count { IfOk result (λ v. length v.items ≡ length tables.now) }
 {
-    let mut blocks = Vec::new(alloc);
+    let Ok(mut blocks) = Vec::with_capacity(alloc, tables.len()) else {
+        return Err(BadDocument::Memory);
+    };
     for table in tables {
         let keys = Keys {
             alloc,

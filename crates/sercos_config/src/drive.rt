@@ -25,7 +25,9 @@ pub(crate) fn read_drives(alloc: Global, tables: &[&Table]) -> Result<Vec<DriveS
     ensures valid { IfOk result (λ v. are_drives [] v.items ≡ true) }
     ensures count { IfOk result (λ v. length v.items ≡ length tables.now) }
 {
-    let mut drives = Vec::new(alloc);
+    let Ok(mut drives) = Vec::with_capacity(alloc, tables.len()) else {
+        return Err(BadDocument::Memory);
+    };
     for table in tables {
         let keys = Keys {
             alloc,
