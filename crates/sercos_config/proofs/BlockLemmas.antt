@@ -1,5 +1,5 @@
 -- Data blocks that keep their rules behind one another.
-use Rattle.std.proofs.Common.{◌≡◌, List, [], ◌∷◌, ◌++◌, length, Option, None, refl, append_assoc, append-nil}
+use Rattle.std.proofs.Common.{◌≡◌, List, [], ◌∷◌, ◌++◌, length, None, refl, append_assoc, append-nil}
 use Rattle.std.specs.Prelude.{option_map}
 use Rattle.sercos_model.proofs.FaultLemmas.{none_of-or}
 use Rattle.sercos_block.specs.declared.block.Block.{Block}

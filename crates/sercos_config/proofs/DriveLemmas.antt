@@ -1,5 +1,5 @@
 -- Drives that may stand behind one another.
-use Rattle.std.proofs.Common.{◌≡◌, true, ◌&&◌, List, [], ◌∷◌, ◌++◌, refl, append_assoc, append-nil}
+use Rattle.std.proofs.Common.{◌≡◌, true, List, [], ◌∷◌, ◌++◌, refl, append_assoc, append-nil}
 use Rattle.std.proofs.lemmas.Bool.{and_parts}
 use Rattle.sercos_block.specs.Views.{DriveView}
 use Rattle.sercos_block.specs.Rings.{is_drive, are_drives}

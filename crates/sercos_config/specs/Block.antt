@@ -1,5 +1,5 @@
 -- A data block of a document.
-use Rattle.std.specs.Prelude.{ℕ, pos, ◌++◌, ◌==◌, ◌&&◌, ◌||◌, not, Bool, false, List, [], ◌∷◌, length, codes, if◌then◌else◌, Option, Some, None, is_none, Result, Ok, Err}
+use Rattle.std.specs.Prelude.{ℕ, pos, ◌++◌, ◌==◌, ◌&&◌, ◌||◌, not, Bool, false, List, [], ◌∷◌, length, codes, if◌then◌else◌, Option, Some, None, is_none, Ok}
 use Rattle.toml.specs.Data.{Members, as_str}
 use Rattle.sercos_idn.specs.declared.idn.Idn.{Idn}
 use Rattle.sercos_idn.specs.declared.attribute.Attribute.{Attribute}

@@ -1,6 +1,6 @@
 -- The ring of a document, or its first refusal: the top table, then the ring's, then each drive's with its blocks; the
 -- length of the MDT and the order come after all drives.
-use Rattle.std.specs.Prelude.{ℕ, pos, nat_le, List, [], ◌∷◌, codes, if◌then◌else◌, Option, Some, None, Result, Ok, Err}
+use Rattle.std.specs.Prelude.{ℕ, pos, nat_le, List, [], ◌∷◌, codes, if◌then◌else◌, Option, Some, None, Ok, Err}
 use Rattle.std.specs.Str.{is_utf8}
 use Rattle.toml.specs.Data.{Members, as_table}
 use Rattle.toml.specs.Parse.{parse_document}

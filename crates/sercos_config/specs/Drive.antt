@@ -1,5 +1,5 @@
 -- A drive of a document.
-use Rattle.std.specs.Prelude.{ℕ, pos, ◌++◌, not, Bool, List, [], ◌∷◌, length, codes, Result, Ok, Err}
+use Rattle.std.specs.Prelude.{ℕ, pos, ◌++◌, not, List, [], ◌∷◌, length, codes, Ok}
 use Rattle.toml.specs.Data.{Members, Items, as_str}
 use Rattle.sercos_idn.specs.declared.idn.Idn.{Idn}
 use Rattle.sercos_timing.specs.declared.wishes.Times.{Times}

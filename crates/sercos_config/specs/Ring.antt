@@ -1,5 +1,5 @@
 -- The ring's own keys, and the order of its drives.
-use Rattle.std.specs.Prelude.{ℕ, zero, suc, ℤ, pos, Bool, ◌+◌, ◌%◌, ◌++◌, ◌==◌, not, List, [], ◌∷◌, length, codes, if◌then◌else◌, Option, Some, None, Result, Ok, Err}
+use Rattle.std.specs.Prelude.{ℕ, zero, suc, ℤ, pos, ◌+◌, ◌%◌, ◌++◌, ◌==◌, not, List, [], ◌∷◌, length, codes, if◌then◌else◌, Option, Some, None, Ok}
 use Rattle.std.specs.List.{list_any}
 use Rattle.std.specs.Ordering.{int_eq}
 use Rattle.toml.specs.Data.{Items, as_integer, as_array}

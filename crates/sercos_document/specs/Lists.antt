@@ -1,5 +1,5 @@
 -- The lists under a table's keys. A list of tables is refused at its own path, other lists at their items' paths.
-use Rattle.std.specs.Prelude.{ℕ, pos, ◌+◌, ◌&&◌, ◌++◌, nat_le, List, [], ◌∷◌, length, Option, Some, None, Result, Ok, Err}
+use Rattle.std.specs.Prelude.{ℕ, pos, ◌+◌, ◌&&◌, ◌++◌, nat_le, List, [], ◌∷◌, length, Option, Some, None, Ok}
 use Rattle.toml.specs.Data.{Data, Members, Items, no_items, item, as_array, as_table}
 use Rattle.sercos_document.specs.declared.path.Place.{Place}
 use Rattle.sercos_document.specs.declared.refusal.BadDocument.TheVariants as bad

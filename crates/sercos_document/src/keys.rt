@@ -1,10 +1,14 @@
 // The keys of a table, and the values under them.
-ghost use Rattle.std.specs.Prelude.{◌≡◌, ◌≤◌, true, option_map, option_copied, map, IfOk, OnOk};
+ghost use Rattle.std.specs.Prelude.{◌≡◌, ◌≤◌, true, option_map, option_copied, string_bytes, map, not, IfOk, OnOk};
+ghost use Rattle.std.specs.List.{find};
+ghost use Rattle.std.specs.List.Sorted.{IsStrictlySortedBy};
+ghost use Rattle.std.specs.Map.{keys_of};
+ghost use Rattle.std.specs.String.{string_cmp};
 ghost use Rattle.toml.specs.Data.{get_member, as_integer, as_str, as_table};
 ghost use Rattle.toml.specs.View.{view, table_view};
 ghost use Rattle.sercos_document.specs.Paths.{path, item_path};
 ghost use Rattle.sercos_document.specs.Answers.{Refuses, Gives, Shows, demand};
-ghost use Rattle.sercos_document.specs.Tables.{optional, required, between, number, number_or, is_among, known, boolean_or};
+ghost use Rattle.sercos_document.specs.Tables.{optional, required, between, number, number_or, is_among, least_unknown, known, boolean_or};
 
 use crate::path::{Path, Place};
 use crate::refusal::BadDocument;
@@ -256,17 +260,31 @@ impl<'a> Keys<'a> {
     }
 
     /// Refuses the least key, in the order of bytes, that isn't one of these, as `Unknown`.
-    #[tactic(auto, using(crate::proofs::Least::least_first), unfolding(crate::specs::Tables::known, crate::proofs::Least::first_unknown))]
+    #[tactic(auto, unfolding(crate::specs::Tables::known))]
     pub fn known(&self, keys: &[&str]) -> Result<(), BadDocument>
         ensures { Gives result (known (located self.now) (map (λ k. k.now) keys.now)) }
     {
-        for (key, _) in self.table.iter() {
-            if !is_among(key.as_str(), keys) {
-                return Err(self.unknown(key.as_str()));
-            }
+        match least_unknown(self.table, keys) {
+            Some(key) => Err(self.unknown(key.as_str())),
+            None => Ok(()),
         }
-        Ok(())
     }
+}
+
+// The least key of a table that isn't one of these.
+fn least_unknown<'t>(table: &'t Table, keys: &[&str]) -> Option<&'t String>
+    ensures { option_map (λ k. string_bytes k.now) result ≡ least_unknown (map (λ k. k.now) keys.now) (table_view table.now) }
+{
+    first_unknown(table, keys)
+}
+
+// The first key of a table that isn't one of these. A table has its keys in order.
+fn first_unknown<'t>(table: &'t Table, keys: &[&str]) -> Option<&'t String>
+    ensures found { option_map (λ k. k.now) result ≡
+        find (λ k. not (is_among (string_bytes k) (map (λ t. t.now) keys.now))) (keys_of table.now.entries) }
+    ensures ordered { IsStrictlySortedBy string_cmp (keys_of table.now.entries) }
+{
+    table.keys().find(|key| !is_among(key.as_str(), keys))
 }
 
 // Whether the key is one of these.

@@ -1,4 +1,4 @@
-use Rattle.std.proofs.Common.{◌≡◌, ◌++◌, ◌+◌, ◌<◌, ℕ, List, [], Bor, length, take, drop, map, sym, subst, arith}
+use Rattle.std.proofs.Common.{◌+◌, ℕ, List, [], Bor, length, take, drop, map, sym, subst, arith}
 use Rattle.std.specs.List.{concat}
 use Rattle.std.proofs.lemmas.Bool.{false≢true}
 use Rattle.std.proofs.lemmas.List.{length-append}
