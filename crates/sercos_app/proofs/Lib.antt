@@ -7,4 +7,3 @@ pub mod WrittenLines
 pub mod FormLemmas
 pub mod ShowLemmas
 pub mod Outcomes
-pub mod PlanningLemmas

@@ -5,12 +5,17 @@ use Rattle.sercos_app.specs.declared.form.Form.{Form}
 use Rattle.sercos_app.specs.declared.form.Form.TheVariants as forms
 use Rattle.sercos_app.specs.Form.{form_of}
 use Rattle.sercos_app.specs.Show.{Answer, show_answer}
-use Rattle.sercos_app.specs.Planning.{plan_answer}
+use Rattle.sercos_app.specs.Planning.{plan_answer, PlansItsRing}
 
 -- the answer of each command to an input
 unfoldable pub command_answer : Form → List ℕ → Answer
 command_answer forms.Show bytes = show_answer bytes
 command_answer forms.Plan bytes = plan_answer bytes
+
+-- what the answer of each command says beside its text
+abbrev pub SaysWell : Form → List ℕ → Type 0
+SaysWell forms.Show bytes = Unit {0}
+SaysWell forms.Plan bytes = PlansItsRing bytes
 
 unfoldable pub form_answer : Option Form → List ℕ → Answer
 form_answer None bytes = record { status = BadWords; output = [] }

@@ -6,7 +6,7 @@ use Rattle.sercos_model.specs.Streams.{Rose}
 use Rattle.sercos_io.specs.declared.status.Status.{Status}
 use Rattle.sercos_io.specs.declared.status.Status.TheVariants.{BadWords, ReadFault, Memory, TooLong}
 use Rattle.sercos_app.specs.declared.form.Form.{Form}
-use Rattle.sercos_app.specs.Answer.{command_answer}
+use Rattle.sercos_app.specs.Answer.{command_answer, SaysWell}
 use Rattle.sercos_app.specs.Form.{form_of}
 use Rattle.sercos_app.specs.TopCall.{fault_status, ReadsWhole, TakesAtMost, TakesTooMany}
 
@@ -36,4 +36,4 @@ pub data Outcome (words : List (List ℕ)) (source : SourceChange) (sink : SinkC
   unreadable : (form : Form) → form_of words ≡ Some form → source.faults ≤ source.faults' → Rose source.faults source.faults' → TakesAtMost 1048576 source.left source.left' → Unwritten → sink.faults' ≡ sink.faults → Outcome words source sink Unread Unwritten ReadFault
   too_many : (form : Form) → form_of words ≡ Some form → source.faults' ≡ source.faults → TakesTooMany source.left source.left' → Unwritten → sink.faults' ≡ sink.faults → Outcome words source sink Unread Unwritten TooLong
   no_memory : (form : Form) → form_of words ≡ Some form → source.faults' ≡ source.faults → TakesAtMost 1048576 source.left source.left' → Unwritten → sink.faults' ≡ sink.faults → Outcome words source sink Unread Unwritten Memory
-  answered : (form : Form) (bytes : List ℕ) (status : Status) → form_of words ≡ Some form → source.faults' ≡ source.faults → ReadsWhole source.left source.left' bytes → Writes (command_answer form bytes).status (command_answer form bytes).output sink status → Outcome words source sink Unread Unwritten status
+  answered : (form : Form) (bytes : List ℕ) (status : Status) → form_of words ≡ Some form → SaysWell form bytes → source.faults' ≡ source.faults → ReadsWhole source.left source.left' bytes → Writes (command_answer form bytes).status (command_answer form bytes).output sink status → Outcome words source sink Unread Unwritten status

@@ -1,5 +1,5 @@
 -- What `plan` answers to a ring document.
-use Rattle.std.specs.Prelude.{ℕ, zero, suc, List, [], ◌++◌, codes, decimal, length, slice_index, Result, Ok, Err}
+use Rattle.std.specs.Prelude.{◌≡◌, ℕ, zero, suc, List, [], ◌++◌, codes, decimal, length, slice_index, Result, Ok, Err}
 use Rattle.std.specs.List.{flat_map}
 use Rattle.sercos_io.specs.declared.status.Status.TheVariants.{Done, No, Refused}
 use Rattle.sercos_timing.specs.Views.{WishesView, PlanView}
@@ -7,6 +7,7 @@ use Rattle.sercos_timing.specs.Order.{wish}
 use Rattle.sercos_plan.specs.declared.chain.Link.{Link}
 use Rattle.sercos_plan.specs.Views.{ChainView}
 use Rattle.sercos_plan.specs.ChainOf.{planned}
+use Rattle.sercos_plan.specs.Least.{IsLeast, NoneFits}
 use Rattle.sercos_block.specs.Views.{RingView}
 use Rattle.sercos_block.specs.Rings.{wishes_of}
 use Rattle.sercos_document.specs.declared.refusal.BadDocument.{BadDocument}
@@ -52,3 +53,13 @@ ring_answer (Err bad) = record { status = Refused; output = line_of bad }
 
 unfoldable pub plan_answer : List ℕ → Answer
 plan_answer bytes = ring_answer (document_of bytes)
+
+-- An answer says what it should of wishes: no, only where no plan fits, whatever plan it is; done, only with the text of the
+-- least plan.
+pub record IsPlanned (w : WishesView) (answer : Answer) : Type 0 where
+  pub no : answer.status ≡ No → NoneFits w
+  pub done : answer.status ≡ Done → (p : PlanView) × IsLeast w p × (answer.output ≡ plan_text w p)
+
+-- the answer to a document does so of what its ring asks
+abbrev pub PlansItsRing : List ℕ → Type 0
+PlansItsRing bytes = (ring : RingView) → document_of bytes ≡ Ok ring → IsPlanned (wishes_of ring) (plan_answer bytes)

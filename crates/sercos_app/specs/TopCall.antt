@@ -1,11 +1,17 @@
 -- What the top call does with its source and its sink. The bytes that a source has left and those that a sink holds are
 -- known where it tells them.
-use Rattle.std.specs.Prelude.{◌≡◌, ℕ, ◌<◌, ◌≤◌, Bool, true, false, List, length, take, Option}
+use Rattle.std.specs.Prelude.{◌≡◌, ℕ, ◌<◌, ◌≤◌, Bool, true, false, List, length, take, Option, Ok}
 use Rattle.std.specs.Io.KnownBytes.{Appends, Consumes, IsAtEnd}
 use Rattle.sercos_io.specs.declared.status.Status.{Status}
 use Rattle.sercos_io.specs.declared.status.Status.TheVariants.{BadWords, Refused, ReadFault, WriteFault, Memory, TooLong}
 use Rattle.sercos_app.specs.Answer.{answer_of}
 use Rattle.sercos_app.specs.Show.{Answer}
+use Rattle.sercos_app.specs.Planning.{plan_text}
+use Rattle.sercos_timing.specs.Views.{PlanView}
+use Rattle.sercos_plan.specs.Least.{IsLeast, NoneFits}
+use Rattle.sercos_block.specs.Views.{RingView}
+use Rattle.sercos_block.specs.Rings.{wishes_of}
+use Rattle.sercos_config.specs.Document.{document_of}
 
 -- the statuses that come before anything is written
 unfoldable pub writes_nothing : Status → Bool
@@ -58,3 +64,21 @@ pub record IsCutShort (words : List (List ℕ)) (status : Status) (left left' he
 pub record IsAnswer (answer : Answer) (status : Status) (held held' : Option (List ℕ)) : Type 0 where
   pub status_is : status ≡ answer.status
   pub written : Appends held held' answer.output
+
+-- the source was read to its end as the document of a ring for which no plan fits, whatever plan it is
+pub record NonePlanned (left left' : Option (List ℕ)) : Type 0 where
+  pub bytes : List ℕ
+  pub read : ReadsWhole left left' bytes
+  pub ring : RingView
+  pub document : document_of bytes ≡ Ok ring
+  pub none : NoneFits (wishes_of ring)
+
+-- the source was read to its end as the document of a ring, and the text of its least plan was appended
+pub record LeastPlanned (left left' held held' : Option (List ℕ)) : Type 0 where
+  pub bytes : List ℕ
+  pub read : ReadsWhole left left' bytes
+  pub ring : RingView
+  pub document : document_of bytes ≡ Ok ring
+  pub plan : PlanView
+  pub least : IsLeast (wishes_of ring) plan
+  pub written : Appends held held' (plan_text (wishes_of ring) plan)

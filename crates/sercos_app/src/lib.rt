@@ -12,6 +12,6 @@ mod show;
 mod text;
 mod top_call;
 
-pub use law::{line_law, planning_law};
+pub use law::line_law;
 pub use over_memory::answer_in_memory;
 pub use top_call::sercos;

@@ -3,7 +3,7 @@ ghost use Rattle.std.specs.Prelude.{◌≡◌, ◌⊎◌, IfOk, MatchResult};
 ghost use Rattle.sercos_timing.specs.Valid.{IsValid};
 ghost use Rattle.sercos_plan.specs.ChainOf.{planned};
 ghost use Rattle.sercos_document.specs.Lines.{line_of};
-ghost use Rattle.sercos_app.specs.Planning.{wishes_answer, plan_answer};
+ghost use Rattle.sercos_app.specs.Planning.{wishes_answer, plan_answer, IsPlanned, PlansItsRing};
 ghost use Rattle.sercos_io.specs.declared.status.Status.TheVariants.{Refused};
 
 use crate::plan_text::{push_chain, push_plan};
@@ -19,6 +19,7 @@ fn answer_wishes(alloc: Global, wishes: &Wishes) -> Result<Reply, AllocError>
     requires { IsValid wishes.now }
     ensures status { IfOk result (λ reply. reply.status ≡ (wishes_answer wishes.now (planned wishes.now)).status) }
     ensures text { IfOk result (λ reply. reply.text.items ≡ (wishes_answer wishes.now (planned wishes.now)).output) }
+    ensures planned { IsPlanned wishes.now (wishes_answer wishes.now (planned wishes.now)) }
 {
     let mut text = Vec::new(alloc);
     let status = match sercos_plan::plan(wishes) {
@@ -38,10 +39,13 @@ fn answer_wishes(alloc: Global, wishes: &Wishes) -> Result<Reply, AllocError>
 /// document's first refusal, or want of memory.
 #[tactic(auto, unfolding(crate::specs::Planning::plan_answer, crate::specs::Planning::ring_answer))]
 pub fn plan(alloc: Global, bytes: &[u8]) -> Result<Reply, BadDocument>
-    ensures { MatchResult result
+    ensures answer { MatchResult result
         (λ reply. (reply.status ≡ (plan_answer bytes.now).status) × (reply.text.items ≡ (plan_answer bytes.now).output))
         (λ bad. (bad ≡ BadDocument.Memory)
         ⊎ ((plan_answer bytes.now).status ≡ Refused) × ((plan_answer bytes.now).output ≡ line_of bad)) }
+    ensures ring { MatchResult result
+        (λ _. PlansItsRing bytes.now)
+        (λ bad. (bad ≡ BadDocument.Memory) ⊎ PlansItsRing bytes.now) }
 {
     let document = read_ring(alloc, bytes)?;
     match answer_wishes(alloc, &document.setup.wishes()) {

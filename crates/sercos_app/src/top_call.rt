@@ -1,11 +1,11 @@
 // The top call.
 ghost use Rattle.std.specs.Prelude.{◌≡◌, ◌≢◌, ◌↔◌, ℕ, ◌≤◌, ◌<◌, ◌⊎◌, ◌^◌, List, length, Some, None, IsTrue, IfOk};
 ghost use Rattle.sercos_model.specs.Streams.{Rose};
-ghost use Rattle.sercos_app.specs.Answer.{answer_of, command_answer};
+ghost use Rattle.sercos_app.specs.Answer.{answer_of, command_answer, SaysWell};
 ghost use Rattle.sercos_app.specs.Form.{form_of};
 ghost use Rattle.sercos_app.specs.Given.{Gives};
 ghost use Rattle.sercos_app.specs.Outcome.{Outcome};
-ghost use Rattle.sercos_app.specs.TopCall.{writes_nothing, TakesAtMost, TakesTooMany, IsAnswered, IsCutShort, IsAnswer};
+ghost use Rattle.sercos_app.specs.TopCall.{writes_nothing, TakesAtMost, TakesTooMany, IsAnswered, IsCutShort, IsAnswer, NonePlanned, LeastPlanned};
 
 use crate::form::{Form, form_of};
 use crate::given::{Given, give, refused};
@@ -17,7 +17,8 @@ use std::alloc::{AllocError, Global};
 // What a command gives for an input.
 #[tactic(auto, unfolding(crate::specs::Answer::command_answer))]
 fn given_by(alloc: Global, form: Form, bytes: &[u8]) -> Result<Given, AllocError>
-    ensures { IfOk result (λ given. Gives given (command_answer form bytes.now)) }
+    ensures given { IfOk result (λ given. Gives given (command_answer form bytes.now)) }
+    ensures says { IfOk result (λ _. SaysWell form bytes.now) }
 {
     match form {
         Form::Show => Ok(Given::Reply(show(alloc, bytes)?)),
@@ -99,6 +100,13 @@ pub fn sercos<S: Source, K: Sink>(
     ensures done { result ≡ Status.Done → IsAnswered words.now Status.Done
         (S.left source.old) (S.left source.new) (K.held sink.old) (K.held sink.new) }
     ensures no { result ≡ Status.No → IsAnswered words.now Status.No
+        (S.left source.old) (S.left source.new) (K.held sink.old) (K.held sink.new) }
+
+    // No comes from `plan` only where no plan fits the ring that was read, whatever plan it is; and Done only with the text
+    // of the least plan.
+    ensures none_fits { result ≡ Status.No → form_of words.now ≡ Some Form.Plan →
+        NonePlanned (S.left source.old) (S.left source.new) }
+    ensures least { result ≡ Status.Done → form_of words.now ≡ Some Form.Plan → LeastPlanned
         (S.left source.old) (S.left source.new) (K.held sink.old) (K.held sink.new) }
 
     // So does Refused; but where writing the refusal failed, a prefix of it was appended.

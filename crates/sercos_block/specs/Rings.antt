@@ -63,7 +63,7 @@ record_len d = listed_len d.blocks d.mdt
 unfoldable pub mdt_len : List DriveView → ℕ
 mdt_len drives = sum_by record_len drives
 
--- the cycle times of the standard, in microseconds: 125, 250 and multiples of 250, here up to 64000
+-- the cycle times of this profile, in microseconds: 125, 250 and multiples of 250 up to 64000
 unfoldable pub is_cycle : ℕ → Bool
 is_cycle cycle = (cycle == 125) || (nat_le 250 cycle && (nat_le cycle 64000 && (cycle % 250 == 0)))
 

@@ -25,7 +25,7 @@ pub struct Document {
 ///
 /// The tables are looked at in this order: the top one, `ring`, each `drive` in turn with its `block` tables right after
 /// its own keys. In each, the unknown keys come first, and the least of them in the order of bytes is named; then each key
-/// in the order in which the rules list it, as `Missing`, `Kind` or `Range`. The items of `at` and `mdt` come after the
+/// in the order in which the rules list it, as `Missing`, `Kind`, `Range` or `Twice`. The items of `at` and `mdt` come after the
 /// drive's blocks, and the length of the MDT and `order` after all drives.
 #[tactic(auto, using(crate::proofs::TextLemmas::texts), unfolding(crate::specs::Document::document_of, crate::specs::Document::table_of))]
 pub fn read_ring(alloc: Global, bytes: &[u8]) -> Result<Document, BadDocument>

@@ -15,7 +15,7 @@ pub enum BadDocument {
     /// list where its items are tables.
     Kind(Path),
     /// A value isn't allowed. The number is the value itself; of a text or a list that of its bytes or items; of a text that
-    /// should name a data block and does, but can't stand there, the raw identifier number; of a boolean 1.
+    /// spells an identifier number which can't stand there, the raw number; of a boolean 1.
     Range(Path, i64),
     /// A value stands for the second time where it may stand once.
     Twice(Path),

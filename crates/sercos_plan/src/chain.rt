@@ -17,7 +17,8 @@ pub struct Link {
     pub at: u32,
 }
 
-/// Links from an inequality 1 or 2 to a bound that they break. Contracts see the record of its fields, the links as a list.
+/// Links from an inequality 1 or 2 to a bound that they break; to the bound 10 there are none. Contracts see the record of
+/// its fields, the links as a list.
 #[derive(Clone, Debug, PartialEq, Eq, Drop)]
 pub struct Chain {
     /// The links, each with the place of the one before as its earlier place.

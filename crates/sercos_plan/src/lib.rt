@@ -4,11 +4,9 @@
 mod chain;
 mod chaining;
 mod checking;
-mod law;
 mod least;
 mod planning;
 
 pub use chain::{Chain, Link};
 pub use checking::check_chain;
-pub use law::plan_law;
 pub use planning::plan;

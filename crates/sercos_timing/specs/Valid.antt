@@ -36,7 +36,7 @@ pub record IsOrder (order : List ℕ) (drives : ℕ) : Type 0 where
   pub within : AreBelow order drives
   pub once : AreDistinct order
 
--- rate, cycle time and control unit cycle time are ones of the standard
+-- rate, cycle time, control unit cycle time and gap are ones of this profile
 pub record AreCycles (w : WishesView) : Type 0 where
   pub rate : (w.rate ≡ 2) ⊎ (w.rate ≡ 4)
   pub cycle : (w.cycle ≡ 125) ⊎ ((250 ≤ w.cycle) × (w.cycle ≤ 64000) × (w.cycle % 250 ≡ 0))

@@ -66,7 +66,7 @@ fn addresses(drives: &[Wish]) -> ArrayVec<u8, 64>
     addresses
 }
 
-// Whether a cycle time, in microseconds, is one of the standard.
+// Whether a cycle time, in microseconds, is one of this profile.
 fn is_cycle(cycle: u16) -> bool
     ensures { IsTrue result ↔ ((cycle ≡ 125) ⊎ ((250 ≤ cycle) × (cycle ≤ 64000) × (cycle % 250 ≡ 0))) }
 {

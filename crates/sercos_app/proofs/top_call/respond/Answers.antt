@@ -29,8 +29,9 @@ returns-in-Err-Memory g c =
 pub returns-in-Ok-given_by : goal.returns-in-Ok-given_by
 returns-in-Ok-given_by g c =
     let read = c.in-Ok.ensures.ok in
-    let gives = rw (c.as_slice.ensures.value) at c.in-Ok-given_by.ensures in
-    answered c.in-Some.form c.in-Ok.bytes.items _ (sym c.in-Some.ensures) c.in-Ok.ensures.cause
+    let gives = rw (c.as_slice.ensures.value) at c.in-Ok-given_by.ensures.given in
+    let says = rw (c.as_slice.ensures.value) at c.in-Ok-given_by.ensures.says in
+    answered c.in-Some.form c.in-Ok.bytes.items _ (sym c.in-Some.ensures) says c.in-Ok.ensures.cause
     (record { consumed = read.0; ended = read.1; fits = read.2 })
     (rw (← gives.status, ← gives.text) c.give.ensures)
 

@@ -1,5 +1,5 @@
 use Rattle.std.proofs.Common.{ap}
-use Rattle.sercos_app.proofs.Outcomes.{at_bad_words, at_unread, at_taken, at_unwritten, at_read_fault, at_read_count, at_read_well, at_too_long, at_done, at_no, at_refused, at_write_fault, at_write_count, at_write_well, at_answers, at_refuses, at_exceeds, at_room}
+use Rattle.sercos_app.proofs.Outcomes.{at_bad_words, at_unread, at_taken, at_unwritten, at_read_fault, at_read_count, at_read_well, at_too_long, at_done, at_no, at_none_fits, at_least_plan, at_refused, at_write_fault, at_write_count, at_write_well, at_answers, at_refuses, at_exceeds, at_room}
 use Rattle.sercos_app.proofs.top_call.sercos.Goals as goal
 
 pub returns-clause-bad_words : goal.returns-clause-bad_words
@@ -31,6 +31,12 @@ returns-clause-done g c = at_done c.respond.ensures
 
 pub returns-clause-no : goal.returns-clause-no
 returns-clause-no g c = at_no c.respond.ensures
+
+pub returns-clause-none_fits : goal.returns-clause-none_fits
+returns-clause-none_fits g c = at_none_fits c.respond.ensures
+
+pub returns-clause-least : goal.returns-clause-least
+returns-clause-least g c = at_least_plan c.respond.ensures
 
 pub returns-clause-refused : goal.returns-clause-refused
 returns-clause-refused g c = at_refused c.respond.ensures
