@@ -2,4 +2,3 @@ pub mod BlockLemmas
 pub mod DriveLemmas
 pub mod OrderLemmas
 pub mod TextLemmas
-pub mod IdnLemmas

@@ -105,17 +105,9 @@ pub(crate) fn idn_of(text: &str) -> Option<Idn>
     ensures { result ≡ idn_of text.now }
 {
     match Idn::parse(text) {
-        Ok(idn) => Some(numbered(idn.raw)),
+        Ok(idn) => Some(idn),
         Err(_) => None,
     }
-}
-
-// An identifier number, with the range of its bits as a fact for callers.
-fn numbered(raw: u16) -> Idn
-    ensures value { result ≡ record { raw = raw } }
-    ensures bound { raw < 2 ^ 16 }
-{
-    Idn { raw }
 }
 
 // The identifier number of the text under a key.

@@ -171,6 +171,7 @@ impl Idn {
     /// is refused at the first byte that can't stand.
     pub fn parse(text: &str) -> Result<Idn, BadIdn>
         ensures ok { IfOk result (λ idn. text.now ≡ idn_text idn.raw) }
+        ensures value { IfOk result (λ idn. idn ≡ record { raw = spelled_raw text.now }) }
         ensures only { (raw : ℕ) → raw < 2 ^ 16 → text.now ≡ idn_text raw → result ≡ Ok (record { raw = raw }) }
         ensures fault { MatchResult result (λ _. idn_fault text.now ≡ None) (λ bad. idn_fault text.now ≡ Some bad.place) }
     {
