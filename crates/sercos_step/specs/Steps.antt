@@ -1,0 +1,102 @@
+-- The steps of a transfer, as far as the answers so far determine them, and how it ends.
+use Rattle.std.specs.Prelude.{◌≡◌, ℕ, ◌+◌, ◌-◌, ◌*◌, ◌≤◌, ◌==◌, nat_le, Bool, true, false, if◌then◌else◌, List, [], ◌∷◌, ◌++◌, length, drop, replicate, slice_index, slice_get, Option, Some, None}
+use Rattle.sercos_idn.specs.declared.idn.Idn.{Idn}
+use Rattle.sercos_step.specs.declared.step.Step.{Step}
+use Rattle.sercos_step.specs.declared.step.Answer.{Answer}
+use Rattle.sercos_step.specs.declared.shape.Shape.{Shape}
+use Rattle.sercos_step.specs.declared.shape.Shape.TheVariants as shape
+use Rattle.sercos_step.specs.declared.request.Request.{Request}
+use Rattle.sercos_step.specs.declared.request.Request.TheVariants as request
+use Rattle.sercos_step.specs.declared.request.Outcome.{Outcome}
+use Rattle.sercos_step.specs.declared.request.Outcome.TheVariants as outcome
+use Rattle.sercos_step.specs.Words.{bytes_in, bytes_read, shape_of, words_in_list, words_told}
+
+abbrev pub a_step : Bool → Bool → ℕ → ℕ → Step
+a_step write last element word = record { write = write; last = last; element = element; word = word }
+
+-- opens an identifier number
+abbrev pub opening : Idn → Step
+opening idn = a_step true true 1 idn.raw
+
+-- the words of an element one by one, the last of them marked
+abbrev pub run : Bool → ℕ → List ℕ → List Step
+run write e [] = []
+run write e (word ∷ []) = a_step write true e word ∷ []
+run write e (word ∷ next ∷ words) = a_step write false e word ∷ run write e (next ∷ words)
+
+-- the steps that read an element, from the words of it that were answered; the first word of a list says how many there are
+abbrev pub reading : Shape → ℕ → List ℕ → List Step
+reading shape.One e words = run false e (0 ∷ [])
+reading shape.Two e words = run false e (0 ∷ 0 ∷ [])
+reading shape.List e [] = a_step false false e 0 ∷ []
+reading shape.List e (actual ∷ words) = run false e (replicate (words_in_list actual) 0)
+
+-- the steps that write these bytes to an element
+abbrev pub writing : Shape → ℕ → List ℕ → List Step
+writing s e bytes = run true e (words_told s bytes)
+
+-- the two words of the attribute, and then what depends on it and on the words that come after
+abbrev pub attribute_then : (ℕ → List ℕ → List Step) → List ℕ → List Step
+attribute_then rest (low ∷ high ∷ words) = a_step false false 3 0 ∷ a_step false true 3 0 ∷ rest (low + 65536 * high) words
+attribute_then rest _ = a_step false false 3 0 ∷ a_step false true 3 0 ∷ []
+
+-- the data status is read until it isn't 7 (running), and then the command is cancelled
+abbrev pub polling : List ℕ → List Step
+polling [] = a_step false true 1 0 ∷ []
+polling (status ∷ words) = a_step false true 1 0 ∷ (if status == 7 then polling words else a_step true true 7 0 ∷ [])
+
+-- Whether the attribute is read before an element's own words: in a read before minimum, maximum and operation data, in a
+-- write before operation data.
+abbrev pub asks_attribute : ℕ → Bool
+asks_attribute e = nat_le 5 e
+
+-- all steps of a request that are known from the words that answered the first ones
+abbrev pub steps_of : Request → List ℕ → List Step
+steps_of (request.Read idn e) words =
+    opening idn ∷ (if asks_attribute e then attribute_then (λ attribute after. reading (shape_of e attribute) e after) (drop 1 words) else reading (shape_of e 0) e (drop 1 words))
+steps_of (request.Write idn e bytes) words =
+    opening idn ∷ (if e == 7 then attribute_then (λ attribute after. writing (shape_of 7 attribute) 7 bytes) (drop 1 words) else writing (shape_of e 0) e bytes)
+steps_of (request.Command idn) words = opening idn ∷ a_step true true 7 3 ∷ polling (drop 2 words)
+
+-- the steps before an element's own words, and the word of the attribute that they read
+abbrev pub steps_before : ℕ → ℕ
+steps_before e = if asks_attribute e then 3 else 1
+
+abbrev pub attribute_read : ℕ → List ℕ → ℕ
+attribute_read e words = if asks_attribute e then slice_index words 1 + 65536 * slice_index words 2 else 0
+
+-- what a transfer gives when all its steps are answered
+abbrev pub result_of : Request → List ℕ → List ℕ
+result_of (request.Read idn e) words = bytes_read (shape_of e (attribute_read e words)) (drop (steps_before e) words)
+result_of (request.Write idn e bytes) words = []
+result_of (request.Command idn) words = bytes_in (slice_index words (length words - 2) ∷ [])
+
+-- Answers stand newest first, their words oldest first.
+abbrev pub answer_words : List Answer → List ℕ
+answer_words [] = []
+answer_words (a ∷ h) = answer_words h ++ a.word ∷ []
+
+abbrev pub is_whole : Request → List ℕ → Bool
+is_whole r words = nat_le (length (steps_of r words)) (length words)
+
+-- the outcome that the newest answer brings, if it ends the transfer: an error, or the answer to the last step
+abbrev pub outcome_of : Request → List Answer → Option Outcome
+outcome_of r [] = None
+outcome_of r (a ∷ h) =
+    if a.error then Some (outcome.Refused (record { raw = a.word }))
+    else (if is_whole r (answer_words h ++ a.word ∷ []) then Some (outcome.Complete (result_of r (answer_words h ++ a.word ∷ []))) else None)
+
+-- the first step that has no answer
+abbrev pub next_step : Request → List Answer → Option Step
+next_step r h = slice_get (steps_of r (answer_words h)) (length (answer_words h))
+
+-- each answer came while the transfer was going on
+abbrev pub AreAnswers : Request → List Answer → Type 0
+AreAnswers r [] = Unit {0}
+AreAnswers r (a ∷ h) = AreAnswers r h × (outcome_of r h ≡ None)
+
+-- an element that a request may name: 1 to 7 in a read, 2 to 7 in a write
+abbrev pub IsRequest : Request → Type 0
+IsRequest (request.Read idn e) = (1 ≤ e) × (e ≤ 7)
+IsRequest (request.Write idn e bytes) = (2 ≤ e) × (e ≤ 7)
+IsRequest (request.Command idn) = Unit {0}

@@ -1,0 +1,66 @@
+-- Bytes as words of sixteen bits, and the words of an element.
+use Rattle.std.specs.Prelude.{ℕ, ◌+◌, ◌*◌, ◌/◌, ◌%◌, ◌==◌, Bool, true, false, ◌||◌, if◌then◌else◌, List, [], ◌∷◌, length, take, min, is_none}
+use Rattle.sercos_idn.specs.declared.kinds.Length.{Length}
+use Rattle.sercos_idn.specs.declared.kinds.Length.TheVariants as len
+use Rattle.sercos_idn.specs.Codes.{attribute_fault}
+use Rattle.sercos_idn.specs.Attributes.{attribute_of}
+use Rattle.sercos_step.specs.declared.shape.Shape.{Shape}
+use Rattle.sercos_step.specs.declared.shape.Shape.TheVariants as shape
+
+-- bytes two by two, the low byte first; a last odd byte is filled up with 0
+abbrev pub words_of : List ℕ → List ℕ
+words_of [] = []
+words_of (low ∷ []) = low ∷ []
+words_of (low ∷ high ∷ bytes) = (low + 256 * high) ∷ words_of bytes
+
+abbrev pub bytes_in : List ℕ → List ℕ
+bytes_in [] = []
+bytes_in (word ∷ words) = (word % 256) ∷ (word / 256) ∷ bytes_in words
+
+-- the length that the word of an attribute says; a word that is none is handled as that of a value of two bytes
+abbrev pub length_said : ℕ → Length
+length_said word = if is_none (attribute_fault word) then (attribute_of word).length else len.Two
+
+abbrev pub shape_by : Length → Shape
+shape_by len.Two = shape.One
+shape_by len.Four = shape.Two
+shape_by _ = shape.List
+
+-- a minimum and a maximum are no lists
+abbrev pub as_value : Shape → Shape
+as_value shape.List = shape.One
+as_value s = s
+
+-- How the words of an element are laid out under the word of an attribute: the data status is one word, the attribute two,
+-- name and unit are lists, and minimum, maximum and operation data are as the attribute says.
+abbrev pub shape_of : ℕ → ℕ → Shape
+shape_of e word =
+    if e == 1 then shape.One
+    else (if e == 3 then shape.Two
+    else (if (e == 2) || (e == 4) then shape.List
+    else (if e == 7 then shape_by (length_said word) else as_value (shape_by (length_said word)))))
+
+-- A list has its length in bytes, its greatest length and then its bytes. One that is read is cut to 1024 bytes.
+abbrev pub words_in_list : ℕ → ℕ
+words_in_list actual = 2 + (min actual 1024 + 1) / 2
+
+-- how many words an element has, where the first of them is known
+abbrev pub words_in : Shape → ℕ → ℕ
+words_in shape.One first = 1
+words_in shape.Two first = 2
+words_in shape.List first = words_in_list first
+
+abbrev pub at_least_one : List ℕ → List ℕ
+at_least_one [] = 0 ∷ []
+at_least_one (word ∷ words) = word ∷ words
+
+-- the words that write these bytes: a list has its length and a 0 before them, and else there is at least one word
+abbrev pub words_told : Shape → List ℕ → List ℕ
+words_told shape.List bytes = length bytes ∷ 0 ∷ words_of bytes
+words_told _ bytes = at_least_one (words_of bytes)
+
+-- the bytes of an element, from its words
+abbrev pub bytes_read : Shape → List ℕ → List ℕ
+bytes_read shape.List (actual ∷ longest ∷ words) = take (min actual 1024) (bytes_in words)
+bytes_read shape.List _ = []
+bytes_read _ words = bytes_in words

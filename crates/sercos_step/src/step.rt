@@ -1,0 +1,24 @@
+// A step of the service channel, and the answer to it.
+
+/// A step of the service channel (IEC 61491:1995): what the master asks of a drive with one record of an MDT. The
+/// handshake bit goes beside it, in the control word.
+#[derive(Clone, Copy, Debug, PartialEq, Eq)]
+pub struct Step {
+    /// Whether the step writes its word; else it reads one.
+    pub write: bool,
+    /// Whether the word is the last of the element.
+    pub last: bool,
+    /// The element of the data block, 0 to 7.
+    pub element: u8,
+    /// The information word; 0 where the step reads.
+    pub word: u16,
+}
+
+/// The answer to a step: what an AT shows once the drive isn't busy with it.
+#[derive(Clone, Copy, Debug, PartialEq, Eq)]
+pub struct Answer {
+    /// Whether the step is refused; the word then is the code.
+    pub error: bool,
+    /// The information word: that which was read, 0 after a write, or the code of the error.
+    pub word: u16,
+}
