@@ -1,12 +1,14 @@
 -- What a sound block keeps, part by part, and that it stays sound when its operation data is written.
-use Rattle.std.proofs.Common.{◌≡◌, ℕ, ◌<◌, ◌||◌, true, not, List, length, Option, Some, None, IfSome, nat_lt, arith}
+use Rattle.std.proofs.Common.{◌≡◌, ℕ, ◌<◌, ◌≤◌, ◌%◌, ◌==◌, ◌||◌, ◌&&◌, Bool, true, false, cond, not, List, [], ◌∷◌, length, Option, Some, None, IfSome, nat_lt, nat_le, arith, sym}
+use Rattle.std.specs.List.{list_all}
 use Rattle.std.proofs.lemmas.Bool.{and_parts, and_from}
 use Rattle.std.proofs.lemmas.Bool.Decides.{nat_tests}
 use Rattle.sercos_idn.specs.declared.attribute.Attribute.{Attribute}
 use Rattle.sercos_block.specs.declared.block.Block.{Block}
 use Rattle.sercos_block.specs.Blocks.{is_number, number_end}
 use Rattle.sercos_block.specs.Rules.{is_text, is_limit, is_max_len, is_step}
-use Rattle.sercos_block.specs.Stores.{is_sound, is_len, is_given_list}
+use Rattle.sercos_block.specs.Stores.{find_block, is_sound, is_len, is_given_list, IsStore}
+use Rattle.sercos_idn.specs.Codes.{is_list, item_len}
 
 pub record SoundParts (b : Block) : Type 0 where
   pub name : is_text 60 b.name ≡ true
@@ -53,3 +55,25 @@ min_below b h = limit_below b.attribute b.min (SoundParts-is_sound b h).min
 
 pub max_below : (b : Block) → is_sound b ≡ true → IfSome b.max (λ bits. bits < number_end b.attribute.length)
 max_below b h = limit_below b.attribute b.max (SoundParts-is_sound b h).max
+
+-- the block with an identifier number keeps its rules
+pub found_sound : (raw : ℕ) (blocks : List Block) (b : Block) → list_all is_sound blocks ≡ true → find_block raw blocks ≡ Some b → is_sound b ≡ true
+found_sound raw [] b sound is = cc
+found_sound raw (c ∷ blocks) b sound is =
+    let (here, rest) = and_parts (is_sound c) (list_all is_sound blocks) sound in by (c.idn.raw == raw) is here (found_sound raw blocks b rest)
+  where
+    by : (same : Bool) → cond same (Some c) (find_block raw blocks) ≡ Some b → is_sound c ≡ true → (find_block raw blocks ≡ Some b → is_sound b ≡ true) → is_sound b ≡ true
+    by true e here rest = let same : c ≡ b = cc in rw same at here
+    by false e here rest = rest e
+
+most : (list : Bool) (max item : ℕ) → cond list (nat_le 1 max && (nat_le max 1024 && (max % item == 0))) (max == 0) ≡ true → max ≤ 1024
+most true max item h =
+    let (_, rest) = and_parts (nat_le 1 max) (nat_le max 1024 && (max % item == 0)) h in
+    let (fits, _) = and_parts (nat_le max 1024) (max % item == 0) rest in
+    grind (arith, nat_tests)
+most false max item h = grind (arith, nat_tests)
+
+-- no list has more than 1024 bytes
+pub max_len_bound : (raw : ℕ) (blocks : List Block) (b : Block) → IsStore blocks → Some b ≡ find_block raw blocks → b.max_len ≤ 1024
+max_len_bound raw blocks b is e =
+    most (is_list b.attribute.length) b.max_len (item_len b.attribute.length) (SoundParts-is_sound b (found_sound raw blocks b is.sound (sym e))).max_len

@@ -1,5 +1,5 @@
 // A data block in a store.
-ghost use Rattle.std.specs.Prelude.{◌≡◌, ◌≤◌, length, option_map, unwrap_or};
+ghost use Rattle.std.specs.Prelude.{◌≡◌, ◌≤◌, length, option_map, unwrap_or, IfSome};
 ghost use Rattle.std.specs.Int.{w32, to_le_bytes};
 ghost use Rattle.sercos_block.specs.Blocks.{bytes_for, element_of};
 
@@ -35,7 +35,8 @@ impl Model for Entry {
 
 // The bytes of a name or a unit, of which there may be none.
 fn text_bytes(text: &Option<Text>) -> Option<&[u8]>
-    ensures { option_map (λ b. b.now) result ≡ text.now }
+    ensures value { option_map (λ b. b.now) result ≡ text.now }
+    ensures bound { IfSome result (λ b. length b.now ≤ 1024) }
 {
     match text {
         None => None,
@@ -50,7 +51,8 @@ fn limit_bytes<'a>(
     bytes: &'a [u8; 4],
 ) -> Option<&'a [u8]>
     requires { bytes.now ≡ to_le_bytes w32 (unwrap_or limit 0) }
-    ensures { option_map (λ b. b.now) result ≡ option_map (bytes_for attribute.now) limit }
+    ensures value { option_map (λ b. b.now) result ≡ option_map (bytes_for attribute.now) limit }
+    ensures bound { IfSome result (λ b. length b.now ≤ 1024) }
 {
     let len = if attribute.length == Length::Two {
         2
@@ -86,7 +88,8 @@ impl Entry {
     // The bytes of an element from 2 to 7, if there is one.
     #[tactic(auto, unfolding(crate::specs::Blocks::element_of))]
     pub(crate) fn element(&self, element: u8) -> Option<&[u8]>
-        ensures { option_map (λ b. b.now) result ≡ element_of self.now element }
+        ensures value { option_map (λ b. b.now) result ≡ element_of self.now element }
+        ensures bound { IfSome result (λ b. length b.now ≤ 1024) }
     {
         if element == 2 {
             text_bytes(&self.block.name)
