@@ -1,0 +1,4 @@
+pub mod Log
+pub mod Replies
+pub mod Writes
+pub mod Says

@@ -1,0 +1,137 @@
+-- The reply of a drive to each step that it accepted.
+use Rattle.std.specs.Prelude.{ℕ, ◌+◌, ◌*◌, ◌/◌, ◌%◌, ◌==◌, nat_lt, nat_le, Bool, true, false, not, ◌&&◌, ◌||◌, if◌then◌else◌, List, [], ◌∷◌, length, take, drop, slice_index, Option, Some, None, is_some, option_map, unwrap_or}
+use Rattle.std.specs.Bool.{then_some}
+use Rattle.std.specs.Option.{option_or}
+use Rattle.sercos_idn.specs.Codes.{is_list, item_len}
+use Rattle.sercos_step.specs.declared.step.Answer.{Answer}
+use Rattle.sercos_step.specs.Words.{words_of, bytes_in}
+use Rattle.sercos_block.specs.declared.block.Block.{Block}
+use Rattle.sercos_block.specs.Blocks.{number_end, bits_in, bytes_for, element_of, is_fixed, is_protected}
+use Rattle.sercos_block.specs.Stores.{find_block, read_fault, is_below, is_above}
+use Rattle.sercos_command.specs.Settings.{status_in}
+use Rattle.sercos_service_drive.specs.Log.{Taken, Entry, accepted, opens, open_idn, run_before, selection, in_order}
+
+abbrev pub good : ℕ → Answer
+good word = record { error = false; word = word }
+
+abbrev pub refused : ℕ → Answer
+refused code = record { error = true; word = code }
+
+-- refused by the first cause, if there is one, and else answered with a word
+abbrev pub answer_by : Option ℕ → ℕ → Answer
+answer_by None word = good word
+answer_by (Some code) word = refused code
+
+-- Reading.
+
+-- The operation data in a cycle: a number with a step grows by it in each cycle, modulo 2 to the power of its bits.
+unfoldable pub data_in : ℕ → Block → List ℕ
+data_in cycle b =
+    if b.step == 0 then b.value
+    else bytes_for b.attribute ((bits_in b.attribute b.value + b.step * cycle) % number_end b.attribute.length)
+
+-- a list as words: its length in bytes, the greatest length, and its bytes two by two
+abbrev pub list_words : ℕ → List ℕ → List ℕ
+list_words longest bytes = length bytes ∷ longest ∷ words_of bytes
+
+-- the words of an element from 2 to 7 of a block in a cycle: name and unit are lists of at most 60 and 12 bytes
+unfoldable pub element_words : ℕ → ℕ → Block → List ℕ
+element_words e cycle b =
+    if e == 2 then list_words 60 (unwrap_or (element_of b e) [])
+    else (if e == 4 then list_words 12 (unwrap_or (element_of b e) [])
+    else (if e == 7 then (if is_list b.attribute.length then list_words b.max_len b.value else words_of (data_in cycle b))
+    else words_of (unwrap_or (element_of b e) [])))
+
+-- what a selection copies: the data status, or the words of the element as they stand in that cycle
+abbrev pub copy : ℕ → Taken → List ℕ
+copy raw t =
+    if t.step.element == 1 then status_in t.commands raw t.cycle ∷ []
+    else unwrap_or (option_map (element_words t.step.element t.cycle) (find_block raw t.blocks)) []
+
+-- the cause for which it can't be read: the element is missing
+abbrev pub read_cause : ℕ → Taken → Option ℕ
+read_cause raw t = if t.step.element == 1 then None else read_fault (find_block raw t.blocks) t.step.element
+
+-- Writing of operation data. The words are those of the run, this step's among them.
+
+abbrev pub selects : List ℕ → Bool
+selects words = length words == 1
+
+-- how many words are written, where the first of them is known
+abbrev pub words_wanted : Block → ℕ → ℕ
+words_wanted b first = if is_list b.attribute.length then 2 + (first + 1) / 2 else item_len b.attribute.length / 2
+
+-- the bytes that the words write
+unfoldable pub bytes_written : Block → List ℕ → List ℕ
+bytes_written b words = if is_list b.attribute.length then take (slice_index words 0) (bytes_in (drop 2 words)) else bytes_in words
+
+-- the last word comes too early
+abbrev pub ends_early : Block → Bool → List ℕ → Bool
+ends_early b last words = last && nat_lt (length words) (words_wanted b (slice_index words 0))
+
+-- a list's length is above the greatest, at its first word; or the word that must be the last isn't
+abbrev pub is_over : Block → Bool → List ℕ → Bool
+is_over b last words =
+    (is_list b.attribute.length && (selects words && nat_lt b.max_len (slice_index words 0)))
+    || (not last && nat_le (words_wanted b (slice_index words 0)) (length words))
+
+-- a list's length is no whole items, at its first word
+abbrev pub is_uneven : Block → List ℕ → Bool
+is_uneven b words = is_list b.attribute.length && (selects words && not (slice_index words 0 % item_len b.attribute.length == 0))
+
+-- a procedure command is written with another number than 0 and 3, at the last word
+abbrev pub is_no_setting : Block → Bool → List ℕ → Bool
+is_no_setting b last words =
+    b.attribute.command && (last && not ((bits_in b.attribute (bytes_written b words) == 0) || (bits_in b.attribute (bytes_written b words) == 3)))
+
+-- The first cause for which a step that writes a word of operation data is refused: the block is fixed (0x7004), at the
+-- first word; it is protected in the phase of the step (0x7005), at any word; the last word comes too early (0x7002); the
+-- list or the value is too long (0x7003); the list's length is no whole items, or the number no setting (0x7008); the number
+-- lies below the minimum (0x7006) or above the maximum (0x7007), at the last word.
+unfoldable pub write_cause : Block → ℕ → Bool → List ℕ → Option ℕ
+write_cause b phase last words =
+    option_or (then_some (selects words && is_fixed b) 0x7004)
+    (option_or (then_some (is_protected b.attribute phase) 0x7005)
+    (option_or (then_some (ends_early b last words) 0x7002)
+    (option_or (then_some (is_over b last words) 0x7003)
+    (option_or (then_some (is_uneven b words || is_no_setting b last words) 0x7008)
+    (option_or (then_some (last && is_below b (bytes_written b words) b.min) 0x7006)
+    (then_some (last && is_above b (bytes_written b words) b.max) 0x7007))))))
+
+-- the same, where there may be no block
+abbrev pub write_cause_in : Option Block → ℕ → Bool → List ℕ → Option ℕ
+write_cause_in None phase last words = Some 0x1001
+write_cause_in (Some b) phase last words = write_cause b phase last words
+
+-- The replies.
+
+-- to a step on the identifier number that is open, behind these steps of its run: a read step gives the next word of the
+-- copy that the selection made, and 0 behind it; an element from 2 to 6 can't be written (0x2004 to 0x6004)
+abbrev pub reply_on : ℕ → Taken → List Taken → Answer
+reply_on raw t run =
+    if t.step.write
+    then answer_by (if t.step.element == 7 then write_cause_in (find_block raw t.blocks) t.phase t.step.last (in_order run (t.step.word ∷ []))
+        else Some (0x1000 * t.step.element + 4)) 0
+    else answer_by (read_cause raw (selection t run)) (slice_index (copy raw (selection t run)) (length run))
+
+-- where no identifier number is open, the step is refused
+abbrev pub reply_at : Option ℕ → Taken → List Taken → Answer
+reply_at None t run = refused 1
+reply_at (Some raw) t run = reply_on raw t run
+
+-- The reply to a step behind these: an opening is refused where the drive hasn't the identifier number (0x1001); a step of
+-- element 0 closes it.
+abbrev pub reply_of : Taken → List Entry → Answer
+reply_of t log =
+    if opens t.step then (if is_some (find_block t.step.word t.blocks) then good 0 else refused 0x1001)
+    else (if t.step.element == 0 then good 0
+    else reply_at (open_idn log) t (run_before t.step.write t.step.element log))
+
+-- the steps, each with the reply to it
+abbrev pub answered : List Taken → List Entry
+answered [] = []
+answered (t ∷ h) = record { taken = t; answer = reply_of t (answered h) } ∷ answered h
+
+-- what a drive accepted of the records that it took, with the replies
+abbrev pub log_of : List Taken → List Entry
+log_of h = answered (accepted h)

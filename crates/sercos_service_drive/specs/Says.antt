@@ -1,0 +1,25 @@
+-- What a drive says of the records that it took.
+use Rattle.std.specs.Prelude.{ℕ, ◌-◌, nat_le, Bool, true, false, if◌then◌else◌, List, [], ◌∷◌}
+use Rattle.sercos_command.specs.Settings.{CommandsView, change_in}
+use Rattle.sercos_service_drive.specs.Log.{Taken, Entry, ahs}
+use Rattle.sercos_service_drive.specs.Replies.{log_of}
+
+-- the bits of the status word that belong to the service channel, and the information word
+pub record Shown : Type 0 where
+  pub ahs : Bool
+  pub busy : Bool
+  pub error : Bool
+  pub change : Bool
+  pub word : ℕ
+
+-- In a cycle: as long as the last accepted step is no older than the busy time, the drive is busy; then it shows the reply.
+-- Where no step was accepted it shows nothing but the bits.
+abbrev pub shown : ℕ → ℕ → Bool → Bool → List Entry → Shown
+shown busy cycle bit change [] = record { ahs = bit; busy = false; error = false; change = change; word = 0 }
+shown busy cycle bit change (e ∷ log) =
+    if nat_le (cycle - e.taken.cycle) busy
+    then record { ahs = bit; busy = true; error = false; change = change; word = 0 }
+    else record { ahs = bit; busy = false; error = e.answer.error; change = change; word = e.answer.word }
+
+abbrev pub drive_says : ℕ → ℕ → CommandsView → List Taken → Shown
+drive_says busy cycle commands h = shown busy cycle (ahs h) (change_in commands cycle) (log_of h)

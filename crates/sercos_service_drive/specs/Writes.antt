@@ -1,0 +1,75 @@
+-- The writes of operation data that took effect, and what they make of the drive.
+use Rattle.std.specs.Prelude.{◌≡◌, ℕ, ◌==◌, Bool, true, not, ◌&&◌, if◌then◌else◌, List, [], ◌∷◌, map, Option, Some, None, option_map, option_and_then}
+use Rattle.std.specs.Int.{w16, from_le_bytes}
+use Rattle.sercos_block.specs.declared.block.Block.{Block}
+use Rattle.sercos_block.specs.Stores.{find_block, with_data}
+use Rattle.sercos_command.specs.Settings.{CommandsView, is_command, with_write, with_lists, without_checks}
+use Rattle.sercos_command.specs.Calls.{Call, Wrote, Other}
+use Rattle.sercos_service_drive.specs.Log.{Taken, Entry, open_idn, run_before, in_order}
+use Rattle.sercos_service_drive.specs.Replies.{bytes_written, reply_of}
+
+-- a write of operation data that took effect in a cycle
+pub record Write : Type 0 where
+  pub cycle : ℕ
+  pub raw : ℕ
+  pub bytes : List ℕ
+
+-- a step takes effect where it writes the last word of operation data and isn't refused
+abbrev pub takes_effect : Entry → Bool
+takes_effect e = e.taken.step.write && ((e.taken.step.element == 7) && (e.taken.step.last && not e.answer.error))
+
+-- what the words of a run write
+abbrev pub written_by : Taken → List Taken → ℕ → Option Write
+written_by t run raw =
+    option_map (λ (b : Block). record { cycle = t.cycle; raw = raw; bytes = bytes_written b (in_order run (t.step.word ∷ [])) }) (find_block raw t.blocks)
+
+-- the write that an entry adds behind these
+abbrev pub added_by : Entry → List Entry → Option Write
+added_by e log = if takes_effect e then option_and_then (written_by e.taken (run_before true 7 log)) (open_idn log) else None
+
+abbrev pub with_added : Option Write → List Write → List Write
+with_added None writes = writes
+with_added (Some w) writes = w ∷ writes
+
+-- the writes of a log, the newest first
+abbrev pub writes_of : List Entry → List Write
+writes_of [] = []
+writes_of (e ∷ log) = with_added (added_by e log) (writes_of log)
+
+-- the write that a step adds behind these
+abbrev pub adds : Taken → List Entry → Option Write
+adds t log = added_by (record { taken = t; answer = reply_of t log }) log
+
+-- what is written to a procedure command
+abbrev pub setting_in : Write → ℕ
+setting_in w = from_le_bytes w16 w.bytes
+
+-- The blocks after a write: that block has the bytes as operation data; and a check that is set writes its list.
+abbrev pub blocks_with : Option Write → CommandsView → List Block → List Block
+blocks_with None c blocks = blocks
+blocks_with (Some w) c blocks =
+    if is_command blocks w.raw then with_lists c w.raw (setting_in w) (with_data w.raw w.bytes blocks) else with_data w.raw w.bytes blocks
+
+-- the procedure commands after a write
+abbrev pub commands_with : Option Write → List Block → CommandsView → CommandsView
+commands_with None blocks c = c
+commands_with (Some w) blocks c =
+    if is_command blocks w.raw then with_write w.raw (setting_in w) w.cycle (with_data w.raw w.bytes blocks) c else without_checks c
+
+-- what a write is for the procedure commands
+abbrev pub calls_with : Option Write → List Block → List Call → List Call
+calls_with None blocks h = h
+calls_with (Some w) blocks h =
+    (if is_command blocks w.raw then Wrote w.raw (setting_in w) w.cycle (with_data w.raw w.bytes blocks) else Other w.cycle) ∷ h
+
+-- Two stores have the same blocks, but for their operation data.
+abbrev pub without_data : Block → Block
+without_data b = record b { value = [] }
+
+abbrev pub AreAlike : List Block → List Block → Type 0
+AreAlike blocks others = map without_data blocks ≡ map without_data others
+
+-- the blocks are, but for their operation data, those of each of these records
+abbrev pub AreThose : List Block → List Taken → Type 0
+AreThose blocks [] = Unit {0}
+AreThose blocks (t ∷ h) = AreAlike t.blocks blocks × AreThose blocks h

@@ -1,0 +1,2 @@
+//! The drive's end of the service channel.
+#![tactic(auto)]

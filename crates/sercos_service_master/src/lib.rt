@@ -1,0 +1,2 @@
+//! The master's end of the service channel.
+#![tactic(auto)]
