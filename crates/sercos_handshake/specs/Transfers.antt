@@ -8,7 +8,7 @@ use Rattle.sercos_step.specs.declared.request.Request.TheVariants as request
 use Rattle.sercos_step.specs.declared.request.Outcome.{Outcome}
 use Rattle.sercos_step.specs.declared.request.Outcome.TheVariants as outcome
 use Rattle.sercos_step.specs.Words.{words_of, bytes_in, at_least_one}
-use Rattle.sercos_step.specs.Steps.{outcome_of}
+use Rattle.sercos_step.specs.Steps.{outcome_of, AreAnswers}
 use Rattle.sercos_service_master.specs.Begun.{steps_begun}
 use Rattle.sercos_block.specs.declared.block.Block.{Block}
 use Rattle.sercos_block.specs.Stores.{find_block}
@@ -31,6 +31,7 @@ HaveBlocks blocks (e ∷ entries) = HaveBlocks blocks entries × AreAlike e.take
 -- the transfer went on.
 pub record IsTransfer (r : Request) (blocks : List Block) (e : Entry) (entries log : List Entry) : Type 0 where
   pub steps : steps_of (e ∷ entries) ≡ steps_begun r (replies_of entries)
+  pub in_turn : AreAnswers r (replies_of entries)
   pub goes_on : outcome_of r (replies_of entries) ≡ None
   pub replies : AreReplies (e ∷ entries) log
   pub alike : HaveBlocks blocks (e ∷ entries)
