@@ -2,3 +2,4 @@ pub mod Log
 pub mod Replies
 pub mod Writes
 pub mod Says
+pub mod Kept

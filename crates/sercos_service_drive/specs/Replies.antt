@@ -2,13 +2,14 @@
 use Rattle.std.specs.Prelude.{ℕ, ◌+◌, ◌*◌, ◌/◌, ◌%◌, ◌==◌, nat_lt, nat_le, Bool, true, false, not, ◌&&◌, ◌||◌, if◌then◌else◌, List, [], ◌∷◌, length, take, drop, slice_index, Option, Some, None, is_some, option_map, unwrap_or}
 use Rattle.std.specs.Bool.{then_some}
 use Rattle.std.specs.Option.{option_or}
+use Rattle.sercos_idn.specs.declared.attribute.Attribute.{Attribute}
 use Rattle.sercos_idn.specs.Codes.{is_list, item_len}
 use Rattle.sercos_step.specs.declared.step.Answer.{Answer}
 use Rattle.sercos_step.specs.Words.{words_of, bytes_in}
 use Rattle.sercos_block.specs.declared.block.Block.{Block}
 use Rattle.sercos_block.specs.Blocks.{number_end, bits_in, bytes_for, element_of, is_fixed, is_protected}
 use Rattle.sercos_block.specs.Stores.{find_block, read_fault, is_below, is_above}
-use Rattle.sercos_command.specs.Settings.{status_in}
+use Rattle.sercos_command.specs.Settings.{CommandsView, status_in}
 use Rattle.sercos_service_drive.specs.Log.{Taken, Entry, accepted, opens, open_idn, run_before, selection, in_order}
 
 abbrev pub good : ℕ → Answer
@@ -42,15 +43,20 @@ element_words e cycle b =
     else (if e == 7 then (if is_list b.attribute.length then list_words b.max_len b.value else words_of (data_in cycle b))
     else words_of (unwrap_or (element_of b e) [])))
 
--- what a selection copies: the data status, or the words of the element as they stand in that cycle
+-- what a selection of an element copies in a cycle: the data status, or the words of the element as they then stand
+abbrev pub words_at : ℕ → ℕ → ℕ → List Block → CommandsView → List ℕ
+words_at raw e cycle blocks commands =
+    if e == 1 then status_in commands raw cycle ∷ [] else unwrap_or (option_map (element_words e cycle) (find_block raw blocks)) []
+
 abbrev pub copy : ℕ → Taken → List ℕ
-copy raw t =
-    if t.step.element == 1 then status_in t.commands raw t.cycle ∷ []
-    else unwrap_or (option_map (element_words t.step.element t.cycle) (find_block raw t.blocks)) []
+copy raw t = words_at raw t.step.element t.cycle t.blocks t.commands
 
 -- the cause for which it can't be read: the element is missing
+abbrev pub missing : ℕ → ℕ → List Block → Option ℕ
+missing raw e blocks = if e == 1 then None else read_fault (find_block raw blocks) e
+
 abbrev pub read_cause : ℕ → Taken → Option ℕ
-read_cause raw t = if t.step.element == 1 then None else read_fault (find_block raw t.blocks) t.step.element
+read_cause raw t = missing raw t.step.element t.blocks
 
 -- Writing of operation data. The words are those of the run, this step's among them.
 
@@ -58,8 +64,11 @@ abbrev pub selects : List ℕ → Bool
 selects words = length words == 1
 
 -- how many words are written, where the first of them is known
+abbrev pub words_by : Attribute → ℕ → ℕ
+words_by a first = if is_list a.length then 2 + (first + 1) / 2 else item_len a.length / 2
+
 abbrev pub words_wanted : Block → ℕ → ℕ
-words_wanted b first = if is_list b.attribute.length then 2 + (first + 1) / 2 else item_len b.attribute.length / 2
+words_wanted b first = words_by b.attribute first
 
 -- the bytes that the words write
 unfoldable pub bytes_written : Block → List ℕ → List ℕ

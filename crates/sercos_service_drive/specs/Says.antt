@@ -1,5 +1,6 @@
 -- What a drive says of the records that it took.
 use Rattle.std.specs.Prelude.{ℕ, ◌-◌, nat_le, Bool, true, false, if◌then◌else◌, List, [], ◌∷◌}
+use Rattle.sercos_telegram.specs.declared.words.Status.{Status}
 use Rattle.sercos_command.specs.Settings.{CommandsView, change_in}
 use Rattle.sercos_service_drive.specs.Log.{Taken, Entry, ahs}
 use Rattle.sercos_service_drive.specs.Replies.{log_of}
@@ -23,3 +24,7 @@ shown busy cycle bit change (e ∷ log) =
 
 abbrev pub drive_says : ℕ → ℕ → CommandsView → List Taken → Shown
 drive_says busy cycle commands h = shown busy cycle (ahs h) (change_in commands cycle) (log_of h)
+
+-- what a status and an information word show
+abbrev pub shown_by : Status → ℕ → Shown
+shown_by status word = record { ahs = status.ahs; busy = status.busy; error = status.error; change = status.change; word = word }

@@ -1,12 +1,13 @@
 -- The writes of operation data that took effect, and what they make of the drive.
 use Rattle.std.specs.Prelude.{◌≡◌, ℕ, ◌==◌, Bool, true, not, ◌&&◌, if◌then◌else◌, List, [], ◌∷◌, map, Option, Some, None, option_map, option_and_then}
 use Rattle.std.specs.Int.{w16, from_le_bytes}
+use mathlib.Core.Bool.{beq}
 use Rattle.sercos_block.specs.declared.block.Block.{Block}
 use Rattle.sercos_block.specs.Stores.{find_block, with_data}
 use Rattle.sercos_command.specs.Settings.{CommandsView, is_command, with_write, with_lists, without_checks}
 use Rattle.sercos_command.specs.Calls.{Call, Wrote, Other}
-use Rattle.sercos_service_drive.specs.Log.{Taken, Entry, open_idn, run_before, in_order}
-use Rattle.sercos_service_drive.specs.Replies.{bytes_written, reply_of}
+use Rattle.sercos_service_drive.specs.Log.{Taken, Entry, ahs, open_idn, run_before, in_order}
+use Rattle.sercos_service_drive.specs.Replies.{bytes_written, reply_of, log_of}
 
 -- a write of operation data that took effect in a cycle
 pub record Write : Type 0 where
@@ -73,3 +74,12 @@ AreAlike blocks others = map without_data blocks ≡ map without_data others
 abbrev pub AreThose : List Block → List Taken → Type 0
 AreThose blocks [] = Unit {0}
 AreThose blocks (t ∷ h) = AreAlike t.blocks blocks × AreThose blocks h
+
+-- a write, unless there is a cause against it
+abbrev pub unless : Option ℕ → Write → Option Write
+unless None w = Some w
+unless (Some code) w = None
+
+-- the write that a record adds behind these: none where it isn't accepted
+abbrev pub added_on : Taken → List Taken → Option Write
+added_on t h = if beq t.mhs (ahs h) then None else adds t (log_of h)

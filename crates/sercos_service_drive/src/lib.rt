@@ -1,2 +1,11 @@
-//! The drive's end of the service channel.
+//! The drive's end of the service channel: which steps it accepts, what it replies to them, what it writes, and what an AT
+//! shows of it.
 #![tactic(auto)]
+
+mod causes;
+mod channel;
+mod copying;
+mod session;
+mod writing;
+
+pub use channel::DriveChannel;

@@ -1,0 +1,112 @@
+-- What a drive's end of a channel keeps, and the records that it stands for.
+use Rattle.std.specs.Prelude.{◌≡◌, ℕ, ◌<◌, ◌≤◌, ◌%◌, ◌==◌, nat_lt, nat_le, Bool, true, false, not, ◌&&◌, ◌||◌, if◌then◌else◌, List, [], ◌∷◌, length, min, slice_index, Option, Some, None, IfSome, option_map}
+use Rattle.std.specs.Bool.{then_some}
+use Rattle.std.specs.Option.{option_or}
+use Rattle.sercos_idn.specs.declared.idn.Idn.{Idn}
+use Rattle.sercos_idn.specs.declared.attribute.Attribute.{Attribute}
+use Rattle.sercos_idn.specs.Codes.{is_list, item_len}
+use Rattle.sercos_step.specs.declared.step.Answer.{Answer}
+use Rattle.sercos_step.specs.Words.{words_of, bytes_in}
+use Rattle.sercos_block.specs.declared.block.Block.{Block}
+use Rattle.sercos_block.specs.Blocks.{is_fixed}
+use Rattle.sercos_block.specs.Stores.{find_block, write_fault}
+use Rattle.sercos_service_drive.specs.declared.session.Selection.{Selection}
+use Rattle.sercos_service_drive.specs.declared.channel.Last.{Last}
+use Rattle.sercos_service_drive.specs.Log.{Taken, Entry, ahs, opens, open_idn, run_before, selection, in_order}
+use Rattle.sercos_service_drive.specs.Replies.{words_by, words_wanted, copy, read_cause, reply_of, log_of}
+use Rattle.sercos_service_drive.specs.Writes.{AreAlike}
+
+-- The run that a next step may go on: none behind an opening, a step of element 0, a last word or an error.
+abbrev pub ends_run : Entry → Bool
+ends_run e = (opens e.taken.step || (e.taken.step.element == 0)) || (e.taken.step.last || e.answer.error)
+
+abbrev pub run_of : List Entry → List Taken
+run_of [] = []
+run_of (e ∷ log) = if ends_run e then [] else e.taken ∷ run_before e.taken.step.write e.taken.step.element log
+
+-- the steps of a run count up to what a word holds
+abbrev pub place_of : List Taken → ℕ
+place_of run = min (length run) 65535
+
+abbrev pub selection_in : List Taken → Option Selection
+selection_in [] = None
+selection_in (t ∷ run) = Some (record { write = t.step.write; element = t.step.element; place = place_of (t ∷ run) })
+
+-- what is kept of the identifier number that is open, and of the run: which it is, and its bytes
+pub record SessionView : Type 0 where
+  pub opened : Option Idn
+  pub selection : Option Selection
+  pub buffer : List ℕ
+
+-- a read run keeps the copy of the element, which was there
+pub record IsReading (raw : ℕ) (t : Taken) (run : List Taken) (buffer : List ℕ) : Type 0 where
+  pub there : read_cause raw (selection t run) ≡ None
+  pub words : words_of buffer ≡ copy raw (selection t run)
+
+-- words that were accepted of operation data are not all of them, and a list's length is one that its block can have
+pub record IsMidway (b : Block) (words : List ℕ) : Type 0 where
+  pub writable : is_fixed b ≡ false
+  pub more : length words < words_wanted b (slice_index words 0)
+  pub fits : is_list b.attribute.length ≡ true → slice_index words 0 ≤ b.max_len
+  pub even : is_list b.attribute.length ≡ true → (slice_index words 0 % item_len b.attribute.length == 0) ≡ true
+
+-- a write run keeps the bytes of its words
+pub record IsWriting (raw : ℕ) (t : Taken) (run : List Taken) (buffer : List ℕ) : Type 0 where
+  pub element : t.step.element ≡ 7
+  pub bytes : buffer ≡ bytes_in (in_order (t ∷ run) [])
+  pub midway : IfSome (find_block raw t.blocks) (λ b. IsMidway b (in_order (t ∷ run) []))
+
+abbrev pub IsRun : Bool → ℕ → Taken → List Taken → List ℕ → Type 0
+IsRun true raw t run buffer = IsWriting raw t run buffer
+IsRun false raw t run buffer = IsReading raw t run buffer
+
+abbrev pub HoldsRun : Option ℕ → List Taken → List ℕ → Type 0
+HoldsRun o [] buffer = Unit {0}
+HoldsRun None (t ∷ run) buffer = ⊥
+HoldsRun (Some raw) (t ∷ run) buffer = IsRun t.step.write raw t run buffer
+
+-- it stands for these entries
+pub record SessionStandsFor (v : SessionView) (log : List Entry) : Type 0 where
+  pub opened_is : option_map (λ idn. idn.raw) v.opened ≡ open_idn log
+  pub selection_is : v.selection ≡ selection_in (run_of log)
+  pub buffer_is : HoldsRun (open_idn log) (run_of log) v.buffer
+
+-- the blocks are, but for their operation data, those of the last step of the run
+abbrev pub GoesWith : List Block → List Taken → Type 0
+GoesWith blocks [] = Unit {0}
+GoesWith blocks (t ∷ run) = AreAlike t.blocks blocks
+
+-- a step was answered with the reply, and what is kept stands for it too
+pub record IsAnswered (v : SessionView) (t : Taken) (log : List Entry) (answer : Answer) : Type 0 where
+  pub reply_is : answer ≡ reply_of t log
+  pub stands : SessionStandsFor v (record { taken = t; answer = answer } ∷ log)
+
+-- the cycle of the last accepted step, and the reply to it
+abbrev pub last_of : List Entry → Option Last
+last_of [] = None
+last_of (e ∷ log) = Some (record { cycle = e.taken.cycle; answer = e.answer })
+
+pub record ChannelView : Type 0 where
+  pub busy : ℕ
+  pub ahs : Bool
+  pub last : Option Last
+  pub session : SessionView
+
+-- the channel stands for these records that it took
+pub record ChannelStandsFor (v : ChannelView) (busy : ℕ) (h : List Taken) : Type 0 where
+  pub busy_is : v.busy ≡ busy
+  pub ahs_is : v.ahs ≡ ahs h
+  pub last_is : v.last ≡ last_of (log_of h)
+  pub session_is : SessionStandsFor v.session (log_of h)
+
+-- The first cause for which a word of operation data is refused by its place and the block alone, where with it so many
+-- words are there, the first of which is this.
+unfoldable pub length_cause : Attribute → ℕ → Bool → ℕ → ℕ → Option ℕ
+length_cause a most last count first =
+    option_or (then_some (last && nat_lt count (words_by a first)) 0x7002)
+    (option_or (then_some ((is_list a.length && ((count == 1) && nat_lt most first)) || (not last && nat_le (words_by a first) count)) 0x7003)
+    (then_some (is_list a.length && ((count == 1) && not (first % item_len a.length == 0))) 0x7008))
+
+abbrev pub place_cause : Option Block → ℕ → Bool → ℕ → ℕ → Option ℕ
+place_cause None phase last count first = Some 0x1001
+place_cause (Some b) phase last count first = option_or (write_fault (Some b) phase) (length_cause b.attribute b.max_len last count first)

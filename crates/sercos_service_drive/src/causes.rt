@@ -1,0 +1,68 @@
+// Why a word of operation data is refused before the value is whole.
+ghost use Rattle.std.specs.Prelude.{◌≡◌, ◌≤◌, ◌+◌, ◌%◌, ◌==◌, nat_lt, nat_le, not, ◌&&◌, ◌||◌, option_map};
+ghost use Rattle.sercos_idn.specs.Codes.{is_list, item_len};
+ghost use Rattle.sercos_block.specs.Stores.{find_block};
+ghost use Rattle.sercos_service_drive.specs.Replies.{words_by};
+ghost use Rattle.sercos_service_drive.specs.Kept.{length_cause, place_cause};
+
+use sercos_block::Store;
+use sercos_idn::{Attribute, Code, Idn};
+
+// How many words the operation data has, where the first of them is known.
+fn words_by(attribute: &Attribute, first: u16) -> u32
+    ensures { result ≡ words_by attribute.now first }
+{
+    if attribute.length.is_list() {
+        2 + (u32::from(first) + 1) / 2
+    } else {
+        attribute.length.item_len() as u32 / 2
+    }
+}
+
+// Whether a list is longer than it can be, at its first word, or the word isn't the last though it must be.
+fn is_over(attribute: &Attribute, most: u16, last: bool, count: u32, first: u16) -> bool
+    ensures { result ≡ ((is_list attribute.now.length && ((count == 1) && nat_lt most first)) || (not last && nat_le (words_by attribute.now first) count)) }
+{
+    attribute.length.is_list() && count == 1 && most < first
+        || !last && words_by(attribute, first) <= count
+}
+
+// Whether a list is no whole items, at its first word.
+fn is_uneven(attribute: &Attribute, count: u32, first: u16) -> bool
+    ensures { result ≡ (is_list attribute.now.length && ((count == 1) && not (first % item_len attribute.now.length == 0))) }
+{
+    attribute.length.is_list()
+        && count == 1
+        && usize::from(first) % attribute.length.item_len() != 0
+}
+
+// The first cause against a word by its place, where with it so many words are there.
+#[tactic(auto, unfolding(crate::specs::Kept::length_cause))]
+fn length_cause(attribute: &Attribute, most: u16, last: bool, count: u32, first: u16) -> Option<Code>
+    ensures { option_map (λ code. code.raw) result ≡ length_cause attribute.now most last count first }
+{
+    if last && count < words_by(attribute, first) {
+        return Some(Code::TOO_SHORT);
+    }
+    if is_over(attribute, most, last, count, first) {
+        return Some(Code::TOO_LONG);
+    }
+    if is_uneven(attribute, count, first) {
+        return Some(Code::INVALID);
+    }
+    None
+}
+
+// The first cause against a word of the operation data of a block, by its place and what the block is.
+pub(crate) fn place_cause(store: &Store, idn: Idn, phase: u8, last: bool, count: u32, first: u16) -> Option<Code>
+    requires { (2 ≤ phase) × (phase ≤ 4) }
+    ensures { option_map (λ code. code.raw) result ≡ place_cause (find_block idn.raw store.now) phase last count first }
+{
+    if let Err(code) = store.may_write(idn, phase) {
+        return Some(code);
+    }
+    match store.attribute(idn) {
+        Ok(attribute) => length_cause(&attribute, store.max_len(idn), last, count, first),
+        Err(code) => Some(code),
+    }
+}
