@@ -1,0 +1,2 @@
+mod SetLemmas
+mod CallLemmas

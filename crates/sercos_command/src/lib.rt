@@ -2,5 +2,7 @@
 #![tactic(auto)]
 
 mod commands;
+mod passed;
+mod set;
 
 pub use commands::{Commands, SetCommand};
