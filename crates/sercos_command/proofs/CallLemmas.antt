@@ -1,5 +1,5 @@
 -- What the calls on a drive's procedure commands come to.
-use Rattle.std.proofs.Common.{◌≡◌, ℕ, ◌+◌, ◌≤◌, ◌==◌, nat_le, Bool, true, false, cond, ◌&&◌, ◌||◌, not, List, [], ◌∷◌, length, min, Option, Some, None, is_none, refl, sym, ◌∙◌, ap, arith}
+use Rattle.std.proofs.Common.{◌≡◌, ℕ, ◌+◌, ◌≤◌, ◌==◌, nat_le, Bool, true, false, cond, ◌&&◌, ◌||◌, not, List, ◌∷◌, min, Option, Some, None, is_none, refl, ◌∙◌, arith}
 use Rattle.std.specs.List.{list_all}
 use Rattle.std.proofs.lemmas.Bool.Decides.{nat_tests}
 use Rattle.sercos_block.specs.declared.block.Block.{Block}
@@ -7,7 +7,7 @@ use Rattle.sercos_block.specs.Stores.{with_data}
 use Rattle.sercos_command.specs.declared.commands.SetCommand.{SetCommand}
 use Rattle.sercos_command.specs.Checks.{unfit_for_phase_3, unfit_for_phase_4, list_bytes}
 use Rattle.sercos_command.specs.Settings.{CommandsView, find_set, without, with_set, is_command, ends_well, is_from, from_setting, from_cancel, from_write, with_write, without_checks, without_settings, with_lists, are_commands_of}
-use Rattle.sercos_command.specs.Calls.{Call, Wrote, Other, Reset, settings, is_passed, newest, AreInOrder, CommandsStandFor}
+use Rattle.sercos_command.specs.Calls.{Call, Wrote, Other, Reset, settings, is_passed, newest, CommandsStandFor}
 use Rattle.sercos_command.proofs.SetLemmas.{commands-with_data, all_without, all_with_set}
 
 from_cancel_is : (first : Option ℕ) (at cycle : ℕ) → cycle ≤ at → is_from (from_cancel cycle first) at ≡ is_from first (min at cycle)

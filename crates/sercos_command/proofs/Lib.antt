@@ -1,2 +1,3 @@
 mod SetLemmas
 mod CallLemmas
+mod CheckLemmas

@@ -1,12 +1,12 @@
 -- The list of the commands that are set: no command stands in it twice, each is one of the store, so there is always room.
-use Rattle.std.proofs.Common.{◌≡◌, ℕ, suc, ◌≤◌, ◌==◌, Bool, true, false, cond, ◌&&◌, not, List, [], ◌∷◌, ◌++◌, length, Option, Some, None, is_none, is_some, option_map, unwrap_or, refl, sym, ◌∙◌, ap, arith}
-use Rattle.std.specs.List.{list_all, find}
+use Rattle.std.proofs.Common.{◌≡◌, ℕ, suc, ◌≤◌, ◌==◌, Bool, true, false, cond, ◌&&◌, not, List, [], ◌∷◌, ◌++◌, length, Some, None, is_none, is_some, option_map, unwrap_or, refl, ap, arith}
+use Rattle.std.specs.List.{list_all}
 use Rattle.std.proofs.lemmas.Bool.{and_parts, and_from}
 use Rattle.std.proofs.lemmas.Bool.Decides.{nat_tests}
 use Rattle.sercos_block.specs.declared.block.Block.{Block}
-use Rattle.sercos_block.specs.Stores.{find_block, with_value, with_data, IsStore}
+use Rattle.sercos_block.specs.Stores.{find_block, with_data, IsStore}
 use Rattle.sercos_command.specs.declared.commands.SetCommand.{SetCommand}
-use Rattle.sercos_command.specs.Settings.{CommandsView, find_set, without, with_set, is_command, are_distinct, are_commands_of}
+use Rattle.sercos_command.specs.Settings.{find_set, without, with_set, is_command, are_distinct}
 
 -- a command that isn't set isn't, once another is cancelled or set
 unset_without : (raw other : ℕ) (set : List SetCommand) → is_none (find_set raw set) ≡ true → is_none (find_set raw (without other set)) ≡ true

@@ -5,8 +5,10 @@ ghost use Rattle.sercos_command.specs.Settings.{find_set, is_command, ends_well,
 ghost use Rattle.sercos_command.specs.Calls.{Call, Wrote, Other, Reset, newest, is_passed, CommandsStandFor, status_of, change_of};
 
 use crate::passed::{after_cancel, after_setting, is_from};
+use crate::run::run;
 use crate::set::{any_ended, cancel, find_set, status_by};
 use arrayvec::ArrayVec;
+use sercos_block::Store;
 use sercos_block::numbers::{PHASE_3_CHECK, PHASE_4_CHECK};
 use sercos_idn::Idn;
 use std::marker::Model;
@@ -81,6 +83,52 @@ impl Commands {
         self.passed_127 = after_setting(self.passed_127, PHASE_3_CHECK, idn, end, well);
         self.passed_128 = after_setting(self.passed_128, PHASE_4_CHECK, idn, end, well);
         self.set.push(SetCommand { idn, cycle, well });
+    }
+
+    // A write to a command: the commands and the blocks after it.
+    #[tactic(auto, unfolding(crate::specs::Settings::with_write, crate::specs::Settings::with_lists))]
+    fn take(&mut self, idn: Idn, value: u16, cycle: u32, store: &mut Store)
+        requires value { (value ≡ 0) ⊎ (value ≡ 3) }
+        requires set { are_commands_of store.old self.old ≡ true }
+        ensures view { self.new ≡ with_write idn.raw value cycle store.old self.old }
+        ensures blocks { store.new ≡ with_lists self.old idn.raw value store.old }
+    {
+        if value == 0 {
+            self.cancel(idn, cycle);
+            return;
+        }
+        if self.has(idn) {
+            return;
+        }
+        self.keep_room(store);
+        let well = run(self.rate, idn, store);
+        self.set(idn, cycle, well);
+    }
+
+    /// A write of 0 (cancel) or 3 (set) to a procedure command of the drive, in a cycle. A set command is set in that cycle,
+    /// and a command that is set already stays as it is. The check for phase 3 writes what it finds unfit into S-0-0021, that
+    /// for phase 4 into S-0-0022; it ends well where that is nothing. Any other command ends well unless the drive says
+    /// that it fails.
+    pub fn write(&mut self, idn: Idn, value: u16, cycle: u32, store: &mut Store)
+        requires command { is_command store.old idn.raw ≡ true }
+        requires value { (value ≡ 0) ⊎ (value ≡ 3) }
+        requires set { are_commands_of store.old self.old ≡ true }
+        ensures view { self.new ≡ with_write idn.raw value cycle store.old self.old }
+        ensures blocks { store.new ≡ with_lists self.old idn.raw value store.old }
+        ensures set { are_commands_of store.new self.new ≡ true }
+        ensures stands { (rate time : ℕ) (h : List Call) → CommandsStandFor self.old rate time h → newest h ≤ cycle → CommandsStandFor self.new rate time (Wrote idn.raw value cycle store.old ∷ h) }
+    {
+        self.take(idn, value, cycle, store);
+    }
+
+    // There is room for one more command.
+    #[tactic(auto, using(crate::proofs::SetLemmas::has_room))]
+    fn keep_room(&self, store: &Store)
+        requires { are_commands_of store.now self.now ≡ true }
+        ensures { length self.now.set < 64 }
+    {
+        let _set = self.set.as_slice();
+        let _count = store.count();
     }
 
     // Whether a command is set.
