@@ -1,14 +1,14 @@
 -- What a sound block keeps, part by part, and that it stays sound when its operation data is written.
-use Rattle.std.proofs.Common.{◌≡◌, ℕ, ◌<◌, ◌≤◌, ◌%◌, ◌==◌, ◌||◌, ◌&&◌, Bool, true, false, cond, not, List, [], ◌∷◌, length, Option, Some, None, IfSome, nat_lt, nat_le, arith, sym}
-use Rattle.std.specs.List.{list_all}
+use Rattle.std.proofs.Common.{◌≡◌, ℕ, ◌<◌, ◌≤◌, ◌%◌, ◌==◌, ◌||◌, ◌&&◌, nat_le, Bool, true, false, cond, not, List, [], ◌∷◌, length, Option, Some, None, IfSome, nat_lt, ◌⊎◌, inl, inr, refl, sym, arith}
+use Rattle.std.specs.List.{list_all, find}
 use Rattle.std.proofs.lemmas.Bool.{and_parts, and_from}
 use Rattle.std.proofs.lemmas.Bool.Decides.{nat_tests}
 use Rattle.sercos_idn.specs.declared.attribute.Attribute.{Attribute}
+use Rattle.sercos_idn.specs.Codes.{is_list, item_len}
 use Rattle.sercos_block.specs.declared.block.Block.{Block}
 use Rattle.sercos_block.specs.Blocks.{is_number, number_end}
 use Rattle.sercos_block.specs.Rules.{is_text, is_limit, is_max_len, is_step}
-use Rattle.sercos_block.specs.Stores.{find_block, is_sound, is_len, is_given_list, IsStore}
-use Rattle.sercos_idn.specs.Codes.{is_list, item_len}
+use Rattle.sercos_block.specs.Stores.{is_sound, is_len, is_given_list, is_carried_list, find_block, IsStore}
 
 pub record SoundParts (b : Block) : Type 0 where
   pub name : is_text 60 b.name ≡ true
@@ -20,6 +20,7 @@ pub record SoundParts (b : Block) : Type 0 where
   pub fails : (not b.fails || b.attribute.command) ≡ true
   pub len : is_len b (length b.value) ≡ true
   pub given : is_given_list b ≡ true
+  pub carried : is_carried_list b ≡ true
 
 pub SoundParts-is_sound : (b : Block) → is_sound b ≡ true → SoundParts b
 unfolding is_sound
@@ -31,20 +32,21 @@ SoundParts-is_sound b h =
     let (max_len, after_max_len) = and_parts (is_max_len b.attribute b.max_len) _ after_max in
     let (step, after_step) = and_parts (is_step b) _ after_max_len in
     let (fails, after_fails) = and_parts (not b.fails || b.attribute.command) _ after_step in
-    let (len, given) = and_parts (is_len b (length b.value)) _ after_fails in
-    record { name = name; unit = unit; min = min; max = max; max_len = max_len; step = step; fails = fails; len = len; given = given }
+    let (len, after_len) = and_parts (is_len b (length b.value)) _ after_fails in
+    let (given, carried) = and_parts (is_given_list b) _ after_len in
+    record { name = name; unit = unit; min = min; max = max; max_len = max_len; step = step; fails = fails; len = len; given = given; carried = carried }
 
 pub is_sound-from_parts : (b : Block) → SoundParts b → is_sound b ≡ true
 unfolding is_sound
 is_sound-from_parts b p =
     and_from _ _ p.name (and_from _ _ p.unit (and_from _ _ p.min (and_from _ _ p.max (and_from _ _ p.max_len
-    (and_from _ _ p.step (and_from _ _ p.fails (and_from _ _ p.len p.given)))))))
+    (and_from _ _ p.step (and_from _ _ p.fails (and_from _ _ p.len (and_from _ _ p.given p.carried))))))))
 
 pub is_sound-written : (b : Block) (bytes : List ℕ) → is_sound b ≡ true → is_len b (length bytes) ≡ true → is_sound (record b { value = bytes }) ≡ true
 is_sound-written b bytes h len =
     let p = SoundParts-is_sound b h in
     is_sound-from_parts (record b { value = bytes })
-    (record { name = p.name; unit = p.unit; min = p.min; max = p.max; max_len = p.max_len; step = p.step; fails = p.fails; len = len; given = p.given })
+    (record { name = p.name; unit = p.unit; min = p.min; max = p.max; max_len = p.max_len; step = p.step; fails = p.fails; len = len; given = p.given; carried = p.carried })
 
 pub limit_below : (a : Attribute) (limit : Option ℕ) → is_limit a limit ≡ true → IfSome limit (λ bits. bits < number_end a.length)
 limit_below a None h = tt
@@ -77,3 +79,43 @@ most false max item h = grind (arith, nat_tests)
 pub max_len_bound : (raw : ℕ) (blocks : List Block) (b : Block) → IsStore blocks → Some b ≡ find_block raw blocks → b.max_len ≤ 1024
 max_len_bound raw blocks b is e =
     most (is_list b.attribute.length) b.max_len (item_len b.attribute.length) (SoundParts-is_sound b (found_sound raw blocks b is.sound (sym e))).max_len
+
+-- the bytes of a value that is no list
+exact_by : (list : Bool) (count most item : ℕ) → list ≡ false → cond list (nat_le count most) (count == item) ≡ true → count ≡ item
+exact_by true count most item none len = cc
+exact_by false count most item none len = grind (arith, nat_tests)
+
+pub value_len : (b : Block) → is_list b.attribute.length ≡ false → is_sound b ≡ true → length b.value ≡ item_len b.attribute.length
+value_len b none h = exact_by (is_list b.attribute.length) (length b.value) b.max_len (item_len b.attribute.length) none (SoundParts-is_sound b h).len
+
+-- the bytes of a list of what telegrams carry
+carried_by : (carried list : Bool) (count most item : ℕ) → carried ≡ true → (not carried || (list && (most == 32))) ≡ true
+    → cond list (nat_le count most) (count == item) ≡ true → count ≤ 32
+carried_by true true count most item on is len = grind (arith, nat_tests)
+carried_by true false count most item on is len = cc
+carried_by false list count most item on is len = cc
+
+pub found-carried : (raw : ℕ) (blocks : List Block) (b : Block) (bytes : List ℕ) → IsStore blocks → find_block raw blocks ≡ Some b → bytes ≡ b.value
+    → ((raw ≡ 16) ⊎ (raw ≡ 24)) → length bytes ≤ 32
+found-carried raw blocks b bytes is at seen carried =
+    let holds : IfSome (find (λ c. c.idn.raw == raw) blocks) (λ c. length c.value ≤ 32) = found blocks is.sound in
+    let there = rw at at holds in
+    rw seen there
+  where
+    check : ((raw ≡ 16) ⊎ (raw ≡ 24)) → ((raw == 16) || (raw == 24)) ≡ true
+    check (inl e) = rw e refl
+    check (inr e) = rw e refl
+
+    at_block : (c : Block) → is_sound c ≡ true → c.idn.raw ≡ raw → length c.value ≤ 32
+    at_block c sound e =
+        let p = SoundParts-is_sound c sound in
+        carried_by _ (is_list c.attribute.length) (length c.value) c.max_len (item_len c.attribute.length) (rw e (check carried)) p.carried p.len
+
+    found : (blocks : List Block) → list_all is_sound blocks ≡ true → IfSome (find (λ c. c.idn.raw == raw) blocks) (λ c. length c.value ≤ 32)
+    found [] sound = tt
+    found (c ∷ blocks) sound = let (here, rest) = and_parts (is_sound c) (list_all is_sound blocks) sound in by (c.idn.raw == raw) refl here (found blocks rest)
+      where
+        by : (same : Bool) → (c.idn.raw == raw) ≡ same → is_sound c ≡ true → IfSome (find (λ c. c.idn.raw == raw) blocks) (λ c. length c.value ≤ 32)
+            → IfSome (cond same (Some c) (find (λ c. c.idn.raw == raw) blocks)) (λ c. length c.value ≤ 32)
+        by true e here rest = at_block c here (grind (arith, nat_tests))
+        by false e here rest = rest

@@ -69,8 +69,9 @@ fn block_attribute(blocks: &[Block], idn: Idn) -> Option<Attribute>
     }
 }
 
-// The bytes of a number of two or four bytes.
-fn number_len(attribute: Attribute) -> Option<usize>
+/// How many bytes a block's operation data adds to a telegram: two or four where it is a number, and none where it is a list
+/// or a procedure command, which can't stand in a telegram.
+pub fn number_len(attribute: Attribute) -> Option<usize>
     ensures value { result ≡ number_len attribute }
     ensures bound { IfSome result (λ len. len ≤ 4) }
 {

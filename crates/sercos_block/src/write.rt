@@ -1,5 +1,5 @@
 // Why operation data can't be written.
-ghost use Rattle.std.specs.Prelude.{◌≡◌, ◌≤◌, ◌<◌, IfSome, int_lt, length, option_map, true, false, None};
+ghost use Rattle.std.specs.Prelude.{◌≡◌, ◌≤◌, ◌<◌, ◌||◌, IfSome, int_lt, length, option_map, true, false, None};
 ghost use Rattle.sercos_idn.specs.Codes.{is_list, item_len};
 ghost use Rattle.sercos_block.specs.Blocks.{bits_in, number_end, meant, is_fixed, is_protected};
 ghost use Rattle.sercos_block.specs.Stores.{is_short, is_long, is_invalid, is_below, is_above, write_fault, data_fault, is_sound};
@@ -137,6 +137,16 @@ fn is_above(block: &Block, bytes: &[u8], limit: Option<u32>) -> bool
         Some(bits) if is_number(attribute) => is_less(attribute, bits, bits_in(attribute, bytes)),
         _ => false,
     }
+}
+
+// Whether the operation data of a block is a number below its minimum or above its maximum.
+#[tactic(auto, using(crate::proofs::SoundLemmas::min_below, crate::proofs::SoundLemmas::max_below, crate::proofs::SoundLemmas::value_len))]
+pub(crate) fn is_outside(block: &Block) -> bool
+    requires { is_sound block.now ≡ true }
+    ensures { result ≡ (is_below block.now block.now.value block.now.min || is_above block.now block.now.value block.now.max) }
+{
+    let bytes = block.value.as_slice();
+    is_below(block, bytes, block.min) || is_above(block, bytes, block.max)
 }
 
 // The first cause for which bytes can't be the operation data of a block.

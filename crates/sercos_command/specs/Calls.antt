@@ -29,7 +29,7 @@ is_passed rate time check (Other c ∷ h) cycle = false
 is_passed rate time check (Wrote raw value c blocks ∷ h) cycle =
     if raw == check
     then (if value == 0 then is_passed rate time check h (min cycle c)
-        else ((is_none (find_set check (settings rate h)) && (ends_well rate check blocks && nat_le (c + time) cycle)) || is_passed rate time check h cycle))
+    else ((is_none (find_set check (settings rate h)) && (ends_well rate check blocks && nat_le (c + time) cycle)) || is_passed rate time check h cycle))
     else is_passed rate time check h cycle
 
 abbrev pub cycle_of : Call → ℕ → ℕ

@@ -75,7 +75,7 @@ abbrev pub from_write : CommandsView → ℕ → ℕ → ℕ → ℕ → List Bl
 from_write c check raw value cycle blocks first =
     if raw == check
     then (if value == 0 then from_cancel cycle first
-        else (if is_none (find_set raw c.set) && ends_well c.rate raw blocks then from_setting (cycle + c.time) first else first))
+    else (if is_none (find_set raw c.set) && ends_well c.rate raw blocks then from_setting (cycle + c.time) first else first))
     else first
 
 -- after a write of 0 or 3 to a command in a cycle, where the blocks stand so
@@ -102,7 +102,7 @@ unfoldable pub with_lists : CommandsView → ℕ → ℕ → List Block → List
 with_lists c raw value blocks =
     if not (value == 0) && is_none (find_set raw c.set)
     then (if raw == 127 then with_data 21 (list_bytes (unfit_for_phase_3 c.rate blocks)) blocks
-        else (if raw == 128 then with_data 22 (list_bytes (unfit_for_phase_4 blocks)) blocks else blocks))
+    else (if raw == 128 then with_data 22 (list_bytes (unfit_for_phase_4 blocks)) blocks else blocks))
     else blocks
 
 -- no command is set twice

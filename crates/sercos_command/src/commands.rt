@@ -1,5 +1,15 @@
 // The procedure commands of a drive.
+ghost use Rattle.std.specs.Prelude.{◌≡◌, ℕ, ◌==◌, ◌<◌, ◌≤◌, ◌⊎◌, List, [], ◌∷◌, length, None, true, is_some};
+ghost use Rattle.sercos_block.specs.declared.block.Block.{Block};
+ghost use Rattle.sercos_command.specs.Settings.{find_set, is_command, ends_well, status_in, change_in, is_from, with_write, without_checks, without_settings, with_lists, are_commands_of};
+ghost use Rattle.sercos_command.specs.Calls.{Call, Wrote, Other, Reset, newest, is_passed, CommandsStandFor, status_of, change_of};
+
+use crate::passed::{after_cancel, after_setting, is_from};
+use crate::run::run;
+use crate::set::{any_ended, cancel, find_set, status_by};
 use arrayvec::ArrayVec;
+use sercos_block::Store;
+use sercos_block::numbers::{PHASE_3_CHECK, PHASE_4_CHECK};
 use sercos_idn::Idn;
 use std::marker::Model;
 
@@ -37,9 +47,12 @@ impl Model for Commands {
 }
 
 impl Commands {
-    /// No command is set.
+    /// The commands of a drive in a ring of a rate, in Mbit/s, each of which runs for so many cycles. No command is set.
     #[tactic(auto, unfolding(crate::specs::Settings::are_distinct))]
-    pub fn new(rate: u8, time: u16) -> Commands {
+    pub fn new(rate: u8, time: u16) -> Commands
+        ensures view { result ≡ record { rate = rate; time = time; set = []; passed_127 = None; passed_128 = None } }
+        ensures stands { CommandsStandFor result rate time [] }
+    {
         Commands {
             rate,
             time,
@@ -47,5 +60,135 @@ impl Commands {
             passed_127: None,
             passed_128: None,
         }
+    }
+
+    // Takes a cancel of a command.
+    #[tactic(auto, using(crate::proofs::SetLemmas::distinct_without), unfolding(crate::specs::Settings::with_write))]
+    fn cancel(&mut self, idn: Idn, cycle: u32)
+        ensures { (blocks : List Block) → self.new ≡ with_write idn.raw 0 cycle blocks self.old }
+    {
+        self.passed_127 = after_cancel(self.passed_127, PHASE_3_CHECK, idn, cycle);
+        self.passed_128 = after_cancel(self.passed_128, PHASE_4_CHECK, idn, cycle);
+        cancel(&mut self.set, idn);
+    }
+
+    // Takes a setting of a command that isn't set.
+    #[tactic(auto, using(crate::proofs::SetLemmas::distinct_appended), unfolding(crate::specs::Settings::with_write))]
+    fn set(&mut self, idn: Idn, cycle: u32, well: bool)
+        requires new { find_set idn.raw self.old.set ≡ None }
+        requires room { length self.old.set < 64 }
+        ensures { (blocks : List Block) → well ≡ ends_well self.old.rate idn.raw blocks → self.new ≡ with_write idn.raw 3 cycle blocks self.old }
+    {
+        let end = u64::from(cycle) + u64::from(self.time);
+        self.passed_127 = after_setting(self.passed_127, PHASE_3_CHECK, idn, end, well);
+        self.passed_128 = after_setting(self.passed_128, PHASE_4_CHECK, idn, end, well);
+        self.set.push(SetCommand { idn, cycle, well });
+    }
+
+    // A write to a command: the commands and the blocks after it.
+    #[tactic(auto, unfolding(crate::specs::Settings::with_write, crate::specs::Settings::with_lists))]
+    fn take(&mut self, idn: Idn, value: u16, cycle: u32, store: &mut Store)
+        requires value { (value ≡ 0) ⊎ (value ≡ 3) }
+        requires set { are_commands_of store.old self.old ≡ true }
+        ensures view { self.new ≡ with_write idn.raw value cycle store.old self.old }
+        ensures blocks { store.new ≡ with_lists self.old idn.raw value store.old }
+    {
+        if value == 0 {
+            self.cancel(idn, cycle);
+            return;
+        }
+        if self.has(idn) {
+            return;
+        }
+        self.keep_room(store);
+        let well = run(self.rate, idn, store);
+        self.set(idn, cycle, well);
+    }
+
+    /// A write of 0 (cancel) or 3 (set) to a procedure command of the drive, in a cycle. A set command is set in that cycle,
+    /// and a command that is set already stays as it is. The check for phase 3 writes what it finds unfit into S-0-0021, that
+    /// for phase 4 into S-0-0022; it ends well where that is nothing. Any other command ends well unless the drive says
+    /// that it fails.
+    pub fn write(&mut self, idn: Idn, value: u16, cycle: u32, store: &mut Store)
+        requires command { is_command store.old idn.raw ≡ true }
+        requires value { (value ≡ 0) ⊎ (value ≡ 3) }
+        requires set { are_commands_of store.old self.old ≡ true }
+        ensures view { self.new ≡ with_write idn.raw value cycle store.old self.old }
+        ensures blocks { store.new ≡ with_lists self.old idn.raw value store.old }
+        ensures set { are_commands_of store.new self.new ≡ true }
+        ensures stands { (rate time : ℕ) (h : List Call) → CommandsStandFor self.old rate time h → newest h ≤ cycle → CommandsStandFor self.new rate time (Wrote idn.raw value cycle store.old ∷ h) }
+    {
+        self.take(idn, value, cycle, store);
+    }
+
+    // There is room for one more command.
+    #[tactic(auto, using(crate::proofs::SetLemmas::has_room))]
+    fn keep_room(&self, store: &Store)
+        requires { are_commands_of store.now self.now ≡ true }
+        ensures { length self.now.set < 64 }
+    {
+        let _set = self.set.as_slice();
+        let _count = store.count();
+    }
+
+    // Whether a command is set.
+    fn has(&self, idn: Idn) -> bool
+        ensures { result ≡ is_some (find_set idn.raw self.now.set) }
+    {
+        find_set(self.set.as_slice(), idn).is_some()
+    }
+
+    /// A write to other operation data than that of a command, in a cycle: no check counts as passed any more.
+    #[tactic(auto, using(crate::proofs::CallLemmas::stands_other))]
+    pub fn written(&mut self, cycle: u32)
+        ensures view { self.new ≡ without_checks self.old }
+        ensures stands { (rate time : ℕ) (h : List Call) → CommandsStandFor self.old rate time h → newest h ≤ cycle → CommandsStandFor self.new rate time (Other cycle ∷ h) }
+    {
+        self.passed_127 = None;
+        self.passed_128 = None;
+    }
+
+    /// Phase 0: no command is set any more, and no check counts as passed.
+    #[tactic(auto, using(crate::proofs::CallLemmas::stands_reset), unfolding(crate::specs::Settings::are_distinct))]
+    pub fn reset(&mut self)
+        ensures view { self.new ≡ without_settings self.old }
+        ensures stands { (rate time : ℕ) (h : List Call) → CommandsStandFor self.old rate time h → CommandsStandFor self.new rate time (Reset ∷ h) }
+    {
+        self.set.clear();
+        self.passed_127 = None;
+        self.passed_128 = None;
+    }
+
+    /// The data status of a command in a cycle: 0 not set, 7 running, 3 ended well, 15 ended with an error. A command runs
+    /// in the cycle in which it was set and below that of its end.
+    pub fn status(&self, idn: Idn, cycle: u32) -> u16
+        ensures view { result ≡ status_in self.now idn.raw cycle }
+        ensures stands { (rate time : ℕ) (h : List Call) → CommandsStandFor self.now rate time h → result ≡ status_of rate time h idn.raw cycle }
+    {
+        status_by(find_set(self.set.as_slice(), idn), self.time, cycle)
+    }
+
+    /// The change bit of procedure commands in a cycle: whether some command that is set has ended.
+    pub fn change(&self, cycle: u32) -> bool
+        ensures view { result ≡ change_in self.now cycle }
+        ensures stands { (rate time : ℕ) (h : List Call) → CommandsStandFor self.now rate time h → result ≡ change_of rate time h cycle }
+    {
+        any_ended(self.set.as_slice(), self.time, cycle)
+    }
+
+    /// Whether the check for phase 3, S-0-0127, counts as passed in a cycle, not before that of the newest call.
+    pub fn passed127(&self, cycle: u32) -> bool
+        ensures view { result ≡ is_from self.now.passed_127 cycle }
+        ensures stands { (rate time : ℕ) (h : List Call) → CommandsStandFor self.now rate time h → newest h ≤ cycle → result ≡ is_passed rate time 127 h cycle }
+    {
+        is_from(self.passed_127, cycle)
+    }
+
+    /// Whether the check for phase 4, S-0-0128, counts as passed in a cycle, not before that of the newest call.
+    pub fn passed128(&self, cycle: u32) -> bool
+        ensures view { result ≡ is_from self.now.passed_128 cycle }
+        ensures stands { (rate time : ℕ) (h : List Call) → CommandsStandFor self.now rate time h → newest h ≤ cycle → result ≡ is_passed rate time 128 h cycle }
+    {
+        is_from(self.passed_128, cycle)
     }
 }

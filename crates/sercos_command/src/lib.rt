@@ -1,6 +1,13 @@
 //! The procedure commands of a drive, and the two checks that let it go on to phases 3 and 4.
 #![tactic(auto)]
 
+mod carried;
+mod check;
 mod commands;
+mod passed;
+mod rules;
+mod run;
+mod set;
 
+pub use check::{check127, check128};
 pub use commands::{Commands, SetCommand};

@@ -1,0 +1,111 @@
+// Numbers and lists of identifier numbers among the operation data of a store.
+ghost use Rattle.std.specs.Prelude.{◌≡◌, ◌≤◌, ◌<◌, ◌⊎◌, ◌+◌, length, slice_index, unwrap_or, IfSome};
+ghost use Rattle.std.specs.List.{list_all, sum_by};
+ghost use Rattle.sercos_command.specs.Checks.{number_at, idns_in, idns_at, cyclic_len, is_cyclic, carried_len, breaks_list};
+
+use arrayvec::ArrayVec;
+use sercos_block::{Store, number_len};
+use sercos_idn::Idn;
+
+// The bytes of a control word or a status word, and of the information word behind it.
+const WORDS: u32 = 4;
+
+// The byte at a place, 0 where there is none.
+fn byte_at(bytes: &[u8], place: usize) -> u8
+    ensures { result ≡ slice_index bytes.now place }
+{
+    if place < bytes.len() { bytes[place] } else { 0 }
+}
+
+// The first two bytes of the operation data of a block, as a number.
+#[tactic(auto, unfolding(crate::specs::Checks::number_at))]
+pub(crate) fn number_at(store: &Store, idn: Idn) -> u32
+    ensures value { result ≡ number_at store.now idn.raw }
+    ensures bound { result < 65536 }
+{
+    let data = store.data(idn);
+    u32::from(byte_at(data, 0)) + 256 * u32::from(byte_at(data, 1))
+}
+
+// The identifier numbers that bytes are.
+fn idns_in(bytes: &[u8]) -> ArrayVec<Idn, 16>
+    requires { length bytes.now ≤ 32 }
+    ensures { result.items ≡ idns_in bytes.now }
+{
+    let mut idns = ArrayVec::new();
+    for place in 0..bytes.len() / 2 {
+        let raw = u16::from_le_bytes([bytes[2 * place], bytes[2 * place + 1]]);
+        idns.push(Idn { raw });
+    }
+    idns
+}
+
+// The identifier numbers of a list of what a telegram carries.
+#[tactic(auto, unfolding(crate::specs::Checks::idns_at))]
+fn idns_at(store: &Store, list: Idn) -> ArrayVec<Idn, 16>
+    requires { (list.raw ≡ 16) ⊎ (list.raw ≡ 24) }
+    ensures { result.items ≡ idns_at store.now list.raw }
+{
+    idns_in(store.data(list))
+}
+
+// How many bytes an identifier number adds to a telegram.
+fn cyclic_len(store: &Store, idn: Idn) -> Option<usize>
+    ensures value { result ≡ cyclic_len store.now idn.raw }
+    ensures bound { IfSome result (λ len. len ≤ 4) }
+{
+    match store.attribute(idn) {
+        Ok(attribute) => number_len(attribute),
+        Err(_) => None,
+    }
+}
+
+// The same, and 0 where the number can't stand in a telegram.
+fn value_len(store: &Store, idn: Idn) -> u32
+    ensures value { result ≡ unwrap_or (cyclic_len store.now idn.raw) 0 }
+    ensures bound { result ≤ 4 }
+{
+    match cyclic_len(store, idn) {
+        Some(len) => len as u32,
+        None => 0,
+    }
+}
+
+// The bytes of two words and of the values of a list.
+fn listed_len(store: &Store, idns: &[Idn]) -> u32
+    requires { length idns.now ≤ 16 }
+    ensures value { result ≡ 4 + sum_by (λ idn. unwrap_or (cyclic_len store.now idn.raw) 0) idns.now }
+    ensures bounds { (4 ≤ result) × (result ≤ 68) }
+{
+    let mut len = WORDS;
+    for idn in idns {
+        len += value_len(store, *idn);
+    }
+    len
+}
+
+// How many bytes a telegram has behind its address, or a data record, by the list of what it carries.
+#[tactic(auto, unfolding(crate::specs::Checks::carried_len))]
+pub(crate) fn carried_len(store: &Store, list: Idn) -> u32
+    requires { (list.raw ≡ 16) ⊎ (list.raw ≡ 24) }
+    ensures value { result ≡ carried_len store.now list.raw }
+    ensures bounds { (4 ≤ result) × (result ≤ 68) }
+{
+    listed_len(store, idns_at(store, list).as_slice())
+}
+
+// Whether all of a list can stand in a telegram.
+fn are_cyclic(store: &Store, idns: &[Idn]) -> bool
+    ensures { result ≡ list_all (is_cyclic store.now) idns.now }
+{
+    idns.iter().all(|idn| cyclic_len(store, *idn).is_some())
+}
+
+// Whether a list of what a telegram carries has an identifier number that can't stand in it.
+#[tactic(auto, unfolding(crate::specs::Checks::breaks_list))]
+pub(crate) fn breaks_list(store: &Store, list: Idn) -> bool
+    requires { (list.raw ≡ 16) ⊎ (list.raw ≡ 24) }
+    ensures { result ≡ breaks_list list.raw store.now }
+{
+    !are_cyclic(store, idns_at(store, list).as_slice())
+}

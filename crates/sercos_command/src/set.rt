@@ -1,0 +1,68 @@
+// The commands that are set.
+ghost use Rattle.std.specs.Prelude.{◌≡◌, ◌<◌, ◌++◌, [], ◌∷◌, length, is_some, true, None};
+ghost use Rattle.std.specs.List.{list_any};
+ghost use Rattle.sercos_command.specs.Settings.{find_set, without, has_ended, status_by, are_distinct, are_commands_of};
+
+use crate::commands::SetCommand;
+use arrayvec::ArrayVec;
+use sercos_idn::Idn;
+
+// The data status of a command that isn't set, that runs, that has ended well, and that has ended with an error.
+const NOT_SET: u16 = 0;
+
+const RUNNING: u16 = 7;
+
+const ENDED_WELL: u16 = 3;
+
+const ENDED_WITH_ERROR: u16 = 15;
+
+// The setting of a command.
+pub(crate) fn find_set(set: &[SetCommand], idn: Idn) -> Option<SetCommand>
+    ensures { result ≡ find_set idn.raw set.now }
+{
+    for command in set {
+        if command.idn == idn {
+            return Some(*command);
+        }
+    }
+    None
+}
+
+// Cancels a command.
+pub(crate) fn cancel(set: &mut ArrayVec<SetCommand, 64>, idn: Idn)
+    ensures { set.new.items ≡ without idn.raw set.old.items }
+{
+    set.retain(|command| command.idn != idn);
+}
+
+// Whether a command that is set has ended.
+fn has_ended(command: &SetCommand, time: u16, cycle: u32) -> bool
+    ensures { result ≡ has_ended time cycle command.now }
+{
+    u64::from(command.cycle) + u64::from(time) <= u64::from(cycle)
+}
+
+// The data status of a command by its setting.
+pub(crate) fn status_by(command: Option<SetCommand>, time: u16, cycle: u32) -> u16
+    ensures { result ≡ status_by time command cycle }
+{
+    match command {
+        None => NOT_SET,
+        Some(command) => {
+            if !has_ended(&command, time, cycle) {
+                RUNNING
+            } else if command.well {
+                ENDED_WELL
+            } else {
+                ENDED_WITH_ERROR
+            }
+        }
+    }
+}
+
+// Whether some command that is set has ended.
+pub(crate) fn any_ended(set: &[SetCommand], time: u16, cycle: u32) -> bool
+    ensures { result ≡ list_any (has_ended time cycle) set.now }
+{
+    set.iter().any(|command| has_ended(command, time, cycle))
+}
