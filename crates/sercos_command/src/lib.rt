@@ -4,6 +4,7 @@
 mod carried;
 mod check;
 mod commands;
+mod law;
 mod passed;
 mod rules;
 mod run;
@@ -11,3 +12,4 @@ mod set;
 
 pub use check::{check127, check128};
 pub use commands::{Commands, SetCommand};
+pub use law::written_law;

@@ -60,7 +60,7 @@ fn copy_list(buffer: &mut Buffer, longest: u16, bytes: &[u8])
 }
 
 // A byte, or 0 where there is none.
-fn byte_at(bytes: &[u8], place: usize) -> u8
+pub(crate) fn byte_at(bytes: &[u8], place: usize) -> u8
     ensures { result ≡ slice_index bytes.now place }
 {
     if place < bytes.len() { bytes[place] } else { 0 }
@@ -116,7 +116,7 @@ fn copy_data(buffer: &mut Buffer, attribute: &Attribute, step: u32, cycle: u32, 
 }
 
 // Copies an element, 2 to 7, which is there.
-#[tactic(auto, unfolding(crate::specs::Replies::element_words, crate::specs::Blocks::element_of))]
+#[tactic(auto, unfolding(crate::specs::Replies::element_words, sercos_block::specs::Blocks::element_of))]
 fn copy_found(buffer: &mut Buffer, attribute: &Attribute, most: u16, step: u32, element: u8, cycle: u32, bytes: &[u8])
     requires { length bytes.now ≤ 1024 }
     ensures { (b : Block) → b.attribute ≡ attribute.now → b.max_len ≡ most → b.step ≡ step → element_of b element ≡ Some bytes.now →

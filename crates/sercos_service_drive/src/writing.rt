@@ -1,0 +1,69 @@
+// Operation data that came whole is written.
+ghost use Rattle.std.specs.Prelude.{◌≡◌, ℕ, ◌≤◌, ◌==◌, ◌⊎◌, if◌then◌else◌, true, List, ◌∷◌, option_map};
+ghost use Rattle.std.specs.Int.{w16, from_le_bytes};
+ghost use Rattle.sercos_block.specs.Stores.{find_block, put_fault};
+ghost use Rattle.sercos_command.specs.Settings.{is_command, with_write, with_lists, without_checks, are_commands_of};
+ghost use Rattle.sercos_command.specs.Calls.{Call, Wrote, Other, newest, CommandsStandFor};
+ghost use Rattle.sercos_service_drive.specs.Writes.{unless, blocks_with, commands_with, calls_with};
+
+use crate::copying::byte_at;
+use sercos_block::Store;
+use sercos_command::{Commands, written_law};
+use sercos_idn::{Code, Idn};
+
+// Whether a block is a procedure command.
+fn is_command(store: &Store, idn: Idn) -> bool
+    ensures { result ≡ is_command store.now idn.raw }
+{
+    match store.attribute(idn) {
+        Ok(attribute) => attribute.command,
+        Err(_) => false,
+    }
+}
+
+// What is written to a procedure command.
+fn setting_in(bytes: &[u8]) -> u16
+    ensures { result ≡ from_le_bytes w16 bytes.now }
+{
+    u16::from_le_bytes([byte_at(bytes, 0), byte_at(bytes, 1)])
+}
+
+// Tells the procedure commands that operation data was written: that of a command, or other.
+fn tell(commands: &mut Commands, idn: Idn, command: bool, bytes: &[u8], cycle: u32, store: &mut Store)
+    requires command { command ≡ true → is_command store.old idn.raw ≡ true }
+    requires setting { command ≡ true → (from_le_bytes w16 bytes.now ≡ 0) ⊎ (from_le_bytes w16 bytes.now ≡ 3) }
+    requires set { are_commands_of store.old commands.old ≡ true }
+    ensures blocks { store.new ≡ (if command then with_lists commands.old idn.raw (from_le_bytes w16 bytes.now) store.old else store.old) }
+    ensures commands { commands.new ≡ (if command then with_write idn.raw (from_le_bytes w16 bytes.now) cycle store.old commands.old else without_checks commands.old) }
+    ensures calls { (rate time : ℕ) (h : List Call) → CommandsStandFor commands.old rate time h → newest h ≤ cycle →
+        CommandsStandFor commands.new rate time ((if command then Wrote idn.raw (from_le_bytes w16 bytes.now) cycle store.old else Other cycle) ∷ h) }
+    ensures set { are_commands_of store.new commands.new ≡ true }
+{
+    if command {
+        commands.write(idn, setting_in(bytes), cycle, store);
+    } else {
+        commands.written(cycle);
+    }
+}
+
+// Writes the operation data of a block in a phase, and tells the procedure commands. The code is the first cause against it.
+pub(crate) fn write_data(idn: Idn, bytes: &[u8], cycle: u32, phase: u8, store: &mut Store, commands: &mut Commands) -> Option<Code>
+    requires phase { (2 ≤ phase) × (phase ≤ 4) }
+    requires set { are_commands_of store.old commands.old ≡ true }
+    ensures fault { option_map (λ code. code.raw) result ≡ put_fault (find_block idn.raw store.old) phase bytes.now }
+    ensures blocks { store.new ≡ blocks_with (unless (put_fault (find_block idn.raw store.old) phase bytes.now) (record { cycle = cycle; raw = idn.raw; bytes = bytes.now })) commands.old store.old }
+    ensures commands { commands.new ≡ commands_with (unless (put_fault (find_block idn.raw store.old) phase bytes.now) (record { cycle = cycle; raw = idn.raw; bytes = bytes.now })) store.old commands.old }
+    ensures calls { (rate time : ℕ) (h : List Call) → CommandsStandFor commands.old rate time h → newest h ≤ cycle →
+        CommandsStandFor commands.new rate time (calls_with (unless (put_fault (find_block idn.raw store.old) phase bytes.now) (record { cycle = cycle; raw = idn.raw; bytes = bytes.now })) store.old h) }
+    ensures set { are_commands_of store.new commands.new ≡ true }
+{
+    written_law();
+    let command = is_command(store, idn);
+    match store.put(idn, bytes, phase) {
+        Err(code) => Some(code),
+        Ok(()) => {
+            tell(commands, idn, command, bytes, cycle, store);
+            None
+        }
+    }
+}
