@@ -1,10 +1,13 @@
 //! What is carried on the service channel: steps and their answers, and the transfers that are made of them.
 #![tactic(auto)]
 
+mod progress;
 mod request;
 mod shape;
 mod step;
+mod transfer;
 
 pub use request::{Job, Outcome, Request};
 pub use shape::Shape;
 pub use step::{Answer, Step};
+pub use transfer::Transfer;
