@@ -1,1 +1,4 @@
 pub mod Worked
+pub mod Flags
+pub mod Runs
+pub mod ReadWords

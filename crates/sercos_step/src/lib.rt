@@ -2,6 +2,7 @@
 #![tactic(auto)]
 
 mod progress;
+mod reading;
 mod request;
 mod shape;
 mod step;
