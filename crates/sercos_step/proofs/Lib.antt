@@ -2,3 +2,4 @@ pub mod Worked
 pub mod Flags
 pub mod Runs
 pub mod ReadWords
+pub mod WrittenWords

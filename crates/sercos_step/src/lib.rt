@@ -7,6 +7,7 @@ mod request;
 mod shape;
 mod step;
 mod transfer;
+mod writing;
 
 pub use request::{Job, Outcome, Request};
 pub use shape::Shape;
