@@ -6,3 +6,4 @@ pub mod WrittenWords
 pub mod ReadProgress
 pub mod WriteProgress
 pub mod CommandProgress
+pub mod Answered
