@@ -1,5 +1,5 @@
 -- A transfer that goes on, over one more answer.
-use Rattle.std.proofs.Common.{◌≡◌, ℕ, suc, Bool, true, false, List, [], ◌∷◌, ◌++◌, length, refl, sym, ◌∙◌, arith, if◌then◌else◌}
+use Rattle.std.proofs.Common.{◌≡◌, ℕ, suc, Bool, true, false, List, [], ◌∷◌, ◌++◌, refl, sym, ◌∙◌, arith, if◌then◌else◌}
 use Rattle.std.specs.Prelude.{Option, Some, None, is_some, nat_le}
 use Rattle.std.proofs.lemmas.Bool.Decides.{nat_tests}
 use Rattle.sercos_step.specs.declared.step.Answer.{Answer}
@@ -7,7 +7,7 @@ use Rattle.sercos_step.specs.declared.request.Request.{Request}
 use Rattle.sercos_step.specs.declared.request.Request.TheVariants as request
 use Rattle.sercos_step.specs.declared.request.Outcome.{Outcome}
 use Rattle.sercos_step.specs.declared.request.Outcome.TheVariants as outcome
-use Rattle.sercos_step.specs.Steps.{steps_of, is_whole, answer_words, outcome_of, result_of}
+use Rattle.sercos_step.specs.Steps.{is_whole, answer_words, outcome_of, result_of}
 use Rattle.sercos_step.specs.Kept.{ProgressView, IsAfterAnswer, TransferView, TransferStandsFor}
 
 never : (n : ℕ) → nat_le (suc n) 0 ≡ false
@@ -42,8 +42,8 @@ complete r h a bytes e w b = rw (e, w, b) refl
 pub stands_on : (v : TransferView) (progress : ProgressView) (r : Request) (h : List Answer) (a : Answer) → TransferStandsFor v r h → v.done ≡ false → a.error ≡ false → IsAfterAnswer r progress (answer_words h ++ a.word ∷ []) false →
     TransferStandsFor (record { request = v.request; progress = progress; done = v.done }) r (a ∷ h)
 stands_on v progress r h a s d e after = record {
-    request_is = s.request_is;
-    in_turn = (s.in_turn, some_none (outcome_of r h) (sym s.done_is ∙ d));
-    done_is = d ∙ rw (goes_on a.error (is_whole r (answer_words h ++ a.word ∷ [])) _ _ e (sym after.whole_is)) refl;
-    at_work = λ _. after.goes_on refl;
-  }
+  request_is = s.request_is;
+  in_turn = (s.in_turn, some_none (outcome_of r h) (sym s.done_is ∙ d));
+  done_is = d ∙ rw (goes_on a.error (is_whole r (answer_words h ++ a.word ∷ [])) _ _ e (sym after.whole_is)) refl;
+  at_work = λ _. after.goes_on refl;
+}

@@ -1,6 +1,6 @@
 -- The data statuses of a command: its next step, and one more answer.
 use Rattle.std.proofs.Common.{◌≡◌, ℕ, suc, ◌+◌, ◌-◌, ◌<◌, ◌≤◌, true, false, List, [], ◌∷◌, ◌++◌, length, refl, sym, ◌∙◌, arith, inl, inr, if◌then◌else◌, length-append}
-use Rattle.std.specs.Prelude.{Some, slice_get, slice_index, nat_le, ◌==◌, ◌&&◌}
+use Rattle.std.specs.Prelude.{Some, slice_get, slice_index, nat_le, ◌==◌}
 use Rattle.std.proofs.Math.Seq.{get_or-append_seam}
 use Rattle.std.proofs.Math.ListN.{get_or-append}
 use Rattle.std.proofs.lemmas.Bool.Decides.{nat_tests}
@@ -19,25 +19,25 @@ polling_at [] h = refl
 polling_at (s ∷ []) h = elim (chosen (s == 7)) [
   | inl e ↦ rw e refl
   | inr e ↦ rw e refl
-  ]
+]
 polling_at (s ∷ t ∷ words) h = elim (chosen (s == 7)) [
   | inl e ↦ (let g : nat_le (length (polling (t ∷ words))) (length (t ∷ words)) ≡ false = fewer _ _ (rw e at h) in rw e (polling_at (t ∷ words) g))
   | inr e ↦ (let g = rw e at h in absurd (two_behind _ g))
-  ]
+]
 
 -- an answer while the command is running, and one to its cancelling
 runs_on : (words : List ℕ) (w : ℕ) → is_running words ≡ true → nat_le (length (polling (words ++ w ∷ []))) (length (words ++ w ∷ [])) ≡ false
 runs_on [] w h = elim (chosen (w == 7)) [
   | inl e ↦ rw e refl
   | inr e ↦ rw e refl
-  ]
+]
 runs_on (s ∷ words) w h = let e = and_left (s == 7) (is_running words) h in rw e (suc-false _ _ (runs_on words w (and_right (s == 7) (is_running words) h)))
 
 is_running-append : (words : List ℕ) (w : ℕ) → is_running words ≡ true → is_running (words ++ w ∷ []) ≡ (w == 7)
 is_running-append [] w h = elim (chosen (w == 7)) [
   | inl e ↦ rw e refl
   | inr e ↦ rw e refl
-  ]
+]
 is_running-append (s ∷ words) w h = let e = and_left (s == 7) (is_running words) h in rw e (is_running-append words w (and_right (s == 7) (is_running words) h))
 
 ends_after : (words : List ℕ) (w : ℕ) → nat_le (length (polling words)) (length words) ≡ false → is_running words ≡ false → nat_le (length (polling (words ++ w ∷ []))) (length (words ++ w ∷ [])) ≡ true
@@ -45,12 +45,12 @@ ends_after [] w h g = cc
 ends_after (s ∷ []) w h g = elim (chosen (s == 7)) [
   | inl e ↦ (let g' : true ≡ false = rw e at g in cc)
   | inr e ↦ rw e refl
-  ]
+]
 ends_after (s ∷ t ∷ words) w h g = elim (chosen (s == 7)) [
   | inl e ↦ (let h' : nat_le (length (polling (t ∷ words))) (length (t ∷ words)) ≡ false = fewer _ _ (rw e at h) in
       let g' : is_running (t ∷ words) ≡ false = rw e at g in rw e (suc-true _ _ (ends_after (t ∷ words) w h' g')))
   | inr e ↦ (let h' = rw e at h in absurd (two_behind _ h'))
-  ]
+]
 
 module _ (idn : Idn) (p : ProgressView) where
   command_next : (words : List ℕ) → IsAtCommand p words → is_whole (request.Command idn) words ≡ false →
@@ -62,7 +62,7 @@ module _ (idn : Idn) (p : ProgressView) where
       elim (chosen (is_running statuses)) [
         | inl e ↦ (let n : p.count ≡ 2 = rw e at at.count_is in rw (n, polling_at statuses w', e) refl)
         | inr e ↦ (let n : p.count ≡ 3 = rw e at at.count_is in rw (n, polling_at statuses w', e) refl)
-        ]
+      ]
 
   -- the step that reads the data status, and the one that cancels
   pub command_reads : (words : List ℕ) → IsAtCommand p words → is_whole (request.Command idn) words ≡ false → p.count ≡ 2 →
@@ -99,7 +99,7 @@ module _ (idn : Idn) (p : ProgressView) (w : ℕ) where
     | inl e ↦ (let m : p.count ≡ 2 = rw e at at.count_is in
         (rw (m, is_running-append statuses w e) refl, sym (suc-false _ _ (suc-false _ _ (runs_on statuses w e)))))
     | inr e ↦ (let m : p.count ≡ 3 = rw e at at.count_is in absurd (omega arith))
-    ]
+  ]
 
   -- an answer to a command that goes on, and the last one
   pub command_goes_on : (words : List ℕ) → IsAtCommand p words → is_whole (request.Command idn) words ≡ false → p.count ≤ 2 →
@@ -115,8 +115,8 @@ module _ (idn : Idn) (p : ProgressView) (w : ℕ) where
   command_ends (o ∷ s ∷ statuses) at g n = elim (chosen (is_running statuses)) [
     | inl e ↦ (let m : p.count ≡ 2 = rw e at at.count_is in absurd (omega arith))
     | inr e ↦ record {
-        whole_is = sym (suc-true _ _ (suc-true _ _ (ends_after statuses w (fewer _ _ (fewer _ _ g)) e)));
-        goes_on = λ h. cc;
-        ended = λ h. at.status_is ∙ newest_before (o ∷ s ∷ statuses) w (omega arith);
-      }
-    ]
+      whole_is = sym (suc-true _ _ (suc-true _ _ (ends_after statuses w (fewer _ _ (fewer _ _ g)) e)));
+      goes_on = λ h. cc;
+      ended = λ h. at.status_is ∙ newest_before (o ∷ s ∷ statuses) w (omega arith);
+    }
+  ]

@@ -1,5 +1,5 @@
 -- One more word of an element that is read.
-use Rattle.std.proofs.Common.{◌≡◌, ℕ, zero, suc, ◌+◌, ◌-◌, ◌%◌, ◌/◌, ◌<◌, ◌≤◌, true, false, List, [], ◌∷◌, ◌++◌, length, refl, ap, sym, ◌∙◌, arith, min, if◌then◌else◌, length-append}
+use Rattle.std.proofs.Common.{◌≡◌, ℕ, zero, suc, ◌-◌, ◌%◌, ◌/◌, ◌<◌, ◌≤◌, true, false, List, [], ◌∷◌, ◌++◌, length, refl, ap, sym, ◌∙◌, arith, min, if◌then◌else◌, length-append}
 use Rattle.std.specs.Prelude.{Some, slice_get, slice_index, nat_le, take, ◌==◌}
 use Rattle.std.proofs.lemmas.Bool.Decides.{nat_tests}
 use Rattle.std.proofs.lemmas.List.{length-take}
@@ -90,3 +90,13 @@ module _ (e place word : ℕ) where
     bytes_is = (let fits : length bytes ≤ most_kept s first = rw (b, f) (kept_fits s e word words h) in kept fits) ∙ rw (b, f) (kept_after s words p h);
     whole_is = rw f (whole_after s words p);
   }
+
+pub some_read : (s : Shape) (e : ℕ) → 0 < length (reading s e [])
+some_read shape.One e = omega arith
+some_read shape.Two e = omega arith
+some_read shape.List e = omega arith
+
+pub none_kept : (s : Shape) → bytes_read s [] ≡ []
+none_kept shape.One = refl
+none_kept shape.Two = refl
+none_kept shape.List = refl

@@ -1,5 +1,5 @@
 -- The steps of a run, by place.
-use Rattle.std.proofs.Common.{◌≡◌, ℕ, zero, suc, ◌+◌, ◌<◌, Bool, true, false, List, [], ◌∷◌, length, refl, ap, arith}
+use Rattle.std.proofs.Common.{◌≡◌, ℕ, zero, suc, ◌<◌, Bool, false, List, [], ◌∷◌, length, refl, ap, arith}
 use Rattle.std.specs.Prelude.{Some, slice_get, slice_index, replicate, nat_le}
 use Rattle.std.proofs.Math.Dec.{leb-suc-suc}
 use Rattle.std.proofs.lemmas.Bool.Decides.{nat_tests}

@@ -196,12 +196,22 @@ impl Progress {
             return opening(idn);
         }
         if element != 7 {
-            return writing_step(shape_of(element, 0), element, bytes.as_slice(), self.count - 1);
+            return writing_step(
+                shape_of(element, 0),
+                element,
+                bytes.as_slice(),
+                self.count - 1,
+            );
         }
         if self.count < 3 {
             return attribute_step(self.count == 2);
         }
-        writing_step(shape_of(7, self.attribute()), 7, bytes.as_slice(), self.count - 3)
+        writing_step(
+            shape_of(7, self.attribute()),
+            7,
+            bytes.as_slice(),
+            self.count - 3,
+        )
     }
 
     // The next step of a command.
@@ -220,5 +230,54 @@ impl Progress {
             return status_step();
         }
         command_word(0)
+    }
+
+    // Keeps an answer to a read, and says whether it was the last.
+    pub fn read_answer(&mut self, element: u8, word: u16) -> bool
+        ensures { (idn : Idn) (words : List ℕ) → IsAtRead self.old element words → is_whole (Request.Read idn element) words ≡ false →
+            IsAtRead self.new element (words ++ word ∷ []) × (result ≡ is_whole (Request.Read idn element) (words ++ word ∷ [])) }
+    {
+        let count = self.count;
+        let before = steps_before(element);
+        if count < before {
+            self.keep_attribute(word);
+            self.count = count + 1;
+            return false;
+        }
+        let shape = shape_of(element, self.attribute());
+        let whole = keep_word(
+            shape,
+            count - before,
+            word,
+            &mut self.first,
+            &mut self.bytes,
+        );
+        self.count = count.saturating_add(1);
+        whole
+    }
+
+    // Keeps an answer to a write, and says whether it was the last.
+    pub fn write_answer(&mut self, element: u8, bytes: &Bytes, word: u16) -> bool
+        ensures { (idn : Idn) (words : List ℕ) → IsAtWrite self.old words → is_whole (Request.Write idn element bytes.now) words ≡ false →
+            IsAtWrite self.new (words ++ word ∷ []) × (result ≡ is_whole (Request.Write idn element bytes.now) (words ++ word ∷ [])) }
+    {
+        let count = self.count;
+        let attribute = self.attribute();
+        self.keep_attribute(word);
+        self.count = count.saturating_add(1);
+        ends_write(element, attribute, bytes.as_slice(), count)
+    }
+
+    // Keeps an answer to a command, and says whether it was the last, to the cancelling.
+    pub fn command_answer(&mut self, word: u16) -> bool
+        ensures { (idn : Idn) (words : List ℕ) → IsAtCommand self.old words → is_whole (Request.Command idn) words ≡ false →
+            IsAfterCommand idn self.new (words ++ word ∷ []) result }
+    {
+        if self.count > 2 {
+            return true;
+        }
+        self.status = word;
+        self.count = count_with(self.count, word);
+        false
     }
 }

@@ -10,11 +10,7 @@ use crate::step::Step;
 fn byte_at(bytes: &[u8], place: usize) -> u8
     ensures { result ≡ slice_index bytes.now place }
 {
-    if place < bytes.len() {
-        bytes[place]
-    } else {
-        0
-    }
+    if place < bytes.len() { bytes[place] } else { 0 }
 }
 
 // The word of two bytes, the low byte first.

@@ -1,4 +1,4 @@
-use Rattle.std.proofs.Common.{◌∙◌, ap, sym}
+use Rattle.std.proofs.Common.{◌∙◌, ap}
 use Rattle.std.specs.Prelude.{Some}
 use Rattle.sercos_step.specs.declared.step.Step.{Step}
 use Rattle.sercos_step.proofs.CommandProgress.{command_reads, command_cancels}
