@@ -7,3 +7,6 @@ pub mod ReadProgress
 pub mod WriteProgress
 pub mod CommandProgress
 pub mod Answered
+pub mod KnownSteps
+pub mod Ends
+pub mod ReadBack
