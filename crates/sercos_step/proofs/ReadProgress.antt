@@ -10,13 +10,17 @@ use Rattle.sercos_step.specs.declared.request.Request.TheVariants as request
 use Rattle.sercos_step.specs.Words.{shape_of, bytes_read}
 use Rattle.sercos_step.specs.Steps.{reading, asks_attribute, steps_before, steps_of, is_whole}
 use Rattle.sercos_step.specs.Kept.{ProgressView, IsAtRead, with_attribute, IsAfterWord}
-use Rattle.sercos_step.proofs.Flags.{chosen, less_1, less_3}
+use Rattle.sercos_step.proofs.Flags.{chosen, less_1, less_3, not_yet_1, not_yet_3}
 use Rattle.sercos_step.proofs.ReadWords.{few_read, some_read, none_kept}
 
 -- the next step, from the one that the element's own words give
 module _ (idn : Idn) (e : ℕ) (p : ProgressView) (s : Shape) (r : Step) (laid : s ≡ shape_of e (p.low + 65536 * p.high)) where
+  -- the step is the next of the element's own, behind so many others
+  abbrev IsNextBehind : ℕ → Type 0
+  IsNextBehind before = (ws : List ℕ) → p.count - before ≡ length ws → p.first ≡ slice_index ws 0 → length ws < length (reading s e ws) → Some r ≡ slice_get (reading s e ws) (length ws)
+
   flat_next : asks_attribute e ≡ false → (words : List ℕ) → IsAtRead p e words → is_whole (request.Read idn e) words ≡ false → 1 ≤ p.count →
-      ((ws : List ℕ) → p.count - 1 ≡ length ws → p.first ≡ slice_index ws 0 → length ws < length (reading s e ws) → Some r ≡ slice_get (reading s e ws) (length ws)) →
+      IsNextBehind 1 →
       Some r ≡ slice_get (steps_of (request.Read idn e) words) (length words)
   flat_next asks [] at w n next = absurd (omega (arith, at.count_is))
   flat_next asks (opened ∷ rest) at w n next =
@@ -26,7 +30,7 @@ module _ (idn : Idn) (e : ℕ) (p : ProgressView) (s : Shape) (r : Step) (laid :
       rw asks (rw laid0 at g)
 
   deep_next : asks_attribute e ≡ true → (words : List ℕ) → IsAtRead p e words → is_whole (request.Read idn e) words ≡ false → 3 ≤ p.count →
-      ((ws : List ℕ) → p.count - 3 ≡ length ws → p.first ≡ slice_index ws 0 → length ws < length (reading s e ws) → Some r ≡ slice_get (reading s e ws) (length ws)) →
+      IsNextBehind 3 →
       Some r ≡ slice_get (steps_of (request.Read idn e) words) (length words)
   deep_next asks [] at w n next = absurd (omega (arith, at.count_is))
   deep_next asks (opened ∷ []) at w n next = absurd (omega (arith, at.count_is))
@@ -40,7 +44,7 @@ module _ (idn : Idn) (e : ℕ) (p : ProgressView) (s : Shape) (r : Step) (laid :
       rw asks (rw laid_here at g)
 
   pub read_next : (words : List ℕ) → IsAtRead p e words → is_whole (request.Read idn e) words ≡ false → steps_before e ≤ p.count →
-      ((ws : List ℕ) → p.count - steps_before e ≡ length ws → p.first ≡ slice_index ws 0 → length ws < length (reading s e ws) → Some r ≡ slice_get (reading s e ws) (length ws)) →
+      IsNextBehind (steps_before e) →
       Some r ≡ slice_get (steps_of (request.Read idn e) words) (length words)
   read_next words at w n next = elim (chosen (asks_attribute e)) [
     | inl asks ↦ deep_next asks words at w (rw asks at n) (rw asks at next)
@@ -48,12 +52,16 @@ module _ (idn : Idn) (e : ℕ) (p : ProgressView) (s : Shape) (r : Step) (laid :
   ]
 
 module _ (idn : Idn) (e word : ℕ) (p : ProgressView) (s : Shape) (first : ℕ) (bytes : List ℕ) (whole : Bool) (count : ℕ) (counted : count ≡ min (p.count + 1) 65535) (laid : s ≡ shape_of e (p.low + 65536 * p.high)) where
+  -- one more of the element's own words is kept, behind so many others
+  abbrev IsAfterBehind : ℕ → Type 0
+  IsAfterBehind before = (ws : List ℕ) → p.count - before ≡ length ws → p.first ≡ slice_index ws 0 → p.bytes ≡ bytes_read s ws → length ws < length (reading s e ws) → IsAfterWord s e (ws ++ word ∷ []) first bytes whole
+
   abbrev next : ProgressView
   next = record { count = count; low = p.low; high = p.high; first = first; bytes = bytes; status = p.status }
 
   -- without an attribute
   flat : asks_attribute e ≡ false → (words : List ℕ) → IsAtRead p e words → is_whole (request.Read idn e) words ≡ false → 1 ≤ p.count →
-      ((ws : List ℕ) → p.count - 1 ≡ length ws → p.first ≡ slice_index ws 0 → p.bytes ≡ bytes_read s ws → length ws < length (reading s e ws) → IsAfterWord s e (ws ++ word ∷ []) first bytes whole) →
+      IsAfterBehind 1 →
       IsAtRead next e (words ++ word ∷ []) × (whole ≡ is_whole (request.Read idn e) (words ++ word ∷ []))
   flat asks [] at w n after = absurd (omega (arith, at.count_is))
   flat asks (opened ∷ rest) at w n after =
@@ -78,7 +86,7 @@ module _ (idn : Idn) (e word : ℕ) (p : ProgressView) (s : Shape) (first : ℕ)
 
   -- behind an attribute
   deep : asks_attribute e ≡ true → (words : List ℕ) → IsAtRead p e words → is_whole (request.Read idn e) words ≡ false → 3 ≤ p.count →
-      ((ws : List ℕ) → p.count - 3 ≡ length ws → p.first ≡ slice_index ws 0 → p.bytes ≡ bytes_read s ws → length ws < length (reading s e ws) → IsAfterWord s e (ws ++ word ∷ []) first bytes whole) →
+      IsAfterBehind 3 →
       IsAtRead next e (words ++ word ∷ []) × (whole ≡ is_whole (request.Read idn e) (words ++ word ∷ []))
   deep asks [] at w n after = absurd (omega (arith, at.count_is))
   deep asks (opened ∷ []) at w n after = absurd (omega (arith, at.count_is))
@@ -104,18 +112,12 @@ module _ (idn : Idn) (e word : ℕ) (p : ProgressView) (s : Shape) (first : ℕ)
       )
 
   pub read_more : (words : List ℕ) → IsAtRead p e words → is_whole (request.Read idn e) words ≡ false → steps_before e ≤ p.count →
-      ((ws : List ℕ) → p.count - steps_before e ≡ length ws → p.first ≡ slice_index ws 0 → p.bytes ≡ bytes_read s ws → length ws < length (reading s e ws) → IsAfterWord s e (ws ++ word ∷ []) first bytes whole) →
-      IsAtRead (record { count = count; low = p.low; high = p.high; first = first; bytes = bytes; status = p.status }) e (words ++ word ∷ []) × (whole ≡ is_whole (request.Read idn e) (words ++ word ∷ []))
+      IsAfterBehind (steps_before e) →
+      IsAtRead next e (words ++ word ∷ []) × (whole ≡ is_whole (request.Read idn e) (words ++ word ∷ []))
   read_more words at w n after = elim (chosen (asks_attribute e)) [
     | inl asks ↦ deep asks words at w (rw asks at n) (rw asks at after)
     | inr asks ↦ flat asks words at w (rw asks at n) (rw asks at after)
   ]
-
-not_yet_1 : (n : ℕ) → 0 < n → false ≡ nat_le (suc n) 1
-not_yet_1 n h = grind (arith, nat_tests)
-
-not_yet_3 : (n : ℕ) → 0 < n → false ≡ nat_le (suc (suc (suc n))) 3
-not_yet_3 n h = grind (arith, nat_tests)
 
 -- an answer before the element's own words
 module _ (idn : Idn) (e word : ℕ) (p : ProgressView) where

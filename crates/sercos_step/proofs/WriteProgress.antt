@@ -9,7 +9,7 @@ use Rattle.sercos_step.specs.declared.request.Request.TheVariants as request
 use Rattle.sercos_step.specs.Words.{shape_of, words_told}
 use Rattle.sercos_step.specs.Steps.{opening, run, writing, attribute_then, steps_of, is_whole}
 use Rattle.sercos_step.specs.Kept.{ProgressView, IsAtWrite, with_attribute, ends_write}
-use Rattle.sercos_step.proofs.Flags.{less_1, less_3}
+use Rattle.sercos_step.proofs.Flags.{less_1, less_3, not_yet_3}
 use Rattle.sercos_step.proofs.Runs.{length-run}
 use Rattle.sercos_step.proofs.WrittenWords.{few_told, some_told}
 
@@ -40,9 +40,6 @@ module _ (idn : Idn) (e : ℕ) (bytes : List ℕ) (count : ℕ) (s : Shape) (b :
       let place : count - 3 ≡ length rest = omega arith in
       let f' = rw (place, li, bi) at f in
       rw n (f' less)
-
-three_more : (n : ℕ) → 0 < n → false ≡ nat_le (suc (suc (suc n))) 3
-three_more n h = grind (arith, nat_tests)
 
 flag_one : (n k : ℕ) → nat_le n k ≡ nat_le (suc n) (k + 1)
 flag_one n k = grind (arith, nat_tests)
@@ -93,7 +90,7 @@ module _ (idn : Idn) (e : ℕ) (bytes : List ℕ) (word : ℕ) (fits : length by
   ends true (o ∷ []) low high count l h c = rw c refl
   ends true (o ∷ a ∷ []) low high count l h c =
       let some = some_told (shape_of 7 (a + 65536 * word)) bytes in
-      rw (c, length-run true 7 (words_told (shape_of 7 (a + 65536 * word)) bytes)) (three_more _ some)
+      rw (c, length-run true 7 (words_told (shape_of 7 (a + 65536 * word)) bytes)) (not_yet_3 _ some)
   ends true (o ∷ a ∷ b ∷ rest) low high count l h c =
       rw (l, h, c, length-run true 7 (words_told (shape_of 7 (a + 65536 * b)) bytes), length-append) (flag_three _ (suc (suc (suc (length rest)))) (omega arith))
 

@@ -20,7 +20,7 @@ words_of-at (x ∷ y ∷ bytes) (suc k) =
     let e : 2 * suc k ≡ suc (suc (2 * k)) = omega arith in
     let f : 2 * suc k + 1 ≡ suc (suc (2 * k + 1)) = omega arith in rw (f, e) (words_of-at bytes k)
 
-pub length-words_of : (bytes : List ℕ) → (length bytes + 1) / 2 ≡ length (words_of bytes)
+length-words_of : (bytes : List ℕ) → (length bytes + 1) / 2 ≡ length (words_of bytes)
 length-words_of [] = refl
 length-words_of (x ∷ []) = refl
 length-words_of (x ∷ y ∷ bytes) = let i = length-words_of bytes in omega (arith, i)
@@ -28,11 +28,6 @@ length-words_of (x ∷ y ∷ bytes) = let i = length-words_of bytes in omega (ar
 length-at_least_one : (words : List ℕ) → max (length words) 1 ≡ length (at_least_one words)
 length-at_least_one [] = refl
 length-at_least_one (w ∷ words) = omega arith
-
-pub at_least_one-at : (words : List ℕ) (k : ℕ) → slice_index words k ≡ slice_index (at_least_one words) k
-at_least_one-at [] zero = refl
-at_least_one-at [] (suc k) = refl
-at_least_one-at (w ∷ words) k = refl
 
 -- how many words there are: of a list, and of a value
 pub length-told_list : (bytes : List ℕ) → 2 + (length bytes + 1) / 2 ≡ length (words_told shape.List bytes)

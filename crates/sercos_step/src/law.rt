@@ -9,9 +9,9 @@ ghost use Rattle.sercos_step.specs.declared.request.Request.TheVariants as reque
 ghost use Rattle.sercos_step.specs.Words.{words_told, bytes_read};
 ghost use Rattle.sercos_step.specs.Steps.{steps_of, next_step, outcome_of, AreAnswers};
 
-/// Laws and no code. A step that was known stays as it was, whatever words come after; a transfer that goes on has a next
-/// step; a read and a write end after 517 answers at most; and what was
-/// written reads back: a list of at most 1024 bytes, and a value of an even number of bytes.
+/// Laws and no code. A step that was known stays as it was, whatever word comes after it. A transfer that goes on has a next
+/// step. A read and a write end with their 517th answer at the latest. What is written reads back: a list of at most 1024
+/// bytes, and a value of an even number of bytes.
 pub fn steps_law()
     ensures known { (r : Request) (words : List ℕ) (word k : ℕ) → k ≤ length words →
         slice_get (steps_of r (words ++ word ∷ [])) k ≡ slice_get (steps_of r words) k }

@@ -132,9 +132,10 @@ impl Progress {
         }
     }
 
-    // The bytes that were read.
+    // Takes out the bytes that were read.
     pub fn take_bytes(&mut self) -> Bytes
-        ensures { result ≡ self.old.bytes }
+        ensures value { result ≡ self.old.bytes }
+        ensures rest { self.new ≡ record self.old { bytes = [] } }
     {
         mem::replace(&mut self.bytes, Bytes::new())
     }
