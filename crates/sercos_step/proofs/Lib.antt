@@ -1,1 +1,12 @@
 pub mod Worked
+pub mod Flags
+pub mod Runs
+pub mod ReadWords
+pub mod WrittenWords
+pub mod ReadProgress
+pub mod WriteProgress
+pub mod CommandProgress
+pub mod Answered
+pub mod KnownSteps
+pub mod Ends
+pub mod ReadBack

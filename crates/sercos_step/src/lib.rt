@@ -1,10 +1,17 @@
 //! What is carried on the service channel: steps and their answers, and the transfers that are made of them.
 #![tactic(auto)]
 
+mod law;
+mod progress;
+mod reading;
 mod request;
 mod shape;
 mod step;
+mod transfer;
+mod writing;
 
+pub use law::steps_law;
 pub use request::{Job, Outcome, Request};
 pub use shape::Shape;
 pub use step::{Answer, Step};
+pub use transfer::Transfer;

@@ -1,4 +1,8 @@
 // How the words of an element are laid out.
+ghost use Rattle.std.specs.Prelude.{◌≡◌, ℕ, ◌≤◌};
+ghost use Rattle.sercos_step.specs.Words.{length_said, shape_by, as_value, shape_of, words_in};
+
+use sercos_idn::{Attribute, Length};
 
 /// How the words of an element are laid out.
 #[derive(Clone, Copy, Debug, PartialEq, Eq)]
@@ -9,4 +13,63 @@ pub enum Shape {
     Two,
     /// The length in bytes, the greatest length, and then the bytes two by two.
     List,
+}
+
+// The most bytes of a list that are read.
+pub const MOST: u16 = 1024;
+
+// The length that the word of an attribute says. A word that is none is handled as that of a value of two bytes.
+fn length_said(word: u32) -> Length
+    ensures { result ≡ length_said word }
+{
+    match Attribute::read(word) {
+        Ok(attribute) => attribute.length,
+        Err(_) => Length::Two,
+    }
+}
+
+// The shape of operation data.
+fn shape_by(length: Length) -> Shape
+    ensures { result ≡ shape_by length }
+{
+    match length {
+        Length::Two => Shape::One,
+        Length::Four => Shape::Two,
+        Length::List1 | Length::List2 | Length::List4 => Shape::List,
+    }
+}
+
+// The shape of a minimum or a maximum of such operation data: they are no lists.
+fn as_value(shape: Shape) -> Shape
+    ensures { result ≡ as_value shape }
+{
+    match shape {
+        Shape::List => Shape::One,
+        Shape::One | Shape::Two => shape,
+    }
+}
+
+// The shape of an element, 1 to 7, under the word of the attribute.
+pub fn shape_of(element: u8, word: u32) -> Shape
+    ensures { result ≡ shape_of element word }
+{
+    match element {
+        1 => Shape::One,
+        3 => Shape::Two,
+        2 | 4 => Shape::List,
+        7 => shape_by(length_said(word)),
+        _ => as_value(shape_by(length_said(word))),
+    }
+}
+
+// How many words an element has that is read, where the first of them is known.
+pub fn words_in(shape: Shape, first: u16) -> u16
+    ensures value { result ≡ words_in shape first }
+    ensures bound { (1 ≤ result) × (result ≤ 514) }
+{
+    match shape {
+        Shape::One => 1,
+        Shape::Two => 2,
+        Shape::List => 2 + (first.min(MOST) + 1) / 2,
+    }
 }

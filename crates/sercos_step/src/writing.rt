@@ -1,0 +1,70 @@
+// The words that write bytes to an element.
+ghost use Rattle.std.specs.Prelude.{◌≡◌, ℕ, ◌+◌, ◌*◌, ◌<◌, ◌≤◌, List, length, Some, slice_get, slice_index};
+ghost use Rattle.sercos_step.specs.Words.{words_of, words_told};
+ghost use Rattle.sercos_step.specs.Steps.{writing};
+
+use crate::shape::Shape;
+use crate::step::Step;
+
+// A byte, or 0 behind the last.
+fn byte_at(bytes: &[u8], place: usize) -> u8
+    ensures { result ≡ slice_index bytes.now place }
+{
+    if place < bytes.len() { bytes[place] } else { 0 }
+}
+
+// The word of two bytes, the low byte first.
+fn word_of(low: u8, high: u8) -> u16
+    ensures { result ≡ low + 256 * high }
+{
+    u16::from(low) + 256 * u16::from(high)
+}
+
+// The word at a place of the bytes taken two by two.
+fn word_at(bytes: &[u8], place: u16) -> u16
+    ensures { result ≡ slice_index (words_of bytes.now) place }
+{
+    let low = 2 * (place as usize);
+    word_of(byte_at(bytes, low), byte_at(bytes, low + 1))
+}
+
+// How many words write the bytes.
+pub fn told_count(shape: Shape, bytes: &[u8]) -> u16
+    requires { length bytes.now ≤ 1024 }
+    ensures { result ≡ length (words_told shape bytes.now) }
+{
+    let words = (bytes.len() as u16 + 1) / 2;
+    match shape {
+        Shape::List => 2 + words,
+        _ => words.max(1),
+    }
+}
+
+// The word at a place of those that write the bytes.
+fn told_at(shape: Shape, bytes: &[u8], place: u16) -> u16
+    requires { length bytes.now ≤ 1024 }
+    ensures { place < length (words_told shape bytes.now) → result ≡ slice_index (words_told shape bytes.now) place }
+{
+    match shape {
+        Shape::List => match place {
+            0 => bytes.len() as u16,
+            1 => 0,
+            _ => word_at(bytes, place - 2),
+        },
+        _ => word_at(bytes, place),
+    }
+}
+
+// The step that writes the word at a place.
+pub fn writing_step(shape: Shape, element: u8, bytes: &[u8], place: u16) -> Step
+    requires { length bytes.now ≤ 1024 }
+    ensures next { place < length (words_told shape bytes.now) → Some result ≡ slice_get (writing shape element bytes.now) place }
+    ensures element { result.element ≡ element }
+{
+    Step {
+        write: true,
+        last: told_count(shape, bytes) - 1 <= place,
+        element,
+        word: told_at(shape, bytes, place),
+    }
+}
