@@ -105,7 +105,7 @@ pub has_room : (blocks : List Block) (set : List SetCommand) → IsStore blocks 
 has_room blocks set is distinct all = omega (arith, few_commands blocks set distinct all, is.few)
 
 -- a write leaves the commands
-is_command-with_data : (raw other : ℕ) (bytes : List ℕ) (blocks : List Block) → is_command (with_data other bytes blocks) raw ≡ is_command blocks raw
+pub is_command-with_data : (raw other : ℕ) (bytes : List ℕ) (blocks : List Block) → is_command (with_data other bytes blocks) raw ≡ is_command blocks raw
 is_command-with_data raw other bytes [] = refl
 is_command-with_data raw other bytes (b ∷ blocks) = by (b.idn.raw == other) (b.idn.raw == raw) refl (is_command-with_data raw other bytes blocks)
   where

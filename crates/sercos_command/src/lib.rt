@@ -8,6 +8,8 @@ mod passed;
 mod rules;
 mod run;
 mod set;
+mod stored;
 
 pub use check::{check127, check128};
 pub use commands::{Commands, SetCommand};
+pub use stored::{is_command, stored_law};
