@@ -1,3 +1,4 @@
 mod SetLemmas
 mod CallLemmas
 mod CheckLemmas
+mod Worked

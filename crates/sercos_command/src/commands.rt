@@ -154,9 +154,7 @@ impl Commands {
         ensures view { self.new ≡ without_settings self.old }
         ensures stands { (rate time : ℕ) (h : List Call) → CommandsStandFor self.old rate time h → CommandsStandFor self.new rate time (Reset ∷ h) }
     {
-        self.set.clear();
-        self.passed_127 = None;
-        self.passed_128 = None;
+        *self = Commands::new(self.rate, self.time);
     }
 
     /// The data status of a command in a cycle: 0 not set, 7 running, 3 ended well, 15 ended with an error. A command runs

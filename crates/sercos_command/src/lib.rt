@@ -4,12 +4,12 @@
 mod carried;
 mod check;
 mod commands;
-mod law;
 mod passed;
 mod rules;
 mod run;
 mod set;
+mod stored;
 
 pub use check::{check127, check128};
 pub use commands::{Commands, SetCommand};
-pub use law::written_law;
+pub use stored::{is_command, stored_law};

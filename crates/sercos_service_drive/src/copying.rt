@@ -9,6 +9,7 @@ use sercos_bits::ByteList;
 use sercos_block::Store;
 use sercos_command::Commands;
 use sercos_idn::{Attribute, Code, Idn, Length};
+use sercos_step::byte_at;
 
 /// The most bytes of an element's words: a list of 1024 bytes, and its two lengths before it.
 pub(crate) const CAPACITY: usize = 1028;
@@ -57,13 +58,6 @@ fn copy_list(buffer: &mut Buffer, longest: u16, bytes: &[u8])
     push_word(buffer, bytes.len() as u16);
     push_word(buffer, longest);
     append(buffer, bytes);
-}
-
-// A byte, or 0 where there is none.
-pub(crate) fn byte_at(bytes: &[u8], place: usize) -> u8
-    ensures { result ≡ slice_index bytes.now place }
-{
-    if place < bytes.len() { bytes[place] } else { 0 }
 }
 
 // The bits of the number that bytes are.

@@ -6,20 +6,10 @@ ghost use Rattle.sercos_command.specs.Settings.{is_command, with_write, with_lis
 ghost use Rattle.sercos_command.specs.Calls.{Call, Wrote, Other, newest, CommandsStandFor};
 ghost use Rattle.sercos_service_drive.specs.Writes.{unless, blocks_with, commands_with, calls_with};
 
-use crate::copying::byte_at;
 use sercos_block::Store;
-use sercos_command::{Commands, written_law};
+use sercos_command::{Commands, is_command, stored_law};
 use sercos_idn::{Code, Idn};
-
-// Whether a block is a procedure command.
-fn is_command(store: &Store, idn: Idn) -> bool
-    ensures { result ≡ is_command store.now idn.raw }
-{
-    match store.attribute(idn) {
-        Ok(attribute) => attribute.command,
-        Err(_) => false,
-    }
-}
+use sercos_step::byte_at;
 
 // What is written to a procedure command.
 fn setting_in(bytes: &[u8]) -> u16
@@ -57,7 +47,7 @@ pub(crate) fn write_data(idn: Idn, bytes: &[u8], cycle: u32, phase: u8, store: &
         CommandsStandFor commands.new rate time (calls_with (unless (put_fault (find_block idn.raw store.old) phase bytes.now) (record { cycle = cycle; raw = idn.raw; bytes = bytes.now })) store.old h) }
     ensures set { are_commands_of store.new commands.new ≡ true }
 {
-    written_law();
+    stored_law();
     let command = is_command(store, idn);
     match store.put(idn, bytes, phase) {
         Err(code) => Some(code),

@@ -5,14 +5,14 @@ use Rattle.sercos_service_drive.proofs.writing.write_data.Goals as goal
 
 pub tell-requires-clause-command : goal.tell-requires-clause-command
 tell-requires-clause-command c = λ on.
-    rw c.in-Ok.ensures.ok (c.written_law.ensures.command c.args.idn.raw c.args.idn.raw c.args.bytes.now c.args.store.now ∙ sym c.is_command-command.ensures ∙ on)
+    rw c.in-Ok.ensures.ok (c.stored_law.ensures.command c.args.idn.raw c.args.idn.raw c.args.bytes.now c.args.store.now ∙ sym c.is_command-command.ensures ∙ on)
 
 pub tell-requires-clause-setting : goal.tell-requires-clause-setting
 tell-requires-clause-setting c = λ on.
     setting c.args.idn.raw c.args.phase c.args.bytes.now (find_block c.args.idn.raw c.args.store.now) c.in-Ok.ensures.fault (sym c.is_command-command.ensures ∙ on)
 
 pub tell-requires-clause-set : goal.tell-requires-clause-set
-tell-requires-clause-set c = rw c.in-Ok.ensures.ok (c.written_law.ensures.set c.args.idn.raw c.args.bytes.now c.args.store.now c.args.commands.now ∙ c.requires.set)
+tell-requires-clause-set c = rw c.in-Ok.ensures.ok (c.stored_law.ensures.set c.args.idn.raw c.args.bytes.now c.args.store.now c.args.commands.now ∙ c.requires.set)
 
 pub returns-in-Ok-clause-calls : goal.returns-in-Ok-clause-calls
 returns-in-Ok-clause-calls c = λ rate time h stood later.
