@@ -1,18 +1,15 @@
 -- What is written to a procedure command.
-use Rattle.std.proofs.Common.{◌≡◌, ℕ, ◌==◌, Bool, true, false, cond, not, ◌&&◌, ◌||◌, List, Option, Some, None, option_map, unwrap_or, ◌⊎◌, inl, inr, refl, arith}
+use Rattle.std.proofs.Common.{◌≡◌, ℕ, ◌==◌, Bool, true, false, cond, not, ◌&&◌, ◌||◌, List, Option, Some, None, option_map, unwrap_or, ◌⊎◌, arith}
 use Rattle.std.specs.Bool.{then_some}
 use Rattle.std.specs.Int.{w16, from_le_bytes}
-use Rattle.std.specs.Option.{option_or}
 use Rattle.std.proofs.lemmas.Bool.Decides.{nat_tests}
 use Rattle.sercos_model.proofs.FaultLemmas.{none_of-or, none_of-then}
-use Rattle.sercos_idn.specs.declared.attribute.Attribute.{Attribute}
 use Rattle.sercos_idn.specs.declared.kinds.Length.{Length}
 use Rattle.sercos_idn.specs.declared.kinds.Length.TheVariants.{Two}
 use Rattle.sercos_idn.specs.Codes.{is_list}
 use Rattle.sercos_block.specs.declared.block.Block.{Block}
-use Rattle.sercos_block.specs.Blocks.{bits_in, width_of}
-use Rattle.sercos_block.specs.Stores.{find_block, is_short, is_long, is_invalid, is_below, is_above, write_fault, data_fault, put_fault}
-use Rattle.sercos_command.specs.Settings.{is_command}
+use Rattle.sercos_block.specs.Blocks.{width_of}
+use Rattle.sercos_block.specs.Stores.{is_short, is_long, is_invalid, write_fault, data_fault, put_fault}
 
 setting_by : (length : Length) (command : Bool) (bytes : List ℕ) (other : Bool) → length ≡ Two → command ≡ true
     → (cond (is_list length) other (command && not ((from_le_bytes (width_of length) bytes == 0) || (from_le_bytes (width_of length) bytes == 3)))) ≡ false

@@ -1,10 +1,12 @@
 -- What a drive's end of a channel keeps, and the records that it stands for.
-use Rattle.std.specs.Prelude.{◌≡◌, ℕ, ◌<◌, ◌≤◌, ◌%◌, ◌==◌, nat_lt, nat_le, Bool, true, false, not, ◌&&◌, ◌||◌, if◌then◌else◌, List, [], ◌∷◌, length, min, slice_index, Option, Some, None, IfSome, option_map}
+use Rattle.std.specs.Prelude.{◌≡◌, ℕ, ◌+◌, ◌<◌, ◌≤◌, ◌%◌, ◌==◌, nat_lt, nat_le, Bool, true, false, not, ◌&&◌, ◌||◌, if◌then◌else◌, List, [], ◌∷◌, length, min, slice_index, Option, Some, None, IfSome, option_map}
 use Rattle.std.specs.Bool.{then_some}
 use Rattle.std.specs.Option.{option_or}
+use mathlib.Core.Bool.{beq}
 use Rattle.sercos_idn.specs.declared.idn.Idn.{Idn}
 use Rattle.sercos_idn.specs.declared.attribute.Attribute.{Attribute}
 use Rattle.sercos_idn.specs.Codes.{is_list, item_len}
+use Rattle.sercos_step.specs.declared.step.Step.{Step}
 use Rattle.sercos_step.specs.declared.step.Answer.{Answer}
 use Rattle.sercos_step.specs.Words.{words_of, bytes_in}
 use Rattle.sercos_block.specs.declared.block.Block.{Block}
@@ -13,8 +15,10 @@ use Rattle.sercos_block.specs.Stores.{find_block, write_fault}
 use Rattle.sercos_service_drive.specs.declared.session.Selection.{Selection}
 use Rattle.sercos_service_drive.specs.declared.channel.Last.{Last}
 use Rattle.sercos_service_drive.specs.Log.{Taken, Entry, ahs, opens, open_idn, run_before, selection, in_order}
-use Rattle.sercos_service_drive.specs.Replies.{words_by, words_wanted, copy, read_cause, reply_of, log_of}
-use Rattle.sercos_service_drive.specs.Writes.{AreAlike}
+use Rattle.sercos_service_drive.specs.Replies.{words_by, words_wanted, bytes_written, write_cause, copy, read_cause, reply_of, log_of}
+use Rattle.sercos_command.specs.Settings.{CommandsView}
+use Rattle.sercos_command.specs.Calls.{Call, newest, CommandsStandFor}
+use Rattle.sercos_service_drive.specs.Writes.{Write, AreAlike, unless, blocks_with, commands_with, calls_with}
 
 -- The run that a next step may go on: none behind an opening, a step of element 0, a last word or an error.
 abbrev pub ends_run : Entry → Bool
@@ -31,6 +35,20 @@ place_of run = min (length run) 65535
 abbrev pub selection_in : List Taken → Option Selection
 selection_in [] = None
 selection_in (t ∷ run) = Some (record { write = t.step.write; element = t.step.element; place = place_of (t ∷ run) })
+
+-- the part of a run that a step with this write bit and element goes on, and how many steps that are
+abbrev pub continued : Bool → ℕ → List Taken → List Taken
+continued write element [] = []
+continued write element (t ∷ run) = if beq t.step.write write && (t.step.element == element) then t ∷ run else []
+
+abbrev pub place_in : Option Selection → Bool → ℕ → ℕ
+place_in None write element = 0
+place_in (Some s) write element = if beq s.write write && (s.element == element) then s.place else 0
+
+-- the run with one step more, where it goes on
+abbrev pub selected : Bool → Step → ℕ → Option Selection
+selected true step place = None
+selected false step place = Some (record { write = step.write; element = step.element; place = min (place + 1) 65535 })
 
 -- what is kept of the identifier number that is open, and of the run: which it is, and its bytes
 pub record SessionView : Type 0 where
@@ -110,3 +128,27 @@ length_cause a most last count first =
 abbrev pub place_cause : Option Block → ℕ → Bool → ℕ → ℕ → Option ℕ
 place_cause None phase last count first = Some 0x1001
 place_cause (Some b) phase last count first = option_or (write_fault (Some b) phase) (length_cause b.attribute b.max_len last count first)
+
+-- these words were accepted before, in a run that goes on
+abbrev pub IsStarted : Block → List ℕ → Type 0
+IsStarted b [] = Unit {0}
+IsStarted b (word ∷ words) = IsMidway b (word ∷ words)
+
+-- what a write, if there is one, makes of the blocks and of the procedure commands
+pub record IsEffect (w : Option Write) (cycle : ℕ) (blocks blocks' : List Block) (commands commands' : CommandsView) : Type 0 where
+  pub blocks_is : blocks' ≡ blocks_with w commands blocks
+  pub commands_is : commands' ≡ commands_with w blocks commands
+  pub calls : (rate time : ℕ) (h : List Call) → CommandsStandFor commands rate time h → newest h ≤ cycle → CommandsStandFor commands' rate time (calls_with w blocks h)
+
+-- the write of the last word, where there is no cause against it
+abbrev pub write_by : Bool → Option ℕ → Write → Option Write
+write_by true code w = unless code w
+write_by false code w = None
+
+-- What a word of operation data comes to, where with it the run has these words: the code against it, if there is one; and
+-- if there is none, the bytes are kept, and the last word writes them.
+pub record IsWord (raw cycle phase : ℕ) (b : Block) (last : Bool) (words : List ℕ) (code : Option ℕ) (buffer : List ℕ) (blocks blocks' : List Block) (commands commands' : CommandsView) : Type 0 where
+  pub code_is : code ≡ write_cause b phase last words
+  pub buffer_is : code ≡ None → buffer ≡ bytes_in words
+  pub midway : code ≡ None → last ≡ false → IsMidway b words
+  pub effect : IsEffect (write_by last code (record { cycle = cycle; raw = raw; bytes = bytes_written b words })) cycle blocks blocks' commands commands'
