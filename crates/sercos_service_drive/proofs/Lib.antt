@@ -1,2 +1,4 @@
 pub mod WritingLemmas
+pub mod WordLemmas
+pub mod WordAnswers
 pub mod Worked

@@ -1,5 +1,6 @@
 // What the drive keeps between the steps of the service channel.
 ghost use Rattle.std.specs.Prelude.{◌≡◌, ℕ, ◌+◌, ◌≤◌, ◌<◌, ◌==◌, ◌&&◌, [], ◌∷◌, ◌++◌, List, length, take, drop, slice_index, if◌then◌else◌, true, false, Option, Some, None, is_some, option_map};
+ghost use Rattle.sercos_idn.specs.Codes.{is_list};
 ghost use Rattle.sercos_step.specs.Words.{bytes_in, words_of};
 ghost use Rattle.sercos_block.specs.declared.block.Block.{Block};
 ghost use Rattle.sercos_block.specs.Stores.{find_block};
@@ -145,4 +146,44 @@ fn written(bytes: &[u8], list: bool, count: u16) -> &[u8]
     }
     let behind = &bytes[bytes.len().min(4)..];
     &behind[..behind.len().min(usize::from(count))]
+}
+
+// Whether the operation data of a block is a list.
+fn is_list(store: &Store, idn: Idn) -> bool
+    ensures { (b : Block) → find_block idn.raw store.now ≡ Some b → result ≡ is_list b.attribute.length }
+{
+    match store.attribute(idn) {
+        Ok(attribute) => attribute.length.is_list(),
+        Err(_) => false,
+    }
+}
+
+// Puts a word behind the others of a run, where its block has room for it.
+fn keep_word(buffer: &mut Buffer, word: u16, store: &Store, idn: Idn)
+    ensures { (b : Block) (words : List ℕ) → find_block idn.raw store.now ≡ Some b → buffer.old ≡ bytes_in words → IsStarted b words → buffer.new ≡ bytes_in (words ++ word ∷ []) }
+{
+    let _most = store.max_len(idn);
+    push_word(buffer, word);
+}
+
+// Writes a word of operation data in a phase, 2 to 4, where the buffer has the words of the run before it. The code is the
+// first cause against it.
+fn write_word(buffer: &mut Buffer, place: u16, idn: Idn, cycle: u32, phase: u8, last: bool, word: u16, store: &mut Store, commands: &mut Commands) -> Option<Code>
+    requires phase { (2 ≤ phase) × (phase ≤ 4) }
+    requires set { are_commands_of store.old commands.old ≡ true }
+    ensures none { find_block idn.raw store.old ≡ None → (option_map (λ code. code.raw) result ≡ Some 0x1001) × (store.new ≡ store.old) × (commands.new ≡ commands.old) }
+    ensures word { (b : Block) (words : List ℕ) → find_block idn.raw store.old ≡ Some b → buffer.old ≡ bytes_in words → place ≡ length words → IsStarted b words →
+        IsWord idn.raw cycle phase b last (words ++ word ∷ []) (option_map (λ code. code.raw) result) buffer.new store.old store.new commands.old commands.new }
+    ensures set { are_commands_of store.new commands.new ≡ true }
+{
+    let first = first_word(buffer, place, word);
+    if let Some(code) = place_cause(store, idn, phase, last, u32::from(place) + 1, first) {
+        return Some(code);
+    }
+    keep_word(buffer, word, store, idn);
+    if !last {
+        return None;
+    }
+    let list = is_list(store, idn);
+    write_data(idn, written(buffer.as_slice(), list, first), cycle, phase, store, commands)
 }
