@@ -1,4 +1,6 @@
 pub mod WritingLemmas
 pub mod WordLemmas
 pub mod WordAnswers
+pub mod RunLemmas
+pub mod SessionLemmas
 pub mod Worked
