@@ -3,4 +3,5 @@ pub mod WordLemmas
 pub mod WordAnswers
 pub mod RunLemmas
 pub mod SessionLemmas
+pub mod ReadAnswers
 pub mod Worked
