@@ -4,4 +4,5 @@ pub mod WordAnswers
 pub mod RunLemmas
 pub mod SessionLemmas
 pub mod ReadAnswers
+pub mod WriteAnswers
 pub mod Worked
