@@ -1,5 +1,5 @@
 -- What each way to take a word of operation data comes to.
-use Rattle.std.proofs.Common.{◌≡◌, ℕ, ◌+◌, ◌*◌, ◌≤◌, ◌%◌, ◌/◌, ◌==◌, Bool, true, false, cond, List, [], ◌∷◌, ◌++◌, length, take, drop, Option, Some, None, refl, sym, ◌∙◌, arith, length-append}
+use Rattle.std.proofs.Common.{◌≡◌, ℕ, ◌+◌, ◌*◌, ◌≤◌, ◌%◌, ◌/◌, ◌==◌, Bool, true, false, cond, List, [], ◌∷◌, ◌++◌, length, min, take, drop, Option, Some, None, refl, sym, ◌∙◌, arith, length-append}
 use Rattle.std.specs.Prelude.{slice_index}
 use Rattle.std.proofs.lemmas.Bool.Decides.{nat_tests}
 use Rattle.sercos_idn.specs.Codes.{is_list}
@@ -11,7 +11,7 @@ use Rattle.sercos_command.specs.Calls.{Call, newest, CommandsStandFor}
 use Rattle.sercos_service_drive.specs.Replies.{bytes_written}
 use Rattle.sercos_service_drive.specs.Writes.{Write, unless, blocks_with, commands_with, calls_with}
 use Rattle.sercos_service_drive.specs.Kept.{place_cause, IsStarted, IsEffect, IsWord, write_by}
-use Rattle.sercos_service_drive.proofs.WordLemmas.{bytes_in-append, written-is, room, cause_is, has_passed, goes_on}
+use Rattle.sercos_service_drive.proofs.WordLemmas.{bytes_in-append, length-bytes_in, written-is, room, cause_is, has_passed, goes_on}
 
 halves : (word : ℕ) → word % 256 + 256 * (word / 256) ≡ word
 halves word = omega arith
@@ -35,6 +35,13 @@ pub at_place : {o : Option Block} {cause : Option ℕ} (b : Block) (phase : ℕ)
 at_place b phase last words word place first is there p f =
     let count : place + 1 ≡ length (words ++ word ∷ []) = rw length-append (omega (arith, p)) in
     is ∙ rw (there, count, f) refl
+
+-- as many words as were accepted fit into a word
+pub place_at : (b : Block) (words : List ℕ) (place most : ℕ) → b.max_len ≡ most → most ≤ 1024 → IsStarted b words → place ≡ min (length words) 65535 → place ≡ length words
+place_at b words place most is few started p =
+    let fits = room b words (rw is few) started in
+    let bytes = length-bytes_in words in
+    omega (arith, fits, bytes)
 
 pub written_at : (b : Block) (words : List ℕ) {list : Bool} {first : ℕ} {bytes slice buffer : List ℕ} → bytes ≡ cond list (take first (drop 4 slice)) slice → list ≡ is_list b.attribute.length
     → first ≡ slice_index words 0 → slice ≡ buffer → buffer ≡ bytes_in words → bytes ≡ bytes_written b words

@@ -1,14 +1,12 @@
 -- What a step that writes comes to.
-use Rattle.std.proofs.Common.{◌≡◌, ℕ, ◌+◌, ◌*◌, ◌≤◌, ◌==◌, Bool, true, false, cond, not, ◌&&◌, List, [], ◌∷◌, ◌++◌, length, map, min, Option, Some, None, IfSome, option_map, option_and_then, refl, ap, sym, ◌∙◌, arith}
-use Rattle.std.proofs.lemmas.Bool.Decides.{nat_tests}
-use Rattle.sercos_step.specs.declared.step.Answer.{Answer}
+use Rattle.std.proofs.Common.{◌≡◌, ℕ, ◌+◌, ◌*◌, ◌==◌, Bool, true, false, cond, not, ◌&&◌, List, [], ◌∷◌, ◌++◌, length, min, Option, Some, None, IfSome, refl, ap, sym, ◌∙◌, arith}
 use Rattle.sercos_step.specs.Words.{bytes_in}
 use Rattle.sercos_block.specs.declared.block.Block.{Block}
 use Rattle.sercos_block.specs.Stores.{find_block}
 use Rattle.sercos_command.specs.Settings.{CommandsView}
 use Rattle.sercos_service_drive.specs.Log.{Taken, Entry, opens, open_idn, run_before, in_order}
 use Rattle.sercos_service_drive.specs.Replies.{good, refused, answer_by, bytes_written, write_cause, write_cause_in, reply_of}
-use Rattle.sercos_service_drive.specs.Writes.{Write, without_data, AreAlike, adds, unless}
+use Rattle.sercos_service_drive.specs.Writes.{Write, without_data, AreAlike, adds}
 use Rattle.sercos_service_drive.specs.Kept.{run_of, place_of, continued, place_in, selected, SessionView, IsMidway, IsWriting, IsRun, HoldsRun, SessionStandsFor, GoesWith, IsAnswered, IsStarted, IsEffect, IsWord, write_by}
 use Rattle.sercos_service_drive.proofs.RunLemmas.{run_before-run_of, place_is, holds_continued, continued_bit, place_some}
 use Rattle.sercos_service_drive.proofs.SessionLemmas.{refused_step, good_step}
@@ -195,3 +193,40 @@ module _ (v : SessionView) (t : Taken) (log : List Entry) (raw : ℕ) (stood : S
       by : (last : Bool) (w : Option Write) → cond (last && false) w None ≡ None
       by true w = refl
       by false w = refl
+
+-- What was done with the word, whether the drive has the block or not.
+module _ (v : SessionView) (t : Taken) (log : List Entry) (raw : ℕ) (stood : SessionStandsFor v log) (open_is : open_idn log ≡ Some raw)
+    (writes : t.step.write ≡ true) (seven : t.step.element ≡ 7) (with : GoesWith t.blocks (run_of log))
+    (place : ℕ) (place_is_kept : place ≡ place_in v.selection true 7) (buffer buffer' : List ℕ) (started_is : buffer ≡ cond (place == 0) [] v.buffer)
+    (code : Option ℕ) (blocks' : List Block) (commands commands' : CommandsView)
+    (word : (b : Block) (words : List ℕ) → find_block raw t.blocks ≡ Some b → buffer ≡ bytes_in words → place ≡ min (length words) 65535 → IsStarted b words
+        → IsWord raw t.cycle t.phase b t.step.last (words ++ t.step.word ∷ []) code buffer' t.blocks blocks' commands commands')
+    (absent : find_block raw t.blocks ≡ None → (code ≡ Some 0x1001) × (blocks' ≡ t.blocks) × (commands' ≡ commands)) where
+  word_of : (b : Block) → find_block raw t.blocks ≡ Some b
+      → IsWord raw t.cycle t.phase b t.step.last (in_order (run v t log raw stood open_is writes seven) [] ++ t.step.word ∷ []) code buffer' t.blocks blocks' commands commands'
+  word_of b there =
+      word b (in_order (run v t log raw stood open_is writes seven) []) there (bytes_before v t log raw stood open_is writes seven place buffer place_is_kept started_is)
+          (place_before v t log raw stood open_is writes seven place place_is_kept) (started v t log raw stood open_is writes seven b with there)
+
+  pub write_refused : (n : ℕ) → code ≡ Some n → IsAnswered (record { opened = v.opened; selection = None; buffer = buffer' }) t log (refused n)
+  write_refused n is = by (find_block raw t.blocks) refl
+    where
+      by : (o : Option Block) → find_block raw t.blocks ≡ o → IsAnswered (record { opened = v.opened; selection = None; buffer = buffer' }) t log (refused n)
+      by None e = absent_step v t log raw stood open_is writes seven buffer' n e (sym is ∙ (absent e).0)
+      by (Some b) e = refused_write v t log raw stood open_is writes seven b e buffer' blocks' commands commands' n (rw is at (word_of b e))
+
+  pub write_good : code ≡ None → IsAnswered (record { opened = v.opened; selection = selected t.step.last t.step place; buffer = buffer' }) t log (good 0)
+  write_good is = by (find_block raw t.blocks) refl
+    where
+      by : (o : Option Block) → find_block raw t.blocks ≡ o → IsAnswered (record { opened = v.opened; selection = selected t.step.last t.step place; buffer = buffer' }) t log (good 0)
+      by None e = let no = (absent e).0 in cc
+      by (Some b) e = good_write v t log raw stood open_is writes seven b e buffer' blocks' commands commands' place place_is_kept (rw is at (word_of b e))
+
+  pub write_effect : IsEffect (adds t log) t.cycle t.blocks blocks' commands commands'
+  write_effect = by (find_block raw t.blocks) refl
+    where
+      by : (o : Option Block) → find_block raw t.blocks ≡ o → IsEffect (adds t log) t.cycle t.blocks blocks' commands commands'
+      by None e =
+          let (_, same, still) = absent e in
+          rw (absent_adds v t log raw stood open_is writes seven e, same, still) (record { blocks_is = refl; commands_is = refl; calls = λ rate time h stands later. stands })
+      by (Some b) e = effect v t log raw stood open_is writes seven b e buffer' blocks' commands commands' code (word_of b e)

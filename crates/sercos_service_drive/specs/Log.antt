@@ -16,6 +16,9 @@ pub record Taken : Type 0 where
   pub blocks : List Block
   pub commands : CommandsView
 
+abbrev pub taken : ℕ → ℕ → Bool → Step → List Block → CommandsView → Taken
+taken cycle phase mhs step blocks commands = record { cycle = cycle; phase = phase; mhs = mhs; step = step; blocks = blocks; commands = commands }
+
 -- AHS is the bit of the last record that was taken
 abbrev pub ahs : List Taken → Bool
 ahs [] = false

@@ -1,11 +1,11 @@
 // What the drive keeps between the steps of the service channel.
-ghost use Rattle.std.specs.Prelude.{◌≡◌, ℕ, ◌+◌, ◌≤◌, ◌<◌, ◌==◌, ◌&&◌, [], ◌∷◌, ◌++◌, List, length, take, drop, slice_index, if◌then◌else◌, true, false, Option, Some, None, is_some, option_map};
+ghost use Rattle.std.specs.Prelude.{◌≡◌, ℕ, ◌+◌, ◌≤◌, ◌<◌, ◌==◌, ◌&&◌, [], ◌∷◌, ◌++◌, List, length, take, drop, slice_index, min, if◌then◌else◌, true, false, Bool, Option, Some, None, is_some, option_map};
 ghost use Rattle.sercos_idn.specs.Codes.{is_list};
 ghost use Rattle.sercos_step.specs.Words.{bytes_in, words_of};
 ghost use Rattle.sercos_block.specs.declared.block.Block.{Block};
 ghost use Rattle.sercos_block.specs.Stores.{find_block};
 ghost use Rattle.sercos_command.specs.Settings.{are_commands_of};
-ghost use Rattle.sercos_service_drive.specs.Log.{Taken, Entry, opens, open_idn};
+ghost use Rattle.sercos_service_drive.specs.Log.{Taken, taken, Entry, opens, open_idn};
 ghost use Rattle.sercos_service_drive.specs.Replies.{good, refused, words_at, missing};
 ghost use Rattle.sercos_service_drive.specs.Writes.{adds};
 ghost use Rattle.sercos_service_drive.specs.Kept.{run_of, place_in, selected, GoesWith, IsStarted, IsEffect, IsWord, IsAnswered, SessionStandsFor};
@@ -19,7 +19,9 @@ use sercos_idn::{Code, Idn};
 use sercos_step::{Answer, Step, word_at};
 use std::marker::Model;
 
-// The element of operation data.
+// The elements of the identifier number and of operation data.
+const IDENTIFIER: u8 = 1;
+
 const OPERATION_DATA: u8 = 7;
 
 /// The run of steps that a next step may go on.
@@ -48,6 +50,13 @@ impl Model for Session {
     ghost Value = { SessionView };
 
     ghost view = { λ s. record { opened = s.opened; selection = s.selection; buffer = s.buffer } };
+}
+
+// Whether a step opens an identifier number.
+fn opens(step: Step) -> bool
+    ensures { result ≡ opens step }
+{
+    step.write && step.element == IDENTIFIER
 }
 
 // A word as answer.
@@ -172,10 +181,11 @@ fn write_word(buffer: &mut Buffer, place: u16, idn: Idn, cycle: u32, phase: u8, 
     requires phase { (2 ≤ phase) × (phase ≤ 4) }
     requires set { are_commands_of store.old commands.old ≡ true }
     ensures none { find_block idn.raw store.old ≡ None → (option_map (λ code. code.raw) result ≡ Some 0x1001) × (store.new ≡ store.old) × (commands.new ≡ commands.old) }
-    ensures word { (b : Block) (words : List ℕ) → find_block idn.raw store.old ≡ Some b → buffer.old ≡ bytes_in words → place ≡ length words → IsStarted b words →
+    ensures word { (b : Block) (words : List ℕ) → find_block idn.raw store.old ≡ Some b → buffer.old ≡ bytes_in words → place ≡ min (length words) 65535 → IsStarted b words →
         IsWord idn.raw cycle phase b last (words ++ word ∷ []) (option_map (λ code. code.raw) result) buffer.new store.old store.new commands.old commands.new }
     ensures set { are_commands_of store.new commands.new ≡ true }
 {
+    let _most = store.max_len(idn);
     let first = first_word(buffer, place, word);
     if let Some(code) = place_cause(store, idn, phase, last, u32::from(place) + 1, first) {
         return Some(code);
@@ -186,4 +196,119 @@ fn write_word(buffer: &mut Buffer, place: u16, idn: Idn, cycle: u32, phase: u8, 
     }
     let list = is_list(store, idn);
     write_data(idn, written(buffer.as_slice(), list, first), cycle, phase, store, commands)
+}
+
+impl Session {
+    // No identifier number is open.
+    pub(crate) fn new() -> Session
+        ensures { SessionStandsFor result [] }
+    {
+        Session {
+            opened: None,
+            selection: None,
+            buffer: Buffer::new(),
+        }
+    }
+
+    // Refuses a step, which ends the run.
+    fn refuse(&mut self, code: Code) -> Answer
+        ensures session { self.new ≡ record { opened = self.old.opened; selection = None; buffer = self.old.buffer } }
+        ensures answer { result ≡ refused code.raw }
+    {
+        self.selection = None;
+        refused(code)
+    }
+
+    // Opens an identifier number, if the drive has it.
+    fn open(&mut self, idn: Idn, store: &Store) -> Answer
+        ensures { (t : Taken) (log : List Entry) → opens t.step ≡ true → t.step.word ≡ idn.raw → t.blocks ≡ store.now → IsAnswered self.new t log result }
+    {
+        self.selection = None;
+        if store.has(idn) {
+            self.opened = Some(idn);
+            good(0)
+        } else {
+            self.opened = None;
+            refused(Code::NO_IDN)
+        }
+    }
+
+    // Closes the identifier number.
+    fn close(&mut self) -> Answer
+        ensures { (t : Taken) (log : List Entry) → opens t.step ≡ false → (t.step.element == 0) ≡ true → IsAnswered self.new t log result }
+    {
+        self.opened = None;
+        self.selection = None;
+        good(0)
+    }
+
+    // Reads the next word of an element, 1 to 7.
+    fn read(&mut self, idn: Idn, cycle: u32, step: Step, store: &Store, commands: &Commands) -> Answer
+        requires element { (1 ≤ step.element) × (step.element ≤ 7) }
+        requires read { step.write ≡ false }
+        ensures { (phase : ℕ) (mhs : Bool) (log : List Entry) → SessionStandsFor self.old log → open_idn log ≡ Some idn.raw →
+            IsAnswered self.new (taken cycle phase mhs step store.now commands.now) log result }
+    {
+        let place = place_in(self.selection, false, step.element);
+        if let Some(code) = select(&mut self.buffer, place, idn, step.element, cycle, store, commands) {
+            return self.refuse(code);
+        }
+        self.selection = selected(step, place);
+        good(word_at(self.buffer.as_slice(), place))
+    }
+
+    // Writes the next word of an element, 2 to 7, of which operation data alone can be written.
+    fn write(&mut self, idn: Idn, cycle: u32, phase: u8, step: Step, store: &mut Store, commands: &mut Commands) -> Answer
+        requires element { (2 ≤ step.element) × (step.element ≤ 7) }
+        requires write { step.write ≡ true }
+        requires phase { (2 ≤ phase) × (phase ≤ 4) }
+        requires set { are_commands_of store.old commands.old ≡ true }
+        ensures answered { (mhs : Bool) (log : List Entry) → SessionStandsFor self.old log → open_idn log ≡ Some idn.raw → GoesWith store.old (run_of log) →
+            IsAnswered self.new (taken cycle phase mhs step store.old commands.old) log result }
+        ensures effect { (mhs : Bool) (log : List Entry) → SessionStandsFor self.old log → open_idn log ≡ Some idn.raw → GoesWith store.old (run_of log) →
+            IsEffect (adds (taken cycle phase mhs step store.old commands.old) log) cycle store.old store.new commands.old commands.new }
+        ensures set { are_commands_of store.new commands.new ≡ true }
+    {
+        if step.element != OPERATION_DATA {
+            return self.refuse(Code::protected(step.element));
+        }
+        let place = place_in(self.selection, true, OPERATION_DATA);
+        start(&mut self.buffer, place);
+        match write_word(&mut self.buffer, place, idn, cycle, phase, step.last, step.word, store, commands) {
+            Some(code) => self.refuse(code),
+            None => {
+                self.selection = selected(step, place);
+                good(0)
+            }
+        }
+    }
+
+    // The reply to a step that was accepted in a cycle, in a phase from 2 to 4.
+    pub(crate) fn answer(&mut self, cycle: u32, phase: u8, step: Step, store: &mut Store, commands: &mut Commands) -> Answer
+        requires element { step.element < 8 }
+        requires phase { (2 ≤ phase) × (phase ≤ 4) }
+        requires set { are_commands_of store.old commands.old ≡ true }
+        ensures answered { (mhs : Bool) (log : List Entry) → SessionStandsFor self.old log → GoesWith store.old (run_of log) →
+            IsAnswered self.new (taken cycle phase mhs step store.old commands.old) log result }
+        ensures effect { (mhs : Bool) (log : List Entry) → SessionStandsFor self.old log → GoesWith store.old (run_of log) →
+            IsEffect (adds (taken cycle phase mhs step store.old commands.old) log) cycle store.old store.new commands.old commands.new }
+        ensures set { are_commands_of store.new commands.new ≡ true }
+    {
+        if opens(step) {
+            return self.open(Idn { raw: step.word }, store);
+        }
+        if step.element == 0 {
+            return self.close();
+        }
+        match self.opened {
+            None => self.refuse(Code::NOT_OPEN),
+            Some(idn) => {
+                if step.write {
+                    self.write(idn, cycle, phase, step, store, commands)
+                } else {
+                    self.read(idn, cycle, step, store, commands)
+                }
+            }
+        }
+    }
 }
