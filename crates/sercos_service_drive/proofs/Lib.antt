@@ -5,4 +5,5 @@ pub mod RunLemmas
 pub mod SessionLemmas
 pub mod ReadAnswers
 pub mod WriteAnswers
+pub mod ChannelLemmas
 pub mod Worked

@@ -82,7 +82,7 @@ module _ (v : SessionView) (t : Taken) (log : List Entry) (raw : ℕ) (stood : S
           let reading = reading_of s.step.write raw s rest v.buffer bit before in
           let short : length (words_of buffer) ≤ 65535 = (let few_words = words_few buffer in omega (arith, few_words, few)) in
           let value : slice_index (words_of buffer) place ≡ slice_index (copy raw (selection s rest)) (length (s ∷ rest)) =
-              ap (slice_index (words_of buffer)) here ∙ word_within (words_of buffer) (length (s ∷ rest)) short ∙ rw (same, reading.words) refl in
+          ap (slice_index (words_of buffer)) here ∙ word_within (words_of buffer) (length (s ∷ rest)) short ∙ rw (same, reading.words) refl in
           let says : good word ≡ reply_of t log = sym (reply (s ∷ rest) e ∙ rw (reading.there, word_is, value) refl) in
           let keeps = run_of_reading t.step.write raw t (s ∷ rest) buffer reads (record { there = reading.there; words = rw same reading.words }) in
           rw here (good_step v t log stood no_opening not_closing raw word (s ∷ rest) buffer says open_is (kept (s ∷ rest) e) (λ _. keeps))

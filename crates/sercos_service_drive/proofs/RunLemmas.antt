@@ -38,8 +38,8 @@ pub run_before-run_of : (write : Bool) (element : ℕ) (log : List Entry) → (w
 run_before-run_of write element [] opens_none closes_none = refl
 run_before-run_of write element (e ∷ log) opens_none closes_none =
     by_tests (beq e.taken.step.write write) (e.taken.step.element == element) e.taken.step.last e.answer.error (opens e.taken.step || (e.taken.step.element == 0))
-        (e.taken ∷ run_before write element log) (e.taken ∷ run_before e.taken.step.write e.taken.step.element log) (continued write element)
-        (λ same. rw (bit same, number same, opens_none, closes_none) refl) (λ same. rw (bit same, number same) refl) refl refl
+    (e.taken ∷ run_before write element log) (e.taken ∷ run_before e.taken.step.write e.taken.step.element log) (continued write element)
+    (λ same. rw (bit same, number same, opens_none, closes_none) refl) (λ same. rw (bit same, number same) refl) refl refl
   where
     bit : (beq e.taken.step.write write && (e.taken.step.element == element)) ≡ true → e.taken.step.write ≡ write
     bit same = let (b, _) = and_parts (beq e.taken.step.write write) (e.taken.step.element == element) same in same_bits _ _ b

@@ -85,7 +85,7 @@ module _ (raw cycle phase : ℕ) (b : Block) (words : List ℕ) (word : ℕ) (st
       → blocks' ≡ blocks_with (unless (put_fault (Some b) phase bytes) (record { cycle = cycle; raw = raw; bytes = bytes })) commands blocks
       → commands' ≡ commands_with (unless (put_fault (Some b) phase bytes) (record { cycle = cycle; raw = raw; bytes = bytes })) blocks commands
       → ((rate time : ℕ) (h : List Call) → CommandsStandFor commands rate time h → newest h ≤ cycle
-          → CommandsStandFor commands' rate time (calls_with (unless (put_fault (Some b) phase bytes) (record { cycle = cycle; raw = raw; bytes = bytes })) blocks h))
+      → CommandsStandFor commands' rate time (calls_with (unless (put_fault (Some b) phase bytes) (record { cycle = cycle; raw = raw; bytes = bytes })) blocks h))
       → IsWord raw cycle phase b last (words ++ word ∷ []) code buffer blocks blocks' commands commands'
   last_word false code buffer bytes blocks blocks' commands commands' on is same put fault blocks_are commands_are calls_are = cc
   last_word true code buffer bytes blocks blocks' commands commands' on is same put fault blocks_are commands_are calls_are = record {

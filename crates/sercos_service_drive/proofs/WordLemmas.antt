@@ -51,9 +51,9 @@ fixed_at false fixed h = sym (h refl)
 by_tests : (f p a o u last n e g : Bool) (whole : Option ℕ) → (last ≡ false → n ≡ false)
     → (last ≡ true → f ≡ false → p ≡ false → a ≡ false → o ≡ false → u ≡ false → whole ≡ option_or (then_some n 0x7008) (option_or (then_some e 0x7006) (then_some g 0x7007)))
     → option_or (then_some f 0x7004) (option_or (then_some p 0x7005) (option_or (then_some a 0x7002) (option_or (then_some o 0x7003)
-        (option_or (then_some (u || n) 0x7008) (option_or (then_some (last && e) 0x7006) (then_some (last && g) 0x7007))))))
+    (option_or (then_some (u || n) 0x7008) (option_or (then_some (last && e) 0x7006) (then_some (last && g) 0x7007))))))
     ≡ option_or (option_or (option_or (then_some f 0x7004) (then_some p 0x7005)) (option_or (then_some a 0x7002) (option_or (then_some o 0x7003) (then_some u 0x7008))))
-        (cond last whole None)
+    (cond last whole None)
 by_tests true p a o u last n e g whole quiet rest = refl
 by_tests false true a o u last n e g whole quiet rest = refl
 by_tests false false true o u last n e g whole quiet rest = refl
@@ -199,8 +199,8 @@ whole b phase before w started passed = by (is_list b.attribute.length) refl
         let bytes = length-bytes_in words in
         let same : length (bytes_written b words) ≡ item_len b.attribute.length = rw (value_bytes b words value) (omega (arith, twice, most, least, bytes)) in
         let (short, long, valid) = value_whole (is_list b.attribute.length) b.attribute.command (length (bytes_written b words)) (item_len b.attribute.length) b.max_len
-            (not ((bits_in b.attribute (bytes_written b words) == 0) || (bits_in b.attribute (bytes_written b words) == 3)))
-            (length (bytes_written b words) % item_len b.attribute.length == 0) value same in
+        (not ((bits_in b.attribute (bytes_written b words) == 0) || (bits_in b.attribute (bytes_written b words) == 3)))
+        (length (bytes_written b words) % item_len b.attribute.length == 0) value same in
         record { long_enough = short; short_enough = long; valid = valid }
     by true list =
         let words : List ℕ = before ++ w ∷ [] in
@@ -208,8 +208,8 @@ whole b phase before w started passed = by (is_list b.attribute.length) refl
         let count : length (bytes_written b words) ≡ slice_index words 0 = rw (list_bytes b words list) (list_len words (slice_index words 0) least) in
         let most = fits b phase true before w started passed list in
         let (short, long, valid) = list_whole (is_list b.attribute.length) b.attribute.command (length (bytes_written b words)) (item_len b.attribute.length) b.max_len
-            (not ((bits_in b.attribute (bytes_written b words) == 0) || (bits_in b.attribute (bytes_written b words) == 3)))
-            (length (bytes_written b words) % item_len b.attribute.length == 0) list (rw count most) (rw count (even b phase true before w started passed list)) (not_command b.attribute list) in
+        (not ((bits_in b.attribute (bytes_written b words) == 0) || (bits_in b.attribute (bytes_written b words) == 3)))
+        (length (bytes_written b words) % item_len b.attribute.length == 0) list (rw count most) (rw count (even b phase true before w started passed list)) (not_command b.attribute list) in
         record { long_enough = short; short_enough = long; valid = valid }
 
 started_fixed : (b : Block) (before : List ℕ) (w : ℕ) → IsStarted b before → selects (before ++ w ∷ []) ≡ false → is_fixed b ≡ false
@@ -232,18 +232,18 @@ put_whole b phase bytes n fixed protected short long valid = rw (fixed, protecte
 pub cause_is : (b : Block) (phase : ℕ) (last : Bool) (before : List ℕ) (w : ℕ) → IsStarted b before →
     write_cause b phase last (before ++ w ∷ [])
     ≡ option_or (place_cause (Some b) phase last (length (before ++ w ∷ [])) (slice_index (before ++ w ∷ []) 0))
-        (cond last (put_fault (Some b) phase (bytes_written b (before ++ w ∷ []))) None)
+    (cond last (put_fault (Some b) phase (bytes_written b (before ++ w ∷ []))) None)
 unfolding write_cause length_cause
 cause_is b phase last before w started =
     let words : List ℕ = before ++ w ∷ [] in
     rw (fixed_at (selects words) (is_fixed b) (started_fixed b before w started))
     (by_tests (is_fixed b) (is_protected b.attribute phase) (ends_early b last words) (is_over b last words) (is_uneven b words) last (is_no_setting b last words)
-        (is_below b (bytes_written b words) b.min) (is_above b (bytes_written b words) b.max) (put_fault (Some b) phase (bytes_written b words))
-        (no_setting_at b last words)
-        (λ on f p a o u.
-            let passed : HasPassed b phase true words = record { writable = f; allowed = p; late = rw on at a; within = rw on at o; even = u } in
-            let all = whole b phase before w started passed in
-            put_whole b phase (bytes_written b words) (is_no_setting b last words) f p all.long_enough all.short_enough (rw on all.valid)))
+    (is_below b (bytes_written b words) b.min) (is_above b (bytes_written b words) b.max) (put_fault (Some b) phase (bytes_written b words))
+    (no_setting_at b last words)
+    (λ on f p a o u.
+    let passed : HasPassed b phase true words = record { writable = f; allowed = p; late = rw on at a; within = rw on at o; even = u } in
+    let all = whole b phase before w started passed in
+    put_whole b phase (bytes_written b words) (is_no_setting b last words) f p all.long_enough all.short_enough (rw on all.valid)))
 
 over_by : (list sel : Bool) (most first count wanted : ℕ) → ((list && (sel && nat_lt most first)) || (true && nat_le wanted count)) ≡ false → count < wanted
 over_by true true most first count wanted h = by (nat_lt most first) h

@@ -168,7 +168,7 @@ module _ (v : SessionView) (t : Taken) (log : List Entry) (raw : ℕ) (stood : S
     good_write place p w =
         let says : good 0 ≡ reply_of t log = sym (reply ∙ rw (there, words_are, ← w.code_is) refl) in
         let keeps = (λ (off : t.step.last ≡ false). run_of_writing t.step.write raw t run buffer writes
-            (record { element = seven; bytes = w.buffer_is refl ∙ ap bytes_in (sym words_are); midway = rw (there, words_are) (w.midway refl off) })) in
+        (record { element = seven; bytes = w.buffer_is refl ∙ ap bytes_in (sym words_are); midway = rw (there, words_are) (w.midway refl off) })) in
         rw (p ∙ at) (good_step v t log stood no_opening not_closing raw 0 run buffer says open_is run_at keeps)
 
     added : (code : Option ℕ) → code ≡ write_cause b t.phase t.step.last (in_order run [] ++ t.step.word ∷ [])
@@ -200,13 +200,13 @@ module _ (v : SessionView) (t : Taken) (log : List Entry) (raw : ℕ) (stood : S
     (place : ℕ) (place_is_kept : place ≡ place_in v.selection true 7) (buffer buffer' : List ℕ) (started_is : buffer ≡ cond (place == 0) [] v.buffer)
     (code : Option ℕ) (blocks' : List Block) (commands commands' : CommandsView)
     (word : (b : Block) (words : List ℕ) → find_block raw t.blocks ≡ Some b → buffer ≡ bytes_in words → place ≡ min (length words) 65535 → IsStarted b words
-        → IsWord raw t.cycle t.phase b t.step.last (words ++ t.step.word ∷ []) code buffer' t.blocks blocks' commands commands')
+    → IsWord raw t.cycle t.phase b t.step.last (words ++ t.step.word ∷ []) code buffer' t.blocks blocks' commands commands')
     (absent : find_block raw t.blocks ≡ None → (code ≡ Some 0x1001) × (blocks' ≡ t.blocks) × (commands' ≡ commands)) where
   word_of : (b : Block) → find_block raw t.blocks ≡ Some b
       → IsWord raw t.cycle t.phase b t.step.last (in_order (run v t log raw stood open_is writes seven) [] ++ t.step.word ∷ []) code buffer' t.blocks blocks' commands commands'
   word_of b there =
       word b (in_order (run v t log raw stood open_is writes seven) []) there (bytes_before v t log raw stood open_is writes seven place buffer place_is_kept started_is)
-          (place_before v t log raw stood open_is writes seven place place_is_kept) (started v t log raw stood open_is writes seven b with there)
+      (place_before v t log raw stood open_is writes seven place place_is_kept) (started v t log raw stood open_is writes seven b with there)
 
   pub write_refused : (n : ℕ) → code ≡ Some n → IsAnswered (record { opened = v.opened; selection = None; buffer = buffer' }) t log (refused n)
   write_refused n is = by (find_block raw t.blocks) refl

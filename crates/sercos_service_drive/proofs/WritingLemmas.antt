@@ -30,4 +30,3 @@ setting raw phase bytes (Some b) none on =
     let (_, after_long) = none_of-or (then_some (is_long b bytes) 0x7003) _ after_short in
     let (invalid, _) = none_of-or (then_some (is_invalid b bytes) 0x7008) _ after_long in
     setting_by b.attribute.length b.attribute.command bytes _ (b.attribute.command_is_two on) on (none_of-then (is_invalid b bytes) 0x7008 invalid)
-

@@ -1,6 +1,7 @@
 -- What a drive accepted of the records that it took, and how its steps hang together. Each list has its newest item first.
 use Rattle.std.specs.Prelude.{ℕ, ◌==◌, Bool, false, not, ◌&&◌, if◌then◌else◌, List, [], ◌∷◌, Option, Some, None}
 use mathlib.Core.Bool.{beq}
+use Rattle.sercos_telegram.specs.declared.words.Control.{Control}
 use Rattle.sercos_step.specs.declared.step.Step.{Step}
 use Rattle.sercos_step.specs.declared.step.Answer.{Answer}
 use Rattle.sercos_block.specs.declared.block.Block.{Block}
@@ -18,6 +19,11 @@ pub record Taken : Type 0 where
 
 abbrev pub taken : ℕ → ℕ → Bool → Step → List Block → CommandsView → Taken
 taken cycle phase mhs step blocks commands = record { cycle = cycle; phase = phase; mhs = mhs; step = step; blocks = blocks; commands = commands }
+
+-- a record as it is handed in: a control word and an information word
+abbrev pub record_of : ℕ → ℕ → Control → ℕ → List Block → CommandsView → Taken
+record_of cycle phase control info blocks commands =
+    taken cycle phase control.mhs (record { write = control.write; last = control.last; element = control.element; word = info }) blocks commands
 
 -- AHS is the bit of the last record that was taken
 abbrev pub ahs : List Taken → Bool

@@ -120,7 +120,7 @@ abbrev pub reply_on : ℕ → Taken → List Taken → Answer
 reply_on raw t run =
     if t.step.write
     then answer_by (if t.step.element == 7 then write_cause_in (find_block raw t.blocks) t.phase t.step.last (in_order run (t.step.word ∷ []))
-        else Some (0x1000 * t.step.element + 4)) 0
+    else Some (0x1000 * t.step.element + 4)) 0
     else answer_by (read_cause raw (selection t run)) (slice_index (copy raw (selection t run)) (length run))
 
 -- where no identifier number is open, the step is refused

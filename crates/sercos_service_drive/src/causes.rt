@@ -38,7 +38,13 @@ fn is_uneven(attribute: &Attribute, count: u32, first: u16) -> bool
 
 // The first cause against a word by its place, where with it so many words are there.
 #[tactic(auto, unfolding(crate::specs::Kept::length_cause))]
-fn length_cause(attribute: &Attribute, most: u16, last: bool, count: u32, first: u16) -> Option<Code>
+fn length_cause(
+    attribute: &Attribute,
+    most: u16,
+    last: bool,
+    count: u32,
+    first: u16,
+) -> Option<Code>
     ensures { option_map (λ code. code.raw) result ≡ length_cause attribute.now most last count first }
 {
     if last && count < words_by(attribute, first) {
@@ -54,7 +60,14 @@ fn length_cause(attribute: &Attribute, most: u16, last: bool, count: u32, first:
 }
 
 // The first cause against a word of the operation data of a block, by its place and what the block is.
-pub(crate) fn place_cause(store: &Store, idn: Idn, phase: u8, last: bool, count: u32, first: u16) -> Option<Code>
+pub(crate) fn place_cause(
+    store: &Store,
+    idn: Idn,
+    phase: u8,
+    last: bool,
+    count: u32,
+    first: u16,
+) -> Option<Code>
     requires { (2 ≤ phase) × (phase ≤ 4) }
     ensures { option_map (λ code. code.raw) result ≡ place_cause (find_block idn.raw store.now) phase last count first }
 {

@@ -67,7 +67,12 @@ fn bits_in(attribute: &Attribute, bytes: &[u8]) -> u32
     if attribute.length == Length::Two {
         u32::from(u16::from_le_bytes([byte_at(bytes, 0), byte_at(bytes, 1)]))
     } else {
-        u32::from_le_bytes([byte_at(bytes, 0), byte_at(bytes, 1), byte_at(bytes, 2), byte_at(bytes, 3)])
+        u32::from_le_bytes([
+            byte_at(bytes, 0),
+            byte_at(bytes, 1),
+            byte_at(bytes, 2),
+            byte_at(bytes, 3),
+        ])
     }
 }
 
@@ -105,13 +110,25 @@ fn copy_data(buffer: &mut Buffer, attribute: &Attribute, step: u32, cycle: u32, 
     if step == 0 {
         buffer.assign(bytes);
     } else {
-        copy_number(buffer, attribute, grown(attribute, bits_in(attribute, bytes), step, cycle));
+        copy_number(
+            buffer,
+            attribute,
+            grown(attribute, bits_in(attribute, bytes), step, cycle),
+        );
     }
 }
 
 // Copies an element, 2 to 7, which is there.
 #[tactic(auto, unfolding(crate::specs::Replies::element_words, sercos_block::specs::Blocks::element_of))]
-fn copy_found(buffer: &mut Buffer, attribute: &Attribute, most: u16, step: u32, element: u8, cycle: u32, bytes: &[u8])
+fn copy_found(
+    buffer: &mut Buffer,
+    attribute: &Attribute,
+    most: u16,
+    step: u32,
+    element: u8,
+    cycle: u32,
+    bytes: &[u8],
+)
     requires { length bytes.now ≤ 1024 }
     ensures { (b : Block) → b.attribute ≡ attribute.now → b.max_len ≡ most → b.step ≡ step → element_of b element ≡ Some bytes.now →
         words_of buffer.new ≡ element_words element cycle b }
@@ -130,7 +147,14 @@ fn copy_found(buffer: &mut Buffer, attribute: &Attribute, most: u16, step: u32, 
 }
 
 // Copies an element, 1 to 7, as it stands in a cycle. The code is why it can't be read.
-pub(crate) fn copy_element(buffer: &mut Buffer, idn: Idn, element: u8, cycle: u32, store: &Store, commands: &Commands) -> Result<(), Code>
+pub(crate) fn copy_element(
+    buffer: &mut Buffer,
+    idn: Idn,
+    element: u8,
+    cycle: u32,
+    store: &Store,
+    commands: &Commands,
+) -> Result<(), Code>
     requires { (1 ≤ element) × (element ≤ 7) }
     ensures { MatchResult result
         (λ _. (missing idn.raw element store.now ≡ None) × (words_of buffer.new ≡ words_at idn.raw element cycle store.now commands.now))
@@ -142,6 +166,14 @@ pub(crate) fn copy_element(buffer: &mut Buffer, idn: Idn, element: u8, cycle: u3
     }
     let bytes = store.element(idn, element)?;
     let attribute = store.attribute(idn)?;
-    copy_found(buffer, &attribute, store.max_len(idn), store.step(idn), element, cycle, bytes);
+    copy_found(
+        buffer,
+        &attribute,
+        store.max_len(idn),
+        store.step(idn),
+        element,
+        cycle,
+        bytes,
+    );
     Ok(())
 }

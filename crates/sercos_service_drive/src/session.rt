@@ -63,10 +63,7 @@ fn opens(step: Step) -> bool
 fn good(word: u16) -> Answer
     ensures { result ≡ good word }
 {
-    Answer {
-        error: false,
-        word,
-    }
+    Answer { error: false, word }
 }
 
 // The code of an error as answer.
@@ -111,7 +108,15 @@ fn selected(step: Step, place: u16) -> Option<Selection>
 }
 
 // At the first word of a run copies the element, 1 to 7. The code is why it can't be read.
-fn select(buffer: &mut Buffer, place: u16, idn: Idn, element: u8, cycle: u32, store: &Store, commands: &Commands) -> Option<Code>
+fn select(
+    buffer: &mut Buffer,
+    place: u16,
+    idn: Idn,
+    element: u8,
+    cycle: u32,
+    store: &Store,
+    commands: &Commands,
+) -> Option<Code>
     requires { (1 ≤ element) × (element ≤ 7) }
     ensures code { option_map (λ code. code.raw) result ≡ (if place == 0 then missing idn.raw element store.now else None) }
     ensures copy { place ≡ 0 → missing idn.raw element store.now ≡ None → words_of buffer.new ≡ words_at idn.raw element cycle store.now commands.now }
@@ -177,7 +182,17 @@ fn keep_word(buffer: &mut Buffer, word: u16, store: &Store, idn: Idn)
 
 // Writes a word of operation data in a phase, 2 to 4, where the buffer has the words of the run before it. The code is the
 // first cause against it.
-fn write_word(buffer: &mut Buffer, place: u16, idn: Idn, cycle: u32, phase: u8, last: bool, word: u16, store: &mut Store, commands: &mut Commands) -> Option<Code>
+fn write_word(
+    buffer: &mut Buffer,
+    place: u16,
+    idn: Idn,
+    cycle: u32,
+    phase: u8,
+    last: bool,
+    word: u16,
+    store: &mut Store,
+    commands: &mut Commands,
+) -> Option<Code>
     requires phase { (2 ≤ phase) × (phase ≤ 4) }
     requires set { are_commands_of store.old commands.old ≡ true }
     ensures none { find_block idn.raw store.old ≡ None → (option_map (λ code. code.raw) result ≡ Some 0x1001) × (store.new ≡ store.old) × (commands.new ≡ commands.old) }
@@ -195,7 +210,14 @@ fn write_word(buffer: &mut Buffer, place: u16, idn: Idn, cycle: u32, phase: u8, 
         return None;
     }
     let list = is_list(store, idn);
-    write_data(idn, written(buffer.as_slice(), list, first), cycle, phase, store, commands)
+    write_data(
+        idn,
+        written(buffer.as_slice(), list, first),
+        cycle,
+        phase,
+        store,
+        commands,
+    )
 }
 
 impl Session {
@@ -243,14 +265,29 @@ impl Session {
     }
 
     // Reads the next word of an element, 1 to 7.
-    fn read(&mut self, idn: Idn, cycle: u32, step: Step, store: &Store, commands: &Commands) -> Answer
+    fn read(
+        &mut self,
+        idn: Idn,
+        cycle: u32,
+        step: Step,
+        store: &Store,
+        commands: &Commands,
+    ) -> Answer
         requires element { (1 ≤ step.element) × (step.element ≤ 7) }
         requires read { step.write ≡ false }
         ensures { (phase : ℕ) (mhs : Bool) (log : List Entry) → SessionStandsFor self.old log → open_idn log ≡ Some idn.raw →
             IsAnswered self.new (taken cycle phase mhs step store.now commands.now) log result }
     {
         let place = place_in(self.selection, false, step.element);
-        if let Some(code) = select(&mut self.buffer, place, idn, step.element, cycle, store, commands) {
+        if let Some(code) = select(
+            &mut self.buffer,
+            place,
+            idn,
+            step.element,
+            cycle,
+            store,
+            commands,
+        ) {
             return self.refuse(code);
         }
         self.selection = selected(step, place);
@@ -258,7 +295,15 @@ impl Session {
     }
 
     // Writes the next word of an element, 2 to 7, of which operation data alone can be written.
-    fn write(&mut self, idn: Idn, cycle: u32, phase: u8, step: Step, store: &mut Store, commands: &mut Commands) -> Answer
+    fn write(
+        &mut self,
+        idn: Idn,
+        cycle: u32,
+        phase: u8,
+        step: Step,
+        store: &mut Store,
+        commands: &mut Commands,
+    ) -> Answer
         requires element { (2 ≤ step.element) × (step.element ≤ 7) }
         requires write { step.write ≡ true }
         requires phase { (2 ≤ phase) × (phase ≤ 4) }
@@ -274,7 +319,17 @@ impl Session {
         }
         let place = place_in(self.selection, true, OPERATION_DATA);
         start(&mut self.buffer, place);
-        match write_word(&mut self.buffer, place, idn, cycle, phase, step.last, step.word, store, commands) {
+        match write_word(
+            &mut self.buffer,
+            place,
+            idn,
+            cycle,
+            phase,
+            step.last,
+            step.word,
+            store,
+            commands,
+        ) {
             Some(code) => self.refuse(code),
             None => {
                 self.selection = selected(step, place);
@@ -284,7 +339,14 @@ impl Session {
     }
 
     // The reply to a step that was accepted in a cycle, in a phase from 2 to 4.
-    pub(crate) fn answer(&mut self, cycle: u32, phase: u8, step: Step, store: &mut Store, commands: &mut Commands) -> Answer
+    pub(crate) fn answer(
+        &mut self,
+        cycle: u32,
+        phase: u8,
+        step: Step,
+        store: &mut Store,
+        commands: &mut Commands,
+    ) -> Answer
         requires element { step.element < 8 }
         requires phase { (2 ≤ phase) × (phase ≤ 4) }
         requires set { are_commands_of store.old commands.old ≡ true }

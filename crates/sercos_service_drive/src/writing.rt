@@ -19,7 +19,14 @@ fn setting_in(bytes: &[u8]) -> u16
 }
 
 // Tells the procedure commands that operation data was written: that of a command, or other.
-fn tell(commands: &mut Commands, idn: Idn, command: bool, bytes: &[u8], cycle: u32, store: &mut Store)
+fn tell(
+    commands: &mut Commands,
+    idn: Idn,
+    command: bool,
+    bytes: &[u8],
+    cycle: u32,
+    store: &mut Store,
+)
     requires command { command ≡ true → is_command store.old idn.raw ≡ true }
     requires setting { command ≡ true → (from_le_bytes w16 bytes.now ≡ 0) ⊎ (from_le_bytes w16 bytes.now ≡ 3) }
     requires set { are_commands_of store.old commands.old ≡ true }
@@ -37,7 +44,14 @@ fn tell(commands: &mut Commands, idn: Idn, command: bool, bytes: &[u8], cycle: u
 }
 
 // Writes the operation data of a block in a phase, and tells the procedure commands. The code is the first cause against it.
-pub(crate) fn write_data(idn: Idn, bytes: &[u8], cycle: u32, phase: u8, store: &mut Store, commands: &mut Commands) -> Option<Code>
+pub(crate) fn write_data(
+    idn: Idn,
+    bytes: &[u8],
+    cycle: u32,
+    phase: u8,
+    store: &mut Store,
+    commands: &mut Commands,
+) -> Option<Code>
     requires phase { (2 ≤ phase) × (phase ≤ 4) }
     requires set { are_commands_of store.old commands.old ≡ true }
     ensures fault { option_map (λ code. code.raw) result ≡ put_fault (find_block idn.raw store.old) phase bytes.now }

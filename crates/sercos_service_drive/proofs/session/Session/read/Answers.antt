@@ -9,14 +9,14 @@ returns-in-Some c = λ phase mhs log stood open_is.
     let s = rw (← c.self.view_is) at stood in
     let some : (c.args.step.element == 0) ≡ false = grind (arith, nat_tests) in
     rw (c.refuse.ensures.answer, c.refuse.ensures.session)
-        (read_refused _ (taken c.args.cycle phase mhs c.args.step c.args.store.now c.args.commands.now) log c.args.idn.raw s open_is c.requires.read some
-            c.place_in-place.result c.in-Some.code.raw c.select.new.buffer c.place_in-place.ensures c.in-Some.ensures.code)
+    (read_refused _ (taken c.args.cycle phase mhs c.args.step c.args.store.now c.args.commands.now) log c.args.idn.raw s open_is c.requires.read some
+    c.place_in-place.result c.in-Some.code.raw c.select.new.buffer c.place_in-place.ensures c.in-Some.ensures.code)
 
 pub returns : goal.returns
 returns c = λ phase mhs log stood open_is.
     let s = rw (← c.self.view_is) at stood in
     let some : (c.args.step.element == 0) ≡ false = grind (arith, nat_tests) in
     rw (c.good.ensures, c.selected-self-inside.ensures)
-        (read_good _ (taken c.args.cycle phase mhs c.args.step c.args.store.now c.args.commands.now) log c.args.idn.raw s open_is c.requires.read some
-            c.place_in-place.result c.word_at.result c.select.new.buffer c.place_in-place.ensures c.in_default.ensures.code c.select.ensures.copy c.select.ensures.same
-            (rw c.as_slice.ensures.value at c.as_slice.ensures.bound) (rw c.as_slice.ensures.value at c.word_at.ensures))
+    (read_good _ (taken c.args.cycle phase mhs c.args.step c.args.store.now c.args.commands.now) log c.args.idn.raw s open_is c.requires.read some
+    c.place_in-place.result c.word_at.result c.select.new.buffer c.place_in-place.ensures c.in_default.ensures.code c.select.ensures.copy c.select.ensures.same
+    (rw c.as_slice.ensures.value at c.as_slice.ensures.bound) (rw c.as_slice.ensures.value at c.word_at.ensures))
