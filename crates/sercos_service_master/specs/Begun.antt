@@ -1,6 +1,7 @@
 -- The requests that were begun on a channel, and what the master says of them. Each list has its newest item first.
 use Rattle.std.specs.Prelude.{ℕ, Bool, false, not, ◌&&◌, if◌then◌else◌, List, [], ◌∷◌, ◌++◌, Option, Some, None, is_some}
 use mathlib.Core.Bool.{beq}
+use Rattle.sercos_telegram.specs.declared.words.Control.{Control}
 use Rattle.sercos_telegram.specs.declared.words.Status.{Status}
 use Rattle.sercos_step.specs.declared.step.Step.{Step}
 use Rattle.sercos_step.specs.declared.step.Answer.{Answer}
@@ -79,3 +80,8 @@ step_or_none (Some s) = s
 
 abbrev pub master_says : List Begun → Said
 master_says past = record { mhs = mhs_in past; step = step_or_none (open_in past) }
+
+-- what a control word and the information word behind it say
+abbrev pub said_by : Control → ℕ → Said
+said_by control word =
+    record { mhs = control.mhs; step = record { write = control.write; last = control.last; element = control.element; word = word } }

@@ -1,0 +1,31 @@
+-- What the master's end of a channel keeps, and how that stands for the calls.
+use Rattle.std.specs.Prelude.{◌≡◌, ℕ, ◌≤◌, Bool, true, false, List, [], ◌∷◌, min, Option, None, IfSome, is_some, is_none, option_map, unwrap_or}
+use Rattle.sercos_step.specs.Kept.{TransferView, TransferStandsFor}
+use Rattle.sercos_service_master.specs.Begun.{Begun, open_in, mhs_in}
+use Rattle.sercos_service_master.specs.Calls.{Call, begun_by, age_of, AreCalls}
+
+-- The transfer at work, if there is one; MHS; and how many cycles ended since the open step was first sent, if it was,
+-- counted up to 64.
+pub record MasterView : Type 0 where
+  pub transfer : Option TransferView
+  pub mhs : Bool
+  pub age : Option ℕ
+
+-- what is so of every channel: a transfer that is kept goes on, and where none is kept nothing is counted
+pub record IsChannel (v : MasterView) : Type 0 where
+  pub goes_on : IfSome v.transfer (λ t. t.done ≡ false)
+  pub counted : unwrap_or v.age 0 ≤ 64
+  pub idle : is_none v.transfer ≡ true → v.age ≡ None
+
+-- a transfer goes on, and stands for the request that was begun last and for its answers
+abbrev pub IsAtWork : TransferView → List Begun → Type 0
+IsAtWork t [] = ⊥
+IsAtWork t (b ∷ past) = (t.done ≡ false) × TransferStandsFor t b.request b.answers
+
+-- the channel stands for its calls, the newest first
+pub record MasterStandsFor (v : MasterView) (h : List Call) : Type 0 where
+  pub each_in_turn : AreCalls h
+  pub mhs_is : v.mhs ≡ mhs_in (begun_by h)
+  pub open_is : is_some v.transfer ≡ is_some (open_in (begun_by h))
+  pub work_is : IfSome v.transfer (λ t. IsAtWork t (begun_by h))
+  pub age_is : v.age ≡ option_map (λ age. min age 64) (age_of h)
