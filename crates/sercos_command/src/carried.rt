@@ -7,8 +7,8 @@ use arrayvec::ArrayVec;
 use sercos_block::{Store, number_len};
 use sercos_idn::Idn;
 
-// The bytes of a control word or a status word, and of the information word behind it.
-const WORDS: u32 = 4;
+// The bytes of the two words that a telegram or a data record begins with.
+pub(crate) const WORDS: u32 = 4;
 
 // The byte at a place, 0 where there is none.
 fn byte_at(bytes: &[u8], place: usize) -> u8

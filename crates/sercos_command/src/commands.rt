@@ -100,7 +100,7 @@ impl Commands {
         if self.has(idn) {
             return;
         }
-        self.keep_room(store);
+        self.show_room(store);
         let well = run(self.rate, idn, store);
         self.set(idn, cycle, well);
     }
@@ -123,7 +123,7 @@ impl Commands {
 
     // There is room for one more command.
     #[tactic(auto, using(crate::proofs::SetLemmas::has_room))]
-    fn keep_room(&self, store: &Store)
+    fn show_room(&self, store: &Store)
         requires { are_commands_of store.now self.now ≡ true }
         ensures { length self.now.set < 64 }
     {

@@ -2,16 +2,13 @@
 ghost use Rattle.std.specs.Prelude.{◌≡◌, ◌≤◌};
 ghost use Rattle.sercos_command.specs.Checks.{breaks_1, breaks_2, breaks_6, breaks_7, breaks_8, breaks_9, breaks_10, breaks_15, breaks_89};
 
-use crate::carried::{carried_len, number_at};
+use crate::carried::{WORDS, carried_len, number_at};
 use sercos_block::numbers::{
     AT_LIST, CONTROL_CYCLE_TIME, CYCLE_TIME, MDT_LENGTH, MDT_LIST, POSITION, T1, T1MIN, T2, T3, T4,
     T4MIN, TATMT, TELEGRAM_TYPE,
 };
 use sercos_block::{Store, is_cycle};
 use sercos_timing::wire;
-
-// The bytes of the two words of a data record.
-const WORDS: u32 = 4;
 
 // The telegram type of this profile.
 const CONFIGURED: u32 = 7;
