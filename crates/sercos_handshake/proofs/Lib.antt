@@ -1,1 +1,2 @@
-
+pub mod HandshakeMoves
+pub mod InStepRuns

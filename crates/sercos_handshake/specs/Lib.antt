@@ -1,3 +1,5 @@
 pub mod InStep
 pub mod Runs
+pub mod Moves
+pub mod Choices
 pub mod Transfers

@@ -1,0 +1,22 @@
+// Laws on the two ends of a service channel.
+ghost use Rattle.std.specs.Prelude.{◌≡◌, ℕ, List};
+ghost use Rattle.sercos_service_drive.specs.Log.{Taken, ahs, accepted};
+ghost use Rattle.sercos_service_drive.specs.Replies.{log_of};
+ghost use Rattle.sercos_service_master.specs.Begun.{is_odd};
+ghost use Rattle.sercos_service_master.specs.Calls.{begun_by};
+ghost use Rattle.sercos_handshake.specs.InStep.{AreInStep};
+ghost use Rattle.sercos_handshake.specs.Runs.{Turn, IsRun, master_calls, drive_taken};
+ghost use Rattle.sercos_handshake.specs.Moves.{Hears, Begins, Takes};
+ghost use Rattle.sercos_handshake.specs.Choices.{Choice, run_by};
+
+/// A law and no code: whichever telegrams are lost, both ends are in step. So no step is accepted twice, and no answer is
+/// taken for that to another step. Each move of the ends keeps them in step by itself; the drive's handshake bit tells
+/// whether the number of accepted steps is odd; and there is a run for any losses and any requests.
+pub fn handshake_law()
+    ensures hears { Hears }
+    ensures begins { Begins }
+    ensures takes { Takes }
+    ensures run { (busy : ℕ) (j : List Turn) → IsRun busy j → AreInStep (begun_by (master_calls j)) (log_of (drive_taken j)) }
+    ensures bits { (h : List Taken) → ahs h ≡ is_odd (accepted h) }
+    ensures made { (busy : ℕ) (choices : List Choice) → IsRun busy (run_by busy choices) }
+{}
