@@ -1,2 +1,6 @@
 pub mod HandshakeMoves
 pub mod InStepRuns
+pub mod TransferSteps
+pub mod StoredBytes
+pub mod QuietSteps
+pub mod AttributeReplies
