@@ -4,3 +4,5 @@ pub mod TransferSteps
 pub mod StoredBytes
 pub mod QuietSteps
 pub mod AttributeReplies
+pub mod WriteRuns
+pub mod WriteStages

@@ -1,20 +1,18 @@
 -- Steps that write no operation data add no write.
 use Rattle.std.proofs.Common.{◌≡◌, ℕ, zero, suc, ◌+◌, ◌*◌, Bool, true, false, not, ◌&&◌, List, [], ◌∷◌, ◌++◌, length, drop, replicate, refl, ap, sym, ◌∙◌, if◌then◌else◌}
-use Rattle.std.specs.Prelude.{◌==◌, Option, Some, None, slice_get}
+use Rattle.std.specs.Prelude.{◌==◌, Some, slice_get}
 use Rattle.std.specs.List.{list_all}
-use Rattle.sercos_idn.specs.declared.idn.Idn.{Idn}
 use Rattle.sercos_step.specs.declared.step.Step.{Step}
 use Rattle.sercos_step.specs.declared.shape.Shape.{Shape}
 use Rattle.sercos_step.specs.declared.shape.Shape.TheVariants as shape
 use Rattle.sercos_step.specs.declared.request.Request.{Request}
 use Rattle.sercos_step.specs.declared.request.Request.TheVariants as request
 use Rattle.sercos_step.specs.Words.{shape_of, words_in_list, words_told}
-use Rattle.sercos_step.specs.Steps.{run, reading, attribute_then, asks_attribute, steps_of, answer_words, next_step}
-use Rattle.sercos_block.specs.declared.block.Block.{Block}
+use Rattle.sercos_step.specs.Steps.{run, reading, attribute_then, asks_attribute, steps_of, answer_words}
 use Rattle.sercos_service_drive.specs.Log.{Entry}
-use Rattle.sercos_service_drive.specs.Writes.{writes_of, takes_effect}
+use Rattle.sercos_service_drive.specs.Writes.{takes_effect}
 use Rattle.sercos_handshake.specs.InStep.{replies_of}
-use Rattle.sercos_handshake.specs.Transfers.{WritesNothing, IsTransfer, is_silent}
+use Rattle.sercos_handshake.specs.Transfers.{WritesNothing, is_silent}
 use Rattle.sercos_handshake.proofs.TransferSteps.{newest_step, without_newest, adds_none}
 
 abbrev is_quiet : Step → Bool

@@ -1,5 +1,5 @@
 -- What the words of a write leave as operation data.
-use Rattle.std.proofs.Common.{◌≡◌, ℕ, suc, ◌+◌, ◌*◌, ◌/◌, ◌%◌, ◌<◌, List, [], ◌∷◌, length, take, drop, refl, ap, ap₂, sym, ◌∙◌, arith, if◌then◌else◌}
+use Rattle.std.proofs.Common.{◌≡◌, ℕ, ◌+◌, ◌*◌, ◌/◌, ◌%◌, ◌<◌, List, [], ◌∷◌, length, take, drop, refl, ap, arith, if◌then◌else◌}
 use Rattle.std.specs.Prelude.{slice_index}
 use Rattle.sercos_model.specs.Bits.{AreBytes}
 use Rattle.sercos_idn.specs.declared.kinds.Length.{Length}

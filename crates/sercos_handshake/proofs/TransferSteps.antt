@@ -1,17 +1,16 @@
 -- The steps of the entries of a transfer, one by one.
-use Rattle.std.proofs.Common.{◌≡◌, ℕ, suc, ◌+◌, ◌≤◌, Bool, true, false, not, ◌&&◌, List, [], ◌∷◌, ◌++◌, length, refl, ap, sym, ◌∙◌, arith, if◌then◌else◌, length-append}
-use Rattle.std.specs.Prelude.{◌==◌, Option, Some, None, is_some, slice_get}
+use Rattle.std.proofs.Common.{◌≡◌, ℕ, suc, ◌≤◌, Bool, true, false, not, ◌&&◌, List, [], ◌∷◌, ◌++◌, length, refl, ap, arith, if◌then◌else◌}
+use Rattle.std.specs.Prelude.{◌==◌, Option, Some, None, is_some}
 use Rattle.std.proofs.lemmas.Bool.{cond-false}
 use Rattle.sercos_step.specs.declared.step.Step.{Step}
 use Rattle.sercos_step.specs.declared.step.Answer.{Answer}
 use Rattle.sercos_step.specs.declared.request.Request.{Request}
-use Rattle.sercos_step.specs.declared.request.Outcome.{Outcome}
 use Rattle.sercos_step.specs.declared.request.Outcome.TheVariants as outcome
 use Rattle.sercos_step.specs.Steps.{outcome_of, next_step, answer_words, is_whole, result_of}
 use Rattle.sercos_service_master.specs.Begun.{step_at, with_step, steps_begun}
 use Rattle.sercos_block.specs.declared.block.Block.{Block}
 use Rattle.sercos_service_drive.specs.Log.{Entry}
-use Rattle.sercos_service_drive.specs.Writes.{Write, added_by, with_added, writes_of, takes_effect}
+use Rattle.sercos_service_drive.specs.Writes.{Write, with_added, writes_of, takes_effect}
 use Rattle.sercos_handshake.specs.InStep.{steps_of, replies_of}
 use Rattle.sercos_handshake.specs.Transfers.{IsTransfer, is_complete}
 

@@ -8,6 +8,9 @@ ghost use Rattle.sercos_handshake.specs.InStep.{AreInStep};
 ghost use Rattle.sercos_handshake.specs.Runs.{Turn, IsRun, master_calls, drive_taken};
 ghost use Rattle.sercos_handshake.specs.Moves.{Hears, Begins, Takes};
 ghost use Rattle.sercos_handshake.specs.Choices.{Choice, run_by};
+ghost use Rattle.sercos_handshake.specs.Transfers.{WritesOnce, WritesNothing};
+
+use sercos_idn::attribute_law;
 
 /// A law and no code: whichever telegrams are lost, both ends are in step. So no step is accepted twice, and no answer is
 /// taken for that to another step. Each move of the ends keeps them in step by itself; the drive's handshake bit tells
@@ -20,3 +23,13 @@ pub fn handshake_law()
     ensures bits { (h : List Taken) → ahs h ≡ is_odd (accepted h) }
     ensures made { (busy : ℕ) (choices : List Choice) → IsRun busy (run_by busy choices) }
 {}
+
+/// A law: a write of operation data adds one entry to the drive's writes, with its bytes, and only with the step that
+/// completes it; where it is refused, a read, and a write of another element add none.
+pub fn transfer_law()
+    ensures writes_once { WritesOnce }
+    ensures writes_nothing { WritesNothing }
+{
+    // what the master takes for the attribute is that of the block
+    attribute_law();
+}
