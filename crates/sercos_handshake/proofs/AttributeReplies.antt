@@ -22,7 +22,7 @@ found_without_data : (v : Bool) (b : Block) (o p : Option Block) → option_map 
 found_without_data true b o p same = refl
 found_without_data false b o p same = same
 
-find-without_data : (raw : ℕ) (blocks : List Block) → option_map without_data (find_block raw blocks) ≡ find_block raw (map without_data blocks)
+pub find-without_data : (raw : ℕ) (blocks : List Block) → option_map without_data (find_block raw blocks) ≡ find_block raw (map without_data blocks)
 find-without_data raw [] = refl
 find-without_data raw (b ∷ blocks) = found_without_data (b.idn.raw == raw) b (find_block raw blocks) (find_block raw (map without_data blocks)) (find-without_data raw blocks)
 

@@ -6,3 +6,6 @@ pub mod QuietSteps
 pub mod AttributeReplies
 pub mod WriteRuns
 pub mod WriteStages
+pub mod UnknownBlocks
+pub mod SettingReplies
+pub mod CommandStages

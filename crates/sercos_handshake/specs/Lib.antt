@@ -3,3 +3,4 @@ pub mod Runs
 pub mod Moves
 pub mod Choices
 pub mod Transfers
+pub mod CommandTransfers

@@ -9,6 +9,7 @@ ghost use Rattle.sercos_handshake.specs.Runs.{Turn, IsRun, master_calls, drive_t
 ghost use Rattle.sercos_handshake.specs.Moves.{Hears, Begins, Takes};
 ghost use Rattle.sercos_handshake.specs.Choices.{Choice, run_by};
 ghost use Rattle.sercos_handshake.specs.Transfers.{WritesOnce, WritesNothing};
+ghost use Rattle.sercos_handshake.specs.CommandTransfers.{SetsAndCancels, WritesNowhere};
 
 use sercos_idn::attribute_law;
 
@@ -25,10 +26,13 @@ pub fn handshake_law()
 {}
 
 /// A law: a write of operation data adds one entry to the drive's writes, with its bytes, and only with the step that
-/// completes it; where it is refused, a read, and a write of another element add none.
+/// completes it. A read, a write of another element, and a transfer to a data block that the drive hasn't add none. One
+/// that sets a procedure command adds the setting with its second step, and the cancel with the step that completes it.
 pub fn transfer_law()
     ensures writes_once { WritesOnce }
     ensures writes_nothing { WritesNothing }
+    ensures writes_nowhere { WritesNowhere }
+    ensures sets_and_cancels { SetsAndCancels }
 {
     // what the master takes for the attribute is that of the block
     attribute_law();
