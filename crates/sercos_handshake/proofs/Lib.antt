@@ -9,3 +9,4 @@ pub mod WriteStages
 pub mod UnknownBlocks
 pub mod SettingReplies
 pub mod CommandStages
+pub mod Worked
