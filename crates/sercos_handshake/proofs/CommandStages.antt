@@ -62,27 +62,27 @@ data Stage (idn : Idn) (b : Block) (words : List ℕ) (entries all : List Entry)
       Stage idn b words entries all
 
 module _ (idn : Idn) (b : Block) where
-  abbrev r : Request
-  r = request.Command idn
+  abbrev asked : Request
+  asked = request.Command idn
 
   -- the next step
-  next_opening : (words : List ℕ) (s : Step) → words ≡ [] → slice_get (steps_of r words) (length words) ≡ Some s → s ≡ opening idn
+  next_opening : (words : List ℕ) (s : Step) → words ≡ [] → slice_get (steps_of asked words) (length words) ≡ Some s → s ≡ opening idn
   next_opening words s is next = some_same (opening idn) s (rw is at next)
 
-  next_setting : (words : List ℕ) (s : Step) (w : ℕ) → words ≡ w ∷ [] → slice_get (steps_of r words) (length words) ≡ Some s → s ≡ a_step true true 7 3
+  next_setting : (words : List ℕ) (s : Step) (w : ℕ) → words ≡ w ∷ [] → slice_get (steps_of asked words) (length words) ≡ Some s → s ≡ a_step true true 7 3
   next_setting words s w is next = some_same (a_step true true 7 3) s (rw is at next)
 
-  next_poll : (words : List ℕ) (s : Step) (w v : ℕ) (polled : List ℕ) → words ≡ w ∷ v ∷ polled → slice_get (steps_of r words) (length words) ≡ Some s → Poll polled s
+  next_poll : (words : List ℕ) (s : Step) (w v : ℕ) (polled : List ℕ) → words ≡ w ∷ v ∷ polled → slice_get (steps_of asked words) (length words) ≡ Some s → Poll polled s
   next_poll words s w v polled is next = polls polled s (rw is at next)
 
   -- whether the answer is the last
-  whole_one : (words : List ℕ) (x : ℕ) → words ≡ [] → is_whole r (words ++ x ∷ []) ≡ false
+  whole_one : (words : List ℕ) (x : ℕ) → words ≡ [] → is_whole asked (words ++ x ∷ []) ≡ false
   whole_one words x is = rw is refl
 
-  whole_two : (words : List ℕ) (w x : ℕ) → words ≡ w ∷ [] → is_whole r (words ++ x ∷ []) ≡ false
+  whole_two : (words : List ℕ) (w x : ℕ) → words ≡ w ∷ [] → is_whole asked (words ++ x ∷ []) ≡ false
   whole_two words w x is = rw is refl
 
-  whole_reads : (words : List ℕ) (w v : ℕ) (polled : List ℕ) (x : ℕ) → words ≡ w ∷ v ∷ polled → length (polling (polled ++ x ∷ [])) ≡ suc (suc (length polled)) → is_whole r (words ++ x ∷ []) ≡ false
+  whole_reads : (words : List ℕ) (w v : ℕ) (polled : List ℕ) (x : ℕ) → words ≡ w ∷ v ∷ polled → length (polling (polled ++ x ∷ [])) ≡ suc (suc (length polled)) → is_whole asked (words ++ x ∷ []) ≡ false
   whole_reads words w v polled x is long =
       let more = length-append polled (x ∷ []) in
       rw is (by (length (polling (polled ++ x ∷ []))) (length (polled ++ x ∷ [])) (omega arith))
@@ -90,7 +90,7 @@ module _ (idn : Idn) (b : Block) where
       by : (n k : ℕ) → n ≡ suc k → nat_le (suc (suc n)) (suc (suc k)) ≡ false
       by n k is = grind (arith, nat_tests)
 
-  whole_cancels : (words : List ℕ) (w v : ℕ) (polled : List ℕ) (x : ℕ) → words ≡ w ∷ v ∷ polled → length (polling (polled ++ x ∷ [])) ≡ suc (length polled) → is_whole r (words ++ x ∷ []) ≡ true
+  whole_cancels : (words : List ℕ) (w v : ℕ) (polled : List ℕ) (x : ℕ) → words ≡ w ∷ v ∷ polled → length (polling (polled ++ x ∷ [])) ≡ suc (length polled) → is_whole asked (words ++ x ∷ []) ≡ true
   whole_cancels words w v polled x is long =
       let more = length-append polled (x ∷ []) in
       rw is (by (length (polling (polled ++ x ∷ []))) (length (polled ++ x ∷ [])) (omega arith))
@@ -102,15 +102,15 @@ module _ (idn : Idn) (b : Block) where
     -- one entry more
     grows_poll : (words : List ℕ) (e : Entry) (entries all : List Entry) (d o : Entry) (past : List Entry) (w v : ℕ) (polled : List ℕ) →
         entries ≡ d ∷ o ∷ past → words ≡ w ∷ v ∷ polled → open_idn all ≡ Some idn.raw → run_before true 7 all ≡ [] → b.attribute.length ≡ len.Two →
-        Poll polled e.taken.step → e.answer.error ≡ false → is_whole r (words ++ e.answer.word ∷ []) ≡ false → Stage idn b (words ++ e.answer.word ∷ []) (e ∷ entries) (e ∷ all)
+        Poll polled e.taken.step → e.answer.error ≡ false → is_whole asked (words ++ e.answer.word ∷ []) ≡ false → Stage idn b (words ++ e.answer.word ∷ []) (e ∷ entries) (e ∷ all)
     grows_poll words e entries all d o past w v polled those is opened before two (Reads step long) well goes_on =
         AtPoll e d (o ∷ past) w v (polled ++ e.answer.word ∷ []) (ap (λ (l : List Entry). e ∷ l) those) (ap (λ (ws : List ℕ). ws ++ e.answer.word ∷ []) is)
         (open_by (a_step false true 1 0) e all step well ∙ opened) (run_starts (a_step false true 1 0) true 7 e all step refl) two
     grows_poll words e entries all d o past w v polled those is opened before two (Cancels step long) well goes_on =
         let whole = whole_cancels words w v polled e.answer.word is (long e.answer.word) in absurd (cc)
 
-    grows : (words : List ℕ) (e : Entry) (entries all : List Entry) → Stage idn b words entries all → slice_get (steps_of r words) (length words) ≡ Some e.taken.step →
-        e.answer ≡ reply_of e.taken all → AreAlike e.taken.blocks blocks → e.answer.error ≡ false → is_whole r (words ++ e.answer.word ∷ []) ≡ false →
+    grows : (words : List ℕ) (e : Entry) (entries all : List Entry) → Stage idn b words entries all → slice_get (steps_of asked words) (length words) ≡ Some e.taken.step →
+        e.answer ≡ reply_of e.taken all → AreAlike e.taken.blocks blocks → e.answer.error ≡ false → is_whole asked (words ++ e.answer.word ∷ []) ≡ false →
         Stage idn b (words ++ e.answer.word ∷ []) (e ∷ entries) (e ∷ all)
     grows words e entries all (AtOpening those is) next reply alike well goes_on =
         let step = next_opening words e.taken.step is next in
@@ -125,7 +125,7 @@ module _ (idn : Idn) (b : Block) where
 
     -- what it adds to the writes
     abbrev AddsBy : List ℕ → Entry → List Entry → List Entry → List Write → Type 0
-    AddsBy words e entries all before = writes_of (e ∷ all) ≡ cancelled_by idn.raw (not e.answer.error && is_whole r (words ++ e.answer.word ∷ [])) e ++ (set_by idn.raw (second_of (e ∷ entries)) ++ before)
+    AddsBy words e entries all before = writes_of (e ∷ all) ≡ cancelled_by idn.raw (not e.answer.error && is_whole asked (words ++ e.answer.word ∷ [])) e ++ (set_by idn.raw (second_of (e ∷ entries)) ++ before)
 
     not_cancelled : (error whole : Bool) (e : Entry) (writes : List Write) → whole ≡ false → cancelled_by idn.raw (not error && whole) e ++ writes ≡ writes
     not_cancelled true whole e writes off = refl
@@ -144,7 +144,7 @@ module _ (idn : Idn) (b : Block) where
     adds_setting words e entries all o w those is opened before step reply alike =
         by e.answer.error refl
         ∙ ap (λ (l : List Entry). set_by idn.raw (second_of (e ∷ l)) ++ writes_of all) (sym those)
-        ∙ sym (not_cancelled e.answer.error (is_whole r (words ++ e.answer.word ∷ [])) e (set_by idn.raw (second_of (e ∷ entries)) ++ writes_of all) (whole_two words w e.answer.word is))
+        ∙ sym (not_cancelled e.answer.error (is_whole asked (words ++ e.answer.word ∷ [])) e (set_by idn.raw (second_of (e ∷ entries)) ++ writes_of all) (whole_two words w e.answer.word is))
       where
         by : (v : Bool) → e.answer.error ≡ v → writes_of (e ∷ all) ≡ set_by idn.raw (Some e) ++ writes_of all
         by true off =
@@ -158,55 +158,55 @@ module _ (idn : Idn) (b : Block) where
     second_stays e entries d o past those = ap second_of those ∙ ap (λ (l : List Entry). second_of (e ∷ l)) (sym those)
 
     adds_poll : (words : List ℕ) (e : Entry) (all : List Entry) (w v : ℕ) (polled : List ℕ) → words ≡ w ∷ v ∷ polled → open_idn all ≡ Some idn.raw → run_before true 7 all ≡ [] → b.attribute.length ≡ len.Two → Poll polled e.taken.step →
-        AreAlike e.taken.blocks blocks → writes_of (e ∷ all) ≡ cancelled_by idn.raw (not e.answer.error && is_whole r (words ++ e.answer.word ∷ [])) e ++ writes_of all
+        AreAlike e.taken.blocks blocks → writes_of (e ∷ all) ≡ cancelled_by idn.raw (not e.answer.error && is_whole asked (words ++ e.answer.word ∷ [])) e ++ writes_of all
     adds_poll words e all w v polled is opened before two (Reads step long) alike =
-        adds_none e all (effect_by (a_step false true 1 0) e step) ∙ sym (not_cancelled e.answer.error (is_whole r (words ++ e.answer.word ∷ [])) e (writes_of all) (whole_reads words w v polled e.answer.word is (long e.answer.word)))
+        adds_none e all (effect_by (a_step false true 1 0) e step) ∙ sym (not_cancelled e.answer.error (is_whole asked (words ++ e.answer.word ∷ [])) e (writes_of all) (whole_reads words w v polled e.answer.word is (long e.answer.word)))
     adds_poll words e all w v polled is opened before two (Cancels step long) alike = by e.answer.error refl
       where
-        by : (error : Bool) → e.answer.error ≡ error → writes_of (e ∷ all) ≡ cancelled_by idn.raw (not e.answer.error && is_whole r (words ++ e.answer.word ∷ [])) e ++ writes_of all
+        by : (error : Bool) → e.answer.error ≡ error → writes_of (e ∷ all) ≡ cancelled_by idn.raw (not e.answer.error && is_whole asked (words ++ e.answer.word ∷ [])) e ++ writes_of all
         by true off =
             adds_none e all (effect_by (a_step true true 7 0) e step ∙ ap not off)
-            ∙ ap (λ (v : Bool). cancelled_by idn.raw (not v && is_whole r (words ++ e.answer.word ∷ [])) e ++ writes_of all) (sym off)
+            ∙ ap (λ (v : Bool). cancelled_by idn.raw (not v && is_whole asked (words ++ e.answer.word ∷ [])) e ++ writes_of all) (sym off)
         by false well =
             adds_value 0 e all (omega arith) step well opened before alike two
             ∙ ap₂ (λ (v whole : Bool). cancelled_by idn.raw (not v && whole) e ++ writes_of all) (sym well) (sym (whole_cancels words w v polled e.answer.word is (long e.answer.word)))
 
-    adds : (words : List ℕ) (e : Entry) (entries all : List Entry) (before : List Write) → Stage idn b words entries all → slice_get (steps_of r words) (length words) ≡ Some e.taken.step →
+    adds : (words : List ℕ) (e : Entry) (entries all : List Entry) (before : List Write) → Stage idn b words entries all → slice_get (steps_of asked words) (length words) ≡ Some e.taken.step →
         e.answer ≡ reply_of e.taken all → AreAlike e.taken.blocks blocks → writes_of all ≡ set_by idn.raw (second_of entries) ++ before → AddsBy words e entries all before
     adds words e entries all before (AtOpening those is) next reply alike same =
         adds_none e all (effect_by (opening idn) e (next_opening words e.taken.step is next))
         ∙ same ∙ ap (λ (l : List Entry). set_by idn.raw (second_of l) ++ before) those ∙ ap (λ (l : List Entry). set_by idn.raw (second_of (e ∷ l)) ++ before) (sym those)
-        ∙ sym (not_cancelled e.answer.error (is_whole r (words ++ e.answer.word ∷ [])) e (set_by idn.raw (second_of (e ∷ entries)) ++ before) (whole_one words e.answer.word is))
+        ∙ sym (not_cancelled e.answer.error (is_whole asked (words ++ e.answer.word ∷ [])) e (set_by idn.raw (second_of (e ∷ entries)) ++ before) (whole_one words e.answer.word is))
     adds words e entries all before (AtSetting o w those is opened free) next reply alike same =
         adds_setting words e entries all o w those is opened free (next_setting words e.taken.step w is next) reply alike
-        ∙ ap (λ (l : List Write). cancelled_by idn.raw (not e.answer.error && is_whole r (words ++ e.answer.word ∷ [])) e ++ (set_by idn.raw (second_of (e ∷ entries)) ++ l))
+        ∙ ap (λ (l : List Write). cancelled_by idn.raw (not e.answer.error && is_whole asked (words ++ e.answer.word ∷ [])) e ++ (set_by idn.raw (second_of (e ∷ entries)) ++ l))
         (same ∙ ap (λ (l : List Entry). set_by idn.raw (second_of l) ++ before) those)
     adds words e entries all before (AtPoll d o past w v polled those is opened free two) next reply alike same =
         adds_poll words e all w v polled is opened free two (next_poll words e.taken.step w v polled is next) alike
-        ∙ ap (λ (l : List Write). cancelled_by idn.raw (not e.answer.error && is_whole r (words ++ e.answer.word ∷ [])) e ++ l)
+        ∙ ap (λ (l : List Write). cancelled_by idn.raw (not e.answer.error && is_whole asked (words ++ e.answer.word ∷ [])) e ++ l)
         (same ∙ ap (λ (x : Option Entry). set_by idn.raw x ++ before) (second_stays e entries d o past those))
 
     -- the entries before the newest
-    stage_before : (e : Entry) (entries log : List Entry) → IsTransfer r blocks e entries log →
+    stage_before : (e : Entry) (entries log : List Entry) → IsTransfer asked blocks e entries log →
         Stage idn b (answer_words (replies_of entries)) entries (entries ++ log) × (writes_of (entries ++ log) ≡ set_by idn.raw (second_of entries) ++ writes_of log)
     stage_before e [] log is = (AtOpening refl refl, refl)
     stage_before e (d ∷ entries) log is =
-        let was = without_newest r blocks log e d entries is in
+        let was = without_newest asked blocks log e d entries is in
         let before = stage_before d entries log was in
-        let next = newest_step r blocks log d entries was in
-        let on = goes_on-outcome_of r d.answer (replies_of entries) is.goes_on in (
+        let next = newest_step asked blocks log d entries was in
+        let on = goes_on-outcome_of asked d.answer (replies_of entries) is.goes_on in (
           grows (answer_words (replies_of entries)) d entries (entries ++ log) before.0 next was.replies.1 was.alike.1 on.0 on.1,
           adds (answer_words (replies_of entries)) d entries (entries ++ log) (writes_of log) before.0 next was.replies.1 was.alike.1 before.1
-              ∙ not_cancelled d.answer.error (is_whole r (answer_words (replies_of entries) ++ d.answer.word ∷ [])) d (set_by idn.raw (second_of (d ∷ entries)) ++ writes_of log) on.1,
+              ∙ not_cancelled d.answer.error (is_whole asked (answer_words (replies_of entries) ++ d.answer.word ∷ [])) d (set_by idn.raw (second_of (d ∷ entries)) ++ writes_of log) on.1,
         )
 
-    sets_found : (e : Entry) (entries log : List Entry) → IsTransfer r blocks e entries log →
-        writes_of ((e ∷ entries) ++ log) ≡ cancelled_by idn.raw (is_complete (outcome_of r (replies_of (e ∷ entries)))) e ++ (set_by idn.raw (second_of (e ∷ entries)) ++ writes_of log)
+    sets_found : (e : Entry) (entries log : List Entry) → IsTransfer asked blocks e entries log →
+        writes_of ((e ∷ entries) ++ log) ≡ cancelled_by idn.raw (is_complete (outcome_of asked (replies_of (e ∷ entries)))) e ++ (set_by idn.raw (second_of (e ∷ entries)) ++ writes_of log)
     sets_found e entries log is =
         let before = stage_before e entries log is in
-        let next = newest_step r blocks log e entries is in
+        let next = newest_step asked blocks log e entries is in
         adds (answer_words (replies_of entries)) e entries (entries ++ log) (writes_of log) before.0 next is.replies.1 is.alike.1 before.1
-        ∙ ap (λ (v : Bool). cancelled_by idn.raw v e ++ (set_by idn.raw (second_of (e ∷ entries)) ++ writes_of log)) (sym (complete-outcome_of r e.answer (replies_of entries)))
+        ∙ ap (λ (v : Bool). cancelled_by idn.raw v e ++ (set_by idn.raw (second_of (e ∷ entries)) ++ writes_of log)) (sym (complete-outcome_of asked e.answer (replies_of entries)))
 
 -- an opening alone is no setting, and completes nothing
 sets_nowhere : (idn : Idn) (blocks : List Block) (e : Entry) (entries log : List Entry) → find_block idn.raw blocks ≡ None → IsTransfer (request.Command idn) blocks e entries log →

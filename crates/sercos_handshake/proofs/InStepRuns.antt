@@ -10,11 +10,13 @@ use Rattle.sercos_service_drive.specs.Log.{Taken, ahs, accepted}
 use Rattle.sercos_service_drive.specs.Replies.{reply_of, answered, log_of}
 use Rattle.sercos_service_drive.specs.Says.{drive_says}
 use Rattle.sercos_service_master.specs.Begun.{open_in, is_odd, master_says}
-use Rattle.sercos_service_master.specs.Calls.{Call, begun_by}
+use Rattle.sercos_service_master.specs.Calls.{Call, AreCalls, begun_by}
 use Rattle.sercos_handshake.specs.InStep.{AreInStep, Idle}
 use Rattle.sercos_handshake.specs.Runs.{Turn, with_heard, with_begun, calls_in, master_calls, record_in, drive_taken, shown_by, IsRun}
 use Rattle.sercos_handshake.specs.Moves.{said_in, with_taken}
 use Rattle.sercos_handshake.specs.Choices.{Choice, begun_in, heard_in, run_by}
+use Rattle.sercos_handshake.specs.Parts.{AreParts}
+use Rattle.sercos_handshake.proofs.LogParts.{come_in_turn, fall_into_parts}
 use Rattle.sercos_handshake.proofs.HandshakeMoves.{ahs-is_odd, hears, begins, takes}
 
 is_odd-answered : (h : List Taken) → is_odd (answered h) ≡ is_odd h
@@ -56,6 +58,20 @@ run_in_step busy (t ∷ j) run =
     let heard = heard_in_step t.at_comes busy t.cycle t.showing t.status t.word (master_calls j) (drive_taken j) before run.1.at in
     let begun = begun_in_step t.begins (with_heard t.at_comes t.status t.word (master_calls j)) (drive_taken j) heard run.1.begins in
     taken_in_step t.mdt_comes (record_in t) (calls_in t (master_calls j)) (drive_taken j) begun run.1.sent
+
+-- the calls of a run were allowed
+called : (v : Bool) (status : Status) (word : ℕ) (o : Option Request) (calls : List Call) → AreCalls calls → (IsSome o → open_in (begun_by (with_heard v status word calls)) ≡ None) → AreCalls (with_begun o (with_heard v status word calls))
+called true status word None calls are shut = are
+called false status word None calls are shut = are
+called true status word (Some r) calls are shut = (are, shut refl)
+called false status word (Some r) calls are shut = (are, shut refl)
+
+run_called : (busy : ℕ) (j : List Turn) → IsRun busy j → AreCalls (master_calls j)
+run_called busy [] run = tt
+run_called busy (t ∷ j) run = called t.at_comes t.status t.word t.begins (master_calls j) (run_called busy j run.0) run.1.begins
+
+pub run_in_parts : (busy : ℕ) (j : List Turn) → IsRun busy j → AreParts (begun_by (master_calls j)) (log_of (drive_taken j))
+run_in_parts busy j run = fall_into_parts (begun_by (master_calls j)) (log_of (drive_taken j)) (come_in_turn (master_calls j) (run_called busy j run)) (run_in_step busy j run)
 
 -- Runs exist.
 begins_shut : (wants : Option Request) (calls : List Call) → IsSome (begun_in wants calls) → open_in (begun_by calls) ≡ None

@@ -10,3 +10,4 @@ pub mod UnknownBlocks
 pub mod SettingReplies
 pub mod CommandStages
 pub mod Worked
+pub mod LogParts

@@ -14,11 +14,11 @@ use Rattle.sercos_service_drive.specs.Writes.{Write, with_added, writes_of, take
 use Rattle.sercos_handshake.specs.InStep.{steps_of, replies_of}
 use Rattle.sercos_handshake.specs.Transfers.{IsTransfer, is_complete}
 
-length-steps_of : (entries : List Entry) → length (steps_of entries) ≡ length entries
+pub length-steps_of : (entries : List Entry) → length (steps_of entries) ≡ length entries
 length-steps_of [] = refl
 length-steps_of (e ∷ entries) = ap suc (length-steps_of entries)
 
-length-replies_of : (entries : List Entry) → length (replies_of entries) ≡ length entries
+pub length-replies_of : (entries : List Entry) → length (replies_of entries) ≡ length entries
 length-replies_of [] = refl
 length-replies_of (e ∷ entries) = ap suc (length-replies_of entries)
 
@@ -26,7 +26,7 @@ length-with_step : (o : Option Step) (steps : List Step) → length (with_step o
 length-with_step None steps = omega arith
 length-with_step (Some s) steps = omega arith
 
-length-steps_begun : (r : Request) (h : List Answer) → length (steps_begun r h) ≤ suc (length h)
+pub length-steps_begun : (r : Request) (h : List Answer) → length (steps_begun r h) ≤ suc (length h)
 length-steps_begun r [] = length-with_step (step_at r []) []
 length-steps_begun r (a ∷ h) =
     let before = length-steps_begun r h in

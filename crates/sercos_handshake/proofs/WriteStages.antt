@@ -74,20 +74,20 @@ both_of false false x y off on = absurd (cc)
 both_of true b x y off on = absurd (cc)
 
 module _ (idn : Idn) (bytes : List ℕ) (b : Block) (said : shape_of 7 (low_of b + 65536 * high_of b) ≡ shape_by b.attribute.length) where
-  abbrev r : Request
-  r = request.Write idn 7 bytes
+  abbrev asked : Request
+  asked = request.Write idn 7 bytes
 
   -- the next step
-  next_opening : (words : List ℕ) (s : Step) → words ≡ [] → slice_get (steps_of r words) (length words) ≡ Some s → s ≡ opening idn
+  next_opening : (words : List ℕ) (s : Step) → words ≡ [] → slice_get (steps_of asked words) (length words) ≡ Some s → s ≡ opening idn
   next_opening words s is next = some_same (opening idn) s (rw is at next)
 
-  next_low : (words : List ℕ) (s : Step) (w : ℕ) → words ≡ w ∷ [] → slice_get (steps_of r words) (length words) ≡ Some s → s ≡ a_step false false 3 0
+  next_low : (words : List ℕ) (s : Step) (w : ℕ) → words ≡ w ∷ [] → slice_get (steps_of asked words) (length words) ≡ Some s → s ≡ a_step false false 3 0
   next_low words s w is next = some_same (a_step false false 3 0) s (rw is at next)
 
-  next_high : (words : List ℕ) (s : Step) (w x : ℕ) → words ≡ w ∷ x ∷ [] → slice_get (steps_of r words) (length words) ≡ Some s → s ≡ a_step false true 3 0
+  next_high : (words : List ℕ) (s : Step) (w x : ℕ) → words ≡ w ∷ x ∷ [] → slice_get (steps_of asked words) (length words) ≡ Some s → s ≡ a_step false true 3 0
   next_high words s w x is next = some_same (a_step false true 3 0) s (rw is at next)
 
-  steps_known : (w : ℕ) (more : List ℕ) → steps_of r (w ∷ low_of b ∷ high_of b ∷ more) ≡ opening idn ∷ a_step false false 3 0 ∷ a_step false true 3 0 ∷ run true 7 (told b bytes)
+  steps_known : (w : ℕ) (more : List ℕ) → steps_of asked (w ∷ low_of b ∷ high_of b ∷ more) ≡ opening idn ∷ a_step false false 3 0 ∷ a_step false true 3 0 ∷ run true 7 (told b bytes)
   steps_known w more = ap (λ (s : Shape). opening idn ∷ a_step false false 3 0 ∷ a_step false true 3 0 ∷ run true 7 (words_told s bytes)) said
 
   first_of : (word : ℕ) (rest : List ℕ) → slice_get (run true 7 (word ∷ rest)) 0 ≡ Some (a_step true (is_nil rest) 7 word)
@@ -95,22 +95,22 @@ module _ (idn : Idn) (bytes : List ℕ) (b : Block) (said : shape_of 7 (low_of b
   first_of word (v ∷ rest) = refl
 
   next_word : (words : List ℕ) (s : Step) (w : ℕ) (more : List ℕ) (taken : List Taken) (word : ℕ) (rest : List ℕ) → words ≡ w ∷ low_of b ∷ high_of b ∷ more → length more ≡ length taken →
-      in_order taken (word ∷ rest) ≡ told b bytes → slice_get (steps_of r words) (length words) ≡ Some s → s ≡ a_step true (is_nil rest) 7 word
+      in_order taken (word ∷ rest) ≡ told b bytes → slice_get (steps_of asked words) (length words) ≡ Some s → s ≡ a_step true (is_nil rest) 7 word
   next_word words s w more taken word rest is count ordered next =
-      let at : slice_get (steps_of r words) (length words) ≡ slice_get (run true 7 (told b bytes)) (length more) =
-      ap (λ (ws : List ℕ). slice_get (steps_of r ws) (length ws)) is ∙ ap (λ (steps : List Step). slice_get steps (suc (suc (suc (length more))))) (steps_known w more) in
+      let at : slice_get (steps_of asked words) (length words) ≡ slice_get (run true 7 (told b bytes)) (length more) =
+      ap (λ (ws : List ℕ). slice_get (steps_of asked ws) (length ws)) is ∙ ap (λ (steps : List Step). slice_get steps (suc (suc (suc (length more))))) (steps_known w more) in
       let there : slice_get (run true 7 (told b bytes)) (length more) ≡ Some (a_step true (is_nil rest) 7 word) =
       ap₂ (λ (ws : List ℕ) (k : ℕ). slice_get (run true 7 ws) k) (sym ordered) count ∙ run_next taken word rest ∙ first_of word rest in
       some_same (a_step true (is_nil rest) 7 word) s (sym there ∙ sym at ∙ next)
 
   -- whether the answer is the last
-  whole_one : (words : List ℕ) (x : ℕ) → words ≡ [] → is_whole r (words ++ x ∷ []) ≡ false
+  whole_one : (words : List ℕ) (x : ℕ) → words ≡ [] → is_whole asked (words ++ x ∷ []) ≡ false
   whole_one words x is = rw is refl
 
-  whole_two : (words : List ℕ) (w x : ℕ) → words ≡ w ∷ [] → is_whole r (words ++ x ∷ []) ≡ false
+  whole_two : (words : List ℕ) (w x : ℕ) → words ≡ w ∷ [] → is_whole asked (words ++ x ∷ []) ≡ false
   whole_two words w x is = rw is refl
 
-  whole_three : (words : List ℕ) (w v x : ℕ) → words ≡ w ∷ v ∷ [] → is_whole r (words ++ x ∷ []) ≡ false
+  whole_three : (words : List ℕ) (w v x : ℕ) → words ≡ w ∷ v ∷ [] → is_whole asked (words ++ x ∷ []) ≡ false
   whole_three words w v x is =
       let some : suc (length (drop 1 (words_told (shape_of 7 (v + 65536 * x)) bytes))) ≡ length (words_told (shape_of 7 (v + 65536 * x)) bytes) = ap length (told_parts (shape_of 7 (v + 65536 * x)) bytes) in
       let same : length (run true 7 (words_told (shape_of 7 (v + 65536 * x)) bytes)) ≡ length (words_told (shape_of 7 (v + 65536 * x)) bytes) = length-run true 7 (words_told (shape_of 7 (v + 65536 * x)) bytes) in
@@ -120,22 +120,22 @@ module _ (idn : Idn) (bytes : List ℕ) (b : Block) (said : shape_of 7 (low_of b
       more_than n some = grind (arith, nat_tests)
 
   whole_by : (w : ℕ) (more : List ℕ) (taken : List Taken) (word : ℕ) (rest : List ℕ) → length more ≡ suc (length taken) → in_order taken (word ∷ rest) ≡ told b bytes →
-      is_whole r (w ∷ low_of b ∷ high_of b ∷ more) ≡ is_nil rest
+      is_whole asked (w ∷ low_of b ∷ high_of b ∷ more) ≡ is_nil rest
   whole_by w more taken word rest count ordered =
-      let long : length (steps_of r (w ∷ low_of b ∷ high_of b ∷ more)) ≡ suc (suc (suc (length (run true 7 (told b bytes))))) = ap length (steps_known w more) in
+      let long : length (steps_of asked (w ∷ low_of b ∷ high_of b ∷ more)) ≡ suc (suc (suc (length (run true 7 (told b bytes))))) = ap length (steps_known w more) in
       let same : length (run true 7 (told b bytes)) ≡ length (told b bytes) = length-run true 7 (told b bytes) in
       let known : length (told b bytes) ≡ length taken + suc (length rest) = ap length (sym ordered) ∙ length-in_order taken (word ∷ rest) in
-      by rest (length (steps_of r (w ∷ low_of b ∷ high_of b ∷ more))) (length more) (omega arith)
+      by rest (length (steps_of asked (w ∷ low_of b ∷ high_of b ∷ more))) (length more) (omega arith)
     where
       by : (rest : List ℕ) (n k : ℕ) → n ≡ suc (suc (k + suc (length rest))) → nat_le n (suc (suc (suc k))) ≡ is_nil rest
       by [] n k is = grind (arith, nat_tests)
       by (v ∷ rest) n k is = grind (arith, nat_tests)
 
   whole_word : (words : List ℕ) (w : ℕ) (more : List ℕ) (taken : List Taken) (word : ℕ) (rest : List ℕ) (x : ℕ) → words ≡ w ∷ low_of b ∷ high_of b ∷ more → length more ≡ length taken → in_order taken (word ∷ rest) ≡ told b bytes →
-      is_whole r (words ++ x ∷ []) ≡ is_nil rest
+      is_whole asked (words ++ x ∷ []) ≡ is_nil rest
   whole_word words w more taken word rest x is count ordered =
       let longer : length (more ++ x ∷ []) ≡ suc (length taken) = omega (arith, length-append more (x ∷ [])) in
-      ap (λ (ws : List ℕ). is_whole r (ws ++ x ∷ [])) is ∙ whole_by w (more ++ x ∷ []) taken word rest longer ordered
+      ap (λ (ws : List ℕ). is_whole asked (ws ++ x ∷ [])) is ∙ whole_by w (more ++ x ∷ []) taken word rest longer ordered
 
   -- one entry more
   module _ (blocks : List Block) (found : find_block idn.raw blocks ≡ Some b) where
@@ -151,8 +151,8 @@ module _ (idn : Idn) (bytes : List ℕ) (b : Block) (said : shape_of 7 (low_of b
         (run_grows (a_step true false 7 word) true 7 e all taken step well before refl)
         (ap (λ (s : Step). in_order taken (s.word ∷ v ∷ rest)) step ∙ ordered)
 
-    grows : (words : List ℕ) (e : Entry) (all : List Entry) → Stage idn bytes b words all → slice_get (steps_of r words) (length words) ≡ Some e.taken.step →
-        e.answer ≡ reply_of e.taken all → AreAlike e.taken.blocks blocks → e.answer.error ≡ false → is_whole r (words ++ e.answer.word ∷ []) ≡ false → Stage idn bytes b (words ++ e.answer.word ∷ []) (e ∷ all)
+    grows : (words : List ℕ) (e : Entry) (all : List Entry) → Stage idn bytes b words all → slice_get (steps_of asked words) (length words) ≡ Some e.taken.step →
+        e.answer ≡ reply_of e.taken all → AreAlike e.taken.blocks blocks → e.answer.error ≡ false → is_whole asked (words ++ e.answer.word ∷ []) ≡ false → Stage idn bytes b (words ++ e.answer.word ∷ []) (e ∷ all)
     grows words e all (AtOpening is) next reply alike well goes_on =
         let step = next_opening words e.taken.step is next in
         AtLow e.answer.word (ap (λ (ws : List ℕ). ws ++ e.answer.word ∷ []) is) (open_by (opening idn) e all step well) (run_starts (opening idn) false 3 e all step refl)
@@ -175,26 +175,26 @@ module _ (idn : Idn) (bytes : List ℕ) (b : Block) (said : shape_of 7 (low_of b
     -- what it adds to the writes
     abbrev AddsBy : List ℕ → Entry → List Entry → Type 0
     AddsBy words e all = writes_of (e ∷ all) ≡
-        (if not e.answer.error && is_whole r (words ++ e.answer.word ∷ []) then (record { cycle = e.taken.cycle; raw = idn.raw; bytes = bytes_written b (told b bytes) }) ∷ writes_of all else writes_of all)
+        (if not e.answer.error && is_whole asked (words ++ e.answer.word ∷ []) then (record { cycle = e.taken.cycle; raw = idn.raw; bytes = bytes_written b (told b bytes) }) ∷ writes_of all else writes_of all)
 
-    adds_early : (words : List ℕ) (e : Entry) (all : List Entry) (s : Step) → e.taken.step ≡ s → (s.write && ((s.element == 7) && (s.last && not e.answer.error))) ≡ false → is_whole r (words ++ e.answer.word ∷ []) ≡ false → AddsBy words e all
+    adds_early : (words : List ℕ) (e : Entry) (all : List Entry) (s : Step) → e.taken.step ≡ s → (s.write && ((s.element == 7) && (s.last && not e.answer.error))) ≡ false → is_whole asked (words ++ e.answer.word ∷ []) ≡ false → AddsBy words e all
     adds_early words e all s step off open_still =
-        adds_none e all (effect_by s e step ∙ off) ∙ sym (none_of (not e.answer.error) (is_whole r (words ++ e.answer.word ∷ [])) _ (writes_of all) open_still)
+        adds_none e all (effect_by s e step ∙ off) ∙ sym (none_of (not e.answer.error) (is_whole asked (words ++ e.answer.word ∷ [])) _ (writes_of all) open_still)
 
     adds_word : (words : List ℕ) (e : Entry) (all : List Entry) (taken : List Taken) (word : ℕ) (rest : List ℕ) → open_idn all ≡ Some idn.raw → run_before true 7 all ≡ taken → in_order taken (word ∷ rest) ≡ told b bytes →
-        e.taken.step ≡ a_step true (is_nil rest) 7 word → AreAlike e.taken.blocks blocks → is_whole r (words ++ e.answer.word ∷ []) ≡ is_nil rest → AddsBy words e all
+        e.taken.step ≡ a_step true (is_nil rest) 7 word → AreAlike e.taken.blocks blocks → is_whole asked (words ++ e.answer.word ∷ []) ≡ is_nil rest → AddsBy words e all
     adds_word words e all taken word (v ∷ rest) opened before ordered step alike whole = adds_early words e all (a_step true false 7 word) step refl whole
     adds_word words e all taken word [] opened before ordered step alike whole = by e.answer.error refl
       where
         by : (v : Bool) → e.answer.error ≡ v → AddsBy words e all
         by true refused =
             adds_none e all (effect_by (a_step true true 7 word) e step ∙ ap not refused)
-            ∙ sym (none_of_error e.answer.error (is_whole r (words ++ e.answer.word ∷ [])) _ (writes_of all) refused)
+            ∙ sym (none_of_error e.answer.error (is_whole asked (words ++ e.answer.word ∷ [])) _ (writes_of all) refused)
         by false well =
             last_word word e all taken idn.raw blocks b (told b bytes) step well opened before ordered alike found
-            ∙ sym (both_of e.answer.error (is_whole r (words ++ e.answer.word ∷ [])) _ (writes_of all) well whole)
+            ∙ sym (both_of e.answer.error (is_whole asked (words ++ e.answer.word ∷ [])) _ (writes_of all) well whole)
 
-    adds : (words : List ℕ) (e : Entry) (all : List Entry) → Stage idn bytes b words all → slice_get (steps_of r words) (length words) ≡ Some e.taken.step → AreAlike e.taken.blocks blocks → AddsBy words e all
+    adds : (words : List ℕ) (e : Entry) (all : List Entry) → Stage idn bytes b words all → slice_get (steps_of asked words) (length words) ≡ Some e.taken.step → AreAlike e.taken.blocks blocks → AddsBy words e all
     adds words e all (AtOpening is) next alike = adds_early words e all (opening idn) (next_opening words e.taken.step is next) refl (whole_one words e.answer.word is)
     adds words e all (AtLow w is opened before) next alike = adds_early words e all (a_step false false 3 0) (next_low words e.taken.step w is next) refl (whole_two words w e.answer.word is)
     adds words e all (AtHigh w t is opened before read) next alike = adds_early words e all (a_step false true 3 0) (next_high words e.taken.step w (low_of b) is next) refl (whole_three words w (low_of b) e.answer.word is)
@@ -202,24 +202,24 @@ module _ (idn : Idn) (bytes : List ℕ) (b : Block) (said : shape_of 7 (low_of b
         adds_word words e all taken word rest opened before ordered (next_word words e.taken.step w more taken word rest is count ordered next) alike (whole_word words w more taken word rest e.answer.word is count ordered)
 
     -- the entries before the newest
-    stage_before : (e : Entry) (entries log : List Entry) → IsTransfer r blocks e entries log → Stage idn bytes b (answer_words (replies_of entries)) (entries ++ log) × (writes_of (entries ++ log) ≡ writes_of log)
+    stage_before : (e : Entry) (entries log : List Entry) → IsTransfer asked blocks e entries log → Stage idn bytes b (answer_words (replies_of entries)) (entries ++ log) × (writes_of (entries ++ log) ≡ writes_of log)
     stage_before e [] log is = (AtOpening refl, refl)
     stage_before e (d ∷ entries) log is =
-        let was = without_newest r blocks log e d entries is in
+        let was = without_newest asked blocks log e d entries is in
         let before = stage_before d entries log was in
-        let next = newest_step r blocks log d entries was in
-        let on = goes_on-outcome_of r d.answer (replies_of entries) is.goes_on in (
+        let next = newest_step asked blocks log d entries was in
+        let on = goes_on-outcome_of asked d.answer (replies_of entries) is.goes_on in (
           grows (answer_words (replies_of entries)) d (entries ++ log) before.0 next was.replies.1 was.alike.1 on.0 on.1,
-          adds (answer_words (replies_of entries)) d (entries ++ log) before.0 next was.alike.1 ∙ none_of (not d.answer.error) (is_whole r (answer_words (replies_of entries) ++ d.answer.word ∷ [])) _ (writes_of (entries ++ log)) on.1 ∙ before.1,
+          adds (answer_words (replies_of entries)) d (entries ++ log) before.0 next was.alike.1 ∙ none_of (not d.answer.error) (is_whole asked (answer_words (replies_of entries) ++ d.answer.word ∷ [])) _ (writes_of (entries ++ log)) on.1 ∙ before.1,
         )
 
-    pub writes_once_by : (e : Entry) (entries log : List Entry) → AreBytes bytes → IsTransfer r blocks e entries log →
-        writes_of ((e ∷ entries) ++ log) ≡ (if is_complete (outcome_of r (replies_of (e ∷ entries))) then (record { cycle = e.taken.cycle; raw = idn.raw; bytes = stored b bytes }) ∷ writes_of log else writes_of log)
+    pub writes_once_by : (e : Entry) (entries log : List Entry) → AreBytes bytes → IsTransfer asked blocks e entries log →
+        writes_of ((e ∷ entries) ++ log) ≡ (if is_complete (outcome_of asked (replies_of (e ∷ entries))) then (record { cycle = e.taken.cycle; raw = idn.raw; bytes = stored b bytes }) ∷ writes_of log else writes_of log)
     writes_once_by e entries log are is =
         let before = stage_before e entries log is in
-        let next = newest_step r blocks log e entries is in
+        let next = newest_step asked blocks log e entries is in
         adds (answer_words (replies_of entries)) e (entries ++ log) before.0 next is.alike.1
-        ∙ same_choice _ _ _ _ _ _ (sym (complete-outcome_of r e.answer (replies_of entries))) (bytes_written-told b bytes are) before.1
+        ∙ same_choice _ _ _ _ _ _ (sym (complete-outcome_of asked e.answer (replies_of entries))) (bytes_written-told b bytes are) before.1
       where
         same_choice : (u v : Bool) (x y : List ℕ) (past writes : List Write) → u ≡ v → x ≡ y → past ≡ writes →
             (if u then (record { cycle = e.taken.cycle; raw = idn.raw; bytes = x }) ∷ past else past) ≡ (if v then (record { cycle = e.taken.cycle; raw = idn.raw; bytes = y }) ∷ writes else writes)

@@ -4,3 +4,4 @@ pub mod Moves
 pub mod Choices
 pub mod Transfers
 pub mod CommandTransfers
+pub mod Parts

@@ -3,4 +3,4 @@
 
 mod law;
 
-pub use law::{handshake_law, transfer_law};
+pub use law::{handshake_law, parts_law, transfer_law};
