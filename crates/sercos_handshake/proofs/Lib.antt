@@ -1,1 +1,13 @@
-
+pub mod HandshakeMoves
+pub mod InStepRuns
+pub mod TransferSteps
+pub mod StoredBytes
+pub mod QuietSteps
+pub mod AttributeReplies
+pub mod WriteRuns
+pub mod WriteStages
+pub mod UnknownBlocks
+pub mod SettingReplies
+pub mod CommandStages
+pub mod Worked
+pub mod LogParts

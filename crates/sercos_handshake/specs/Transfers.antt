@@ -53,8 +53,8 @@ WritesOnce = (idn : Idn) (bytes : List ℕ) (blocks : List Block) (b : Block) (e
     AreBytes bytes → find_block idn.raw blocks ≡ Some b → b.attribute.factor < 2 ^ 16 →
     IsTransfer (request.Write idn 7 bytes) blocks e entries log →
     writes_of ((e ∷ entries) ++ log) ≡
-        (if is_complete (outcome_of (request.Write idn 7 bytes) (replies_of (e ∷ entries)))
-        then (record { cycle = e.taken.cycle; raw = idn.raw; bytes = stored b bytes }) ∷ writes_of log else writes_of log)
+    (if is_complete (outcome_of (request.Write idn 7 bytes) (replies_of (e ∷ entries)))
+    then (record { cycle = e.taken.cycle; raw = idn.raw; bytes = stored b bytes }) ∷ writes_of log else writes_of log)
 
 -- A read, and a write of another element, adds none.
 abbrev pub is_silent : Request → Bool

@@ -305,3 +305,20 @@ attribute_word-attribute_of word small is =
 pub attribute_of-factor : (word : ℕ) → (attribute_of word).factor < 65536
 unfolding attribute_of
 attribute_of-factor word = omega arith
+
+-- the word of an attribute is a word, and gives back the attribute
+pub attribute_word-below : (a : Attribute) → a.factor < 65536 → attribute_word a < 4294967296
+attribute_word-below a fits =
+    let ls = length_below a.length in
+    let cs = bit_below a.command in
+    let ms = form_below a.form in
+    let ds : a.decimals < 16 = a.decimals_in_range in
+    let ps = bit_below a.protect2 in
+    let qs = bit_below a.protect3 in
+    let rs = bit_below a.protect4 in omega arith
+
+pub attribute_of-attribute_word : (a : Attribute) → a.factor < 65536 → attribute_of (attribute_word a) ≡ a
+attribute_of-attribute_word a fits =
+    let sound = IsSound-attribute_fault (attribute_word a) (attribute_fault-attribute_word a fits) in
+    attribute_word-injective (attribute_of (attribute_word a)) a (attribute_of-factor (attribute_word a)) fits
+    (attribute_word-attribute_of (attribute_word a) (attribute_word-below a fits) sound)

@@ -5,8 +5,10 @@ mod attribute;
 mod code;
 mod idn;
 mod kinds;
+mod law;
 
 pub use attribute::{Attribute, BadAttribute};
 pub use code::Code;
 pub use idn::{BadIdn, Idn};
 pub use kinds::{Form, Length};
+pub use law::attribute_law;

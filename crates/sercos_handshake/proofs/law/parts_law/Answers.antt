@@ -1,0 +1,15 @@
+use Rattle.sercos_handshake.proofs.InStepRuns.{run_in_parts}
+use Rattle.sercos_handshake.proofs.LogParts.{come_in_turn, fall_into_parts, have_replies}
+use Rattle.sercos_handshake.proofs.law.parts_law.Goals as goal
+
+pub returns-clause-turn : goal.returns-clause-turn
+returns-clause-turn c = come_in_turn
+
+pub returns-clause-parts : goal.returns-clause-parts
+returns-clause-parts c = fall_into_parts
+
+pub returns-clause-replies : goal.returns-clause-replies
+returns-clause-replies c = have_replies
+
+pub returns-clause-run : goal.returns-clause-run
+returns-clause-run c = run_in_parts

@@ -1,0 +1,21 @@
+use Rattle.sercos_handshake.proofs.AttributeReplies.{shape-attribute}
+use Rattle.sercos_handshake.proofs.QuietSteps.{writes_nothing}
+use Rattle.sercos_handshake.proofs.WriteStages.{writes_once_by}
+use Rattle.sercos_handshake.proofs.UnknownBlocks.{writes_nowhere}
+use Rattle.sercos_handshake.proofs.CommandStages.{sets_and_cancels}
+use Rattle.sercos_handshake.proofs.law.transfer_law.Goals as goal
+
+pub returns-clause-writes_once : goal.returns-clause-writes_once
+returns-clause-writes_once c = λ idn bytes blocks b e entries log are found fits is.
+    let law = c.attribute_law.ensures in
+    let said = shape-attribute b.attribute (law.small b.attribute fits) (law.sound b.attribute fits) (law.back b.attribute fits) in
+    writes_once_by idn bytes b said blocks found e entries log are is
+
+pub returns-clause-writes_nothing : goal.returns-clause-writes_nothing
+returns-clause-writes_nothing c = writes_nothing
+
+pub returns-clause-writes_nowhere : goal.returns-clause-writes_nowhere
+returns-clause-writes_nowhere c = writes_nowhere
+
+pub returns-clause-sets_and_cancels : goal.returns-clause-sets_and_cancels
+returns-clause-sets_and_cancels c = sets_and_cancels

@@ -1,0 +1,49 @@
+-- What a transfer that sets a procedure command writes, and one to a data block that the drive hasn't. Each list has its
+-- newest item first.
+use Rattle.std.specs.Prelude.{◌≡◌, ℕ, Bool, if◌then◌else◌, List, [], ◌∷◌, ◌++◌, Option, Some, None}
+use Rattle.sercos_idn.specs.declared.idn.Idn.{Idn}
+use Rattle.sercos_step.specs.declared.request.Request.{Request}
+use Rattle.sercos_step.specs.declared.request.Request.TheVariants as request
+use Rattle.sercos_step.specs.Steps.{outcome_of}
+use Rattle.sercos_block.specs.declared.block.Block.{Block}
+use Rattle.sercos_block.specs.Stores.{find_block}
+use Rattle.sercos_service_drive.specs.Log.{Entry}
+use Rattle.sercos_service_drive.specs.Writes.{Write, writes_of}
+use Rattle.sercos_handshake.specs.InStep.{replies_of}
+use Rattle.sercos_handshake.specs.Transfers.{IsTransfer, is_complete}
+
+-- a setting of a procedure command, 3, or its cancel, 0, with an entry
+abbrev pub setting : ℕ → ℕ → Entry → Write
+setting raw value e = record { cycle = e.taken.cycle; raw = raw; bytes = value ∷ 0 ∷ [] }
+
+-- the second of all entries, which sets the command: it adds the setting, if it isn't refused
+abbrev pub second_of : List Entry → Option Entry
+second_of [] = None
+second_of (e ∷ []) = None
+second_of (e ∷ d ∷ []) = Some e
+second_of (e ∷ d ∷ c ∷ entries) = second_of (d ∷ c ∷ entries)
+
+abbrev pub set_by : ℕ → Option Entry → List Write
+set_by raw None = []
+set_by raw (Some e) = if e.answer.error then [] else setting raw 3 e ∷ []
+
+-- the newest of them adds the cancel, if it completes the transfer
+abbrev pub cancelled_by : ℕ → Bool → Entry → List Write
+cancelled_by raw complete e = if complete then setting raw 0 e ∷ [] else []
+
+-- A transfer that sets a procedure command adds the setting with its second step, the cancel with the step that completes
+-- it, and nothing else.
+abbrev pub SetsAndCancels : Type 0
+SetsAndCancels = (idn : Idn) (blocks : List Block) (e : Entry) (entries log : List Entry) → IsTransfer (request.Command idn) blocks e entries log →
+    writes_of ((e ∷ entries) ++ log) ≡
+    cancelled_by idn.raw (is_complete (outcome_of (request.Command idn) (replies_of (e ∷ entries)))) e ++ (set_by idn.raw (second_of (e ∷ entries)) ++ writes_of log)
+
+-- Where the drive hasn't the data block, no transfer adds a write.
+abbrev pub idn_of : Request → Idn
+idn_of (request.Read idn e) = idn
+idn_of (request.Write idn e bytes) = idn
+idn_of (request.Command idn) = idn
+
+abbrev pub WritesNowhere : Type 0
+WritesNowhere = (r : Request) (blocks : List Block) (e : Entry) (entries log : List Entry) → find_block (idn_of r).raw blocks ≡ None → IsTransfer r blocks e entries log →
+    writes_of ((e ∷ entries) ++ log) ≡ writes_of log
