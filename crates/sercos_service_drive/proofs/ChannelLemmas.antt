@@ -101,13 +101,13 @@ module _ (v : ChannelView) (busy cycle : ℕ) (commands : CommandsView) (h : Lis
       let same : record { cycle = e.taken.cycle; answer = e.answer } ≡ last = cc in
       rw (← same, stood.busy_is) refl
 
-  pub shows_last : (last : Last) (late : ℕ) → v.last ≡ Some last → late ≡ cycle - last.cycle → (test : Bool) → nat_le late v.busy ≡ test
+  pub shows_last : (last : Last) → v.last ≡ Some last → (test : Bool) → nat_le (cycle - last.cycle) v.busy ≡ test
       → drive_says busy cycle commands h
       ≡ cond test (record { ahs = v.ahs; busy = true; error = false; change = change_in commands cycle; word = 0 })
-      (record { ahs = v.ahs; busy = false; error = last.answer.error; change = change_in commands cycle; word = last.answer.word })
-  shows_last last late some late_is test is =
+          (record { ahs = v.ahs; busy = false; error = last.answer.error; change = change_in commands cycle; word = last.answer.word })
+  shows_last last some test is =
       let all = last_in (log_of h) last (sym stood.last_is ∙ some) in
-      rw (← stood.ahs_is) (rw (← late_is, is) at all)
+      rw (← stood.ahs_is) (rw is at all)
 
 pub shown_is : (s : Status) (word : ℕ) (bit busy error change : Bool) {value : Shown} → (s.ahs ≡ bit) × (s.busy ≡ busy) × (s.error ≡ error) × (s.change ≡ change) × (s.cyclic ≡ 0)
     → value ≡ record { ahs = bit; busy = busy; error = error; change = change; word = word } → shown_by s word ≡ value

@@ -1,5 +1,5 @@
 // The drive's end of a channel.
-ghost use Rattle.std.specs.Prelude.{◌≡◌, ℕ, ◌≤◌, List, [], ◌∷◌, ◌<◌, ◌==◌, ◌&&◌, not, true, is_some};
+ghost use Rattle.std.specs.Prelude.{◌≡◌, ℕ, ◌≤◌, ◌-◌, nat_le, List, [], ◌∷◌, ◌<◌, ◌==◌, ◌&&◌, not, true, is_some};
 ghost use Rattle.sercos_command.specs.Settings.{are_commands_of};
 ghost use Rattle.sercos_command.specs.Calls.{Call, newest, CommandsStandFor};
 ghost use Rattle.sercos_service_drive.specs.Log.{Taken, record_of};
@@ -63,6 +63,13 @@ fn adds(step: Step, answer: Answer) -> bool
     step.write && step.element == 7 && step.last && !answer.error
 }
 
+// Whether the drive is busy in a cycle with a step of an earlier one.
+fn is_busy(cycle: u32, since: u32, busy: u8) -> bool
+    ensures { result ≡ nat_le (cycle - since) busy }
+{
+    cycle.saturating_sub(since) <= u32::from(busy)
+}
+
 impl DriveChannel {
     /// A channel that has taken no record, of a drive that is busy with each step for so many cycles.
     pub fn new(busy: u8) -> DriveChannel
@@ -123,7 +130,7 @@ impl DriveChannel {
         match self.last {
             None => (status(self.ahs, false, false, change), 0),
             Some(last) => {
-                if cycle.saturating_sub(last.cycle) <= u32::from(self.busy) {
+                if is_busy(cycle, last.cycle, self.busy) {
                     (status(self.ahs, true, false, change), 0)
                 } else {
                     (
