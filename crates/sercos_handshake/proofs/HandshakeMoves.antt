@@ -6,10 +6,9 @@ use Rattle.sercos_telegram.specs.declared.words.Status.{Status}
 use Rattle.sercos_step.specs.declared.step.Step.{Step}
 use Rattle.sercos_step.specs.declared.step.Answer.{Answer}
 use Rattle.sercos_service_drive.specs.Log.{Taken, Entry, ahs, accepted}
-use Rattle.sercos_service_drive.specs.Says.{Shown, shown}
+use Rattle.sercos_service_drive.specs.Says.{Shown, shown, shown_by}
 use Rattle.sercos_service_master.specs.Begun.{Begun, Said, open_in, steps_in, answers_in, steps_begun, step_at, with_step, is_odd, mhs_in, answers_it, answer_in, with_answer, step_or_none, master_says}
 use Rattle.sercos_handshake.specs.InStep.{InStep, Idle, Sent, Kept, AreInStep, steps_of, replies_of}
-use Rattle.sercos_handshake.specs.Runs.{shown_by}
 use Rattle.sercos_handshake.specs.Moves.{Hears, Begins, Takes, with_status, said_in, with_taken}
 
 beq-self : (b : Bool) → beq b b ≡ true

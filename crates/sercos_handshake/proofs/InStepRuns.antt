@@ -8,11 +8,11 @@ use Rattle.sercos_step.specs.declared.request.Request.{Request}
 use Rattle.sercos_command.specs.Settings.{CommandsView, change_in}
 use Rattle.sercos_service_drive.specs.Log.{Taken, ahs, accepted}
 use Rattle.sercos_service_drive.specs.Replies.{reply_of, answered, log_of}
-use Rattle.sercos_service_drive.specs.Says.{drive_says}
+use Rattle.sercos_service_drive.specs.Says.{drive_says, shown_by}
 use Rattle.sercos_service_master.specs.Begun.{open_in, is_odd, master_says}
 use Rattle.sercos_service_master.specs.Calls.{Call, AreCalls, begun_by}
 use Rattle.sercos_handshake.specs.InStep.{AreInStep, Idle}
-use Rattle.sercos_handshake.specs.Runs.{Turn, with_heard, with_begun, calls_in, master_calls, record_in, drive_taken, shown_by, IsRun}
+use Rattle.sercos_handshake.specs.Runs.{Turn, with_heard, with_begun, calls_in, master_calls, record_in, drive_taken, IsRun}
 use Rattle.sercos_handshake.specs.Moves.{said_in, with_taken}
 use Rattle.sercos_handshake.specs.Choices.{Choice, begun_in, heard_in, run_by}
 use Rattle.sercos_handshake.specs.Parts.{AreParts}

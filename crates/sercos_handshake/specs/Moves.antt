@@ -5,10 +5,9 @@ use Rattle.sercos_telegram.specs.declared.words.Status.{Status}
 use Rattle.sercos_step.specs.declared.step.Answer.{Answer}
 use Rattle.sercos_step.specs.declared.request.Request.{Request}
 use Rattle.sercos_service_drive.specs.Log.{Taken, Entry}
-use Rattle.sercos_service_drive.specs.Says.{shown}
+use Rattle.sercos_service_drive.specs.Says.{shown, shown_by}
 use Rattle.sercos_service_master.specs.Begun.{Begun, Said, open_in, is_odd, answers_it, answer_in, with_answer, master_says}
 use Rattle.sercos_handshake.specs.InStep.{AreInStep}
-use Rattle.sercos_handshake.specs.Runs.{shown_by}
 
 -- The master hears a status and a word that show what the drive shows of a log, whose AHS is the parity of the log.
 abbrev pub with_status : Status → ℕ → List Begun → List Begun

@@ -5,7 +5,7 @@ use Rattle.sercos_step.specs.declared.request.Request.{Request}
 use Rattle.sercos_block.specs.declared.block.Block.{Block}
 use Rattle.sercos_command.specs.Settings.{CommandsView}
 use Rattle.sercos_service_drive.specs.Log.{Taken}
-use Rattle.sercos_service_drive.specs.Says.{Shown, drive_says}
+use Rattle.sercos_service_drive.specs.Says.{shown_by, drive_says}
 use Rattle.sercos_service_master.specs.Begun.{Said, open_in, master_says}
 use Rattle.sercos_service_master.specs.Calls.{Call, Begin, Send, Hear, EndCycle, begun_by}
 
@@ -48,10 +48,6 @@ record_in t = record { cycle = t.cycle; phase = t.phase; mhs = t.sent.mhs; step 
 abbrev pub drive_taken : List Turn → List Taken
 drive_taken [] = []
 drive_taken (t ∷ j) = if t.mdt_comes then record_in t ∷ drive_taken j else drive_taken j
-
--- what a status and a word show
-abbrev pub shown_by : Status → ℕ → Shown
-shown_by status word = record { ahs = status.ahs; busy = status.busy; error = status.error; change = status.change; word = word }
 
 -- A cycle follows: each end says what it has to say of what it was given, and a request is begun only where no step is open.
 pub record IsNext (busy : ℕ) (t : Turn) (j : List Turn) : Type 0 where
