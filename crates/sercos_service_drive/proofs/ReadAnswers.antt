@@ -4,7 +4,7 @@ use Rattle.std.specs.Prelude.{slice_index}
 use Rattle.sercos_step.specs.Words.{words_of}
 use Rattle.sercos_service_drive.specs.Log.{Taken, Entry, opens, open_idn, run_before, selection}
 use Rattle.sercos_service_drive.specs.Replies.{good, refused, answer_by, copy, read_cause, reply_of}
-use Rattle.sercos_service_drive.specs.Kept.{run_of, place_of, continued, place_in, selected, SessionView, IsReading, IsRun, HoldsRun, SessionStandsFor, IsAnswered}
+use Rattle.sercos_service_drive.specs.Kept.{run_of, place_of, continued, place_in, selected, SessionView, IsReading, IsKeptRun, HoldsRun, SessionStandsFor, IsAnswered}
 use Rattle.sercos_service_drive.proofs.RunLemmas.{run_before-run_of, place_is, holds_continued, continued_bit, place_some, word_within}
 use Rattle.sercos_service_drive.proofs.SessionLemmas.{refused_step, good_step}
 
@@ -13,11 +13,11 @@ words_few [] = omega arith
 words_few (a ∷ []) = omega arith
 words_few (a ∷ b ∷ bytes) = let more = words_few bytes in omega (arith, more)
 
-pub reading_of : (write : Bool) (raw : ℕ) (s : Taken) (rest : List Taken) (buffer : List ℕ) → write ≡ false → IsRun write raw s rest buffer → IsReading raw s rest buffer
+pub reading_of : (write : Bool) (raw : ℕ) (s : Taken) (rest : List Taken) (buffer : List ℕ) → write ≡ false → IsKeptRun write raw s rest buffer → IsReading raw s rest buffer
 reading_of true raw s rest buffer off h = cc
 reading_of false raw s rest buffer off h = h
 
-pub run_of_reading : (write : Bool) (raw : ℕ) (s : Taken) (rest : List Taken) (buffer : List ℕ) → write ≡ false → IsReading raw s rest buffer → IsRun write raw s rest buffer
+pub run_of_reading : (write : Bool) (raw : ℕ) (s : Taken) (rest : List Taken) (buffer : List ℕ) → write ≡ false → IsReading raw s rest buffer → IsKeptRun write raw s rest buffer
 run_of_reading true raw s rest buffer off h = cc
 run_of_reading false raw s rest buffer off h = h
 
@@ -78,7 +78,7 @@ module _ (v : SessionView) (t : Taken) (log : List Entry) (raw : ℕ) (stood : S
           let some : (place == 0) ≡ false = rw here (place_some s rest) in
           let same = stays some in
           let bit : s.step.write ≡ false = continued_bit false t.step.element (run_of log) s rest e in
-          let before : IsRun s.step.write raw s rest v.buffer = rw e at holds in
+          let before : IsKeptRun s.step.write raw s rest v.buffer = rw e at holds in
           let reading = reading_of s.step.write raw s rest v.buffer bit before in
           let short : length (words_of buffer) ≤ 65535 = (let few_words = words_few buffer in omega (arith, few_words, few)) in
           let value : slice_index (words_of buffer) place ≡ slice_index (copy raw (selection s rest)) (length (s ∷ rest)) =

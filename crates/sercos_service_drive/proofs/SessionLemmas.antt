@@ -5,7 +5,7 @@ use Rattle.sercos_step.specs.declared.step.Answer.{Answer}
 use Rattle.sercos_block.specs.Stores.{find_block}
 use Rattle.sercos_service_drive.specs.Log.{Taken, Entry, opens, open_idn, run_before}
 use Rattle.sercos_service_drive.specs.Replies.{good, refused, reply_of}
-use Rattle.sercos_service_drive.specs.Kept.{place_of, selection_in, selected, SessionView, IsRun, HoldsRun, SessionStandsFor, IsAnswered}
+use Rattle.sercos_service_drive.specs.Kept.{place_of, selection_in, selected, SessionView, IsKeptRun, HoldsRun, SessionStandsFor, IsAnswered}
 use Rattle.sercos_service_drive.proofs.RunLemmas.{place_more}
 
 abbrev entry : Taken → Answer → Entry
@@ -51,7 +51,7 @@ module _ (v : SessionView) (t : Taken) (log : List Entry) (stood : SessionStands
 
   -- a step that is answered with a word goes on
   pub good_step : (raw word : ℕ) (run : List Taken) (buffer : List ℕ) → good word ≡ reply_of t log → open_idn log ≡ Some raw → run_before t.step.write t.step.element log ≡ run
-      → (t.step.last ≡ false → IsRun t.step.write raw t run buffer)
+      → (t.step.last ≡ false → IsKeptRun t.step.write raw t run buffer)
       → IsAnswered (record { opened = v.opened; selection = selected t.step.last t.step (place_of run); buffer = buffer }) t log (good word)
   good_step raw word run buffer is open_is run_is keeps = record {
     reply_is = is;
@@ -66,6 +66,6 @@ module _ (v : SessionView) (t : Taken) (log : List Entry) (stood : SessionStands
       selections true = refl
       selections false = rw (place_more t run (place_of run) refl) refl
 
-      buffers : (last : Bool) → (last ≡ false → IsRun t.step.write raw t run buffer) → HoldsRun (Some raw) (cond (false || (last || false)) [] (t ∷ run)) buffer
+      buffers : (last : Bool) → (last ≡ false → IsKeptRun t.step.write raw t run buffer) → HoldsRun (Some raw) (cond (false || (last || false)) [] (t ∷ run)) buffer
       buffers true keeps = tt
       buffers false keeps = keeps refl

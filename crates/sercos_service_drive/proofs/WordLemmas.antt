@@ -16,7 +16,8 @@ use Rattle.sercos_block.specs.declared.block.Block.{Block}
 use Rattle.sercos_block.specs.Blocks.{bits_in, is_fixed, is_protected}
 use Rattle.sercos_block.specs.Stores.{is_short, is_long, is_invalid, is_below, is_above, write_fault, data_fault, put_fault}
 use Rattle.sercos_service_drive.specs.Replies.{words_by, words_wanted, bytes_written, selects, ends_early, is_over, is_uneven, is_no_setting, write_cause}
-use Rattle.sercos_service_drive.specs.Kept.{length_cause, place_cause, IsMidway, IsStarted}
+use Rattle.sercos_service_drive.specs.Kept.{IsMidway}
+use Rattle.sercos_service_drive.specs.Partial.{length_cause, place_cause, IsStarted}
 
 -- Words and their bytes.
 

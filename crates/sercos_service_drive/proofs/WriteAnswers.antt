@@ -7,15 +7,16 @@ use Rattle.sercos_command.specs.Settings.{CommandsView}
 use Rattle.sercos_service_drive.specs.Log.{Taken, Entry, opens, open_idn, run_before, in_order}
 use Rattle.sercos_service_drive.specs.Replies.{good, refused, answer_by, bytes_written, write_cause, write_cause_in, reply_of}
 use Rattle.sercos_service_drive.specs.Writes.{Write, without_data, AreAlike, adds}
-use Rattle.sercos_service_drive.specs.Kept.{run_of, place_of, continued, place_in, selected, SessionView, IsMidway, IsWriting, IsRun, HoldsRun, SessionStandsFor, GoesWith, IsAnswered, IsStarted, IsEffect, IsWord, write_by}
+use Rattle.sercos_service_drive.specs.Kept.{run_of, place_of, continued, place_in, selected, SessionView, IsMidway, IsWriting, IsKeptRun, HoldsRun, SessionStandsFor, GoesWith, IsAnswered}
+use Rattle.sercos_service_drive.specs.Partial.{IsStarted, IsEffect, IsWord, write_by}
 use Rattle.sercos_service_drive.proofs.RunLemmas.{run_before-run_of, place_is, holds_continued, continued_bit, place_some}
 use Rattle.sercos_service_drive.proofs.SessionLemmas.{refused_step, good_step}
 
-pub writing_of : (write : Bool) (raw : ℕ) (s : Taken) (rest : List Taken) (buffer : List ℕ) → write ≡ true → IsRun write raw s rest buffer → IsWriting raw s rest buffer
+pub writing_of : (write : Bool) (raw : ℕ) (s : Taken) (rest : List Taken) (buffer : List ℕ) → write ≡ true → IsKeptRun write raw s rest buffer → IsWriting raw s rest buffer
 writing_of true raw s rest buffer on h = h
 writing_of false raw s rest buffer on h = cc
 
-pub run_of_writing : (write : Bool) (raw : ℕ) (s : Taken) (rest : List Taken) (buffer : List ℕ) → write ≡ true → IsWriting raw s rest buffer → IsRun write raw s rest buffer
+pub run_of_writing : (write : Bool) (raw : ℕ) (s : Taken) (rest : List Taken) (buffer : List ℕ) → write ≡ true → IsWriting raw s rest buffer → IsKeptRun write raw s rest buffer
 run_of_writing true raw s rest buffer on h = h
 run_of_writing false raw s rest buffer on h = cc
 
@@ -119,7 +120,7 @@ module _ (v : SessionView) (t : Taken) (log : List Entry) (raw : ℕ) (stood : S
 
   writing : (s : Taken) (rest : List Taken) → run ≡ s ∷ rest → IsWriting raw s rest v.buffer
   writing s rest e =
-      let before : IsRun s.step.write raw s rest v.buffer = rw e at holds in
+      let before : IsKeptRun s.step.write raw s rest v.buffer = rw e at holds in
       writing_of s.step.write raw s rest v.buffer (continued_bit true 7 (run_of log) s rest e) before
 
   -- what is kept of the words before

@@ -1,24 +1,19 @@
 -- What a drive's end of a channel keeps, and the records that it stands for.
-use Rattle.std.specs.Prelude.{◌≡◌, ℕ, ◌+◌, ◌<◌, ◌≤◌, ◌%◌, ◌==◌, nat_lt, nat_le, Bool, true, false, not, ◌&&◌, ◌||◌, if◌then◌else◌, List, [], ◌∷◌, length, min, slice_index, Option, Some, None, IfSome, option_map}
-use Rattle.std.specs.Bool.{then_some}
-use Rattle.std.specs.Option.{option_or}
+use Rattle.std.specs.Prelude.{◌≡◌, ℕ, ◌+◌, ◌<◌, ◌≤◌, ◌%◌, ◌==◌, Bool, true, false, ◌&&◌, ◌||◌, if◌then◌else◌, List, [], ◌∷◌, length, min, slice_index, Option, Some, None, IfSome, option_map}
 use mathlib.Core.Bool.{beq}
 use Rattle.sercos_idn.specs.declared.idn.Idn.{Idn}
-use Rattle.sercos_idn.specs.declared.attribute.Attribute.{Attribute}
 use Rattle.sercos_idn.specs.Codes.{is_list, item_len}
 use Rattle.sercos_step.specs.declared.step.Step.{Step}
 use Rattle.sercos_step.specs.declared.step.Answer.{Answer}
 use Rattle.sercos_step.specs.Words.{words_of, bytes_in}
 use Rattle.sercos_block.specs.declared.block.Block.{Block}
 use Rattle.sercos_block.specs.Blocks.{is_fixed}
-use Rattle.sercos_block.specs.Stores.{find_block, write_fault}
+use Rattle.sercos_block.specs.Stores.{find_block}
 use Rattle.sercos_service_drive.specs.declared.session.Selection.{Selection}
 use Rattle.sercos_service_drive.specs.declared.channel.Last.{Last}
 use Rattle.sercos_service_drive.specs.Log.{Taken, Entry, ahs, opens, open_idn, run_before, selection, in_order}
-use Rattle.sercos_service_drive.specs.Replies.{words_by, words_wanted, bytes_written, write_cause, copy, read_cause, reply_of, log_of}
-use Rattle.sercos_command.specs.Settings.{CommandsView}
-use Rattle.sercos_command.specs.Calls.{Call, newest, CommandsStandFor}
-use Rattle.sercos_service_drive.specs.Writes.{Write, AreAlike, unless, blocks_with, commands_with, calls_with}
+use Rattle.sercos_service_drive.specs.Replies.{words_wanted, copy, read_cause, reply_of, log_of}
+use Rattle.sercos_service_drive.specs.Writes.{AreAlike}
 
 -- The run that a next step may go on: none behind an opening, a step of element 0, a last word or an error.
 abbrev pub ends_run : Entry → Bool
@@ -74,14 +69,14 @@ pub record IsWriting (raw : ℕ) (t : Taken) (run : List Taken) (buffer : List �
   pub bytes : buffer ≡ bytes_in (in_order (t ∷ run) [])
   pub midway : IfSome (find_block raw t.blocks) (λ b. IsMidway b (in_order (t ∷ run) []))
 
-abbrev pub IsRun : Bool → ℕ → Taken → List Taken → List ℕ → Type 0
-IsRun true raw t run buffer = IsWriting raw t run buffer
-IsRun false raw t run buffer = IsReading raw t run buffer
+abbrev pub IsKeptRun : Bool → ℕ → Taken → List Taken → List ℕ → Type 0
+IsKeptRun true raw t run buffer = IsWriting raw t run buffer
+IsKeptRun false raw t run buffer = IsReading raw t run buffer
 
 abbrev pub HoldsRun : Option ℕ → List Taken → List ℕ → Type 0
 HoldsRun o [] buffer = Unit {0}
 HoldsRun None (t ∷ run) buffer = ⊥
-HoldsRun (Some raw) (t ∷ run) buffer = IsRun t.step.write raw t run buffer
+HoldsRun (Some raw) (t ∷ run) buffer = IsKeptRun t.step.write raw t run buffer
 
 -- it stands for these entries
 pub record SessionStandsFor (v : SessionView) (log : List Entry) : Type 0 where
@@ -116,39 +111,3 @@ pub record ChannelStandsFor (v : ChannelView) (busy : ℕ) (h : List Taken) : Ty
   pub ahs_is : v.ahs ≡ ahs h
   pub last_is : v.last ≡ last_of (log_of h)
   pub session_is : SessionStandsFor v.session (log_of h)
-
--- The first cause for which a word of operation data is refused by its place and the block alone, where with it so many
--- words are there, the first of which is this.
-unfoldable pub length_cause : Attribute → ℕ → Bool → ℕ → ℕ → Option ℕ
-length_cause a most last count first =
-    option_or (then_some (last && nat_lt count (words_by a first)) 0x7002)
-    (option_or (then_some ((is_list a.length && ((count == 1) && nat_lt most first)) || (not last && nat_le (words_by a first) count)) 0x7003)
-    (then_some (is_list a.length && ((count == 1) && not (first % item_len a.length == 0))) 0x7008))
-
-abbrev pub place_cause : Option Block → ℕ → Bool → ℕ → ℕ → Option ℕ
-place_cause None phase last count first = Some 0x1001
-place_cause (Some b) phase last count first = option_or (write_fault (Some b) phase) (length_cause b.attribute b.max_len last count first)
-
--- these words were accepted before, in a run that goes on
-abbrev pub IsStarted : Block → List ℕ → Type 0
-IsStarted b [] = Unit {0}
-IsStarted b (word ∷ words) = IsMidway b (word ∷ words)
-
--- what a write, if there is one, makes of the blocks and of the procedure commands
-pub record IsEffect (w : Option Write) (cycle : ℕ) (blocks blocks' : List Block) (commands commands' : CommandsView) : Type 0 where
-  pub blocks_is : blocks' ≡ blocks_with w commands blocks
-  pub commands_is : commands' ≡ commands_with w blocks commands
-  pub calls : (rate time : ℕ) (h : List Call) → CommandsStandFor commands rate time h → newest h ≤ cycle → CommandsStandFor commands' rate time (calls_with w blocks h)
-
--- the write of the last word, where there is no cause against it
-abbrev pub write_by : Bool → Option ℕ → Write → Option Write
-write_by true code w = unless code w
-write_by false code w = None
-
--- What a word of operation data comes to, where with it the run has these words: the code against it, if there is one; and
--- if there is none, the bytes are kept, and the last word writes them.
-pub record IsWord (raw cycle phase : ℕ) (b : Block) (last : Bool) (words : List ℕ) (code : Option ℕ) (buffer : List ℕ) (blocks blocks' : List Block) (commands commands' : CommandsView) : Type 0 where
-  pub code_is : code ≡ write_cause b phase last words
-  pub buffer_is : code ≡ None → buffer ≡ bytes_in words
-  pub midway : code ≡ None → last ≡ false → IsMidway b words
-  pub effect : IsEffect (write_by last code (record { cycle = cycle; raw = raw; bytes = bytes_written b words })) cycle blocks blocks' commands commands'

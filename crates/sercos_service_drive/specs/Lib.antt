@@ -3,3 +3,4 @@ pub mod Replies
 pub mod Writes
 pub mod Says
 pub mod Kept
+pub mod Partial

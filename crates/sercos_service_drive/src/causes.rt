@@ -3,7 +3,7 @@ ghost use Rattle.std.specs.Prelude.{◌≡◌, ◌≤◌, ◌+◌, ◌%◌, ◌=
 ghost use Rattle.sercos_idn.specs.Codes.{is_list, item_len};
 ghost use Rattle.sercos_block.specs.Stores.{find_block};
 ghost use Rattle.sercos_service_drive.specs.Replies.{words_by};
-ghost use Rattle.sercos_service_drive.specs.Kept.{length_cause, place_cause};
+ghost use Rattle.sercos_service_drive.specs.Partial.{length_cause, place_cause};
 
 use sercos_block::Store;
 use sercos_idn::{Attribute, Code, Idn};
@@ -37,7 +37,7 @@ fn is_uneven(attribute: &Attribute, count: u32, first: u16) -> bool
 }
 
 // The first cause against a word by its place, where with it so many words are there.
-#[tactic(auto, unfolding(crate::specs::Kept::length_cause))]
+#[tactic(auto, unfolding(crate::specs::Partial::length_cause))]
 fn length_cause(
     attribute: &Attribute,
     most: u16,

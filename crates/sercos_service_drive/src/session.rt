@@ -8,7 +8,8 @@ ghost use Rattle.sercos_command.specs.Settings.{are_commands_of};
 ghost use Rattle.sercos_service_drive.specs.Log.{Taken, taken, Entry, opens, open_idn};
 ghost use Rattle.sercos_service_drive.specs.Replies.{good, refused, words_at, missing};
 ghost use Rattle.sercos_service_drive.specs.Writes.{adds};
-ghost use Rattle.sercos_service_drive.specs.Kept.{run_of, place_in, selected, GoesWith, IsStarted, IsEffect, IsWord, IsAnswered, SessionStandsFor};
+ghost use Rattle.sercos_service_drive.specs.Kept.{run_of, place_in, selected, GoesWith, IsAnswered, SessionStandsFor};
+ghost use Rattle.sercos_service_drive.specs.Partial.{IsStarted, IsEffect, IsWord};
 
 use crate::causes::place_cause;
 use crate::copying::{Buffer, copy_element, push_word};

@@ -1,0 +1,50 @@
+-- What a word of operation data that is written comes to, at its place in the run.
+use Rattle.std.specs.Prelude.{◌≡◌, ℕ, ◌≤◌, ◌%◌, ◌==◌, nat_lt, nat_le, Bool, true, false, not, ◌&&◌, ◌||◌, List, [], ◌∷◌, Option, Some, None}
+use Rattle.std.specs.Bool.{then_some}
+use Rattle.std.specs.Option.{option_or}
+use Rattle.sercos_idn.specs.declared.attribute.Attribute.{Attribute}
+use Rattle.sercos_idn.specs.Codes.{is_list, item_len}
+use Rattle.sercos_step.specs.Words.{bytes_in}
+use Rattle.sercos_block.specs.declared.block.Block.{Block}
+use Rattle.sercos_block.specs.Stores.{write_fault}
+use Rattle.sercos_command.specs.Settings.{CommandsView}
+use Rattle.sercos_command.specs.Calls.{Call, newest, CommandsStandFor}
+use Rattle.sercos_service_drive.specs.Replies.{words_by, bytes_written, write_cause}
+use Rattle.sercos_service_drive.specs.Writes.{Write, unless, blocks_with, commands_with, calls_with}
+use Rattle.sercos_service_drive.specs.Kept.{IsMidway}
+
+-- The first cause for which a word of operation data is refused by its place and the block alone, where with it so many
+-- words are there, the first of which is this.
+unfoldable pub length_cause : Attribute → ℕ → Bool → ℕ → ℕ → Option ℕ
+length_cause a most last count first =
+    option_or (then_some (last && nat_lt count (words_by a first)) 0x7002)
+    (option_or (then_some ((is_list a.length && ((count == 1) && nat_lt most first)) || (not last && nat_le (words_by a first) count)) 0x7003)
+    (then_some (is_list a.length && ((count == 1) && not (first % item_len a.length == 0))) 0x7008))
+
+abbrev pub place_cause : Option Block → ℕ → Bool → ℕ → ℕ → Option ℕ
+place_cause None phase last count first = Some 0x1001
+place_cause (Some b) phase last count first = option_or (write_fault (Some b) phase) (length_cause b.attribute b.max_len last count first)
+
+-- these words were accepted before, in a run that goes on
+abbrev pub IsStarted : Block → List ℕ → Type 0
+IsStarted b [] = Unit {0}
+IsStarted b (word ∷ words) = IsMidway b (word ∷ words)
+
+-- what a write, if there is one, makes of the blocks and of the procedure commands
+pub record IsEffect (w : Option Write) (cycle : ℕ) (blocks blocks' : List Block) (commands commands' : CommandsView) : Type 0 where
+  pub blocks_is : blocks' ≡ blocks_with w commands blocks
+  pub commands_is : commands' ≡ commands_with w blocks commands
+  pub calls : (rate time : ℕ) (h : List Call) → CommandsStandFor commands rate time h → newest h ≤ cycle → CommandsStandFor commands' rate time (calls_with w blocks h)
+
+-- the write of the last word, where there is no cause against it
+abbrev pub write_by : Bool → Option ℕ → Write → Option Write
+write_by true code w = unless code w
+write_by false code w = None
+
+-- What a word of operation data comes to, where with it the run has these words: the code against it, if there is one; and
+-- if there is none, the bytes are kept, and the last word writes them.
+pub record IsWord (raw cycle phase : ℕ) (b : Block) (last : Bool) (words : List ℕ) (code : Option ℕ) (buffer : List ℕ) (blocks blocks' : List Block) (commands commands' : CommandsView) : Type 0 where
+  pub code_is : code ≡ write_cause b phase last words
+  pub buffer_is : code ≡ None → buffer ≡ bytes_in words
+  pub midway : code ≡ None → last ≡ false → IsMidway b words
+  pub effect : IsEffect (write_by last code (record { cycle = cycle; raw = raw; bytes = bytes_written b words })) cycle blocks blocks' commands commands'
