@@ -28,7 +28,6 @@ fn add_if(unfit: &mut ArrayVec<Idn, 64>, idn: Idn, broken: bool)
 /// The identifier numbers whose operation data isn't fit for phase 3 in a ring of a rate, in Mbit/s, ascending: times that
 /// don't go with one another or with those that the drive declares, a data record or telegrams that can't be, and lists of
 /// what can't stand in a telegram.
-#[tactic(auto, unfolding(crate::specs::Checks::unfit_for_phase_3))]
 pub fn check127(rate: u8, store: &Store) -> ArrayVec<Idn, 64>
     ensures { result.items ≡ unfit_for_phase_3 rate store.now }
 {

@@ -149,7 +149,7 @@ impl Commands {
     }
 
     /// Phase 0: no command is set any more, and no check counts as passed.
-    #[tactic(auto, using(crate::proofs::CallLemmas::stands_reset), unfolding(crate::specs::Settings::are_distinct))]
+    #[tactic(auto, using(crate::proofs::CallLemmas::stands_reset))]
     pub fn reset(&mut self)
         ensures view { self.new ≡ without_settings self.old }
         ensures stands { (rate time : ℕ) (h : List Call) → CommandsStandFor self.old rate time h → CommandsStandFor self.new rate time (Reset ∷ h) }
