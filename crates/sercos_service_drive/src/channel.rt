@@ -142,9 +142,9 @@ impl DriveChannel {
         }
     }
 
-    /// Phase 0: the channel has taken no record.
+    /// Phase 0: the channel has taken no record. The busy time stays.
     pub fn reset(&mut self)
-        ensures { (busy : ℕ) (h : List Taken) → ChannelStandsFor self.old busy h → ChannelStandsFor self.new busy [] }
+        ensures { ChannelStandsFor self.new self.old.busy [] }
     {
         self.ahs = false;
         self.last = None;
