@@ -26,7 +26,7 @@ use Rattle.sercos_service_drive.specs.Replies.{data_in, element_words, words_at,
 use Rattle.sercos_service_drive.specs.Writes.{without_data}
 use Rattle.sercos_handshake.specs.InStep.{replies_of}
 use Rattle.sercos_handshake.specs.Transfers.{IsTransfer}
-use Rattle.sercos_handshake.specs.ReadTransfers.{entry_behind, element_in, bytes_at, is_kept, IsReadAt}
+use Rattle.sercos_handshake.specs.ReadTransfers.{entry_behind, element_in, bytes_at, IsReadAt}
 use Rattle.sercos_handshake.proofs.AttributeReplies.{find-alike}
 use Rattle.sercos_handshake.proofs.ElementWords.{read_from, text_read, word_read, bound_read, data_read}
 use Rattle.sercos_handshake.proofs.ReadStages.{low_of, high_of, shape_read, given_by}
@@ -62,12 +62,12 @@ abbrev shape_in : ℕ → Length → Shape
 shape_in e l = if e == 3 then shape.Two else (if (e == 2) || (e == 4) then shape.List else (if e == 7 then shape_by l else as_value (shape_by l)))
 
 abbrev ReadsElement : ℕ → ℕ → Block → Type 0
-ReadsElement e cycle c = Keeps c → is_none (element_of c e) ≡ false → (is_kept e ≡ true → AreBytes (element_in e cycle c)) →
+ReadsElement e cycle c = Keeps c → is_none (element_of c e) ≡ false → (e ≡ 7 → AreBytes c.value) →
     read_from (shape_in e c.attribute.length) (element_words e cycle c) ≡ element_in e cycle c
 
 reads_name : (cycle : ℕ) (c : Block) → ReadsElement 2 cycle c
 unfolding element_words element_of
-reads_name cycle c rules there are = text_read 60 c.name (omega arith) rules.name (are refl)
+reads_name cycle c rules there are = text_read 60 c.name (omega arith) rules.name
 
 reads_attribute : (cycle : ℕ) (c : Block) → ReadsElement 3 cycle c
 unfolding element_words element_of
@@ -75,7 +75,7 @@ reads_attribute cycle c rules there are = word_read (attribute_word c.attribute)
 
 reads_unit : (cycle : ℕ) (c : Block) → ReadsElement 4 cycle c
 unfolding element_words element_of
-reads_unit cycle c rules there are = text_read 12 c.unit (omega arith) rules.unit (are refl)
+reads_unit cycle c rules there are = text_read 12 c.unit (omega arith) rules.unit
 
 reads_min : (cycle : ℕ) (c : Block) → ReadsElement 5 cycle c
 unfolding element_words element_of
@@ -124,20 +124,16 @@ found_sound raw (d ∷ blocks) c all found = by (d.idn.raw == raw) (found_sound 
     by true behind is = let e : d ≡ c = cc in ap is_sound (sym e) ∙ parts.0
     by false behind is = behind is
 
--- an element of a block that was found
-abbrev words_found : ℕ → ℕ → Option Block → List ℕ
-words_found e cycle o = unwrap_or (option_map (element_words e cycle) o) []
+-- the block that was found
+block_there : (b : Block) (o : Option Block) → option_map without_data o ≡ Some (without_data b) → (c : Block) × (o ≡ Some c) × (without_data c ≡ without_data b)
+block_there b None alike = absurd (cc)
+block_there b (Some c) alike = (c, refl, cc)
 
-abbrev bytes_found : ℕ → ℕ → Option Block → List ℕ
-bytes_found e cycle o = unwrap_or (option_map (element_in e cycle) o) []
-
-found_read : (e cycle : ℕ) (b : Block) (o : Option Block) → 2 ≤ e → e ≤ 7 → shape_of 7 (low_of b + 65536 * high_of b) ≡ shape_by b.attribute.length → option_map without_data o ≡ Some (without_data b) → read_fault o e ≡ None →
-    ((c : Block) → o ≡ Some c → is_sound c ≡ true) → (is_kept e ≡ true → AreBytes (bytes_found e cycle o)) → read_from (shape_read e b) (words_found e cycle o) ≡ bytes_found e cycle o
-found_read e cycle b None low high said alike there sound are = absurd (cc)
-found_read e cycle b (Some c) low high said alike there sound are =
-    let same : without_data c ≡ without_data b = cc in
-    let layout : shape_read e b ≡ shape_in e c.attribute.length = shape_is e b low high said ∙ ap (λ (x : Block). shape_in e x.attribute.length) (sym same) in
-    ap (λ (s : Shape). read_from s (element_words e cycle c)) layout ∙ reads_element e cycle c low high (keeps c (sound c refl)) (none_of-then (is_none (element_of c e)) (0x1000 * e + 1) there) are
+found_read : (e cycle : ℕ) (b c : Block) → 2 ≤ e → e ≤ 7 → shape_of 7 (low_of b + 65536 * high_of b) ≡ shape_by b.attribute.length → without_data c ≡ without_data b → read_fault (Some c) e ≡ None →
+    is_sound c ≡ true → (e ≡ 7 → AreBytes c.value) → read_from (shape_read e b) (element_words e cycle c) ≡ element_in e cycle c
+found_read e cycle b c low high said alike there sound are =
+    let layout : shape_read e b ≡ shape_in e c.attribute.length = shape_is e b low high said ∙ ap (λ (x : Block). shape_in e x.attribute.length) (sym alike) in
+    ap (λ (s : Shape). read_from s (element_words e cycle c)) layout ∙ reads_element e cycle c low high (keeps c sound) (none_of-then (is_none (element_of c e)) (0x1000 * e + 1) there) are
 
 -- a data status is one byte
 status_small : (time cycle : ℕ) (o : Option SetCommand) → status_by time o cycle < 256
@@ -159,26 +155,25 @@ words_of_it raw e t = words_at raw e t.cycle t.blocks t.commands
 no_status : (e : ℕ) → 2 ≤ e → (e == 1) ≡ false
 no_status e low = grind (arith, nat_tests)
 
-copied_read : (raw e : ℕ) (b : Block) (t : Taken) → 1 ≤ e → e ≤ 7 → shape_of 7 (low_of b + 65536 * high_of b) ≡ shape_by b.attribute.length → option_map without_data (find_block raw t.blocks) ≡ Some (without_data b) →
-    missing raw e t.blocks ≡ None → IsStore t.blocks → (is_kept e ≡ true → AreBytes (bytes_at raw e t)) → read_from (shape_read e b) (words_of_it raw e t) ≡ bytes_at raw e t
-copied_read raw zero b t low high said alike there store are = absurd (omega arith)
-copied_read raw (suc zero) b t low high said alike there store are = status_read (status_in t.commands raw t.cycle) (status_small t.commands.time t.cycle (find_set raw t.commands.set))
-copied_read raw (suc (suc n)) b t low high said alike there store are =
-    let other = no_status (suc (suc n)) (omega arith) in
-    let words = cond-false (suc (suc n) == 1) (status_in t.commands raw t.cycle ∷ []) (words_found (suc (suc n)) t.cycle (find_block raw t.blocks)) other in
-    let bytes = cond-false (suc (suc n) == 1) (status_in t.commands raw t.cycle ∷ 0 ∷ []) (bytes_found (suc (suc n)) t.cycle (find_block raw t.blocks)) other in
-    let fault = cond-false (suc (suc n) == 1) None (read_fault (find_block raw t.blocks) (suc (suc n))) other in
-    ap (read_from (shape_read (suc (suc n)) b)) words
-    ∙ found_read (suc (suc n)) t.cycle b (find_block raw t.blocks) (omega arith) high said alike (sym fault ∙ there) (λ c found. found_sound raw t.blocks c store.sound found)
-    (λ kept. rw bytes at (are kept))
-    ∙ sym bytes
+copied_read : (raw e : ℕ) (b c : Block) (t : Taken) → 1 ≤ e → e ≤ 7 → shape_of 7 (low_of b + 65536 * high_of b) ≡ shape_by b.attribute.length → find_block raw t.blocks ≡ Some c → without_data c ≡ without_data b →
+    missing raw e t.blocks ≡ None → (2 ≤ e → IsStore t.blocks) → (e ≡ 7 → AreBytes c.value) → read_from (shape_read e b) (words_of_it raw e t) ≡ bytes_at raw e c t
+copied_read raw zero b c t low high said found alike there store are = absurd (omega arith)
+copied_read raw (suc zero) b c t low high said found alike there store are = status_read (status_in t.commands raw t.cycle) (status_small t.commands.time t.cycle (find_set raw t.commands.set))
+copied_read raw (suc (suc n)) b c t low high said found alike there store are =
+    let more : 2 ≤ suc (suc n) = omega arith in
+    let other = no_status (suc (suc n)) more in
+    let words : words_of_it raw (suc (suc n)) t ≡ element_words (suc (suc n)) t.cycle c = cond-false (suc (suc n) == 1) _ _ other ∙ ap (λ (o : Option Block). unwrap_or (option_map (element_words (suc (suc n)) t.cycle) o) []) found in
+    let bytes : bytes_at raw (suc (suc n)) c t ≡ element_in (suc (suc n)) t.cycle c = cond-false (suc (suc n) == 1) _ _ other in
+    let fault : missing raw (suc (suc n)) t.blocks ≡ read_fault (Some c) (suc (suc n)) = cond-false (suc (suc n) == 1) _ _ other ∙ ap (λ (o : Option Block). read_fault o (suc (suc n))) found in
+    let sound = found_sound raw t.blocks c (store more).sound found in
+    ap (read_from (shape_read (suc (suc n)) b)) words ∙ found_read (suc (suc n)) t.cycle b c more high said alike (sym fault ∙ there) sound are ∙ sym bytes
 
 pub reads_once_by : (idn : Idn) (e : ℕ) (bytes : List ℕ) (blocks : List Block) (b : Block) (s : Entry) (entries log : List Entry) → shape_of 7 (low_of b + 65536 * high_of b) ≡ shape_by b.attribute.length → 1 ≤ e → e ≤ 7 →
     find_block idn.raw blocks ≡ Some b → IsTransfer (request.Read idn e) blocks s entries log → outcome_of (request.Read idn e) (replies_of (s ∷ entries)) ≡ Some (outcome.Complete bytes) →
     (selection : Entry) × (entry_behind (steps_before e) (s ∷ entries) ≡ Some selection) × IsReadAt idn.raw e b bytes selection.taken
 reads_once_by idn e bytes blocks b s entries log said low high found is complete =
     let given = given_by idn e b blocks found (some e low) bytes s entries log is complete in
-    let alike = find-alike idn.raw given.entry.taken.blocks blocks b given.alike found in
+    let stands = block_there b (find_block idn.raw given.entry.taken.blocks) (find-alike idn.raw given.entry.taken.blocks blocks b given.alike found) in
     let there = ap (λ (n : ℕ). missing idn.raw n given.entry.taken.blocks) (sym given.element) ∙ given.there in
     let copied = ap (λ (n : ℕ). words_of_it idn.raw n given.entry.taken) given.element in (
       given.entry,
@@ -186,9 +181,11 @@ reads_once_by idn e bytes blocks b s entries log said low high found is complete
       record {
         reads = given.reads;
         element = given.element;
-        block = alike;
+        block = stands.0;
+        found = stands.1;
+        alike = stands.2;
         there = given.there;
-        gives = λ store are. given.gives ∙ ap (read_from (shape_read e b)) copied ∙ copied_read idn.raw e b given.entry.taken low high said alike there store are;
+        gives = λ store are. given.gives ∙ ap (read_from (shape_read e b)) copied ∙ copied_read idn.raw e b stands.0 given.entry.taken low high said stands.1 stands.2 there store are;
       },
     )
   where

@@ -1,6 +1,7 @@
 -- The words of an element that a store keeps, read as the attribute says, are its bytes.
-use Rattle.std.proofs.Common.{◌≡◌, ℕ, ◌+◌, ◌/◌, ◌≤◌, Bool, true, false, not, ◌&&◌, List, [], ◌∷◌, length, take, refl, ap, sym, ◌∙◌, arith, if◌then◌else◌}
+use Rattle.std.proofs.Common.{◌≡◌, ℕ, ◌+◌, ◌/◌, ◌≤◌, ◌<◌, Bool, true, false, not, ◌&&◌, List, [], ◌∷◌, length, take, refl, ap, sym, ◌∙◌, arith, if◌then◌else◌}
 use Rattle.std.specs.Prelude.{◌==◌, nat_le, Option, Some, None, is_none, option_map, unwrap_or, slice_index, min}
+use Rattle.std.specs.List.{list_all}
 use Rattle.std.specs.Int.{w16, w32, to_le_bytes}
 use Rattle.std.proofs.lemmas.Bool.Decides.{nat_tests}
 use Rattle.sercos_model.specs.Bits.{AreBytes}
@@ -12,7 +13,7 @@ use Rattle.sercos_step.specs.declared.shape.Shape.{Shape}
 use Rattle.sercos_step.specs.declared.shape.Shape.TheVariants as shape
 use Rattle.sercos_step.specs.Words.{words_of, bytes_in, bytes_read, words_in, shape_by, as_value}
 use Rattle.sercos_block.specs.Blocks.{width_of, bytes_for}
-use Rattle.sercos_block.specs.Rules.{is_text, is_limit}
+use Rattle.sercos_block.specs.Rules.{is_text, is_printable, is_limit}
 use Rattle.sercos_service_drive.specs.Replies.{list_words}
 use Rattle.sercos_handshake.proofs.StoredBytes.{bytes_again, low_byte, high_byte}
 use Rattle.sercos_handshake.proofs.ReadRows.{row, row-all}
@@ -80,14 +81,30 @@ bound_read a (Some bits) fits there = limit_read a.length bits (number (is_list 
     number false u w on = refl
     number true u w on = absurd (cc)
 
-pub text_read : (most : ℕ) (o : Option (List ℕ)) → most ≤ 1024 → is_text most o ≡ true → AreBytes (unwrap_or o []) → read_from shape.List (list_words most (unwrap_or o [])) ≡ unwrap_or o []
-text_read most None small fits are = list_read [] most (omega arith) are
-text_read most (Some text) small fits are = let few = at_most (nat_le 1 (length text)) (nat_le (length text) most) _ refl fits in list_read text most (omega arith) are
+printable_bytes : (text : List ℕ) → list_all is_printable text ≡ true → AreBytes text
+unfolding AreBytes
+printable_bytes [] all = tt
+printable_bytes (byte ∷ text) all = (by (nat_le 0x20 byte) (nat_le byte 0x7e) (list_all is_printable text) refl all, printable_bytes text (rest (is_printable byte) (list_all is_printable text) all))
   where
-    at_most : (u v w : Bool) → nat_le (length text) most ≡ v → (u && (v && w)) ≡ true → length text ≤ most
-    at_most true true w is on = grind (arith, nat_tests)
-    at_most true false w is on = absurd (cc)
-    at_most false v w is on = absurd (cc)
+    by : (u v w : Bool) → nat_le byte 0x7e ≡ v → ((u && v) && w) ≡ true → byte < 256
+    by true true w is on = grind (arith, nat_tests)
+    by true false w is on = absurd (cc)
+    by false v w is on = absurd (cc)
+
+    rest : (u v : Bool) → (u && v) ≡ true → v ≡ true
+    rest true v on = on
+    rest false v on = absurd (cc)
+
+pub text_read : (most : ℕ) (o : Option (List ℕ)) → most ≤ 1024 → is_text most o ≡ true → read_from shape.List (list_words most (unwrap_or o [])) ≡ unwrap_or o []
+text_read most None small fits = list_read [] most (omega arith) (printable_bytes [] refl)
+text_read most (Some text) small fits =
+    let kept = kept_by (nat_le 1 (length text)) (nat_le (length text) most) (list_all is_printable text) refl fits in
+    list_read text most (omega (arith, kept.0)) (printable_bytes text kept.1)
+  where
+    kept_by : (u v w : Bool) → nat_le (length text) most ≡ v → (u && (v && w)) ≡ true → (length text ≤ most) × (w ≡ true)
+    kept_by true true w is on = (grind (arith, nat_tests), on)
+    kept_by true false w is on = absurd (cc)
+    kept_by false v w is on = absurd (cc)
 
 -- a number's own bytes, or those that it has grown to
 abbrev grown : Length → Bool → List ℕ → ℕ → List ℕ
@@ -101,6 +118,14 @@ length-grown len.List1 false value n no_list is = absurd (cc)
 length-grown len.List2 false value n no_list is = absurd (cc)
 length-grown len.List4 false value n no_list is = absurd (cc)
 
+are_grown : (l : Length) (still : Bool) (value : List ℕ) (n : ℕ) → is_list l ≡ false → AreBytes value → AreBytes (grown l still value n)
+are_grown l true value n no_list are = are
+are_grown len.Two false value n no_list are = are_two n
+are_grown len.Four false value n no_list are = are_four n
+are_grown len.List1 false value n no_list are = absurd (cc)
+are_grown len.List2 false value n no_list are = absurd (cc)
+are_grown len.List4 false value n no_list are = absurd (cc)
+
 is_same : (n m : ℕ) → (n == m) ≡ true → n ≡ m
 is_same n m same = grind (arith, nat_tests)
 
@@ -113,10 +138,10 @@ most_of n longest v less fits = by (nat_le 1 longest) (nat_le longest 1024) refl
     by false y is on = absurd (cc)
 
 pub data_read : (l : Length) (still : Bool) (value : List ℕ) (n longest : ℕ) (v : Bool) → (if is_list l then nat_le (length value) longest else length value == item_len l) ≡ true →
-    (if is_list l then nat_le 1 longest && (nat_le longest 1024 && v) else longest == 0) ≡ true → AreBytes (if not (is_list l) then grown l still value n else value) →
+    (if is_list l then nat_le 1 longest && (nat_le longest 1024 && v) else longest == 0) ≡ true → AreBytes value →
     read_from (shape_by l) (if is_list l then list_words longest value else words_of (grown l still value n)) ≡ (if not (is_list l) then grown l still value n else value)
-data_read len.Two still value n longest v fits most are = two_read (grown len.Two still value n) (length-grown len.Two still value n refl (is_same (length value) 2 fits)) are
-data_read len.Four still value n longest v fits most are = four_read (grown len.Four still value n) (length-grown len.Four still value n refl (is_same (length value) 4 fits)) are
+data_read len.Two still value n longest v fits most are = two_read (grown len.Two still value n) (length-grown len.Two still value n refl (is_same (length value) 2 fits)) (are_grown len.Two still value n refl are)
+data_read len.Four still value n longest v fits most are = four_read (grown len.Four still value n) (length-grown len.Four still value n refl (is_same (length value) 4 fits)) (are_grown len.Four still value n refl are)
 data_read len.List1 still value n longest v fits most are = list_read value longest (most_of (length value) longest v fits most) are
 data_read len.List2 still value n longest v fits most are = list_read value longest (most_of (length value) longest v fits most) are
 data_read len.List4 still value n longest v fits most are = list_read value longest (most_of (length value) longest v fits most) are

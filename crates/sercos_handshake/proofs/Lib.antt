@@ -14,4 +14,5 @@ pub mod ReadStages
 pub mod ElementWords
 pub mod ElementReads
 pub mod Worked
+pub mod WorkedReads
 pub mod LogParts

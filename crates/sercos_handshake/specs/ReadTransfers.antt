@@ -1,5 +1,5 @@
 -- What a complete read gives. Each list has its newest item first.
-use Rattle.std.specs.Prelude.{◌≡◌, ℕ, ◌^◌, ◌<◌, ◌≤◌, ◌==◌, Bool, false, not, ◌&&◌, ◌||◌, true, if◌then◌else◌, List, [], ◌∷◌, length, Option, Some, None, option_map, unwrap_or}
+use Rattle.std.specs.Prelude.{◌≡◌, ℕ, ◌^◌, ◌<◌, ◌≤◌, ◌==◌, false, not, ◌&&◌, if◌then◌else◌, List, [], ◌∷◌, length, Option, Some, None, unwrap_or}
 use Rattle.sercos_model.specs.Bits.{AreBytes}
 use Rattle.sercos_idn.specs.declared.idn.Idn.{Idn}
 use Rattle.sercos_idn.specs.Codes.{is_list}
@@ -25,22 +25,21 @@ entry_behind count (e ∷ entries) = if length entries == count then Some e else
 abbrev pub element_in : ℕ → ℕ → Block → List ℕ
 element_in e cycle c = if (e == 7) && not (is_list c.attribute.length) then data_in cycle c else unwrap_or (element_of c e) []
 
--- the bytes of an element when a step is accepted: the data status as two bytes, or those of the block that the drive then has
-abbrev pub bytes_at : ℕ → ℕ → Taken → List ℕ
-bytes_at raw e t =
-    if e == 1 then status_in t.commands raw t.cycle ∷ 0 ∷ [] else unwrap_or (option_map (element_in e t.cycle) (find_block raw t.blocks)) []
+-- the bytes of an element when the drive accepts a step and has this block: the data status as two bytes, or those of the block
+abbrev pub bytes_at : ℕ → ℕ → Block → Taken → List ℕ
+bytes_at raw e c t = if e == 1 then status_in t.commands raw t.cycle ∷ 0 ∷ [] else element_in e t.cycle c
 
--- name, unit and operation data are kept as bytes
-abbrev pub is_kept : ℕ → Bool
-is_kept e = (e == 2) || ((e == 4) || (e == 7))
-
--- A step reads the element, where the drive has the block, but for its data, and the element; and these are its bytes then.
+-- A step reads the element, the drive then has the block, alike but for its operation data, and the block has the element;
+-- and these are its bytes then, where the drive's blocks keep the rules of a store and operation data are bytes. A data status
+-- needs neither.
 pub record IsReadAt (raw e : ℕ) (b : Block) (bytes : List ℕ) (t : Taken) : Type 0 where
   pub reads : t.step.write ≡ false
   pub element : t.step.element ≡ e
-  pub block : option_map without_data (find_block raw t.blocks) ≡ Some (without_data b)
+  pub block : Block
+  pub found : find_block raw t.blocks ≡ Some block
+  pub alike : without_data block ≡ without_data b
   pub there : read_cause raw t ≡ None
-  pub gives : IsStore t.blocks → (is_kept e ≡ true → AreBytes (bytes_at raw e t)) → bytes ≡ bytes_at raw e t
+  pub gives : (2 ≤ e → IsStore t.blocks) → (e ≡ 7 → AreBytes block.value) → bytes ≡ bytes_at raw e block t
 
 -- A complete read gives the element's bytes as they stood when the drive accepted the selection, which is the first step
 -- behind the opening and, where the attribute is read, the two steps that read it.
