@@ -64,12 +64,12 @@ attribute_read raw t b third found = record { free = free (find_block raw t.bloc
 pub IsRead-alike : (raw : ℕ) (t : Taken) (blocks : List Block) (b : Block) → t.step.element ≡ 3 → AreAlike t.blocks blocks → find_block raw blocks ≡ Some b → IsRead raw t b.attribute
 IsRead-alike raw t blocks b third alike found = attribute_read raw t b third (find-alike raw t.blocks blocks b alike found)
 
--- the reply to a step that reads a word of the attribute
-reply-read : (raw word : ℕ) (last : Bool) (t : Taken) (all : List Entry) (run : List Taken) → t.step ≡ a_step false last 3 word → open_idn all ≡ Some raw → run_before false 3 all ≡ run →
+-- the reply to a step that reads a word of an element
+pub reply-read : (raw e word : ℕ) (last : Bool) (t : Taken) (all : List Entry) (run : List Taken) → (e == 0) ≡ false → t.step ≡ a_step false last e word → open_idn all ≡ Some raw → run_before false e all ≡ run →
     reply_of t all ≡ answer_by (read_cause raw (selection t run)) (slice_index (copy raw (selection t run)) (length run))
-reply-read raw word last t all run is opened before =
+reply-read raw e word last t all run none is opened before =
     let closed : (t.step.write && (t.step.element == 1)) ≡ false = ap (λ (s : Step). s.write && (s.element == 1)) is in
-    let some : (t.step.element == 0) ≡ false = ap (λ (s : Step). s.element == 0) is in
+    let some : (t.step.element == 0) ≡ false = ap (λ (s : Step). s.element == 0) is ∙ none in
     let reads : t.step.write ≡ false = ap (λ (s : Step). s.write) is in
     let runs : run_before t.step.write t.step.element all ≡ run = ap (λ (s : Step). run_before s.write s.element all) is ∙ before in
     cond-false _ _ _ closed ∙ cond-false _ _ _ some ∙ at (open_idn all) (run_before t.step.write t.step.element all) opened runs ∙ cond-false _ _ _ reads
@@ -80,12 +80,12 @@ reply-read raw word last t all run is opened before =
 pub reply_low : (raw word : ℕ) (last : Bool) (t : Taken) (all : List Entry) (a : Attribute) → t.step ≡ a_step false last 3 word → open_idn all ≡ Some raw → run_before false 3 all ≡ [] → IsRead raw t a →
     reply_of t all ≡ good (slice_index (attribute_words a) 0)
 reply_low raw word last t all a is opened before read =
-    reply-read raw word last t all [] is opened before ∙ ap₂ (λ (o : Option ℕ) (words : List ℕ). answer_by o (slice_index words 0)) read.free read.words
+    reply-read raw 3 word last t all [] refl is opened before ∙ ap₂ (λ (o : Option ℕ) (words : List ℕ). answer_by o (slice_index words 0)) read.free read.words
 
 pub reply_high : (raw word : ℕ) (last : Bool) (t s : Taken) (all : List Entry) (a : Attribute) → t.step ≡ a_step false last 3 word → open_idn all ≡ Some raw → run_before false 3 all ≡ s ∷ [] → IsRead raw s a →
     reply_of t all ≡ good (slice_index (attribute_words a) 1)
 reply_high raw word last t s all a is opened before read =
-    reply-read raw word last t all (s ∷ []) is opened before ∙ ap₂ (λ (o : Option ℕ) (words : List ℕ). answer_by o (slice_index words 1)) read.free read.words
+    reply-read raw 3 word last t all (s ∷ []) refl is opened before ∙ ap₂ (λ (o : Option ℕ) (words : List ℕ). answer_by o (slice_index words 1)) read.free read.words
 
 -- the two words are the attribute's word
 two_words : (n : ℕ) → n < 2 ^ 32 → slice_index (words_of (to_le_bytes w32 n)) 0 + 65536 * slice_index (words_of (to_le_bytes w32 n)) 1 ≡ n

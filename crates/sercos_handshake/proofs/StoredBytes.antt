@@ -10,14 +10,14 @@ use Rattle.sercos_block.specs.declared.block.Block.{Block}
 use Rattle.sercos_service_drive.specs.Replies.{bytes_written}
 use Rattle.sercos_handshake.specs.Transfers.{stored}
 
-low_byte : (low high : ℕ) → low < 256 → (low + 256 * high) % 256 ≡ low
+pub low_byte : (low high : ℕ) → low < 256 → (low + 256 * high) % 256 ≡ low
 low_byte low high is = omega arith
 
-high_byte : (low high : ℕ) → low < 256 → (low + 256 * high) / 256 ≡ high
+pub high_byte : (low high : ℕ) → low < 256 → (low + 256 * high) / 256 ≡ high
 high_byte low high is = omega arith
 
 -- the words of bytes give them back
-bytes_again : (bytes : List ℕ) → AreBytes bytes → take (length bytes) (bytes_in (words_of bytes)) ≡ bytes
+pub bytes_again : (bytes : List ℕ) → AreBytes bytes → take (length bytes) (bytes_in (words_of bytes)) ≡ bytes
 unfolding AreBytes
 bytes_again [] are = refl
 bytes_again (low ∷ []) are = let small : low < 256 = are.0 in let e : low % 256 ≡ low = omega arith in ap (λ (n : ℕ). n ∷ []) e

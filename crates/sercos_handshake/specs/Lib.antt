@@ -5,3 +5,4 @@ pub mod Choices
 pub mod Transfers
 pub mod CommandTransfers
 pub mod Parts
+pub mod ReadTransfers
