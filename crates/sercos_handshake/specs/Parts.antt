@@ -1,12 +1,13 @@
 -- The log of a drive in the parts that its requests make. Each list has its newest item first.
 use Rattle.std.specs.Prelude.{◌≡◌, List, [], ◌∷◌, ◌++◌, None}
 use Rattle.sercos_step.specs.Steps.{outcome_of, AreAnswers}
+use Rattle.sercos_block.specs.declared.block.Block.{Block}
 use Rattle.sercos_service_master.specs.Begun.{Begun, open_in, steps_begun}
 use Rattle.sercos_service_master.specs.Calls.{Call, AreCalls, begun_by}
 use Rattle.sercos_service_drive.specs.Log.{Taken, Entry}
 use Rattle.sercos_service_drive.specs.Replies.{answered}
 use Rattle.sercos_handshake.specs.InStep.{AreInStep, steps_of, replies_of}
-use Rattle.sercos_handshake.specs.Transfers.{AreReplies}
+use Rattle.sercos_handshake.specs.Transfers.{AreReplies, HaveBlocks, IsTransfer}
 
 -- each request was begun where no step of those before it was open, and each of its answers came while it went on
 abbrev pub AreInTurn : List Begun → Type 0
@@ -41,3 +42,8 @@ FallIntoParts = (begun : List Begun) (log : List Entry) → AreInTurn begun → 
 -- Each entry of a part of the log has the reply to its step, behind those before it.
 abbrev pub HaveReplies : Type 0
 HaveReplies = (h : List Taken) (part rest : List Entry) → answered h ≡ part ++ rest → AreReplies part rest
+
+-- A row whose entries have the replies, on blocks that stay but for their operation data, is a transfer.
+abbrev pub MakeTransfers : Type 0
+MakeTransfers = (b : Begun) (blocks : List Block) (e : Entry) (entries log : List Entry) →
+    IsRow b e entries → AreReplies (e ∷ entries) log → HaveBlocks blocks (e ∷ entries) → IsTransfer b.request blocks e entries log

@@ -8,7 +8,7 @@ ghost use Rattle.sercos_handshake.specs.InStep.{AreInStep};
 ghost use Rattle.sercos_handshake.specs.Runs.{Turn, IsRun, master_calls, drive_taken};
 ghost use Rattle.sercos_handshake.specs.Moves.{Hears, Begins, Takes};
 ghost use Rattle.sercos_handshake.specs.Choices.{Choice, run_by};
-ghost use Rattle.sercos_handshake.specs.Parts.{AreParts, ComeInTurn, FallIntoParts, HaveReplies};
+ghost use Rattle.sercos_handshake.specs.Parts.{AreParts, ComeInTurn, FallIntoParts, HaveReplies, MakeTransfers};
 ghost use Rattle.sercos_handshake.specs.Transfers.{WritesOnce, WritesNothing};
 ghost use Rattle.sercos_handshake.specs.CommandTransfers.{SetsAndCancels, WritesNowhere};
 ghost use Rattle.sercos_handshake.specs.ReadTransfers.{ReadsOnce};
@@ -28,11 +28,13 @@ pub fn handshake_law()
 {}
 
 /// A law and no code: where both ends are in step, what the drive has accepted falls into the parts of the requests, one
-/// behind the other: each part are the steps of one request, as far as it came, with the answers that the master took.
+/// behind the other: each part are the steps of one request, as far as it came, with the answers that the master took. So
+/// the laws on transfers hold of each part.
 pub fn parts_law()
     ensures turn { ComeInTurn }
     ensures parts { FallIntoParts }
     ensures replies { HaveReplies }
+    ensures transfers { MakeTransfers }
     ensures run { (busy : ℕ) (j : List Turn) → IsRun busy j → AreParts (begun_by (master_calls j)) (log_of (drive_taken j)) }
 {}
 

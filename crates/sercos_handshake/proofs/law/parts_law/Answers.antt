@@ -13,3 +13,7 @@ returns-clause-replies c = have_replies
 
 pub returns-clause-run : goal.returns-clause-run
 returns-clause-run c = run_in_parts
+
+pub returns-clause-transfers : goal.returns-clause-transfers
+returns-clause-transfers c = λ b blocks e entries log row replies alike.
+    record { steps = row.steps; in_turn = row.in_turn; goes_on = row.goes_on; replies = replies; alike = alike }
