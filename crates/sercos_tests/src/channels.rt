@@ -1,5 +1,5 @@
 // The two ends of a service channel, with no ring between them.
-ghost use Rattle.std.specs.Prelude.{◌≡◌, ◌<◌};
+ghost use Rattle.std.specs.Prelude.{◌<◌};
 ghost use Rattle.sercos_step.specs.Steps.{IsRequest};
 
 use crate::blocks::{SIGNED_FOUR, drive, letters, number};
@@ -94,19 +94,23 @@ fn read(raw: u16) -> Request
     }
 }
 
-// A number that grows by 10 in each cycle is read whole as it stands in the cycle in which its selection was accepted, which
-// is the fourth of five steps. Each step takes a cycle, and two where each second telegram of a direction is lost.
+// A number that grows by 10 in each cycle is read whole, as it stands in the cycle in which its selection, the fourth of five
+// steps, is accepted.
 #[test]
 fn growing_number(rt: HostRuntime) -> Result<(), Fail> {
     // The lost ATs and MDTs, the busy time, when the read is complete, and its bytes.
     let rows: [(Option<u32>, Option<u32>, u8, u32, [u8; 4]); 6] = [
-        // Selected in cycle 103: 64500 + 1030 is 65530.
+        // The steps are accepted in 100, 101, 102, 103 and 104; 64500 + 1030 is 65530.
         (None, None, 0, 105, [250, 255, 0, 0]),
-        // In 106, 105, 106, 107 and 109: 65560, 65550, 65560, 65570 and 65590.
+        // 100, 102, 104, 106, 108; 65560.
         (Some(1), None, 0, 110, [24, 0, 1, 0]),
+        // 100, 101, 103, 105, 107; 65550.
         (Some(0), None, 0, 109, [14, 0, 1, 0]),
+        // 100, 102, 104, 106, 108; 65560.
         (None, Some(1), 0, 109, [24, 0, 1, 0]),
+        // 101, 103, 105, 107, 109; 65570.
         (None, Some(0), 0, 110, [34, 0, 1, 0]),
+        // 100, 103, 106, 109, 112; 65590.
         (None, None, 2, 115, [54, 0, 1, 0]),
     ];
     for (lost_at, lost_mdt, busy, end, bytes) in rows {
@@ -124,22 +128,29 @@ fn growing_number(rt: HostRuntime) -> Result<(), Fail> {
     Ok(())
 }
 
-// What was written once is read back.
+// What is written is written once, and read back. Lost are no ATs, or those of the odd cycles.
 #[test]
 fn written_number(rt: HostRuntime) -> Result<(), Fail> {
     let setup = drive(rt.alloc())?;
-    let mut channel = Channel::open(rt.alloc(), &setup)?.expect(&rt, "the blocks can stand");
-    let mut bytes = Bytes::new();
-    bytes.assign(&[1, 0, 0, 0]);
-    let write = Request::Write {
-        idn: Idn { raw: 47 },
-        element: 7,
-        bytes,
-    };
-    assert_eq!(rt; channel.carry(write, 100), complete(105, &[]));
-    assert_eq!(rt; channel.drive.data(47), [1u8, 0, 0, 0].as_slice());
-    assert_eq!(rt; channel.carry(read(47), 105), complete(110, &[1, 0, 0, 0]));
-    assert_eq!(rt; channel.writes, 1);
+    // The lost ATs, when the write is complete, and when the read.
+    for (lost_at, wrote, end) in [(None, 105, 110), (Some(1), 110, 120)] {
+        let mut channel = Channel::open(rt.alloc(), &setup)?.expect(&rt, "the blocks can stand");
+        channel.lost_at = lost_at;
+        let mut bytes = Bytes::new();
+        bytes.assign(&[1, 0, 0, 0]);
+        let write = Request::Write {
+            idn: Idn { raw: 47 },
+            element: 7,
+            bytes,
+        };
+        assert_eq!(rt; channel.carry(write, 100), complete(wrote, &[]));
+        assert_eq!(rt; channel.drive.data(47), [1u8, 0, 0, 0].as_slice());
+        assert_eq!(rt;
+            channel.carry(read(47), wrote),
+            complete(end, &[1, 0, 0, 0])
+        );
+        assert_eq!(rt; channel.writes, 1);
+    }
     Ok(())
 }
 
@@ -161,7 +172,8 @@ fn name(rt: HostRuntime) -> Result<(), Fail> {
     Ok(())
 }
 
-// A procedure command that runs for three cycles, set in cycle 101: its data status is read until cycle 104.
+// A procedure command that runs for three cycles is set in cycle 101. Its data status is read in 102, 103 and 104, where it
+// has ended, and it is cancelled in 105.
 #[test]
 fn command(rt: HostRuntime) -> Result<(), Fail> {
     let mut setup = drive(rt.alloc())?;

@@ -99,10 +99,10 @@ fn step(does: Does, word: u16) -> Step {
 // The identifier number that is opened before, or 0; the phase, what the step does, its word, and the code.
 type Row = (u16, u8, Does, u16, u16);
 
-// Each code, and below them each pair of causes that one step can have, in the order in which they are tried. Where nothing is
-// open there is no block to be fixed, protected, or of another length. Elements 2 to 6 are no operation data. A list and a
-// procedure command have no limits, and a word that isn't marked as the last is held to none: so 0x7008, and 0x7003 of a list's
-// length or of a word that must be the last, go with no limit.
+// Each code, and below them each pair of causes that one step can have, in the order in which they are tried. No other pairs
+// meet: where nothing is open there is no block that could be fixed, protected or of another length; elements 2 to 6 are no
+// operation data; a list and a procedure command have no limits, so 0x7008 and a list's length (0x7003) don't meet them; and
+// limits are looked at with the word that is marked as the last, so 0x7003 of one that isn't doesn't, either.
 const ROWS: [Row; 38] = [
     (0, 2, Does::Open, 99, 0x1001),
     (0, 2, Does::Read(7), 0, 0x0001),
@@ -139,7 +139,7 @@ const ROWS: [Row; 38] = [
     (127, 3, Does::Last, 1, 0x7005),
     (2, 3, Does::Last, 124, 0x7005),
     (2, 3, Does::Last, 64001, 0x7005),
-    // 0x7002 with 0x7003 and 0x7008, and with the limits where the words so far are taken for the number.
+    // 0x7002 with 0x7003, 0x7008, and with 0x7006 and 0x7007, if the words that came are taken for the number.
     (LISTED, 2, Does::Last, 10, 0x7002),
     (LISTED, 2, Does::Last, 3, 0x7002),
     (LONG, 2, Does::Last, 5, 0x7002),
