@@ -4,6 +4,12 @@
 #[cfg(test)]
 mod adapters;
 #[cfg(test)]
+mod blocks;
+#[cfg(test)]
+mod channels;
+#[cfg(test)]
+mod checks;
+#[cfg(test)]
 mod faults;
 #[cfg(test)]
 mod identifiers;
@@ -13,5 +19,9 @@ mod layers;
 mod plans;
 #[cfg(test)]
 mod show;
+#[cfg(test)]
+mod station;
+#[cfg(test)]
+mod steps;
 #[cfg(test)]
 mod stores;

@@ -1,88 +1,13 @@
 // A drive's data blocks: which it can have, and how its store is read and written.
-use arrayvec::ArrayVec;
+use crate::blocks::{SIGNED_FOUR, UNSIGNED_TWO, drive, letters, number, opened};
 use sercos_bits::Text;
 use sercos_block::{BadBlock, Block, DriveSetup, Field, Store, check_blocks};
 use sercos_idn::{Attribute, Code, Idn};
-use sercos_timing::Times;
 use std::alloc::{AllocError, Global};
 use std::test::Fail;
 
-// The attributes of a number of four bytes with sign, and of numbers of two bytes without and with sign.
-const SIGNED_FOUR: u32 = 0x0022_0001;
-
-const UNSIGNED_TWO: u32 = 0x0011_0001;
-
+// The attribute of a number of two bytes with sign.
 const SIGNED_TWO: u32 = 0x0021_0001;
-
-// A block of a number: no name, no unit, no step. A bad attribute gives none.
-fn number(
-    raw: u16,
-    attribute: u32,
-    min: Option<u32>,
-    max: Option<u32>,
-    value: &[u8],
-) -> Option<Block> {
-    let attribute = Attribute::read(attribute).ok()?;
-    let mut text = Text::new();
-    for byte in value {
-        text.push(*byte).ok()?;
-    }
-    Some(Block {
-        idn: Idn { raw },
-        attribute,
-        name: None,
-        unit: None,
-        min,
-        max,
-        value: text,
-        max_len: 0,
-        fixed: false,
-        step: 0,
-        fails: false,
-    })
-}
-
-// A drive with the blocks S-0-0047 and S-0-0051, which grows by 10 in each cycle.
-fn drive(alloc: Global) -> Result<DriveSetup, AllocError> {
-    let mut blocks = Vec::new(alloc);
-    if let Some(block) = number(47, SIGNED_FOUR, None, None, &[0, 0, 0, 0]) {
-        blocks.push(block)?;
-    }
-    if let Some(mut block) = number(51, SIGNED_FOUR, None, None, &[244, 251, 0, 0]) {
-        block.step = 10;
-        blocks.push(block)?;
-    }
-    Ok(DriveSetup {
-        address: 1,
-        slave: 1,
-        busy: 0,
-        command: 0,
-        times: Times {
-            t1min: 10,
-            tatmt: 6,
-            t4min: 20,
-            tatat: 5,
-            tmtsy: 10,
-            tmtsg: 20,
-        },
-        cycle_min: 125,
-        cycle_max: 64000,
-        at: ArrayVec::new(),
-        mdt: ArrayVec::new(),
-        blocks,
-    })
-}
-
-// The store of a drive, if its blocks can stand.
-fn opened(alloc: Global, setup: &DriveSetup) -> Result<Option<Store>, AllocError> {
-    if setup.blocks.len() > 36 {
-        return Ok(None);
-    }
-    match check_blocks(setup) {
-        Ok(()) => Ok(Some(Store::open(alloc, setup)?)),
-        Err(_) => Ok(None),
-    }
-}
 
 // All that a store tells of the block with an identifier number, but for its operation data.
 fn told(alloc: Global, store: &Store, idn: Idn) -> Result<Vec<u8>, AllocError> {
@@ -310,15 +235,6 @@ fn given_lists(rt: HostRuntime) -> Result<(), Fail> {
         assert!(rt; are_same(rt.alloc(), &store, &before, Some(idn))?);
     }
     Ok(())
-}
-
-// So many letters.
-fn letters(count: usize) -> Option<Text> {
-    let mut text = Text::new();
-    for _ in 0..count {
-        text.push(b'A').ok()?;
-    }
-    Some(text)
 }
 
 // A block that breaks the rule of a part, and those of the parts behind it that it can.
