@@ -104,7 +104,7 @@ module _ (v : ChannelView) (busy cycle : ℕ) (commands : CommandsView) (h : Lis
   pub shows_last : (last : Last) → v.last ≡ Some last → (test : Bool) → nat_le (cycle - last.cycle) v.busy ≡ test
       → drive_says busy cycle commands h
       ≡ cond test (record { ahs = v.ahs; busy = true; error = false; change = change_in commands cycle; word = 0 })
-          (record { ahs = v.ahs; busy = false; error = last.answer.error; change = change_in commands cycle; word = last.answer.word })
+      (record { ahs = v.ahs; busy = false; error = last.answer.error; change = change_in commands cycle; word = last.answer.word })
   shows_last last some test is =
       let all = last_in (log_of h) last (sym stood.last_is ∙ some) in
       rw (← stood.ahs_is) (rw is at all)
