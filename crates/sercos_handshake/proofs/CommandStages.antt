@@ -18,12 +18,12 @@ use Rattle.sercos_handshake.specs.InStep.{replies_of}
 use Rattle.sercos_handshake.specs.Transfers.{IsTransfer, is_complete}
 use Rattle.sercos_handshake.specs.CommandTransfers.{SetsAndCancels, setting, second_of, set_by, cancelled_by}
 use Rattle.sercos_handshake.proofs.TransferSteps.{newest_step, without_newest, complete-outcome_of, goes_on-outcome_of, adds_none, effect_by}
-use Rattle.sercos_handshake.proofs.SettingReplies.{two_bytes, set_two}
+use Rattle.sercos_handshake.proofs.SettingReplies.{two_bytes, set_allows}
 use Rattle.sercos_handshake.proofs.UnknownBlocks.{writes_nowhere, only_opening}
 use Rattle.sercos_handshake.proofs.WriteRuns.{run_starts, open_by, last_word}
 
 -- The next step behind these data statuses reads one more, or cancels the command and is the last.
-data Poll (polled : List ℕ) (s : Step) : Type 0 where
+pub data Poll (polled : List ℕ) (s : Step) : Type 0 where
   Reads : s ≡ a_step false true 1 0 → ((x : ℕ) → length (polling (polled ++ x ∷ [])) ≡ suc (suc (length polled))) → Poll polled s
   Cancels : s ≡ a_step true true 7 0 → ((x : ℕ) → length (polling (polled ++ x ∷ [])) ≡ suc (length polled)) → Poll polled s
 
@@ -55,7 +55,7 @@ polls (status ∷ polled) s next = by (status == 7) refl next (polls polled s)
     by false other got again = poll_last status polled s other got
 
 -- Behind these entries, with these words answered: the next step is the opening, the setting, or one of those behind it.
-data Stage (idn : Idn) (b : Block) (words : List ℕ) (entries all : List Entry) : Type 0 where
+pub data Stage (idn : Idn) (b : Block) (words : List ℕ) (entries all : List Entry) : Type 0 where
   AtOpening : entries ≡ [] → words ≡ [] → Stage idn b words entries all
   AtSetting : (o : Entry) (w : ℕ) → entries ≡ o ∷ [] → words ≡ w ∷ [] → open_idn all ≡ Some idn.raw → run_before true 7 all ≡ [] → Stage idn b words entries all
   AtPoll : (d o : Entry) (past : List Entry) (w v : ℕ) (polled : List ℕ) → entries ≡ d ∷ o ∷ past → words ≡ w ∷ v ∷ polled → open_idn all ≡ Some idn.raw → run_before true 7 all ≡ [] → b.attribute.length ≡ len.Two →
@@ -69,10 +69,10 @@ module _ (idn : Idn) (b : Block) where
   next_opening : (words : List ℕ) (s : Step) → words ≡ [] → slice_get (steps_of asked words) (length words) ≡ Some s → s ≡ opening idn
   next_opening words s is next = some_same (opening idn) s (rw is at next)
 
-  next_setting : (words : List ℕ) (s : Step) (w : ℕ) → words ≡ w ∷ [] → slice_get (steps_of asked words) (length words) ≡ Some s → s ≡ a_step true true 7 3
+  pub next_setting : (words : List ℕ) (s : Step) (w : ℕ) → words ≡ w ∷ [] → slice_get (steps_of asked words) (length words) ≡ Some s → s ≡ a_step true true 7 3
   next_setting words s w is next = some_same (a_step true true 7 3) s (rw is at next)
 
-  next_poll : (words : List ℕ) (s : Step) (w v : ℕ) (polled : List ℕ) → words ≡ w ∷ v ∷ polled → slice_get (steps_of asked words) (length words) ≡ Some s → Poll polled s
+  pub next_poll : (words : List ℕ) (s : Step) (w v : ℕ) (polled : List ℕ) → words ≡ w ∷ v ∷ polled → slice_get (steps_of asked words) (length words) ≡ Some s → Poll polled s
   next_poll words s w v polled is next = polls polled s (rw is at next)
 
   -- whether the answer is the last
@@ -117,7 +117,7 @@ module _ (idn : Idn) (b : Block) where
         AtSetting e e.answer.word (ap (λ (l : List Entry). e ∷ l) those) (ap (λ (ws : List ℕ). ws ++ e.answer.word ∷ []) is) (open_by (opening idn) e all step well) (run_starts (opening idn) true 7 e all step refl)
     grows words e entries all (AtSetting o w those is opened before) next reply alike well goes_on =
         let step = next_setting words e.taken.step w is next in
-        let two = set_two idn.raw e.taken all blocks b step opened before alike found (ap (λ (a : Answer). a.error) (sym reply) ∙ well) in
+        let two = (set_allows idn.raw e.taken all blocks b step opened before alike found (ap (λ (a : Answer). a.error) (sym reply) ∙ well)).two in
         AtPoll e o [] w e.answer.word [] (ap (λ (l : List Entry). e ∷ l) those) (ap (λ (ws : List ℕ). ws ++ e.answer.word ∷ []) is)
         (open_by (a_step true true 7 3) e all step well ∙ opened) (run_starts (a_step true true 7 3) true 7 e all step refl) two
     grows words e entries all (AtPoll d o past w v polled those is opened before two) next reply alike well goes_on =
@@ -151,7 +151,7 @@ module _ (idn : Idn) (b : Block) where
             adds_none e all (effect_by (a_step true true 7 3) e step ∙ ap not off)
             ∙ ap (λ (v : Bool). (if v then [] else setting idn.raw 3 e ∷ []) ++ writes_of all) (sym off)
         by false well =
-            adds_value 3 e all (omega arith) step well opened before alike (set_two idn.raw e.taken all blocks b step opened before alike found (ap (λ (a : Answer). a.error) (sym reply) ∙ well))
+            adds_value 3 e all (omega arith) step well opened before alike (set_allows idn.raw e.taken all blocks b step opened before alike found (ap (λ (a : Answer). a.error) (sym reply) ∙ well)).two
             ∙ ap (λ (v : Bool). (if v then [] else setting idn.raw 3 e ∷ []) ++ writes_of all) (sym well)
 
     second_stays : (e : Entry) (entries : List Entry) (d o : Entry) (past : List Entry) → entries ≡ d ∷ o ∷ past → second_of entries ≡ second_of (e ∷ entries)
@@ -187,7 +187,7 @@ module _ (idn : Idn) (b : Block) where
         (same ∙ ap (λ (x : Option Entry). set_by idn.raw x ++ before) (second_stays e entries d o past those))
 
     -- the entries before the newest
-    stage_before : (e : Entry) (entries log : List Entry) → IsTransfer asked blocks e entries log →
+    pub stage_before : (e : Entry) (entries log : List Entry) → IsTransfer asked blocks e entries log →
         Stage idn b (answer_words (replies_of entries)) entries (entries ++ log) × (writes_of (entries ++ log) ≡ set_by idn.raw (second_of entries) ++ writes_of log)
     stage_before e [] log is = (AtOpening refl refl, refl)
     stage_before e (d ∷ entries) log is =

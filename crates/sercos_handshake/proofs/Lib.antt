@@ -9,10 +9,12 @@ pub mod WriteStages
 pub mod UnknownBlocks
 pub mod SettingReplies
 pub mod CommandStages
+pub mod CommandRefusals
 pub mod ReadRows
 pub mod ReadStages
 pub mod ElementWords
 pub mod ElementReads
 pub mod Worked
 pub mod WorkedReads
+pub mod WorkedCommands
 pub mod LogParts

@@ -1,11 +1,15 @@
 -- What a transfer that sets a procedure command writes, and one to a data block that the drive hasn't. Each list has its
 -- newest item first.
-use Rattle.std.specs.Prelude.{◌≡◌, ℕ, Bool, if◌then◌else◌, List, [], ◌∷◌, ◌++◌, Option, Some, None}
+use Rattle.std.specs.Prelude.{◌≡◌, ℕ, Bool, true, if◌then◌else◌, List, [], ◌∷◌, ◌++◌, Option, Some, None}
+use Rattle.sercos_idn.specs.declared.attribute.Attribute.{Attribute}
+use Rattle.sercos_idn.specs.declared.code.Code.{Code}
 use Rattle.sercos_idn.specs.declared.idn.Idn.{Idn}
 use Rattle.sercos_step.specs.declared.request.Request.{Request}
 use Rattle.sercos_step.specs.declared.request.Request.TheVariants as request
+use Rattle.sercos_step.specs.declared.request.Outcome.TheVariants as outcome
 use Rattle.sercos_step.specs.Steps.{outcome_of}
 use Rattle.sercos_block.specs.declared.block.Block.{Block}
+use Rattle.sercos_block.specs.Blocks.{is_protected}
 use Rattle.sercos_block.specs.Stores.{find_block}
 use Rattle.sercos_service_drive.specs.Log.{Entry}
 use Rattle.sercos_service_drive.specs.Writes.{Write, writes_of}
@@ -37,6 +41,19 @@ abbrev pub SetsAndCancels : Type 0
 SetsAndCancels = (idn : Idn) (blocks : List Block) (e : Entry) (entries log : List Entry) → IsTransfer (request.Command idn) blocks e entries log →
     writes_of ((e ∷ entries) ++ log) ≡
     cancelled_by idn.raw (is_complete (outcome_of (request.Command idn) (replies_of (e ∷ entries)))) e ++ (set_by idn.raw (second_of (e ∷ entries)) ++ writes_of log)
+
+-- the operation data is write protected in the phase of each of these entries
+abbrev pub AreProtected : Attribute → List Entry → Type 0
+AreProtected a [] = Unit {0}
+AreProtected a (e ∷ entries) = AreProtected a entries × (is_protected a e.taken.phase ≡ true)
+
+-- Such a transfer that is refused adds no write, where the block is a procedure command, and isn't write protected at the
+-- refusal, or was so at each step before. One of these holds where all steps come in one phase.
+abbrev pub RefusedAddsNothing : Type 0
+RefusedAddsNothing = (idn : Idn) (blocks : List Block) (b : Block) (e : Entry) (entries log : List Entry) (code : Code) →
+    find_block idn.raw blocks ≡ Some b → b.attribute.command ≡ true → (is_protected b.attribute e.taken.phase ≡ true → AreProtected b.attribute entries) →
+    IsTransfer (request.Command idn) blocks e entries log → outcome_of (request.Command idn) (replies_of (e ∷ entries)) ≡ Some (outcome.Refused code) →
+    writes_of ((e ∷ entries) ++ log) ≡ writes_of log
 
 -- Where the drive hasn't the data block, no transfer adds a write.
 abbrev pub idn_of : Request → Idn

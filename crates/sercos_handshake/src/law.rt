@@ -10,7 +10,7 @@ ghost use Rattle.sercos_handshake.specs.Moves.{Hears, Begins, Takes};
 ghost use Rattle.sercos_handshake.specs.Choices.{Choice, run_by};
 ghost use Rattle.sercos_handshake.specs.Parts.{AreParts, ComeInTurn, FallIntoParts, HaveReplies, MakeTransfers};
 ghost use Rattle.sercos_handshake.specs.Transfers.{WritesOnce, WritesNothing};
-ghost use Rattle.sercos_handshake.specs.CommandTransfers.{SetsAndCancels, WritesNowhere};
+ghost use Rattle.sercos_handshake.specs.CommandTransfers.{SetsAndCancels, RefusedAddsNothing, WritesNowhere};
 ghost use Rattle.sercos_handshake.specs.ReadTransfers.{ReadsOnce};
 
 use sercos_idn::attribute_law;
@@ -41,13 +41,15 @@ pub fn parts_law()
 /// A law: a write of operation data adds one entry to the drive's writes, with its bytes, and only with the step that
 /// completes it. A read, a write of another element, and a transfer to a data block that the drive hasn't add none. One
 /// that sets a procedure command adds the setting with its second step, and the cancel with the step that completes it.
-/// A read that is complete gives the element's bytes as they stood in the one cycle in which the drive accepted the
-/// selection of the element, the first of its own steps.
+/// Where such a transfer is refused, it adds neither, if the block is a procedure command that isn't write protected at
+/// the refusal, or was so at each step before. A read that is complete gives the element's bytes as they stood in the one
+/// cycle in which the drive accepted the selection of the element, the first of its own steps.
 pub fn transfer_law()
     ensures writes_once { WritesOnce }
     ensures writes_nothing { WritesNothing }
     ensures writes_nowhere { WritesNowhere }
     ensures sets_and_cancels { SetsAndCancels }
+    ensures refused_adds_nothing { RefusedAddsNothing }
     ensures reads_once { ReadsOnce }
 {
     // what the master takes for the attribute is that of the block

@@ -3,6 +3,7 @@ use Rattle.sercos_handshake.proofs.QuietSteps.{writes_nothing}
 use Rattle.sercos_handshake.proofs.WriteStages.{writes_once_by}
 use Rattle.sercos_handshake.proofs.UnknownBlocks.{writes_nowhere}
 use Rattle.sercos_handshake.proofs.CommandStages.{sets_and_cancels}
+use Rattle.sercos_handshake.proofs.CommandRefusals.{refused_adds_nothing}
 use Rattle.sercos_handshake.proofs.ElementReads.{reads_once_by}
 use Rattle.sercos_handshake.proofs.law.transfer_law.Goals as goal
 
@@ -20,6 +21,9 @@ returns-clause-writes_nowhere c = writes_nowhere
 
 pub returns-clause-sets_and_cancels : goal.returns-clause-sets_and_cancels
 returns-clause-sets_and_cancels c = sets_and_cancels
+
+pub returns-clause-refused_adds_nothing : goal.returns-clause-refused_adds_nothing
+returns-clause-refused_adds_nothing c = refused_adds_nothing
 
 pub returns-clause-reads_once : goal.returns-clause-reads_once
 returns-clause-reads_once c = λ idn e bytes blocks b s entries log low high found fits is complete.
