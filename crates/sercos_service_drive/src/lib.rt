@@ -5,7 +5,9 @@
 mod causes;
 mod channel;
 mod copying;
+mod law;
 mod session;
 mod writing;
 
 pub use channel::DriveChannel;
+pub use law::writes_law;
