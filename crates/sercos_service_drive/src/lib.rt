@@ -5,7 +5,9 @@
 mod causes;
 mod channel;
 mod copying;
+mod data;
 mod session;
 mod writing;
 
 pub use channel::DriveChannel;
+pub use data::push_data;
