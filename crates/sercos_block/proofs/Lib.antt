@@ -2,4 +2,5 @@ pub mod SoundLemmas
 pub mod PutLemmas
 pub mod OpenLemmas
 pub mod WishLemmas
+pub mod RingLemmas
 mod Worked

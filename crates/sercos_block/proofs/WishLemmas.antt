@@ -61,7 +61,7 @@ turns_apart drives before (place ∷ order) ok (suc i) (suc j) less in' =
     let (here, rest) = and_parts (is_turn drives before place) (are_turns drives (before ++ place ∷ []) order) ok in
     turns_apart drives (before ++ place ∷ []) order rest i j (omega arith) (omega arith)
 
-IsOrder-is_order : (drives : ℕ) (order : List ℕ) → is_order drives order ≡ true → IsOrder order drives
+pub IsOrder-is_order : (drives : ℕ) (order : List ℕ) → is_order drives order ≡ true → IsOrder order drives
 unfolding is_order
 IsOrder-is_order drives order ok =
     let (count, turns) = and_parts (length order == drives) (are_turns drives [] order) ok in
@@ -100,7 +100,7 @@ address_new before (d ∷ drives) ok (suc k) in' =
     let new = address_new (before ++ d ∷ []) drives rest k (omega arith) in
     (either_none _ _ (sym (any_appended (λ (e : DriveView). e.address == slice_index (addresses (map wish_of drives)) k) before d) ∙ new)).0
 
-addresses_apart : (before drives : List DriveView) → are_drives before drives ≡ true → AreDistinct (addresses (map wish_of drives))
+pub addresses_apart : (before drives : List DriveView) → are_drives before drives ≡ true → AreDistinct (addresses (map wish_of drives))
 unfolding are_drives has_address
 addresses_apart before [] ok i j less in' = absurd (omega arith)
 addresses_apart before (d ∷ drives) ok i zero less in' = absurd (omega arith)
@@ -112,7 +112,7 @@ addresses_apart before (d ∷ drives) ok (suc i) (suc j) less in' =
     let (here, rest) = and_parts (is_drive before d) (are_drives (before ++ d ∷ []) drives) ok in
     addresses_apart (before ++ d ∷ []) drives rest i j (omega arith) (omega arith)
 
-length_wishes : (drives : List DriveView) → length (map wish_of drives) ≡ length drives
+pub length_wishes : (drives : List DriveView) → length (map wish_of drives) ≡ length drives
 length_wishes [] = refl
 length_wishes (d ∷ drives) = ap suc (length_wishes drives)
 
@@ -124,7 +124,7 @@ sum_wishes : (drives : List DriveView) → record_bytes (map wish_of drives) ≡
 sum_wishes drives = sum_from 0 drives
 
 -- the ring's numbers
-AreCycles-has_ring_numbers : (r : RingView) → has_ring_numbers r ≡ true → AreCycles (wishes_of r)
+pub AreCycles-has_ring_numbers : (r : RingView) → has_ring_numbers r ≡ true → AreCycles (wishes_of r)
 unfolding are_ring_numbers is_cycle is_control wishes_of
 AreCycles-has_ring_numbers r ok =
     let (rate, rest) = and_parts ((r.rate == 2) || (r.rate == 4)) _ ok in

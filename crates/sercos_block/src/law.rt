@@ -1,10 +1,12 @@
-// A law on the store that is the subject's own: which blocks it has, and how they stand.
-ghost use Rattle.std.specs.Prelude.{◌≡◌, ◌^◌, ◌<◌, ◌≤◌, ◌++◌, [], length, None};
+// Laws that are the subject's own: which blocks a store has, and how they stand; and what is so of every ring that keeps the rules.
+ghost use Rattle.std.specs.Prelude.{◌≡◌, ◌^◌, ◌<◌, ◌≤◌, ◌++◌, [], length, None, true};
 ghost use Rattle.std.specs.List.Sorted.{IsPermutation};
 ghost use Rattle.sercos_block.specs.BuiltIns.{built_in};
 ghost use Rattle.sercos_block.specs.Rules.{blocks_fault};
 ghost use Rattle.sercos_block.specs.Stores.{store_of, IsStore};
-ghost use Rattle.sercos_block.specs.Views.{DriveView};
+ghost use Rattle.sercos_block.specs.Rings.{is_ring};
+ghost use Rattle.sercos_block.specs.ValidRings.{IsRing};
+ghost use Rattle.sercos_block.specs.Views.{DriveView, RingView};
 
 /// The store of a drive at its opening has its built-in blocks and its own, each once. Where its own keep the rules, they
 /// ascend by identifier number, so that no two have the same; and each is sound.
@@ -12,4 +14,10 @@ pub fn store_law()
     ensures blocks { (d : DriveView) → IsPermutation (built_in d ++ d.blocks) (store_of d) }
     ensures store { (d : DriveView) → blocks_fault [] d.blocks ≡ None → length d.blocks ≤ 36 →
         d.cycle_min < 2 ^ 16 → d.cycle_max < 2 ^ 16 → IsStore (store_of d) }
+{}
+
+/// A ring that keeps the rules has 1 to 64 drives with addresses of their own, an order that lists each of them once, and
+/// numbers of this profile.
+pub fn ring_law()
+    ensures { (r : RingView) → is_ring r ≡ true → IsRing r }
 {}
