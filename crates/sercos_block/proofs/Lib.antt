@@ -3,4 +3,5 @@ pub mod TypeLemmas
 pub mod PutLemmas
 pub mod OpenLemmas
 pub mod WishLemmas
+pub mod RingLemmas
 mod Worked

@@ -4,3 +4,4 @@ pub mod BuiltIns
 pub mod Rules
 pub mod Stores
 pub mod Rings
+pub mod ValidRings

@@ -196,6 +196,7 @@ impl MasterChannel {
     /// How many cycles ended since the open step was first sent, counted up to 64. It is 0 where no step that was sent is open.
     pub fn cycles_open(&self) -> u8
         ensures value { (h : List Call) → MasterStandsFor self.now h → result ≡ cycles_open h }
+        ensures kept { result ≡ unwrap_or self.now.age 0 }
         ensures bound { result ≤ 64 }
         ensures idle { is_none self.now.transfer ≡ true → result ≡ 0 }
     {

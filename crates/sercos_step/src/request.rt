@@ -28,7 +28,7 @@ pub enum Request {
     },
 }
 
-/// A request to a drive.
+/// A request to a drive. A master may be opened with jobs of which `AreJobs` of `specs/Jobs.antt` holds.
 #[derive(Debug, PartialEq, Eq, Drop)]
 pub struct Job {
     /// The drive's address.
@@ -38,7 +38,7 @@ pub struct Job {
 }
 
 /// How a transfer ended.
-#[derive(Debug, PartialEq, Eq, Drop)]
+#[derive(Debug, Default, PartialEq, Eq, Drop)]
 pub enum Outcome {
     /// All steps were answered. A read gives the element's bytes, a write none, and a procedure command the two bytes of
     /// the last data status.
@@ -46,5 +46,6 @@ pub enum Outcome {
     /// A step was refused, with this code.
     Refused(Code),
     /// The ring fell to phase 0 before the end.
+    #[default]
     Broken,
 }
