@@ -1,0 +1,80 @@
+-- The table of digits, and the loop over pairs.
+use Rattle.std.proofs.Common.{◌≡◌, ℕ, zero, suc, ◌+◌, ◌-◌, ◌*◌, ◌/◌, ◌%◌, ◌<◌, ◌≤◌, Bool, true, false, ◌==◌, ◌&&◌, ◌||◌, nat_lt, nat_le, cond, List, [], ◌∷◌, ◌++◌, length, take, drop, get_or, refl, sym, ap, ◌∙◌, arith, append_assoc}
+use Rattle.std.proofs.lemmas.Bool.{and_parts}
+use Rattle.std.proofs.lemmas.Bool.Decides.{nat_tests}
+use Rattle.std.proofs.lemmas.List.{append-nil, at_drop_all, drop_more, length-take-le}
+use Rattle.sercos_text.specs.Fields.{is_hex, is_dash, digit_of, low_pairs, all_hex, hex_len, hex_of}
+use Rattle.std.specs.List.{prefix_len}
+use Rattle.sercos_text.specs.declared.digits.TheConstants.{VALUES}
+use Rattle.sercos_text.proofs.ValueLaws.{all_below, passes_below, taken_are_hex, spells_pairs, decodes}
+
+-- a byte of the table
+is_row : ℕ → Bool
+is_row byte = cond (is_hex byte) ((get_or VALUES byte 0 == digit_of byte) && nat_lt (digit_of byte) 16) (get_or VALUES byte 0 == 255)
+
+all_rows : all_below is_row 256 ≡ true
+unfolding all_below is_row digit_of
+all_rows = refl
+
+same : (a b : ℕ) → (a == b) ≡ true → a ≡ b
+same a b is = grind (arith, nat_tests)
+
+less : (a b : ℕ) → nat_lt a b ≡ true → a < b
+less a b is = grind (arith, nat_tests)
+
+row : (byte : ℕ) → byte < 256 → is_row byte ≡ true
+row byte below = passes_below is_row 256 byte all_rows below
+
+pub digit_at : (byte : ℕ) → byte < 256 → is_hex byte ≡ true → (get_or VALUES byte 0 ≡ digit_of byte) × (get_or VALUES byte 0 < 16)
+unfolding is_row
+digit_at byte below is =
+    let parts = and_parts (get_or VALUES byte 0 == digit_of byte) (nat_lt (digit_of byte) 16) (rw is at (row byte below)) in
+    let e = same (get_or VALUES byte 0) (digit_of byte) parts.0 in
+    (e, omega (arith, e, less (digit_of byte) 16 parts.1))
+
+pub other_at : (byte : ℕ) → byte < 256 → is_hex byte ≡ false → get_or VALUES byte 0 ≡ 255
+unfolding is_row
+other_at byte below is = same (get_or VALUES byte 0) 255 (rw is at (row byte below))
+
+-- the digit at a place is one
+pub all_hex-at : (text : List ℕ) (i : ℕ) → all_hex text ≡ true → i < length text → is_hex (get_or text i 0) ≡ true
+unfolding all_hex
+all_hex-at [] i all inside = absurd (omega arith)
+all_hex-at (c ∷ text) zero all inside = (and_parts (is_hex c) (all_hex text) all).0
+all_hex-at (c ∷ text) (suc i) all inside = all_hex-at text i (and_parts (is_hex c) (all_hex text) all).1 (omega arith)
+
+-- one pair more
+pub pair_more : (text : List ℕ) (k byte : ℕ) (told more all : List ℕ) → 2 * k + 1 < length text → byte ≡ digit_of (get_or text (2 * k) 0) * 16 + digit_of (get_or text (2 * k + 1) 0) → more ≡ told ++ byte ∷ [] → told ++ low_pairs (drop (2 * k) text) ≡ all → more ++ low_pairs (drop (2 * (k + 1)) text) ≡ all
+unfolding low_pairs
+pair_more text k byte told more all inside is grown before =
+    let first = drop_more text (2 * k) 0 (omega arith) in
+    let second = drop_more text (2 * k + 1) 0 inside in
+    let place : 2 * k + 1 + 1 ≡ 2 * (k + 1) = omega arith in
+    rw (grown, append_assoc, is) (rw (first, second, place) at before)
+
+pub pairs_end : (text : List ℕ) (k : ℕ) (told all : List ℕ) → length text ≤ 2 * k → told ++ low_pairs (drop (2 * k) text) ≡ all → told ≡ all
+unfolding low_pairs
+pairs_end text k told all ended before =
+    let none : low_pairs (drop (2 * k) text) ≡ [] = at_drop_all low_pairs text (2 * k) ended in
+    sym (append-nil told) ∙ (rw none at before)
+
+pub plain_len : (text : List ℕ) (len : ℕ) → is_dash text ≡ false → len ≡ hex_len text → len ≡ prefix_len is_hex text
+unfolding hex_len
+plain_len text len plain is = is ∙ rw plain refl
+
+pub plain_digits : (text : List ℕ) (len : ℕ) → is_dash text ≡ false → len ≡ hex_len text → all_hex (take len text) ≡ true
+plain_digits text len plain is = rw (plain_len text len plain is) (taken_are_hex text)
+
+pub plain_bytes : (text : List ℕ) (len : ℕ) → is_dash text ≡ false → len ≡ hex_len text → len % 2 ≡ 0 → len ≤ length text → low_pairs (take len text) ≡ hex_of text
+unfolding hex_of
+plain_bytes text len plain is even inside =
+    let size = plain_len text len plain is in
+    let long : length (take len text) ≡ len = length-take-le len text inside in
+    let pairs = spells_pairs (take len text) (plain_digits text len plain is) (omega (arith, long, even)) in
+    sym (decodes (take len text) pairs) ∙ rw (plain, ← size) refl
+
+pub no_dash : (text : List ℕ) → (get_or text 0 0 ≡ 45 → ⊥) → is_dash text ≡ false
+no_dash text differ = fails (get_or text 0 0) differ
+  where
+    fails : (c : ℕ) → (c ≡ 45 → ⊥) → (c == 45) ≡ false
+    fails c differ = grind (arith, nat_tests)

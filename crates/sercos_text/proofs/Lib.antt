@@ -1,0 +1,10 @@
+mod DigitLemmas
+mod ValueLaws
+mod FieldLaws
+mod FieldLemmas
+mod LineLaws
+mod LineSteps
+mod ListLaws
+mod ListSteps
+mod TailLaws
+mod WriteSteps

@@ -1,0 +1,100 @@
+-- The fields of a line. Each definition reads a field off the front of a text: the place, from 0 on, of the first byte
+-- that can't stand, where there is one; how many bytes the field takes; and its value. A missing byte's place is the
+-- text's length.
+use Rattle.std.specs.Prelude.{ℕ, ℤ, pos, ◌-ℤ◌, ◌+◌, ◌-◌, ◌*◌, ◌%◌, ◌==◌, nat_lt, nat_le, cond, Bool, true, not, ◌||◌, ◌&&◌, if◌then◌else◌, List, [], ◌∷◌, ◌++◌, length, take, drop, slice_index, codes, decimal, Option, Some, None}
+use Rattle.std.specs.Bool.{then_some}
+use Rattle.std.specs.Char.{is_ascii_digit}
+use Rattle.std.specs.List.{prefix_len}
+use Rattle.std.specs.Option.{option_or, option_map}
+use Rattle.std.specs.Result.{result_unwrap_or}
+use Rattle.std.specs.Str.Parse.{digits_value}
+use Rattle.hex.specs.Hex.{decode_of}
+
+-- a place in what stands behind so many bytes
+abbrev pub behind : ℕ → Option ℕ → Option ℕ
+behind bytes place = option_map (λ p. bytes + p) place
+
+-- ---- a number: decimal digits without a leading zero
+
+abbrev pub number_len : List ℕ → ℕ
+number_len text = prefix_len is_ascii_digit text
+
+abbrev pub number_of : List ℕ → ℕ
+number_of text = digits_value 10 (take (number_len text) text)
+
+-- no digit, a digit behind a leading zero, a number above the greatest one (at its first digit)
+unfoldable pub number_fault : ℕ → List ℕ → Option ℕ
+number_fault most text =
+    option_or (then_some (number_len text == 0) 0)
+    (option_or (then_some ((slice_index text 0 == 48) && nat_lt 1 (number_len text)) 1)
+    (then_some (nat_lt most (number_of text)) 0))
+
+-- ---- a signed number: a `-` stands before a negative one, and nothing before others
+
+abbrev pub is_negative : List ℕ → Bool
+is_negative text = slice_index text 0 == 45
+
+-- behind the `-`: no digit, a zero, a number above the greatest one
+unfoldable pub negative_fault : ℕ → List ℕ → Option ℕ
+negative_fault most text =
+    option_or (then_some (number_len text == 0) 0)
+    (option_or (then_some (slice_index text 0 == 48) 0)
+    (then_some (nat_lt most (number_of text)) 0))
+
+unfoldable pub signed_fault : List ℕ → Option ℕ
+signed_fault text =
+    if is_negative text then behind 1 (negative_fault 2147483648 (drop 1 text)) else number_fault 2147483647 text
+
+unfoldable pub signed_len : List ℕ → ℕ
+signed_len text = if is_negative text then 1 + number_len (drop 1 text) else number_len text
+
+unfoldable pub signed_of : List ℕ → ℤ
+signed_of text = if is_negative text then pos 0 -ℤ pos (number_of (drop 1 text)) else pos (number_of text)
+
+-- ---- bytes: two hexadecimal digits in lower case each, or `-` for none
+
+abbrev pub is_hex : ℕ → Bool
+is_hex byte = (nat_le 48 byte && nat_le byte 57) || (nat_le 97 byte && nat_le byte 102)
+
+abbrev pub is_dash : List ℕ → Bool
+is_dash text = slice_index text 0 == 45
+
+abbrev pub hex_digits : List ℕ → ℕ
+hex_digits text = prefix_len is_hex text
+
+-- no digit, the first digit of a byte too many, the second digit of a byte missing
+unfoldable pub pairs_fault : ℕ → List ℕ → Option ℕ
+pairs_fault most text =
+    option_or (then_some (hex_digits text == 0) 0)
+    (option_or (then_some (nat_lt (2 * most) (hex_digits text)) (2 * most))
+    (then_some (hex_digits text % 2 == 1) (hex_digits text)))
+
+unfoldable pub hex_fault : ℕ → List ℕ → Option ℕ
+hex_fault most text = if is_dash text then None else pairs_fault most text
+
+unfoldable pub hex_len : List ℕ → ℕ
+hex_len text = if is_dash text then 1 else hex_digits text
+
+-- the bytes that digits spell, or none where they spell no bytes
+unfoldable pub pairs_of : List ℕ → List ℕ
+pairs_of text = result_unwrap_or (decode_of text) []
+
+unfoldable pub hex_of : List ℕ → List ℕ
+hex_of text = if is_dash text then [] else pairs_of (take (hex_digits text) text)
+
+-- bytes of a fixed number: the first byte that is no digit
+unfoldable pub digits_fault : ℕ → List ℕ → Option ℕ
+digits_fault count text = then_some (nat_lt (hex_digits text) (2 * count)) (hex_digits text)
+
+-- the value of a digit
+unfoldable pub digit_of : ℕ → ℕ
+digit_of c = cond (nat_le c 57) (c - 48) (c - 87)
+
+-- the bytes that pairs of digits spell
+unfoldable pub low_pairs : List ℕ → List ℕ
+low_pairs (high ∷ low ∷ text) = (digit_of high * 16 + digit_of low) ∷ low_pairs text
+low_pairs _ = []
+
+unfoldable pub all_hex : List ℕ → Bool
+all_hex [] = true
+all_hex (c ∷ text) = is_hex c && all_hex text

@@ -1,0 +1,5 @@
+pub mod Fields
+pub mod Given
+pub mod Lists
+pub mod Tails
+pub mod Templates

@@ -1,0 +1,165 @@
+// Hexadecimal digits at the front of a text.
+ghost use Rattle.std.specs.Prelude.{◌<◌, ◌≡◌, ◌+◌, ◌*◌, ◌/◌, ◌%◌, ◌≤◌, true, false, [], ◌++◌, max, length, take, IfOk, IfErr, OnOk};
+ghost use Rattle.std.specs.List.{prefix_len};
+ghost use Rattle.std.specs.Result.{result_err};
+ghost use Rattle.sercos_text.specs.Fields.{is_hex, hex_digits, pairs_fault, hex_fault, digits_fault, hex_len, hex_of, pairs_of, digit_of, low_pairs, all_hex, is_dash};
+
+use sercos_bits::Content;
+
+// The value of each byte as a hexadecimal digit in lower case.
+const VALUES: [u8; 256] = [
+    255, 255, 255, 255, 255, 255, 255, 255, 255, 255, 255, 255, 255, 255, 255, 255, 255, 255, 255,
+    255, 255, 255, 255, 255, 255, 255, 255, 255, 255, 255, 255, 255, 255, 255, 255, 255, 255, 255,
+    255, 255, 255, 255, 255, 255, 255, 255, 255, 255, 0, 1, 2, 3, 4, 5, 6, 7, 8, 9, 255, 255, 255,
+    255, 255, 255, 255, 255, 255, 255, 255, 255, 255, 255, 255, 255, 255, 255, 255, 255, 255, 255,
+    255, 255, 255, 255, 255, 255, 255, 255, 255, 255, 255, 255, 255, 255, 255, 255, 255, 10, 11,
+    12, 13, 14, 15, 255, 255, 255, 255, 255, 255, 255, 255, 255, 255, 255, 255, 255, 255, 255, 255,
+    255, 255, 255, 255, 255, 255, 255, 255, 255, 255, 255, 255, 255, 255, 255, 255, 255, 255, 255,
+    255, 255, 255, 255, 255, 255, 255, 255, 255, 255, 255, 255, 255, 255, 255, 255, 255, 255, 255,
+    255, 255, 255, 255, 255, 255, 255, 255, 255, 255, 255, 255, 255, 255, 255, 255, 255, 255, 255,
+    255, 255, 255, 255, 255, 255, 255, 255, 255, 255, 255, 255, 255, 255, 255, 255, 255, 255, 255,
+    255, 255, 255, 255, 255, 255, 255, 255, 255, 255, 255, 255, 255, 255, 255, 255, 255, 255, 255,
+    255, 255, 255, 255, 255, 255, 255, 255, 255, 255, 255, 255, 255, 255, 255, 255, 255, 255, 255,
+    255, 255, 255, 255, 255, 255, 255, 255, 255, 255, 255, 255, 255, 255, 255, 255, 255, 255, 255,
+    255, 255, 255, 255,
+];
+
+// The value of a byte as a hexadecimal digit in lower case, or 255 for another byte.
+fn value_of(byte: u8) -> u8
+    ensures digit { is_hex byte ≡ true → result ≡ digit_of byte }
+    ensures below { is_hex byte ≡ true → result < 16 }
+    ensures other { is_hex byte ≡ false → result ≡ 255 }
+{
+    VALUES[usize::from(byte)]
+}
+
+// Whether a byte is a hexadecimal digit in lower case.
+fn is_hex(byte: u8) -> bool
+    ensures { result ≡ is_hex byte }
+{
+    value_of(byte) < 16
+}
+
+// How many hexadecimal digits a text begins with.
+fn leading_digits(text: &[u8]) -> usize
+    ensures value { result ≡ hex_digits text.now }
+    ensures bound { result ≤ length text.now }
+{
+    for (place, byte) in text.iter().enumerate() {
+        if !is_hex(*byte) {
+            return place;
+        }
+    }
+    text.len()
+}
+
+// The digits of at most `most` bytes at the front of a text: how many they are.
+#[tactic(auto, unfolding(crate::specs::Fields::pairs_fault))]
+fn read_pairs(text: &[u8], most: u16) -> Result<usize, usize>
+    ensures fault { result_err result ≡ pairs_fault most text.now }
+    ensures len { IfOk result (λ len. len ≡ hex_digits text.now) }
+    ensures some { IfOk result (λ len. 0 < len) }
+    ensures even { IfOk result (λ len. len % 2 ≡ 0) }
+    ensures most { IfOk result (λ len. len ≤ 2 * most) }
+    ensures bound { IfOk result (λ len. len ≤ length text.now) }
+    ensures place { IfErr result (λ place. place ≤ length text.now) }
+{
+    let most_digits = 2 * usize::from(most);
+    let digits = leading_digits(text);
+    if digits == 0 {
+        return Err(0);
+    }
+    if digits > most_digits {
+        return Err(most_digits);
+    }
+    if digits % 2 == 1 {
+        return Err(digits);
+    }
+    Ok(digits)
+}
+
+/// Bytes at the front of a text, at most `most` of them: how many bytes of the text they take. The error is the place of
+/// the first byte that can't stand.
+#[tactic(auto, unfolding(crate::specs::Fields::hex_fault, crate::specs::Fields::hex_len))]
+pub fn read_hex(text: &[u8], most: u16) -> Result<usize, usize>
+    ensures fault { result_err result ≡ hex_fault most text.now }
+    ensures len { IfOk result (λ len. len ≡ hex_len text.now) }
+    ensures some { IfOk result (λ len. 0 < len) }
+    ensures even { IfOk result (λ len. is_dash text.now ≡ false → len % 2 ≡ 0) }
+    ensures most { IfOk result (λ len. len ≤ max 1 (2 * most)) }
+    ensures bound { IfOk result (λ len. len ≤ length text.now) }
+    ensures place { IfErr result (λ place. place ≤ length text.now) }
+{
+    if text.first() == Some(&b'-') {
+        return Ok(1);
+    }
+    read_pairs(text, most)
+}
+
+/// Exactly `count` bytes at the front of a text, as two hexadecimal digits each: how many bytes of the text they take. The
+/// error is the place of the first byte that is no digit.
+#[tactic(auto, unfolding(crate::specs::Fields::digits_fault))]
+pub fn read_digits(text: &[u8], count: u16) -> Result<usize, usize>
+    ensures fault { result_err result ≡ digits_fault count text.now }
+    ensures len { IfOk result (λ len. len ≡ 2 * count) }
+    ensures bound { IfOk result (λ len. len ≤ length text.now) }
+    ensures place { IfErr result (λ place. place ≤ length text.now) }
+    ensures digits { IfOk result (λ len. len ≤ hex_digits text.now) }
+{
+    let digits = leading_digits(text);
+    if digits < 2 * usize::from(count) {
+        return Err(digits);
+    }
+    Ok(2 * usize::from(count))
+}
+
+// The byte that two digits spell.
+fn pair_of(high: u8, low: u8) -> u8
+    requires high { is_hex high ≡ true }
+    requires low { is_hex low ≡ true }
+    ensures { result ≡ digit_of high * 16 + digit_of low }
+{
+    16 * value_of(high) + value_of(low)
+}
+
+// Replaces the bytes by those that two digits each spell.
+fn set_pairs(digits: &[u8], bytes: &mut Content)
+    requires few { length digits.now ≤ 4096 }
+    requires even { length digits.now % 2 ≡ 0 }
+    requires digits { all_hex digits.now ≡ true }
+    ensures { bytes.new ≡ low_pairs digits.now }
+{
+    bytes.clear();
+    for place in 0..digits.len() / 2 {
+        bytes.push_within(pair_of(digits[2 * place], digits[2 * place + 1]));
+    }
+}
+
+/// Replaces the bytes by those that the first `len` bytes of a text spell, which are digits.
+pub(crate) fn set_digits(text: &[u8], len: usize, bytes: &mut Content)
+    requires within { len ≤ length text.now }
+    requires digits { len ≤ hex_digits text.now }
+    requires most { len ≤ 4096 }
+    requires even { len % 2 ≡ 0 }
+    ensures { bytes.new ≡ low_pairs (take len text.now) }
+{
+    set_pairs(&text[..len], bytes);
+}
+
+/// Replaces the bytes by those at the front of a text, where [`read_hex`] finds no byte that can't stand and takes `len`
+/// bytes of the text.
+#[tactic(auto, unfolding(crate::specs::Fields::hex_of, crate::specs::Fields::hex_len))]
+pub(crate) fn set_bytes(text: &[u8], len: usize, bytes: &mut Content)
+    requires len { len ≡ hex_len text.now }
+    requires within { len ≤ length text.now }
+    requires most { len ≤ 4096 }
+    requires some { 0 < len }
+    requires even { is_dash text.now ≡ false → len % 2 ≡ 0 }
+    ensures { bytes.new ≡ hex_of text.now }
+{
+    if text[0] == b'-' {
+        bytes.clear();
+    } else {
+        set_pairs(&text[..len], bytes);
+    }
+}

@@ -1,0 +1,211 @@
+// Lines by templates. A capital letter of a template stands for a field, and each other byte for itself.
+ghost use Rattle.std.specs.Prelude.{◌≡◌, ◌<◌, ◌≤◌, ◌+◌, ◌*◌, ◌++◌, [], ◌∷◌, pos, true, length, take, drop, IfOk, IfErr, IfSome, OnOk};
+ghost use Rattle.sercos_text.specs.Fields.{number_fault, number_len, number_of, signed_fault, signed_len, signed_of, hex_fault, hex_len, hex_of, digits_fault, low_pairs};
+ghost use Rattle.std.specs.Result.{result_err};
+ghost use Rattle.sercos_text.specs.Templates.{field_of, field_fault, field_len, byte_fault, part_fault, part_len, line_fault, field_value, part_values, values_of, numbers_in, bytes_by, is_field};
+
+use crate::digits::{read_digits, read_hex, set_bytes, set_digits};
+use crate::list::{Item, read_item};
+use crate::number::{read_number, read_signed};
+use crate::tail::{Tail, read_tail};
+use arrayvec::ArrayVec;
+use sercos_bits::Content;
+
+/// A field of a line.
+#[derive(Clone, Copy, Debug, PartialEq, Eq)]
+pub enum Field {
+    /// A number, at most this.
+    Number(u32),
+    /// A signed number of 32 bits.
+    Signed,
+    /// At most so many bytes, as hexadecimal digits; `-` for none.
+    Hex(u16),
+    /// Exactly so many bytes, as hexadecimal digits.
+    Digits(u16),
+    /// An identifier number.
+    Ident,
+}
+
+// The field that a letter of a template stands for.
+#[tactic(auto, unfolding(crate::specs::Templates::field_of))]
+pub(crate) fn field_of(letter: u8) -> Option<Field>
+    ensures value { result ≡ field_of letter }
+    ensures field { IfSome result (λ field. is_field field ≡ true) }
+{
+    match letter {
+        b'B' => Some(Field::Number(255)),
+        b'W' => Some(Field::Number(65535)),
+        b'D' => Some(Field::Number(4_294_967_295)),
+        b'S' => Some(Field::Signed),
+        b'H' => Some(Field::Hex(2048)),
+        b'R' => Some(Field::Hex(1024)),
+        b'C' => Some(Field::Digits(2)),
+        b'A' => Some(Field::Digits(4)),
+        b'I' => Some(Field::Ident),
+        _ => None,
+    }
+}
+
+/// The most numbers that a line gives.
+pub const MOST_NUMBERS: usize = 64;
+
+/// What the fields of a line give.
+#[derive(Debug, Drop)]
+pub struct Told {
+    /// Its numbers, in order.
+    pub numbers: ArrayVec<i64, MOST_NUMBERS>,
+    /// Its bytes.
+    pub bytes: Content,
+}
+
+// A number at the front of a text.
+#[tactic(auto, unfolding(crate::specs::Templates::field_fault, crate::specs::Templates::field_len, crate::specs::Templates::field_value, crate::specs::Templates::numbers_in, crate::specs::Templates::bytes_by))]
+fn take_number(most: u32, text: &[u8], told: &mut Told) -> Result<usize, usize>
+    requires { length told.old.numbers.items < 64 }
+    ensures fault { result_err result ≡ number_fault most text.now }
+    ensures len { IfOk result (λ len. len ≡ number_len text.now) }
+    ensures bound { IfOk result (λ len. len ≤ length text.now) }
+    ensures place { IfErr result (λ place. place ≤ length text.now) }
+    ensures numbers { OnOk result (told.new.numbers.items ≡ told.old.numbers.items ++ pos (number_of text.now) ∷ []) }
+    ensures bytes { told.new.bytes ≡ told.old.bytes }
+{
+    match read_number(text, most) {
+        Ok((len, number)) => {
+            told.numbers.push(i64::from(number));
+            Ok(len)
+        }
+        Err(place) => Err(place),
+    }
+}
+
+// A signed number at the front of a text.
+fn take_signed(text: &[u8], told: &mut Told) -> Result<usize, usize>
+    requires { length told.old.numbers.items < 64 }
+    ensures fault { result_err result ≡ signed_fault text.now }
+    ensures len { IfOk result (λ len. len ≡ signed_len text.now) }
+    ensures bound { IfOk result (λ len. len ≤ length text.now) }
+    ensures place { IfErr result (λ place. place ≤ length text.now) }
+    ensures numbers { OnOk result (told.new.numbers.items ≡ told.old.numbers.items ++ signed_of text.now ∷ []) }
+    ensures bytes { told.new.bytes ≡ told.old.bytes }
+{
+    match read_signed(text) {
+        Ok((len, number)) => {
+            told.numbers.push(i64::from(number));
+            Ok(len)
+        }
+        Err(place) => Err(place),
+    }
+}
+
+// Bytes at the front of a text.
+fn take_hex(most: u16, text: &[u8], told: &mut Told) -> Result<usize, usize>
+    requires { most ≤ 2048 }
+    ensures fault { result_err result ≡ hex_fault most text.now }
+    ensures len { IfOk result (λ len. len ≡ hex_len text.now) }
+    ensures bound { IfOk result (λ len. len ≤ length text.now) }
+    ensures place { IfErr result (λ place. place ≤ length text.now) }
+    ensures numbers { told.new.numbers ≡ told.old.numbers }
+    ensures bytes { OnOk result (told.new.bytes ≡ hex_of text.now) }
+{
+    match read_hex(text, most) {
+        Ok(len) => {
+            set_bytes(text, len, &mut told.bytes);
+            Ok(len)
+        }
+        Err(place) => Err(place),
+    }
+}
+
+// Exactly so many bytes at the front of a text.
+fn take_digits(count: u16, text: &[u8], told: &mut Told) -> Result<usize, usize>
+    requires { (1 ≤ count) × (count ≤ 2048) }
+    ensures fault { result_err result ≡ digits_fault count text.now }
+    ensures len { IfOk result (λ len. len ≡ 2 * count) }
+    ensures bound { IfOk result (λ len. len ≤ length text.now) }
+    ensures place { IfErr result (λ place. place ≤ length text.now) }
+    ensures numbers { told.new.numbers ≡ told.old.numbers }
+    ensures bytes { OnOk result (told.new.bytes ≡ low_pairs (take (2 * count) text.now)) }
+{
+    match read_digits(text, count) {
+        Ok(len) => {
+            set_digits(text, len, &mut told.bytes);
+            Ok(len)
+        }
+        Err(place) => Err(place),
+    }
+}
+
+// A field at the front of a text: how many bytes it takes. The error is the place of the first byte that can't stand.
+#[tactic(auto, unfolding(crate::specs::Templates::field_fault, crate::specs::Templates::field_len, crate::specs::Templates::field_value, crate::specs::Templates::numbers_in, crate::specs::Templates::bytes_by))]
+fn read_field(field: Field, text: &[u8], told: &mut Told) -> Result<usize, usize>
+    requires few { length told.old.numbers.items < 64 }
+    requires field { is_field field ≡ true }
+    ensures fault { result_err result ≡ field_fault field text.now }
+    ensures len { IfOk result (λ len. len ≡ field_len field text.now) }
+    ensures bound { IfOk result (λ len. len ≤ length text.now) }
+    ensures place { IfErr result (λ place. place ≤ length text.now) }
+    ensures numbers { OnOk result (told.new.numbers.items ≡ told.old.numbers.items ++ numbers_in (field_value field text.now ∷ [])) }
+    ensures bytes { OnOk result (told.new.bytes ≡ bytes_by told.old.bytes (field_value field text.now ∷ [])) }
+{
+    match field {
+        Field::Number(most) => take_number(most, text, told),
+        Field::Signed => take_signed(text, told),
+        Field::Hex(most) => take_hex(most, text, told),
+        Field::Digits(count) => take_digits(count, text, told),
+        Field::Ident => read_item(Item::Ident, text),
+    }
+}
+
+// A byte at the front of a text.
+#[tactic(auto, unfolding(crate::specs::Templates::byte_fault))]
+fn read_byte(byte: u8, text: &[u8]) -> Result<usize, usize>
+    ensures fault { result_err result ≡ byte_fault byte text.now }
+    ensures len { IfOk result (λ len. len ≡ 1) }
+    ensures bound { IfOk result (λ len. len ≤ length text.now) }
+    ensures place { IfErr result (λ place. place ≤ length text.now) }
+{
+    match text.first() {
+        Some(first) if *first == byte => Ok(1),
+        _ => Err(0),
+    }
+}
+
+// What a letter of a template stands for, at the front of a text.
+#[tactic(auto, unfolding(crate::specs::Templates::part_fault, crate::specs::Templates::part_len, crate::specs::Templates::part_values, crate::specs::Templates::numbers_in, crate::specs::Templates::bytes_by))]
+fn read_part(letter: u8, text: &[u8], told: &mut Told) -> Result<usize, usize>
+    requires { length told.old.numbers.items < 64 }
+    ensures fault { result_err result ≡ part_fault (field_of letter) letter text.now }
+    ensures len { IfOk result (λ len. len ≡ part_len (field_of letter) text.now) }
+    ensures bound { IfOk result (λ len. len ≤ length text.now) }
+    ensures place { IfErr result (λ place. place ≤ length text.now) }
+    ensures numbers { OnOk result (told.new.numbers.items ≡ told.old.numbers.items ++ numbers_in (part_values (field_of letter) text.now)) }
+    ensures bytes { OnOk result (told.new.bytes ≡ bytes_by told.old.bytes (part_values (field_of letter) text.now)) }
+{
+    match field_of(letter) {
+        Some(field) => read_field(field, text, told),
+        None => read_byte(letter, text),
+    }
+}
+
+/// Reads a line of the template and the tail, and replaces what is told by what its fields give. The error is the place of the first
+/// byte of the line that can't stand; what is told is then of no use.
+pub fn read_line(template: &[u8], tail: Tail, line: &[u8], told: &mut Told) -> Result<(), usize>
+    requires { length template.now ≤ 64 }
+    ensures fault { result_err result ≡ line_fault tail template.now line.now }
+    ensures numbers { OnOk result (told.new.numbers.items ≡ numbers_in (values_of template.now line.now)) }
+    ensures bytes { OnOk result (told.new.bytes ≡ bytes_by [] (values_of template.now line.now)) }
+{
+    told.numbers.clear();
+    told.bytes.clear();
+    let mut at = 0;
+    for letter in template {
+        match read_part(*letter, &line[at..], told) {
+            Ok(len) => at += len,
+            Err(place) => return Err(at + place),
+        }
+    }
+    match read_tail(tail, &line[at..]) {
+        Ok(()) => Ok(()),
+        Err(place) => Err(at + place),
+    }
+}
