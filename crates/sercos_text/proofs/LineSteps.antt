@@ -5,9 +5,9 @@ use Rattle.std.specs.Option.{option_or}
 use Rattle.std.proofs.lemmas.Bool.Decides.{nat_tests}
 use Rattle.std.proofs.lemmas.List.{at_drop_more, at_drop_all, drop-drop, append-nil}
 use Rattle.sercos_text.specs.declared.tail.Tail.{Tail}
-use Rattle.sercos_text.specs.Tails.{tail_fault}
+use Rattle.sercos_text.specs.Tails.{tail_fault, tail_of}
 use Rattle.sercos_text.specs.Fields.{behind}
-use Rattle.sercos_text.specs.Templates.{field_of, part_fault, part_len, line_fault, Value, field_value, part_values, values_of, numbers_in, bytes_by}
+use Rattle.sercos_text.specs.Templates.{field_of, part_fault, part_len, line_fault, Value, field_value, part_values, values_of, items_of, numbers_in, bytes_by}
 use Rattle.sercos_text.specs.Templates.Value.{number, signed, bytes, ident}
 use Rattle.sercos_text.specs.declared.template.Field.{Field}
 use Rattle.std.specs.Prelude.{ℤ, pos}
@@ -96,6 +96,24 @@ unfolding values_of bytes_by
 bytes_end template line i at told all ended before =
     let none : values_of (drop i template) (drop at line) ≡ [] = at_drop_all (λ t. values_of t (drop at line)) template i ended in
     rw none at before
+
+items_next : (tail : Tail) (template text : List ℕ) (i : ℕ) → i < length template → items_of tail (drop i template) text ≡ items_of tail (drop (i + 1) template) (drop (part_len (field_of (get_or template i 0)) text) text)
+unfolding items_of
+items_next tail template text i inside = at_drop_more (λ t. items_of tail t text) template i 0 inside
+
+pub items_told : (tail : Tail) (template line text : List ℕ) (i at len : ℕ) (all : List ℕ) → i < length template → text ≡ drop at line → len ≡ part_len (field_of (get_or template i 0)) text
+    → items_of tail (drop i template) (drop at line) ≡ all → items_of tail (drop (i + 1) template) (drop (at + len) line) ≡ all
+items_told tail template line text i at len all inside rest long is =
+    let here = rw rest at long in
+    rw (← drop-drop len at line, here, ← items_next tail template (drop at line) i inside) is
+
+-- at the template's end they are those of the tail
+items_none : (tail : Tail) (template text : List ℕ) (i : ℕ) → length template ≤ i → items_of tail (drop i template) text ≡ tail_of tail text
+unfolding items_of
+items_none tail template text i ended = at_drop_all (λ t. items_of tail t text) template i ended
+
+pub items_end : (tail : Tail) (template line text : List ℕ) (i at : ℕ) (all : List ℕ) → length template ≤ i → text ≡ drop at line → items_of tail (drop i template) (drop at line) ≡ all → tail_of tail text ≡ all
+items_end tail template line text i at all ended rest is = rw rest (sym (items_none tail template (drop at line) i ended) ∙ is)
 
 pub few_more : (field : Option Field) (text : List ℕ) (told more : List ℤ) → more ≡ told ++ numbers_in (part_values field text) → length more ≤ length told + 1
 unfolding part_values numbers_in

@@ -11,7 +11,7 @@ mod writer;
 
 pub use digits::{read_digits, read_hex};
 pub use law::{line_law, list_law, tail_law};
-pub use list::{Item, read_list};
+pub use list::{Addresses, Item, MOST_ADDRESSES, read_list};
 pub use number::{read_number, read_signed};
 pub use tail::{Tail, read_tail};
 pub use template::{Field, MOST_NUMBERS, Told, read_line};

@@ -2,10 +2,11 @@
 ghost use Rattle.std.specs.Prelude.{◌≡◌, ◌<◌, ◌≤◌, ◌+◌, ◌*◌, ◌++◌, [], ◌∷◌, pos, true, length, take, drop, IfOk, IfErr, IfSome, OnOk};
 ghost use Rattle.sercos_text.specs.Fields.{number_fault, number_len, number_of, signed_fault, signed_len, signed_of, hex_fault, hex_len, hex_of, digits_fault, low_pairs};
 ghost use Rattle.std.specs.Result.{result_err};
-ghost use Rattle.sercos_text.specs.Templates.{field_of, field_fault, field_len, byte_fault, part_fault, part_len, line_fault, field_value, part_values, values_of, numbers_in, bytes_by, is_field};
+ghost use Rattle.sercos_text.specs.Templates.{field_of, field_fault, field_len, byte_fault, part_fault, part_len, line_fault, field_value, part_values, values_of, items_of, numbers_in, bytes_by, is_field};
+ghost use Rattle.sercos_text.specs.Tails.{addresses_in};
 
 use crate::digits::{read_digits, read_hex, set_bytes, set_digits};
-use crate::list::{Item, read_item};
+use crate::list::{Addresses, read_ident};
 use crate::number::{read_number, read_signed};
 use crate::tail::{Tail, read_tail};
 use arrayvec::ArrayVec;
@@ -56,6 +57,8 @@ pub struct Told {
     pub numbers: ArrayVec<i64, MOST_NUMBERS>,
     /// Its bytes.
     pub bytes: Content,
+    /// The addresses of its list.
+    pub addresses: Addresses,
 }
 
 // A number at the front of a text.
@@ -152,7 +155,7 @@ fn read_field(field: Field, text: &[u8], told: &mut Told) -> Result<usize, usize
         Field::Signed => take_signed(text, told),
         Field::Hex(most) => take_hex(most, text, told),
         Field::Digits(count) => take_digits(count, text, told),
-        Field::Ident => read_item(Item::Ident, text),
+        Field::Ident => read_ident(text),
     }
 }
 
@@ -194,6 +197,7 @@ pub fn read_line(template: &[u8], tail: Tail, line: &[u8], told: &mut Told) -> R
     ensures fault { result_err result ≡ line_fault tail template.now line.now }
     ensures numbers { OnOk result (told.new.numbers.items ≡ numbers_in (values_of template.now line.now)) }
     ensures bytes { OnOk result (told.new.bytes ≡ bytes_by [] (values_of template.now line.now)) }
+    ensures addresses { OnOk result (told.new.addresses.items ≡ addresses_in tail (items_of tail template.now line.now)) }
 {
     told.numbers.clear();
     told.bytes.clear();
@@ -204,7 +208,7 @@ pub fn read_line(template: &[u8], tail: Tail, line: &[u8], told: &mut Told) -> R
             Err(place) => return Err(at + place),
         }
     }
-    match read_tail(tail, &line[at..]) {
+    match read_tail(tail, &line[at..], &mut told.addresses) {
         Ok(()) => Ok(()),
         Err(place) => Err(at + place),
     }
