@@ -17,7 +17,7 @@ use Rattle.sercos_trace.specs.declared.events.Stop.{Stop}
 use Rattle.sercos_trace.specs.declared.events.Stop.TheVariants as stop
 use Rattle.sercos_seat.specs.Ring.{Known, MemberView, Task, member}
 use Rattle.sercos_seat.specs.Agenda.{reads_count, given, ended_well, is_checked, is_ready, wishes_given, last_long_stop}
-use Rattle.sercos_master.specs.Annals.{Past, Call, HearMst, HearAt, Mdt, End, Restart, past, outcomes, with_at, after_at_of, is_taken, after_taken, place_of, after_mdt, begins, with_begin, is_sent_to, addressed_in, ready_to_send, settled, with_stop, with_plan, with_due_plan, planned_by, is_plan_due, first_trouble, after_end, fall_of, goes_on, next_phase, new_epoch, still_waiting, is_done, each_place, first_from}
+use Rattle.sercos_master.specs.Annals.{Past, Call, HearMst, HearAt, Mdt, End, Restart, past, outcomes, with_at, after_at_of, is_taken, after_taken, place_of, after_mdt, begins, begun, with_begin, is_sent_to, addressed_in, ready_to_send, settled, with_stop, with_plan, with_due_plan, planned_by, is_plan_due, first_trouble, after_end, fall_of, goes_on, next_phase, new_epoch, still_waiting, is_done, each_place, first_from}
 use Rattle.sercos_seat.specs.Channel.{outcomes_in, with_outcome}
 use Rattle.sercos_seat.proofs.Channels.{Heard, heard}
 use Rattle.sercos_seat.proofs.Seats.{before_end, behind_end}
@@ -85,6 +85,9 @@ send_adds : (b : Bool) (calls : List channel.Call) → outcomes_in (begun_by (if
 send_adds true calls = refl
 send_adds false calls = refl
 
+pub begun_adds : (s : Known) (p : Past) (k : ℕ) → outcomes (begun s p) k ≡ outcomes p k
+begun_adds s p k = begin_adds (begins s p k) (p.calls k)
+
 pub mdt_adds : (s : Known) (p : Past) (k : ℕ) → outcomes (after_mdt s p) k ≡ outcomes p k
 mdt_adds s p k =
     send_adds (is_sent_to (ready_to_send s p) (addressed_in s (ready_to_send s p)) k) ((ready_to_send s p).calls k)
@@ -122,7 +125,7 @@ at_phase s (Some i) content p = by (is_taken s p i content)
     by false = refl
 
 -- where each place passes, every one does
-each_passes : (n k : ℕ) (test : ℕ → Bool) → is_none (first_from k n (λ j. not (test j))) ≡ true → (j : ℕ) → k ≤ j → j < k + n → test j ≡ true
+pub each_passes : (n k : ℕ) (test : ℕ → Bool) → is_none (first_from k n (λ j. not (test j))) ≡ true → (j : ℕ) → k ≤ j → j < k + n → test j ≡ true
 each_passes zero k test e j low high = absurd (omega (arith, low, high))
 each_passes (suc n) k test e j low high = elim (chosen (test k)) [
   | inl t ↦ elim (cases_eq j k) [

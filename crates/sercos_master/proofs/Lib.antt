@@ -8,3 +8,4 @@ pub mod Told
 pub mod Openings
 pub mod Laws
 pub mod Configured
+pub mod Planned

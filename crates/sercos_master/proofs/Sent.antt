@@ -9,18 +9,25 @@ use Rattle.sercos_telegram.specs.Spells.{all_drives}
 use Rattle.sercos_service_master.specs.Begun.{master_says, open_in}
 use Rattle.sercos_service_master.specs.Calls.{Send, begun_by}
 use Rattle.sercos_timing.specs.Views.{PlanView}
-use Rattle.sercos_seat.specs.Ring.{Known, member}
-use Rattle.sercos_seat.specs.Agenda.{len_or_none, mdt_attributes}
+use Rattle.std.proofs.lemmas.Bool.{leb-true}
+use Rattle.std.proofs.lemmas.List.{length-append, take_all}
+use Rattle.std.proofs.lemmas.List.Sums.{sum_by-append}
+use Rattle.sercos_timing.specs.Order.{record_bytes}
+use Rattle.sercos_timing.specs.declared.wishes.Wish.{Wish}
+use Rattle.sercos_seat.specs.Ring.{Known, MemberView, member}
+use Rattle.sercos_seat.specs.Agenda.{len_or_none, mdt_attributes, record_len, wish_given, wishes_from}
+use Rattle.sercos_seat.proofs.Sends.{seen_length}
 use Rattle.sercos_seat.specs.Seats.{outcomes_seen}
-use Rattle.sercos_master.specs.Annals.{Past, Turn, first_place, is_idle, is_identified, addressed_in, is_sent_to, sent_to}
+use Rattle.sercos_master.specs.Annals.{IsPlanned, Past, Turn, outcomes, first_place, is_idle, is_identified, addressed_in, is_sent_to, sent_to}
 use Rattle.sercos_seat.specs.Channel.{is_place}
 use Rattle.sercos_seat.specs.Records.{record_said, value_said, values_said}
-use Rattle.sercos_master.specs.Says.{record_to, records_from, mdt_said, single, joint, idle}
+use Rattle.sercos_master.specs.Says.{Sent, sent_as, record_to, records_from, mdt_said, single, joint, idle}
 use Rattle.sercos_seat.specs.Seats.{Seen, SeatView, SeatStandsFor, sent_in, record_seen}
 use Rattle.sercos_master.specs.Kept.{SeatsStandFor, CoreView, CoreStandsFor, seen_at, sent_now, Fits, records_upto}
 use Rattle.sercos_master.proofs.Places.{one_seat, same_place, other_place}
 use Rattle.sercos_seat.proofs.Seats.{idle_same}
 use Rattle.sercos_master.proofs.Rings.{found, unidentified}
+use Rattle.sercos_master.proofs.Wishes.{wishes_more}
 
 append_again : (xs ys zs : List ℕ) → (xs ++ ys) ++ zs ≡ xs ++ (ys ++ zs)
 append_again [] ys zs = refl
@@ -134,12 +141,13 @@ start_late s p plan e h = rw (said_late s p h, e) (by p.plan)
     by None = refl
     by (Some q) = refl
 
-pub content_late : (s : Known) (p : Past) (out : List ℕ) → 3 ≤ p.now.phase → out ≡ all_drives ∷ records_upto s (seen_at p) p.cycle (length s.drives) → IfSome (mdt_said s (sent_now s p)) (λ m. out ≡ m.content)
-content_late s p out h e = rw (said_late s p h) (by p.plan)
+pub content_planned : (s : Known) (p : Past) (out : List ℕ) → 3 ≤ p.now.phase → (is_some p.plan ≡ true → out ≡ all_drives ∷ records_upto s (seen_at p) p.cycle (length s.drives)) →
+    IfSome (mdt_said s (sent_now s p)) (λ m. out ≡ m.content)
+content_planned s p out h e = rw (said_late s p h) (by p.plan e)
   where
-    by : (o : Option PlanView) → IfSome (option_map (joint s (sent_to None p)) o) (λ m. out ≡ m.content)
-    by None = tt
-    by (Some q) = e ∙ ap (λ bytes. all_drives ∷ bytes) (sym (records_all s p h))
+    by : (o : Option PlanView) → (is_some o ≡ true → out ≡ all_drives ∷ records_upto s (seen_at p) p.cycle (length s.drives)) → IfSome (option_map (joint s (sent_to None p)) o) (λ m. out ≡ m.content)
+    by None e = tt
+    by (Some q) e = e refl ∙ ap (λ bytes. all_drives ∷ bytes) (sym (records_all s p h))
 
 pub sent_all : (v : CoreView) (seats : List SeatView) (s : Known) (p : Past) → CoreStandsFor v s p → 3 ≤ p.now.phase → length seats ≡ length v.seats → SeatsStandFor seats s (λ k. sent_in (seen_at p k)) →
     CoreStandsFor (record v { seats = seats; addressed = None }) s (sent_now s p)
@@ -271,3 +279,38 @@ said_none_1 v s p c e f = said_1 v s p c e ∙ ap (option_map (single s idle)) f
 
 pub said_one_1 : (v : CoreView) (s : Known) (p : Past) (k : ℕ) → CoreStandsFor v s p → p.now.phase ≡ 1 → position (λ seat. not seat.identified) v.seats ≡ Some k → mdt_said s (sent_now s p) ≡ Some (single s idle k)
 said_one_1 v s p k c e f = said_1 v s p c e ∙ ap (option_map (single s idle)) f
+
+-- THE RECORDS FIT where the plan is that of what was read.
+upto_length : (s : Known) (p : Past) (cycle n : ℕ) → n ≤ length s.drives → length (records_upto s (seen_at p) cycle n) ≡ record_bytes (wishes_from (take n s.drives) 0 (outcomes p))
+upto_length s p cycle zero h = none s.drives
+  where
+    none : (drives : List MemberView) → 0 ≡ record_bytes (wishes_from (take 0 drives) 0 (outcomes p))
+    none [] = refl
+    none (d ∷ drives) = refl
+upto_length s p cycle (suc n) h =
+    let e : n + 1 ≡ suc n = omega arith in
+    let before : length (records_upto s (seen_at p) cycle n) ≡ record_bytes (wishes_from (take n s.drives) 0 (outcomes p)) = upto_length s p cycle n (omega (arith, h)) in
+    let one : length (record_seen cycle (member s n) (seen_at p n)) ≡ record_len (member s n) (outcomes p n) = seen_length cycle (member s n) (seen_at p n) in
+    let both = length-append (records_upto s (seen_at p) cycle n) (record_seen cycle (member s n) (seen_at p n)) in
+    let more = wishes_more s.drives 0 n (outcomes p) (omega (arith, h)) in
+    let sum : record_bytes (wishes_from (take n s.drives) 0 (outcomes p) ++ wish_given (member s n) (outcomes p (0 + n)) ∷ []) ≡ record_bytes (wishes_from (take n s.drives) 0 (outcomes p)) + record_bytes (wish_given (member s n) (outcomes p (0 + n)) ∷ []) =
+    sum_by-append (λ (w : Wish). w.record_len) (wishes_from (take n s.drives) 0 (outcomes p)) (wish_given (member s n) (outcomes p (0 + n)) ∷ []) in
+    let z : 0 + n ≡ n = omega arith in
+    let last : record_bytes (wish_given (member s n) (outcomes p (0 + n)) ∷ []) ≡ record_len (member s n) (outcomes p n) = rw z (omega arith) in
+    rw (← e) (omega (arith, before, one, both) ∙ (sym (rw last at sum) ∙ sym (ap record_bytes more)))
+
+pub fits_planned : (s : Known) (p : Past) → IsPlanned s p → is_some p.plan ≡ true → Fits s p
+fits_planned s p planned some = by p.plan refl some
+  where
+    by : (plan : Option PlanView) → p.plan ≡ plan → is_some plan ≡ true → Fits s p
+    by None e some = absurd (false≢true some)
+    by (Some plan) e some =
+        let fits : record_bytes (wishes_from s.drives 0 (outcomes p)) ≤ 2047 = leb-true (record_bytes (wishes_from s.drives 0 (outcomes p))) 2047 (planned plan e).fits in
+        let whole : take (length s.drives) s.drives ≡ s.drives = take_all (length s.drives) s.drives (omega arith) in
+        let long = upto_length s p p.cycle (length s.drives) (omega arith) ∙ ap (λ ds. record_bytes (wishes_from ds 0 (outcomes p))) whole in
+        omega (arith, fits, long)
+
+-- a start and a content are what is said
+pub said_both : (start : Option ℕ) (content : List ℕ) (m : Option Sent) → start ≡ option_map (λ x. x.start) m → IfSome m (λ x. content ≡ x.content) → sent_as start content ≡ m
+said_both start content None e h = rw e refl
+said_both start content (Some x) e h = rw (e, h) refl

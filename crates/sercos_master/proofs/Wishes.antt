@@ -29,7 +29,7 @@ wishes_length : (drives : List MemberView) (k : ℕ) (outs : ℕ → List Outcom
 wishes_length [] k outs = refl
 wishes_length (d ∷ drives) k outs = ap (λ n. suc n) (wishes_length drives (k + 1) outs)
 
-wishes_more : (drives : List MemberView) (k n : ℕ) (outs : ℕ → List Outcome) → n < length drives →
+pub wishes_more : (drives : List MemberView) (k n : ℕ) (outs : ℕ → List Outcome) → n < length drives →
     wishes_from (take (n + 1) drives) k outs ≡ wishes_from (take n drives) k outs ++ wish_given (slice_index_or drives n no_member) (outs (k + n)) ∷ []
 wishes_more [] k n outs h = absurd (omega (arith, h))
 wishes_more (d ∷ drives) k zero outs h = let e : k + 0 ≡ k = omega arith in rw e refl
@@ -69,9 +69,9 @@ is_valid s outs k fits = record {
     wishes = λ i below.
         let within : i < length s.drives = rw (wishes_length s.drives 0 outs) at below in
         rw (wish_there s.drives 0 i outs within) (record {
-          address = k.address i within;
-          at_len = lens (drop 6 (words_given (outs (0 + i)))) (length (member s i).at) (k.lists i within).0;
-          record_len = lens (drop (6 + length (member s i).at) (words_given (outs (0 + i)))) (length (member s i).mdt) (k.lists i within).1;
+          address = k.addresses i no_member within;
+          at_len = lens (drop 6 (words_given (outs (0 + i)))) (length (member s i).at) (k.lists i no_member within).0;
+          record_len = lens (drop (6 + length (member s i).at) (words_given (outs (0 + i)))) (length (member s i).mdt) (k.lists i no_member within).1;
         });
     apart = subst AreDistinct (sym (wish_addresses s.drives 0 outs)) k.apart;
     mdt_len = grind (arith, nat_tests, fits);

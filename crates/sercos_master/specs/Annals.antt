@@ -1,6 +1,6 @@
 -- What an epoch has brought so far, and what each call adds to it. An epoch begins at the opening, behind a fall, and with a
 -- restart. Every list has its newest item first.
-use Rattle.std.specs.Prelude.{ℕ, zero, suc, ◌+◌, ◌-◌, ◌*◌, ◌==◌, nat_le, Bool, true, false, not, ◌&&◌, ◌||◌, if◌then◌else◌, List, [], ◌∷◌, ◌++◌, length, drop, Option, Some, None, Result, Ok, Err, is_some, is_none, option_map, slice_get, slice_index}
+use Rattle.std.specs.Prelude.{◌≡◌, ℕ, zero, suc, ◌+◌, ◌-◌, ◌*◌, ◌==◌, nat_le, Bool, true, false, not, ◌&&◌, ◌||◌, if◌then◌else◌, List, [], ◌∷◌, ◌++◌, length, drop, Option, Some, None, Result, Ok, Err, is_some, is_none, option_map, slice_get, slice_index}
 use Rattle.std.specs.Option.{option_or}
 use Rattle.sercos_telegram.specs.Words.{status_of}
 use Rattle.sercos_telegram.specs.Spells.{word_at}
@@ -283,12 +283,31 @@ abbrev pub whole_row : List Turn → ℕ
 whole_row [] = 0
 whole_row (t ∷ turns) = if t.whole then whole_row turns + 1 else 0
 
+-- phase 0: ten MSTs in a row came back whole
+abbrev pub is_closed : Past → Bool
+is_closed p = nat_le 10 (whole_row (p.now ∷ p.turns))
+
+-- phase 1: each drive is identified
+abbrev pub all_identified : Known → Past → Bool
+all_identified s p = each_place s (is_identified p)
+
+-- phase 2: each drive's check for phase 3 has ended well, and before it all its other tasks
+abbrev pub all_checked : Known → Past → Bool
+all_checked s p = each_place s (λ k. is_checked (member s k) (outcomes p k))
+
+-- phase 3: each drive's check for phase 4 has ended well
+abbrev pub all_ready : Known → Past → Bool
+all_ready s p = each_place s (λ k. is_ready (member s k) (outcomes p k))
+
+abbrev pub is_done_in : ℕ → Known → Past → Bool
+is_done_in phase s p =
+    if phase == 0 then is_closed p
+    else (if phase == 1 then all_identified s p
+    else (if phase == 2 then all_checked s p
+    else ((phase == 3) && all_ready s p)))
+
 abbrev pub is_done : Known → Past → Bool
-is_done s p =
-    if p.now.phase == 0 then nat_le 10 (whole_row (p.now ∷ p.turns))
-    else (if p.now.phase == 1 then each_place s (is_identified p)
-    else (if p.now.phase == 2 then each_place s (λ k. is_checked (member s k) (outcomes p k))
-    else ((p.now.phase == 3) && each_place s (λ k. is_ready (member s k) (outcomes p k)))))
+is_done s p = is_done_in p.now.phase s p
 
 abbrev pub next_phase : Known → Past → ℕ
 next_phase s p = if is_done s p then p.now.phase + 1 else p.now.phase
@@ -318,3 +337,13 @@ past s requests (HearAt content ∷ h) = after_at s content (past s requests h)
 past s requests (Mdt ∷ h) = after_mdt s (past s requests h)
 past s requests (End ∷ h) = after_end s (past s requests h)
 past s requests (Restart ∷ h) = after_restart (past s requests h)
+
+-- WHAT IS SO AFTER ANY CALLS. Where there is a plan, all reads have ended, what they gave fits an MDT, and the plan is the least
+-- one of it.
+pub record IsPlannedBy (s : Known) (p : Past) (plan : PlanView) : Type 0 where
+  pub read : all_read s p ≡ true
+  pub fits : nat_le (record_bytes (wishes_given s (outcomes p)).drives) 2047 ≡ true
+  pub planned_is : planned (wishes_given s (outcomes p)) ≡ Ok plan
+
+abbrev pub IsPlanned : Known → Past → Type 0
+IsPlanned s p = (plan : PlanView) → p.plan ≡ Some plan → IsPlannedBy s p plan

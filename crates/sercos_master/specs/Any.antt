@@ -3,15 +3,9 @@ use Rattle.std.specs.Prelude.{◌≡◌, ℕ, List}
 use Rattle.sercos_step.specs.declared.request.Job.{Job}
 use Rattle.sercos_master.specs.declared.master.AnyMaster.{AnyMaster}
 use Rattle.sercos_master.specs.declared.master.AnyMaster.TheVariants.{P0, P1, P2, P3, P4}
-use Rattle.sercos_seat.specs.Ring.{Known, IsKnown, Task, tasks_for}
+use Rattle.sercos_seat.specs.Ring.{Known, tasks_for}
 use Rattle.sercos_master.specs.Annals.{Past, Call, past}
-use Rattle.sercos_master.specs.Kept.{CoreView, CoreStandsFor}
-
--- a state of the phase that its type says
-pub record IsIn (phase : ℕ) (v : CoreView) (s : Known) (p : Past) : Type 0 where
-  pub stands : CoreStandsFor v s p
-  pub known : IsKnown s
-  pub phase_is : p.now.phase ≡ phase
+use Rattle.sercos_master.specs.Kept.{IsIn}
 
 abbrev pub StandsAt : AnyMaster → Known → Past → Type 0
 StandsAt (P0 m) s p = IsIn 0 m s p

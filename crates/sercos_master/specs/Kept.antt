@@ -7,7 +7,7 @@ use Rattle.sercos_trace.specs.declared.events.Stop.{Stop}
 use Rattle.sercos_master.specs.Annals.{Past, Turn, addressed_before, addressed_in, count_addressed, is_identified, sent_to, whole_row}
 use Rattle.sercos_master.specs.Reports.{inserted, stop_told}
 use Rattle.sercos_seat.specs.Channel.{is_place}
-use Rattle.sercos_seat.specs.Ring.{Known, MemberView, member}
+use Rattle.sercos_seat.specs.Ring.{IsKnown, Known, MemberView, member}
 use Rattle.sercos_seat.specs.Seats.{SeatStandsFor, SeatView, Seen, nothing_seen, record_seen}
 
 -- no AT was taken from the drive in the cycle before, though that was one of phase 3 or 4
@@ -105,6 +105,12 @@ pub record CoreStandsFor (v : CoreView) (s : Known) (p : Past) : Type 0 where
 abbrev pub records_upto : Known → (ℕ → Seen) → ℕ → ℕ → List ℕ
 records_upto s seen cycle zero = []
 records_upto s seen cycle (suc n) = records_upto s seen cycle n ++ record_seen cycle (member s n) (seen n)
+
+-- and it is of this phase
+pub record IsIn (phase : ℕ) (v : CoreView) (s : Known) (p : Past) : Type 0 where
+  pub stands : CoreStandsFor v s p
+  pub known : IsKnown s
+  pub phase_is : p.now.phase ≡ phase
 
 -- what is looked back on where the MDT is sent
 abbrev pub sent_now : Known → Past → Past

@@ -1,5 +1,5 @@
 -- What the master reports at the end of a cycle, at a fall and at a restart.
-use Rattle.std.specs.Prelude.{ℕ, zero, suc, ◌+◌, nat_lt, if◌then◌else◌, List, [], ◌∷◌, length, Option, Some, None, is_some}
+use Rattle.std.specs.Prelude.{◌≡◌, ◌≤◌, ◌⊎◌, ℕ, zero, suc, ◌+◌, nat_lt, if◌then◌else◌, List, [], ◌∷◌, length, Option, Some, None, is_some}
 use Rattle.std.specs.Option.{option_or}
 use Rattle.sercos_step.specs.declared.request.Outcome.{Outcome}
 use Rattle.sercos_step.specs.declared.request.Outcome.TheVariants as outcome
@@ -7,7 +7,7 @@ use Rattle.sercos_timing.specs.Views.{PlanView}
 use Rattle.sercos_trace.specs.Views.{EventsView}
 use Rattle.sercos_trace.specs.declared.events.Stop.{Stop}
 use Rattle.sercos_trace.specs.declared.events.Fall.TheVariants as fall
-use Rattle.sercos_master.specs.Annals.{Past, fall_of, is_idle, outcomes}
+use Rattle.sercos_master.specs.Annals.{Call, HearMst, HearAt, Mdt, End, Restart, Past, fall_of, is_idle, outcomes}
 use Rattle.sercos_seat.specs.Channel.{Report, broken_number, number_in}
 use Rattle.sercos_seat.specs.Ring.{Known}
 
@@ -55,3 +55,16 @@ events_told s p e = record {
 -- what a restart adds
 abbrev pub restart_told : Known → Past → EventsView → EventsView
 restart_told s p e = record e { outcomes = with_broken s p e.outcomes; fall = Some fall.Restart }
+
+-- the master restarted in the cycle at work
+abbrev pub HasRestarted : List Call → Type 0
+HasRestarted [] = ⊥
+HasRestarted (HearMst content ∷ h) = HasRestarted h
+HasRestarted (HearAt content ∷ h) = HasRestarted h
+HasRestarted (Mdt ∷ h) = HasRestarted h
+HasRestarted (End ∷ h) = ⊥
+HasRestarted (Restart ∷ h) = Unit {0}
+
+-- What the end of a cycle may be added to: no outcomes, or those that a restart in this cycle added, at most one a drive.
+abbrev pub AreOpen : List (ℕ × Outcome) → List Call → Type 0
+AreOpen reported h = (reported ≡ []) ⊎ ((length reported ≤ 64) × HasRestarted h)

@@ -45,3 +45,7 @@ mdt_said s p =
     if p.now.phase == 1 then option_map (single s idle) p.now.addressed
     else (if p.now.phase == 2 then option_map (λ k. single s (said_to p k) k) p.now.addressed
     else (if nat_le 3 p.now.phase then option_map (joint s p) p.plan else None))
+
+-- what a start, if there is one, and a content are
+abbrev pub sent_as : Option ℕ → List ℕ → Option Sent
+sent_as start content = option_map (λ at. record { start = at; content = content }) start

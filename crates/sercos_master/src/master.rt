@@ -1,48 +1,53 @@
 // The master in its states.
-ghost use Rattle.std.specs.Prelude.{◌+◌, ◌*◌, length, ◌≤◌, ◌≡◌, ℕ, Bool, true, List, [], ◌∷◌, Option, Some, None, option_map, is_ok, IfSome, IfOk, IfErr};
-ghost use Rattle.sercos_step.specs.declared.request.Job.{Job};
-ghost use Rattle.sercos_seat.specs.Ring.{known_of, Known, IsKnown, tasks_for};
-ghost use Rattle.sercos_master.specs.Annals.{new_epoch, still_waiting, fall_of, ready_to_send, Past, past, Call, HearMst, HearAt, Mdt, End, Restart, is_done};
-ghost use Rattle.sercos_master.specs.Says.{mst_said, mdt_said};
+ghost use Rattle.std.specs.Prelude.{◌≡◌, ◌≤◌, ◌<◌, ◌+◌, ℕ, true, List, [], ◌∷◌, length, Some, option_map, is_ok, is_some, IfOk, IfErr};
+ghost use Rattle.std.specs.List.{All};
 ghost use Rattle.std.specs.Option.{option_or};
+ghost use Rattle.sercos_step.specs.declared.request.Job.{Job};
+ghost use Rattle.sercos_step.specs.Steps.{IsRequest};
+ghost use Rattle.sercos_block.specs.Rings.{is_ring};
 ghost use Rattle.sercos_trace.specs.declared.events.Fall.TheVariants as fall;
-ghost use Rattle.sercos_master.specs.Reports.{outcomes_told, with_broken, plan_told, stop_told};
-ghost use Rattle.sercos_master.specs.Kept.{Fits, CoreStandsFor};
+ghost use Rattle.sercos_seat.specs.Ring.{Known, IsKnown, known_of, tasks_for};
+ghost use Rattle.sercos_master.specs.Annals.{Call, HearMst, HearAt, Mdt, End, Restart, Past, past, new_epoch, still_waiting, is_closed, all_identified, all_checked, all_ready};
+ghost use Rattle.sercos_master.specs.Says.{mst_said, mdt_said, sent_as};
+ghost use Rattle.sercos_master.specs.Reports.{AreOpen, events_told, restart_told, with_broken};
+ghost use Rattle.sercos_master.specs.Kept.{CoreStandsFor, IsIn};
 
 use crate::ring::Ring;
 use sercos_bits::Content;
+use sercos_block::RingSetup;
+use sercos_step::Job;
 use sercos_telegram::{Mst, write_mst};
 use sercos_timing::Plan;
 use sercos_trace::{Events, Fall, Stop};
-use sercos_block::RingSetup;
-use sercos_step::Job;
 use std::alloc::{AllocError, Global};
 use std::marker::{Model, PhantomData};
 
-/// Communication phase 0: the ring is to be closed.
+/// Communication phase 0: the ring is being closed.
 #[derive(Drop)]
 pub struct Cp0;
 
-/// Communication phase 1: the drives are identified.
+/// Communication phase 1: the drives are identified, one after the other.
 #[derive(Drop)]
 pub struct Cp1;
 
-/// Communication phase 2: the service channel is open, and the slots are planned.
+/// Communication phase 2: the service channels are open, and the slots are planned and written.
 #[derive(Drop)]
 pub struct Cp2;
 
-/// Communication phase 3: telegrams have their slots.
+/// Communication phase 3: telegrams have their slots, and each drive checks its configuration.
 #[derive(Drop)]
 pub struct Cp3;
 
-/// Communication phase 4: values are exchanged.
+/// Communication phase 4: values are exchanged, and the requests run.
 #[derive(Drop)]
 pub struct Cp4;
 
-/// A master in the phase P.
+/// The master's end of the ring in a phase: `Master<Cp0>` to `Master<Cp4>`. What it keeps is in memory that its opening took, so a
+/// move of it copies few bytes. In phases 3 and 4 it has a plan, and each drive has answered the writes of this plan and its
+/// check for phase 3 without error since the last fall. IEC 61491:1995 has the phases; when each is left is this profile's.
 #[derive(Drop)]
 pub struct Master<P> {
-    ring: Ring,
+    ring: Box<Ring>,
     of: PhantomData<P>,
 }
 
@@ -51,11 +56,11 @@ impl<P> Model for Master<P> {
 
     ghost Value = { CoreView };
 
-    ghost view = { λ m. m.ring };
+    ghost view = { λ m. m.ring.value };
 }
 
-fn in_state<P>(ring: Ring) -> Master<P>
-    ensures { result ≡ ring }
+fn in_state<P>(ring: Box<Ring>) -> Master<P>
+    ensures { result ≡ ring.value }
 {
     Master {
         ring,
@@ -64,30 +69,15 @@ fn in_state<P>(ring: Ring) -> Master<P>
 }
 
 impl Master<Cp0> {
-    /// Goes up to phase 1. The same state comes back exactly where fewer than ten MSTs in a row were whole.
-    pub fn rise(self) -> Result<Master<Cp1>, Master<Cp0>>
-        ensures exactly { (s : Known) (p : Past) → CoreStandsFor self s p → is_ok result ≡ is_done s p }
+    /// Commands phase 1. The old state comes back, unchanged, exactly if fewer than ten MSTs in a row came back whole.
+    pub fn rise(mut self) -> Result<Master<Cp1>, Master<Cp0>>
+        ensures exactly { (s : Known) (p : Past) → IsIn 0 self s p → is_ok result ≡ is_closed p }
         ensures up { IfOk result (λ m. m ≡ record self { phase = 1 }) }
         ensures same { IfErr result (λ m. m ≡ self) }
     {
         if self.ring.is_done() {
-            Ok(in_state(self.ring.in_phase(1)))
-        } else {
-            Err(self)
-        }
-    }
-}
-
-impl Master<Cp2> {
-    /// Goes up to phase 3. The same state comes back exactly where some job of phase 2 isn't complete, or some check for
-    /// phase 3 hasn't ended well.
-    pub fn rise(self) -> Result<Master<Cp3>, Master<Cp2>>
-        ensures exactly { (s : Known) (p : Past) → CoreStandsFor self s p → is_ok result ≡ is_done s p }
-        ensures up { IfOk result (λ m. m ≡ record self { phase = 3 }) }
-        ensures same { IfErr result (λ m. m ≡ self) }
-    {
-        if self.ring.is_done() {
-            Ok(in_state(self.ring.in_phase(3)))
+            self.ring.set_phase(1);
+            Ok(in_state(self.ring))
         } else {
             Err(self)
         }
@@ -95,14 +85,31 @@ impl Master<Cp2> {
 }
 
 impl Master<Cp1> {
-    /// Goes up to phase 2. The same state comes back exactly where some drive hasn't answered.
-    pub fn rise(self) -> Result<Master<Cp2>, Master<Cp1>>
-        ensures exactly { (s : Known) (p : Past) → CoreStandsFor self s p → is_ok result ≡ is_done s p }
+    /// Commands phase 2. The old state comes back, unchanged, exactly if some drive hasn't answered its identification.
+    pub fn rise(mut self) -> Result<Master<Cp2>, Master<Cp1>>
+        ensures exactly { (s : Known) (p : Past) → IsIn 1 self s p → is_ok result ≡ all_identified s p }
         ensures up { IfOk result (λ m. m ≡ record self { phase = 2 }) }
         ensures same { IfErr result (λ m. m ≡ self) }
     {
         if self.ring.is_done() {
-            Ok(in_state(self.ring.in_phase(2)))
+            self.ring.set_phase(2);
+            Ok(in_state(self.ring))
+        } else {
+            Err(self)
+        }
+    }
+}
+
+impl Master<Cp2> {
+    /// Commands phase 3. The old state comes back, unchanged, exactly if some job of phase 2 isn't complete, or some drive's check for phase 3 (S-0-0127) didn't end with data status 3.
+    pub fn rise(mut self) -> Result<Master<Cp3>, Master<Cp2>>
+        ensures exactly { (s : Known) (p : Past) → IsIn 2 self s p → is_ok result ≡ all_checked s p }
+        ensures up { IfOk result (λ m. m ≡ record self { phase = 3 }) }
+        ensures same { IfErr result (λ m. m ≡ self) }
+    {
+        if self.ring.is_done() {
+            self.ring.set_phase(3);
+            Ok(in_state(self.ring))
         } else {
             Err(self)
         }
@@ -110,79 +117,80 @@ impl Master<Cp1> {
 }
 
 impl Master<Cp3> {
-    /// Goes up to phase 4. The same state comes back exactly where some check for phase 4 hasn't ended well.
-    pub fn rise(self) -> Result<Master<Cp4>, Master<Cp3>>
-        ensures exactly { (s : Known) (p : Past) → CoreStandsFor self s p → is_ok result ≡ is_done s p }
+    /// Commands phase 4. The old state comes back, unchanged, exactly if some drive's check for phase 4 (S-0-0128) hasn't ended with data status 3.
+    pub fn rise(mut self) -> Result<Master<Cp4>, Master<Cp3>>
+        ensures exactly { (s : Known) (p : Past) → IsIn 3 self s p → is_ok result ≡ all_ready s p }
         ensures up { IfOk result (λ m. m ≡ record self { phase = 4 }) }
         ensures same { IfErr result (λ m. m ≡ self) }
     {
         if self.ring.is_done() {
-            Ok(in_state(self.ring.in_phase(4)))
+            self.ring.set_phase(4);
+            Ok(in_state(self.ring))
         } else {
             Err(self)
         }
     }
 }
 
-// The ring falls to phase 0: an epoch begins, and the requests at work are broken.
-fn fallen(ring: Ring, cause: Fall, events: &mut Events) -> Ring
-    ensures stands { (s : Known) (p : Past) → CoreStandsFor ring s p → CoreStandsFor result s (new_epoch p.cycle (still_waiting p)) }
-    ensures outcomes { (s : Known) (p : Past) → CoreStandsFor ring s p → length events.old.outcomes + length s.drives ≤ 128 → events.new.outcomes ≡ with_broken s p events.old.outcomes }
-    ensures fall { events.new.fall ≡ Some cause }
-    ensures rest { (events.new.plan ≡ events.old.plan) × (events.new.stop ≡ events.old.stop) }
-{
-    let mut new = ring;
-    new.begin_epoch(&mut events.outcomes);
-    events.fall = Some(cause);
-    new
-}
-
 impl Master<Cp1> {
-    /// Falls to phase 0. The cause and the requests at work, which are broken, are added to the events.
+    /// Falls to phase 0. Each request that is open is added to the events as broken, and it is not sent again. The cause becomes
+    /// the fall of the events, whose plan and stop stay. Room is needed for one outcome more for each drive.
     pub fn fall(self, cause: Fall, events: &mut Events) -> Master<Cp0>
         ensures stands { (s : Known) (p : Past) → CoreStandsFor self s p → CoreStandsFor result s (new_epoch p.cycle (still_waiting p)) }
-        ensures outcomes { (s : Known) (p : Past) → CoreStandsFor self s p → length events.old.outcomes + length s.drives ≤ 128 → events.new.outcomes ≡ with_broken s p events.old.outcomes }
-        ensures fall { events.new.fall ≡ Some cause }
-        ensures rest { (events.new.plan ≡ events.old.plan) × (events.new.stop ≡ events.old.stop) }
+        ensures told { (s : Known) (p : Past) → CoreStandsFor self s p → length events.old.outcomes + length s.drives ≤ 128 →
+            events.new ≡ record events.old { outcomes = with_broken s p events.old.outcomes; fall = Some cause } }
     {
         in_state(fallen(self.ring, cause, events))
     }
 }
 
 impl Master<Cp2> {
-    /// Falls to phase 0. The cause and the requests at work, which are broken, are added to the events.
+    /// Falls to phase 0. Each request that is open is added to the events as broken, and it is not sent again. The cause becomes
+    /// the fall of the events, whose plan and stop stay. Room is needed for one outcome more for each drive.
     pub fn fall(self, cause: Fall, events: &mut Events) -> Master<Cp0>
         ensures stands { (s : Known) (p : Past) → CoreStandsFor self s p → CoreStandsFor result s (new_epoch p.cycle (still_waiting p)) }
-        ensures outcomes { (s : Known) (p : Past) → CoreStandsFor self s p → length events.old.outcomes + length s.drives ≤ 128 → events.new.outcomes ≡ with_broken s p events.old.outcomes }
-        ensures fall { events.new.fall ≡ Some cause }
-        ensures rest { (events.new.plan ≡ events.old.plan) × (events.new.stop ≡ events.old.stop) }
+        ensures told { (s : Known) (p : Past) → CoreStandsFor self s p → length events.old.outcomes + length s.drives ≤ 128 →
+            events.new ≡ record events.old { outcomes = with_broken s p events.old.outcomes; fall = Some cause } }
     {
         in_state(fallen(self.ring, cause, events))
     }
 }
 
 impl Master<Cp3> {
-    /// Falls to phase 0. The cause and the requests at work, which are broken, are added to the events.
+    /// Falls to phase 0. Each request that is open is added to the events as broken, and it is not sent again. The cause becomes
+    /// the fall of the events, whose plan and stop stay. Room is needed for one outcome more for each drive.
     pub fn fall(self, cause: Fall, events: &mut Events) -> Master<Cp0>
         ensures stands { (s : Known) (p : Past) → CoreStandsFor self s p → CoreStandsFor result s (new_epoch p.cycle (still_waiting p)) }
-        ensures outcomes { (s : Known) (p : Past) → CoreStandsFor self s p → length events.old.outcomes + length s.drives ≤ 128 → events.new.outcomes ≡ with_broken s p events.old.outcomes }
-        ensures fall { events.new.fall ≡ Some cause }
-        ensures rest { (events.new.plan ≡ events.old.plan) × (events.new.stop ≡ events.old.stop) }
+        ensures told { (s : Known) (p : Past) → CoreStandsFor self s p → length events.old.outcomes + length s.drives ≤ 128 →
+            events.new ≡ record events.old { outcomes = with_broken s p events.old.outcomes; fall = Some cause } }
     {
         in_state(fallen(self.ring, cause, events))
     }
 }
 
 impl Master<Cp4> {
-    /// Falls to phase 0. The cause and the requests at work, which are broken, are added to the events.
+    /// Falls to phase 0. Each request that is open is added to the events as broken, and it is not sent again. The cause becomes
+    /// the fall of the events, whose plan and stop stay. Room is needed for one outcome more for each drive.
     pub fn fall(self, cause: Fall, events: &mut Events) -> Master<Cp0>
         ensures stands { (s : Known) (p : Past) → CoreStandsFor self s p → CoreStandsFor result s (new_epoch p.cycle (still_waiting p)) }
-        ensures outcomes { (s : Known) (p : Past) → CoreStandsFor self s p → length events.old.outcomes + length s.drives ≤ 128 → events.new.outcomes ≡ with_broken s p events.old.outcomes }
-        ensures fall { events.new.fall ≡ Some cause }
-        ensures rest { (events.new.plan ≡ events.old.plan) × (events.new.stop ≡ events.old.stop) }
+        ensures told { (s : Known) (p : Past) → CoreStandsFor self s p → length events.old.outcomes + length s.drives ≤ 128 →
+            events.new ≡ record events.old { outcomes = with_broken s p events.old.outcomes; fall = Some cause } }
     {
         in_state(fallen(self.ring, cause, events))
     }
+}
+
+// The ring falls to phase 0: an epoch begins, and the open requests are broken.
+fn fallen(ring: Box<Ring>, cause: Fall, events: &mut Events) -> Box<Ring>
+    ensures stands { (s : Known) (p : Past) → CoreStandsFor ring.value s p → CoreStandsFor result.value s (new_epoch p.cycle (still_waiting p)) }
+    ensures phase { result.value.phase ≡ 0 }
+    ensures told { (s : Known) (p : Past) → CoreStandsFor ring.value s p → length events.old.outcomes + length s.drives ≤ 128 →
+        events.new ≡ record events.old { outcomes = with_broken s p events.old.outcomes; fall = Some cause } }
+{
+    let mut new = ring;
+    new.begin_epoch(&mut events.outcomes);
+    events.fall = Some(cause);
+    new
 }
 
 fn tell_plan(plan: Option<Plan>, told: &mut Option<Plan>)
@@ -209,7 +217,9 @@ fn tell_fall(fall: Option<Fall>, told: &mut Option<Fall>)
     }
 }
 
-/// A master in one of its states.
+/// The master's end of the ring, in the phase that it commands. It knows of the drives only what the setup's addresses, slaves
+/// and lists say, and what it heard. In each cycle `mst`, `hear_mst`, `hear_at` any number of times, `mdt` and `end_cycle` are called
+/// in this order; a call in another order is safe, and means what the definitions say of it. No call but `open` takes memory.
 #[derive(Drop)]
 pub enum AnyMaster {
     /// In phase 0.
@@ -227,15 +237,21 @@ pub enum AnyMaster {
 impl AnyMaster {
     ghost use Rattle.sercos_master.specs.Any.{StandsAt, AnyStandsFor};
 
-    /// A master in phase 0 that has heard nothing. All memory that its calls need is taken here.
+    /// Opens a master in phase 0 that has heard nothing, with at most 4,096 requests. It uses no time that a drive declares and no
+    /// data block of the setup. A request to an address that no drive of the setup has is never begun. `AllocError` comes where
+    /// memory isn't found, and then nothing is left behind.
     pub fn open(alloc: Global, setup: &RingSetup, jobs: Vec<Job>) -> Result<AnyMaster, AllocError>
-        ensures { jobs.items ≡ [] → IsKnown (known_of setup.now) → IfOk result (λ m. AnyStandsFor m (known_of setup.now) [] []) }
+        requires ring { is_ring setup.now ≡ true }
+        requires few { length jobs.items ≤ 4096 }
+        requires requests { All (λ job. IsRequest job.request) jobs.items }
+        ensures { IfOk result (λ m. AnyStandsFor m (known_of setup.now) jobs.items []) }
     {
         let ring = Ring::open(alloc, setup, jobs)?;
-        Ok(AnyMaster::P0(in_state(ring)))
+        let boxed = Box::new(alloc, ring)?;
+        Ok(AnyMaster::P0(in_state(boxed)))
     }
 
-    /// The phase that is commanded.
+    /// Returns the phase that is commanded, 0 to 4.
     pub fn command(&self) -> u8
         ensures value { (s : Known) (jobs : List Job) (h : List Call) → AnyStandsFor self.now s jobs h → result ≡ (past s (tasks_for s jobs) h).now.phase }
         ensures bound { result ≤ 4 }
@@ -249,9 +265,10 @@ impl AnyMaster {
         }
     }
 
-    /// Replaces the content by the MST of the phase that is commanded.
+    /// Replaces the content by the MST of the commanded phase.
     pub fn mst(&self, out: &mut Content)
-        ensures { (s : Known) (jobs : List Job) (h : List Call) → AnyStandsFor self.now s jobs h → out.new ≡ mst_said (past s (tasks_for s jobs) h) }
+        ensures said { (s : Known) (jobs : List Job) (h : List Call) → AnyStandsFor self.now s jobs h → out.new ≡ mst_said (past s (tasks_for s jobs) h) }
+        ensures some { 0 < length out.new }
     {
         write_mst(
             &Mst {
@@ -261,20 +278,7 @@ impl AnyMaster {
         );
     }
 
-    /// Hears an AT.
-    pub fn hear_at(&mut self, content: &[u8])
-        ensures { (s : Known) (jobs : List Job) (h : List Call) → AnyStandsFor self.old s jobs h → AnyStandsFor self.new s jobs (HearAt content.now ∷ h) }
-    {
-        match self {
-            AnyMaster::P0(m) => m.ring.hear_at(content),
-            AnyMaster::P1(m) => m.ring.hear_at(content),
-            AnyMaster::P2(m) => m.ring.hear_at(content),
-            AnyMaster::P3(m) => m.ring.hear_at(content),
-            AnyMaster::P4(m) => m.ring.hear_at(content),
-        }
-    }
-
-    /// Hears the own MST, or nothing.
+    /// Hears the own MST as it came back, or that it didn't.
     pub fn hear_mst(&mut self, content: Option<&[u8]>)
         ensures { (s : Known) (jobs : List Job) (h : List Call) → AnyStandsFor self.old s jobs h →
             AnyStandsFor self.new s jobs (HearMst (option_map (λ c. c.now) content.entry) ∷ h) }
@@ -288,12 +292,27 @@ impl AnyMaster {
         }
     }
 
-    /// Replaces the content by the MDT, where one goes, and answers its start in microseconds after the MST's end.
+    /// Hears the content of a frame where ATs are awaited. It is taken as the AT of the drive with its address: the first of that
+    /// drive in a cycle that has the length of its AT, in phases 1 and 2 only of the drive addressed in the cycle before.
+    pub fn hear_at(&mut self, content: &[u8])
+        ensures { (s : Known) (jobs : List Job) (h : List Call) → AnyStandsFor self.old s jobs h → AnyStandsFor self.new s jobs (HearAt content.now ∷ h) }
+    {
+        match self {
+            AnyMaster::P0(m) => m.ring.hear_at(content),
+            AnyMaster::P1(m) => m.ring.hear_at(content),
+            AnyMaster::P2(m) => m.ring.hear_at(content),
+            AnyMaster::P3(m) => m.ring.hear_at(content),
+            AnyMaster::P4(m) => m.ring.hear_at(content),
+        }
+    }
+
+    /// Looks at the answers of the cycle, begins the next jobs, and sends the MDT: replaces the content by it, and returns its
+    /// start in microseconds after the MST's end. `None` where no MDT is sent in this cycle.
     pub fn mdt(&mut self, out: &mut Content) -> Option<u16>
         ensures stands { (s : Known) (jobs : List Job) (h : List Call) → AnyStandsFor self.old s jobs h → AnyStandsFor self.new s jobs (Mdt ∷ h) }
-        ensures start { (s : Known) (jobs : List Job) (h : List Call) → AnyStandsFor self.old s jobs h → result ≡ option_map (λ m. m.start) (mdt_said s (past s (tasks_for s jobs) (Mdt ∷ h))) }
-        ensures content { (s : Known) (jobs : List Job) (h : List Call) → Fits s (ready_to_send s (past s (tasks_for s jobs) h)) → AnyStandsFor self.old s jobs h →
-            IfSome (mdt_said s (past s (tasks_for s jobs) (Mdt ∷ h))) (λ m. out.new ≡ m.content) }
+        ensures said { (s : Known) (jobs : List Job) (h : List Call) → AnyStandsFor self.old s jobs h →
+            sent_as result out.new ≡ mdt_said s (past s (tasks_for s jobs) (Mdt ∷ h)) }
+        ensures some { is_some result ≡ true → 0 < length out.new }
     {
         match self {
             AnyMaster::P0(m) => m.ring.mdt(out),
@@ -305,9 +324,9 @@ impl AnyMaster {
     }
 
     // What it keeps, whatever its state.
-    fn into_ring(self) -> Ring
-        ensures stands { (s : Known) (p : Past) → StandsAt self s p → CoreStandsFor result s p }
-        ensures phase { (s : Known) (p : Past) → StandsAt self s p → result.phase ≤ 4 }
+    fn into_ring(self) -> Box<Ring>
+        ensures stands { (s : Known) (p : Past) → StandsAt self s p → CoreStandsFor result.value s p }
+        ensures phase { (s : Known) (p : Past) → StandsAt self s p → result.value.phase ≤ 4 }
         ensures known { (s : Known) (p : Past) → StandsAt self s p → IsKnown s }
     {
         match self {
@@ -320,8 +339,8 @@ impl AnyMaster {
     }
 
     // The state of its phase.
-    fn of_ring(ring: Ring) -> AnyMaster
-        ensures { (s : Known) (p : Past) → IsKnown s → CoreStandsFor ring s p → ring.phase ≤ 4 → StandsAt result s p }
+    fn of_ring(ring: Box<Ring>) -> AnyMaster
+        ensures { (s : Known) (p : Past) → IsKnown s → CoreStandsFor ring.value s p → ring.value.phase ≤ 4 → StandsAt result s p }
     {
         match ring.phase() {
             0 => AnyMaster::P0(in_state(ring)),
@@ -332,15 +351,13 @@ impl AnyMaster {
         }
     }
 
-    /// The cycle ends: the ring falls to phase 0, or goes on, in the next phase where all that belongs to this one is done.
-    /// What happened is added to the events.
+    /// Ends the cycle: the ring falls to phase 0, or goes on, in the next phase where all that belongs to this one is done. The
+    /// requests that ended, the plan, the stop and the fall of the cycle are added to the events, which are to be empty, or to have
+    /// what `restart` added in this cycle.
     pub fn end_cycle(self, events: &mut Events) -> AnyMaster
         ensures stands { (s : Known) (jobs : List Job) (h : List Call) → AnyStandsFor self s jobs h → AnyStandsFor result s jobs (End ∷ h) }
-        ensures outcomes { (s : Known) (jobs : List Job) (h : List Call) → AnyStandsFor self s jobs h → length events.old.outcomes + 2 * length s.drives ≤ 128 →
-            events.new.outcomes ≡ outcomes_told s (past s (tasks_for s jobs) h) events.old.outcomes }
-        ensures plan { (s : Known) (jobs : List Job) (h : List Call) → AnyStandsFor self s jobs h → events.new.plan ≡ option_or (plan_told (past s (tasks_for s jobs) h)) events.old.plan }
-        ensures stop { (s : Known) (jobs : List Job) (h : List Call) → AnyStandsFor self s jobs h → events.new.stop ≡ option_or (stop_told (past s (tasks_for s jobs) h)) events.old.stop }
-        ensures fall { (s : Known) (jobs : List Job) (h : List Call) → AnyStandsFor self s jobs h → events.new.fall ≡ option_or (fall_of s (past s (tasks_for s jobs) h)) events.old.fall }
+        ensures told { (s : Known) (jobs : List Job) (h : List Call) → AnyStandsFor self s jobs h → AreOpen events.old.outcomes h →
+            events.new ≡ events_told s (past s (tasks_for s jobs) h) events.old }
     {
         let mut ring = self.into_ring();
         tell_plan(ring.plan_told(), &mut events.plan);
@@ -350,17 +367,13 @@ impl AnyMaster {
         AnyMaster::of_ring(ring)
     }
 
-    /// The master restarts: it is in phase 0, and has heard nothing. The requests at work are broken.
+    /// Restarts the master: it commands phase 0 and has heard nothing. The open requests are added to the events as broken, and
+    /// the fall `Restart`; the events have at most 64 outcomes before.
     pub fn restart(self, events: &mut Events) -> AnyMaster
         ensures stands { (s : Known) (jobs : List Job) (h : List Call) → AnyStandsFor self s jobs h → AnyStandsFor result s jobs (Restart ∷ h) }
-        ensures outcomes { (s : Known) (jobs : List Job) (h : List Call) → AnyStandsFor self s jobs h → length events.old.outcomes + length s.drives ≤ 128 →
-            events.new.outcomes ≡ with_broken s (past s (tasks_for s jobs) h) events.old.outcomes }
-        ensures fall { events.new.fall ≡ Some fall.Restart }
-        ensures rest { (events.new.plan ≡ events.old.plan) × (events.new.stop ≡ events.old.stop) }
+        ensures told { (s : Known) (jobs : List Job) (h : List Call) → AnyStandsFor self s jobs h → length events.old.outcomes ≤ 64 →
+            events.new ≡ restart_told s (past s (tasks_for s jobs) h) events.old }
     {
-        let mut ring = self.into_ring();
-        ring.begin_epoch(&mut events.outcomes);
-        events.fall = Some(Fall::Restart);
-        AnyMaster::of_ring(ring)
+        AnyMaster::of_ring(fallen(self.into_ring(), Fall::Restart, events))
     }
 }

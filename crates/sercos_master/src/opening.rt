@@ -1,13 +1,17 @@
 // A master is opened.
-ghost use Rattle.std.specs.Prelude.{◌≡◌, ◌≤◌, [], length, map, IfOk};
-ghost use Rattle.sercos_seat.specs.Ring.{member_of};
-ghost use Rattle.sercos_master.specs.Kept.{AreFresh};
+ghost use Rattle.std.specs.Prelude.{◌≡◌, ◌+◌, ◌≤◌, ◌<◌, ℕ, List, [], length, map, IfOk, OnOk};
+ghost use Rattle.std.specs.List.{All};
+ghost use Rattle.sercos_timing.specs.Valid.{AreDistinct};
+ghost use Rattle.sercos_step.specs.Steps.{IsRequest};
+ghost use Rattle.sercos_seat.specs.Ring.{Known, MemberView, Task, HasLists, member, member_of, tasks_for, with_job};
+ghost use Rattle.sercos_seat.specs.Seats.{nothing_seen};
+ghost use Rattle.sercos_master.specs.Kept.{AreFresh, SeatsStandFor};
 
-use sercos_seat::Member;
-use sercos_seat::Seat;
+use crate::ring::place_of;
 use arrayvec::ArrayVec;
-use sercos_block::{DriveSetup};
+use sercos_block::DriveSetup;
 use sercos_idn::Idn;
+use sercos_seat::{Member, Seat};
 use sercos_step::Job;
 use std::alloc::{AllocError, Global};
 
@@ -20,9 +24,10 @@ fn idns_of(idns: &[Idn]) -> ArrayVec<Idn, 16>
     copy
 }
 
-// What a setup tells of a drive.
-pub fn member_of(drive: &DriveSetup) -> Member
-    ensures { result ≡ member_of drive.now }
+// What a setup tells the master of a drive.
+fn member_of(drive: &DriveSetup) -> Member
+    ensures value { result ≡ member_of drive.now }
+    ensures lists { HasLists result }
 {
     Member::new(
         drive.address,
@@ -34,7 +39,8 @@ pub fn member_of(drive: &DriveSetup) -> Member
 
 // A seat for each drive.
 pub fn open_seats(alloc: Global, drives: &[DriveSetup]) -> Result<Vec<Seat>, AllocError>
-    ensures { IfOk result (λ seats. (length seats.items ≡ length drives.now) × AreFresh seats.items (map member_of drives.now)) }
+    ensures seats { IfOk result (λ seats. (length seats.items ≡ length drives.now) × AreFresh seats.items (map member_of drives.now)) }
+    ensures lists { IfOk result (λ seats. All HasLists (map member_of drives.now)) }
 {
     let mut seats = Vec::new(alloc);
     for place in 0..drives.len() {
@@ -43,26 +49,35 @@ pub fn open_seats(alloc: Global, drives: &[DriveSetup]) -> Result<Vec<Seat>, All
     Ok(seats)
 }
 
-// The requests go to the drives, the last one first.
+// Gives each drive its requests, from the last one on.
 pub fn deal(mut jobs: Vec<Job>, seats: &mut Vec<Seat>) -> Result<(), AllocError>
-    ensures { jobs.items ≡ [] → seats.new.items ≡ seats.old.items }
+    requires few { length jobs.items ≤ 4096 }
+    requires requests { All (λ job. IsRequest job.request) jobs.items }
+    ensures count { OnOk result (length seats.new.items ≡ length seats.old.items) }
+    ensures stand { OnOk result ((s : Known) → AreDistinct (map (λ d. d.address) s.drives) → length seats.old.items ≡ length s.drives →
+        SeatsStandFor seats.old.items s (λ k. nothing_seen []) → SeatsStandFor seats.new.items s (λ k. nothing_seen (tasks_for s jobs.items k))) }
 {
-    if jobs.is_empty() {
-        return Ok(());
-    }
-    for _ in 0..jobs.len() {
+    let count = jobs.len();
+    for done in 0..count {
         if let Some(job) = jobs.pop() {
-            let number = (jobs.len() + 1).min(65_535) as u16;
-            give(number, job, seats)?;
+            give(jobs.len() as u16 + 1, job, seats)?;
         }
     }
     Ok(())
 }
 
-fn give(number: u16, job: Job, seats: &mut Vec<Seat>) -> Result<(), AllocError> {
-    if let Some(place) = crate::ring::place_of(seats.as_slice(), job.drive) {
-        let seat = &mut seats[place];
-        seat.wait(number, job.request)?;
-    }
+// Gives the drive with its address a request.
+fn give(number: u16, job: Job, seats: &mut Vec<Seat>) -> Result<(), AllocError>
+    requires { IsRequest job.request }
+    ensures count { OnOk result (length seats.new.items ≡ length seats.old.items) }
+    ensures stand { OnOk result ((s : Known) (tasks : ℕ → List Task) → AreDistinct (map (λ d. d.address) s.drives) → length seats.old.items ≡ length s.drives →
+        SeatsStandFor seats.old.items s (λ k. nothing_seen (tasks k)) →
+        SeatsStandFor seats.new.items s (λ k. nothing_seen (with_job (member s k).address number job (tasks k)))) }
+{
+    let Some(place) = place_of(seats.as_slice(), job.drive) else {
+        return Ok(());
+    };
+    let seat = &mut seats[place];
+    seat.wait(number, job.request)?;
     Ok(())
 }

@@ -1,16 +1,18 @@
 // What the master keeps of the ring.
 ghost use Rattle.std.specs.Prelude.{◌≡◌, ℕ, ◌+◌, ◌*◌, ◌<◌, ◌≤◌, ◌==◌, ◌&&◌, ◌||◌, Bool, true, false, not, List, [], ◌∷◌, ◌++◌, length, take, map, min, nat_le, nat_lt, Option, Some, None, IfSome, IfOk, is_some, is_none, option_map, if◌then◌else◌, vec_len, slice_index, slice_index_or};
-ghost use Rattle.std.specs.List.{position};
+ghost use Rattle.std.specs.List.{All, position};
+ghost use Rattle.sercos_step.specs.Steps.{IsRequest};
+ghost use Rattle.sercos_block.specs.Rings.{is_ring};
 ghost use Rattle.sercos_timing.specs.Views.{PlanView};
 ghost use Rattle.sercos_telegram.specs.Words.{control_word};
-ghost use Rattle.sercos_master.specs.Says.{mdt_said};
+ghost use Rattle.sercos_master.specs.Says.{mdt_said, sent_as};
 ghost use Rattle.sercos_master.specs.Reports.{with_reports, with_broken, outcomes_told, stop_told, plan_told};
-ghost use Rattle.sercos_seat.specs.Ring.{known_of, IsKnown, Known, Task, member};
+ghost use Rattle.sercos_seat.specs.Ring.{known_of, IsKnown, Known, Task, member, tasks_for};
 ghost use Rattle.sercos_seat.specs.Agenda.{wishes_given, wishes_from, last_long_stop};
-ghost use Rattle.sercos_master.specs.Annals.{after_mdt, ready_to_send, with_plan, planned_by, with_due_plan, settled, outcomes, Past, is_mst, after_mst, after_at, is_awaited, wanted_len, after_at_of, in_turn, begun, is_done, has_lost_mst, fall_of, with_stop, first_trouble, first_place, is_at_limit, goes_on, new_epoch, still_waiting, after_end, next_phase};
+ghost use Rattle.sercos_master.specs.Annals.{IsPlanned, after_mdt, with_plan, planned_by, with_due_plan, settled, outcomes, Past, is_mst, after_mst, after_at, is_awaited, wanted_len, after_at_of, in_turn, begun, is_done, has_lost_mst, fall_of, with_stop, first_trouble, first_place, is_at_limit, goes_on, new_epoch, still_waiting, after_end, next_phase};
 ghost use Rattle.sercos_seat.specs.Channel.{is_place};
 ghost use Rattle.sercos_seat.specs.Seats.{broken_in, outcomes_seen, SeatView, has_read, cycles_kept, ended_in, forgotten, sent_in, with_begun, begun_task, Seen, AreWaiting, at_len_kept};
-ghost use Rattle.sercos_master.specs.Kept.{sent_now, Fits, records_upto, is_same, waited_with, SeatsStandFor, CoreStandsFor};
+ghost use Rattle.sercos_master.specs.Kept.{IsIn, sent_now, Fits, records_upto, is_same, waited_with, SeatsStandFor, CoreStandsFor};
 
 use sercos_seat::Numbers;
 use crate::opening::{deal, open_seats};
@@ -23,7 +25,7 @@ use sercos_telegram::{Control, joint_begin, read_mst, write_single};
 use sercos_plan::{Chain, plan};
 use sercos_timing::{Plan, Wish, Wishes, valid};
 use sercos_trace::{Fall, Reported, Stop};
-use sercos_block::RingSetup;
+use sercos_block::{RingSetup, ring_law};
 use std::alloc::{AllocError, Global};
 use std::marker::Model;
 
@@ -108,9 +110,12 @@ fn is_whole(phase: u8, content: &[u8]) -> bool
 impl Ring {
     // A ring of which nothing was heard yet.
     pub fn open(alloc: Global, setup: &RingSetup, jobs: Vec<Job>) -> Result<Ring, AllocError>
-        ensures phase { IfOk result (λ r. r.phase ≡ 0) }
-        ensures stands { jobs.items ≡ [] → IfOk result (λ r. CoreStandsFor r (known_of setup.now) (new_epoch 0 (λ k. []))) }
+        requires ring { is_ring setup.now ≡ true }
+        requires few { length jobs.items ≤ 4096 }
+        requires requests { All (λ job. IsRequest job.request) jobs.items }
+        ensures { IfOk result (λ r. IsIn 0 r (known_of setup.now) (new_epoch 0 (tasks_for (known_of setup.now) jobs.items))) }
     {
+        ring_law();
         let mut seats = open_seats(alloc, setup.drives.as_slice())?;
         deal(jobs, &mut seats)?;
         Ok(Ring {
@@ -330,12 +335,11 @@ impl Ring {
         self.phase
     }
 
-    // The same in another phase.
-    pub fn in_phase(mut self, phase: u8) -> Ring
-        ensures { result ≡ record self { phase = phase } }
+    // Commands another phase.
+    pub fn set_phase(&mut self, phase: u8)
+        ensures { self.new ≡ record self.old { phase = phase } }
     {
         self.phase = phase;
-        self
     }
 
     // Looks for the first stop in the order of the ring, where there is none yet.
@@ -466,6 +470,7 @@ impl Ring {
         ensures stands { (s : Known) (p : Past) → p.now.phase ≡ 1 → CoreStandsFor self.old s p → CoreStandsFor self.new s (sent_now s p) }
         ensures start { (s : Known) (p : Past) → p.now.phase ≡ 1 → CoreStandsFor self.old s p → result ≡ option_map (λ m. m.start) (mdt_said s (sent_now s p)) }
         ensures content { (s : Known) (p : Past) → p.now.phase ≡ 1 → CoreStandsFor self.old s p → IfSome (mdt_said s (sent_now s p)) (λ m. out.new ≡ m.content) }
+        ensures some { is_some result ≡ true → 0 < length out.new }
     {
         let found = first_unidentified(self.seats.as_slice());
         self.addressed = found;
@@ -482,6 +487,7 @@ impl Ring {
         ensures stands { (s : Known) (p : Past) → p.now.phase ≡ 2 → CoreStandsFor self.old s p → CoreStandsFor self.new s (sent_now s p) }
         ensures start { (s : Known) (p : Past) → p.now.phase ≡ 2 → CoreStandsFor self.old s p → result ≡ option_map (λ m. m.start) (mdt_said s (sent_now s p)) }
         ensures content { (s : Known) (p : Past) → p.now.phase ≡ 2 → CoreStandsFor self.old s p → IfSome (mdt_said s (sent_now s p)) (λ m. out.new ≡ m.content) }
+        ensures some { is_some result ≡ true → 0 < length out.new }
     {
         let found = first_working(self.seats.as_slice());
         self.addressed = found;
@@ -497,7 +503,8 @@ impl Ring {
     fn send_joint(&mut self, out: &mut Content) -> Option<u16>
         ensures stands { (s : Known) (p : Past) → 3 ≤ p.now.phase → CoreStandsFor self.old s p → CoreStandsFor self.new s (sent_now s p) }
         ensures start { (s : Known) (p : Past) → 3 ≤ p.now.phase → CoreStandsFor self.old s p → result ≡ option_map (λ m. m.start) (mdt_said s (sent_now s p)) }
-        ensures content { (s : Known) (p : Past) → 3 ≤ p.now.phase → Fits s p → CoreStandsFor self.old s p → IfSome (mdt_said s (sent_now s p)) (λ m. out.new ≡ m.content) }
+        ensures content { (s : Known) (p : Past) → 3 ≤ p.now.phase → (is_some p.plan ≡ true → Fits s p) → CoreStandsFor self.old s p → IfSome (mdt_said s (sent_now s p)) (λ m. out.new ≡ m.content) }
+        ensures some { is_some result ≡ true → 0 < length out.new }
     {
         joint_begin(out);
         send_records(self.count, &mut self.seats, out);
@@ -516,7 +523,8 @@ impl Ring {
     fn send(&mut self, out: &mut Content) -> Option<u16>
         ensures stands { (s : Known) (p : Past) → p.now.phase ≤ 4 → CoreStandsFor self.old s p → CoreStandsFor self.new s (sent_now s p) }
         ensures start { (s : Known) (p : Past) → p.now.phase ≤ 4 → CoreStandsFor self.old s p → result ≡ option_map (λ m. m.start) (mdt_said s (sent_now s p)) }
-        ensures content { (s : Known) (p : Past) → p.now.phase ≤ 4 → Fits s p → CoreStandsFor self.old s p → IfSome (mdt_said s (sent_now s p)) (λ m. out.new ≡ m.content) }
+        ensures content { (s : Known) (p : Past) → p.now.phase ≤ 4 → (is_some p.plan ≡ true → Fits s p) → CoreStandsFor self.old s p → IfSome (mdt_said s (sent_now s p)) (λ m. out.new ≡ m.content) }
+        ensures some { is_some result ≡ true → 0 < length out.new }
     {
         match self.phase {
             0 => {
@@ -529,14 +537,13 @@ impl Ring {
         }
     }
 
-    // The answers of the cycle are looked at, tasks begin, and the MDT goes.
+    // Looks at the answers of the cycle, begins tasks, and sends the MDT.
     pub fn mdt(&mut self, out: &mut Content) -> Option<u16>
         ensures stands { (s : Known) (p : Past) → IsKnown s → ((k : ℕ) → AreWaiting (p.waiting k)) → p.now.phase ≤ 4 →
             CoreStandsFor self.old s p → CoreStandsFor self.new s (after_mdt s p) }
-        ensures start { (s : Known) (p : Past) → IsKnown s → ((k : ℕ) → AreWaiting (p.waiting k)) → p.now.phase ≤ 4 →
-            CoreStandsFor self.old s p → result ≡ option_map (λ m. m.start) (mdt_said s (after_mdt s p)) }
-        ensures content { (s : Known) (p : Past) → IsKnown s → ((k : ℕ) → AreWaiting (p.waiting k)) → p.now.phase ≤ 4 → Fits s (ready_to_send s p) →
-            CoreStandsFor self.old s p → IfSome (mdt_said s (after_mdt s p)) (λ m. out.new ≡ m.content) }
+        ensures said { (s : Known) (p : Past) → IsKnown s → ((k : ℕ) → AreWaiting (p.waiting k)) → p.now.phase ≤ 4 → IsPlanned s p →
+            CoreStandsFor self.old s p → sent_as result out.new ≡ mdt_said s (after_mdt s p) }
+        ensures some { is_some result ≡ true → 0 < length out.new }
     {
         self.settle();
         self.begin();
@@ -616,7 +623,8 @@ impl Ring {
         ensures stands { (s : Known) (p : Past) → CoreStandsFor self.old s p → CoreStandsFor self.new s (after_end s p) }
         ensures fall { (s : Known) (p : Past) → CoreStandsFor self.old s p → result.0 ≡ fall_of s p }
         ensures stop { (s : Known) (p : Past) → CoreStandsFor self.old s p → result.1 ≡ stop_told p }
-        ensures told { (s : Known) (p : Past) → CoreStandsFor self.old s p → length reports.old.items + 2 * length s.drives ≤ 128 →
+        ensures told { (s : Known) (p : Past) → CoreStandsFor self.old s p → length reports.old.items + length s.drives ≤ 128 →
+            length (with_reports p.now.report (length s.drives) reports.old.items) + length s.drives ≤ 128 →
             reports.new.items ≡ outcomes_told s p reports.old.items }
         ensures phase { self.old.phase ≤ 4 → self.new.phase ≤ 4 }
     {
@@ -735,6 +743,7 @@ fn send_records(count: u32, seats: &mut Vec<Seat>, out: &mut Content)
     ensures stand { (s : Known) (seen : ℕ → Seen) → SeatsStandFor seats.old.items s seen → SeatsStandFor seats.new.items s (λ k. sent_in (seen k)) }
     ensures bytes { (s : Known) (seen : ℕ → Seen) → SeatsStandFor seats.old.items s seen → length (out.old ++ records_upto s seen count (length seats.old.items)) ≤ 2048 →
         out.new ≡ out.old ++ records_upto s seen count (length seats.old.items) }
+    ensures some { 0 < length out.old → 0 < length out.new }
 {
     for place in 0..seats.len() {
         let seat = &mut seats[place];

@@ -101,6 +101,41 @@ queue_startup kept d x t q not_ready no_number = record {
 tasks_last : (kept : List Waiting) (w : Waiting) → map waiting_task (reverse (kept ++ w ∷ [])) ≡ waiting_task w ∷ map waiting_task (reverse kept)
 tasks_last kept w = ap (map waiting_task) (reverse-append kept (w ∷ []))
 
+requests_more : (kept : List Waiting) (w : Waiting) → AreRequests kept → IsRequest w.request → AreRequests (kept ++ w ∷ [])
+requests_more [] w all r = (r, tt)
+requests_more (v ∷ kept) w all r = (all.0, requests_more kept w all.1 r)
+
+-- one request more waits, before nothing was seen
+pub queue_wait : (kept : List Waiting) (d : MemberView) (waiting : List Task) (w : Waiting) → IsQueue kept d (nothing_seen waiting) → IsRequest w.request →
+    IsQueue (kept ++ w ∷ []) d (nothing_seen (waiting_task w ∷ waiting))
+queue_wait kept d waiting w q r = record {
+  order = tasks_last kept w ∙ ap (λ ts. waiting_task w ∷ ts) q.order;
+  requests = requests_more kept w q.requests r;
+  none = q.none;
+  count = q.count;
+}
+
+pub waits : (v : SeatView) (d : MemberView) (waiting : List Task) (w : Waiting) → SeatStandsFor v d (nothing_seen waiting) → IsRequest w.request →
+    SeatStandsFor (record v { waiting = v.waiting ++ w ∷ [] }) d (nothing_seen (waiting_task w ∷ waiting))
+waits v d waiting w t r = record {
+  member_is = t.member_is;
+  few = t.few;
+  channel_is = t.channel_is;
+  begun_is = t.begun_is;
+  done_is = t.done_is;
+  given_is = t.given_is;
+  checked_is = t.checked_is;
+  ready_is = t.ready_is;
+  asked_is = t.asked_is;
+  number_is = t.number_is;
+  trouble_is = t.trouble_is;
+  report_is = t.report_is;
+  heard_is = t.heard_is;
+  missed_is = t.missed_is;
+  identified_is = t.identified_is;
+  queue = queue_wait v.waiting d waiting w t.queue r;
+}
+
 requests_last : (kept : List Waiting) (w : Waiting) → AreRequests (kept ++ w ∷ []) → IsRequest w.request × AreRequests kept
 requests_last [] w r = (r.0, tt)
 requests_last (v ∷ kept) w r = let rest = requests_last kept w r.1 in (rest.0, (r.0, rest.1))

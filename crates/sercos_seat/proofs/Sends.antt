@@ -8,9 +8,13 @@ use Rattle.sercos_telegram.specs.Spells
 use Rattle.sercos_telegram.specs.Spells.{fields}
 use Rattle.sercos_service_master.specs.Begun.{Said, said_by}
 use Rattle.sercos_seat.specs.declared.answers.Words.{Words}
-use Rattle.sercos_seat.specs.Agenda.{len_or_none}
+use Rattle.std.specs.List.{fold, sum_by}
+use Rattle.sercos_service_master.specs.Begun.{master_says}
+use Rattle.sercos_service_master.specs.Calls.{begun_by}
+use Rattle.sercos_seat.specs.Ring.{MemberView}
+use Rattle.sercos_seat.specs.Agenda.{len_or_none, mdt_attributes, record_len}
 use Rattle.sercos_seat.specs.Records.{word_said, record_said, value_said, values_said}
-use Rattle.sercos_seat.specs.Seats.{long_of, len_of_words}
+use Rattle.sercos_seat.specs.Seats.{long_of, len_of_words, Seen, outcomes_seen, record_seen}
 use Rattle.sercos_seat.proofs.Lengths.{small_value}
 
 -- the word of a record
@@ -79,3 +83,27 @@ when_ok (Err e) never p = absurd (never refl)
 -- a record fits where its length does
 pub record_length : (control : Control) (word : ℕ) (said : Said) (values : List ℕ) → control.cyclic ≡ 0 → said_by control word ≡ said → length (record_said said values) ≡ 4 + length values
 record_length control word said values e f = ap (λ bytes. length bytes) (sym (same_record control word said values e f)) ∙ fields_length (control_word control) word values
+
+-- A record is as long as its drive's wish says.
+value_whole : (count len : ℕ) → len ≤ 4 → length (value_said count len) ≡ len
+value_whole count zero h = refl
+value_whole count (suc zero) h = refl
+value_whole count (suc (suc zero)) h = refl
+value_whole count (suc (suc (suc zero))) h = refl
+value_whole count (suc (suc (suc (suc zero)))) h = refl
+value_whole count (suc (suc (suc (suc (suc n))))) h = absurd (omega (arith, h))
+
+values_length : (count : ℕ) (words : List ℕ) (n : ℕ) → n + length (values_said count words) ≡ fold (λ a w. a + len_or_none w) n words
+values_length count [] n = omega arith
+values_length count (w ∷ words) n =
+    let one : length (value_said count (len_or_none w)) ≡ len_or_none w = value_whole count (len_or_none w) (small_value w) in
+    let both : length (values_said count (w ∷ words)) ≡ length (value_said count (len_or_none w)) + length (values_said count words) = length_both (value_said count (len_or_none w)) (values_said count words) in
+    let rest = values_length count words (n + len_or_none w) in
+    let sum : n + length (values_said count (w ∷ words)) ≡ n + len_or_none w + length (values_said count words) = omega (arith, one, both) in
+    sum ∙ rest
+
+pub seen_length : (count : ℕ) (d : MemberView) (x : Seen) → length (record_seen count d x) ≡ record_len d (outcomes_seen x)
+seen_length count d x =
+    let all : 0 + length (values_said count (mdt_attributes d (outcomes_seen x))) ≡ sum_by len_or_none (mdt_attributes d (outcomes_seen x)) = values_length count (mdt_attributes d (outcomes_seen x)) 0 in
+    let said = master_says (begun_by x.calls) in
+    fields_length (word_said said) said.step.word (values_said count (mdt_attributes d (outcomes_seen x))) ∙ omega (arith, all)

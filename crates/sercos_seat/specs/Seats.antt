@@ -21,7 +21,7 @@ use Rattle.sercos_step.specs.Steps.{IsRequest}
 use Rattle.sercos_seat.specs.Agenda.{agenda, asked_by, bytes_of, ended_well, given, idn, is_checked, is_ready, len_or_none, mdt_attributes, reads, reads_count, short_in, stop_of_task, writes}
 use Rattle.sercos_seat.specs.Channel.{Report, broken_number, count_requests, last_outcome, number_in, of_phase, outcomes_in, report_of, trouble_by}
 use Rattle.sercos_seat.specs.Records.{record_said, values_said}
-use Rattle.sercos_seat.specs.Ring.{Known, MemberView, Task, member}
+use Rattle.sercos_seat.specs.Ring.{Known, MemberView, Task, member, request_task}
 
 -- what the master looks back on at one drive, in this epoch: its channel, its ATs, and whether there is a stop
 pub record Seen : Type 0 where
@@ -81,7 +81,7 @@ opened_in x = if is_idle_in x then 0 else 1
 
 -- a request that is kept, as a task
 abbrev pub waiting_task : Waiting → Task
-waiting_task w = record { phase = 4; number = Some w.number; request = w.request }
+waiting_task w = request_task w.number w.request
 
 -- the requests that weren't begun, in their order
 abbrev pub left_in : Seen → List Task

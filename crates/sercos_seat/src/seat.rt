@@ -1,5 +1,5 @@
 // What the master keeps of one drive.
-ghost use Rattle.std.specs.Prelude.{is_ok, ◌≡◌, ℕ, ◌+◌, ◌<◌, ◌≤◌, ◌==◌, ◌&&◌, Bool, true, false, not, List, [], ◌∷◌, ◌++◌, length, take, map, min, Option, Some, None, IfSome, is_some, is_none, option_map, slice_get, nat_le, if◌then◌else◌};
+ghost use Rattle.std.specs.Prelude.{OnOk, ◌≡◌, ℕ, ◌+◌, ◌<◌, ◌≤◌, ◌==◌, ◌&&◌, Bool, true, false, not, List, [], ◌∷◌, ◌++◌, length, take, map, min, Option, Some, None, IfSome, is_some, is_none, option_map, slice_get, nat_le, if◌then◌else◌};
 ghost use Rattle.std.specs.Option.{option_or};
 ghost use Rattle.sercos_telegram.specs.declared.words.Status.{Status};
 ghost use Rattle.sercos_step.specs.declared.request.Outcome.{Outcome};
@@ -8,7 +8,7 @@ ghost use Rattle.sercos_service_master.specs.Calls.{Call, cycles_open};
 ghost use Rattle.sercos_service_master.specs.Kept.{MasterStandsFor};
 ghost use Rattle.sercos_timing.specs.Views.{PlanView};
 ghost use Rattle.sercos_seat.specs.Records.{record_said};
-ghost use Rattle.sercos_seat.specs.Ring.{Known, MemberView, Task, member};
+ghost use Rattle.sercos_seat.specs.Ring.{Known, MemberView, Task, member, request_task};
 ghost use Rattle.sercos_seat.specs.Channel.{of_phase};
 ghost use Rattle.sercos_seat.specs.declared.queue.Waiting.{Waiting};
 ghost use Rattle.sercos_seat.specs.Agenda.{wish_given, long_stop, last_long, mdt_attributes, agenda, bytes_of, reads_count, is_checked, is_ready, ended_well, stop_of_task, asked_by};
@@ -113,9 +113,11 @@ impl Seat {
         }
     }
 
-    // One request more, which comes before those that wait.
+    // Keeps a request, which is to come before those that wait already.
     pub fn wait(&mut self, number: u16, request: Request) -> Result<(), AllocError>
-        ensures { self.new ≡ record self.old { waiting = if is_ok result then self.old.waiting ++ (record { number = number; request = request }) ∷ [] else self.old.waiting } }
+        requires { IsRequest request }
+        ensures { OnOk result ((d : MemberView) (waiting : List Task) → SeatStandsFor self.old d (nothing_seen waiting) →
+            SeatStandsFor self.new d (nothing_seen (request_task number request ∷ waiting))) }
     {
         self.waiting.push(Waiting { number, request })?;
         Ok(())
@@ -386,6 +388,7 @@ impl Seat {
     pub fn send_single(&mut self, out: &mut Content)
         ensures stands { (d : MemberView) (x : Seen) → SeatStandsFor self.old d x → SeatStandsFor self.new d (sent_in x) }
         ensures bytes { (d : MemberView) (x : Seen) → SeatStandsFor self.old d x → out.new ≡ d.address ∷ record_said (master_says (begun_by x.calls)) [] }
+        ensures some { 0 < length out.new }
     {
         let address = self.member.address();
         let (control, info) = self.channel.send();
@@ -396,6 +399,7 @@ impl Seat {
     pub fn send_record(&mut self, count: u32, out: &mut Content)
         ensures stands { (d : MemberView) (x : Seen) → SeatStandsFor self.old d x → SeatStandsFor self.new d (sent_in x) }
         ensures bytes { (d : MemberView) (x : Seen) → SeatStandsFor self.old d x → length out.old + length (record_seen count d x) ≤ 2048 → out.new ≡ out.old ++ record_seen count d x }
+        ensures some { 0 < length out.old → 0 < length out.new }
     {
         let values = command_values(count, self.mdt_words());
         let (control, info) = self.channel.send();

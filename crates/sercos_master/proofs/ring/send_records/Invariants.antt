@@ -1,4 +1,4 @@
-use Rattle.std.proofs.Common.{◌≡◌, ◌≤◌, ◌++◌, ℕ, List, length, if◌then◌else◌}
+use Rattle.std.proofs.Common.{◌<◌, ◌≡◌, ◌≤◌, ◌++◌, ℕ, List, length, if◌then◌else◌}
 use Rattle.std.specs.Prelude.{nat_lt}
 use Rattle.sercos_seat.specs.Ring.{Known}
 use Rattle.sercos_seat.specs.Seats.{Seen, sent_in}
@@ -12,4 +12,5 @@ invariant-loop-place l = record {
   stand : (s : Known) (seen : ℕ → Seen) → SeatsStandFor l.initial.seats.items s seen → SeatsStandFor l.seats.items s (λ k. if nat_lt k l.place then sent_in (seen k) else seen k);
   bytes : (s : Known) (seen : ℕ → Seen) → SeatsStandFor l.initial.seats.items s seen → length (l.initial.out ++ records_upto s seen l.count (length l.initial.seats.items)) ≤ 2048 →
       l.out ≡ l.initial.out ++ records_upto s seen l.count l.place;
+  some : 0 < length l.fn.out → 0 < length l.out;
 }
