@@ -6,7 +6,7 @@ use Rattle.std.proofs.lemmas.Bool.Decides.{nat_tests}
 use Rattle.std.proofs.lemmas.List.Elements.{All-nil, All-cons}
 use Rattle.sercos_timing.specs.Valid.{AreDistinct, addresses}
 use Rattle.sercos_block.specs.Views.{DriveView, RingView}
-use Rattle.sercos_block.specs.Rings.{has_ring_numbers, is_address, has_drive_numbers, has_address, is_drive, are_drives, is_order, has_drives, is_ring, mdt_len, wish_of}
+use Rattle.sercos_block.specs.Rings.{has_ring_numbers, is_address, has_drive_numbers, are_drive_numbers, has_address, is_drive, are_drives, is_order, has_drives, is_ring, mdt_len, wish_of}
 use Rattle.sercos_block.specs.ValidRings.{IsRing}
 use Rattle.sercos_block.proofs.WishLemmas.{IsOrder-is_order, addresses_apart, AreCycles-has_ring_numbers}
 
@@ -14,7 +14,7 @@ abbrev HasAddress : DriveView → Type 0
 HasAddress d = (1 ≤ d.address) × (d.address ≤ 254)
 
 each_address : (before drives : List DriveView) → are_drives before drives ≡ true → All HasAddress drives
-unfolding are_drives is_drive has_drive_numbers
+unfolding are_drives is_drive are_drive_numbers
 each_address before [] ok = All-nil HasAddress
 each_address before (d ∷ drives) ok =
     let (here, rest) = and_parts (is_drive before d) (are_drives (before ++ d ∷ []) drives) ok in

@@ -88,6 +88,10 @@ exact_by false count most item none len = grind (arith, nat_tests)
 pub value_len : (b : Block) → is_list b.attribute.length ≡ false → is_sound b ≡ true → length b.value ≡ item_len b.attribute.length
 value_len b none h = exact_by (is_list b.attribute.length) (length b.value) b.max_len (item_len b.attribute.length) none (SoundParts-is_sound b h).len
 
+pub found-value_len : (raw : ℕ) (blocks : List Block) (b : Block) (bytes : List ℕ) → IsStore blocks → find_block raw blocks ≡ Some b → bytes ≡ b.value
+    → IfSome (find_block raw blocks) (λ c. is_list c.attribute.length ≡ false → length bytes ≡ item_len c.attribute.length)
+found-value_len raw blocks b bytes is at seen = rw at (λ none. rw seen (value_len b none (found_sound raw blocks b is.sound at)))
+
 -- the bytes of a list of what telegrams carry
 carried_by : (carried list : Bool) (count most item : ℕ) → carried ≡ true → (not carried || (list && (most == 32))) ≡ true
     → cond list (nat_le count most) (count == item) ≡ true → count ≤ 32

@@ -6,10 +6,10 @@ use Rattle.std.proofs.lemmas.Bool.Decides.{nat_tests}
 use Rattle.std.proofs.lemmas.List.Elements.{All-tail}
 use Rattle.sercos_timing.specs.declared.wishes.Wish.{Wish}
 use Rattle.sercos_timing.specs.Order.{no_wish, record_bytes}
-use Rattle.sercos_timing.specs.Valid.{AreDistinct, addresses, IsWish, AreDrives, IsOrder, AreCycles, IsValid}
+use Rattle.sercos_timing.specs.Valid.{AreDistinct, addresses, IsWish, AreDrives, IsOrder, is_rate, AreCycles, IsValid}
 use Rattle.sercos_block.proofs.OpenLemmas.{either_none}
 use Rattle.sercos_block.specs.Views.{DriveView, RingView}
-use Rattle.sercos_block.specs.Rings.{HasLens, is_cycle, is_control, are_ring_numbers, has_ring_numbers, is_address, has_drive_numbers, has_address, is_drive, are_drives, is_turn, are_turns, is_order, has_drives, is_ring, mdt_len, record_len, wish_of, wishes_of}
+use Rattle.sercos_block.specs.Rings.{HasLens, is_cycle, is_control, are_ring_numbers, has_ring_numbers, is_address, are_drive_numbers, has_drive_numbers, has_address, is_drive, are_drives, is_turn, are_turns, is_order, has_drives, is_ring, mdt_len, record_len, wish_of, wishes_of}
 
 not_false : (b : Bool) → not b ≡ true → b ≡ false
 not_false false h = refl
@@ -74,7 +74,7 @@ IsOrder-is_order drives order ok =
 -- the drives: each has an address, which none before it has
 drive_at : (before drives : List DriveView) → are_drives before drives ≡ true → All HasLens (map wish_of drives) → (k : ℕ) → k < length (map wish_of drives)
     → IsWish (slice_index_or (map wish_of drives) k no_wish)
-unfolding are_drives is_drive has_drive_numbers
+unfolding are_drives is_drive are_drive_numbers
 drive_at before [] ok lens k in' = absurd (omega arith)
 drive_at before (d ∷ drives) ok lens zero in' =
     let (here, rest) = and_parts (is_drive before d) (are_drives (before ++ d ∷ []) drives) ok in
@@ -125,24 +125,32 @@ sum_wishes drives = sum_from 0 drives
 
 -- the ring's numbers
 pub AreCycles-has_ring_numbers : (r : RingView) → has_ring_numbers r ≡ true → AreCycles (wishes_of r)
-unfolding are_ring_numbers is_cycle is_control wishes_of
+unfolding are_ring_numbers is_rate is_cycle is_control wishes_of
 AreCycles-has_ring_numbers r ok =
-    let (rate, rest) = and_parts ((r.rate == 2) || (r.rate == 4)) _ ok in
+    let (rate, rest) = and_parts (is_rate r.rate) _ ok in
     let (cycle, rest2) = and_parts (is_cycle r.cycle) _ rest in
     let (control, rest3) = and_parts (is_control r.cycle r.control) _ rest2 in
     let (gap, _) = and_parts (nat_le r.gap 1000) _ rest3 in
     let (some, rest4) = and_parts (nat_le 1 r.control) _ control in
     let (_, multiple) = and_parts (nat_le r.control 64000) (r.control % r.cycle == 0) rest4 in
     record {
-      rate = rates r.rate (or_cases (r.rate == 2) (r.rate == 4) rate);
+      rate = rates r.rate (or_cases (r.rate == 2) _ rate);
       cycle = cycles r.cycle (or_cases (r.cycle == 125) _ cycle);
       control = (grind (arith, nat_tests), grind (arith, nat_tests));
       gap = grind (arith, nat_tests);
     }
   where
-    rates : (rate : ℕ) → ((rate == 2) ≡ true) ⊎ ((rate == 4) ≡ true) → (rate ≡ 2) ⊎ (rate ≡ 4)
+    last : (rate : ℕ) → ((rate == 8) ≡ true) ⊎ ((rate == 16) ≡ true) → (rate ≡ 8) ⊎ (rate ≡ 16)
+    last rate (inl e) = inl (grind (arith, nat_tests))
+    last rate (inr e) = inr (grind (arith, nat_tests))
+
+    next : (rate : ℕ) → ((rate == 4) ≡ true) ⊎ (((rate == 8) || (rate == 16)) ≡ true) → (rate ≡ 4) ⊎ (rate ≡ 8) ⊎ (rate ≡ 16)
+    next rate (inl e) = inl (grind (arith, nat_tests))
+    next rate (inr e) = inr (last rate (or_cases (rate == 8) _ e))
+
+    rates : (rate : ℕ) → ((rate == 2) ≡ true) ⊎ (((rate == 4) || ((rate == 8) || (rate == 16))) ≡ true) → (rate ≡ 2) ⊎ (rate ≡ 4) ⊎ (rate ≡ 8) ⊎ (rate ≡ 16)
     rates rate (inl e) = inl (grind (arith, nat_tests))
-    rates rate (inr e) = inr (grind (arith, nat_tests))
+    rates rate (inr e) = inr (next rate (or_cases (rate == 4) _ e))
 
     cycles : (cycle : ℕ) → ((cycle == 125) ≡ true) ⊎ ((nat_le 250 cycle && (nat_le cycle 64000 && (cycle % 250 == 0))) ≡ true)
         → (cycle ≡ 125) ⊎ ((250 ≤ cycle) × (cycle ≤ 64000) × (cycle % 250 ≡ 0))

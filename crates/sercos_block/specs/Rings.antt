@@ -1,5 +1,5 @@
 -- The rules that a ring and its drives keep, and what a ring asks of its plan.
-use Rattle.std.specs.Prelude.{ℕ, ◌+◌, ◌≤◌, ◌%◌, ◌==◌, nat_lt, nat_le, Bool, true, not, ◌&&◌, ◌||◌, if◌then◌else◌, List, [], ◌∷◌, ◌++◌, length, map, Option, Some, None, is_some, is_none, unwrap_or, option_map, option_and_then}
+use Rattle.std.specs.Prelude.{ℕ, ◌+◌, ◌≤◌, ◌%◌, ◌==◌, nat_lt, nat_le, Bool, true, false, not, ◌&&◌, ◌||◌, if◌then◌else◌, List, [], ◌∷◌, ◌++◌, length, map, Option, Some, None, is_some, is_none, unwrap_or, option_map, option_and_then}
 use Rattle.std.specs.List.{list_all, list_any, find, sum_by}
 use Rattle.std.specs.Option.{option_or}
 use Rattle.sercos_idn.specs.declared.idn.Idn.{Idn}
@@ -9,6 +9,7 @@ use Rattle.sercos_idn.specs.Attributes.{attribute_of}
 use Rattle.sercos_timing.specs.declared.wishes.Times.{Times}
 use Rattle.sercos_timing.specs.declared.wishes.Wish.{Wish}
 use Rattle.sercos_timing.specs.Views.{WishesView}
+use Rattle.sercos_timing.specs.Valid.{is_rate}
 use Rattle.sercos_block.specs.declared.block.Block.{Block}
 use Rattle.sercos_block.specs.declared.built_in.BuiltIn.{BuiltIn}
 use Rattle.sercos_block.specs.BuiltIns.{built_ins}
@@ -74,7 +75,7 @@ is_control cycle control = nat_le 1 control && (nat_le control 64000 && (control
 -- the ring's own numbers: the rate, the cycle time, the control unit cycle time, the gap, and how many cycles it runs
 unfoldable pub are_ring_numbers : ℕ → ℕ → ℕ → ℕ → ℕ → Bool
 are_ring_numbers rate cycle control gap cycles =
-    ((rate == 2) || (rate == 4)) && (is_cycle cycle && (is_control cycle control
+    is_rate rate && (is_cycle cycle && (is_control cycle control
     && (nat_le gap 1000 && (nat_le 1 cycles && nat_le cycles 50000))))
 
 abbrev pub has_ring_numbers : RingView → Bool
@@ -91,10 +92,13 @@ abbrev pub is_address : ℕ → Bool
 is_address n = nat_le 1 n && nat_le n 254
 
 -- a drive's own numbers: busy and command are cycles
-unfoldable pub has_drive_numbers : DriveView → Bool
-has_drive_numbers d =
-    is_address d.address && (is_address d.slave && (nat_le d.busy 20 && (nat_le d.command 200 && (are_times d.times
-    && (nat_le d.cycle_min 64000 && nat_le d.cycle_max 64000)))))
+unfoldable pub are_drive_numbers : ℕ → ℕ → ℕ → ℕ → Times → ℕ → ℕ → Bool
+are_drive_numbers address slave busy command times cycle_min cycle_max =
+    is_address address && (is_address slave && (nat_le busy 20 && (nat_le command 200 && (are_times times
+    && (nat_le cycle_min 64000 && nat_le cycle_max 64000)))))
+
+abbrev pub has_drive_numbers : DriveView → Bool
+has_drive_numbers d = are_drive_numbers d.address d.slave d.busy d.command d.times d.cycle_min d.cycle_max
 
 -- at most 36 data blocks, which keep their rules
 unfoldable pub has_blocks : DriveView → Bool
@@ -107,6 +111,15 @@ are_cyclic blocks idns = list_all (λ idn. is_cyclic blocks idn.raw) idns
 -- one of the drives has the address
 unfoldable pub has_address : ℕ → List DriveView → Bool
 has_address address drives = list_any (λ d. d.address == address) drives
+
+-- a drive with the address has a block with the identifier number, and its operation data is no procedure command
+abbrev pub is_no_command : Option Attribute → Bool
+is_no_command (Some a) = not a.command
+is_no_command None = false
+
+unfoldable pub has_other_data : ℕ → ℕ → List DriveView → Bool
+has_other_data address raw drives =
+    list_any (λ d. (d.address == address) && is_no_command (block_attribute d.blocks raw)) drives
 
 -- a drive may stand behind these in the ring
 unfoldable pub is_drive : List DriveView → DriveView → Bool

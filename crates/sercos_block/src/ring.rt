@@ -3,7 +3,7 @@ ghost use Rattle.std.specs.Prelude.{◌≡◌, ◌≤◌, ◌==◌, true, [], le
 ghost use Rattle.std.specs.List.{All, find, list_any, list_all};
 ghost use Rattle.sercos_timing.specs.Valid.{IsValid};
 ghost use Rattle.sercos_idn.specs.Codes.{item_len};
-ghost use Rattle.sercos_block.specs.Rings.{attribute_in, row_in, built_in_attribute, own_attribute, block_attribute, number_len, cyclic_len, is_cyclic, value_len, listed_len, at_len, record_len, mdt_len, is_cycle, is_control, has_ring_numbers, are_times, is_address, has_drive_numbers, has_blocks, are_cyclic, has_address, is_drive, are_drives, is_turn, are_turns, is_order, has_drives, is_ring, wish_of, HasLens, wishes_of};
+ghost use Rattle.sercos_block.specs.Rings.{attribute_in, row_in, built_in_attribute, own_attribute, block_attribute, number_len, cyclic_len, is_cyclic, value_len, listed_len, at_len, record_len, mdt_len, is_cycle, is_control, has_ring_numbers, are_times, is_address, has_drive_numbers, has_blocks, are_cyclic, has_address, is_no_command, has_other_data, is_drive, are_drives, is_turn, are_turns, is_order, has_drives, is_ring, wish_of, HasLens, wishes_of};
 
 use crate::block::Block;
 use crate::built_in::{BUILT_IN, BuiltIn};
@@ -11,7 +11,7 @@ use crate::check::{check_blocks, is_number};
 use crate::setup::{DriveSetup, RingSetup};
 use arrayvec::ArrayVec;
 use sercos_idn::{Attribute, Idn};
-use sercos_timing::{Times, Wish, Wishes};
+use sercos_timing::{Times, Wish, Wishes, is_rate};
 
 /// The attribute that a word is, if it is one's.
 #[tactic(auto, unfolding(crate::specs::Rings::attribute_in))]
@@ -58,9 +58,9 @@ fn own_attribute(blocks: &[Block], idn: Idn) -> Option<Attribute>
     }
 }
 
-// The attribute of a built-in block, or of one of these.
+/// The attribute of the data block with an identifier number: a built-in one, or one of these.
 #[tactic(auto, unfolding(crate::specs::Rings::block_attribute))]
-fn block_attribute(blocks: &[Block], idn: Idn) -> Option<Attribute>
+pub fn block_attribute(blocks: &[Block], idn: Idn) -> Option<Attribute>
     ensures { result ≡ block_attribute blocks.now idn.raw }
 {
     match built_in_attribute(idn) {
@@ -170,6 +170,27 @@ pub fn has_address(address: u8, drives: &[DriveSetup]) -> bool
     ensures { result ≡ has_address address drives.now }
 {
     drives.iter().any(|drive| drive.address == address)
+}
+
+// Whether there is an attribute, and it isn't that of a procedure command.
+fn is_no_command(attribute: Option<Attribute>) -> bool
+    ensures { result ≡ is_no_command attribute }
+{
+    match attribute {
+        Some(attribute) => !attribute.command,
+        None => false,
+    }
+}
+
+/// Returns whether a drive with the address has a data block with the identifier number, built-in or own, whose operation
+/// data is no procedure command. Such a number can't be asked for as a command; a number that the drive hasn't can.
+#[tactic(auto, unfolding(crate::specs::Rings::has_other_data))]
+pub fn has_other_data(address: u8, idn: Idn, drives: &[DriveSetup]) -> bool
+    ensures { result ≡ has_other_data address idn.raw drives.now }
+{
+    drives.iter().any(|drive| {
+        drive.address == address && is_no_command(block_attribute(drive.blocks.as_slice(), idn))
+    })
 }
 
 /// How many bytes the MDT of the drives has after its address.
@@ -292,7 +313,7 @@ impl DriveSetup {
     }
 
     // Whether its numbers lie in their ranges.
-    #[tactic(auto, unfolding(crate::specs::Rings::has_drive_numbers))]
+    #[tactic(auto, unfolding(crate::specs::Rings::are_drive_numbers))]
     fn has_numbers(&self) -> bool
         ensures { result ≡ has_drive_numbers self.now }
     {
@@ -332,7 +353,7 @@ impl RingSetup {
     fn has_numbers(&self) -> bool
         ensures { result ≡ has_ring_numbers self.now }
     {
-        (self.rate == 2 || self.rate == 4)
+        is_rate(self.rate)
             && is_cycle(u32::from(self.cycle))
             && is_control(self.cycle, self.control)
             && self.gap <= 1000

@@ -52,7 +52,7 @@ impl Model for DriveSetup {
 /// What a ring is made of. Contracts see the record of its fields, each vector as the list of its items.
 #[derive(Drop)]
 pub struct RingSetup {
-    /// The rate, in bits per microsecond: 2 or 4.
+    /// The rate, in bits per microsecond: 2, 4, 8 or 16.
     pub rate: u8,
     /// The cycle time, in microseconds.
     pub cycle: u16,

@@ -17,9 +17,9 @@ fn byte_at(bytes: &[u8], place: usize) -> u8
     if place < bytes.len() { bytes[place] } else { 0 }
 }
 
-// The first two bytes of the operation data of a block, as a number.
+/// Returns the first two bytes of the operation data of a block as a number, the low byte first. A missing byte is 0.
 #[tactic(auto, unfolding(crate::specs::Checks::number_at))]
-pub(crate) fn number_at(store: &Store, idn: Idn) -> u32
+pub fn number_at(store: &Store, idn: Idn) -> u32
     ensures value { result ≡ number_at store.now idn.raw }
     ensures bound { result < 65536 }
 {
@@ -40,9 +40,9 @@ fn idns_in(bytes: &[u8]) -> ArrayVec<Idn, 16>
     idns
 }
 
-// The identifier numbers of a list of what a telegram carries.
+/// Returns the identifier numbers of a list of what a telegram carries: S-0-0016 for the AT, S-0-0024 for the MDT.
 #[tactic(auto, unfolding(crate::specs::Checks::idns_at))]
-fn idns_at(store: &Store, list: Idn) -> ArrayVec<Idn, 16>
+pub fn idns_at(store: &Store, list: Idn) -> ArrayVec<Idn, 16>
     requires { (list.raw ≡ 16) ⊎ (list.raw ≡ 24) }
     ensures { result.items ≡ idns_at store.now list.raw }
 {
@@ -84,9 +84,10 @@ fn listed_len(store: &Store, idns: &[Idn]) -> u32
     len
 }
 
-// How many bytes a telegram has behind its address, or a data record, by the list of what it carries.
+/// Returns the number of bytes of an AT after its address (by S-0-0016), or of a record of the MDT (by S-0-0024): two
+/// words, and two or four bytes for each number in the list. An identifier number that isn't that of a number adds none.
 #[tactic(auto, unfolding(crate::specs::Checks::carried_len))]
-pub(crate) fn carried_len(store: &Store, list: Idn) -> u32
+pub fn carried_len(store: &Store, list: Idn) -> u32
     requires { (list.raw ≡ 16) ⊎ (list.raw ≡ 24) }
     ensures value { result ≡ carried_len store.now list.raw }
     ensures bounds { (4 ≤ result) × (result ≤ 68) }

@@ -4,6 +4,7 @@ use Rattle.std.specs.List.{list_any}
 use Rattle.std.specs.Ordering.{int_eq}
 use Rattle.toml.specs.Data.{Items, as_integer, as_array}
 use Rattle.sercos_block.specs.Views.{DriveView}
+use Rattle.sercos_timing.specs.Valid.{is_rate}
 use Rattle.sercos_block.specs.Rings.{is_cycle}
 use Rattle.sercos_config.specs.declared.ring.Head.{Head}
 use Rattle.sercos_document.specs.declared.path.Place.{Place}
@@ -20,8 +21,8 @@ ring_keys = codes "rate" ∷ codes "cycle" ∷ codes "control" ∷ codes "gap" �
 unfoldable pub head_of : Located → Answer Head
 head_of t = do
   known t ring_keys
-  rate ← number t (codes "rate") 2 4
-  demand (not (rate == 3)) (bad.Range (path t.place (codes "rate")) (pos rate))
+  rate ← number t (codes "rate") 2 16
+  demand (is_rate rate) (bad.Range (path t.place (codes "rate")) (pos rate))
   cycle ← number t (codes "cycle") 125 64000
   demand (is_cycle cycle) (bad.Range (path t.place (codes "cycle")) (pos cycle))
   control ← number_or t (codes "control") 1 64000 cycle

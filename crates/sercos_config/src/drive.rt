@@ -41,7 +41,7 @@ pub(crate) fn read_drives(alloc: Global, tables: &[&Table]) -> Result<Vec<DriveS
 }
 
 // The drive of a table, behind these drives.
-#[tactic(auto, unfolding(crate::specs::Drive::drive_of, sercos_block::specs::Rings::is_drive, sercos_block::specs::Rings::has_drive_numbers, sercos_block::specs::Rings::has_blocks))]
+#[tactic(auto, unfolding(crate::specs::Drive::drive_of, sercos_block::specs::Rings::is_drive, sercos_block::specs::Rings::are_drive_numbers, sercos_block::specs::Rings::has_blocks))]
 fn read_drive(keys: &Keys<'_>, before: &[DriveSetup]) -> Result<DriveSetup, BadDocument>
     ensures value { Gives result (drive_of before.now (located keys.now)) }
     ensures valid { IfOk result (λ d. is_drive before.now d ≡ true) }

@@ -11,6 +11,7 @@ ghost use Rattle.sercos_config.specs.Ring.{ring_keys, head_of, place_from, turn_
 use arrayvec::ArrayVec;
 use sercos_block::{DriveSetup, is_cycle};
 use sercos_document::{BadDocument, Keys};
+use sercos_timing::is_rate;
 use toml::Value;
 
 /// The numbers of a ring: times in microseconds, and how many cycles it runs.
@@ -30,8 +31,8 @@ pub(crate) fn read_head(keys: &Keys<'_>) -> Result<Head, BadDocument>
     ensures valid { IfOk result (λ h. are_ring_numbers h.rate h.cycle h.control h.gap h.cycles ≡ true) }
 {
     known(keys)?;
-    let rate = keys.number("rate", 2, 4)?;
-    keys.demand(rate != 3, "rate", i64::from(rate))?;
+    let rate = keys.number("rate", 2, 16)?;
+    keys.demand(is_rate(rate as u8), "rate", i64::from(rate))?;
     let cycle = keys.number("cycle", 125, 64000)?;
     keys.demand(is_cycle(cycle), "cycle", i64::from(cycle))?;
     let control = keys.number_or("control", 1, 64000, cycle)?;

@@ -2,7 +2,7 @@
 use Rattle.std.proofs.Common.{◌≡◌, ℕ, ◌+◌, ◌-◌, ◌*◌, ◌/◌, ◌<◌, ◌≤◌, ◌⊎◌, inl, inr, max, Bool, true, false, List, [], ◌∷◌, refl, sym, ap, subst, arith}
 use Rattle.std.specs.Prelude.{Option, Some, None, option_map, unwrap_or, ◌==◌, if◌then◌else◌}
 use Rattle.std.proofs.Math.Nat.{mul-le-mul_left, div-lt_iff_lt-mul}
-use Rattle.std.proofs.lemmas.Bool.{cond_both, eqb-true, cond-true, cond-false, ne_eqb, eq-eqb}
+use Rattle.std.proofs.lemmas.Bool.{cases_Bool, cond_both, eqb-true, cond-true, cond-false, ne_eqb, eq-eqb}
 use Rattle.sercos_timing.specs.Views.{WishesView}
 use Rattle.sercos_timing.specs.Order.{times, neighbor, previous, same_slave, at_bits}
 use Rattle.sercos_timing.specs.Inequalities.{asked_1, asked_2, asked_3, asked_4, asked_of_start, Meets, Keeps}
@@ -42,7 +42,10 @@ from_if false (Some i) j ks h = inr h
 
 pub neighbor-from : (w : WishesView) (k : ℕ) (before : List ℕ) → IsFrom (neighbor w k before) before
 neighbor-from w k [] = tt
-neighbor-from w k (j ∷ before) = inl refl
+neighbor-from w k (j ∷ before) = elim (cases_Bool (same_slave w j k)) [
+  | inl same ↦ rw same tt
+  | inr other ↦ rw other (inl refl)
+]
 
 pub previous-from : (w : WishesView) (k : ℕ) (before : List ℕ) → IsFrom (previous w k before) before
 previous-from w k [] = tt

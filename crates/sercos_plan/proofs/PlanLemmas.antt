@@ -50,7 +50,7 @@ among_within w valid j h =
     subst P (sym found.2) (valid.order.within found.0 found.1)
 
 pub rate_some : (w : WishesView) → IsValid w → 0 < w.rate
-rate_some w valid = elim valid.cycles.rate [ inl e ↦ omega arith | inr e ↦ omega arith ]
+rate_some w valid = elim valid.cycles.rate [ inl e ↦ omega arith | inr (inl e) ↦ omega arith | inr (inr (inl e)) ↦ omega arith | inr (inr (inr e)) ↦ omega arith ]
 
 -- the greatest of numbers
 pub greatest_keeps : (f : ℕ → ℕ) (z : ℕ) (ats : List ℕ) → greatest f ats ≤ z → Keeps (λ k before. Some (f k)) (λ k. z) ats

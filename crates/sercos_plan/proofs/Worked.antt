@@ -35,6 +35,14 @@ just_planned : planned (two_drives 250 104) ≡ plan (10 ∷ 46 ∷ []) 83 153 2
 unfolding least_plan least_t2 least_t3
 just_planned = refl
 
+rate_16 : planned (record (two_drives 250 10) { rate = 16 }) ≡ plan (10 ∷ 23 ∷ []) 37 70 230 (1 ∷ 9 ∷ []) 16
+unfolding least_plan least_t2 least_t3
+rate_16 = refl
+
+one_slave : planned (small_ring 250 (0 ∷ 1 ∷ []) (small_drive 1 1 10 5 10 ∷ small_drive 2 1 12 2 10 ∷ [])) ≡ plan (10 ∷ 43 ∷ []) 80 150 230 (1 ∷ 9 ∷ []) 16
+unfolding least_plan least_t2 least_t3
+one_slave = refl
+
 abbrev link : ℕ → ℕ → ℕ → Link
 link rule drive at = record { rule = rule; drive = drive; at = at }
 

@@ -100,7 +100,7 @@ pub enum Rule {
     Own,
     // 2: the first AT begins at least the gap after the MST
     Gap,
-    // 3: an AT begins at least the gap after the end of the one before it
+    // 3: an AT begins at least the gap after the end of the one before it, where another slave sends that
     Neighbor,
     // 4: and at least TATAT after the end of the previous one of its slave
     Slave,

@@ -17,7 +17,7 @@ fn bits(w: &Wishes, micros: u32) -> u32
     requires valid { IsValid w.now }
     requires micros { micros ≤ 10_000_000 }
     ensures value { result ≡ w.now.rate * micros }
-    ensures limit { result ≤ 40_000_000 }
+    ensures limit { result ≤ 160_000_000 }
 {
     w.bits(micros) as u32
 }

@@ -1,15 +1,15 @@
 // The copy of an element that a selection makes.
-ghost use Rattle.std.specs.Prelude.{◌≡◌, ◌≤◌, ◌<◌, ◌+◌, ◌*◌, ◌/◌, ◌%◌, ◌==◌, [], ◌∷◌, ◌++◌, length, slice_index, if◌then◌else◌, Some, None, MatchResult};
+ghost use Rattle.std.specs.Prelude.{◌≡◌, ◌≤◌, ◌/◌, ◌%◌, [], ◌∷◌, ◌++◌, length, Some, None, MatchResult};
 ghost use Rattle.sercos_step.specs.Words.{words_of};
 ghost use Rattle.sercos_block.specs.declared.block.Block.{Block};
-ghost use Rattle.sercos_block.specs.Blocks.{number_end, bits_in, bytes_for, element_of};
+ghost use Rattle.sercos_block.specs.Blocks.{element_of};
 ghost use Rattle.sercos_service_drive.specs.Replies.{list_words, element_words, data_in, words_at, missing};
 
+use crate::data::push_data;
 use sercos_bits::ByteList;
 use sercos_block::Store;
 use sercos_command::Commands;
-use sercos_idn::{Attribute, Code, Idn, Length};
-use sercos_step::byte_at;
+use sercos_idn::{Attribute, Code, Idn};
 
 /// The most bytes of an element's words: a list of 1024 bytes, and its two lengths before it.
 pub(crate) const CAPACITY: usize = 1028;
@@ -31,16 +31,6 @@ pub(crate) fn push_word(buffer: &mut Buffer, word: u16)
     }
 }
 
-// Puts bytes behind the others.
-fn append(buffer: &mut Buffer, bytes: &[u8])
-    requires { length buffer.old + length bytes.now ≤ 1028 }
-    ensures { buffer.new ≡ buffer.old ++ bytes.now }
-{
-    for byte in bytes {
-        buffer.push_within(*byte);
-    }
-}
-
 // Copies a word.
 fn copy_word(buffer: &mut Buffer, word: u16)
     ensures { words_of buffer.new ≡ word ∷ [] }
@@ -57,65 +47,16 @@ fn copy_list(buffer: &mut Buffer, longest: u16, bytes: &[u8])
     buffer.clear();
     push_word(buffer, bytes.len() as u16);
     push_word(buffer, longest);
-    append(buffer, bytes);
+    buffer.append_within(bytes);
 }
 
-// The bits of the number that bytes are.
-fn bits_in(attribute: &Attribute, bytes: &[u8]) -> u32
-    ensures { result ≡ bits_in attribute.now bytes.now }
-{
-    if attribute.length == Length::Two {
-        u32::from(u16::from_le_bytes([byte_at(bytes, 0), byte_at(bytes, 1)]))
-    } else {
-        u32::from_le_bytes([
-            byte_at(bytes, 0),
-            byte_at(bytes, 1),
-            byte_at(bytes, 2),
-            byte_at(bytes, 3),
-        ])
-    }
-}
-
-// The bits of a number that grows in each cycle.
-fn grown(attribute: &Attribute, bits: u32, step: u32, cycle: u32) -> u32
-    ensures value { result ≡ (bits + step * cycle) % number_end attribute.now.length }
-    ensures bound { result < number_end attribute.now.length }
-{
-    let sum = u64::from(bits) + u64::from(step) * u64::from(cycle);
-    if attribute.length == Length::Two {
-        (sum % 65_536) as u32
-    } else {
-        (sum % 4_294_967_296) as u32
-    }
-}
-
-// Copies the bytes of a number.
-fn copy_number(buffer: &mut Buffer, attribute: &Attribute, bits: u32)
-    requires { bits < number_end attribute.now.length }
-    ensures { buffer.new ≡ bytes_for attribute.now bits }
-{
-    if attribute.length == Length::Two {
-        buffer.assign(&(bits as u16).to_le_bytes());
-    } else {
-        buffer.assign(&bits.to_le_bytes());
-    }
-}
-
-// Copies the operation data of a number as it stands in a cycle.
-#[tactic(auto, unfolding(crate::specs::Replies::data_in))]
+// Copies the operation data of a number as it is in a cycle.
 fn copy_data(buffer: &mut Buffer, attribute: &Attribute, step: u32, cycle: u32, bytes: &[u8])
     requires { length bytes.now ≤ 1024 }
     ensures { (b : Block) → b.attribute ≡ attribute.now → b.step ≡ step → b.value ≡ bytes.now → buffer.new ≡ data_in cycle b }
 {
-    if step == 0 {
-        buffer.assign(bytes);
-    } else {
-        copy_number(
-            buffer,
-            attribute,
-            grown(attribute, bits_in(attribute, bytes), step, cycle),
-        );
-    }
+    buffer.clear();
+    push_data(buffer, attribute, step, cycle, bytes);
 }
 
 // Copies an element, 2 to 7, which is there.

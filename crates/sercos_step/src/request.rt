@@ -28,7 +28,7 @@ pub enum Request {
     },
 }
 
-/// A request to a drive.
+/// A request to a drive. A master may be opened with jobs of which `AreJobs` of `specs/Jobs.antt` holds.
 #[derive(Debug, PartialEq, Eq, Drop)]
 pub struct Job {
     /// The drive's address.

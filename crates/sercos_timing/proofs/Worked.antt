@@ -1,5 +1,5 @@
 -- Worked values of the definitions, which the checker computes.
-use Rattle.std.proofs.Common.{◌≡◌, ℕ, zero, suc, ◌<◌, inr, List, [], ◌∷◌, refl, arith, slice_index}
+use Rattle.std.proofs.Common.{◌≡◌, ℕ, zero, suc, ◌<◌, inl, inr, List, [], ◌∷◌, refl, arith, slice_index}
 use Rattle.std.specs.Prelude.{Some, None, Option}
 use Rattle.sercos_model.specs.Frames.{wire_bits}
 use Rattle.sercos_timing.specs.Views.{PlanView}
@@ -122,5 +122,5 @@ two_drives_valid = record {
     within = below_two (λ i. slice_index (two_drives 250 10).order i < 2) (omega arith) (omega arith);
     once = apart_two (λ i j. slice_index (two_drives 250 10).order i ≡ slice_index (two_drives 250 10).order j → ⊥) (λ e. omega arith);
   };
-  cycles = record { rate = inr refl; cycle = inr (omega arith, omega arith, refl); control = (omega arith, refl); gap = omega arith };
+  cycles = record { rate = inr (inl refl); cycle = inr (omega arith, omega arith, refl); control = (omega arith, refl); gap = omega arith };
 }

@@ -18,7 +18,7 @@ abbrev pub asked_2 : WishesView → (ℕ → ℕ) → ℕ → List ℕ → Optio
 asked_2 w b k [] = Some (w.rate * w.gap)
 asked_2 w b k (j ∷ before) = None
 
--- 3: an AT begins at least the gap after the end of the AT right before it
+-- 3: an AT begins at least the gap after the end of the AT right before it, where another slave sends that
 abbrev pub asked_3 : WishesView → (ℕ → ℕ) → ℕ → List ℕ → Option ℕ
 asked_3 w b k before = option_map (λ j. b j + (at_bits w j + w.rate * w.gap)) (neighbor w k before)
 

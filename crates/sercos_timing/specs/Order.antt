@@ -39,10 +39,10 @@ sent w = first_sent w.order (length w.order)
 abbrev pub place_at : WishesView → Option ℕ → Option ℕ
 place_at w at = option_map (slice_index w.order) at
 
--- the AT that is sent right before that of k
+-- the AT that is sent right before that of k, where another slave sends it
 abbrev pub neighbor : WishesView → ℕ → List ℕ → Option ℕ
 neighbor w k [] = None
-neighbor w k (j ∷ before) = Some j
+neighbor w k (j ∷ before) = if same_slave w j k then None else Some j
 
 -- the last AT before that of k that the same slave sends
 abbrev pub previous : WishesView → ℕ → List ℕ → Option ℕ

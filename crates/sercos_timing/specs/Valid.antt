@@ -1,5 +1,5 @@
 -- Wishes for which a plan may be asked.
-use Rattle.std.specs.Prelude.{◌≡◌, ◌≢◌, ℕ, ◌<◌, ◌≤◌, ◌%◌, ◌⊎◌, List, length, map, slice_index}
+use Rattle.std.specs.Prelude.{◌≡◌, ◌≢◌, ℕ, ◌<◌, ◌≤◌, ◌%◌, ◌⊎◌, Bool, ◌||◌, ◌==◌, List, length, map, slice_index}
 use Rattle.sercos_timing.specs.Views.{WishesView}
 use Rattle.sercos_timing.specs.Order.{wish, record_bytes}
 use Rattle.sercos_timing.specs.declared.wishes.Wish.{Wish}
@@ -36,9 +36,13 @@ pub record IsOrder (order : List ℕ) (drives : ℕ) : Type 0 where
   pub within : AreBelow order drives
   pub once : AreDistinct order
 
+-- the rates of this profile, in bits per microsecond
+unfoldable pub is_rate : ℕ → Bool
+is_rate rate = (rate == 2) || ((rate == 4) || ((rate == 8) || (rate == 16)))
+
 -- rate, cycle time, control unit cycle time and gap are ones of this profile
 pub record AreCycles (w : WishesView) : Type 0 where
-  pub rate : (w.rate ≡ 2) ⊎ (w.rate ≡ 4)
+  pub rate : (w.rate ≡ 2) ⊎ (w.rate ≡ 4) ⊎ (w.rate ≡ 8) ⊎ (w.rate ≡ 16)
   pub cycle : (w.cycle ≡ 125) ⊎ ((250 ≤ w.cycle) × (w.cycle ≤ 64000) × (w.cycle % 250 ≡ 0))
   pub control : (1 ≤ w.control) × (w.control % w.cycle ≡ 0)
   pub gap : w.gap ≤ 1000

@@ -13,7 +13,7 @@ pub enum StartRule {
     Own,
     /// 2: the first AT of the order begins at least the gap after the MST.
     Gap,
-    /// 3: an AT begins at least the gap after the end of the AT right before it.
+    /// 3: an AT begins at least the gap after the end of the AT right before it, where another slave sends that.
     Neighbor,
     /// 4: an AT begins at least the drive's TATAT after the end of the previous AT of the same slave.
     Slave,

@@ -13,5 +13,5 @@ pub use asked::{StartRule, asked_of_start, bits_after};
 pub use fitting::{Broken, fits};
 pub use frame_bits::wire;
 pub use plan::Plan;
-pub use validity::valid;
+pub use validity::{is_rate, valid};
 pub use wishes::{Times, Wish, Wishes};

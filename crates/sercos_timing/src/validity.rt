@@ -1,7 +1,7 @@
 // Wishes for which a plan may be asked.
 ghost use Rattle.std.specs.Prelude.{◌≡◌, ℕ, ◌+◌, ◌<◌, ◌≤◌, ◌↔◌, ◌⊎◌, ◌%◌, length, slice_index_or, IsTrue};
 ghost use Rattle.sercos_timing.specs.Order.{no_wish};
-ghost use Rattle.sercos_timing.specs.Valid.{AreDistinct, AreBelow, addresses, IsWish, AreDrives, IsOrder, AreCycles, IsValid};
+ghost use Rattle.sercos_timing.specs.Valid.{AreDistinct, AreBelow, addresses, IsWish, AreDrives, IsOrder, is_rate, AreCycles, IsValid};
 
 use crate::wishes::{Wish, Wishes};
 use arrayvec::ArrayVec;
@@ -98,16 +98,24 @@ fn is_order(order: &[u8], drives: usize) -> bool
     order.len() == drives && are_below(order, drives) && are_distinct(order)
 }
 
+/// Returns whether a ring can have the rate, in bits per microsecond: 2, 4, 8 or 16 (this profile).
+#[tactic(auto, unfolding(crate::specs::Valid::is_rate))]
+pub fn is_rate(rate: u8) -> bool
+    ensures { result ≡ is_rate rate }
+{
+    rate == 2 || rate == 4 || rate == 8 || rate == 16
+}
+
+#[tactic(auto, unfolding(crate::specs::Valid::is_rate))]
 fn are_cycles(w: &Wishes) -> bool
     ensures { IsTrue result ↔ AreCycles w.now }
 {
-    let rate = w.rate == 2 || w.rate == 4;
-    rate && w.gap <= GAP && is_cycle(w.cycle) && is_control(w.control, w.cycle)
+    is_rate(w.rate) && w.gap <= GAP && is_cycle(w.cycle) && is_control(w.control, w.cycle)
 }
 
 /// Whether a plan may be asked for: 1 to 64 drives with addresses of their own from 1 to 254, an order that lists the place
-/// of each once, a rate of 2 or 4 bits per microsecond, a cycle time of 125 microseconds or a multiple of 250 from 250 to
-/// 64,000, a control unit cycle time that is a positive multiple of it, a gap of at most 1,000 microseconds, and lengths
+/// of each once, a rate of 2, 4, 8 or 16 bits per microsecond, a cycle time of 125 microseconds or a multiple of 250 from 250
+/// to 64,000, a control unit cycle time that is a positive multiple of it, a gap of at most 1,000 microseconds, and lengths
 /// that frames have room for: 4 to 68 bytes for each AT and each data record, and at most 2,047 for all records together.
 pub fn valid(w: &Wishes) -> bool
     ensures { IsTrue result ↔ IsValid w.now }

@@ -162,14 +162,25 @@ impl Wishes {
         u64::from(wire(self.record_bytes() + 1))
     }
 
-    /// The place in the order of the AT that is sent right before the one at this place of the order.
+    /// The place in the order of the AT that is sent right before the one at this place, where another slave sends it.
+    /// Between ATs of one slave there is TATAT alone (this profile).
     pub fn neighbor_at(&self, at: usize) -> Option<usize>
-        requires { at < length self.now.order }
+        requires valid { IsValid self.now }
+        requires within { at < length self.now.order }
         ensures value { place_at self.now result
             ≡ neighbor self.now (slice_index self.now.order at) (first_sent self.now.order at) }
         ensures before { IfSome result (λ earlier. earlier < at) }
     {
-        if at == 0 { None } else { Some(at - 1) }
+        if at == 0 {
+            return None;
+        }
+        let order = self.order();
+        let before = self.wish(usize::from(order[at - 1])).slave;
+        if before == self.wish(usize::from(order[at])).slave {
+            None
+        } else {
+            Some(at - 1)
+        }
     }
 
     /// The place in the order of the last AT before this one that the same slave sends.

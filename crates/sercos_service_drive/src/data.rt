@@ -1,0 +1,83 @@
+// Operation data as it is in a cycle.
+ghost use Rattle.std.specs.Prelude.{◌≡◌, ◌≤◌, ◌<◌, ◌+◌, ◌*◌, ◌%◌, ◌++◌, length};
+ghost use Rattle.sercos_block.specs.declared.block.Block.{Block};
+ghost use Rattle.sercos_block.specs.Blocks.{number_end, bits_in, bytes_for};
+ghost use Rattle.sercos_service_drive.specs.Replies.{data_in};
+
+use sercos_bits::ByteList;
+use sercos_idn::{Attribute, Length};
+use sercos_step::byte_at;
+
+// The bits of the number that bytes are.
+fn bits_in(attribute: &Attribute, bytes: &[u8]) -> u32
+    ensures { result ≡ bits_in attribute.now bytes.now }
+{
+    if attribute.length == Length::Two {
+        u32::from(u16::from_le_bytes([byte_at(bytes, 0), byte_at(bytes, 1)]))
+    } else {
+        u32::from_le_bytes([
+            byte_at(bytes, 0),
+            byte_at(bytes, 1),
+            byte_at(bytes, 2),
+            byte_at(bytes, 3),
+        ])
+    }
+}
+
+// The bits of a number that grows by a step in each cycle.
+fn grown(attribute: &Attribute, bits: u32, step: u32, cycle: u32) -> u32
+    ensures value { result ≡ (bits + step * cycle) % number_end attribute.now.length }
+    ensures bound { result < number_end attribute.now.length }
+{
+    let sum = u64::from(bits) + u64::from(step) * u64::from(cycle);
+    if attribute.length == Length::Two {
+        (sum % 65_536) as u32
+    } else {
+        (sum % 4_294_967_296) as u32
+    }
+}
+
+// Appends the bytes of a number.
+fn push_number<const CAPACITY: usize>(
+    out: &mut ByteList<CAPACITY>,
+    attribute: &Attribute,
+    bits: u32,
+)
+    requires room { length out.old + 4 ≤ CAPACITY }
+    requires bound { bits < number_end attribute.now.length }
+    ensures value { out.new ≡ out.old ++ bytes_for attribute.now bits }
+    ensures bound { length out.new ≤ length out.old + 4 }
+{
+    if attribute.length == Length::Two {
+        out.append_within(&(bits as u16).to_le_bytes());
+    } else {
+        out.append_within(&bits.to_le_bytes());
+    }
+}
+
+/// Appends operation data as it is in a cycle, of a block with this attribute, step and operation data: the bytes
+/// themselves, or, where the step isn't 0, those of the number plus the step times the cycle, modulo 2 to the power of its
+/// bits (this profile). The low byte comes first.
+#[tactic(auto, unfolding(crate::specs::Replies::data_in))]
+pub fn push_data<const CAPACITY: usize>(
+    out: &mut ByteList<CAPACITY>,
+    attribute: &Attribute,
+    step: u32,
+    cycle: u32,
+    bytes: &[u8],
+)
+    requires room { length out.old + 4 ≤ CAPACITY }
+    requires fits { length out.old + length bytes.now ≤ CAPACITY }
+    ensures value { (b : Block) → b.attribute ≡ attribute.now → b.step ≡ step → b.value ≡ bytes.now → out.new ≡ out.old ++ data_in cycle b }
+    ensures bound { length bytes.now ≤ 4 → length out.new ≤ length out.old + 4 }
+{
+    if step == 0 {
+        out.append_within(bytes);
+    } else {
+        push_number(
+            out,
+            attribute,
+            grown(attribute, bits_in(attribute, bytes), step, cycle),
+        );
+    }
+}
