@@ -17,7 +17,7 @@ use Rattle.sercos_trace.specs.declared.events.Stop.{Stop}
 use Rattle.sercos_trace.specs.declared.events.Stop.TheVariants as stop
 use Rattle.sercos_seat.specs.Ring.{Known, MemberView, Task, member}
 use Rattle.sercos_seat.specs.Agenda.{reads_count, given, ended_well, is_checked, is_ready, wishes_given, last_long_stop}
-use Rattle.sercos_master.specs.Annals.{Past, Call, HearMst, HearAt, Mdt, End, Restart, past, outcomes, with_at, after_at_of, is_taken, after_taken, place_of, after_mdt, begins, begun, with_begin, is_sent_to, addressed_in, ready_to_send, settled, with_stop, with_plan, with_due_plan, planned_by, is_plan_due, first_trouble, after_end, fall_of, goes_on, next_phase, new_epoch, still_waiting, is_done, each_place, first_from}
+use Rattle.sercos_master.specs.Annals.{all_checked, all_ready, Past, Call, HearMst, HearAt, Mdt, End, Restart, past, outcomes, with_at, after_at_of, is_taken, after_taken, place_of, after_mdt, begins, begun, with_begin, is_sent_to, addressed_in, ready_to_send, settled, with_stop, with_plan, with_due_plan, planned_by, is_plan_due, first_trouble, after_end, fall_of, goes_on, next_phase, new_epoch, still_waiting, is_done, each_place, first_from}
 use Rattle.sercos_seat.specs.Channel.{outcomes_in, with_outcome}
 use Rattle.sercos_seat.proofs.Channels.{Heard, heard}
 use Rattle.sercos_seat.proofs.Seats.{before_end, behind_end}
@@ -235,3 +235,14 @@ ready s requests (Mdt ∷ h) k within four =
     (ready s requests h k within (subst (λ n. nat_le 4 n ≡ true) (leaves s (past s requests h)).phase four))
 ready s requests (End ∷ h) k within four = end_keeps_ready s (past s requests h) k within (ready s requests h k within) four
 ready s requests (Restart ∷ h) k within four = absurd (false≢true four)
+
+-- the same of all drives
+all_pass : (n k : ℕ) (test : ℕ → Bool) → ((j : ℕ) → k ≤ j → j < k + n → test j ≡ true) → is_none (first_from k n (λ j. not (test j))) ≡ true
+all_pass zero k test each = refl
+all_pass (suc n) k test each = rw (each k (omega arith) (omega arith)) (all_pass n (k + 1) test (λ j low high. each j (omega (arith, low)) (omega (arith, high))))
+
+pub all_configured : (s : Known) (requests : ℕ → List Task) (h : List Call) → nat_le 3 (past s requests h).now.phase ≡ true → all_checked s (past s requests h) ≡ true
+all_configured s requests h three = all_pass (length s.drives) 0 (λ k. is_checked (member s k) (outcomes (past s requests h) k)) (λ j low high. configured s requests h j (omega (arith, high)) three)
+
+pub all_made_ready : (s : Known) (requests : ℕ → List Task) (h : List Call) → nat_le 4 (past s requests h).now.phase ≡ true → all_ready s (past s requests h) ≡ true
+all_made_ready s requests h four = all_pass (length s.drives) 0 (λ k. is_ready (member s k) (outcomes (past s requests h) k)) (λ j low high. ready s requests h j (omega (arith, high)) four)

@@ -9,3 +9,4 @@ pub mod Openings
 pub mod Laws
 pub mod Configured
 pub mod Planned
+pub mod Followed

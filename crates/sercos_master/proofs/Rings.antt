@@ -729,3 +729,7 @@ planned_well s p e = rw e refl
 
 pub planned_badly : (s : Known) (p : Past) → nat_le (record_bytes (wishes_given s (outcomes p)).drives) 2047 ≡ false → planned_by s p ≡ with_stop (last_long_stop s.drives 0 (outcomes p)) p
 planned_badly s p e = rw e refl
+
+pub no_stop : {A : Type 0} (o : Option A) → is_none o ≡ true → o ≡ None
+no_stop None e = refl
+no_stop (Some x) e = absurd (false≢true e)

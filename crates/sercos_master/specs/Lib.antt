@@ -7,4 +7,5 @@ pub mod Annals
 pub mod Says
 pub mod Reports
 pub mod Kept
+pub mod Written
 pub mod Any

@@ -454,9 +454,22 @@ impl Ring {
     fn begin(&mut self)
         ensures { (s : Known) (p : Past) → ((k : ℕ) → AreWaiting (p.waiting k)) → p.now.phase ≤ 4 → CoreStandsFor self.old s p → CoreStandsFor self.new s (begun s p) }
     {
-        if self.stopped {
-            return;
+        if self.may_begin() {
+            self.begin_next();
         }
+    }
+
+    // Whether there is no stop.
+    fn may_begin(&self) -> bool
+        ensures { (s : Known) (p : Past) → CoreStandsFor self.now s p → result ≡ is_none p.stop }
+    {
+        !self.stopped
+    }
+
+    // Each idle channel begins its next task, if that belongs to the phase.
+    fn begin_next(&mut self)
+        ensures { (s : Known) (p : Past) → ((k : ℕ) → AreWaiting (p.waiting k)) → p.now.phase ≤ 4 → p.stop ≡ None → CoreStandsFor self.old s p → CoreStandsFor self.new s (begun s p) }
+    {
         match self.phase {
             2 => self.begin_in_2(),
             3 => self.begin_in_3(),

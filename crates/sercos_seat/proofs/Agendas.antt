@@ -13,7 +13,7 @@ use Rattle.sercos_seat.specs.Channel.{of_phase}
 use Rattle.sercos_seat.specs.Seats.{AreWaiting, Seen, SeatView, SeatStandsFor, is_idle_in, outcomes_seen, next_write, next_in_2, next_in_3}
 use Rattle.sercos_seat.proofs.Gets.{get_map, get_left, get_right, get_some, get_none, length_map, length_append}
 
-reads_length : (d : MemberView) → length (reads d) ≡ reads_count d
+pub reads_length : (d : MemberView) → length (reads d) ≡ reads_count d
 reads_length d =
     let e : length (map (λ i. request.Read i 3) (d.at ++ d.mdt)) ≡ length (d.at ++ d.mdt) = length_map (λ i. request.Read i 3) (d.at ++ d.mdt) in
     let f : length (d.at ++ d.mdt) ≡ length d.at + length d.mdt = length_append d.at d.mdt in
