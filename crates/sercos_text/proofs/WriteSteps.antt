@@ -3,6 +3,8 @@ use Rattle.std.proofs.Common.{◌≡◌, ℕ, ◌+◌, ◌<◌, ◌≤◌, List,
 use Rattle.std.proofs.Math.Seq.{take-add}
 use Rattle.std.proofs.lemmas.List.{at_drop_more, at_drop_all, append-nil, take_more}
 use Rattle.hex.specs.Hex.{encode_with, lower_digits}
+use Rattle.sercos_text.specs.declared.list.Item.{Item}
+use Rattle.sercos_text.specs.Lists.{item_text, list_text}
 use Rattle.sercos_text.specs.Templates.{field_of, part_text, part_left, line_text, Value}
 
 encode_with-append : (t xs ys : List ℕ) → encode_with t (xs ++ ys) ≡ encode_with t xs ++ encode_with t ys
@@ -43,3 +45,21 @@ letter_written template values left i line front whole inside left_is line_is is
 
 pub line_end : (template : List ℕ) (values : List Value) (i : ℕ) (line whole : List ℕ) → length template ≤ i → line ++ line_text (drop i template) values ≡ whole → line ≡ whole
 line_end template values i line whole ended is = sym (append-nil line) ∙ ap (λ t. line ++ t) (sym (no_text template values i ended)) ∙ is
+
+-- one more item of a list was written; the items are those that a function gives
+pub item_written : {X : Type 0} (f : X → ℕ) (item : Item) (xs : List X) (i : ℕ) (d : X) (line next whole : List ℕ) → i < length xs → line ++ list_text item (map f (drop i xs)) ≡ whole
+    → next ≡ line ++ 32 ∷ item_text item (f (get_or xs i d)) → next ++ list_text item (map f (drop (i + 1) xs)) ≡ whole
+unfolding list_text
+item_written f item xs i d line next whole inside is more =
+    let here = at_drop_more (λ t. list_text item (map f t)) xs i d inside in
+    rw (more, append_assoc) (rw here at is)
+
+pub list_end : {X : Type 0} (f : X → ℕ) (item : Item) (xs : List X) (i : ℕ) (line whole : List ℕ) → length xs ≤ i → line ++ list_text item (map f (drop i xs)) ≡ whole → line ≡ whole
+unfolding list_text
+list_end f item xs i line whole ended is =
+    let none : list_text item (map f (drop i xs)) ≡ [] = at_drop_all (λ t. list_text item (map f t)) xs i ended in
+    sym (append-nil line) ∙ ap (λ t. line ++ t) (sym none) ∙ is
+
+pub map_same : (xs : List ℕ) → map (λ x. x) xs ≡ xs
+map_same [] = refl
+map_same (x ∷ xs) = ap (λ t. x ∷ t) (map_same xs)

@@ -15,4 +15,4 @@ pub use list::{Addresses, Item, MOST_ADDRESSES, read_list};
 pub use number::{read_number, read_signed};
 pub use tail::{Tail, read_tail};
 pub use template::{Field, MOST_NUMBERS, Told, read_line};
-pub use writer::{Given, LINE_BYTES, Line};
+pub use writer::{Given, LINE_BYTES, Line, push_addresses, push_idents, push_line};

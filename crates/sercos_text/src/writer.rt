@@ -4,6 +4,9 @@ ghost use Rattle.std.specs.Fmt.{signed_decimal};
 ghost use Rattle.hex.specs.Hex.{encode_lower};
 ghost use Rattle.sercos_idn.specs.Idns.{idn_text};
 ghost use Rattle.sercos_text.specs.Templates.{field_of, hex_text, value_text, part_text, part_left, line_text};
+ghost use Rattle.sercos_text.specs.Lists.{item_text, list_text};
+ghost use Rattle.sercos_text.specs.Tails.{idents_text};
+ghost use Rattle.sercos_text.specs.declared.list.Item.TheVariants as kind;
 ghost use Rattle.sercos_text.specs.Given.{value_of, most_bytes};
 
 use crate::template::field_of;
@@ -134,5 +137,64 @@ pub fn push_line(template: &[u8], values: &[Given<'_>], line: &mut Line)
     let mut next = 0;
     for letter in template {
         next += push_part(line, *letter, &values[next..]);
+    }
+}
+
+// Appends a space and an address.
+#[tactic(auto, unfolding(crate::specs::Lists::item_text))]
+fn push_address(line: &mut Line, address: u8)
+    requires { length line.old + 4 ≤ 4352 }
+    ensures value { line.new ≡ line.old ++ 32 ∷ item_text kind.Address address }
+    ensures bound { length line.new ≤ length line.old + 4 }
+{
+    line.push_within(b' ');
+    let mut buffer = Buffer::new();
+    line.append_within(buffer.format(address).as_bytes());
+}
+
+/// Appends addresses, each after a space.
+pub fn push_addresses(addresses: &[u8], line: &mut Line)
+    requires { length line.old + 4 * length addresses.now ≤ 4352 }
+    ensures value { line.new ≡ line.old ++ list_text kind.Address addresses.now }
+    ensures bound { length line.new ≤ length line.old + 4 * length addresses.now }
+{
+    for address in addresses {
+        push_address(line, *address);
+    }
+}
+
+// Appends a space and an identifier number.
+#[tactic(auto, unfolding(crate::specs::Lists::item_text))]
+fn push_ident(line: &mut Line, idn: Idn)
+    requires { length line.old + 9 ≤ 4352 }
+    ensures value { line.new ≡ line.old ++ 32 ∷ item_text kind.Ident idn.raw }
+    ensures bound { length line.new ≤ length line.old + 9 }
+{
+    line.push_within(b' ');
+    line.append_within(&idn.text());
+}
+
+// Appends identifier numbers, each after a space.
+fn push_listed(idns: &[Idn], line: &mut Line)
+    requires { length line.old + 9 * length idns.now ≤ 4352 }
+    ensures value { line.new ≡ line.old ++ list_text kind.Ident (map (λ idn. idn.raw) idns.now) }
+    ensures bound { length line.new ≤ length line.old + 9 * length idns.now }
+{
+    for idn in idns {
+        push_ident(line, *idn);
+    }
+}
+
+/// Appends identifier numbers, each after a space, or ` -` for none.
+#[tactic(auto, unfolding(crate::specs::Tails::idents_text))]
+pub fn push_idents(idns: &[Idn], line: &mut Line)
+    requires { length line.old + 2 + 9 * length idns.now ≤ 4352 }
+    ensures value { line.new ≡ line.old ++ idents_text (map (λ idn. idn.raw) idns.now) }
+    ensures bound { length line.new ≤ length line.old + 2 + 9 * length idns.now }
+{
+    if idns.is_empty() {
+        line.append_within(b" -");
+    } else {
+        push_listed(idns, line);
     }
 }
