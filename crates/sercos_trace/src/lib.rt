@@ -1,8 +1,14 @@
 //! The records of a run: the telegrams of a cycle, the moves of the drives, what the master reports, and the totals.
 #![tactic(auto)]
 
+mod cycle_text;
+mod event_text;
 mod events;
+mod kind;
+mod line;
 mod record;
+mod writing;
 
 pub use events::{Events, Fall, Reported, Stop};
 pub use record::{CycleRecord, Move, Sent, Totals, push_sent};
+pub use writing::{write_cycle, write_end, write_header};

@@ -1,0 +1,429 @@
+// The lines of what the master reports.
+ghost use Rattle.std.specs.Prelude.{◌≡◌, ◌≤◌, ◌<◌, ◌/◌, ◌%◌, ◌++◌, ◌∷◌, [], length, Some, IfSome};
+ghost use Rattle.std.specs.List.{flat_map};
+ghost use Rattle.sercos_timing.specs.Order.{wish};
+ghost use Rattle.sercos_trace.specs.Texts.{big_endian, ended_text, outcome_text, plan_line, slot_text, slots_text, plan_text, link_text, bound_text, chain_text, attribute_bytes, stopped_text, stop_text, fell_text, fall_text, events_text};
+ghost use Rattle.sercos_trace.specs.Written.{seen, Writes};
+
+use crate::events::{Events, Fall, Reported, Stop};
+use crate::kind::LineKind;
+use crate::line::{write_line, write_listed};
+use sercos_io::{Sink, WriteFailed};
+use sercos_plan::{Chain, Link};
+use sercos_step::Outcome;
+use sercos_text::{Given, Line};
+use sercos_timing::{Plan, Wishes};
+
+// The two bytes of a word, the high byte first, as its hexadecimal text has them.
+fn big_endian(word: u16) -> [u8; 2]
+    ensures { result ≡ big_endian word }
+{
+    [(word / 256) as u8, (word % 256) as u8]
+}
+
+// The four bytes of an attribute.
+fn attribute_bytes(word: u32) -> [u8; 4]
+    ensures { result ≡ attribute_bytes word }
+{
+    [
+        (word / 16_777_216) as u8,
+        (word / 65_536 % 256) as u8,
+        (word / 256 % 256) as u8,
+        (word % 256) as u8,
+    ]
+}
+
+// Writes how a request ended.
+fn write_ended<K: Sink>(
+    cycle: u32,
+    number: u16,
+    outcome: &Outcome,
+    line: &mut Line,
+    sink: &mut K,
+) -> Result<(), WriteFailed>
+    ensures { Writes (seen K.held K.faults K.room sink.old) (seen K.held K.faults K.room sink.new) result (ended_text cycle number outcome.now) }
+{
+    let number = u32::from(number);
+    match outcome {
+        Outcome::Complete(bytes) => {
+            let values = [
+                Given::Number(cycle),
+                Given::Number(number),
+                Given::Bytes(bytes.as_slice()),
+            ];
+            write_line(LineKind::Complete, &values, line, sink)
+        }
+        Outcome::Refused(code) => {
+            let code = big_endian(code.raw);
+            let values = [
+                Given::Number(cycle),
+                Given::Number(number),
+                Given::Bytes(&code),
+            ];
+            write_line(LineKind::Refused, &values, line, sink)
+        }
+        Outcome::Broken => {
+            let values = [Given::Number(cycle), Given::Number(number)];
+            write_line(LineKind::Broken, &values, line, sink)
+        }
+    }
+}
+
+// Writes how requests ended.
+fn write_outcomes<K: Sink>(
+    cycle: u32,
+    outcomes: &[Reported],
+    line: &mut Line,
+    sink: &mut K,
+) -> Result<(), WriteFailed>
+    ensures { Writes (seen K.held K.faults K.room sink.old) (seen K.held K.faults K.room sink.new) result (flat_map (outcome_text cycle) outcomes.now) }
+{
+    for outcome in outcomes {
+        write_ended(cycle, outcome.0, &outcome.1, line, sink)?;
+    }
+    Ok(())
+}
+
+// Writes a link of a chain.
+fn write_link<K: Sink>(
+    cycle: u32,
+    link: &Link,
+    line: &mut Line,
+    sink: &mut K,
+) -> Result<(), WriteFailed>
+    ensures { Writes (seen K.held K.faults K.room sink.old) (seen K.held K.faults K.room sink.new) result (link_text cycle link.now) }
+{
+    let values = [
+        Given::Number(cycle),
+        Given::Number(u32::from(link.rule)),
+        Given::Number(u32::from(link.drive)),
+        Given::Number(link.at),
+    ];
+    write_line(LineKind::RuleAt, &values, line, sink)
+}
+
+// Writes links of a chain.
+fn write_links<K: Sink>(
+    cycle: u32,
+    links: &[Link],
+    line: &mut Line,
+    sink: &mut K,
+) -> Result<(), WriteFailed>
+    ensures { Writes (seen K.held K.faults K.room sink.old) (seen K.held K.faults K.room sink.new) result (flat_map (link_text cycle) links.now) }
+{
+    for link in links {
+        write_link(cycle, link, line, sink)?;
+    }
+    Ok(())
+}
+
+// Writes the links of a chain.
+fn write_chain_links<K: Sink>(
+    cycle: u32,
+    chain: &Chain,
+    line: &mut Line,
+    sink: &mut K,
+) -> Result<(), WriteFailed>
+    ensures { Writes (seen K.held K.faults K.room sink.old) (seen K.held K.faults K.room sink.new) result (flat_map (link_text cycle) chain.now.links) }
+{
+    write_links(cycle, chain.links.as_slice(), line, sink)
+}
+
+// Writes the bound that a chain breaks.
+fn write_bound<K: Sink>(
+    cycle: u32,
+    chain: &Chain,
+    line: &mut Line,
+    sink: &mut K,
+) -> Result<(), WriteFailed>
+    ensures { Writes (seen K.held K.faults K.room sink.old) (seen K.held K.faults K.room sink.new) result (bound_text cycle chain.now) }
+{
+    let values = [
+        Given::Number(cycle),
+        Given::Number(u32::from(chain.rule)),
+        Given::Number(u32::from(chain.drive)),
+        Given::Number(chain.sum),
+        Given::Number(chain.bound),
+    ];
+    write_line(LineKind::RuleSum, &values, line, sink)
+}
+
+// Writes the stop that no plan fits, with its chain.
+fn write_chain<K: Sink>(
+    cycle: u32,
+    chain: &Chain,
+    line: &mut Line,
+    sink: &mut K,
+) -> Result<(), WriteFailed>
+    ensures { Writes (seen K.held K.faults K.room sink.old) (seen K.held K.faults K.room sink.new) result (chain_text cycle chain.now) }
+{
+    write_line(LineKind::NoFit, &[Given::Number(cycle)], line, sink)?;
+    write_chain_links(cycle, chain, line, sink)?;
+    write_bound(cycle, chain, line, sink)
+}
+
+// Writes the plan's times.
+fn write_plan_line<K: Sink>(
+    cycle: u32,
+    plan: &Plan,
+    line: &mut Line,
+    sink: &mut K,
+) -> Result<(), WriteFailed>
+    ensures { Writes (seen K.held K.faults K.room sink.old) (seen K.held K.faults K.room sink.new) result (plan_line cycle plan.now) }
+{
+    let values = [
+        Given::Number(cycle),
+        Given::Number(u32::from(plan.t2)),
+        Given::Number(u32::from(plan.t3)),
+        Given::Number(u32::from(plan.t4)),
+        Given::Number(u32::from(plan.mdt_len)),
+    ];
+    write_line(LineKind::Plan, &values, line, sink)
+}
+
+// Writes the time slot of the drive at a place of the ring.
+fn write_slot<K: Sink>(
+    cycle: u32,
+    wishes: &Wishes,
+    plan: &Plan,
+    place: usize,
+    line: &mut Line,
+    sink: &mut K,
+) -> Result<(), WriteFailed>
+    requires drive { place < length wishes.now.drives }
+    requires start { place < length plan.now.t1 }
+    requires position { place < length plan.now.position }
+    ensures { Writes (seen K.held K.faults K.room sink.old) (seen K.held K.faults K.room sink.new) result (slot_text cycle wishes.now plan.now place) }
+{
+    let values = [
+        Given::Number(cycle),
+        Given::Number(u32::from(wishes.wish(place).address)),
+        Given::Number(u32::from(plan.t1()[place])),
+        Given::Number(u32::from(plan.position()[place])),
+    ];
+    write_line(LineKind::Slot, &values, line, sink)
+}
+
+// Writes the time slots of all drives.
+fn write_slots<K: Sink>(
+    cycle: u32,
+    wishes: &Wishes,
+    plan: &Plan,
+    line: &mut Line,
+    sink: &mut K,
+) -> Result<(), WriteFailed>
+    requires starts { length plan.now.t1 ≡ length wishes.now.drives }
+    requires positions { length plan.now.position ≡ length wishes.now.drives }
+    ensures { Writes (seen K.held K.faults K.room sink.old) (seen K.held K.faults K.room sink.new) result (slots_text cycle wishes.now plan.now (length wishes.now.drives)) }
+{
+    for place in 0..wishes.drives().len() {
+        write_slot(cycle, wishes, plan, place, line, sink)?;
+    }
+    Ok(())
+}
+
+// Writes a plan: its times, and the time slots of all drives.
+fn write_whole_plan<K: Sink>(
+    cycle: u32,
+    wishes: &Wishes,
+    plan: &Plan,
+    line: &mut Line,
+    sink: &mut K,
+) -> Result<(), WriteFailed>
+    requires starts { length plan.now.t1 ≡ length wishes.now.drives }
+    requires positions { length plan.now.position ≡ length wishes.now.drives }
+    ensures { Writes (seen K.held K.faults K.room sink.old) (seen K.held K.faults K.room sink.new) result (plan_line cycle plan.now ++ slots_text cycle wishes.now plan.now (length wishes.now.drives)) }
+{
+    write_plan_line(cycle, plan, line, sink)?;
+    write_slots(cycle, wishes, plan, line, sink)
+}
+
+// Writes a plan, if there is one.
+#[tactic(auto, unfolding(crate::specs::Texts::plan_text), using(crate::proofs::WriteLemmas::taken_none))]
+fn write_plan<K: Sink>(
+    cycle: u32,
+    wishes: &Wishes,
+    plan: &Option<Plan>,
+    line: &mut Line,
+    sink: &mut K,
+) -> Result<(), WriteFailed>
+    requires starts { IfSome plan.now (λ p. length p.t1 ≡ length wishes.now.drives) }
+    requires positions { IfSome plan.now (λ p. length p.position ≡ length wishes.now.drives) }
+    ensures { Writes (seen K.held K.faults K.room sink.old) (seen K.held K.faults K.room sink.new) result (plan_text cycle wishes.now plan.now) }
+{
+    match plan {
+        Some(plan) => write_whole_plan(cycle, wishes, plan, line, sink),
+        None => Ok(()),
+    }
+}
+
+// Writes why the master stopped.
+#[tactic(auto, unfolding(crate::specs::Kinds::tail_for))]
+fn write_stopped<K: Sink>(
+    cycle: u32,
+    stop: &Stop,
+    line: &mut Line,
+    sink: &mut K,
+) -> Result<(), WriteFailed>
+    ensures { Writes (seen K.held K.faults K.room sink.old) (seen K.held K.faults K.room sink.new) result (stopped_text cycle stop.now) }
+{
+    match stop {
+        Stop::NoFit(chain) => write_chain(cycle, chain, line, sink),
+        Stop::Refused { drive, idn, code } => {
+            let code = big_endian(code.raw);
+            let values = [
+                Given::Number(cycle),
+                Given::Number(u32::from(*drive)),
+                Given::Ident(*idn),
+                Given::Bytes(&code),
+            ];
+            write_line(LineKind::StopRefused, &values, line, sink)
+        }
+        Stop::BadConfig {
+            drive,
+            idn,
+            attribute,
+        } => {
+            let attribute = attribute_bytes(*attribute);
+            let values = [
+                Given::Number(cycle),
+                Given::Number(u32::from(*drive)),
+                Given::Ident(*idn),
+                Given::Bytes(&attribute),
+            ];
+            write_line(LineKind::StopConfig, &values, line, sink)
+        }
+        Stop::Check127 { drive, list } => {
+            let values = [Given::Number(cycle), Given::Number(u32::from(*drive))];
+            write_listed(LineKind::Check127, &values, list.as_slice(), line, sink)
+        }
+        Stop::Check128 { drive, list } => {
+            let values = [Given::Number(cycle), Given::Number(u32::from(*drive))];
+            write_listed(LineKind::Check128, &values, list.as_slice(), line, sink)
+        }
+    }
+}
+
+// Writes a stop, if there is one.
+#[tactic(auto, unfolding(crate::specs::Texts::stop_text), using(crate::proofs::WriteLemmas::taken_none))]
+fn write_stop<K: Sink>(
+    cycle: u32,
+    stop: &Option<Stop>,
+    line: &mut Line,
+    sink: &mut K,
+) -> Result<(), WriteFailed>
+    ensures { Writes (seen K.held K.faults K.room sink.old) (seen K.held K.faults K.room sink.new) result (stop_text cycle stop.now) }
+{
+    match stop {
+        Some(stop) => write_stopped(cycle, stop, line, sink),
+        None => Ok(()),
+    }
+}
+
+// Writes why the ring fell.
+fn write_fell<K: Sink>(
+    cycle: u32,
+    fall: Fall,
+    line: &mut Line,
+    sink: &mut K,
+) -> Result<(), WriteFailed>
+    ensures { Writes (seen K.held K.faults K.room sink.old) (seen K.held K.faults K.room sink.new) result (fell_text cycle fall) }
+{
+    match fall {
+        Fall::MstLost => write_line(LineKind::FallMst, &[Given::Number(cycle)], line, sink),
+        Fall::AtLost(drive) => {
+            let values = [Given::Number(cycle), Given::Number(u32::from(drive))];
+            write_line(LineKind::FallAt, &values, line, sink)
+        }
+        Fall::StepLimit(drive) => {
+            let values = [Given::Number(cycle), Given::Number(u32::from(drive))];
+            write_line(LineKind::FallStep, &values, line, sink)
+        }
+        Fall::Restart => write_line(LineKind::FallRestart, &[Given::Number(cycle)], line, sink),
+    }
+}
+
+// Writes a fall, if there is one.
+#[tactic(auto, unfolding(crate::specs::Texts::fall_text), using(crate::proofs::WriteLemmas::taken_none))]
+fn write_fall<K: Sink>(
+    cycle: u32,
+    fall: Option<Fall>,
+    line: &mut Line,
+    sink: &mut K,
+) -> Result<(), WriteFailed>
+    ensures { Writes (seen K.held K.faults K.room sink.old) (seen K.held K.faults K.room sink.new) result (fall_text cycle fall) }
+{
+    match fall {
+        Some(fall) => write_fell(cycle, fall, line, sink),
+        None => Ok(()),
+    }
+}
+
+// Writes the outcomes among what is reported.
+fn write_reported<K: Sink>(
+    cycle: u32,
+    events: &Events,
+    line: &mut Line,
+    sink: &mut K,
+) -> Result<(), WriteFailed>
+    ensures { Writes (seen K.held K.faults K.room sink.old) (seen K.held K.faults K.room sink.new) result (flat_map (outcome_text cycle) events.now.outcomes) }
+{
+    write_outcomes(cycle, events.outcomes.as_slice(), line, sink)
+}
+
+// Writes the plan among what is reported.
+fn write_planned<K: Sink>(
+    cycle: u32,
+    wishes: &Wishes,
+    events: &Events,
+    line: &mut Line,
+    sink: &mut K,
+) -> Result<(), WriteFailed>
+    requires starts { IfSome events.now.plan (λ p. length p.t1 ≡ length wishes.now.drives) }
+    requires positions { IfSome events.now.plan (λ p. length p.position ≡ length wishes.now.drives) }
+    ensures { Writes (seen K.held K.faults K.room sink.old) (seen K.held K.faults K.room sink.new) result (plan_text cycle wishes.now events.now.plan) }
+{
+    write_plan(cycle, wishes, &events.plan, line, sink)
+}
+
+// Writes the stop among what is reported.
+fn write_stop_of<K: Sink>(
+    cycle: u32,
+    events: &Events,
+    line: &mut Line,
+    sink: &mut K,
+) -> Result<(), WriteFailed>
+    ensures { Writes (seen K.held K.faults K.room sink.old) (seen K.held K.faults K.room sink.new) result (stop_text cycle events.now.stop) }
+{
+    write_stop(cycle, &events.stop, line, sink)
+}
+
+// Writes the fall among what is reported.
+fn write_fall_of<K: Sink>(
+    cycle: u32,
+    events: &Events,
+    line: &mut Line,
+    sink: &mut K,
+) -> Result<(), WriteFailed>
+    ensures { Writes (seen K.held K.faults K.room sink.old) (seen K.held K.faults K.room sink.new) result (fall_text cycle events.now.fall) }
+{
+    write_fall(cycle, events.fall, line, sink)
+}
+
+// Writes what the master reports in a cycle.
+pub(crate) fn write_events<K: Sink>(
+    cycle: u32,
+    wishes: &Wishes,
+    events: &Events,
+    line: &mut Line,
+    sink: &mut K,
+) -> Result<(), WriteFailed>
+    requires starts { IfSome events.now.plan (λ p. length p.t1 ≡ length wishes.now.drives) }
+    requires positions { IfSome events.now.plan (λ p. length p.position ≡ length wishes.now.drives) }
+    ensures { Writes (seen K.held K.faults K.room sink.old) (seen K.held K.faults K.room sink.new) result (events_text wishes.now cycle events.now) }
+{
+    write_reported(cycle, events, line, sink)?;
+    write_planned(cycle, wishes, events, line, sink)?;
+    write_stop_of(cycle, events, line, sink)?;
+    write_fall_of(cycle, events, line, sink)
+}

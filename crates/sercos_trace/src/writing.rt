@@ -1,0 +1,245 @@
+// The text of a trace to a sink.
+ghost use Rattle.std.specs.Prelude.{◌≡◌, ℕ, ◌≤◌, ◌<◌, ◌+◌, ◌++◌, [], length, map, take, drop, IfSome, OnOk, OnErr, IsOk};
+ghost use Rattle.std.specs.List.{All, flat_map};
+ghost use Rattle.std.specs.Io.KnownBytes.{Appends};
+ghost use Rattle.sercos_model.specs.Streams.{HasCause};
+ghost use Rattle.sercos_trace.specs.declared.kind.LineKind.TheVariants as kind;
+ghost use Rattle.sercos_trace.specs.Kinds.{line_of};
+ghost use Rattle.sercos_trace.specs.Texts.{drive_text, address_at, ring_text, order_text, header_text, sent_text, moves_text, events_text, cycle_text, end_text};
+ghost use Rattle.sercos_trace.specs.Written.{seen, Writes};
+
+use crate::cycle_text::{write_all_sent, write_moves};
+use crate::event_text::write_events;
+use crate::kind::LineKind;
+use crate::line::{write_line, write_order};
+use crate::record::{CycleRecord, Totals};
+use arrayvec::ArrayVec;
+use sercos_io::{Sink, WriteFailed};
+use sercos_text::{Given, Line};
+use sercos_timing::{Wish, Wishes};
+
+// Writes the line of the ring's numbers.
+fn write_ring<K: Sink>(wishes: &Wishes, line: &mut Line, sink: &mut K) -> Result<(), WriteFailed>
+    ensures { Writes (seen K.held K.faults K.room sink.old) (seen K.held K.faults K.room sink.new) result (ring_text wishes.now) }
+{
+    let values = [
+        Given::Number(u32::from(wishes.rate)),
+        Given::Number(u32::from(wishes.cycle)),
+        Given::Number(u32::from(wishes.control)),
+        Given::Number(u32::from(wishes.gap)),
+        Given::Number(wishes.drives().len() as u32),
+    ];
+    write_line(LineKind::Ring, &values, line, sink)
+}
+
+// Writes the line of a drive.
+fn write_drive<K: Sink>(wish: &Wish, line: &mut Line, sink: &mut K) -> Result<(), WriteFailed>
+    ensures { Writes (seen K.held K.faults K.room sink.old) (seen K.held K.faults K.room sink.new) result (drive_text wish.now) }
+{
+    let values = [
+        Given::Number(u32::from(wish.address)),
+        Given::Number(u32::from(wish.slave)),
+        Given::Number(u32::from(wish.times.t1min)),
+        Given::Number(u32::from(wish.times.tatmt)),
+        Given::Number(u32::from(wish.times.t4min)),
+        Given::Number(u32::from(wish.times.tatat)),
+        Given::Number(u32::from(wish.times.tmtsy)),
+        Given::Number(u32::from(wish.times.tmtsg)),
+        Given::Number(u32::from(wish.at_len)),
+        Given::Number(u32::from(wish.record_len)),
+    ];
+    write_line(LineKind::Drive, &values, line, sink)
+}
+
+// Writes the lines of drives.
+fn write_drives<K: Sink>(drives: &[Wish], line: &mut Line, sink: &mut K) -> Result<(), WriteFailed>
+    ensures { Writes (seen K.held K.faults K.room sink.old) (seen K.held K.faults K.room sink.new) result (flat_map drive_text drives.now) }
+{
+    for wish in drives {
+        write_drive(wish, line, sink)?;
+    }
+    Ok(())
+}
+
+// The addresses of drives by their places.
+fn addresses_of(wishes: &Wishes, places: &[u8]) -> ArrayVec<u8, 64>
+    requires places { All (λ place. place < length wishes.now.drives) places.now }
+    requires few { length places.now ≤ 64 }
+    ensures value { result.items ≡ map (address_at wishes.now) places.now }
+    ensures few { length result.items ≤ 64 }
+{
+    let mut addresses = ArrayVec::new();
+    for place in places {
+        addresses.push(wishes.wish(usize::from(*place)).address);
+    }
+    addresses
+}
+
+// Writes the line of the order.
+fn write_ordered<K: Sink>(wishes: &Wishes, line: &mut Line, sink: &mut K) -> Result<(), WriteFailed>
+    requires { All (λ place. place < length wishes.now.drives) wishes.now.order }
+    ensures { Writes (seen K.held K.faults K.room sink.old) (seen K.held K.faults K.room sink.new) result (order_text wishes.now) }
+{
+    let addresses = addresses_of(wishes, wishes.order());
+    write_order(addresses.as_slice(), line, sink)
+}
+
+// Writes the lines of all drives.
+fn write_all_drives<K: Sink>(
+    wishes: &Wishes,
+    line: &mut Line,
+    sink: &mut K,
+) -> Result<(), WriteFailed>
+    ensures { Writes (seen K.held K.faults K.room sink.old) (seen K.held K.faults K.room sink.new) result (flat_map drive_text wishes.now.drives) }
+{
+    write_drives(wishes.drives(), line, sink)
+}
+
+// Writes the head.
+fn write_head<K: Sink>(wishes: &Wishes, line: &mut Line, sink: &mut K) -> Result<(), WriteFailed>
+    requires { All (λ place. place < length wishes.now.drives) wishes.now.order }
+    ensures { Writes (seen K.held K.faults K.room sink.old) (seen K.held K.faults K.room sink.new) result (header_text wishes.now) }
+{
+    write_line(LineKind::Version, &[], line, sink)?;
+    write_ring(wishes, line, sink)?;
+    write_all_drives(wishes, line, sink)?;
+    write_ordered(wishes, line, sink)
+}
+
+// Writes the first telegram of a cycle, the MST.
+fn write_first<K: Sink>(
+    record: &CycleRecord,
+    line: &mut Line,
+    sink: &mut K,
+) -> Result<(), WriteFailed>
+    ensures { Writes (seen K.held K.faults K.room sink.old) (seen K.held K.faults K.room sink.new) result (flat_map (sent_text record.now.cycle) (take 1 record.now.sent)) }
+{
+    let sent = record.sent.as_slice();
+    write_all_sent(record.cycle, &sent[..sent.len().min(1)], line, sink)
+}
+
+// Writes the other telegrams of a cycle.
+fn write_rest<K: Sink>(
+    record: &CycleRecord,
+    line: &mut Line,
+    sink: &mut K,
+) -> Result<(), WriteFailed>
+    ensures { Writes (seen K.held K.faults K.room sink.old) (seen K.held K.faults K.room sink.new) result (flat_map (sent_text record.now.cycle) (drop 1 record.now.sent)) }
+{
+    let sent = record.sent.as_slice();
+    write_all_sent(record.cycle, &sent[sent.len().min(1)..], line, sink)
+}
+
+// Writes the moves of a cycle, the late ones or the others.
+fn write_moves_of<K: Sink>(
+    record: &CycleRecord,
+    late: bool,
+    line: &mut Line,
+    sink: &mut K,
+) -> Result<(), WriteFailed>
+    ensures { Writes (seen K.held K.faults K.room sink.old) (seen K.held K.faults K.room sink.new) result (moves_text record.now.cycle late record.now.moves) }
+{
+    write_moves(record.cycle, late, record.moves.as_slice(), line, sink)
+}
+
+// Writes the events of a cycle.
+fn write_events_of<K: Sink>(
+    wishes: &Wishes,
+    record: &CycleRecord,
+    line: &mut Line,
+    sink: &mut K,
+) -> Result<(), WriteFailed>
+    requires starts { IfSome record.now.events.plan (λ p. length p.t1 ≡ length wishes.now.drives) }
+    requires positions { IfSome record.now.events.plan (λ p. length p.position ≡ length wishes.now.drives) }
+    ensures { Writes (seen K.held K.faults K.room sink.old) (seen K.held K.faults K.room sink.new) result (events_text wishes.now record.now.cycle record.now.events) }
+{
+    write_events(record.cycle, wishes, &record.events, line, sink)
+}
+
+// Writes the lines of a cycle.
+fn write_lines<K: Sink>(
+    wishes: &Wishes,
+    record: &CycleRecord,
+    line: &mut Line,
+    sink: &mut K,
+) -> Result<(), WriteFailed>
+    requires starts { IfSome record.now.events.plan (λ p. length p.t1 ≡ length wishes.now.drives) }
+    requires positions { IfSome record.now.events.plan (λ p. length p.position ≡ length wishes.now.drives) }
+    ensures { Writes (seen K.held K.faults K.room sink.old) (seen K.held K.faults K.room sink.new) result (cycle_text wishes.now record.now) }
+{
+    write_first(record, line, sink)?;
+    write_moves_of(record, false, line, sink)?;
+    write_rest(record, line, sink)?;
+    write_moves_of(record, true, line, sink)?;
+    write_events_of(wishes, record, line, sink)
+}
+
+// Writes the end line.
+fn write_totals<K: Sink>(totals: &Totals, line: &mut Line, sink: &mut K) -> Result<(), WriteFailed>
+    ensures { Writes (seen K.held K.faults K.room sink.old) (seen K.held K.faults K.room sink.new) result (end_text totals.now) }
+{
+    let values = [
+        Given::Number(totals.cycles),
+        Given::Number(u32::from(totals.phase)),
+        Given::Number(totals.complete),
+        Given::Number(totals.refused),
+        Given::Number(totals.broken),
+        Given::Number(totals.falls),
+        Given::Number(totals.unseen),
+    ];
+    write_line(LineKind::End, &values, line, sink)
+}
+
+/// Writes the head of a trace: the version, the ring's numbers, a line for each drive in ring order, and the addresses in the
+/// order of the ATs. Times are in microseconds, lengths in bytes after the address. After an error the sink has taken a
+/// prefix of the text, short of the whole, and its count of faults has risen.
+#[tactic(auto, using(crate::proofs::WriteLemmas::ok_of, crate::proofs::WriteLemmas::err_of, crate::proofs::WriteLemmas::cause_of, crate::proofs::WriteLemmas::room_of, crate::proofs::WriteLemmas::left_of))]
+pub fn write_header<K: Sink>(wishes: &Wishes, sink: &mut K) -> Result<(), WriteFailed>
+    requires { All (λ place. place < length wishes.now.drives) wishes.now.order }
+    ensures ok { OnOk result (Appends (K.held sink.old) (K.held sink.new) (header_text wishes.now)) }
+    ensures err { OnErr result ((count : ℕ) × (count < length (header_text wishes.now))
+        × Appends (K.held sink.old) (K.held sink.new) (take count (header_text wishes.now))) }
+    ensures cause { HasCause (K.faults sink.old) (K.faults sink.new) result }
+    ensures room { length (header_text wishes.now) ≤ K.room sink.old → IsOk result }
+    ensures room_left { K.room sink.old ≤ K.room sink.new + length (header_text wishes.now) }
+{
+    let mut line = Line::new();
+    write_head(wishes, &mut line, sink)
+}
+
+/// Writes the lines of a cycle: the MST, the moves at it, the ATs and the MDT, the late moves, then what the master reports:
+/// outcomes, plan, stop, fall. After an error the sink has taken a prefix of the text, short of the whole, and its count of
+/// faults has risen.
+#[tactic(auto, using(crate::proofs::WriteLemmas::ok_of, crate::proofs::WriteLemmas::err_of, crate::proofs::WriteLemmas::cause_of, crate::proofs::WriteLemmas::room_of, crate::proofs::WriteLemmas::left_of))]
+pub fn write_cycle<K: Sink>(
+    wishes: &Wishes,
+    record: &CycleRecord,
+    sink: &mut K,
+) -> Result<(), WriteFailed>
+    requires starts { IfSome record.now.events.plan (λ p. length p.t1 ≡ length wishes.now.drives) }
+    requires positions { IfSome record.now.events.plan (λ p. length p.position ≡ length wishes.now.drives) }
+    ensures ok { OnOk result (Appends (K.held sink.old) (K.held sink.new) (cycle_text wishes.now record.now)) }
+    ensures err { OnErr result ((count : ℕ) × (count < length (cycle_text wishes.now record.now))
+        × Appends (K.held sink.old) (K.held sink.new) (take count (cycle_text wishes.now record.now))) }
+    ensures cause { HasCause (K.faults sink.old) (K.faults sink.new) result }
+    ensures room { length (cycle_text wishes.now record.now) ≤ K.room sink.old → IsOk result }
+    ensures room_left { K.room sink.old ≤ K.room sink.new + length (cycle_text wishes.now record.now) }
+{
+    let mut line = Line::new();
+    write_lines(wishes, record, &mut line, sink)
+}
+
+/// Writes the end line of a trace. After an error the sink has taken a prefix of the text, short of the whole, and its count of
+/// faults has risen.
+#[tactic(auto, using(crate::proofs::WriteLemmas::ok_of, crate::proofs::WriteLemmas::err_of, crate::proofs::WriteLemmas::cause_of, crate::proofs::WriteLemmas::room_of, crate::proofs::WriteLemmas::left_of))]
+pub fn write_end<K: Sink>(totals: &Totals, sink: &mut K) -> Result<(), WriteFailed>
+    ensures ok { OnOk result (Appends (K.held sink.old) (K.held sink.new) (end_text totals.now)) }
+    ensures err { OnErr result ((count : ℕ) × (count < length (end_text totals.now))
+        × Appends (K.held sink.old) (K.held sink.new) (take count (end_text totals.now))) }
+    ensures cause { HasCause (K.faults sink.old) (K.faults sink.new) result }
+    ensures room { length (end_text totals.now) ≤ K.room sink.old → IsOk result }
+    ensures room_left { K.room sink.old ≤ K.room sink.new + length (end_text totals.now) }
+{
+    let mut line = Line::new();
+    write_totals(totals, &mut line, sink)
+}
