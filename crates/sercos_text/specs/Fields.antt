@@ -1,5 +1,5 @@
 -- The fields of a line. Each definition reads a field off the front of a text: the place, from 0 on, of the first byte
--- that can't stand, where there is one; how many bytes the field takes; and its value. A missing byte's place is the
+-- that can't stand, if there is one; how many bytes the field takes; and its value. A missing byte's place is the
 -- text's length.
 use Rattle.std.specs.Prelude.{ℕ, ℤ, pos, ◌-ℤ◌, ◌+◌, ◌-◌, ◌*◌, ◌%◌, ◌==◌, nat_lt, nat_le, cond, Bool, true, not, ◌||◌, ◌&&◌, if◌then◌else◌, List, [], ◌∷◌, ◌++◌, length, take, drop, slice_index, codes, decimal, Option, Some, None}
 use Rattle.std.specs.Bool.{then_some}
@@ -10,7 +10,7 @@ use Rattle.std.specs.Result.{result_unwrap_or}
 use Rattle.std.specs.Str.Parse.{digits_value}
 use Rattle.hex.specs.Hex.{decode_of}
 
--- a place in what stands behind so many bytes
+-- a place in what comes after this number of bytes
 abbrev pub behind : ℕ → Option ℕ → Option ℕ
 behind bytes place = option_map (λ p. bytes + p) place
 
@@ -22,19 +22,19 @@ number_len text = prefix_len is_ascii_digit text
 abbrev pub number_of : List ℕ → ℕ
 number_of text = digits_value 10 (take (number_len text) text)
 
--- no digit, a digit behind a leading zero, a number above the greatest one (at its first digit)
+-- no digit, a digit after a leading zero, a number above the largest one (at its first digit)
 unfoldable pub number_fault : ℕ → List ℕ → Option ℕ
 number_fault most text =
     option_or (then_some (number_len text == 0) 0)
     (option_or (then_some ((slice_index text 0 == 48) && nat_lt 1 (number_len text)) 1)
     (then_some (nat_lt most (number_of text)) 0))
 
--- ---- a signed number: a `-` stands before a negative one, and nothing before others
+-- ---- a signed number: a `-` before a negative one, nothing before others
 
 abbrev pub is_negative : List ℕ → Bool
 is_negative text = slice_index text 0 == 45
 
--- behind the `-`: no digit, a zero, a number above the greatest one
+-- after the `-`: no digit, a zero, a number above the largest one
 unfoldable pub negative_fault : ℕ → List ℕ → Option ℕ
 negative_fault most text =
     option_or (then_some (number_len text == 0) 0)

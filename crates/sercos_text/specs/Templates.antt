@@ -60,8 +60,8 @@ unfoldable pub part_len : Option Field → List ℕ → ℕ
 part_len (Some field) text = field_len field text
 part_len None text = 1
 
--- the first byte of a line that can't stand: in the part that the template's first letter stands for, behind it in
--- what the others stand for, or in the tail
+-- the first byte of a line that can't stand: in the part for the template's first letter, after it in the
+-- parts for the other letters, or in the tail
 unfoldable pub line_fault : Tail → List ℕ → List ℕ → Option ℕ
 line_fault tail [] text = tail_fault tail text
 line_fault tail (letter ∷ template) text =
@@ -70,7 +70,7 @@ line_fault tail (letter ∷ template) text =
 
 -- ---- the lines of a template
 
--- what stands at a field
+-- the value of a field
 pub data Value : Type 0 where
   number : ℕ → Value
   signed : ℤ → Value
@@ -103,8 +103,8 @@ IsOf (Digits count) (bytes list) = AreBytes list × (length list ≡ count)
 IsOf Ident (ident raw) = IsItem item.Ident raw
 IsOf _ _ = ⊥
 
--- The line is the template with the text of a value in the place of each letter that stands for a field, and the tail of
--- the items behind it.
+-- The line is the template with the text of a value in the place of each letter that stands for a field, and then the
+-- tail with the items.
 pub data IsLine : Tail → List ℕ → List Value → List ℕ → List ℕ → Type 0 where
   line_ends : {tail : Tail} {items : List ℕ} → IsTail tail items → IsLine tail [] [] items (tail_text tail items)
   byte_stands : {tail : Tail} {letter : ℕ} {template items text : List ℕ} {values : List Value} → field_of letter ≡ None → IsLine tail template values items text → IsLine tail (letter ∷ template) values items (letter ∷ text)
@@ -132,7 +132,7 @@ unfoldable pub items_of : Tail → List ℕ → List ℕ → List ℕ
 items_of tail [] text = tail_of tail text
 items_of tail (letter ∷ template) text = items_of tail template (drop (part_len (field_of letter) text) text)
 
--- behind each letter that stands for a field the template ends or has a space
+-- after each letter that stands for a field the template ends or has a space
 unfoldable pub is_template : List ℕ → Bool
 is_template [] = true
 is_template (letter ∷ template) = (is_none (field_of letter) || (slice_index_or template 0 32 == 32)) && is_template template
@@ -154,13 +154,13 @@ bytes_by kept (ident raw ∷ values) = bytes_by kept values
 
 -- ---- what a writer writes
 
--- what stands for a letter: itself, or the text of the next value
+-- the text of a letter: itself, or the text of the next value
 unfoldable pub part_text : Option Field → ℕ → List Value → List ℕ
 part_text None letter values = letter ∷ []
 part_text (Some field) letter [] = []
 part_text (Some field) letter (value ∷ values) = value_text value
 
--- the values that are left behind it
+-- the values that are left after it
 unfoldable pub part_left : Option Field → List Value → List Value
 part_left None values = values
 part_left (Some field) [] = []

@@ -19,9 +19,9 @@ pub enum Field {
     Number(u32),
     /// A signed number of 32 bits.
     Signed,
-    /// At most so many bytes, as hexadecimal digits; `-` for none.
+    /// At most this number of bytes, as hexadecimal digits in lower case; `-` for none.
     Hex(u16),
-    /// Exactly so many bytes, as hexadecimal digits.
+    /// Exactly this number of bytes, as hexadecimal digits in lower case.
     Digits(u16),
     /// An identifier number.
     Ident,
@@ -119,7 +119,7 @@ fn take_hex(most: u16, text: &[u8], told: &mut Told) -> Result<usize, usize>
     }
 }
 
-// Exactly so many bytes at the front of a text.
+// A fixed number of bytes at the front of a text.
 fn take_digits(count: u16, text: &[u8], told: &mut Told) -> Result<usize, usize>
     requires { (1 ≤ count) × (count ≤ 2048) }
     ensures fault { result_err result ≡ digits_fault count text.now }
@@ -173,7 +173,7 @@ fn read_byte(byte: u8, text: &[u8]) -> Result<usize, usize>
     }
 }
 
-// What a letter of a template stands for, at the front of a text.
+// The part of a line for one letter of the template, at the front of a text.
 #[tactic(auto, unfolding(crate::specs::Templates::part_fault, crate::specs::Templates::part_len, crate::specs::Templates::part_values, crate::specs::Templates::numbers_in, crate::specs::Templates::bytes_by))]
 fn read_part(letter: u8, text: &[u8], told: &mut Told) -> Result<usize, usize>
     requires { length told.old.numbers.items < 64 }
@@ -190,8 +190,9 @@ fn read_part(letter: u8, text: &[u8], told: &mut Told) -> Result<usize, usize>
     }
 }
 
-/// Reads a line of the template and the tail, and replaces what is told by what its fields give. The error is the place of the first
-/// byte of the line that can't stand; what is told is then of no use.
+/// Reads a line by its template and tail. `told` then has the numbers, the bytes and the addresses of its fields. The error is
+/// the place, from 0 on, of the first byte of the line that can't stand; a missing byte's place is the line's length. After an
+/// error `told` has no meaning.
 pub fn read_line(template: &[u8], tail: Tail, line: &[u8], told: &mut Told) -> Result<(), usize>
     requires { length template.now ≤ 64 }
     ensures fault { result_err result ≡ line_fault tail template.now line.now }

@@ -106,7 +106,7 @@ fn push_value(line: &mut Line, value: Given<'_>)
     }
 }
 
-// Appends what stands for a letter of a template, the values being those that are left, and returns how many it took.
+// Appends the text of one letter of a template, with the values that are left, and returns how many of them it took.
 #[tactic(auto, unfolding(crate::specs::Templates::part_text, crate::specs::Templates::part_left))]
 fn push_part(line: &mut Line, letter: u8, values: &[Given<'_>]) -> usize
     requires { length line.old + 1 + sum_by most_bytes (map value_of values.now) ≤ 4352 }
@@ -128,7 +128,7 @@ fn push_part(line: &mut Line, letter: u8, values: &[Given<'_>]) -> usize
     }
 }
 
-/// Appends a line of a template, the values standing for its fields in order.
+/// Appends a line of a template, with these values for its fields, in order, and without a line feed. There is room for it.
 pub fn push_line(template: &[u8], values: &[Given<'_>], line: &mut Line)
     requires { length line.old + length template.now + sum_by most_bytes (map value_of values.now) ≤ 4352 }
     ensures value { line.new ≡ line.old ++ line_text template.now (map value_of values.now) }

@@ -10,5 +10,6 @@ mod record;
 mod writing;
 
 pub use events::{Events, Fall, Reported, Stop};
+pub use kind::{LineKind, template_law};
 pub use record::{CycleRecord, Move, Sent, Totals, push_sent};
 pub use writing::{write_cycle, write_end, write_header};
