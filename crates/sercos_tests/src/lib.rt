@@ -27,3 +27,5 @@ mod station;
 mod steps;
 #[cfg(test)]
 mod stores;
+#[cfg(test)]
+mod traces;
