@@ -14,16 +14,16 @@ use Rattle.sercos_step.specs.Words.{bytes_in}
 use Rattle.sercos_step.specs.Steps.{a_step, polling, steps_of, outcome_of, answer_words, is_whole, result_of}
 use Rattle.sercos_block.specs.declared.block.Block.{Block}
 use Rattle.sercos_block.specs.Stores.{find_block}
-use Rattle.sercos_command.specs.declared.commands.SetCommand.{SetCommand}
-use Rattle.sercos_command.specs.Settings.{find_set, has_ended, status_by, status_in}
+use Rattle.sercos_command.specs.Settings.{find_set, status_in}
 use Rattle.sercos_service_drive.specs.Log.{Taken, Entry, open_idn, run_before}
 use Rattle.sercos_service_drive.specs.Replies.{answer_by, copy, read_cause, reply_of}
 use Rattle.sercos_handshake.specs.InStep.{replies_of}
 use Rattle.sercos_handshake.specs.Transfers.{IsTransfer, is_complete}
 use Rattle.sercos_handshake.specs.CommandTransfers.{GivesStatus, EndsWithStatus, idn_of}
 use Rattle.sercos_handshake.proofs.AttributeReplies.{reply-read}
-use Rattle.sercos_handshake.proofs.TransferSteps.{newest_step, without_newest, length-replies_of, complete-outcome_of, goes_on-outcome_of}
+use Rattle.sercos_handshake.proofs.TransferSteps.{newest_step, without_newest, length-replies_of, length-answer_words, complete-outcome_of, goes_on-outcome_of}
 use Rattle.sercos_handshake.proofs.UnknownBlocks.{refuses_unknown}
+use Rattle.sercos_handshake.proofs.ElementReads.{status_small}
 use Rattle.sercos_handshake.proofs.CommandStages.{Poll, Reads, Cancels, Stage, AtOpening, AtSetting, AtPoll, next_poll, whole_cancels, stage_before}
 
 -- each step of such a request is the last word of its element
@@ -52,15 +52,6 @@ last_ends write element e log last = by (beq e.taken.step.write write) (e.taken.
     by false v w on = refl
     by true true false on = absurd (cc)
 
-status_small : (time : ℕ) (o : Option SetCommand) (cycle : ℕ) → status_by time o cycle < 256
-status_small time None cycle = omega arith
-status_small time (Some s) cycle = by (has_ended time cycle s) s.well
-  where
-    by : (ended well : Bool) → (if ended then (if well then 3 else 15) else 7) < 256
-    by true true = omega arith
-    by true false = omega arith
-    by false well = omega arith
-
 -- the reply to a poll
 pub poll_word : (raw : ℕ) (t : Taken) (all : List Entry) → t.step ≡ a_step false true 1 0 → open_idn all ≡ Some raw → run_before false 1 all ≡ [] → (reply_of t all).word ≡ status_in t.commands raw t.cycle
 poll_word raw t all is opened free =
@@ -81,7 +72,7 @@ two_long (status ∷ words) long = by (status == 7)
     by true = let at = more words in omega arith
     by false = omega arith
 
-one_long : (words : List ℕ) → 1 ≤ length (polling words)
+pub one_long : (words : List ℕ) → 1 ≤ length (polling words)
 one_long [] = omega arith
 one_long (status ∷ words) = omega arith
 
@@ -108,10 +99,6 @@ module _ (idn : Idn) (blocks : List Block) (b : Block) (found : find_block idn.r
       by false true is got = (is, cc)
       by false false is got = absurd (cc)
 
-  long_words : (h : List Answer) → length (answer_words h) ≡ length h
-  long_words [] = refl
-  long_words (a ∷ h) = let one = length-append (answer_words h) (a.word ∷ []) in let same = long_words h in omega arith
-
   -- at least an opening, a setting and a poll come before the cancel
   three_before : (e : Entry) (entries : List Entry) → is_whole (request.Command idn) (answer_words (replies_of entries) ++ e.answer.word ∷ []) ≡ true → 3 ≤ length entries
   three_before e entries whole =
@@ -121,7 +108,7 @@ module _ (idn : Idn) (blocks : List Block) (b : Block) (found : find_block idn.r
       let three : 3 ≤ length words = omega arith in
       let second = two_long (drop 2 words) (length-drop_two words three) in
       let count = length-append (answer_words (replies_of entries)) (e.answer.word ∷ []) in
-      let same = long_words (replies_of entries) in
+      let same = length-answer_words (replies_of entries) in
       let as_many = length-replies_of entries in
       omega arith
 
@@ -171,7 +158,7 @@ module _ (idn : Idn) (blocks : List Block) (b : Block) (found : find_block idn.r
           let poll = is_poll d o past log (omega arith) was on.1 in
           let free = last_ends false 1 o (past ++ log) (command_last o past log (without_newest (request.Command idn) blocks log d o past was)) in
           let word : d.answer.word ≡ status_in d.taken.commands idn.raw d.taken.cycle = ap (λ (a : Answer). a.word) was.replies.1 ∙ poll_word idn.raw d.taken ((o ∷ past) ++ log) poll.0 poll.1 free in
-          let small = status_small d.taken.commands.time (find_set idn.raw d.taken.commands.set) d.taken.cycle in (
+          let small = status_small d.taken.commands.time d.taken.cycle (find_set idn.raw d.taken.commands.set) in (
             e,
             d,
             o ∷ past,

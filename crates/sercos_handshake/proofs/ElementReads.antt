@@ -136,7 +136,7 @@ found_read e cycle b c low high said alike there sound are =
     ap (λ (s : Shape). read_from s (element_words e cycle c)) layout ∙ reads_element e cycle c low high (keeps c sound) (none_of-then (is_none (element_of c e)) (0x1000 * e + 1) there) are
 
 -- a data status is one byte
-status_small : (time cycle : ℕ) (o : Option SetCommand) → status_by time o cycle < 256
+pub status_small : (time cycle : ℕ) (o : Option SetCommand) → status_by time o cycle < 256
 status_small time cycle None = omega arith
 status_small time cycle (Some s) = by (has_ended time cycle s) s.well
   where

@@ -1,5 +1,5 @@
 -- All transfers of a run are exact, through all epochs.
-use Rattle.std.proofs.Common.{◌≡◌, ◌⊎◌, inl, inr, ℕ, ◌+◌, Bool, true, false, List, [], ◌∷◌, ◌++◌, length, refl, sym, ap, ◌∙◌, subst, arith, if◌then◌else◌}
+use Rattle.std.proofs.Common.{◌≡◌, ◌⊎◌, inl, inr, ℕ, ◌+◌, Bool, true, false, List, [], ◌∷◌, ◌++◌, length, refl, sym, ap, ◌∙◌, subst, arith, if◌then◌else◌, append_assoc}
 use Rattle.std.specs.Prelude.{Option, Some, None, IsSome, IfSome, is_some}
 use mathlib.Core.Bool.{beq}
 use Rattle.sercos_telegram.specs.declared.words.Status.{Status}
@@ -58,11 +58,7 @@ module _ (laws : Laws) (blocks : List Block) (small : AreSmall blocks) where
       let is = part_is laws blocks small b part rest sound.1 replies_split.0 blocks_split.0 whole of in
       (part, rest, is.own, writes_of rest, those, ap writes_of those ∙ is.adds, is.exact, parts_exact past rest others sound.0 replies_split.1 blocks_split.1 (split_steady part rest whole))
 
--- one behind the other
-pub append_assoc : {A : Type 0} (xs ys zs : List A) → (xs ++ ys) ++ zs ≡ xs ++ (ys ++ zs)
-append_assoc [] ys zs = refl
-append_assoc (x ∷ xs) ys zs = ap (λ (l : List _). x ∷ l) (append_assoc xs ys zs)
-
+-- one after the other
 exact-append : (blocks : List Block) (xs ys : List Begun) (es fs : List Entry) (ws us : List Write) → AreExact blocks xs es ws → AreExact blocks ys fs us → AreExact blocks (xs ++ ys) (es ++ fs) (ws ++ us)
 exact-append blocks [] ys es fs ws us none more =
     subst (λ (l : List Entry). AreExact blocks ys (l ++ fs) (ws ++ us)) (sym none.0) (subst (λ (l : List Write). AreExact blocks ys fs (l ++ us)) (sym none.1) more)

@@ -26,10 +26,10 @@ use Rattle.sercos_handshake.proofs.UnknownBlocks.{writes_nowhere}
 use Rattle.sercos_handshake.proofs.QuietSteps.{writes_nothing}
 use Rattle.sercos_handshake.proofs.CommandStages.{sets_and_cancels}
 use Rattle.sercos_handshake.proofs.CommandRefusals.{refused_adds_nothing}
-use Rattle.sercos_handshake.proofs.TransferSteps.{length-replies_of, complete-outcome_of, goes_on-outcome_of}
+use Rattle.sercos_handshake.proofs.TransferSteps.{length-replies_of, length-answer_words, complete-outcome_of, goes_on-outcome_of}
 use Rattle.sercos_handshake.specs.WholeRun.{IsSound, AreSmall}
 use Rattle.sercos_handshake.specs.Exact.{Given, given_of, gives, written_to, given_by, AreWrites, Complete, Refused, Broken, AreInPhase, ReadsExactly, EndsExactly, IsExact}
-use Rattle.sercos_handshake.proofs.CommandEnds.{unknown_incomplete, ends_with_status}
+use Rattle.sercos_handshake.proofs.CommandEnds.{one_long, unknown_incomplete, ends_with_status}
 use Rattle.sercos_handshake.proofs.OnePhase.{IsNamed, IsSteady, in_one_phase}
 
 -- the two laws on transfers that stand on what the master takes for an attribute
@@ -68,14 +68,6 @@ gives_nothing blocks r answers none = by (ends_so r answers)
 protected_so : (a : Attribute) (phase at : ℕ) (entries : List Entry) → at ≡ phase → AreInPhase phase entries → is_protected a at ≡ true → AreProtected a entries
 protected_so a phase at [] same are on = tt
 protected_so a phase at (e ∷ entries) same are on = (protected_so a phase at entries same are.0 on, ap (is_protected a) (are.1 ∙ sym same) ∙ on)
-
-polling_long : (words : List ℕ) → 1 ≤ length (polling words)
-polling_long [] = omega arith
-polling_long (status ∷ words) = omega arith
-
-length-answer_words : (h : List Answer) → length (answer_words h) ≡ length h
-length-answer_words [] = refl
-length-answer_words (a ∷ h) = let one = length-append (answer_words h) (a.word ∷ []) in let same = length-answer_words h in omega arith
 
 -- what is written, and that it is what the transfer gives
 pub record Wrote (blocks : List Block) (b : Begun) (entries log : List Entry) : Type 0 where
@@ -138,7 +130,7 @@ module _ (laws : Laws) (blocks : List Block) (small : AreSmall blocks) where
       let words = answer_words (replies_of entries) ++ e.answer.word ∷ [] in
       let whole = (both (not e.answer.error) (is_whole (request.Command idn) words) (sym (complete-outcome_of (request.Command idn) e.answer (replies_of entries)) ∙ ap is_complete complete)).1 in
       let many : length (steps_of (request.Command idn) words) ≤ length words = leb-true (length (steps_of (request.Command idn) words)) (length words) whole in
-      let more = polling_long (drop 2 words) in
+      let more = one_long (drop 2 words) in
       let count : length words ≡ length (answer_words (replies_of entries)) + 1 = length-append (answer_words (replies_of entries)) (e.answer.word ∷ []) in
       let same = length-answer_words (replies_of entries) in
       let as_many = length-replies_of entries in

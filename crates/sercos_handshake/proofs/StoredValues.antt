@@ -1,5 +1,5 @@
 -- What a block holds is what was written to it last.
-use Rattle.std.proofs.Common.{◌≡◌, ℕ, Bool, true, false, not, ◌&&◌, List, [], ◌∷◌, ◌++◌, map, drop, zero, suc, refl, sym, ap, ◌∙◌, subst, if◌then◌else◌}
+use Rattle.std.proofs.Common.{◌≡◌, ℕ, Bool, true, false, not, ◌&&◌, List, [], ◌∷◌, ◌++◌, map, drop, zero, suc, refl, sym, ap, ◌∙◌, subst, if◌then◌else◌, append_assoc}
 use Rattle.std.specs.Prelude.{◌==◌, Option, Some, None, is_none, option_map, unwrap_or}
 use Rattle.std.specs.List.{list_all}
 use Rattle.std.proofs.lemmas.Bool.{and_parts, cond-true, cond-false, eqb-true, eq-eqb, not-true}
@@ -19,7 +19,6 @@ use Rattle.sercos_handshake.specs.Views.{View, processed_in, kept_in}
 use Rattle.sercos_handshake.specs.WholeRun.{begun_ago, all_entries, write_of, all_writes}
 use Rattle.sercos_handshake.specs.Exact.{Given, given_of, gives, written_to, given_by, AreWrites, Complete, Refused, Broken, AreExact, RunsAreExact}
 use Rattle.sercos_handshake.specs.Values.{newest_to, store_in, is_plain, HoldsNewest, GiveElsewhere, StaysWritten}
-use Rattle.sercos_handshake.proofs.ExactRuns.{append_assoc}
 
 -- The store.
 

@@ -1,5 +1,5 @@
 -- The steps of the entries of a transfer, one by one.
-use Rattle.std.proofs.Common.{◌≡◌, ℕ, suc, ◌≤◌, Bool, true, false, not, ◌&&◌, List, [], ◌∷◌, ◌++◌, length, refl, ap, arith, if◌then◌else◌}
+use Rattle.std.proofs.Common.{◌≡◌, ℕ, suc, ◌≤◌, Bool, true, false, not, ◌&&◌, List, [], ◌∷◌, ◌++◌, length, refl, ap, arith, if◌then◌else◌, length-append}
 use Rattle.std.specs.Prelude.{◌==◌, Option, Some, None, is_some}
 use Rattle.std.proofs.lemmas.Bool.{cond-false}
 use Rattle.sercos_step.specs.declared.step.Step.{Step}
@@ -21,6 +21,10 @@ length-steps_of (e ∷ entries) = ap suc (length-steps_of entries)
 pub length-replies_of : (entries : List Entry) → length (replies_of entries) ≡ length entries
 length-replies_of [] = refl
 length-replies_of (e ∷ entries) = ap suc (length-replies_of entries)
+
+pub length-answer_words : (h : List Answer) → length (answer_words h) ≡ length h
+length-answer_words [] = refl
+length-answer_words (a ∷ h) = let more = length-answer_words h in omega (arith, length-append (answer_words h) (a.word ∷ []))
 
 length-with_step : (o : Option Step) (steps : List Step) → length (with_step o steps) ≤ suc (length steps)
 length-with_step None steps = omega arith

@@ -64,9 +64,19 @@ status = record { ahs = false; busy = false; error = false; change = false; cycl
 abbrev asked : ℕ → Request
 asked low = request.Write (record { raw = 1 }) 7 (low ∷ 1 ∷ [])
 
--- all telegrams come, the master rises if it may, and nothing is wanted
-abbrev usual : List Block → Choice
-usual blocks = record {
+-- the blocks before the first write, after it, and after the last
+abbrev at_first : List Block
+at_first = block 0 0 ∷ []
+
+abbrev after_one : List Block
+after_one = block 5 1 ∷ []
+
+abbrev at_last : List Block
+at_last = block 9 1 ∷ []
+
+-- a step is open, and both telegrams come
+abbrev stepping : List Block → Choice
+stepping blocks = record {
   master_restarts = false;
   drive_restarts = false;
   mst_comes = true;
@@ -84,37 +94,35 @@ usual blocks = record {
   rises = false;
 }
 
--- the blocks before the first write, after it, and after the last
-abbrev at_first : List Block
-at_first = block 0 0 ∷ []
+-- the first step goes out to a drive that wasn't addressed in the cycle before; the last answer comes, and no record is sent; no
+-- step is open at all; and so up to phase 2
+abbrev wanting : List Block → Request → Choice
+wanting blocks r = record (stepping blocks) { at_comes = false; wants = Some r }
 
-abbrev after_one : List Block
-after_one = block 5 1 ∷ []
+abbrev ending : List Block → Choice
+ending blocks = record (stepping blocks) { sends = false }
 
-abbrev at_last : List Block
-at_last = block 9 1 ∷ []
+abbrev idle : List Block → Choice
+idle blocks = record (stepping blocks) { at_comes = false; sends = false }
 
 abbrev rising : List Block → Choice
-rising blocks = record (usual blocks) { rises = true }
-
-abbrev wanting : List Block → Request → Choice
-wanting blocks r = record (usual blocks) { wants = Some r }
+rising blocks = record (idle blocks) { rises = true }
 
 -- The newest cycle first. Phase 0 lasts for ten cycles, phase 1 for one. The write of 5 begins in cycle 11, and its second step is
 -- sent twice, since the AT of cycle 13 is lost.
 abbrev first : List Choice
-first = usual after_one ∷ usual at_first ∷ usual at_first ∷ record (usual at_first) { at_comes = false } ∷ usual at_first ∷ wanting at_first (asked 5) ∷ replicate 11 (rising at_first)
+first = ending after_one ∷ stepping at_first ∷ stepping at_first ∷ record (stepping at_first) { at_comes = false } ∷ stepping at_first ∷ wanting at_first (asked 5) ∷ replicate 11 (rising at_first)
 
 -- In cycle 17 the write of 9 begins, and the master falls at the end of cycle 19. Phase 2 comes again in cycle 31, where the same
 -- write begins anew.
 abbrev second : List Choice
-second = usual at_last ∷ usual after_one ∷ usual after_one ∷ usual after_one ∷ wanting after_one (asked 9) ∷ replicate 11 (rising after_one)
-    ++ record (usual after_one) { falls = true } ∷ usual after_one ∷ wanting after_one (asked 9) ∷ first
+second = ending at_last ∷ stepping after_one ∷ stepping after_one ∷ stepping after_one ∷ wanting after_one (asked 9) ∷ replicate 11 (rising after_one)
+    ++ record (stepping after_one) { falls = true } ∷ stepping after_one ∷ wanting after_one (asked 9) ∷ first
 
 -- The drive restarts in cycle 36, and the master in cycle 38. In cycle 49 a read begins.
 abbrev third : List Choice
-third = usual at_last ∷ usual at_last ∷ usual at_last ∷ usual at_last ∷ wanting at_last (request.Read (record { raw = 1 }) 7) ∷ replicate 10 (rising at_last)
-    ++ record (usual at_last) { master_restarts = true } ∷ usual at_last ∷ record (usual at_last) { drive_restarts = true } ∷ second
+third = ending at_last ∷ stepping at_last ∷ stepping at_last ∷ stepping at_last ∷ wanting at_last (request.Read (record { raw = 1 }) 7) ∷ replicate 10 (rising at_last)
+    ++ record (idle at_last) { master_restarts = true } ∷ idle at_last ∷ record (idle at_last) { drive_restarts = true } ∷ second
 
 abbrev phases : List View → List ℕ
 phases [] = []
