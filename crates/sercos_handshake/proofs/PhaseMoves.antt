@@ -4,7 +4,7 @@ use Rattle.std.specs.Prelude.{nat_le, ◌==◌, Option, Some, None}
 use Rattle.std.proofs.lemmas.Bool.{cases_eq, and_parts, leb-true, eqb-true, ne_eqb, cond-false}
 use Rattle.sercos_service_drive.specs.Log.{Taken}
 use Rattle.sercos_service_master.specs.Begun.{Said}
-use Rattle.sercos_handshake.specs.Views.{View, Standing, moved, afresh, before_mst, stood_in, got_in, takes_in, standing, record_in, processed_of, processed_in, with_record, in_phase, unless, since_reset, kept_in}
+use Rattle.sercos_handshake.specs.Views.{View, Standing, moved, afresh, before_mst, stood_in, got_in, takes_in, standing, record_in, processed_of, processed_in, with_record, kept_in_phase, kept_unless, since_reset, kept_in}
 
 -- which way a choice went
 pub chosen : {A : Type 0} (b : Bool) (x y : A) → ((b ≡ true) × ((if b then x else y) ≡ x)) ⊎ ((b ≡ false) × ((if b then x else y) ≡ y))
@@ -87,25 +87,25 @@ nothing_below v past low = by (processes v past)
     by (Nothing none) = none
     by (Record s got came two is) = absurd (omega arith)
 
-pub in_phase-other : (n : ℕ) (h : List Taken) → (n ≡ 0 → ⊥) → in_phase n h ≡ h
-in_phase-other n h nz = cond-false (n == 0) [] h (ne_eqb n 0 nz)
+pub kept_in_phase-other : (n : ℕ) (h : List Taken) → (n ≡ 0 → ⊥) → kept_in_phase n h ≡ h
+kept_in_phase-other n h nz = cond-false (n == 0) [] h (ne_eqb n 0 nz)
 
-pub in_phase-zero : (n : ℕ) (h : List Taken) → n ≡ 0 → in_phase n h ≡ []
-in_phase-zero n h z = ap (λ (k : ℕ). in_phase k h) z
+pub kept_in_phase-zero : (n : ℕ) (h : List Taken) → n ≡ 0 → kept_in_phase n h ≡ []
+kept_in_phase-zero n h z = ap (λ (k : ℕ). kept_in_phase k h) z
 
-in_phase-none : (n : ℕ) (h : List Taken) → h ≡ [] → in_phase n h ≡ []
-in_phase-none n h none = elim (chosen (n == 0) [] h) [ inl z ↦ z.1 | inr nz ↦ nz.1 ∙ none ]
+kept_in_phase-none : (n : ℕ) (h : List Taken) → h ≡ [] → kept_in_phase n h ≡ []
+kept_in_phase-none n h none = elim (chosen (n == 0) [] h) [ inl z ↦ z.1 | inr nz ↦ nz.1 ∙ none ]
 
 -- what a drive keeps at the MST where it isn't in 0 and doesn't restart
 pub kept_on : (v : View) (past : List View) → v.drive_restarts ≡ false → (stood_in v (standing past) ≡ 0 → ⊥) → kept_in v past ≡ since_reset past
-kept_on v past on nz = in_phase-other (stood_in v (standing past)) (unless v.drive_restarts (since_reset past)) nz ∙ cond-false v.drive_restarts [] (since_reset past) on
+kept_on v past on nz = kept_in_phase-other (stood_in v (standing past)) (kept_unless v.drive_restarts (since_reset past)) nz ∙ cond-false v.drive_restarts [] (since_reset past) on
 
 kept_none : (v : View) (past : List View) → (v.drive_restarts ≡ false → (stood_in v (standing past) ≡ 0 → ⊥) → since_reset past ≡ []) → kept_in v past ≡ []
 kept_none v past none = elim (cases_eq (stood_in v (standing past)) 0) [
-  | inl z ↦ in_phase-zero (stood_in v (standing past)) (unless v.drive_restarts (since_reset past)) z
+  | inl z ↦ kept_in_phase-zero (stood_in v (standing past)) (kept_unless v.drive_restarts (since_reset past)) z
   | inr nz ↦ elim (chosen v.drive_restarts [] (since_reset past)) [
-    | inl r ↦ in_phase-none (stood_in v (standing past)) (unless v.drive_restarts (since_reset past)) r.1
-    | inr on ↦ in_phase-none (stood_in v (standing past)) (unless v.drive_restarts (since_reset past)) (on.1 ∙ none on.0 nz)
+    | inl r ↦ kept_in_phase-none (stood_in v (standing past)) (kept_unless v.drive_restarts (since_reset past)) r.1
+    | inr on ↦ kept_in_phase-none (stood_in v (standing past)) (kept_unless v.drive_restarts (since_reset past)) (on.1 ∙ none on.0 nz)
   ]
 ]
 
@@ -121,8 +121,8 @@ kept_below_by v past earlier low = kept_none v past (λ on nz. earlier (by on nz
 pub reset_below : (past : List View) → (standing past).ended ≤ 1 → since_reset past ≡ []
 reset_below [] low = refl
 reset_below (v ∷ past) low = elim (ends v past) [
-  | inl z ↦ in_phase-zero (standing (v ∷ past)).ended (with_record (processed_in v past) (kept_in v past)) z
-  | inr same ↦ in_phase-none (standing (v ∷ past)).ended (with_record (processed_in v past) (kept_in v past))
+  | inl z ↦ kept_in_phase-zero (standing (v ∷ past)).ended (with_record (processed_in v past) (kept_in v past)) z
+  | inr same ↦ kept_in_phase-none (standing (v ∷ past)).ended (with_record (processed_in v past) (kept_in v past))
       (ap (λ (o : Option Taken). with_record o (kept_in v past)) (nothing_below v past (omega arith)) ∙ kept_below_by v past (reset_below past) (omega arith))
 ]
 
@@ -131,4 +131,4 @@ kept_below v past low = kept_below_by v past (reset_below past) low
 
 -- what a drive keeps at the end where it isn't in 0
 pub reset_on : (v : View) (past : List View) → ((standing (v ∷ past)).ended ≡ 0 → ⊥) → since_reset (v ∷ past) ≡ with_record (processed_in v past) (kept_in v past)
-reset_on v past nz = in_phase-other (standing (v ∷ past)).ended (with_record (processed_in v past) (kept_in v past)) nz
+reset_on v past nz = kept_in_phase-other (standing (v ∷ past)).ended (with_record (processed_in v past) (kept_in v past)) nz

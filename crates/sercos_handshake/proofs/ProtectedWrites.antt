@@ -13,7 +13,7 @@ use Rattle.sercos_service_drive.specs.Log.{Taken, Entry, ahs, opens, open_idn, r
 use Rattle.sercos_service_drive.specs.Replies.{answer_by, selects, bytes_written, write_cause, write_cause_in, reply_at, reply_of, log_of}
 use Rattle.sercos_service_drive.specs.Writes.{Write, AreAlike, AreThose, without_data, written_by, with_added, adds, added_on}
 use Rattle.sercos_handshake.proofs.AttributeReplies.{find-alike}
-use Rattle.sercos_handshake.specs.Views.{View, standing, stood_in, record_in, processed_in, with_record, in_phase, unless, since_reset, kept_in}
+use Rattle.sercos_handshake.specs.Views.{View, standing, stood_in, record_in, processed_in, with_record, kept_in_phase, kept_unless, since_reset, kept_in}
 use Rattle.sercos_handshake.specs.WholeRun.{write_of, all_writes, AreSound}
 use Rattle.sercos_handshake.specs.Values.{newest_to, StaysProtected, StaysQuiet, StaysFixed}
 use Rattle.sercos_handshake.proofs.PhaseMoves.{Processes, Nothing, Record, processes, processed_phase}
@@ -135,19 +135,19 @@ added_free allowed blocks raw b t h w found fixed those alike is = which (w.raw 
         let free = free_of (find_block raw t.blocks) t.phase w.bytes b (find-alike raw t.blocks blocks b alike found) (ap (λ (n : ℕ). put_fault (find_block n t.blocks) t.phase w.bytes) (sym (eqb-true w.raw raw at)) ∙ none) in
         absurd (cc)
 
-those_in_phase : (blocks : List Block) (n : ℕ) (h : List Taken) → AreThose blocks h → AreThose blocks (in_phase n h)
+those_in_phase : (blocks : List Block) (n : ℕ) (h : List Taken) → AreThose blocks h → AreThose blocks (kept_in_phase n h)
 those_in_phase blocks n h those = by (n == 0)
   where
     by : (v : Bool) → AreThose blocks (if v then [] else h)
     by true = tt
     by false = those
 
-those_unless : (blocks : List Block) (restarts : Bool) (h : List Taken) → AreThose blocks h → AreThose blocks (unless restarts h)
+those_unless : (blocks : List Block) (restarts : Bool) (h : List Taken) → AreThose blocks h → AreThose blocks (kept_unless restarts h)
 those_unless blocks true h those = tt
 those_unless blocks false h those = those
 
 those_kept : (blocks : List Block) (v : View) (past : List View) → AreThose blocks (since_reset past) → AreThose blocks (kept_in v past)
-those_kept blocks v past those = those_in_phase blocks (stood_in v (standing past)) (unless v.drive_restarts (since_reset past)) (those_unless blocks v.drive_restarts (since_reset past) those)
+those_kept blocks v past those = those_in_phase blocks (stood_in v (standing past)) (kept_unless v.drive_restarts (since_reset past)) (those_unless blocks v.drive_restarts (since_reset past) those)
 
 those_since : (blocks : List Block) (past : List View) → AreSound blocks past → AreThose blocks (since_reset past)
 those_since blocks [] sound = tt

@@ -105,19 +105,19 @@ with_record None h = h
 with_record (Some t) h = t ∷ h
 
 -- In phase 0 its channel is reset, and a restart resets it too: then it keeps no record.
-abbrev pub in_phase : ℕ → List Taken → List Taken
-in_phase phase h = if phase == 0 then [] else h
+abbrev pub kept_in_phase : ℕ → List Taken → List Taken
+kept_in_phase phase h = if phase == 0 then [] else h
 
-abbrev pub unless : Bool → List Taken → List Taken
-unless restarts h = if restarts then [] else h
+abbrev pub kept_unless : Bool → List Taken → List Taken
+kept_unless restarts h = if restarts then [] else h
 
 -- the records since the drive's reset: at the AT of a cycle, and at the end of all cycles
 abbrev pub kept_by : View → ℕ → List Taken → List Taken
-kept_by v stood h = in_phase stood (unless v.drive_restarts h)
+kept_by v stood h = kept_in_phase stood (kept_unless v.drive_restarts h)
 
 abbrev pub since_reset : List View → List Taken
 since_reset [] = []
-since_reset (v ∷ past) = in_phase (standing (v ∷ past)).ended (with_record (processed_in v past) (kept_by v (stood_in v (standing past)) (since_reset past)))
+since_reset (v ∷ past) = kept_in_phase (standing (v ∷ past)).ended (with_record (processed_in v past) (kept_by v (stood_in v (standing past)) (since_reset past)))
 
 abbrev pub kept_in : View → List View → List Taken
 kept_in v past = kept_by v (stood_in v (standing past)) (since_reset past)
