@@ -1,7 +1,7 @@
 -- A run worked out from the definitions: a write, a second one that a fall breaks, the same again in the next epoch, restarts of
 -- both ends, and a read that comes through.
 use Rattle.std.proofs.Common.{◌≡◌, ℕ, ◌<◌, Bool, true, false, List, [], ◌∷◌, ◌++◌, replicate, take, refl, arith}
-use Rattle.std.specs.Prelude.{Option, Some, None}
+use Rattle.std.specs.Prelude.{Option, Some, None, option_map}
 use Rattle.sercos_telegram.specs.declared.words.Status.{Status}
 use Rattle.sercos_idn.specs.declared.attribute.Attribute.{Attribute}
 use Rattle.sercos_idn.specs.declared.kinds.Length.TheVariants.{Two}
@@ -20,9 +20,9 @@ use Rattle.sercos_command.specs.Settings.{CommandsView}
 use Rattle.sercos_service_drive.specs.Log.{Entry}
 use Rattle.sercos_service_drive.specs.Writes.{Write}
 use Rattle.sercos_service_drive.specs.Replies.{good, data_in, element_words, bytes_written, write_cause}
-use Rattle.sercos_service_master.specs.Begun.{Begun}
+use Rattle.sercos_service_master.specs.Begun.{Begun, Said}
 use Rattle.sercos_handshake.specs.Transfers.{IsTransfer}
-use Rattle.sercos_handshake.specs.Views.{View, standing}
+use Rattle.sercos_handshake.specs.Views.{Heard, View, standing}
 use Rattle.sercos_handshake.specs.Choices.{Choice, run_by}
 use Rattle.sercos_handshake.specs.WholeRun.{all_begun, all_entries, all_writes}
 use Rattle.sercos_handshake.specs.Values.{store_in}
@@ -157,6 +157,34 @@ accepts = refl
 transfer : IsTransfer (asked 5) at_first last others []
 unfolding attribute_fault attribute_of element_of element_words bytes_written write_cause
 transfer = record { steps = refl; in_turn = ((((tt, refl), refl), refl)); goes_on = refl; replies = ((((tt, refl), refl), refl), refl); alike = ((((tt, refl), refl), refl), refl) }
+
+-- what the master hears and what it sends, while the first write is at work, and at the read
+abbrev ats : List View → List (Option (Bool × ℕ))
+ats [] = []
+ats (v ∷ past) = option_map (λ (a : Heard). (a.status.ahs, a.word)) v.heard ∷ ats past
+
+abbrev mdts : List View → List (Option Said)
+mdts [] = []
+mdts (v ∷ past) = v.sent ∷ mdts past
+
+abbrev said : Bool → Step → Option Said
+said mhs step = Some (record { mhs = mhs; step = step })
+
+heard_first : take 6 (ats (run_by 0 first)) ≡ Some (false, 0) ∷ Some (true, 0x6011) ∷ Some (false, 1) ∷ None ∷ Some (true, 0) ∷ None ∷ []
+unfolding element_words element_of attribute_fault attribute_of write_cause bytes_written
+heard_first = refl
+
+sent_first : take 6 (mdts (run_by 0 first)) ≡ None ∷ said false (a_step true true 7 0x105) ∷ said true (a_step false true 3 0) ∷ said false (a_step false false 3 0) ∷ said false (a_step false false 3 0) ∷ said true (a_step true true 1 1) ∷ []
+unfolding element_words element_of attribute_fault attribute_of write_cause bytes_written
+sent_first = refl
+
+heard_last : take 5 (ats (run_by 0 third)) ≡ Some (false, 0x109) ∷ Some (true, 0x6011) ∷ Some (false, 1) ∷ Some (true, 0) ∷ None ∷ []
+unfolding element_words element_of attribute_fault attribute_of write_cause bytes_written data_in
+heard_last = refl
+
+sent_last : take 5 (mdts (run_by 0 third)) ≡ None ∷ said false (a_step false true 7 0) ∷ said true (a_step false true 3 0) ∷ said false (a_step false false 3 0) ∷ said true (a_step true true 1 1) ∷ []
+unfolding element_words element_of attribute_fault attribute_of write_cause bytes_written data_in
+sent_last = refl
 
 -- what was broken wrote nothing, what came after it is written once, and the read gives it
 written : all_writes (run_by 0 third) ≡ wrote 34 9 ∷ wrote 15 5 ∷ []
