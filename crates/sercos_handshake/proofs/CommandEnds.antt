@@ -1,4 +1,4 @@
--- A complete setting of a procedure command gives the data status of the last poll.
+-- A complete setting of a procedure command gives the data status of the last poll, the step that reads it.
 use Rattle.std.proofs.Common.{◌≡◌, ℕ, zero, suc, ◌-◌, ◌/◌, ◌%◌, ◌<◌, ◌≤◌, Bool, true, false, not, ◌&&◌, List, [], ◌∷◌, ◌++◌, length, drop, refl, sym, ap, ap₂, ◌∙◌, arith, if◌then◌else◌, length-append}
 use Rattle.std.specs.Prelude.{◌==◌, Option, Some, None, slice_get, slice_index}
 use Rattle.std.specs.List.{list_all}

@@ -117,7 +117,7 @@ module _ (laws : Laws) (blocks : List Block) (small : AreSmall blocks) where
       by true = (2, refl)
       by false = (1, refl)
 
-  -- behind two answers without error it is set
+  -- after two answers without error it is set
   is_set : (idn : Idn) (d : Entry) (entries : List Entry) → AreAnswers (request.Command idn) (replies_of (d ∷ entries)) → outcome_of (request.Command idn) (replies_of (d ∷ entries)) ≡ None → 1 ≤ length entries →
       map given_of (set_by idn.raw (second_of (d ∷ entries))) ≡ gives idn.raw (3 ∷ 0 ∷ []) ∷ []
   is_set idn d [] are on long = absurd (omega arith)

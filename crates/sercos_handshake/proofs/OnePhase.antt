@@ -24,7 +24,7 @@ use Rattle.sercos_handshake.proofs.HandshakeMoves.{parity, quiet_bit, said_bit, 
 use Rattle.sercos_handshake.proofs.UnknownBlocks.{first_step}
 use Rattle.sercos_handshake.specs.Exact.{AreInPhase}
 
--- The steps of a request behind the first open no identifier number.
+-- The steps of a request after the first open no identifier number.
 
 abbrev is_inner : Step → Bool
 is_inner s = not (opens s)
@@ -100,7 +100,7 @@ not_inner s inner = by (opens s) inner
     by true on = absurd (cc)
     by false on = refl
 
--- the next step behind an answer opens none
+-- the next step after an answer opens none
 pub later_step : (r : Request) (a : Answer) (h : List Answer) (s : Step) → IsNamed r → next_step r (a ∷ h) ≡ Some s → opens s ≡ false
 later_step r a h s named next =
     let words = answer_words h ++ a.word ∷ [] in

@@ -1,4 +1,4 @@
--- What the invariants say of each cycle.
+-- The laws on phases, and on each cycle.
 use Rattle.std.proofs.Common.{◌≡◌, ◌⊎◌, inl, inr, ℕ, suc, ◌+◌, ◌≤◌, Bool, true, false, not, ◌&&◌, ◌||◌, List, [], ◌∷◌, length, refl, sym, ap, ap₂, ◌∙◌, subst, arith, if◌then◌else◌}
 use Rattle.std.specs.Prelude.{nat_le, ◌==◌, max, Option, Some, is_some}
 use Rattle.std.proofs.lemmas.Bool.{cases_eq, and_from, leb-true, le-leb, eq-eqb, ne_eqb, cond-true, cond-false}

@@ -1,4 +1,4 @@
--- What the drive accepted and wrote in the whole run is what it did in the epochs, one behind the other.
+-- What the drive accepted and wrote in the whole run is what it did in the epochs, one after the other.
 use Rattle.std.proofs.Common.{◌≡◌, ℕ, Bool, true, false, List, [], ◌∷◌, ◌++◌, refl, sym, ap, ◌∙◌, arith, if◌then◌else◌}
 use Rattle.std.specs.Prelude.{Option, Some, None}
 use mathlib.Core.Bool.{beq}
@@ -12,7 +12,7 @@ use Rattle.sercos_handshake.specs.WholeRun.{accepted_of, all_entries, write_of, 
 use Rattle.sercos_handshake.proofs.PhaseMoves.{Processes, Nothing, Record, processes, processed_phase}
 use Rattle.sercos_handshake.proofs.EpochRuns.{joined, same_at}
 
--- each entry of a log has the reply to its step, behind those before it
+-- each entry of a log has the reply to its step, after those before it
 abbrev pub HasReplies : List Entry → Type 0
 HasReplies [] = Unit {0}
 HasReplies (e ∷ log) = HasReplies log × (e.answer ≡ reply_of e.taken log)
@@ -21,7 +21,7 @@ pub answered_replies : (h : List Taken) → HasReplies (answered h)
 answered_replies [] = tt
 answered_replies (t ∷ h) = (answered_replies h, refl)
 
--- what the epochs that have ended left
+-- what the epochs that have ended have left
 abbrev pub entries_ago : List View → List Entry
 entries_ago [] = []
 entries_ago (v ∷ past) = leaving v.falls (log_in v past) (leaving v.master_restarts (epoch_log past) (entries_ago past))
