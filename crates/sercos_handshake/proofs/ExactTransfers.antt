@@ -10,7 +10,7 @@ use Rattle.sercos_step.specs.declared.step.Answer.{Answer}
 use Rattle.sercos_step.specs.declared.request.Request.{Request}
 use Rattle.sercos_step.specs.declared.request.Request.TheVariants as request
 use Rattle.sercos_step.specs.declared.request.Outcome.TheVariants as outcome
-use Rattle.sercos_step.specs.Steps.{polling, steps_before, steps_of, outcome_of, answer_words, is_whole, result_of, AreAnswers}
+use Rattle.sercos_step.specs.Steps.{steps_before, steps_of, outcome_of, answer_words, is_whole, result_of, AreAnswers}
 use Rattle.sercos_block.specs.declared.block.Block.{Block}
 use Rattle.sercos_block.specs.Blocks.{is_protected}
 use Rattle.sercos_block.specs.Stores.{find_block}
