@@ -21,7 +21,7 @@ use Rattle.sercos_handshake.specs.InStep.{replies_of}
 use Rattle.sercos_handshake.specs.Transfers.{IsTransfer, is_complete}
 use Rattle.sercos_handshake.specs.CommandTransfers.{GivesStatus, EndsWithStatus, idn_of}
 use Rattle.sercos_handshake.proofs.AttributeReplies.{reply-read}
-use Rattle.sercos_handshake.proofs.TransferSteps.{newest_step, without_newest, length-replies_of, length-answer_words, complete-outcome_of, goes_on-outcome_of}
+use Rattle.sercos_handshake.proofs.TransferSteps.{all-slice_get, newest_step, without_newest, length-replies_of, length-answer_words, complete-outcome_of, goes_on-outcome_of}
 use Rattle.sercos_handshake.proofs.UnknownBlocks.{refuses_unknown}
 use Rattle.sercos_handshake.proofs.ElementReads.{status_small}
 use Rattle.sercos_handshake.proofs.CommandStages.{Poll, Reads, Cancels, Stage, AtOpening, AtSetting, AtPoll, next_poll, whole_cancels, stage_before}
@@ -37,11 +37,6 @@ polling_last (status ∷ words) = by (status == 7) (polling_last words)
     by : (v : Bool) → are_last (polling words) ≡ true → are_last (if v then polling words else a_step true true 7 0 ∷ []) ≡ true
     by true more = more
     by false more = refl
-
-got_last : (steps : List Step) (k : ℕ) (s : Step) → are_last steps ≡ true → slice_get steps k ≡ Some s → s.last ≡ true
-got_last [] k s all got = absurd (cc)
-got_last (x ∷ steps) zero s all got = let same : x ≡ s = cc in ap (λ (y : Step). y.last) (sym same) ∙ (and_parts x.last (are_last steps) all).0
-got_last (x ∷ steps) (suc k) s all got = got_last steps k s (and_parts x.last (are_last steps) all).1 got
 
 pub last_ends : (write : Bool) (element : ℕ) (e : Entry) (log : List Entry) → e.taken.step.last ≡ true → run_before write element (e ∷ log) ≡ []
 last_ends write element e log last = by (beq e.taken.step.write write) (e.taken.step.element == element) e.taken.step.last last
@@ -115,7 +110,7 @@ module _ (idn : Idn) (blocks : List Block) (b : Block) (found : find_block idn.r
   pub command_last : (e : Entry) (entries log : List Entry) → IsTransfer (request.Command idn) blocks e entries log → e.taken.step.last ≡ true
   command_last e entries log is =
       let words = answer_words (replies_of entries) in
-      got_last (steps_of (request.Command idn) words) (length words) e.taken.step (polling_last (drop 2 words)) (newest_step (request.Command idn) blocks log e entries is)
+      all-slice_get (λ (s : Step). s.last) (steps_of (request.Command idn) words) (length words) e.taken.step (polling_last (drop 2 words)) (newest_step (request.Command idn) blocks log e entries is)
 
   -- the entry before the cancel is a poll
   pub is_poll : (d o : Entry) (past log : List Entry) → 2 ≤ length (o ∷ past) → IsTransfer (request.Command idn) blocks d (o ∷ past) log → is_whole (request.Command idn) (answer_words (replies_of (o ∷ past)) ++ d.answer.word ∷ []) ≡ false →

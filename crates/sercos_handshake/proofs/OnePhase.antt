@@ -2,6 +2,7 @@
 use Rattle.std.proofs.Common.{◌≡◌, ◌⊎◌, inl, inr, ⊎_elim, ℕ, zero, suc, ◌+◌, ◌*◌, ◌≤◌, Bool, true, false, not, ◌&&◌, List, [], ◌∷◌, ◌++◌, length, drop, replicate, refl, sym, ap, ◌∙◌, subst, arith, if◌then◌else◌, length-append}
 use Rattle.std.specs.Prelude.{◌==◌, Option, Some, None, is_some, slice_get}
 use Rattle.std.specs.List.{list_all}
+use Rattle.std.proofs.lemmas.Bool.{not-true}
 use Rattle.std.proofs.lemmas.Bool.Decides.{nat_tests}
 use mathlib.Core.Bool.{beq}
 use Rattle.sercos_telegram.specs.declared.words.Status.{Status}
@@ -18,7 +19,7 @@ use Rattle.sercos_service_master.specs.Begun.{Begun, step_at, with_step, steps_i
 use Rattle.sercos_block.specs.declared.block.Block.{Block}
 use Rattle.sercos_handshake.specs.InStep.{Idle, Sent, Kept, AreInStep, replies_of, steps_of as log_steps}
 use Rattle.sercos_handshake.specs.Transfers.{IsTransfer}
-use Rattle.sercos_handshake.proofs.TransferSteps.{newest_step, without_newest}
+use Rattle.sercos_handshake.proofs.TransferSteps.{all-slice_get, newest_step, without_newest}
 use Rattle.sercos_handshake.specs.Moves.{with_status, said_in, with_taken}
 use Rattle.sercos_handshake.proofs.HandshakeMoves.{parity, quiet_bit, said_bit, said_step, beq-self}
 use Rattle.sercos_handshake.proofs.UnknownBlocks.{first_step}
@@ -31,19 +32,6 @@ is_inner s = not (opens s)
 
 abbrev are_inner : List Step → Bool
 are_inner steps = list_all is_inner steps
-
-inner_at : (steps : List Step) (k : ℕ) (s : Step) → are_inner steps ≡ true → slice_get steps k ≡ Some s → is_inner s ≡ true
-inner_at [] k s all got = absurd (cc)
-inner_at (x ∷ steps) zero s all got = let same : x ≡ s = cc in ap is_inner (sym same) ∙ first (is_inner x) (are_inner steps) all
-  where
-    first : (a b : Bool) → (a && b) ≡ true → a ≡ true
-    first true b both = refl
-    first false b both = both
-inner_at (x ∷ steps) (suc k) s all got = inner_at steps k s (second (is_inner x) (are_inner steps) all) got
-  where
-    second : (a b : Bool) → (a && b) ≡ true → b ≡ true
-    second true b both = both
-    second false b both = absurd (cc)
 
 run_inner : (write : Bool) (e : ℕ) (words : List ℕ) → not (write && (e == 1)) ≡ true → are_inner (run write e words) ≡ true
 run_inner write e [] off = refl
@@ -93,20 +81,13 @@ get_drop : {A : Type 0} (xs : List A) (k : ℕ) (x : A) → slice_get xs (suc k)
 get_drop [] k x got = absurd (cc)
 get_drop (y ∷ xs) k x got = got
 
-not_inner : (s : Step) → is_inner s ≡ true → opens s ≡ false
-not_inner s inner = by (opens s) inner
-  where
-    by : (v : Bool) → not v ≡ true → v ≡ false
-    by true on = absurd (cc)
-    by false on = refl
-
 -- the next step after an answer opens none
 pub later_step : (r : Request) (a : Answer) (h : List Answer) (s : Step) → IsNamed r → next_step r (a ∷ h) ≡ Some s → opens s ≡ false
 later_step r a h s named next =
     let words = answer_words h ++ a.word ∷ [] in
     let long : length words ≡ suc (length (answer_words h)) = length-append (answer_words h) (a.word ∷ []) ∙ one (length (answer_words h)) in
     let got : slice_get (steps_of r words) (suc (length (answer_words h))) ≡ Some s = ap (slice_get (steps_of r words)) (sym long) ∙ next in
-    not_inner s (inner_at (drop 1 (steps_of r words)) (length (answer_words h)) s (rest_inner r words named) (get_drop (steps_of r words) (length (answer_words h)) s got))
+    not-true (opens s) (all-slice_get is_inner (drop 1 (steps_of r words)) (length (answer_words h)) s (rest_inner r words named) (get_drop (steps_of r words) (length (answer_words h)) s got))
   where
     one : (n : ℕ) → n + 1 ≡ suc n
     one n = omega arith
