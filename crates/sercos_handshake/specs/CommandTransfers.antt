@@ -69,6 +69,7 @@ abbrev pub EndsWithStatus : Type 0
 EndsWithStatus = (idn : Idn) (bytes : List ℕ) (blocks : List Block) (e : Entry) (entries log : List Entry) → IsTransfer (request.Command idn) blocks e entries log →
     outcome_of (request.Command idn) (replies_of (e ∷ entries)) ≡ Some (outcome.Complete bytes) → GivesStatus idn.raw bytes (e ∷ entries)
 
+-- the identifier number of a request
 abbrev pub idn_of : Request → Idn
 idn_of (request.Read idn e) = idn
 idn_of (request.Write idn e bytes) = idn
