@@ -1,4 +1,7 @@
 // The text of a trace: what the three calls write of records.
+ghost use Rattle.std.specs.Prelude.{◌≡◌, ◌<◌, length, None};
+ghost use Rattle.std.specs.List.{All};
+
 use arrayvec::ArrayVec;
 use sercos_bits::{Bytes, Content};
 use sercos_io::MemorySink;
@@ -11,7 +14,9 @@ use sercos_trace::{
 use std::test::Fail;
 
 // A ring of one drive at 4 Mbit/s.
-fn ring() -> Wishes {
+fn ring() -> Wishes
+    ensures { All (λ place. place < length result.drives) result.order }
+{
     let mut order = ArrayVec::new();
     order.push(0);
     let mut drives = ArrayVec::new();
@@ -61,10 +66,10 @@ fn content(bytes: &[u8]) -> Content {
     content
 }
 
-// The telegrams, moves and events of a cycle come in the order of the trace.
-#[test]
-fn lines(rt: HostRuntime) -> Result<(), Fail> {
-    let wishes = ring();
+// A cycle with three telegrams, two moves, an outcome and a fall.
+fn cycle() -> CycleRecord
+    ensures { result.events.plan ≡ None }
+{
     let mut record = CycleRecord::new();
     record.begin(121);
     push_sent(&mut record.sent, Kind::Mst, -49, 49, &content(&[255, 4]));
@@ -82,17 +87,31 @@ fn lines(rt: HostRuntime) -> Result<(), Fail> {
         72,
         &content(&[1, 0, 0, 0, 0]),
     );
-    for (phase, late) in [(4, false), (0, true)] {
-        record.moves.push(Move {
-            drive: 1,
-            phase,
-            late,
-        });
-    }
+    let _room = record.moves.try_push(Move {
+        drive: 1,
+        phase: 4,
+        late: false,
+    });
+    let _room = record.moves.try_push(Move {
+        drive: 1,
+        phase: 0,
+        late: true,
+    });
     let mut bytes = Bytes::new();
     bytes.assign(&[250, 255, 0, 0]);
-    record.events.outcomes.push((1, Outcome::Complete(bytes)));
+    let _room = record
+        .events
+        .outcomes
+        .try_push((1, Outcome::Complete(bytes)));
     record.events.fall = Some(Fall::AtLost(1));
+    record
+}
+
+// The telegrams, moves and events of a cycle come in the order of the trace.
+#[test]
+fn lines(rt: HostRuntime) -> Result<(), Fail> {
+    let wishes = ring();
+    let record = cycle();
     let totals = Totals {
         cycles: 122,
         phase: 4,
