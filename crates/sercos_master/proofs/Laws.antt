@@ -16,7 +16,7 @@ use Rattle.sercos_seat.specs.Channel.{count_requests}
 use Rattle.sercos_seat.specs.Seats.{AreWaiting}
 
 -- what waits for the next epoch changes with an epoch alone
-waiting_at : (s : Known) (place : Option ℕ) (content : List ℕ) (p : Past) → (after_at_of s place content p).waiting ≡ p.waiting
+pub waiting_at : (s : Known) (place : Option ℕ) (content : List ℕ) (p : Past) → (after_at_of s place content p).waiting ≡ p.waiting
 waiting_at s None content p = refl
 waiting_at s (Some k) content p = by (is_taken s p k content)
   where

@@ -11,7 +11,7 @@ use Rattle.sercos_master.specs.Annals.{Call, HearMst, HearAt, Mdt, End, Restart,
 use Rattle.sercos_seat.specs.Channel.{Report, broken_number, number_in}
 use Rattle.sercos_seat.specs.Ring.{Known}
 
--- outcomes stand ascending by the number of the request
+-- outcomes ascend by the number of the request
 abbrev pub inserted : ℕ → Outcome → List (ℕ × Outcome) → List (ℕ × Outcome)
 inserted number o [] = (number, o) ∷ []
 inserted number o (x ∷ reports) = if nat_lt number x.0 then (number, o) ∷ x ∷ reports else x ∷ inserted number o reports

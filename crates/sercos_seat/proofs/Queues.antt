@@ -34,7 +34,7 @@ pub ready_long : (d : MemberView) (outcomes : List Outcome) → is_ready d outco
 ready_long d outcomes e = ended_there outcomes (reads_count d + 12) (both_well d outcomes e).1
 
 -- where they have ended, one outcome more changes nothing
-ready_stays : (d : MemberView) (outcomes : List Outcome) (o : Outcome) → reads_count d + 12 < length outcomes → is_ready d (outcomes ++ o ∷ []) ≡ is_ready d outcomes
+pub ready_stays : (d : MemberView) (outcomes : List Outcome) (o : Outcome) → reads_count d + 12 < length outcomes → is_ready d (outcomes ++ o ∷ []) ≡ is_ready d outcomes
 ready_stays d outcomes o long =
     let a : given (outcomes ++ o ∷ []) (reads_count d + 11) ≡ given outcomes (reads_count d + 11) = before_end outcomes o (reads_count d + 11) (λ e. omega (arith, long, e)) in
     let b : given (outcomes ++ o ∷ []) (reads_count d + 12) ≡ given outcomes (reads_count d + 12) = before_end outcomes o (reads_count d + 12) (λ e. omega (arith, long, e)) in
