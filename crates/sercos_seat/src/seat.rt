@@ -40,6 +40,8 @@ const CHECK_127: usize = 11;
 
 const CHECK_128: usize = 12;
 
+/// One drive as the master keeps it: its channel, what its answers said, what was seen of it, and the requests that wait. Contracts
+/// see the record of what it keeps.
 #[derive(Drop)]
 pub struct Seat {
     member: Member,

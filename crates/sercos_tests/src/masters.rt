@@ -142,7 +142,9 @@ fn cycle_of(
     cycle: u32,
     lost: bool,
     notes: &mut Notes,
-) -> AnyMaster {
+) -> AnyMaster
+    requires { cycle ≤ 1000 }
+{
     let phase = master.command();
     let mut out = Content::new();
     master.mst(&mut out);
@@ -166,9 +168,9 @@ fn cycle_of(
     next
 }
 
-// So many cycles of a master with a drive, whose ATs are lost in two cycles.
+// What some cycles of a master with a drive showed, whose ATs are lost in two cycles.
 fn run(alloc: Global, one: &DriveSetup, first_lost: u32, cycles: u32) -> Result<Notes, AllocError>
-    requires { cycles ≤ 1000 }
+    requires { (cycles ≤ 1000) × (first_lost ≤ 1000) }
 {
     let mut notes = ArrayVec::new();
     let setup = ring(alloc)?;
