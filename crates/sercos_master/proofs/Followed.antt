@@ -24,11 +24,11 @@ use Rattle.sercos_service_master.specs.Calls as channel
 use Rattle.sercos_trace.specs.declared.events.Stop.{Stop}
 use Rattle.sercos_trace.specs.declared.events.Stop.TheVariants as stop
 use Rattle.sercos_seat.specs.Ring.{Known, Task, member, startup}
-use Rattle.sercos_seat.specs.Agenda.{agenda, reads, reads_count, writes, is_checked, wishes_given, last_long_stop, asked_by, stop_of_task, stop_by}
+use Rattle.sercos_seat.specs.Agenda.{agenda, reads, reads_count, writes, is_checked, wishes_given, last_long_stop, asked_by, stop_of_task}
 use Rattle.sercos_seat.specs.Channel.{with_outcome, outcomes_in, last_outcome, trouble_by, of_phase}
 use Rattle.sercos_seat.proofs.Gets.{get_map, get_left, get_right, get_none, length_map, length_append}
 use Rattle.sercos_seat.proofs.Agendas.{reads_length, ended_there}
-use Rattle.sercos_master.specs.Annals.{Call, HearMst, HearAt, Mdt, End, Restart, Past, past, outcomes, with_at, is_idle, is_taken, after_taken, after_at_of, after_at, place_of, trouble, first_trouble, first_trouble_from, with_stop, is_plan_due, all_read, with_plan, planned_by, with_due_plan, settled, has_turn, next_task, begins, with_task, with_begin, begun, ready_to_send, is_sent_to, addressed_in, after_mdt, fall_of, next_phase, goes_on, new_epoch, still_waiting, after_end}
+use Rattle.sercos_master.specs.Annals.{Call, HearMst, HearAt, Mdt, End, Restart, Past, past, outcomes, with_at, is_idle, is_taken, after_taken, after_at_of, place_of, trouble, first_trouble, first_trouble_from, with_stop, is_plan_due, all_read, with_plan, planned_by, with_due_plan, settled, has_turn, next_task, with_task, with_begin, begun, ready_to_send, is_sent_to, addressed_in, after_mdt, fall_of, next_phase, goes_on, new_epoch, still_waiting}
 use Rattle.sercos_master.specs.Written.{IsWritten, AreWritten}
 use Rattle.sercos_master.proofs.Configured.{configured}
 
@@ -282,14 +282,17 @@ begun_follows has s p k quiet all = by (is_none p.stop) (is_idle p k) (has_turn 
       where
         which : (b : Bool) → AllFollow s k p.plan (p.waiting k) (begun_by (with_begin (if b then Some t else None) (p.calls k))) (with_task (if b then Some t else None) (p.tasks k))
         which false = all
-        which true = (all, record {
-          asks = refl;
-          by_then = p.plan;
-          same = inr refl;
-          next = e;
-          ended = all_ended has s k p.plan (p.waiting k) (begun_by (p.calls k)) (p.tasks k) all idle;
-          well = ended_well has s p k all idle (quiet (none_is p.stop free));
-        })
+        which true = (
+          all,
+          record {
+            asks = refl;
+            by_then = p.plan;
+            same = inr refl;
+            next = e;
+            ended = all_ended has s k p.plan (p.waiting k) (begun_by (p.calls k)) (p.tasks k) all idle;
+            well = ended_well has s p k all idle (quiet (none_is p.stop free));
+          },
+        )
 
     by : (free idle turn : Bool) → is_none p.stop ≡ free → is_idle p k ≡ idle →
         AllFollow s k p.plan (p.waiting k) (begun_by (with_begin (if free && (idle && turn) then of_phase p.now.phase (next_task s p k) else None) (p.calls k))) (with_task (if free && (idle && turn) then of_phase p.now.phase (next_task s p k) else None) (p.tasks k))

@@ -1,7 +1,7 @@
 -- A request that begins is the first one that still waits.
-use Rattle.std.proofs.Common.{◌≡◌, ◌⊎◌, inl, inr, ℕ, zero, suc, ◌+◌, ◌<◌, ◌≤◌, Bool, true, false, List, [], ◌∷◌, ◌++◌, length, refl, sym, ap, ◌∙◌, subst, arith, if◌then◌else◌, length-append}
+use Rattle.std.proofs.Common.{◌≡◌, ℕ, zero, suc, ◌+◌, ◌<◌, ◌≤◌, Bool, true, false, List, [], ◌∷◌, ◌++◌, length, refl, sym, ap, ◌∙◌, subst, arith, if◌then◌else◌, length-append}
 use Rattle.std.specs.Prelude.{◌==◌, ◌&&◌, nat_lt, Option, Some, None, is_some, is_none, map, drop, slice_get, option_map, unwrap_or}
-use Rattle.std.proofs.lemmas.Bool.{cases_eq, false≢true}
+use Rattle.std.proofs.lemmas.Bool.{false≢true}
 use Rattle.std.proofs.lemmas.Bool.Decides.{nat_tests}
 use Rattle.std.proofs.lemmas.List.{drop-drop}
 use Rattle.sercos_step.specs.declared.request.Job.{Job}
@@ -12,15 +12,14 @@ use Rattle.sercos_step.specs.Steps.{outcome_of}
 use Rattle.sercos_timing.specs.Views.{PlanView}
 use Rattle.sercos_service_master.specs.Begun.{Begun}
 use Rattle.sercos_service_master.specs.Calls.{begun_by}
-use Rattle.sercos_seat.specs.Ring.{Known, MemberView, Task, member, startup, request_task, tasks_from, tasks_for, with_job}
-use Rattle.sercos_seat.specs.Agenda.{agenda, checking, reads, reads_count, writes, idn, bytes_of, ended_well, given, is_checked, is_ready}
+use Rattle.sercos_seat.specs.Ring.{Known, Task, member, startup, request_task, tasks_from, tasks_for}
+use Rattle.sercos_seat.specs.Agenda.{agenda, checking, reads, reads_count, writes, idn, bytes_of, ended_well, is_ready}
 use Rattle.sercos_seat.specs.Channel.{with_outcome, outcomes_in, of_phase, count_requests}
-use Rattle.sercos_seat.specs.Seats.{AreWaiting}
-use Rattle.sercos_seat.proofs.Gets.{get_none, get_some, length_map, length_append}
+use Rattle.sercos_seat.proofs.Gets.{get_none, length_map, length_append}
 use Rattle.sercos_seat.proofs.Agendas.{reads_length}
-use Rattle.sercos_seat.proofs.Queues.{ready_long, ready_stays, next_request, none_4, none_planned_4}
+use Rattle.sercos_seat.proofs.Queues.{ready_long, ready_stays, next_request, none_4}
 use Rattle.sercos_master.specs.Annals.{Call, HearMst, HearAt, Mdt, End, Restart, Past, past, outcomes, is_idle, has_turn, next_task, begins, settled, still_waiting, after_end, fall_of, next_phase, goes_on, new_epoch}
-use Rattle.sercos_master.proofs.Laws.{waiting_at, waiting_settled, jobs_waiting}
+use Rattle.sercos_master.proofs.Laws.{waiting_at, waiting_settled}
 use Rattle.sercos_master.proofs.Followed.{HasNext, AllFollow, Followed, Follows, followed, settled_follows, settles, all_ended}
 
 none≢some : {A : Type 0} {x : A} → None ≡ Some x → ⊥

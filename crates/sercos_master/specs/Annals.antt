@@ -1,6 +1,6 @@
 -- What an epoch has brought so far, and what each call adds to it. An epoch begins at the opening, after a fall, and with a
 -- restart. Every list has its newest item first.
-use Rattle.std.specs.Prelude.{◌≡◌, ℕ, zero, suc, ◌+◌, ◌-◌, ◌*◌, ◌==◌, nat_le, Bool, true, false, not, ◌&&◌, ◌||◌, if◌then◌else◌, List, [], ◌∷◌, ◌++◌, length, drop, Option, Some, None, Result, Ok, Err, is_some, is_none, option_map, slice_get, slice_index}
+use Rattle.std.specs.Prelude.{◌≡◌, ℕ, zero, suc, ◌+◌, ◌==◌, nat_le, Bool, true, false, not, ◌&&◌, ◌||◌, if◌then◌else◌, List, [], ◌∷◌, length, drop, Option, Some, None, Result, Ok, Err, is_some, is_none, option_map, slice_get, slice_index}
 use Rattle.std.specs.Option.{option_or}
 use Rattle.sercos_telegram.specs.Words.{status_of}
 use Rattle.sercos_telegram.specs.Spells.{word_at}

@@ -1,5 +1,5 @@
 -- What the master keeps of its ring, and how that stands for what it looks back on.
-use Rattle.std.specs.Prelude.{zero, suc, unwrap_or, ◌-◌, ◌*◌, ◌^◌, ◌%◌, ◌||◌, slice_index_or, ◌≡◌, ℕ, ◌+◌, ◌<◌, ◌≤◌, ◌==◌, ◌++◌, nat_le, nat_lt, if◌then◌else◌, Bool, false, not, ◌&&◌, List, [], ◌∷◌, length, min, Option, Some, None, is_some}
+use Rattle.std.specs.Prelude.{zero, suc, unwrap_or, ◌^◌, ◌%◌, slice_index_or, ◌≡◌, ℕ, ◌+◌, ◌<◌, ◌≤◌, ◌==◌, ◌++◌, nat_le, nat_lt, if◌then◌else◌, Bool, false, not, ◌&&◌, List, [], ◌∷◌, length, min, Option, Some, None, is_some}
 use Rattle.sercos_step.specs.declared.request.Outcome.{Outcome}
 use Rattle.std.specs.List.{position}
 use Rattle.sercos_timing.specs.Views.{PlanView}

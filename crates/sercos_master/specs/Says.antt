@@ -1,5 +1,5 @@
 -- What the master sends.
-use Rattle.std.specs.Prelude.{ℕ, zero, suc, ◌+◌, ◌*◌, ◌/◌, ◌%◌, ◌==◌, nat_le, false, if◌then◌else◌, List, [], ◌∷◌, ◌++◌, length, Option, None, option_map}
+use Rattle.std.specs.Prelude.{ℕ, zero, suc, ◌+◌, ◌==◌, nat_le, false, if◌then◌else◌, List, [], ◌∷◌, ◌++◌, length, Option, None, option_map}
 use Rattle.sercos_telegram.specs.Spells.{all_drives, mst_content}
 use Rattle.sercos_service_master.specs.Begun.{Said, no_step, master_says}
 use Rattle.sercos_service_master.specs.Calls.{begun_by}

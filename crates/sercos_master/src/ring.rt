@@ -14,18 +14,17 @@ ghost use Rattle.sercos_seat.specs.Channel.{is_place};
 ghost use Rattle.sercos_seat.specs.Seats.{broken_in, outcomes_seen, SeatView, has_read, cycles_kept, ended_in, forgotten, sent_in, with_begun, begun_task, Seen, AreWaiting, at_len_kept};
 ghost use Rattle.sercos_master.specs.Kept.{IsIn, sent_now, Fits, records_upto, is_same, waited_with, SeatsStandFor, CoreStandsFor};
 
-use sercos_seat::Numbers;
 use crate::opening::{deal, open_seats};
 use crate::reports::add;
-use sercos_seat::Seat;
 use arrayvec::ArrayVec;
-use sercos_step::{Job, byte_at};
 use sercos_bits::Content;
-use sercos_telegram::{Control, joint_begin, read_mst, write_single};
+use sercos_block::{RingSetup, ring_law};
 use sercos_plan::{Chain, plan};
+use sercos_seat::{Numbers, Seat};
+use sercos_step::{Job, byte_at};
+use sercos_telegram::{Control, joint_begin, read_mst, write_single};
 use sercos_timing::{Plan, Wish, Wishes, valid};
 use sercos_trace::{Fall, Reported, Stop};
-use sercos_block::{RingSetup, ring_law};
 use std::alloc::{AllocError, Global};
 use std::marker::Model;
 
@@ -631,7 +630,10 @@ impl Ring {
     }
 
     // Ends the cycle: the ring falls, or goes on, in the next phase if all that belongs to this one is done.
-    pub fn end_cycle(&mut self, reports: &mut ArrayVec<Reported, 128>) -> (Option<Fall>, Option<Stop>)
+    pub fn end_cycle(
+        &mut self,
+        reports: &mut ArrayVec<Reported, 128>,
+    ) -> (Option<Fall>, Option<Stop>)
         ensures stands { (s : Known) (p : Past) → CoreStandsFor self.old s p → CoreStandsFor self.new s (after_end s p) }
         ensures fall { (s : Known) (p : Past) → CoreStandsFor self.old s p → result.0 ≡ fall_of s p }
         ensures stop { (s : Known) (p : Past) → CoreStandsFor self.old s p → result.1 ≡ stop_told p }

@@ -1,5 +1,5 @@
 -- A drive's record in an MDT.
-use Rattle.std.specs.Prelude.{ℕ, ◌+◌, ◌*◌, ◌/◌, ◌%◌, ◌==◌, if◌then◌else◌, List, [], ◌∷◌, ◌++◌, take, cond}
+use Rattle.std.specs.Prelude.{ℕ, ◌+◌, ◌*◌, ◌/◌, ◌%◌, List, [], ◌∷◌, ◌++◌, take, cond}
 use Rattle.sercos_telegram.specs.Spells.{fields}
 use Rattle.sercos_service_master.specs.Begun.{Said}
 use Rattle.sercos_seat.specs.Agenda.{len_or_none}

@@ -1,5 +1,5 @@
 -- What the master keeps of one drive, and how that stands for what it looks back on.
-use Rattle.std.specs.Prelude.{reverse, unwrap_or, ◌-◌, slice_get, ◌*◌, ◌^◌, ◌%◌, ◌||◌, sum_by, slice_index_or, ◌≡◌, ℕ, ◌+◌, ◌<◌, ◌≤◌, ◌==◌, ◌++◌, nat_le, nat_lt, if◌then◌else◌, Bool, true, false, not, ◌&&◌, List, [], ◌∷◌, length, map, take, drop, min, Option, Some, None, is_some, option_map, is_none}
+use Rattle.std.specs.Prelude.{reverse, unwrap_or, ◌-◌, slice_get, ◌*◌, sum_by, slice_index_or, ◌≡◌, ℕ, ◌+◌, ◌≤◌, ◌==◌, ◌++◌, nat_le, nat_lt, if◌then◌else◌, Bool, true, false, not, ◌&&◌, List, [], ◌∷◌, length, map, take, drop, min, Option, Some, None, is_some, option_map, is_none}
 use Rattle.sercos_step.specs.declared.request.Outcome.{Outcome}
 use Rattle.sercos_service_master.specs.Kept.{MasterView, MasterStandsFor}
 use Rattle.std.specs.Option.{option_or}

@@ -30,12 +30,7 @@ impl Model for Member {
 
 impl Member {
     /// A drive by its address, its slave, and what its AT and its data record are to carry.
-    pub fn new(
-        address: u8,
-        slave: u8,
-        at: ArrayVec<Idn, 16>,
-        mdt: ArrayVec<Idn, 16>,
-    ) -> Member
+    pub fn new(address: u8, slave: u8, at: ArrayVec<Idn, 16>, mdt: ArrayVec<Idn, 16>) -> Member
         ensures { (result.address ≡ address) × (result.slave ≡ slave) × (result.at ≡ at.items) × (result.mdt ≡ mdt.items) }
     {
         Member {

@@ -17,18 +17,19 @@ ghost use Rattle.sercos_service_master.specs.Calls.{begun_by};
 ghost use Rattle.sercos_seat.specs.Seats.{pair_of, broken_in, record_seen, record_len_kept, mdt_words_kept, IsQueue, sent_in, forgotten, after_outcome, words_of, Seen, SeatStandsFor, heard_in, identified_in, taken_in, at_in, begun_in, with_begun, is_idle_in, has_read, cycles_kept, nothing_seen, ended_in, AreWaiting, outcomes_seen, next_write, next_in_2, next_in_3, at_len_kept, IsSeat, kept_given, kept_checked, kept_ready};
 
 use crate::answers::{
-    Asked, Words, asked_by, command_values, ended_well, last_long_stop, listed_len, low_at, outcome_bytes, part, words_in,
+    Asked, Words, asked_by, command_values, ended_well, last_long_stop, listed_len, low_at,
+    outcome_bytes, part, words_in,
 };
 use crate::member::{Member, Numbers, command, number_at, read, write_list, write_word};
 use crate::queue::{Waiting, is_request};
 use arrayvec::ArrayVec;
+use sercos_bits::Content;
+use sercos_idn::Idn;
 use sercos_service_master::MasterChannel;
 use sercos_step::{Outcome, Request};
-use sercos_bits::Content;
 use sercos_telegram::{Control, Record, Status, joint_record, read_at, write_single};
 use sercos_timing::{Plan, Times, Wish};
 use sercos_trace::{Reported, Stop};
-use sercos_idn::Idn;
 use std::alloc::{AllocError, Global};
 use std::marker::Model;
 

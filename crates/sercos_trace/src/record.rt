@@ -91,7 +91,13 @@ impl Model for CycleRecord {
 
 /// Appends a telegram: its kind, its start in bit times after the MST's end, the length of its frame in bits, and its
 /// content, which is copied.
-pub fn push_sent(sent: &mut ArrayVec<Sent, 66>, kind: Kind, start: i32, bits: u32, content: &Content)
+pub fn push_sent(
+    sent: &mut ArrayVec<Sent, 66>,
+    kind: Kind,
+    start: i32,
+    bits: u32,
+    content: &Content,
+)
     requires { length sent.old.items < 66 }
     ensures items { sent.new.items ≡ sent.old.items ++ (record { kind = kind; start = start; bits = bits; content = content.now }) ∷ [] }
     ensures len { length sent.new.items ≡ length sent.old.items + 1 }
