@@ -1,0 +1,442 @@
+-- What was begun on a channel in an epoch followed its agenda: each task was the next one after the outcomes of those begun before,
+-- which had all ended, those of the start-up without error.
+use Rattle.std.proofs.Common.{◌≡◌, ◌⊎◌, inl, inr, ℕ, zero, suc, ◌+◌, ◌<◌, ◌≤◌, Bool, true, false, List, [], ◌∷◌, ◌++◌, length, refl, sym, ap, ◌∙◌, subst, arith, if◌then◌else◌, length-append}
+use Rattle.std.specs.Prelude.{◌==◌, ◌&&◌, not, nat_le, Option, Some, None, Result, Ok, Err, is_some, is_none, map, slice_get, slice_index}
+use Rattle.std.specs.Option.{option_or}
+use Rattle.std.proofs.lemmas.Bool.{and_parts, cases_eq, false≢true}
+use Rattle.std.proofs.lemmas.Bool.Decides.{nat_tests}
+use Rattle.sercos_telegram.specs.declared.words.Status.{Status}
+use Rattle.sercos_telegram.specs.Words.{status_of}
+use Rattle.sercos_telegram.specs.Spells.{word_at}
+use Rattle.sercos_step.specs.declared.request.Request.{Request}
+use Rattle.sercos_step.specs.declared.request.Outcome.{Outcome}
+use Rattle.sercos_step.specs.declared.request.Outcome.TheVariants as outcome
+use Rattle.sercos_step.specs.declared.step.Answer.{Answer}
+use Rattle.sercos_step.specs.declared.step.Step.{Step}
+use Rattle.sercos_step.specs.Steps.{is_whole, answer_words, result_of, outcome_of, next_step}
+use Rattle.sercos_timing.specs.Order.{record_bytes}
+use Rattle.sercos_timing.specs.Views.{PlanView}
+use Rattle.sercos_plan.specs.Views.{ChainView}
+use Rattle.sercos_plan.specs.ChainOf.{planned}
+use Rattle.sercos_service_master.specs.Begun.{Begun, open_in, answers_it, answer_in, with_answer}
+use Rattle.sercos_service_master.specs.Calls.{Hear, begun_by}
+use Rattle.sercos_service_master.specs.Calls as channel
+use Rattle.sercos_trace.specs.declared.events.Stop.{Stop}
+use Rattle.sercos_trace.specs.declared.events.Stop.TheVariants as stop
+use Rattle.sercos_seat.specs.Ring.{Known, Task, member, startup}
+use Rattle.sercos_seat.specs.Agenda.{agenda, reads, reads_count, writes, is_checked, wishes_given, last_long_stop, asked_by, stop_of_task}
+use Rattle.sercos_seat.specs.Channel.{with_outcome, outcomes_in, last_outcome, trouble_by, of_phase}
+use Rattle.sercos_seat.proofs.Gets.{get_map, get_left, get_right, get_none, length_map, length_append}
+use Rattle.sercos_seat.proofs.Agendas.{reads_length, ended_there}
+use Rattle.sercos_master.specs.Annals.{Call, HearMst, HearAt, Mdt, End, Restart, Past, past, outcomes, with_at, is_idle, is_taken, after_taken, after_at_of, place_of, trouble, first_trouble, first_trouble_from, with_stop, is_plan_due, all_read, with_plan, planned_by, with_due_plan, settled, has_turn, next_task, with_task, with_begin, begun, ready_to_send, is_sent_to, addressed_in, after_mdt, fall_of, next_phase, goes_on, new_epoch, still_waiting}
+use Rattle.sercos_master.specs.Written.{IsWritten, AreWritten}
+use Rattle.sercos_master.proofs.Configured.{configured}
+
+-- a transfer without an outcome has a next step
+abbrev pub HasNext : Type 0
+HasNext = (r : Request) (h : List Answer) → is_some (outcome_of r h) ≡ false → is_some (next_step r h) ≡ true
+
+-- where the newest of these is of the start-up, it ended without error
+abbrev pub HasEndedWell : List Begun → List Task → Type 0
+HasEndedWell (b ∷ older) (t ∷ tasks) = t.number ≡ None → (bytes : List ℕ) × (outcome_of b.request b.answers ≡ Some (outcome.Complete bytes))
+HasEndedWell _ _ = Unit {0}
+
+-- by the plan, or before there was one
+pub record Follows (s : Known) (k : ℕ) (plan : Option PlanView) (waiting : List Task) (b : Begun) (t : Task) (older : List Begun) (tasks : List Task) : Type 0 where
+  pub asks : b.request ≡ t.request
+  pub by_then : Option PlanView
+  pub same : (by_then ≡ None) ⊎ (by_then ≡ plan)
+  pub next : slice_get (agenda s by_then waiting k (outcomes_in older)) (length (outcomes_in older)) ≡ Some t
+  pub ended : length (outcomes_in older) ≡ length older
+  pub well : HasEndedWell older tasks
+
+abbrev pub AllFollow : Known → ℕ → Option PlanView → List Task → List Begun → List Task → Type 0
+AllFollow s k plan waiting [] [] = Unit {0}
+AllFollow s k plan waiting (b ∷ older) (t ∷ tasks) = AllFollow s k plan waiting older tasks × Follows s k plan waiting b t older tasks
+AllFollow s k plan waiting _ _ = ⊥
+
+abbrev pub Followed : Known → Past → ℕ → Type 0
+Followed s p k = AllFollow s k p.plan (p.waiting k) (begun_by (p.calls k)) (p.tasks k)
+
+-- A PLAN COMES where there was none.
+new_plan : (s : Known) (k : ℕ) (plan other : Option PlanView) (waiting : List Task) (begun : List Begun) (tasks : List Task) → (plan ≡ None) ⊎ (other ≡ plan) →
+    AllFollow s k plan waiting begun tasks → AllFollow s k other waiting begun tasks
+new_plan s k plan other waiting [] [] how all = tt
+new_plan s k plan other waiting [] (t ∷ tasks) how all = all
+new_plan s k plan other waiting (b ∷ older) [] how all = all
+new_plan s k plan other waiting (b ∷ older) (t ∷ tasks) how all = (new_plan s k plan other waiting older tasks how all.0, one all.1)
+  where
+    one : Follows s k plan waiting b t older tasks → Follows s k other waiting b t older tasks
+    one f = record { asks = f.asks; by_then = f.by_then; same = which how f.same; next = f.next; ended = f.ended; well = f.well }
+      where
+        which : (plan ≡ None) ⊎ (other ≡ plan) → (f.by_then ≡ None) ⊎ (f.by_then ≡ plan) → (f.by_then ≡ None) ⊎ (f.by_then ≡ other)
+        which how (inl none) = inl none
+        which (inl none) (inr is) = inl (is ∙ none)
+        which (inr same) (inr is) = inr (is ∙ sym same)
+
+-- A STATUS IS HEARD.
+answered : (s : Known) (k : ℕ) (plan : Option PlanView) (waiting : List Task) (a : Answer) (begun : List Begun) (tasks : List Task) →
+    AllFollow s k plan waiting begun tasks → AllFollow s k plan waiting (with_answer a begun) tasks
+answered s k plan waiting a [] tasks all = all
+answered s k plan waiting a (b ∷ older) [] all = all
+answered s k plan waiting a (b ∷ older) (t ∷ tasks) all = (all.0, record { asks = all.1.asks; by_then = all.1.by_then; same = all.1.same; next = all.1.next; ended = all.1.ended; well = all.1.well })
+
+hears : (s : Known) (k : ℕ) (plan : Option PlanView) (waiting : List Task) (status : Status) (word : ℕ) (calls : List channel.Call) (tasks : List Task) →
+    AllFollow s k plan waiting (begun_by calls) tasks → AllFollow s k plan waiting (begun_by (Hear status word ∷ calls)) tasks
+hears s k plan waiting status word calls tasks all = by (answers_it (begun_by calls) status)
+  where
+    by : (b : Bool) → AllFollow s k plan waiting (if b then with_answer (answer_in status word) (begun_by calls) else begun_by calls) tasks
+    by true = answered s k plan waiting (answer_in status word) (begun_by calls) tasks all
+    by false = all
+
+at_follows : (s : Known) (place : Option ℕ) (content : List ℕ) (p : Past) (k : ℕ) → Followed s p k → Followed s (after_at_of s place content p) k
+at_follows s None content p k all = all
+at_follows s (Some i) content p k all = by (is_taken s p i content)
+  where
+    one : (identifies : Bool) → AllFollow s k p.plan (p.waiting k) (begun_by (if identifies then p.calls k else Hear (status_of (word_at content 1)) (word_at content 3) ∷ p.calls k)) (p.tasks k)
+    one true = all
+    one false = hears s k p.plan (p.waiting k) (status_of (word_at content 1)) (word_at content 3) (p.calls k) (p.tasks k) all
+
+    here : Followed s (after_taken i content p) k
+    here = elim (cases_eq k i) [
+      | inl is ↦ subst (λ n. AllFollow s k p.plan (p.waiting k) (begun_by (with_at n (if p.now.phase == 1 then p.calls n else Hear (status_of (word_at content 1)) (word_at content 3) ∷ p.calls n) p.calls k)) (p.tasks k)) is
+          (let t : (k == k) ≡ true = grind (arith, nat_tests) in rw t (one (p.now.phase == 1)))
+      | inr n ↦ let f : (k == i) ≡ false = grind (arith, nat_tests, n) in rw f all
+    ]
+
+    by : (t : Bool) → Followed s (if t then after_taken i content p else p) k
+    by true = here
+    by false = all
+
+-- THE ANSWERS ARE LOOKED AT.
+pub record Settles (q p : Past) : Type 0 where
+  pub calls : q.calls ≡ p.calls
+  pub tasks : q.tasks ≡ p.tasks
+  pub waiting : q.waiting ≡ p.waiting
+  pub plan : (p.plan ≡ None) ⊎ (q.plan ≡ p.plan)
+
+settles_stop : (x : Option Stop) (p : Past) → Settles (with_stop x p) p
+settles_stop None p = record { calls = refl; tasks = refl; waiting = refl; plan = inr refl }
+settles_stop (Some x) p = by (is_some p.stop)
+  where
+    by : (t : Bool) → Settles (if t then p else record p { now = record p.now { stops = true }; stop = Some x }) p
+    by true = record { calls = refl; tasks = refl; waiting = refl; plan = inr refl }
+    by false = record { calls = refl; tasks = refl; waiting = refl; plan = inr refl }
+
+settles_due : (s : Known) (p : Past) → Settles (with_due_plan s p) p
+settles_due s p = by (is_plan_due s p) refl
+  where
+    none_is : {A : Type 0} (o : Option A) → is_none o ≡ true → o ≡ None
+    none_is None e = refl
+    none_is (Some x) e = absurd (false≢true e)
+
+    plan : (r : Result PlanView ChainView) → p.plan ≡ None → Settles (with_plan r p) p
+    plan (Ok q) none = record { calls = refl; tasks = refl; waiting = refl; plan = inl none }
+    plan (Err chain) none = settles_stop (Some (stop.NoFit chain)) p
+
+    made : p.plan ≡ None → (fits : Bool) → Settles (if fits then with_plan (planned (wishes_given s (outcomes p))) p else with_stop (last_long_stop s.drives 0 (outcomes p)) p) p
+    made none true = plan (planned (wishes_given s (outcomes p))) none
+    made none false = settles_stop (last_long_stop s.drives 0 (outcomes p)) p
+
+    by : (t : Bool) → is_plan_due s p ≡ t → Settles (if t then planned_by s p else p) p
+    by false e = record { calls = refl; tasks = refl; waiting = refl; plan = inr refl }
+    by true e =
+        let more = (and_parts (p.now.phase == 2) _ e).1 in
+        let two = (and_parts (is_none p.stop) _ more).1 in
+        made (none_is p.plan (and_parts (is_none p.plan) (all_read s p) two).0) (nat_le (record_bytes (wishes_given s (outcomes p)).drives) 2047)
+
+pub settles : (s : Known) (p : Past) → Settles (settled s p) p
+settles s p = join (settles_due s (with_stop (first_trouble s p) p)) (settles_stop (first_trouble s p) p)
+  where
+    join : {a b c : Past} → Settles a b → Settles b c → Settles a c
+    join {a} {b} {c} x y = record { calls = x.calls ∙ y.calls; tasks = x.tasks ∙ y.tasks; waiting = x.waiting ∙ y.waiting; plan = which x.plan y.plan }
+      where
+        which : (b.plan ≡ None) ⊎ (a.plan ≡ b.plan) → (c.plan ≡ None) ⊎ (b.plan ≡ c.plan) → (c.plan ≡ None) ⊎ (a.plan ≡ c.plan)
+        which e (inl none) = inl none
+        which (inl none) (inr same) = inl (sym same ∙ none)
+        which (inr e) (inr same) = inr (e ∙ same)
+
+pub settled_follows : (s : Known) (p : Past) (k : ℕ) → Followed s p k → Followed s (settled s p) k
+settled_follows s p k all =
+    let q = settles s p in
+    rw (q.calls, q.tasks, q.waiting) (new_plan s k p.plan (settled s p).plan (p.waiting k) (begun_by (p.calls k)) (p.tasks k) q.plan all)
+
+-- where there is no stop then, no channel's newest outcome is a trouble
+no_stop_before : (s : Known) (p : Past) → (settled s p).stop ≡ None → first_trouble s p ≡ None
+no_stop_before s p none = by (first_trouble s p) refl
+  where
+    some≢none : {A : Type 0} {x : A} → Some x ≡ None → ⊥
+    some≢none e = cc
+
+    stop_stays : (x : Option Stop) (q : Past) → (with_stop x q).stop ≡ None → q.stop ≡ None
+    stop_stays None q e = e
+    stop_stays (Some x) q e = which q.stop refl e
+      where
+        which : (o : Option Stop) → q.stop ≡ o → (if is_some o then q else record q { now = record q.now { stops = true }; stop = Some x }).stop ≡ None → q.stop ≡ None
+        which None f e = f
+        which (Some y) f e = e
+
+    due_stays : (q : Past) → (with_due_plan s q).stop ≡ None → q.stop ≡ None
+    due_stays q = which (is_plan_due s q)
+      where
+        plan : (r : Result PlanView ChainView) → (with_plan r q).stop ≡ None → q.stop ≡ None
+        plan (Ok made) e = e
+        plan (Err chain) e = stop_stays (Some (stop.NoFit chain)) q e
+
+        fits : (b : Bool) → (if b then with_plan (planned (wishes_given s (outcomes q))) q else with_stop (last_long_stop s.drives 0 (outcomes q)) q).stop ≡ None → q.stop ≡ None
+        fits true e = plan (planned (wishes_given s (outcomes q))) e
+        fits false e = stop_stays (last_long_stop s.drives 0 (outcomes q)) q e
+
+        which : (b : Bool) → (if b then planned_by s q else q).stop ≡ None → q.stop ≡ None
+        which true e = fits (nat_le (record_bytes (wishes_given s (outcomes q)).drives) 2047) e
+        which false e = e
+
+    kept : (with_stop (first_trouble s p) p).stop ≡ None
+    kept = due_stays (with_stop (first_trouble s p) p) none
+
+    by : (x : Option Stop) → first_trouble s p ≡ x → first_trouble s p ≡ None
+    by None e = e
+    by (Some x) e = absurd (stops p.stop refl (subst (λ o. (with_stop o p).stop ≡ None) e kept))
+      where
+        stops : (o : Option Stop) → p.stop ≡ o → (if is_some o then p else record p { now = record p.now { stops = true }; stop = Some x }).stop ≡ None → ⊥
+        stops None f e = some≢none e
+        stops (Some y) f e = some≢none (sym f ∙ e)
+
+none_troubled : (s : Known) (p : Past) (k n j : ℕ) → first_trouble_from s p k n ≡ None → k ≤ j → j < k + n → trouble s p j ≡ None
+none_troubled s p k zero j e low high = absurd (omega (arith, low, high))
+none_troubled s p k (suc n) j e low high = by (trouble s p k) refl e (λ rest other. none_troubled s p (k + 1) n j rest (omega (arith, low, other)) (omega (arith, high)))
+  where
+    by : (o : Option Stop) → trouble s p k ≡ o → option_or o (first_trouble_from s p (k + 1) n) ≡ None → (first_trouble_from s p (k + 1) n ≡ None → (j ≡ k → ⊥) → trouble s p j ≡ None) → trouble s p j ≡ None
+    by None f e rest = elim (cases_eq j k) [ inl is ↦ ap (trouble s p) is ∙ f | inr other ↦ rest e other ]
+    by (Some x) f e rest = absurd (cc)
+
+-- A TASK BEGINS.
+-- an idle channel's requests have all ended
+pub all_ended : HasNext → (s : Known) (k : ℕ) (plan : Option PlanView) (waiting : List Task) (begun : List Begun) (tasks : List Task) → AllFollow s k plan waiting begun tasks →
+    is_none (open_in begun) ≡ true → length (outcomes_in begun) ≡ length begun
+all_ended has s k plan waiting [] tasks all idle = refl
+all_ended has s k plan waiting (b ∷ older) [] all idle = absurd all
+all_ended has s k plan waiting (b ∷ older) (t ∷ tasks) all idle = by (outcome_of b.request b.answers) refl
+  where
+    by : (o : Option Outcome) → outcome_of b.request b.answers ≡ o → length (with_outcome o (outcomes_in older)) ≡ suc (length older)
+    by (Some o) e = let l = length-append (outcomes_in older) (o ∷ []) in let f = all.1.ended in omega (arith, l, f)
+    by None e =
+        let goes_on : is_some (next_step b.request b.answers) ≡ true = has b.request b.answers (ap is_some e) in
+        let none : is_none (next_step b.request b.answers) ≡ true = subst (λ o. is_none (if is_some o then None else next_step b.request b.answers) ≡ true) e idle in
+        absurd (some_none (next_step b.request b.answers) goes_on none)
+      where
+        some_none : (o : Option Step) → is_some o ≡ true → is_none o ≡ true → ⊥
+        some_none None e f = false≢true e
+        some_none (Some x) e f = false≢true f
+
+-- an outcome of the start-up that brings no stop is complete
+ends_complete : (address : ℕ) (b : Begun) (older : List Begun) (t : Task) (tasks : List Task) → is_none (open_in (b ∷ older)) ≡ true → HasNext →
+    trouble_by address (t ∷ tasks) (outcome_of b.request b.answers) ≡ None → t.number ≡ None → (bytes : List ℕ) × (outcome_of b.request b.answers ≡ Some (outcome.Complete bytes))
+ends_complete address b older t tasks idle has quiet startup = by (outcome_of b.request b.answers) refl
+  where
+    some_none : (o : Option Step) → is_some o ≡ true → is_none o ≡ true → ⊥
+    some_none None e f = false≢true e
+    some_none (Some x) e f = false≢true f
+
+    never_broken : (r : Request) (h : List Answer) → outcome_of r h ≡ Some outcome.Broken → ⊥
+    never_broken r [] e = cc
+    never_broken r (a ∷ h) e = which a.error (is_whole r (answer_words h ++ a.word ∷ [])) e
+      where
+        which : (error whole : Bool) → (if error then Some (outcome.Refused (record { raw = a.word })) else (if whole then Some (outcome.Complete (result_of r (answer_words h ++ a.word ∷ []))) else None)) ≡ Some outcome.Broken → ⊥
+        which true whole e = cc
+        which false true e = cc
+        which false false e = cc
+
+    by : (o : Option Outcome) → outcome_of b.request b.answers ≡ o → (bytes : List ℕ) × (outcome_of b.request b.answers ≡ Some (outcome.Complete bytes))
+    by (Some (outcome.Complete bytes)) e = (bytes, e)
+    by (Some (outcome.Refused code)) e =
+        let stops : stop_of_task address t.number (asked_by t.request) (outcome.Refused code) ≡ None = subst (λ o. trouble_by address (t ∷ tasks) o ≡ None) e quiet in
+        absurd (some≢none (subst (λ n. stop_of_task address n (asked_by t.request) (outcome.Refused code) ≡ None) startup stops))
+      where
+        some≢none : {A : Type 0} {x : A} → Some x ≡ None → ⊥
+        some≢none e = cc
+    by (Some outcome.Broken) e = absurd (never_broken b.request b.answers e)
+    by None e =
+        let goes_on : is_some (next_step b.request b.answers) ≡ true = has b.request b.answers (ap is_some e) in
+        let none : is_none (next_step b.request b.answers) ≡ true = subst (λ o. is_none (if is_some o then None else next_step b.request b.answers) ≡ true) e idle in
+        absurd (some_none (next_step b.request b.answers) goes_on none)
+
+ended_well : HasNext → (s : Known) (p : Past) (k : ℕ) → Followed s p k → is_idle p k ≡ true → trouble s p k ≡ None → HasEndedWell (begun_by (p.calls k)) (p.tasks k)
+ended_well has s p k all idle quiet = by (begun_by (p.calls k)) (p.tasks k) idle quiet
+  where
+    by : (begun : List Begun) (tasks : List Task) → is_none (open_in begun) ≡ true → trouble_by (member s k).address tasks (last_outcome begun) ≡ None → HasEndedWell begun tasks
+    by [] tasks idle quiet = tt
+    by (b ∷ older) [] idle quiet = tt
+    by (b ∷ older) (t ∷ tasks) idle quiet = ends_complete (member s k).address b older t tasks idle has quiet
+
+begun_follows : HasNext → (s : Known) (p : Past) (k : ℕ) → (p.stop ≡ None → trouble s p k ≡ None) → Followed s p k → Followed s (begun s p) k
+begun_follows has s p k quiet all = by (is_none p.stop) (is_idle p k) (has_turn s p k) refl refl
+  where
+    none_is : {A : Type 0} (o : Option A) → is_none o ≡ true → o ≡ None
+    none_is None e = refl
+    none_is (Some x) e = absurd (false≢true e)
+
+    one : is_none p.stop ≡ true → is_idle p k ≡ true → (o : Option Task) → next_task s p k ≡ o → AllFollow s k p.plan (p.waiting k) (begun_by (with_begin (of_phase p.now.phase o) (p.calls k))) (with_task (of_phase p.now.phase o) (p.tasks k))
+    one free idle None e = all
+    one free idle (Some t) e = which (t.phase == p.now.phase)
+      where
+        which : (b : Bool) → AllFollow s k p.plan (p.waiting k) (begun_by (with_begin (if b then Some t else None) (p.calls k))) (with_task (if b then Some t else None) (p.tasks k))
+        which false = all
+        which true = (
+          all,
+          record {
+            asks = refl;
+            by_then = p.plan;
+            same = inr refl;
+            next = e;
+            ended = all_ended has s k p.plan (p.waiting k) (begun_by (p.calls k)) (p.tasks k) all idle;
+            well = ended_well has s p k all idle (quiet (none_is p.stop free));
+          },
+        )
+
+    by : (free idle turn : Bool) → is_none p.stop ≡ free → is_idle p k ≡ idle →
+        AllFollow s k p.plan (p.waiting k) (begun_by (with_begin (if free && (idle && turn) then of_phase p.now.phase (next_task s p k) else None) (p.calls k))) (with_task (if free && (idle && turn) then of_phase p.now.phase (next_task s p k) else None) (p.tasks k))
+    by true true true free idle = one free idle (next_task s p k) refl
+    by true true false free idle = all
+    by true false turn free idle = all
+    by false idle turn free is = all
+
+mdt_follows : HasNext → (s : Known) (p : Past) (k : ℕ) → k < length s.drives → Followed s p k → Followed s (after_mdt s p) k
+mdt_follows has s p k within all = by (is_sent_to (ready_to_send s p) (addressed_in s (ready_to_send s p)) k)
+  where
+    q : Settles (settled s p) p
+    q = settles s p
+
+    quiet : (settled s p).stop ≡ None → trouble s (settled s p) k ≡ None
+    quiet none =
+        let z : 0 + length s.drives ≡ length s.drives = omega arith in
+        let before : trouble s p k ≡ None = none_troubled s p 0 (length s.drives) k (no_stop_before s p none) (omega arith) (omega (arith, z, within)) in
+        rw ((settles s p).calls, (settles s p).tasks) before
+
+    ready : Followed s (ready_to_send s p) k
+    ready = begun_follows has s (settled s p) k quiet (settled_follows s p k all)
+
+    by : (b : Bool) → AllFollow s k (ready_to_send s p).plan ((ready_to_send s p).waiting k) (begun_by (if b then channel.Send ∷ (ready_to_send s p).calls k else (ready_to_send s p).calls k)) ((ready_to_send s p).tasks k)
+    by true = ready
+    by false = ready
+
+-- AFTER ANY CALLS
+pub followed : HasNext → (s : Known) (requests : ℕ → List Task) (h : List Call) (k : ℕ) → k < length s.drives → Followed s (past s requests h) k
+followed has s requests [] k within = tt
+followed has s requests (HearMst content ∷ h) k within = followed has s requests h k within
+followed has s requests (HearAt content ∷ h) k within = at_follows s (place_of s (slice_index content 0)) content (past s requests h) k (followed has s requests h k within)
+followed has s requests (Mdt ∷ h) k within = mdt_follows has s (past s requests h) k within (followed has s requests h k within)
+followed has s requests (End ∷ h) k within = by (is_some (fall_of s (past s requests h))) (followed has s requests h k within)
+  where
+    by : (falls : Bool) → Followed s (past s requests h) k → Followed s (if falls then new_epoch ((past s requests h).cycle + 1) (still_waiting (past s requests h)) else goes_on (next_phase s (past s requests h)) (past s requests h)) k
+    by true all = tt
+    by false all = all
+followed has s requests (Restart ∷ h) k within = tt
+
+-- THE WRITES. What was begun at a place, with another task after it, has ended without error, if it is of the start-up.
+record FoundAt (s : Known) (k : ℕ) (plan : Option PlanView) (waiting : List Task) (begun : List Begun) (j : ℕ) : Type 0 where
+  newer : List Begun
+  one : Begun
+  older : List Begun
+  task : Task
+  tasks : List Task
+  split : begun ≡ newer ++ one ∷ older
+  place : length older ≡ j
+  follows : Follows s k plan waiting one task older tasks
+  well : task.number ≡ None → (bytes : List ℕ) × (outcome_of one.request one.answers ≡ Some (outcome.Complete bytes))
+
+found_at : (s : Known) (k : ℕ) (plan : Option PlanView) (waiting : List Task) (begun : List Begun) (tasks : List Task) (j : ℕ) → AllFollow s k plan waiting begun tasks → j + 1 < length begun → FoundAt s k plan waiting begun j
+found_at s k plan waiting [] tasks j all less = absurd (omega (arith, less))
+found_at s k plan waiting (b ∷ []) tasks j all less = absurd (omega (arith, less))
+found_at s k plan waiting (b ∷ one ∷ older) [] j all less = absurd all
+found_at s k plan waiting (b ∷ one ∷ older) (t ∷ []) j all less = absurd all.0
+found_at s k plan waiting (b ∷ one ∷ older) (t ∷ u ∷ tasks) j all less =
+    elim (cases_eq (length older) j) [
+      | inl is ↦ record { newer = b ∷ []; one = one; older = older; task = u; tasks = tasks; split = refl; place = is; follows = all.0.1; well = all.1.well }
+      | inr other ↦ deeper (found_at s k plan waiting (one ∷ older) (u ∷ tasks) j all.0 (omega (arith, less, other)))
+    ]
+  where
+    deeper : FoundAt s k plan waiting (one ∷ older) j → FoundAt s k plan waiting (b ∷ one ∷ older) j
+    deeper f = record { newer = b ∷ f.newer; one = f.one; older = f.older; task = f.task; tasks = f.tasks; split = ap (λ xs. b ∷ xs) f.split; place = f.place; follows = f.follows; well = f.well }
+
+not_longer : (begun : List Begun) → length (outcomes_in begun) ≤ length begun
+not_longer [] = omega arith
+not_longer (b ∷ older) = by (outcome_of b.request b.answers) (not_longer older)
+  where
+    by : (o : Option Outcome) → length (outcomes_in older) ≤ length older → length (with_outcome o (outcomes_in older)) ≤ suc (length older)
+    by None less = omega (arith, less)
+    by (Some o) less = let l = length-append (outcomes_in older) (o ∷ []) in omega (arith, l, less)
+
+-- the task after the reads and i writes is a write, by a plan that there is
+startup_reads : (s : Known) (k : ℕ) → length (map (startup 2) (reads (member s k))) ≡ reads_count (member s k)
+startup_reads s k = length_map (startup 2) (reads (member s k)) ∙ reads_length (member s k)
+
+unplanned_at : (s : Known) (k i : ℕ) (waiting : List Task) (all : List Outcome) (t : Task) → length all ≡ reads_count (member s k) + i → slice_get (agenda s None waiting k all) (length all) ≡ Some t → ⊥
+unplanned_at s k i waiting all t long e =
+    let l = startup_reads s k in
+    let a = length_append (map (startup 2) (reads (member s k))) [] in
+    none≢some (sym (get_none (map (startup 2) (reads (member s k)) ++ []) (length all) (omega (arith, l, a, long))) ∙ e)
+  where
+    none≢some : {A : Type 0} {x : A} → None ≡ Some x → ⊥
+    none≢some e = cc
+
+write_at : (s : Known) (k i : ℕ) (plan : PlanView) (waiting : List Task) (all : List Outcome) (t : Task) → i < 11 → length all ≡ reads_count (member s k) + i →
+    slice_get (agenda s (Some plan) waiting k all) (length all) ≡ Some t → (t.number ≡ None) × (slice_get (writes s plan k) i ≡ Some t.request)
+write_at s k i plan waiting all t below long e =
+    let l = startup_reads s k in
+    let first = get_right (map (startup 2) (reads (member s k))) _ (length all) i (omega (arith, l, long)) in
+    let w : length (map (startup 2) (writes s plan k)) ≡ 11 = length_map (startup 2) (writes s plan k) in
+    let second = get_left (map (startup 2) (writes s plan k)) _ i (omega (arith, w, below)) in
+    by (slice_get (writes s plan k) i) refl (sym (get_map (startup 2) (writes s plan k) i) ∙ (sym second ∙ (sym first ∙ e)))
+  where
+    by : (o : Option Request) → slice_get (writes s plan k) i ≡ o → Rattle.std.specs.Prelude.option_map (startup 2) (slice_get (writes s plan k) i) ≡ Some t → (t.number ≡ None) × (slice_get (writes s plan k) i ≡ Some t.request)
+    by None f e = absurd (none≢some (sym (ap (Rattle.std.specs.Prelude.option_map (startup 2)) f) ∙ e))
+      where
+        none≢some : {A : Type 0} {x : A} → None ≡ Some x → ⊥
+        none≢some e = cc
+    by (Some r) f e =
+        let same : startup 2 r ≡ t = inside (sym (ap (Rattle.std.specs.Prelude.option_map (startup 2)) f) ∙ e) in
+        (ap (λ x. x.number) (sym same), f ∙ ap (λ x. Some x.request) same)
+      where
+        inside : {A : Type 0} {a b : A} → Some a ≡ Some b → a ≡ b
+        inside e = cc
+
+written_at : HasNext → (s : Known) (requests : ℕ → List Task) (h : List Call) (k i : ℕ) → k < length s.drives → i < 11 → is_checked (member s k) (outcomes (past s requests h) k) ≡ true →
+    (plan : PlanView) × ((past s requests h).plan ≡ Some plan) × IsWritten s k plan (begun_by ((past s requests h).calls k)) i
+written_at has s requests h k i within below checked =
+    let all = followed has s requests h k within in
+    let long : reads_count (member s k) + 11 < length (outcomes (past s requests h) k) = ended_there (outcomes (past s requests h) k) (reads_count (member s k) + 11) checked in
+    let fewer = not_longer (begun_by ((past s requests h).calls k)) in
+    made (found_at s k (past s requests h).plan ((past s requests h).waiting k) (begun_by ((past s requests h).calls k)) ((past s requests h).tasks k) (reads_count (member s k) + i) all (omega (arith, long, fewer, below)))
+  where
+    made : FoundAt s k (past s requests h).plan ((past s requests h).waiting k) (begun_by ((past s requests h).calls k)) (reads_count (member s k) + i) →
+        (plan : PlanView) × ((past s requests h).plan ≡ Some plan) × IsWritten s k plan (begun_by ((past s requests h).calls k)) i
+    made f = by f.follows.by_then f.follows.same f.follows.next
+      where
+        at : length (outcomes_in f.older) ≡ reads_count (member s k) + i
+        at = f.follows.ended ∙ f.place
+
+        by : (o : Option PlanView) → (o ≡ None) ⊎ (o ≡ (past s requests h).plan) → slice_get (agenda s o ((past s requests h).waiting k) k (outcomes_in f.older)) (length (outcomes_in f.older)) ≡ Some f.task →
+            (plan : PlanView) × ((past s requests h).plan ≡ Some plan) × IsWritten s k plan (begun_by ((past s requests h).calls k)) i
+        by None same next = absurd (unplanned_at s k i ((past s requests h).waiting k) (outcomes_in f.older) f.task at next)
+        by (Some plan) (inl none) next = absurd (cc)
+        by (Some plan) (inr same) next =
+            let w = write_at s k i plan ((past s requests h).waiting k) (outcomes_in f.older) f.task below at next in
+            let done = f.well w.0 in
+            (plan, sym same, record { newer = f.newer; one = f.one; older = f.older; split = f.split; place = f.place; asks = w.1 ∙ ap (λ r. Some r) (sym f.follows.asks); bytes = done.0; answered = done.1 })
+
+-- in phases 3 and 4
+pub are_written : HasNext → (s : Known) (requests : ℕ → List Task) (h : List Call) → 1 ≤ length s.drives → nat_le 3 (past s requests h).now.phase ≡ true → AreWritten s (past s requests h)
+are_written has s requests h some late =
+    let first = written_at has s requests h 0 0 (omega (arith, some)) (omega arith) (configured s requests h 0 (omega (arith, some)) late) in
+    record {
+      plan = first.0;
+      plan_is = first.1;
+      written = λ k i within below. same_plan (first.1) (written_at has s requests h k i within below (configured s requests h k within late));
+    }
+  where
+    same_plan : {plan : PlanView} {k i : ℕ} → (past s requests h).plan ≡ Some plan → (other : PlanView) × ((past s requests h).plan ≡ Some other) × IsWritten s k other (begun_by ((past s requests h).calls k)) i → IsWritten s k plan (begun_by ((past s requests h).calls k)) i
+    same_plan {plan} {k} {i} is (other, also, written) = subst (λ q. IsWritten s k q (begun_by ((past s requests h).calls k)) i) (inside (sym also ∙ is)) written
+      where
+        inside : {A : Type 0} {a b : A} → Some a ≡ Some b → a ≡ b
+        inside e = cc

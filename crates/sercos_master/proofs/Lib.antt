@@ -1,0 +1,13 @@
+mod Bench
+mod Runs
+pub mod Places
+pub mod Rings
+pub mod Wishes
+pub mod Sent
+pub mod Told
+pub mod Openings
+pub mod Laws
+pub mod Configured
+pub mod Planned
+pub mod Followed
+pub mod InOrder

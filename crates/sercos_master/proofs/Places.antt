@@ -1,0 +1,145 @@
+-- Places of the ring, and what a call changes at one of them.
+use Rattle.std.proofs.Common.{◌≡◌, ℕ, suc, ◌+◌, ◌<◌, ◌==◌, Bool, true, false, List, [], ◌∷◌, Some, length, ap, refl, sym, ◌∙◌, arith, if◌then◌else◌, inl, inr}
+use Rattle.std.specs.Prelude.{is_none, nat_le, slice_index_or, ◌&&◌, not}
+use Rattle.std.specs.List.{position, position_from}
+use Rattle.std.proofs.Math.ListN.{set, length-set}
+use Rattle.std.proofs.lemmas.List.{get_or-set_other}
+use Rattle.std.proofs.lemmas.Grind.{get_or-set_at}
+use Rattle.std.proofs.lemmas.Bool.{cases_eq}
+use Rattle.std.proofs.lemmas.Bool.Decides.{nat_tests}
+use Rattle.std.proofs.lemmas.Iterator.Adapters.{position_from-zero}
+use Rattle.sercos_telegram.specs.Words.{status_of}
+use Rattle.sercos_telegram.specs.Spells.{word_at}
+use Rattle.sercos_telegram.specs.Faults.{at_fault}
+use Rattle.sercos_seat.specs.Ring.{Known, member}
+use Rattle.sercos_seat.proofs.Lengths.{at_len_same}
+use Rattle.sercos_seat.specs.Agenda.{at_len}
+use Rattle.sercos_master.specs.Annals.{Past, first_from, is_awaited, wanted_len, is_taken, place_of, after_taken, after_at_of, outcomes}
+use Rattle.sercos_seat.specs.Channel.{is_place}
+use Rattle.sercos_seat.specs.Seats.{Seen, SeatView, SeatStandsFor, taken_in, at_in, at_len_kept}
+use Rattle.sercos_master.specs.Kept.{SeatsStandFor, CoreView, CoreStandsFor, seen_at}
+
+-- The first seat that passes a test is at the first place that passes the like.
+pub first_like : (seats : List SeatView) (test : SeatView → Bool) (like : ℕ → Bool) (k : ℕ) → ((i : ℕ) (v : SeatView) → i < length seats → test (slice_index_or seats i v) ≡ like (k + i)) →
+    position_from test k seats ≡ first_from k (length seats) like
+first_like [] test like k same = refl
+first_like (v ∷ seats) test like k same =
+    let here : test v ≡ like k = same 0 v (omega arith) ∙ ap like (omega arith) in
+    let rest : position_from test (k + 1) seats ≡ first_from (k + 1) (length seats) like =
+    first_like seats test like (k + 1) (λ i w below. same (suc i) w (omega (arith, below)) ∙ ap like (omega arith)) in
+    rw (here, rest) refl
+
+pub first_seat : (seats : List SeatView) (test : SeatView → Bool) (like : ℕ → Bool) → ((i : ℕ) (v : SeatView) → i < length seats → test (slice_index_or seats i v) ≡ like i) →
+    position test seats ≡ first_from 0 (length seats) like
+first_seat seats test like same = position_from-zero test seats ∙ first_like seats test like 0 (λ i v below. same i v below ∙ ap like (omega arith))
+
+-- the value at a place, and at another
+pub same_place : (k : ℕ) → (k == k) ≡ true
+same_place k = grind (arith, nat_tests)
+
+pub other_place : (i k : ℕ) → (i ≡ k → ⊥) → (i == k) ≡ false
+other_place i k n = grind (arith, nat_tests, n)
+
+-- what is seen where an AT is taken, and elsewhere
+pub seen_there : (k : ℕ) (content : List ℕ) (p : Past) →
+    seen_at (after_taken k content p) k ≡ taken_in (p.now.phase == 1) (status_of (word_at content 1)) (word_at content 3) (seen_at p k)
+seen_there k content p = by (p.now.phase == 1) refl
+  where
+    by : (one : Bool) → (p.now.phase == 1) ≡ one →
+        seen_at (after_taken k content p) k ≡ taken_in (p.now.phase == 1) (status_of (word_at content 1)) (word_at content 3) (seen_at p k)
+    by true e = rw (e, same_place k) refl
+    by false e = rw (e, same_place k) refl
+
+pub seen_elsewhere : (k i : ℕ) (content : List ℕ) (p : Past) → (i ≡ k → ⊥) → seen_at (after_taken k content p) i ≡ seen_at p i
+seen_elsewhere k i content p n = rw (other_place i k n) refl
+
+-- one seat changes with what was seen of it, and the others stay
+pub one_seat : (seats : List SeatView) (s : Known) (seen now : ℕ → Seen) (k : ℕ) (w : SeatView) → k < length seats → SeatsStandFor seats s seen →
+    ((i : ℕ) → (i ≡ k → ⊥) → now i ≡ seen i) → SeatStandsFor w (member s k) (now k) → SeatsStandFor (set seats k w) s now
+one_seat seats s seen now k w within all same here i v below = elim (cases_eq i k) [
+  | inl e ↦ rw (get_or-set_at seats k i w v e within, e) here
+  | inr n ↦ rw (get_or-set_other seats k i w v n, same i n) (all i v (rw length-set at below))
+]
+
+taken_by : (s : Known) (p : Past) (k : ℕ) (content : List ℕ) → is_awaited p k ≡ true →
+    is_taken s p k content ≡ (not (p.now.heard k) && is_none (at_fault (member s k).address (wanted_len s p k) content))
+taken_by s p k content e = rw e refl
+
+-- an AT comes that is awaited
+pub hears_from : (v : CoreView) (s : Known) (p : Past) (k wanted : ℕ) (content : List ℕ) (w : SeatView) → CoreStandsFor v s p → k < length v.seats →
+    is_awaited p k ≡ true → wanted ≡ wanted_len s p k →
+    SeatStandsFor w (member s k) (at_in (p.now.phase == 1) (member s k).address wanted content (seen_at p k)) →
+    CoreStandsFor (record v { seats = set v.seats k w }) s (after_at_of s (Some k) content p)
+hears_from v s p k wanted content w c within awaited is here = by (is_taken s p k content) refl
+  where
+    by : (t : Bool) → is_taken s p k content ≡ t → CoreStandsFor (record v { seats = set v.seats k w }) s (if is_taken s p k content then after_taken k content p else p)
+    by true e =
+        let f : (not (p.now.heard k) && is_none (at_fault (member s k).address wanted content)) ≡ true = rw is (sym (taken_by s p k content awaited) ∙ e) in
+        let now : SeatStandsFor w (member s k) (seen_at (after_taken k content p) k) = rw seen_there (rw f at here) in
+        rw e (record {
+          rate_is = c.rate_is;
+          cycle_is = c.cycle_is;
+          control_is = c.control_is;
+          gap_is = c.gap_is;
+          order_is = c.order_is;
+          seats_count = length-set v.seats k w ∙ c.seats_count;
+          seats = one_seat v.seats s (seen_at p) (seen_at (after_taken k content p)) k w within c.seats (λ i n. seen_elsewhere k i content p n) now;
+          count_is = c.count_is;
+          phase_is = c.phase_is;
+          whole_is = c.whole_is;
+          row_is = c.row_is;
+          lost_is = c.lost_is;
+          addressed_is = c.addressed_is;
+          before_is = c.before_is;
+          waited_is = c.waited_is;
+          plan_is = c.plan_is;
+          plans_is = c.plans_is;
+          stopped_is = c.stopped_is;
+          stop_is = c.stop_is;
+        })
+    by false e =
+        let f : (not (p.now.heard k) && is_none (at_fault (member s k).address wanted content)) ≡ false = rw is (sym (taken_by s p k content awaited) ∙ e) in
+        rw e (record {
+          rate_is = c.rate_is;
+          cycle_is = c.cycle_is;
+          control_is = c.control_is;
+          gap_is = c.gap_is;
+          order_is = c.order_is;
+          seats_count = length-set v.seats k w ∙ c.seats_count;
+          seats = one_seat v.seats s (seen_at p) (seen_at p) k w within c.seats (λ i n. refl) (rw f at here);
+          count_is = c.count_is;
+          phase_is = c.phase_is;
+          whole_is = c.whole_is;
+          row_is = c.row_is;
+          lost_is = c.lost_is;
+          addressed_is = c.addressed_is;
+          before_is = c.before_is;
+          waited_is = c.waited_is;
+          plan_is = c.plan_is;
+          plans_is = c.plans_is;
+          stopped_is = c.stopped_is;
+          stop_is = c.stop_is;
+        })
+
+-- one that isn't awaited changes nothing
+pub hears_nothing : (s : Known) (p : Past) (k : ℕ) (content : List ℕ) → is_awaited p k ≡ false → after_at_of s (Some k) content p ≡ p
+hears_nothing s p k content e = rw e refl
+
+-- what is wanted of an AT is what the code asks
+pub wanted_same : (v : CoreView) (s : Known) (p : Past) (k : ℕ) (seat : SeatView) → CoreStandsFor v s p → k < length v.seats →
+    (if nat_le 3 v.phase then at_len_kept (slice_index_or v.seats k seat) else 4) ≡ wanted_len s p k
+wanted_same v s p k seat c within =
+    let e : at_len_kept (slice_index_or v.seats k seat) ≡ at_len (member s k) (outcomes p k) = at_len_same (slice_index_or v.seats k seat) (member s k) (seen_at p k) (c.seats k seat within) in
+    rw (e, c.phase_is) refl
+
+pub awaited_same : (v : CoreView) (s : Known) (p : Past) (k : ℕ) → CoreStandsFor v s p →
+    (if nat_le 3 v.phase then true else (nat_le 1 v.phase && is_place k v.before)) ≡ is_awaited p k
+awaited_same v s p k c = rw (c.phase_is, c.before_is) refl
+
+-- the seat with an address
+pub place_same : (v : CoreView) (s : Known) (p : Past) (address : ℕ) → CoreStandsFor v s p →
+    position (λ seat. seat.member.address == address) v.seats ≡ place_of s address
+place_same v s p address c =
+    first_seat v.seats (λ seat. seat.member.address == address) (λ k. (member s k).address == address)
+    (λ i seat below. ap (λ d. d.address == address) (c.seats i seat below).member_is)
+    ∙ ap (λ n. first_from 0 n (λ k. (member s k).address == address)) c.seats_count

@@ -1,0 +1,212 @@
+-- Where there is a plan, it is the plan of what was read in this epoch.
+use Rattle.std.proofs.Common.{◌≡◌, inl, inr, ℕ, zero, suc, ◌+◌, ◌<◌, ◌≤◌, ◌⊎◌, Bool, true, false, not, List, [], ◌∷◌, ◌++◌, length, take, drop, refl, sym, ap, ap₂, ◌∙◌, subst, arith, if◌then◌else◌, length-append}
+use Rattle.std.specs.Prelude.{◌==◌, nat_le, Option, Some, None, Result, Ok, Err, is_some, is_none, slice_get, slice_index}
+use Rattle.std.proofs.lemmas.Bool.{and_parts, leb-true, le-leb, cases_eq}
+use Rattle.std.proofs.lemmas.Bool.Decides.{nat_tests}
+use Rattle.std.proofs.lemmas.Option.{get_or_from_slice_get}
+use Rattle.std.proofs.lemmas.List.{take-append-le, drop-append-le, length-drop}
+use Rattle.sercos_telegram.specs.Words.{status_of}
+use Rattle.sercos_telegram.specs.Spells.{word_at}
+use Rattle.sercos_step.specs.declared.request.Outcome.{Outcome}
+use Rattle.sercos_timing.specs.Order.{record_bytes}
+use Rattle.sercos_timing.specs.Views.{PlanView, WishesView}
+use Rattle.sercos_timing.specs.declared.wishes.Wish.{Wish}
+use Rattle.sercos_timing.specs.declared.wishes.Times.{Times}
+use Rattle.sercos_plan.specs.Views.{ChainView}
+use Rattle.sercos_plan.specs.ChainOf.{planned}
+use Rattle.sercos_service_master.specs.Calls.{Hear, begun_by, outcome_at}
+use Rattle.sercos_trace.specs.declared.events.Stop.{Stop}
+use Rattle.sercos_trace.specs.declared.events.Stop.TheVariants as stop
+use Rattle.sercos_seat.specs.Ring.{Known, Task, MemberView, member, no_member}
+use Rattle.sercos_seat.specs.Agenda.{bytes_of, long_in, short_in, given, reads_count, is_read, words_given, at_attributes, mdt_attributes, times_given, wish_given, wishes_from, wishes_given, last_long_stop}
+use Rattle.sercos_seat.specs.Channel.{outcomes_in, with_outcome}
+use Rattle.sercos_seat.proofs.Channels.{Heard, heard}
+use Rattle.sercos_seat.proofs.Seats.{before_end}
+use Rattle.sercos_master.specs.Annals.{Call, HearMst, HearAt, Mdt, End, Restart, Past, IsPlanned, first_from, with_at, outcomes, is_taken, after_taken, after_at_of, after_at, place_of, all_read, first_trouble, with_stop, is_plan_due, with_plan, planned_by, with_due_plan, settled, ready_to_send, after_mdt, fall_of, next_phase, goes_on, new_epoch, still_waiting, after_end, past}
+use Rattle.sercos_master.proofs.Configured.{leaves, begun_adds, mdt_adds, each_passes}
+
+-- AN OUTCOME AFTER THE READS changes nothing of what they gave.
+given_before : (all : List Outcome) (o : Outcome) (i : ℕ) → i < length all → given (all ++ o ∷ []) i ≡ given all i
+given_before all o i less = before_end all o i (λ e. omega (arith, less, e))
+
+words_append : (xs ys : List Outcome) → words_given (xs ++ ys) ≡ words_given xs ++ words_given ys
+words_append [] ys = refl
+words_append (x ∷ xs) ys = ap (λ (l : List ℕ). long_in (bytes_of x) ∷ l) (words_append xs ys)
+
+words_long : (xs : List Outcome) → length (words_given xs) ≡ length xs
+words_long [] = refl
+words_long (x ∷ xs) = ap (λ n. suc n) (words_long xs)
+
+part_before : (all : List Outcome) (o : Outcome) (m n : ℕ) → n + m ≤ length all → take n (drop m (words_given (all ++ o ∷ []))) ≡ take n (drop m (words_given all))
+part_before all o m n less =
+    let long = words_long all in
+    let rest = length-drop m (words_given all) in
+    ap (λ (l : List ℕ). take n (drop m l)) (words_append all (o ∷ []))
+    ∙ (ap (take n) (drop-append-le m (words_given all) (words_given (o ∷ [])) (omega (arith, long, less)))
+    ∙ take-append-le n (drop m (words_given all)) (words_given (o ∷ [])) (omega (arith, long, rest, less)))
+
+pub wish_stays : (d : MemberView) (all : List Outcome) (o : Option Outcome) → is_read d all ≡ true → wish_given d (with_outcome o all) ≡ wish_given d all
+wish_stays d all None read = refl
+wish_stays d all (Some o) read = wish (times_so all o many) (ats d all o many) (records d all o many)
+  where
+    many : reads_count d ≤ length all
+    many = leb-true (reads_count d) (length all) read
+
+    times_so : (all : List Outcome) (o : Outcome) → reads_count d ≤ length all → times_given (all ++ o ∷ []) ≡ times_given all
+    times_so all o many =
+        six (given_before all o 0 (omega arith)) (given_before all o 1 (omega arith)) (given_before all o 2 (omega arith)) (given_before all o 3 (omega arith)) (given_before all o 4 (omega arith)) (given_before all o 5 (omega arith))
+      where
+        made : (a b c e f g : List ℕ) → Times
+        made a b c e f g = record { t1min = short_in a; tatmt = short_in b; t4min = short_in c; tatat = short_in e; tmtsy = short_in f; tmtsg = short_in g }
+
+        six : {a b c e f g a' b' c' e' f' g' : List ℕ} → a ≡ a' → b ≡ b' → c ≡ c' → e ≡ e' → f ≡ f' → g ≡ g' → made a b c e f g ≡ made a' b' c' e' f' g'
+        six p q r s u v = rw (p, q, r, s, u, v) refl
+
+    ats : (d : MemberView) (all : List Outcome) (o : Outcome) → reads_count d ≤ length all → at_attributes d (all ++ o ∷ []) ≡ at_attributes d all
+    ats d all o many = part_before all o 6 (length d.at) (omega arith)
+
+    records : (d : MemberView) (all : List Outcome) (o : Outcome) → reads_count d ≤ length all → mdt_attributes d (all ++ o ∷ []) ≡ mdt_attributes d all
+    records d all o many = part_before all o (6 + length d.at) (length d.mdt) (omega arith)
+
+    wish : times_given (all ++ o ∷ []) ≡ times_given all → at_attributes d (all ++ o ∷ []) ≡ at_attributes d all → mdt_attributes d (all ++ o ∷ []) ≡ mdt_attributes d all → wish_given d (all ++ o ∷ []) ≡ wish_given d all
+    wish a b c = rw (a, b, c) refl
+
+read_stays : (d : MemberView) (all : List Outcome) (o : Option Outcome) → is_read d all ≡ true → is_read d (with_outcome o all) ≡ true
+read_stays d all None read = read
+read_stays d all (Some o) read = let many = leb-true (reads_count d) (length all) read in let one = length-append all (o ∷ []) in le-leb (reads_count d) (length (all ++ o ∷ [])) (omega arith)
+
+-- what the ring asks is the same where what each drive asks is
+wishes_same : (drives : List MemberView) (k : ℕ) (f g : ℕ → List Outcome) → ((j : ℕ) (d : MemberView) → slice_get drives j ≡ Some d → wish_given d (g (k + j)) ≡ wish_given d (f (k + j))) → wishes_from drives k g ≡ wishes_from drives k f
+wishes_same [] k f g same = refl
+wishes_same (d ∷ drives) k f g same =
+    let first : wish_given d (g k) ≡ wish_given d (f k) = let z : k + 0 ≡ k = omega arith in subst (λ (n : ℕ). wish_given d (g n) ≡ wish_given d (f n)) z (same 0 d refl) in
+    ap₂ (λ (w : Wish) (ws : List Wish). w ∷ ws) first
+    (wishes_same drives (k + 1) f g (λ j e got. let n : k + suc j ≡ (k + 1) + j = omega arith in subst (λ (m : ℕ). wish_given e (g m) ≡ wish_given e (f m)) n (same (suc j) e got)))
+
+-- each place passes where each that passed passes
+from_passes_too : (n k : ℕ) (f g : ℕ → Bool) → ((j : ℕ) → f j ≡ true → g j ≡ true) → is_none (first_from k n (λ j. not (f j))) ≡ true → is_none (first_from k n (λ j. not (g j))) ≡ true
+from_passes_too zero k f g more none = refl
+from_passes_too (suc n) k f g more none = by (f k) (g k) refl refl none (from_passes_too n (k + 1) f g more)
+  where
+    both : (v : Bool) → v ≡ true → v ≡ false → ⊥
+    both true on off = cc
+    both false on off = cc
+
+    by : (a b : Bool) → f k ≡ a → g k ≡ b → is_none (if not a then Some k else first_from (k + 1) n (λ j. not (f j))) ≡ true →
+        (is_none (first_from (k + 1) n (λ j. not (f j))) ≡ true → is_none (first_from (k + 1) n (λ j. not (g j))) ≡ true) → is_none (if not b then Some k else first_from (k + 1) n (λ j. not (g j))) ≡ true
+    by true true on its none rest = rest none
+    by true false on its none rest = absurd (both (g k) (more k on) its)
+    by false b on its none rest = absurd (cc)
+
+got_below : {A : Type 0} (xs : List A) (i : ℕ) (x : A) → slice_get xs i ≡ Some x → i < length xs
+got_below [] i x got = absurd (cc)
+got_below (y ∷ xs) zero x got = omega arith
+got_below (y ∷ xs) (suc i) x got = let less = got_below xs i x got in omega arith
+
+-- OUTCOMES COME AT THE END of each channel's list, or none does.
+abbrev Adds : Past → Past → Type 0
+Adds p q = (j : ℕ) → (o : Option Outcome) × (outcomes q j ≡ with_outcome o (outcomes p j))
+
+-- where outcomes come after the reads alone, these stay, and what the ring asks
+asks_same : (s : Known) (p q : Past) → Adds p q → all_read s p ≡ true → (all_read s q ≡ true) × (wishes_given s (outcomes q) ≡ wishes_given s (outcomes p))
+asks_same s p q adds all = (
+  from_passes_too (length s.drives) 0 (λ k. is_read (member s k) (outcomes p k)) (λ k. is_read (member s k) (outcomes q k)) (λ j on. ap (is_read (member s j)) (adds j).1 ∙ read_stays (member s j) (outcomes p j) (adds j).0 on) all,
+  ap asked (wishes_same s.drives 0 (outcomes p) (outcomes q) (λ j d got. each j d got)),
+)
+  where
+    asked : List Wish → WishesView
+    asked w = record { rate = s.rate; cycle = s.cycle; control = s.control; gap = s.gap; order = s.order; drives = w }
+
+    each : (j : ℕ) (d : MemberView) → slice_get s.drives j ≡ Some d → wish_given d (outcomes q (0 + j)) ≡ wish_given d (outcomes p (0 + j))
+    each j d got =
+        let zero_is : 0 + j ≡ j = omega arith in
+        let below = got_below s.drives j d got in
+        let passes : is_read (member s j) (outcomes p j) ≡ true = each_passes (length s.drives) 0 (λ k. is_read (member s k) (outcomes p k)) all j (omega arith) (omega (arith, below)) in
+        let read : is_read d (outcomes p j) ≡ true = subst (λ (m : MemberView). is_read m (outcomes p j) ≡ true) (get_or_from_slice_get s.drives j d no_member got) passes in
+        subst (λ (n : ℕ). wish_given d (outcomes q n) ≡ wish_given d (outcomes p n)) (sym zero_is) (ap (wish_given d) (adds j).1 ∙ wish_stays d (outcomes p j) (adds j).0 read)
+
+stays_planned : (s : Known) (p q : Past) → Adds p q → q.plan ≡ p.plan → IsPlanned s p → IsPlanned s q
+stays_planned s p q adds same is plan has =
+    let before = is plan (sym same ∙ has) in
+    let after = asks_same s p q adds before.read in
+    record {
+      read = after.0;
+      fits = subst (λ (w : WishesView). nat_le (record_bytes w.drives) 2047 ≡ true) (sym after.1) before.fits;
+      planned_is = ap planned after.1 ∙ before.planned_is;
+    }
+
+-- an AT adds one outcome at most to each channel
+at_adds : (i : ℕ) (content : List ℕ) (p : Past) → Adds p (after_taken i content p)
+at_adds i content p j = by (cases_eq j i)
+  where
+    one : (identifies : Bool) → (o : Option Outcome) × (outcomes_in (begun_by (if identifies then p.calls j else Hear (status_of (word_at content 1)) (word_at content 3) ∷ p.calls j)) ≡ with_outcome o (outcomes p j))
+    one true = (None, refl)
+    one false =
+        let h : Heard (p.calls j) (status_of (word_at content 1)) (word_at content 3) (outcome_at (p.calls j) (status_of (word_at content 1)) (word_at content 3)) = heard (p.calls j) (status_of (word_at content 1)) (word_at content 3) _ refl in
+        (outcome_at (p.calls j) (status_of (word_at content 1)) (word_at content 3), h.outcomes)
+
+    by : (j ≡ i) ⊎ (j ≡ i → ⊥) → (o : Option Outcome) × (outcomes (after_taken i content p) j ≡ with_outcome o (outcomes p j))
+    by (inl is) =
+        subst (λ n. (o : Option Outcome) × (outcomes_in (begun_by (with_at n (if p.now.phase == 1 then p.calls n else Hear (status_of (word_at content 1)) (word_at content 3) ∷ p.calls n) p.calls j)) ≡ with_outcome o (outcomes p j))) is
+        (let t : (j == j) ≡ true = grind (arith, nat_tests) in rw t (one (p.now.phase == 1)))
+    by (inr n) = (None, let f : (j == i) ≡ false = grind (arith, nat_tests, n) in rw f refl)
+
+at_planned : (s : Known) (content : List ℕ) (p : Past) → IsPlanned s p → IsPlanned s (after_at s content p)
+at_planned s content p is = by (place_of s (slice_index content 0))
+  where
+    by : (o : Option ℕ) → IsPlanned s (after_at_of s o content p)
+    by None = is
+    by (Some i) = which (is_taken s p i content)
+      where
+        which : (on : Bool) → IsPlanned s (if on then after_taken i content p else p)
+        which true = stays_planned s p (after_taken i content p) (at_adds i content p) refl is
+        which false = is
+
+stop_planned : (s : Known) (o : Option Stop) (p : Past) → IsPlanned s p → IsPlanned s (with_stop o p)
+stop_planned s None p is = is
+stop_planned s (Some x) p is = which (is_some p.stop)
+  where
+    which : (on : Bool) → IsPlanned s (if on then p else record p { now = record p.now { stops = true }; stop = Some x })
+    which true = is
+    which false = stays_planned s p (record p { now = record p.now { stops = true }; stop = Some x }) (λ j. (None, refl)) refl is
+
+due_planned : (s : Known) (p : Past) → IsPlanned s p → IsPlanned s (with_due_plan s p)
+due_planned s p is = which (is_plan_due s p) refl
+  where
+    made : all_read s p ≡ true → (on : Bool) → nat_le (record_bytes (wishes_given s (outcomes p)).drives) 2047 ≡ on → (r : Result PlanView ChainView) → planned (wishes_given s (outcomes p)) ≡ r →
+        IsPlanned s (if on then with_plan r p else with_stop (last_long_stop s.drives 0 (outcomes p)) p)
+    made all true fits (Ok plan) so = λ other has. let same : plan ≡ other = cc in record { read = all; fits = fits; planned_is = so ∙ ap (λ (x : PlanView). Ok x) same }
+    made all true fits (Err chain) so = stop_planned s (Some (stop.NoFit chain)) p is
+    made all false fits r so = stop_planned s (last_long_stop s.drives 0 (outcomes p)) p is
+
+    which : (on : Bool) → is_plan_due s p ≡ on → IsPlanned s (if on then planned_by s p else p)
+    which false off = is
+    which true on =
+        let more = (and_parts (p.now.phase == 2) _ on).1 in
+        let two = (and_parts (is_none p.stop) _ more).1 in
+        made (and_parts (is_none p.plan) (all_read s p) two).1 (nat_le (record_bytes (wishes_given s (outcomes p)).drives) 2047) refl (planned (wishes_given s (outcomes p))) refl
+
+-- and so it is where the MDT is sent
+pub sent_planned : (s : Known) (p : Past) → IsPlanned s p → IsPlanned s (ready_to_send s p)
+sent_planned s p is =
+    stays_planned s (settled s p) (ready_to_send s p) (λ j. (None, begun_adds s (settled s p) j)) refl
+    (due_planned s (with_stop (first_trouble s p) p) (stop_planned s (first_trouble s p) p is))
+
+mdt_planned : (s : Known) (p : Past) → IsPlanned s p → IsPlanned s (after_mdt s p)
+mdt_planned s p is = stays_planned s (ready_to_send s p) (after_mdt s p) (λ j. (None, mdt_adds s p j ∙ sym (begun_adds s (settled s p) j ∙ ap (λ calls. outcomes_in (begun_by (calls j))) (leaves s p).calls))) refl (sent_planned s p is)
+
+end_planned : (s : Known) (p : Past) → IsPlanned s p → IsPlanned s (after_end s p)
+end_planned s p is = by (is_some (fall_of s p))
+  where
+    by : (fell : Bool) → IsPlanned s (if fell then new_epoch (p.cycle + 1) (still_waiting p) else goes_on (next_phase s p) p)
+    by true = λ plan has. absurd (cc)
+    by false = stays_planned s p (goes_on (next_phase s p) p) (λ j. (None, refl)) refl is
+
+-- after any calls
+pub is_planned : (s : Known) (requests : ℕ → List Task) (h : List Call) → IsPlanned s (past s requests h)
+is_planned s requests [] = λ plan has. absurd (cc)
+is_planned s requests (HearMst content ∷ h) = stays_planned s (past s requests h) (past s requests (HearMst content ∷ h)) (λ j. (None, refl)) refl (is_planned s requests h)
+is_planned s requests (HearAt content ∷ h) = at_planned s content (past s requests h) (is_planned s requests h)
+is_planned s requests (Mdt ∷ h) = mdt_planned s (past s requests h) (is_planned s requests h)
+is_planned s requests (End ∷ h) = end_planned s (past s requests h) (is_planned s requests h)
+is_planned s requests (Restart ∷ h) = λ plan has. absurd (cc)

@@ -1,0 +1,315 @@
+-- What the ring sends, and what that leaves.
+use Rattle.std.proofs.Common.{◌≡◌, ℕ, zero, suc, ◌+◌, ◌/◌, ◌%◌, ◌^◌, ◌<◌, ◌≤◌, ◌==◌, Bool, true, false, List, [], ◌∷◌, ◌++◌, Option, Some, None, length, ap, refl, sym, ◌∙◌, arith, subst, if◌then◌else◌}
+use Rattle.std.specs.Prelude.{not, nat_le, nat_lt, take, is_some, is_none, option_map, slice_index_or, IfSome}
+use Rattle.std.specs.List.{position}
+use Rattle.std.proofs.Math.ListN.{set, length-set}
+use Rattle.std.proofs.lemmas.Bool.{false≢true}
+use Rattle.std.proofs.lemmas.Bool.Decides.{nat_tests}
+use Rattle.sercos_telegram.specs.Spells.{all_drives}
+use Rattle.sercos_service_master.specs.Begun.{master_says}
+use Rattle.sercos_service_master.specs.Calls.{begun_by}
+use Rattle.sercos_timing.specs.Views.{PlanView}
+use Rattle.std.proofs.lemmas.Bool.{leb-true}
+use Rattle.std.proofs.lemmas.List.{length-append, take_all}
+use Rattle.std.proofs.lemmas.List.Sums.{sum_by-append}
+use Rattle.sercos_timing.specs.Order.{record_bytes}
+use Rattle.sercos_timing.specs.declared.wishes.Wish.{Wish}
+use Rattle.sercos_seat.specs.Ring.{Known, MemberView, member}
+use Rattle.sercos_seat.specs.Agenda.{len_or_none, mdt_attributes, record_len, wish_given, wishes_from}
+use Rattle.sercos_seat.proofs.Sends.{seen_length}
+use Rattle.sercos_seat.specs.Seats.{outcomes_seen}
+use Rattle.sercos_master.specs.Annals.{IsPlanned, Past, outcomes, first_place, is_idle, is_identified, addressed_in, is_sent_to, sent_to}
+use Rattle.sercos_seat.specs.Records.{record_said, value_said, values_said}
+use Rattle.sercos_master.specs.Says.{Sent, sent_as, record_to, records_from, mdt_said, single, joint, idle}
+use Rattle.sercos_seat.specs.Seats.{Seen, SeatView, SeatStandsFor, sent_in, record_seen}
+use Rattle.sercos_master.specs.Kept.{SeatsStandFor, CoreView, CoreStandsFor, seen_at, sent_now, Fits, records_upto}
+use Rattle.sercos_master.proofs.Places.{one_seat, same_place, other_place}
+use Rattle.sercos_seat.proofs.Seats.{idle_same}
+use Rattle.sercos_master.proofs.Rings.{found, unidentified}
+use Rattle.sercos_master.proofs.Wishes.{wishes_more}
+
+append_again : (xs ys zs : List ℕ) → (xs ++ ys) ++ zs ≡ xs ++ (ys ++ zs)
+append_again [] ys zs = refl
+append_again (x ∷ xs) ys zs = ap (λ ws. x ∷ ws) (append_again xs ys zs)
+
+length_both : (xs ys : List ℕ) → length (xs ++ ys) ≡ length xs + length ys
+length_both [] ys = omega arith
+length_both (x ∷ xs) ys = let e : length (xs ++ ys) ≡ length xs + length ys = length_both xs ys in rw e (omega arith)
+
+append_nil : (xs : List ℕ) → xs ++ [] ≡ xs
+append_nil [] = refl
+append_nil (x ∷ xs) = ap (λ ys. x ∷ ys) (append_nil xs)
+
+-- THE RECORDS ONE BEHIND THE OTHER
+upto_longer : (s : Known) (seen : ℕ → Seen) (count i n : ℕ) → i < n → length (records_upto s seen count i) + length (record_seen count (member s i) (seen i)) ≤ length (records_upto s seen count n)
+upto_longer s seen count i zero h = absurd (omega (arith, h))
+upto_longer s seen count i (suc n) h = by (nat_lt i n) refl (λ below. upto_longer s seen count i n below)
+  where
+    by : (b : Bool) → nat_lt i n ≡ b → (i < n → length (records_upto s seen count i) + length (record_seen count (member s i) (seen i)) ≤ length (records_upto s seen count n)) →
+        length (records_upto s seen count i) + length (record_seen count (member s i) (seen i)) ≤ length (records_upto s seen count n ++ record_seen count (member s n) (seen n))
+    by true e again =
+        let below : i < n = grind (arith, nat_tests, e) in
+        let rest = again below in
+        let l : length (records_upto s seen count n ++ record_seen count (member s n) (seen n)) ≡ length (records_upto s seen count n) + length (record_seen count (member s n) (seen n)) = length_both (records_upto s seen count n) (record_seen count (member s n) (seen n)) in
+        omega (arith, rest, l)
+    by false e again =
+        let same : i ≡ n = grind (arith, nat_tests, e, h) in
+        let l : length (records_upto s seen count n ++ record_seen count (member s n) (seen n)) ≡ length (records_upto s seen count n) + length (record_seen count (member s n) (seen n)) = length_both (records_upto s seen count n) (record_seen count (member s n) (seen n)) in
+        rw (same, l) (omega arith)
+
+pub fits_next : (s : Known) (seen : ℕ → Seen) (count i n : ℕ) (first out : List ℕ) → i < n → length (first ++ records_upto s seen count n) ≤ 2048 → out ≡ first ++ records_upto s seen count i →
+    length out + length (record_seen count (member s i) (seen i)) ≤ 2048
+fits_next s seen count i n first out below fits is =
+    let a = length_both first (records_upto s seen count n) in
+    let b = length_both first (records_upto s seen count i) in
+    let more = upto_longer s seen count i n below in
+    rw is (omega (arith, a, b, more, fits))
+
+pub out_next : (s : Known) (seen : ℕ → Seen) (count i : ℕ) (first out now : List ℕ) → out ≡ first ++ records_upto s seen count i → now ≡ out ++ record_seen count (member s i) (seen i) →
+    now ≡ first ++ records_upto s seen count (i + 1)
+out_next s seen count i first out now is next =
+    let e : i + 1 ≡ suc i = omega arith in
+    rw (next, is, e) (append_again first (records_upto s seen count i) (record_seen count (member s i) (seen i)))
+
+pub not_yet_sent : (seats : List SeatView) (s : Known) (seen : ℕ → Seen) (i : ℕ) (v : SeatView) → i < length seats → v ≡ slice_index_or seats i v →
+    SeatsStandFor seats s (λ k. if nat_lt k i then sent_in (seen k) else seen k) → SeatStandsFor v (member s i) (seen i)
+not_yet_sent seats s seen i v within is all =
+    let not_yet : nat_lt i i ≡ false = grind (arith, nat_tests) in
+    rw (is) (subst (λ b. SeatStandsFor (slice_index_or seats i v) (member s i) (if b then sent_in (seen i) else seen i)) not_yet (all i v within))
+
+-- the cycle's number counts by its low bytes
+same_value : (cycle len : ℕ) → value_said (cycle % 2 ^ 32) len ≡ value_said cycle len
+same_value cycle len =
+    let a : cycle % 2 ^ 32 % 256 ≡ cycle % 256 = omega arith in
+    let b : cycle % 2 ^ 32 / 256 % 256 ≡ cycle / 256 % 256 = omega arith in
+    let d : cycle % 2 ^ 32 / 65536 % 256 ≡ cycle / 65536 % 256 = omega arith in
+    let f : cycle % 2 ^ 32 / 16777216 % 256 ≡ cycle / 16777216 % 256 = omega arith in
+    rw (a, b, d, f) refl
+
+same_values : (cycle : ℕ) (words : List ℕ) → values_said (cycle % 2 ^ 32) words ≡ values_said cycle words
+same_values cycle [] = refl
+same_values cycle (w ∷ words) = rw (same_value cycle (len_or_none w), same_values cycle words) refl
+
+pub upto_same : (s : Known) (seen : ℕ → Seen) (cycle n : ℕ) → records_upto s seen (cycle % 2 ^ 32) n ≡ records_upto s seen cycle n
+upto_same s seen cycle zero = refl
+upto_same s seen cycle (suc n) = rw (upto_same s seen cycle n, same_values cycle (mdt_attributes (member s n) (outcomes_seen (seen n)))) refl
+
+-- WHAT IS SENT TO ALL
+late_phase : (phase : ℕ) → 3 ≤ phase → ((phase == 1) ≡ false) × (((phase == 2) ≡ false) × (nat_le 3 phase ≡ true))
+late_phase phase h = (grind (arith, nat_tests, h), (grind (arith, nat_tests, h), grind (arith, nat_tests, h)))
+
+addressed_late : (s : Known) (p : Past) → 3 ≤ p.now.phase → addressed_in s p ≡ None
+addressed_late s p h = let l = late_phase p.now.phase h in rw (l.0, l.1.0) refl
+
+pub now_late : (s : Known) (p : Past) → 3 ≤ p.now.phase → sent_now s p ≡ sent_to None p
+now_late s p h = ap (λ a. sent_to a p) (addressed_late s p h)
+
+seen_sent : (p : Past) (k : ℕ) → 3 ≤ p.now.phase → seen_at (sent_to None p) k ≡ sent_in (seen_at p k)
+seen_sent p k h = let l = late_phase p.now.phase h in rw l.1.1 refl
+
+record_sent : (s : Known) (p : Past) (k : ℕ) → 3 ≤ p.now.phase → record_to s (sent_to None p) k ≡ record_seen p.cycle (member s k) (seen_at p k)
+record_sent s p k h = let l = late_phase p.now.phase h in rw l.1.1 refl
+
+from_upto : (s : Known) (p : Past) (k n : ℕ) → 3 ≤ p.now.phase →
+    records_upto s (seen_at p) p.cycle k ++ records_from s (sent_to None p) k n ≡ records_upto s (seen_at p) p.cycle (k + n)
+from_upto s p k zero h = append_nil (records_upto s (seen_at p) p.cycle k) ∙ ap (records_upto s (seen_at p) p.cycle) zero_more
+  where
+    zero_more : k ≡ k + 0
+    zero_more = omega arith
+from_upto s p k (suc n) h =
+    let e : k + 1 ≡ suc k = omega arith in
+    let f : suc k + n ≡ k + suc n = omega arith in
+    ap (λ r. records_upto s (seen_at p) p.cycle k ++ (r ++ records_from s (sent_to None p) (k + 1) n)) (record_sent s p k h)
+    ∙ (sym (append_again (records_upto s (seen_at p) p.cycle k) (record_seen p.cycle (member s k) (seen_at p k)) (records_from s (sent_to None p) (k + 1) n))
+    ∙ (ap (λ i. records_upto s (seen_at p) p.cycle (suc k) ++ records_from s (sent_to None p) i n) e
+    ∙ (from_upto s p (suc k) n h ∙ ap (records_upto s (seen_at p) p.cycle) f)))
+
+pub records_all : (s : Known) (p : Past) → 3 ≤ p.now.phase → records_from s (sent_to None p) 0 (length s.drives) ≡ records_upto s (seen_at p) p.cycle (length s.drives)
+records_all s p h = from_upto s p 0 (length s.drives) h ∙ ap (records_upto s (seen_at p) p.cycle) none_more
+  where
+    none_more : 0 + length s.drives ≡ length s.drives
+    none_more = omega arith
+
+pub said_late : (s : Known) (p : Past) → 3 ≤ p.now.phase → mdt_said s (sent_now s p) ≡ option_map (joint s (sent_to None p)) p.plan
+said_late s p h = let l = late_phase p.now.phase h in rw (now_late s p h, l.0, l.1.0, l.1.1) refl
+
+pub start_late : (s : Known) (p : Past) (plan : Option PlanView) → plan ≡ p.plan → 3 ≤ p.now.phase → option_map (λ q. q.t2) plan ≡ option_map (λ m. m.start) (mdt_said s (sent_now s p))
+start_late s p plan e h = rw (said_late s p h, e) (by p.plan)
+  where
+    by : (o : Option PlanView) → option_map (λ q. q.t2) o ≡ option_map (λ m. m.start) (option_map (joint s (sent_to None p)) o)
+    by None = refl
+    by (Some q) = refl
+
+pub content_planned : (s : Known) (p : Past) (out : List ℕ) → 3 ≤ p.now.phase → (is_some p.plan ≡ true → out ≡ all_drives ∷ records_upto s (seen_at p) p.cycle (length s.drives)) →
+    IfSome (mdt_said s (sent_now s p)) (λ m. out ≡ m.content)
+content_planned s p out h e = rw (said_late s p h) (by p.plan e)
+  where
+    by : (o : Option PlanView) → (is_some o ≡ true → out ≡ all_drives ∷ records_upto s (seen_at p) p.cycle (length s.drives)) → IfSome (option_map (joint s (sent_to None p)) o) (λ m. out ≡ m.content)
+    by None e = tt
+    by (Some q) e = e refl ∙ ap (λ bytes. all_drives ∷ bytes) (sym (records_all s p h))
+
+pub sent_all : (v : CoreView) (seats : List SeatView) (s : Known) (p : Past) → CoreStandsFor v s p → 3 ≤ p.now.phase → length seats ≡ length v.seats → SeatsStandFor seats s (λ k. sent_in (seen_at p k)) →
+    CoreStandsFor (record v { seats = seats; addressed = None }) s (sent_now s p)
+sent_all v seats s p c h count all = rw (now_late s p h) (record {
+  rate_is = c.rate_is;
+  cycle_is = c.cycle_is;
+  control_is = c.control_is;
+  gap_is = c.gap_is;
+  order_is = c.order_is;
+  seats_count = count ∙ c.seats_count;
+  seats = λ k seat below. subst (SeatStandsFor (slice_index_or seats k seat) (member s k)) (sym (seen_sent p k h)) (all k seat below);
+  count_is = c.count_is;
+  phase_is = c.phase_is;
+  whole_is = c.whole_is;
+  row_is = c.row_is;
+  lost_is = c.lost_is;
+  addressed_is = refl;
+  before_is = c.before_is;
+  waited_is = c.waited_is;
+  plan_is = c.plan_is;
+  plans_is = c.plans_is;
+  stopped_is = c.stopped_is;
+  stop_is = c.stop_is;
+})
+
+-- WHAT IS SENT TO ONE, OR TO NONE
+-- the seats as they were, but for the one that is sent to in phase 2
+sent_core : (v : CoreView) (seats : List SeatView) (s : Known) (p : Past) (to : Option ℕ) → CoreStandsFor v s p → length seats ≡ length v.seats → SeatsStandFor seats s (seen_at (sent_to to p)) →
+    CoreStandsFor (record v { seats = seats; addressed = to }) s (sent_to to p)
+sent_core v seats s p to c count all = record {
+  rate_is = c.rate_is;
+  cycle_is = c.cycle_is;
+  control_is = c.control_is;
+  gap_is = c.gap_is;
+  order_is = c.order_is;
+  seats_count = count ∙ c.seats_count;
+  seats = all;
+  count_is = c.count_is;
+  phase_is = c.phase_is;
+  whole_is = c.whole_is;
+  row_is = c.row_is;
+  lost_is = c.lost_is;
+  addressed_is = refl;
+  before_is = c.before_is;
+  waited_is = c.waited_is;
+  plan_is = c.plan_is;
+  plans_is = c.plans_is;
+  stopped_is = c.stopped_is;
+  stop_is = c.stop_is;
+}
+
+seen_unsent : (p : Past) (to : Option ℕ) (k : ℕ) → is_sent_to p to k ≡ false → seen_at (sent_to to p) k ≡ seen_at p k
+seen_unsent p to k e = rw e refl
+
+seen_there : (p : Past) (to : Option ℕ) (k : ℕ) → is_sent_to p to k ≡ true → seen_at (sent_to to p) k ≡ sent_in (seen_at p k)
+seen_there p to k e = rw e refl
+
+-- where nothing goes through a channel
+unsent : (v : CoreView) (s : Known) (p : Past) (to : Option ℕ) → CoreStandsFor v s p → ((k : ℕ) → is_sent_to p to k ≡ false) → CoreStandsFor (record v { addressed = to }) s (sent_to to p)
+unsent v s p to c none = sent_core v v.seats s p to c refl (λ k seat below. subst (SeatStandsFor (slice_index_or v.seats k seat) (member s k)) (sym (seen_unsent p to k (none k))) (c.seats k seat below))
+
+pub sent_0 : (v : CoreView) (s : Known) (p : Past) → CoreStandsFor v s p → p.now.phase ≡ 0 → CoreStandsFor (record v { addressed = None }) s (sent_now s p)
+sent_0 v s p c e =
+    let to : addressed_in s p ≡ None = rw e refl in
+    rw to (unsent v s p None c (λ k. rw e refl))
+
+pick : {A : Type 0} (b : Bool) (x y : A) → b ≡ true → (if b then x else y) ≡ x
+pick true x y e = refl
+pick false x y e = absurd (false≢true e)
+
+is_one : (phase : ℕ) → phase ≡ 1 → (phase == 1) ≡ true
+is_one phase e = rw e refl
+
+to_1 : (v : CoreView) (s : Known) (p : Past) → CoreStandsFor v s p → p.now.phase ≡ 1 → addressed_in s p ≡ position (λ seat. not seat.identified) v.seats
+to_1 v s p c e =
+    pick (p.now.phase == 1) (first_place s (λ k. not (is_identified p k))) (if p.now.phase == 2 then first_place s (λ k. not (is_idle p k)) else None) (is_one p.now.phase e)
+    ∙ sym (unidentified v s p c)
+
+pub sent_1 : (v : CoreView) (s : Known) (p : Past) → CoreStandsFor v s p → p.now.phase ≡ 1 → CoreStandsFor (record v { addressed = position (λ seat. not seat.identified) v.seats }) s (sent_now s p)
+sent_1 v s p c e = subst (λ to. CoreStandsFor (record v { addressed = position (λ seat. not seat.identified) v.seats }) s (sent_to to p)) (sym (to_1 v s p c e))
+    (unsent v s p (position (λ seat. not seat.identified) v.seats) c (λ k. rw e refl))
+
+pub said_0 : (s : Known) (p : Past) → p.now.phase ≡ 0 → mdt_said s (sent_now s p) ≡ None
+said_0 s p e = rw e refl
+
+pub said_1 : (v : CoreView) (s : Known) (p : Past) → CoreStandsFor v s p → p.now.phase ≡ 1 → mdt_said s (sent_now s p) ≡ option_map (single s idle) (position (λ seat. not seat.identified) v.seats)
+said_1 v s p c e = subst (λ to. mdt_said s (sent_to to p) ≡ option_map (single s idle) (position (λ seat. not seat.identified) v.seats)) (sym (to_1 v s p c e)) (rw e refl)
+
+none_not_not : {A : Type 0} (o : Option A) → not (is_none o) ≡ not (is_none o)
+none_not_not o = refl
+
+pub working : (v : CoreView) (s : Known) (p : Past) → CoreStandsFor v s p → position (λ seat. not (is_none seat.channel.transfer)) v.seats ≡ first_place s (λ k. not (is_idle p k))
+working v s p c = found v s p (λ seat. not (is_none seat.channel.transfer)) (λ k. not (is_idle p k)) c (λ i seat t. ap not (idle_same seat (member s i) (seen_at p i) t))
+
+to_2 : (v : CoreView) (s : Known) (p : Past) (to : Option ℕ) → CoreStandsFor v s p → p.now.phase ≡ 2 → position (λ seat. not (is_none seat.channel.transfer)) v.seats ≡ to → addressed_in s p ≡ to
+to_2 v s p to c e f = rw e (sym (working v s p c) ∙ f)
+
+pub sent_none_2 : (v : CoreView) (s : Known) (p : Past) → CoreStandsFor v s p → p.now.phase ≡ 2 → position (λ seat. not (is_none seat.channel.transfer)) v.seats ≡ None → CoreStandsFor (record v { addressed = None }) s (sent_now s p)
+sent_none_2 v s p c e f = rw (to_2 v s p None c e f) (unsent v s p None c (λ k. rw e refl))
+
+pub sent_one_2 : (v : CoreView) (s : Known) (p : Past) (k : ℕ) (w : SeatView) → CoreStandsFor v s p → p.now.phase ≡ 2 → k < length v.seats → position (λ seat. not (is_none seat.channel.transfer)) v.seats ≡ Some k →
+    SeatStandsFor w (member s k) (sent_in (seen_at p k)) → CoreStandsFor (record v { seats = set v.seats k w; addressed = Some k }) s (sent_now s p)
+sent_one_2 v s p k w c e within f here =
+    let at : is_sent_to p (Some k) k ≡ true = rw (e, same_place k) refl in
+    rw (to_2 v s p (Some k) c e f)
+    (sent_core v (set v.seats k w) s p (Some k) c (length-set v.seats k w)
+    (one_seat v.seats s (seen_at p) (seen_at (sent_to (Some k) p)) k w within c.seats
+    (λ i n. seen_unsent p (Some k) i (rw (e, other_place i k n) refl))
+    (rw (seen_there p (Some k) k at) here)))
+
+pub said_none_2 : (v : CoreView) (s : Known) (p : Past) → CoreStandsFor v s p → p.now.phase ≡ 2 → position (λ seat. not (is_none seat.channel.transfer)) v.seats ≡ None → mdt_said s (sent_now s p) ≡ None
+said_none_2 v s p c e f = rw (to_2 v s p None c e f) (rw e refl)
+
+pub said_one_2 : (v : CoreView) (s : Known) (p : Past) (k : ℕ) → CoreStandsFor v s p → p.now.phase ≡ 2 → position (λ seat. not (is_none seat.channel.transfer)) v.seats ≡ Some k →
+    mdt_said s (sent_now s p) ≡ Some (record { start = 650; content = (member s k).address ∷ record_said (master_says (begun_by (p.calls k))) [] })
+said_one_2 v s p k c e f = rw (to_2 v s p (Some k) c e f) (rw (e, same_place k) refl)
+
+pub upto_end : (xs : List ℕ) → xs ++ [] ≡ xs
+upto_end xs = append_nil xs
+
+pub start_none : (s : Known) (q : Past) → mdt_said s q ≡ None → None ≡ option_map (λ m. m.start) (mdt_said s q)
+start_none s q e = rw e refl
+
+pub content_none : (s : Known) (q : Past) (out : List ℕ) → mdt_said s q ≡ None → IfSome (mdt_said s q) (λ m. out ≡ m.content)
+content_none s q out e = rw e tt
+
+pub said_none_1 : (v : CoreView) (s : Known) (p : Past) → CoreStandsFor v s p → p.now.phase ≡ 1 → position (λ seat. not seat.identified) v.seats ≡ None → mdt_said s (sent_now s p) ≡ None
+said_none_1 v s p c e f = said_1 v s p c e ∙ ap (option_map (single s idle)) f
+
+pub said_one_1 : (v : CoreView) (s : Known) (p : Past) (k : ℕ) → CoreStandsFor v s p → p.now.phase ≡ 1 → position (λ seat. not seat.identified) v.seats ≡ Some k → mdt_said s (sent_now s p) ≡ Some (single s idle k)
+said_one_1 v s p k c e f = said_1 v s p c e ∙ ap (option_map (single s idle)) f
+
+-- THE RECORDS FIT where the plan is that of what was read.
+upto_length : (s : Known) (p : Past) (cycle n : ℕ) → n ≤ length s.drives → length (records_upto s (seen_at p) cycle n) ≡ record_bytes (wishes_from (take n s.drives) 0 (outcomes p))
+upto_length s p cycle zero h = none s.drives
+  where
+    none : (drives : List MemberView) → 0 ≡ record_bytes (wishes_from (take 0 drives) 0 (outcomes p))
+    none [] = refl
+    none (d ∷ drives) = refl
+upto_length s p cycle (suc n) h =
+    let e : n + 1 ≡ suc n = omega arith in
+    let before : length (records_upto s (seen_at p) cycle n) ≡ record_bytes (wishes_from (take n s.drives) 0 (outcomes p)) = upto_length s p cycle n (omega (arith, h)) in
+    let one : length (record_seen cycle (member s n) (seen_at p n)) ≡ record_len (member s n) (outcomes p n) = seen_length cycle (member s n) (seen_at p n) in
+    let both = length-append (records_upto s (seen_at p) cycle n) (record_seen cycle (member s n) (seen_at p n)) in
+    let more = wishes_more s.drives 0 n (outcomes p) (omega (arith, h)) in
+    let sum : record_bytes (wishes_from (take n s.drives) 0 (outcomes p) ++ wish_given (member s n) (outcomes p (0 + n)) ∷ []) ≡ record_bytes (wishes_from (take n s.drives) 0 (outcomes p)) + record_bytes (wish_given (member s n) (outcomes p (0 + n)) ∷ []) =
+    sum_by-append (λ (w : Wish). w.record_len) (wishes_from (take n s.drives) 0 (outcomes p)) (wish_given (member s n) (outcomes p (0 + n)) ∷ []) in
+    let z : 0 + n ≡ n = omega arith in
+    let last : record_bytes (wish_given (member s n) (outcomes p (0 + n)) ∷ []) ≡ record_len (member s n) (outcomes p n) = rw z (omega arith) in
+    rw (← e) (omega (arith, before, one, both) ∙ (sym (rw last at sum) ∙ sym (ap record_bytes more)))
+
+pub fits_planned : (s : Known) (p : Past) → IsPlanned s p → is_some p.plan ≡ true → Fits s p
+fits_planned s p planned some = by p.plan refl some
+  where
+    by : (plan : Option PlanView) → p.plan ≡ plan → is_some plan ≡ true → Fits s p
+    by None e some = absurd (false≢true some)
+    by (Some plan) e some =
+        let fits : record_bytes (wishes_from s.drives 0 (outcomes p)) ≤ 2047 = leb-true (record_bytes (wishes_from s.drives 0 (outcomes p))) 2047 (planned plan e).fits in
+        let whole : take (length s.drives) s.drives ≡ s.drives = take_all (length s.drives) s.drives (omega arith) in
+        let long = upto_length s p p.cycle (length s.drives) (omega arith) ∙ ap (λ ds. record_bytes (wishes_from ds 0 (outcomes p))) whole in
+        omega (arith, fits, long)
+
+-- a start and a content are what is said
+pub said_both : (start : Option ℕ) (content : List ℕ) (m : Option Sent) → start ≡ option_map (λ x. x.start) m → IfSome m (λ x. content ≡ x.content) → sent_as start content ≡ m
+said_both start content None e h = rw e refl
+said_both start content (Some x) e h = rw (e, h) refl

@@ -1,0 +1,19 @@
+-- What a master stands for, in each of its states.
+use Rattle.std.specs.Prelude.{List}
+use Rattle.sercos_step.specs.declared.request.Job.{Job}
+use Rattle.sercos_master.specs.declared.master.AnyMaster.{AnyMaster}
+use Rattle.sercos_master.specs.declared.master.AnyMaster.TheVariants.{P0, P1, P2, P3, P4}
+use Rattle.sercos_seat.specs.Ring.{Known, tasks_for}
+use Rattle.sercos_master.specs.Annals.{Past, Call, past}
+use Rattle.sercos_master.specs.Kept.{IsIn}
+
+abbrev pub StandsAt : AnyMaster → Known → Past → Type 0
+StandsAt (P0 m) s p = IsIn 0 m s p
+StandsAt (P1 m) s p = IsIn 1 m s p
+StandsAt (P2 m) s p = IsIn 2 m s p
+StandsAt (P3 m) s p = IsIn 3 m s p
+StandsAt (P4 m) s p = IsIn 4 m s p
+
+-- the master stands for what its opening was given, and for its calls since, the newest first
+abbrev pub AnyStandsFor : AnyMaster → Known → List Job → List Call → Type 0
+AnyStandsFor m s jobs h = StandsAt m s (past s (tasks_for s jobs) h)

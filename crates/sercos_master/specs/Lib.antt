@@ -1,0 +1,11 @@
+pub use Rattle.sercos_seat.specs.Ring
+pub use Rattle.sercos_seat.specs.Agenda
+pub use Rattle.sercos_seat.specs.Channel
+pub use Rattle.sercos_seat.specs.Records
+pub use Rattle.sercos_seat.specs.Seats
+pub mod Annals
+pub mod Says
+pub mod Reports
+pub mod Kept
+pub mod Written
+pub mod Any

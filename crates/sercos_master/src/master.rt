@@ -1,0 +1,379 @@
+// The master in its states.
+ghost use Rattle.std.specs.Prelude.{◌≡◌, ◌≤◌, ◌<◌, ◌+◌, ℕ, true, List, [], ◌∷◌, length, Some, option_map, is_ok, is_some, IfOk, IfErr};
+ghost use Rattle.std.specs.List.{All};
+ghost use Rattle.std.specs.Option.{option_or};
+ghost use Rattle.sercos_step.specs.declared.request.Job.{Job};
+ghost use Rattle.sercos_step.specs.Steps.{IsRequest};
+ghost use Rattle.sercos_block.specs.Rings.{is_ring};
+ghost use Rattle.sercos_trace.specs.declared.events.Fall.TheVariants as fall;
+ghost use Rattle.sercos_seat.specs.Ring.{Known, IsKnown, known_of, tasks_for};
+ghost use Rattle.sercos_master.specs.Annals.{Call, HearMst, HearAt, Mdt, End, Restart, Past, past, new_epoch, still_waiting, is_closed, all_identified, all_checked, all_ready};
+ghost use Rattle.sercos_master.specs.Says.{mst_said, mdt_said, sent_as};
+ghost use Rattle.sercos_master.specs.Reports.{AreOpen, events_told, restart_told, with_broken};
+ghost use Rattle.sercos_master.specs.Kept.{CoreStandsFor, IsIn};
+
+use crate::ring::Ring;
+use sercos_bits::Content;
+use sercos_block::RingSetup;
+use sercos_step::Job;
+use sercos_telegram::{Mst, write_mst};
+use sercos_timing::Plan;
+use sercos_trace::{Events, Fall, Stop};
+use std::alloc::{AllocError, Global};
+use std::marker::{Model, PhantomData};
+
+/// Communication phase 0: the ring is being closed.
+#[derive(Drop)]
+pub struct Cp0;
+
+/// Communication phase 1: the drives are identified, one after the other.
+#[derive(Drop)]
+pub struct Cp1;
+
+/// Communication phase 2: the service channels are open, and the slots are planned and written.
+#[derive(Drop)]
+pub struct Cp2;
+
+/// Communication phase 3: telegrams have their slots, and each drive checks its configuration.
+#[derive(Drop)]
+pub struct Cp3;
+
+/// Communication phase 4: values are exchanged, and the requests run.
+#[derive(Drop)]
+pub struct Cp4;
+
+/// The master's end of the ring in a phase: `Master<Cp0>` to `Master<Cp4>`. What it keeps is in memory that its opening took, so a
+/// move of it copies few bytes. In phases 3 and 4 it has a plan, and each drive has answered the writes of this plan and its
+/// check for phase 3 without error since the last fall. IEC 61491:1995 has the phases; when each is left is this profile's.
+#[derive(Drop)]
+pub struct Master<P> {
+    ring: Box<Ring>,
+    of: PhantomData<P>,
+}
+
+impl<P> Model for Master<P> {
+    ghost use Rattle.sercos_master.specs.Kept.{CoreView};
+
+    ghost Value = { CoreView };
+
+    ghost view = { λ m. m.ring.value };
+}
+
+fn in_state<P>(ring: Box<Ring>) -> Master<P>
+    ensures { result ≡ ring.value }
+{
+    Master {
+        ring,
+        of: PhantomData,
+    }
+}
+
+impl Master<Cp0> {
+    /// Commands phase 1. The old state comes back, unchanged, exactly if fewer than ten MSTs in a row came back whole.
+    pub fn rise(mut self) -> Result<Master<Cp1>, Master<Cp0>>
+        ensures exactly { (s : Known) (p : Past) → IsIn 0 self s p → is_ok result ≡ is_closed p }
+        ensures up { IfOk result (λ m. m ≡ record self { phase = 1 }) }
+        ensures same { IfErr result (λ m. m ≡ self) }
+    {
+        if self.ring.is_done() {
+            self.ring.set_phase(1);
+            Ok(in_state(self.ring))
+        } else {
+            Err(self)
+        }
+    }
+}
+
+impl Master<Cp1> {
+    /// Commands phase 2. The old state comes back, unchanged, exactly if some drive hasn't answered its identification.
+    pub fn rise(mut self) -> Result<Master<Cp2>, Master<Cp1>>
+        ensures exactly { (s : Known) (p : Past) → IsIn 1 self s p → is_ok result ≡ all_identified s p }
+        ensures up { IfOk result (λ m. m ≡ record self { phase = 2 }) }
+        ensures same { IfErr result (λ m. m ≡ self) }
+    {
+        if self.ring.is_done() {
+            self.ring.set_phase(2);
+            Ok(in_state(self.ring))
+        } else {
+            Err(self)
+        }
+    }
+}
+
+impl Master<Cp2> {
+    /// Commands phase 3. The old state comes back, unchanged, exactly if some job of phase 2 isn't complete, or some drive's check for phase 3 (S-0-0127) didn't end with data status 3.
+    pub fn rise(mut self) -> Result<Master<Cp3>, Master<Cp2>>
+        ensures exactly { (s : Known) (p : Past) → IsIn 2 self s p → is_ok result ≡ all_checked s p }
+        ensures up { IfOk result (λ m. m ≡ record self { phase = 3 }) }
+        ensures same { IfErr result (λ m. m ≡ self) }
+    {
+        if self.ring.is_done() {
+            self.ring.set_phase(3);
+            Ok(in_state(self.ring))
+        } else {
+            Err(self)
+        }
+    }
+}
+
+impl Master<Cp3> {
+    /// Commands phase 4. The old state comes back, unchanged, exactly if some drive's check for phase 4 (S-0-0128) hasn't ended with data status 3.
+    pub fn rise(mut self) -> Result<Master<Cp4>, Master<Cp3>>
+        ensures exactly { (s : Known) (p : Past) → IsIn 3 self s p → is_ok result ≡ all_ready s p }
+        ensures up { IfOk result (λ m. m ≡ record self { phase = 4 }) }
+        ensures same { IfErr result (λ m. m ≡ self) }
+    {
+        if self.ring.is_done() {
+            self.ring.set_phase(4);
+            Ok(in_state(self.ring))
+        } else {
+            Err(self)
+        }
+    }
+}
+
+impl Master<Cp1> {
+    /// Falls to phase 0. Each request that is open is added to the events as broken, and it is not sent again. The cause becomes
+    /// the fall of the events, whose plan and stop stay. Room is needed for one outcome more for each drive.
+    pub fn fall(self, cause: Fall, events: &mut Events) -> Master<Cp0>
+        ensures stands { (s : Known) (p : Past) → CoreStandsFor self s p → CoreStandsFor result s (new_epoch p.cycle (still_waiting p)) }
+        ensures told { (s : Known) (p : Past) → CoreStandsFor self s p → length events.old.outcomes + length s.drives ≤ 128 →
+            events.new ≡ record events.old { outcomes = with_broken s p events.old.outcomes; fall = Some cause } }
+    {
+        in_state(fallen(self.ring, cause, events))
+    }
+}
+
+impl Master<Cp2> {
+    /// Falls to phase 0. Each request that is open is added to the events as broken, and it is not sent again. The cause becomes
+    /// the fall of the events, whose plan and stop stay. Room is needed for one outcome more for each drive.
+    pub fn fall(self, cause: Fall, events: &mut Events) -> Master<Cp0>
+        ensures stands { (s : Known) (p : Past) → CoreStandsFor self s p → CoreStandsFor result s (new_epoch p.cycle (still_waiting p)) }
+        ensures told { (s : Known) (p : Past) → CoreStandsFor self s p → length events.old.outcomes + length s.drives ≤ 128 →
+            events.new ≡ record events.old { outcomes = with_broken s p events.old.outcomes; fall = Some cause } }
+    {
+        in_state(fallen(self.ring, cause, events))
+    }
+}
+
+impl Master<Cp3> {
+    /// Falls to phase 0. Each request that is open is added to the events as broken, and it is not sent again. The cause becomes
+    /// the fall of the events, whose plan and stop stay. Room is needed for one outcome more for each drive.
+    pub fn fall(self, cause: Fall, events: &mut Events) -> Master<Cp0>
+        ensures stands { (s : Known) (p : Past) → CoreStandsFor self s p → CoreStandsFor result s (new_epoch p.cycle (still_waiting p)) }
+        ensures told { (s : Known) (p : Past) → CoreStandsFor self s p → length events.old.outcomes + length s.drives ≤ 128 →
+            events.new ≡ record events.old { outcomes = with_broken s p events.old.outcomes; fall = Some cause } }
+    {
+        in_state(fallen(self.ring, cause, events))
+    }
+}
+
+impl Master<Cp4> {
+    /// Falls to phase 0. Each request that is open is added to the events as broken, and it is not sent again. The cause becomes
+    /// the fall of the events, whose plan and stop stay. Room is needed for one outcome more for each drive.
+    pub fn fall(self, cause: Fall, events: &mut Events) -> Master<Cp0>
+        ensures stands { (s : Known) (p : Past) → CoreStandsFor self s p → CoreStandsFor result s (new_epoch p.cycle (still_waiting p)) }
+        ensures told { (s : Known) (p : Past) → CoreStandsFor self s p → length events.old.outcomes + length s.drives ≤ 128 →
+            events.new ≡ record events.old { outcomes = with_broken s p events.old.outcomes; fall = Some cause } }
+    {
+        in_state(fallen(self.ring, cause, events))
+    }
+}
+
+// The ring falls to phase 0: an epoch begins, and the open requests are broken.
+fn fallen(ring: Box<Ring>, cause: Fall, events: &mut Events) -> Box<Ring>
+    ensures stands { (s : Known) (p : Past) → CoreStandsFor ring.value s p → CoreStandsFor result.value s (new_epoch p.cycle (still_waiting p)) }
+    ensures phase { result.value.phase ≡ 0 }
+    ensures told { (s : Known) (p : Past) → CoreStandsFor ring.value s p → length events.old.outcomes + length s.drives ≤ 128 →
+        events.new ≡ record events.old { outcomes = with_broken s p events.old.outcomes; fall = Some cause } }
+{
+    let mut new = ring;
+    new.begin_epoch(&mut events.outcomes);
+    events.fall = Some(cause);
+    new
+}
+
+fn tell_plan(plan: Option<Plan>, told: &mut Option<Plan>)
+    ensures { told.new ≡ option_or plan told.old }
+{
+    if plan.is_some() {
+        *told = plan;
+    }
+}
+
+fn tell_stop(stop: Option<Stop>, told: &mut Option<Stop>)
+    ensures { told.new ≡ option_or stop told.old }
+{
+    if stop.is_some() {
+        *told = stop;
+    }
+}
+
+fn tell_fall(fall: Option<Fall>, told: &mut Option<Fall>)
+    ensures { told.new ≡ option_or fall told.old }
+{
+    if fall.is_some() {
+        *told = fall;
+    }
+}
+
+/// The master's end of the ring, in the phase that it commands. It knows of the drives only what the setup's addresses, slaves
+/// and lists say, and what it heard. In each cycle `mst`, `hear_mst`, `hear_at` any number of times, `mdt` and `end_cycle` are called
+/// in this order; a call in another order is safe, and means what the definitions say of it. No call but `open` takes memory.
+#[derive(Drop)]
+pub enum AnyMaster {
+    /// In phase 0.
+    P0(Master<Cp0>),
+    /// In phase 1.
+    P1(Master<Cp1>),
+    /// In phase 2.
+    P2(Master<Cp2>),
+    /// In phase 3.
+    P3(Master<Cp3>),
+    /// In phase 4.
+    P4(Master<Cp4>),
+}
+
+impl AnyMaster {
+    ghost use Rattle.sercos_master.specs.Any.{StandsAt, AnyStandsFor};
+
+    /// Opens a master in phase 0 that has heard nothing, with at most 4,096 requests. It uses no time that a drive declares and no
+    /// data block of the setup. A request to an address that no drive of the setup has is never begun. `AllocError` comes where
+    /// memory isn't found, and then nothing is left behind.
+    pub fn open(alloc: Global, setup: &RingSetup, jobs: Vec<Job>) -> Result<AnyMaster, AllocError>
+        requires ring { is_ring setup.now ≡ true }
+        requires few { length jobs.items ≤ 4096 }
+        requires requests { All (λ job. IsRequest job.request) jobs.items }
+        ensures { IfOk result (λ m. AnyStandsFor m (known_of setup.now) jobs.items []) }
+    {
+        let ring = Ring::open(alloc, setup, jobs)?;
+        let boxed = Box::new(alloc, ring)?;
+        Ok(AnyMaster::P0(in_state(boxed)))
+    }
+
+    /// Returns the phase that is commanded, 0 to 4.
+    pub fn command(&self) -> u8
+        ensures value { (s : Known) (jobs : List Job) (h : List Call) → AnyStandsFor self.now s jobs h → result ≡ (past s (tasks_for s jobs) h).now.phase }
+        ensures bound { result ≤ 4 }
+    {
+        match self {
+            AnyMaster::P0(_m) => 0,
+            AnyMaster::P1(_m) => 1,
+            AnyMaster::P2(_m) => 2,
+            AnyMaster::P3(_m) => 3,
+            AnyMaster::P4(_m) => 4,
+        }
+    }
+
+    /// Replaces the content by the MST of the commanded phase.
+    pub fn mst(&self, out: &mut Content)
+        ensures said { (s : Known) (jobs : List Job) (h : List Call) → AnyStandsFor self.now s jobs h → out.new ≡ mst_said (past s (tasks_for s jobs) h) }
+        ensures some { 0 < length out.new }
+    {
+        write_mst(
+            &Mst {
+                phase: self.command(),
+            },
+            out,
+        );
+    }
+
+    /// Hears the own MST as it came back, or that it didn't.
+    pub fn hear_mst(&mut self, content: Option<&[u8]>)
+        ensures { (s : Known) (jobs : List Job) (h : List Call) → AnyStandsFor self.old s jobs h →
+            AnyStandsFor self.new s jobs (HearMst (option_map (λ c. c.now) content.entry) ∷ h) }
+    {
+        match self {
+            AnyMaster::P0(m) => m.ring.hear_mst(content),
+            AnyMaster::P1(m) => m.ring.hear_mst(content),
+            AnyMaster::P2(m) => m.ring.hear_mst(content),
+            AnyMaster::P3(m) => m.ring.hear_mst(content),
+            AnyMaster::P4(m) => m.ring.hear_mst(content),
+        }
+    }
+
+    /// Hears the content of a frame where ATs are awaited. It is taken as the AT of the drive with its address: the first of that
+    /// drive in a cycle that has the length of its AT, in phases 1 and 2 only of the drive addressed in the cycle before.
+    pub fn hear_at(&mut self, content: &[u8])
+        ensures { (s : Known) (jobs : List Job) (h : List Call) → AnyStandsFor self.old s jobs h → AnyStandsFor self.new s jobs (HearAt content.now ∷ h) }
+    {
+        match self {
+            AnyMaster::P0(m) => m.ring.hear_at(content),
+            AnyMaster::P1(m) => m.ring.hear_at(content),
+            AnyMaster::P2(m) => m.ring.hear_at(content),
+            AnyMaster::P3(m) => m.ring.hear_at(content),
+            AnyMaster::P4(m) => m.ring.hear_at(content),
+        }
+    }
+
+    /// Looks at the answers of the cycle, begins the next jobs, and sends the MDT: replaces the content by it, and returns its
+    /// start in microseconds after the MST's end. `None` where no MDT is sent in this cycle.
+    pub fn mdt(&mut self, out: &mut Content) -> Option<u16>
+        ensures stands { (s : Known) (jobs : List Job) (h : List Call) → AnyStandsFor self.old s jobs h → AnyStandsFor self.new s jobs (Mdt ∷ h) }
+        ensures said { (s : Known) (jobs : List Job) (h : List Call) → AnyStandsFor self.old s jobs h →
+            sent_as result out.new ≡ mdt_said s (past s (tasks_for s jobs) (Mdt ∷ h)) }
+        ensures some { is_some result ≡ true → 0 < length out.new }
+    {
+        match self {
+            AnyMaster::P0(m) => m.ring.mdt(out),
+            AnyMaster::P1(m) => m.ring.mdt(out),
+            AnyMaster::P2(m) => m.ring.mdt(out),
+            AnyMaster::P3(m) => m.ring.mdt(out),
+            AnyMaster::P4(m) => m.ring.mdt(out),
+        }
+    }
+
+    // What it keeps, whatever its state.
+    fn into_ring(self) -> Box<Ring>
+        ensures stands { (s : Known) (p : Past) → StandsAt self s p → CoreStandsFor result.value s p }
+        ensures phase { (s : Known) (p : Past) → StandsAt self s p → result.value.phase ≤ 4 }
+        ensures known { (s : Known) (p : Past) → StandsAt self s p → IsKnown s }
+    {
+        match self {
+            AnyMaster::P0(m) => m.ring,
+            AnyMaster::P1(m) => m.ring,
+            AnyMaster::P2(m) => m.ring,
+            AnyMaster::P3(m) => m.ring,
+            AnyMaster::P4(m) => m.ring,
+        }
+    }
+
+    // The state of its phase.
+    fn of_ring(ring: Box<Ring>) -> AnyMaster
+        ensures { (s : Known) (p : Past) → IsKnown s → CoreStandsFor ring.value s p → ring.value.phase ≤ 4 → StandsAt result s p }
+    {
+        match ring.phase() {
+            0 => AnyMaster::P0(in_state(ring)),
+            1 => AnyMaster::P1(in_state(ring)),
+            2 => AnyMaster::P2(in_state(ring)),
+            3 => AnyMaster::P3(in_state(ring)),
+            _ => AnyMaster::P4(in_state(ring)),
+        }
+    }
+
+    /// Ends the cycle: the ring falls to phase 0, or goes on, in the next phase where all that belongs to this one is done. The
+    /// requests that ended, the plan, the stop and the fall of the cycle are added to the events, which are to be empty, or to have
+    /// what `restart` added in this cycle.
+    pub fn end_cycle(self, events: &mut Events) -> AnyMaster
+        ensures stands { (s : Known) (jobs : List Job) (h : List Call) → AnyStandsFor self s jobs h → AnyStandsFor result s jobs (End ∷ h) }
+        ensures told { (s : Known) (jobs : List Job) (h : List Call) → AnyStandsFor self s jobs h → AreOpen events.old.outcomes h →
+            events.new ≡ events_told s (past s (tasks_for s jobs) h) events.old }
+    {
+        let mut ring = self.into_ring();
+        tell_plan(ring.plan_told(), &mut events.plan);
+        let (fall, stop) = ring.end_cycle(&mut events.outcomes);
+        tell_stop(stop, &mut events.stop);
+        tell_fall(fall, &mut events.fall);
+        AnyMaster::of_ring(ring)
+    }
+
+    /// Restarts the master: it commands phase 0 and has heard nothing. The open requests are added to the events as broken, and
+    /// the fall `Restart`; the events have at most 64 outcomes before.
+    pub fn restart(self, events: &mut Events) -> AnyMaster
+        ensures stands { (s : Known) (jobs : List Job) (h : List Call) → AnyStandsFor self s jobs h → AnyStandsFor result s jobs (Restart ∷ h) }
+        ensures told { (s : Known) (jobs : List Job) (h : List Call) → AnyStandsFor self s jobs h → length events.old.outcomes ≤ 64 →
+            events.new ≡ restart_told s (past s (tasks_for s jobs) h) events.old }
+    {
+        AnyMaster::of_ring(fallen(self.into_ring(), Fall::Restart, events))
+    }
+}

@@ -1,0 +1,5 @@
+pub mod Ring
+pub mod Agenda
+pub mod Channel
+pub mod Records
+pub mod Seats

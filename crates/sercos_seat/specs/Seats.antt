@@ -1,0 +1,272 @@
+-- What the master keeps of one drive, and how that stands for what it looks back on.
+use Rattle.std.specs.Prelude.{reverse, unwrap_or, ◌-◌, slice_get, ◌*◌, sum_by, slice_index_or, ◌≡◌, ℕ, ◌+◌, ◌≤◌, ◌==◌, ◌++◌, nat_le, nat_lt, if◌then◌else◌, Bool, true, false, not, ◌&&◌, List, [], ◌∷◌, length, map, take, drop, min, Option, Some, None, is_some, option_map, is_none}
+use Rattle.sercos_step.specs.declared.request.Outcome.{Outcome}
+use Rattle.sercos_service_master.specs.Kept.{MasterView, MasterStandsFor}
+use Rattle.std.specs.Option.{option_or}
+use Rattle.sercos_telegram.specs.declared.words.Status.{Status}
+use Rattle.sercos_telegram.specs.Words.{status_of}
+use Rattle.sercos_telegram.specs.Spells.{word_at}
+use Rattle.sercos_telegram.specs.Faults.{at_fault}
+use Rattle.sercos_step.specs.declared.request.Request.{Request}
+use Rattle.sercos_step.specs.declared.request.Request.TheVariants as request
+use Rattle.sercos_service_master.specs.Calls.{Begin, Send, Hear, EndCycle, begun_by, outcome_at}
+use Rattle.sercos_service_master.specs.Begun.{open_in, master_says}
+use Rattle.sercos_service_master.specs.Calls as channel
+use Rattle.sercos_timing.specs.Views.{PlanView}
+use Rattle.sercos_trace.specs.declared.events.Stop.{Stop}
+use Rattle.sercos_seat.specs.declared.answers.Words.{Words}
+use Rattle.sercos_seat.specs.declared.answers.Asked.{Asked}
+use Rattle.sercos_seat.specs.declared.queue.Waiting.{Waiting}
+use Rattle.sercos_step.specs.Steps.{IsRequest}
+use Rattle.sercos_seat.specs.Agenda.{agenda, asked_by, bytes_of, ended_well, given, idn, is_checked, is_ready, len_or_none, mdt_attributes, reads, reads_count, short_in, stop_of_task, writes}
+use Rattle.sercos_seat.specs.Channel.{Report, broken_number, count_requests, last_outcome, number_in, of_phase, outcomes_in, report_of, trouble_by}
+use Rattle.sercos_seat.specs.Records.{record_said, values_said}
+use Rattle.sercos_seat.specs.Ring.{Known, MemberView, Task, member, request_task}
+
+-- what the master looks back on at one drive, in this epoch: its channel, its ATs, and whether there is a stop
+pub record Seen : Type 0 where
+  pub calls : List channel.Call
+  pub tasks : List Task
+  pub heard : Bool
+  pub missed : Bool
+  pub identified : Bool
+  pub report : Option Report
+  pub stopped : Bool
+  pub waiting : List Task
+
+abbrev pub outcomes_seen : Seen → List Outcome
+outcomes_seen x = outcomes_in (begun_by x.calls)
+
+-- the two words of up to four bytes
+abbrev pub words_in : List ℕ → Words
+words_in bytes = record { low = short_in bytes; high = short_in (drop 2 bytes) }
+
+abbrev pub words_of : Outcome → Words
+words_of o = words_in (bytes_of o)
+
+-- What is kept: the drive; its channel; how many outcomes there are, counted up to 100; what the reads gave; whether each
+-- check ended well; what is asked by the task at work, and its number; and what was seen.
+pub record SeatView : Type 0 where
+  pub member : MemberView
+  pub channel : MasterView
+  pub done : ℕ
+  pub given : List Words
+  pub checked : Bool
+  pub ready : Bool
+  pub asked : Asked
+  pub number : Option ℕ
+  pub trouble : Option Stop
+  pub report : Option (ℕ × Outcome)
+  pub heard : Bool
+  pub missed : Bool
+  pub identified : Bool
+  pub waiting : List Waiting
+
+abbrev pub IsAsked : List Task → Asked → Type 0
+IsAsked [] asked = Unit {0}
+IsAsked (t ∷ tasks) asked = asked ≡ asked_by t.request
+
+abbrev pub pair_of : Report → ℕ × Outcome
+pair_of r = (r.number, r.outcome)
+
+abbrev pub trouble_seen : MemberView → Seen → Option Stop
+trouble_seen d x = trouble_by d.address x.tasks (last_outcome (begun_by x.calls))
+
+-- whether no step is open
+abbrev pub is_idle_in : Seen → Bool
+is_idle_in x = is_none (open_in (begun_by x.calls))
+
+abbrev pub opened_in : Seen → ℕ
+opened_in x = if is_idle_in x then 0 else 1
+
+-- a request that is kept, as a task
+abbrev pub waiting_task : Waiting → Task
+waiting_task w = request_task w.number w.request
+
+-- the requests that weren't begun, in their order
+abbrev pub left_in : Seen → List Task
+left_in x = drop (count_requests x.tasks) x.waiting
+
+abbrev pub AreRequests : List Waiting → Type 0
+AreRequests [] = Unit {0}
+AreRequests (w ∷ waiting) = IsRequest w.request × AreRequests waiting
+
+-- What is kept of the requests to a drive, the last one first. A request is begun only after both checks. So the outcomes, with
+-- the task at work, are as many as the start-up and the requests begun have.
+pub record IsQueue (kept : List Waiting) (d : MemberView) (x : Seen) : Type 0 where
+  pub order : map waiting_task (reverse kept) ≡ left_in x
+  pub requests : AreRequests kept
+  pub none : is_ready d (outcomes_seen x) ≡ false → count_requests x.tasks ≡ 0
+  pub count : is_ready d (outcomes_seen x) ≡ true → length (outcomes_seen x) + opened_in x ≡ reads_count d + 13 + count_requests x.tasks
+
+-- a seat stands for a drive and what was seen of it
+pub record SeatStandsFor (v : SeatView) (d : MemberView) (x : Seen) : Type 0 where
+  pub member_is : v.member ≡ d
+  -- a drive's telegrams carry at most sixteen values each
+  pub few : reads_count d ≤ 38
+  pub channel_is : MasterStandsFor v.channel x.calls
+  -- each task was begun on the channel
+  pub begun_is : map (λ t. t.request) x.tasks ≡ map (λ b. b.request) (begun_by x.calls)
+  pub done_is : v.done ≡ min (length (outcomes_seen x)) 100
+  pub given_is : v.given ≡ take (reads_count d) (map words_of (outcomes_seen x))
+  pub checked_is : v.checked ≡ is_checked d (outcomes_seen x)
+  pub ready_is : v.ready ≡ is_ready d (outcomes_seen x)
+  pub asked_is : IsAsked x.tasks v.asked
+  pub number_is : v.number ≡ number_in x.tasks
+  pub trouble_is : x.stopped ≡ false → v.trouble ≡ trouble_seen d x
+  pub report_is : v.report ≡ option_map pair_of x.report
+  pub heard_is : v.heard ≡ x.heard
+  pub missed_is : v.missed ≡ x.missed
+  pub identified_is : v.identified ≡ x.identified
+  pub queue : IsQueue v.waiting d x
+
+-- what the start-up keeps with one outcome more, by how many there were
+abbrev pub kept_given : ℕ → ℕ → List Words → List ℕ → List Words
+kept_given reads done given bytes = if nat_lt done reads && nat_lt (length given) 38 then given ++ words_in bytes ∷ [] else given
+
+abbrev pub kept_checked : ℕ → ℕ → Bool → List ℕ → Bool
+kept_checked reads done checked bytes = if done == reads + 11 then ended_well bytes else checked
+
+abbrev pub kept_ready : ℕ → ℕ → Bool → Bool → List ℕ → Bool
+kept_ready reads done checked ready bytes = if done == reads + 12 then checked && ended_well bytes else ready
+
+-- what holds of every seat
+pub record IsSeat (v : SeatView) : Type 0 where
+  pub few : length v.given ≤ 38
+
+-- what was seen of a drive whose status was heard
+abbrev pub heard_in : Status → ℕ → Seen → Seen
+heard_in status word x = record x {
+  heard = true;
+  report = option_or (report_of (outcome_at x.calls status word) (number_in x.tasks)) x.report;
+  calls = Hear status word ∷ x.calls;
+}
+
+-- what a seat keeps with an outcome of the task at work
+abbrev pub kept_report : Option ℕ → Outcome → Option (ℕ × Outcome) → Option (ℕ × Outcome)
+kept_report None o report = report
+kept_report (Some number) o report = Some (number, o)
+
+abbrev pub after_outcome : Outcome → SeatView → SeatView
+after_outcome o v = record v {
+  done = min (v.done + 1) 100;
+  given = kept_given (reads_count v.member) v.done v.given (bytes_of o);
+  checked = kept_checked (reads_count v.member) v.done v.checked (bytes_of o);
+  ready = kept_ready (reads_count v.member) v.done v.checked v.ready (bytes_of o);
+  trouble = stop_of_task v.member.address v.number v.asked o;
+  report = kept_report v.number o v.report;
+}
+
+-- what was seen where a task is begun
+abbrev pub begun_in : Task → Seen → Seen
+begun_in t x = record x { calls = Begin t.request ∷ x.calls; tasks = t ∷ x.tasks }
+
+abbrev pub with_begun : Option Task → Seen → Seen
+with_begun None x = x
+with_begun (Some t) x = begun_in t x
+
+-- what was seen where a record is sent
+abbrev pub sent_in : Seen → Seen
+sent_in x = record x { calls = Send ∷ x.calls }
+
+-- The next request of the start-up, by what is kept: by the number of outcomes, and whether each check ended well.
+abbrev pub next_write : Known → Option PlanView → ℕ → ℕ → Option Request
+next_write s None k i = None
+next_write s (Some p) k i =
+    if nat_lt i 11 then slice_get (writes s p k) i
+    else (if i == 11 then Some (request.Command (idn 127)) else None)
+
+abbrev pub next_in_2 : Known → Option PlanView → ℕ → ℕ → Bool → Option Request
+next_in_2 s plan k done checked =
+    if nat_lt done (reads_count (member s k)) then slice_get (reads (member s k)) done
+    else (if (done == reads_count (member s k) + 12) && (is_some plan && not checked) then Some (request.Read (idn 21) 7)
+    else next_write s plan k (done - reads_count (member s k)))
+
+abbrev pub next_in_3 : ℕ → Bool → ℕ → Bool → Bool → Option Request
+next_in_3 reads planned done checked ready =
+    if planned && checked
+    then (if done == reads + 12 then Some (request.Command (idn 128))
+    else (if (done == reads + 13) && not ready then Some (request.Read (idn 22) 7) else None))
+    else None
+
+-- whether all reads have ended
+abbrev pub has_read : SeatView → Bool
+has_read v = nat_le (reads_count v.member) v.done
+
+-- what was seen of a drive that is identified
+abbrev pub identified_in : Seen → Seen
+identified_in x = record x { heard = true; identified = true }
+
+abbrev pub taken_in : Bool → Status → ℕ → Seen → Seen
+taken_in identifies status word x = if identifies then identified_in x else heard_in status word x
+
+-- what was seen where an AT comes with the drive's address
+abbrev pub at_in : Bool → ℕ → ℕ → List ℕ → Seen → Seen
+at_in identifies address wanted content x =
+    if not x.heard && is_none (at_fault address wanted content) then taken_in identifies (status_of (word_at content 1)) (word_at content 3) x else x
+
+-- the bytes of a telegram after the address, by the words that were read of its attributes
+abbrev pub long_of : Words → ℕ
+long_of w = w.low + 65536 * w.high
+
+abbrev pub len_of_words : Words → ℕ
+len_of_words w = len_or_none (long_of w)
+
+abbrev pub listed_len : List Words → ℕ
+listed_len words = 4 + sum_by len_of_words words
+
+abbrev pub at_len_kept : SeatView → ℕ
+at_len_kept v = listed_len (take (length v.member.at) (drop 6 v.given))
+
+abbrev pub mdt_words_kept : SeatView → List Words
+mdt_words_kept v = take (length v.member.mdt) (drop (6 + length v.member.at) v.given)
+
+abbrev pub record_len_kept : SeatView → ℕ
+record_len_kept v = listed_len (mdt_words_kept v)
+
+abbrev pub no_words : Words
+no_words = record { low = 0; high = 0 }
+
+-- the first word of the pair at a place, or 0 past the end
+abbrev pub low_at : List Words → ℕ → ℕ
+low_at words place = (slice_index_or words place no_words).low
+
+-- the requests that wait are of phase 4
+abbrev pub AreWaiting : List Task → Type 0
+AreWaiting waiting = (i : ℕ) (t : Task) → slice_get waiting i ≡ Some t → t.phase ≡ 4
+
+-- what was seen after the end of a cycle
+abbrev pub ended_in : ℕ → Seen → Seen
+ended_in phase x = record x {
+  calls = EndCycle ∷ x.calls;
+  heard = false;
+  missed = nat_le 3 phase && not x.heard;
+  report = None;
+}
+
+-- the fall that an AT or a step brings, by what is kept of the drive
+abbrev pub is_lost : ℕ → SeatView → Bool
+is_lost phase v = v.missed && not v.heard
+
+abbrev pub cycles_kept : SeatView → ℕ
+cycles_kept v = unwrap_or v.channel.age 0
+
+-- what was seen of a drive when an epoch begins
+abbrev pub nothing_seen : List Task → Seen
+nothing_seen waiting = record { calls = []; tasks = []; heard = false; missed = false; identified = false; report = None; stopped = false; waiting = waiting }
+
+abbrev pub forgotten : Seen → Seen
+forgotten x = nothing_seen (left_in x)
+
+-- what an idle channel begins in a phase, if its next task belongs to it
+abbrev pub begun_task : ℕ → Known → Option PlanView → List Task → ℕ → Seen → Option Task
+begun_task phase s plan waiting k x =
+    if is_idle_in x then of_phase phase (slice_get (agenda s plan waiting k (outcomes_seen x)) (length (outcomes_seen x))) else None
+
+-- the record of a drive in an MDT for all, by what was seen of it
+abbrev pub record_seen : ℕ → MemberView → Seen → List ℕ
+record_seen cycle d x = record_said (master_says (begun_by x.calls)) (values_said cycle (mdt_attributes d (outcomes_seen x)))
+
+-- the request at work, broken
+abbrev pub broken_in : Seen → Option Report
+broken_in x = if is_idle_in x then None else broken_number (number_in x.tasks)

@@ -1,0 +1,307 @@
+// What outcomes say.
+ghost use Rattle.std.specs.Prelude.{◌%◌, ◌&&◌, nat_le, nat_lt, map, ◌≡◌, ℕ, ◌+◌, ◌*◌, ◌<◌, ◌≤◌, ◌==◌, List, [], ◌∷◌, ◌++◌, length, take, drop, Option, Some, None, IfSome, slice_index, if◌then◌else◌};
+ghost use Rattle.sercos_step.specs.declared.request.Outcome.TheVariants as outcome;
+ghost use Rattle.sercos_seat.specs.Agenda.{last_long, long_stop, bytes_of, short_in, long_in, idns_in, ended_well, len_said, attribute_stop, list_stop, reads_that, reads_element, asked_by, stop_by_bytes, stop_by, stop_of_task};
+ghost use Rattle.sercos_seat.specs.Records.{value_said, values_said};
+ghost use Rattle.sercos_seat.specs.Seats.{long_of, low_at, words_in, words_of, len_of_words, listed_len};
+
+use arrayvec::ArrayVec;
+use sercos_block::{attribute_in, number_len};
+use sercos_idn::Idn;
+use sercos_step::{Outcome, Request, byte_at};
+use sercos_trace::Stop;
+
+/// The two words of up to four bytes.
+#[derive(Clone, Copy, Debug, Default, PartialEq, Eq)]
+pub struct Words {
+    /// The first two bytes.
+    pub low: u16,
+    /// The third and the fourth.
+    pub high: u16,
+}
+
+/// What a request names: the identifier number, and the element if it reads one.
+#[derive(Clone, Copy, Debug, PartialEq, Eq)]
+pub struct Asked {
+    /// The identifier number.
+    pub idn: Idn,
+    /// The element that is read.
+    pub reads: Option<u8>,
+}
+
+/// What a request names.
+pub fn asked_by(request: &Request) -> Asked
+    ensures { result ≡ asked_by request.now }
+{
+    match request {
+        Request::Read { idn, element } => Asked {
+            idn: *idn,
+            reads: Some(*element),
+        },
+        Request::Write { idn, .. } => Asked {
+            idn: *idn,
+            reads: None,
+        },
+        Request::Command { idn } => Asked {
+            idn: *idn,
+            reads: None,
+        },
+    }
+}
+
+// The first two bytes as a word, the low byte first.
+fn first_word(bytes: &[u8]) -> u16
+    ensures { result ≡ short_in bytes.now }
+{
+    u16::from(byte_at(bytes, 0)) + 256 * u16::from(byte_at(bytes, 1))
+}
+
+// The third and the fourth byte as a word.
+fn second_word(bytes: &[u8]) -> u16
+    ensures { result ≡ short_in (drop 2 bytes.now) }
+{
+    u16::from(byte_at(bytes, 2)) + 256 * u16::from(byte_at(bytes, 3))
+}
+
+/// The two words of up to four bytes.
+pub fn words_in(bytes: &[u8]) -> Words
+    ensures { result ≡ words_in bytes.now }
+{
+    Words {
+        low: first_word(bytes),
+        high: second_word(bytes),
+    }
+}
+
+impl Words {
+    /// The number of both.
+    pub fn long(&self) -> u32
+        ensures { result ≡ self.now.low + 65536 * self.now.high }
+    {
+        u32::from(self.low) + 65536 * u32::from(self.high)
+    }
+}
+
+/// The data status of a procedure command that ended well.
+pub fn ended_well(bytes: &[u8]) -> bool
+    ensures { result ≡ ended_well bytes.now }
+{
+    first_word(bytes) == 3
+}
+
+/// The bytes that an outcome gives.
+pub fn outcome_bytes(outcome: &Outcome) -> &[u8]
+    ensures { result.now ≡ bytes_of outcome.now }
+{
+    match outcome {
+        Outcome::Complete(bytes) => bytes.as_slice(),
+        _ => &[],
+    }
+}
+
+/// How many bytes the attribute of a word adds to a telegram.
+pub fn len_said(word: u32) -> Option<usize>
+    ensures value { result ≡ len_said word }
+    ensures bound { IfSome result (λ len. len ≤ 4) }
+{
+    match attribute_in(word) {
+        Some(attribute) => number_len(attribute),
+        None => None,
+    }
+}
+
+/// How many bytes the attribute of these words adds to a telegram: 0 if it is not that of a number.
+pub fn len_of(words: &Words) -> u16
+    ensures value { result ≡ len_of_words words.now }
+    ensures bound { result ≤ 4 }
+{
+    match len_said(words.long()) {
+        Some(len) => len as u16,
+        None => 0,
+    }
+}
+
+/// Two words, and the values of these attributes.
+pub fn listed_len(words: &[Words]) -> u16
+    requires { length words.now ≤ 16 }
+    ensures value { result ≡ listed_len words.now }
+    ensures bounds { (4 ≤ result) × (result ≤ 68) }
+{
+    let mut len = 4;
+    for word in words {
+        len += len_of(word);
+    }
+    len
+}
+
+/// At most `count` words from a place on.
+pub fn part(words: &[Words], from: usize, count: usize) -> &[Words]
+    ensures value { result.now ≡ take count (drop from words.now) }
+    ensures bound { length result.now ≤ count }
+{
+    let begin = from.min(words.len());
+    let rest = &words[begin..];
+    &rest[..count.min(rest.len())]
+}
+
+/// The first word of the pair at a place.
+pub fn low_at(words: &[Words], place: usize) -> u16
+    ensures { result ≡ low_at words.now place }
+{
+    if place < words.len() {
+        words[place].low
+    } else {
+        0
+    }
+}
+
+// Appends a byte of a command value, if it has that many.
+fn push_value(byte: u32, len: u16, wanted: u16, values: &mut ArrayVec<u8, 64>)
+    ensures { values.new.items ≡ (if nat_le wanted len && nat_lt (length values.old.items) 64 then values.old.items ++ (byte % 256) ∷ [] else values.old.items) }
+{
+    if wanted <= len && values.len() < 64 {
+        values.push((byte % 256) as u8);
+    }
+}
+
+// Appends a command value of `len` bytes: the low bytes of the count of cycles.
+fn push_count(count: u32, len: u16, values: &mut ArrayVec<u8, 64>)
+    ensures { len ≤ 4 → length values.old.items + len ≤ 64 → values.new.items ≡ values.old.items ++ value_said count len }
+{
+    push_value(count, len, 1, values);
+    push_value(count / 256, len, 2, values);
+    push_value(count / 65536, len, 3, values);
+    push_value(count / 16777216, len, 4, values);
+}
+
+/// The command values of a record.
+pub fn command_values(count: u32, words: &[Words]) -> ArrayVec<u8, 64>
+    requires { length words.now ≤ 16 }
+    ensures { result.items ≡ values_said count (map long_of words.now) }
+{
+    let mut values = ArrayVec::new();
+    for place in 0..words.len() {
+        push_count(count, len_of(&words[place]), &mut values);
+    }
+    values
+}
+
+/// The last of these numbers that was read as one of four bytes, with its word.
+pub fn last_long(idns: &[Idn], words: &[Words]) -> Option<(Idn, u32)>
+    ensures { result ≡ last_long idns.now (map long_of words.now) }
+{
+    let count = words.len().min(idns.len());
+    for i in 0..count {
+        let place = count - 1 - i;
+        if len_of(&words[place]) == 4 {
+            return Some((idns[place], words[place].long()));
+        }
+    }
+    None
+}
+
+fn long_stop(address: u8, found: Option<(Idn, u32)>) -> Option<Stop>
+    ensures { result ≡ long_stop address found }
+{
+    match found {
+        Some((idn, attribute)) => Some(Stop::BadConfig {
+            drive: address,
+            idn,
+            attribute,
+        }),
+        None => None,
+    }
+}
+
+/// The stop that the last of these brings.
+pub fn last_long_stop(address: u8, idns: &[Idn], words: &[Words]) -> Option<Stop>
+    ensures { result ≡ long_stop address (last_long idns.now (map long_of words.now)) }
+{
+    long_stop(address, last_long(idns, words))
+}
+
+/// The identifier numbers of a list: its whole pairs of bytes, 64 at most.
+#[tactic(auto, using(crate::proofs::Lists::one_idn, crate::proofs::Lists::no_idn, crate::proofs::Lists::idns_length))]
+pub fn idns_in(bytes: &[u8]) -> ArrayVec<Idn, 64>
+    ensures { result.items ≡ take 64 (idns_in bytes.now) }
+{
+    let mut idns = ArrayVec::new();
+    for place in 0..64usize {
+        if 2 * place + 1 < bytes.len() {
+            idns.push(Idn {
+                raw: u16::from(bytes[2 * place]) + 256 * u16::from(bytes[2 * place + 1]),
+            });
+        }
+    }
+    idns
+}
+
+fn attribute_stop(address: u8, idn: Idn, word: u32) -> Option<Stop>
+    ensures { result ≡ attribute_stop address idn word }
+{
+    if len_said(word).is_none() {
+        Some(Stop::BadConfig {
+            drive: address,
+            idn,
+            attribute: word,
+        })
+    } else {
+        None
+    }
+}
+
+fn list_stop(address: u8, raw: u16, bytes: &[u8]) -> Option<Stop>
+    ensures { result ≡ list_stop address raw bytes.now }
+{
+    if raw == 21 {
+        Some(Stop::Check127 {
+            drive: address,
+            list: idns_in(bytes),
+        })
+    } else if raw == 22 {
+        Some(Stop::Check128 {
+            drive: address,
+            list: idns_in(bytes),
+        })
+    } else {
+        None
+    }
+}
+
+impl Asked {
+    fn reads_element(&self, element: u8) -> bool
+        ensures { result ≡ reads_element element self.now }
+    {
+        match self.reads {
+            Some(read) => read == element,
+            None => false,
+        }
+    }
+
+    fn stop_by_bytes(&self, address: u8, bytes: &[u8]) -> Option<Stop>
+        ensures { result ≡ stop_by_bytes address self.now bytes.now }
+    {
+        if self.reads_element(3) {
+            attribute_stop(address, self.idn, words_in(bytes).long())
+        } else if self.reads_element(7) {
+            list_stop(address, self.idn.raw, bytes)
+        } else {
+            None
+        }
+    }
+
+    /// The stop that an outcome of the start-up brings.
+    pub fn stop_by(&self, address: u8, outcome: &Outcome) -> Option<Stop>
+        ensures { result ≡ stop_by address self.now outcome.now }
+    {
+        match outcome {
+            Outcome::Complete(bytes) => self.stop_by_bytes(address, bytes.as_slice()),
+            Outcome::Refused(code) => Some(Stop::Refused {
+                drive: address,
+                idn: self.idn,
+                code: *code,
+            }),
+            Outcome::Broken => None,
+        }
+    }
+}

@@ -1,0 +1,10 @@
+//! One drive as the master keeps it: its channel, its tasks, what its answers say, and the requests that wait.
+#![tactic(auto)]
+
+mod answers;
+mod member;
+mod queue;
+mod seat;
+
+pub use member::{Member, Numbers};
+pub use seat::Seat;

@@ -1,0 +1,205 @@
+// A drive as the master knows it.
+ghost use Rattle.std.specs.Prelude.{◌≡◌, ◌+◌, ◌*◌, ◌<◌, ◌≤◌, length, map, take, ◌++◌, slice_get, slice_index, slice_index_or, Some};
+ghost use Rattle.sercos_step.specs.declared.request.Request.TheVariants as request;
+ghost use Rattle.sercos_step.specs.Words.{bytes_in};
+ghost use Rattle.sercos_step.specs.Steps.{IsRequest};
+ghost use Rattle.sercos_seat.specs.Agenda.{reads_count, reads, idn, writes_word, writes_list};
+
+use arrayvec::ArrayVec;
+use sercos_bits::Bytes;
+use sercos_idn::Idn;
+use sercos_step::Request;
+use std::marker::Model;
+
+/// A drive of the ring: its address, the slave that it belongs to, and what its telegrams are to carry.
+#[derive(Drop)]
+pub struct Member {
+    address: u8,
+    slave: u8,
+    at: ArrayVec<Idn, 16>,
+    mdt: ArrayVec<Idn, 16>,
+}
+
+impl Model for Member {
+    ghost use Rattle.sercos_seat.specs.Ring.{MemberView};
+
+    ghost Value = { MemberView };
+
+    ghost view = { λ m. record { address = m.address; slave = m.slave; at = m.at.items; mdt = m.mdt.items } };
+}
+
+impl Member {
+    /// A drive by its address, its slave, and what its AT and its data record are to carry.
+    pub fn new(address: u8, slave: u8, at: ArrayVec<Idn, 16>, mdt: ArrayVec<Idn, 16>) -> Member
+        ensures { (result.address ≡ address) × (result.slave ≡ slave) × (result.at ≡ at.items) × (result.mdt ≡ mdt.items) }
+    {
+        Member {
+            address,
+            slave,
+            at,
+            mdt,
+        }
+    }
+
+    /// Returns its address, 1 to 254 in a ring that keeps the rules.
+    pub fn address(&self) -> u8
+        ensures { result ≡ self.now.address }
+    {
+        self.address
+    }
+
+    // Its slave.
+    pub(crate) fn slave(&self) -> u8
+        ensures { result ≡ self.now.slave }
+    {
+        self.slave
+    }
+
+    /// Returns how many reads the start-up has, 6 to 38.
+    pub(crate) fn reads_count(&self) -> usize
+        ensures value { result ≡ reads_count self.now }
+        ensures bounds { (6 ≤ result) × (result ≤ 38) }
+    {
+        6 + self.at.len() + self.mdt.len()
+    }
+
+    /// Returns how many values its AT is to carry, at most 16.
+    pub(crate) fn at_count(&self) -> usize
+        ensures value { result ≡ length self.now.at }
+        ensures bound { result ≤ 16 }
+    {
+        self.at.len()
+    }
+
+    /// Returns how many values its data record is to carry, at most 16.
+    pub(crate) fn mdt_count(&self) -> usize
+        ensures value { result ≡ length self.now.mdt }
+        ensures bound { result ≤ 16 }
+    {
+        self.mdt.len()
+    }
+
+    /// Returns the read of the start-up at an index: the six times, then the attributes of what AT and data record are to carry.
+    #[tactic(auto, using(crate::proofs::Gets::reads_at, crate::proofs::Gets::reads_mdt))]
+    pub(crate) fn read_at(&self, index: usize) -> Request
+        requires { index < reads_count self.now }
+        ensures value { slice_get (reads self.now) index ≡ Some result }
+        ensures request { IsRequest result }
+    {
+        if index < 6 {
+            return read(TIMES[index], 7);
+        }
+        let at_count = self.at_count();
+        if index - 6 < at_count {
+            return read(idn_at(self.at(), index - 6).raw, 3);
+        }
+        read(idn_at(self.mdt(), index - 6 - at_count).raw, 3)
+    }
+
+    /// Returns what the AT is to carry.
+    pub(crate) fn at(&self) -> &[Idn]
+        ensures value { result.now ≡ self.now.at }
+        ensures bound { length result.now ≤ 16 }
+    {
+        self.at.as_slice()
+    }
+
+    // What the data record is to carry.
+    pub(crate) fn mdt(&self) -> &[Idn]
+        ensures value { result.now ≡ self.now.mdt }
+        ensures bound { length result.now ≤ 16 }
+    {
+        self.mdt.as_slice()
+    }
+}
+
+fn idn_at(idns: &[Idn], place: usize) -> Idn
+    requires { place < length idns.now }
+    ensures { slice_get idns.now place ≡ Some result }
+{
+    idns[place]
+}
+
+// The identifier numbers of the times that a drive declares.
+const TIMES: [u16; 6] = [3, 4, 5, 87, 88, 90];
+
+/// The numbers of the ring that its drives are told.
+#[derive(Clone, Copy)]
+pub struct Numbers {
+    /// The control unit cycle time.
+    pub control: u16,
+    /// The cycle time.
+    pub cycle: u16,
+}
+
+/// A read.
+pub fn read(raw: u16, element: u8) -> Request
+    requires { (1 ≤ element) × (element ≤ 7) }
+    ensures value { result ≡ request.Read (idn raw) element }
+    ensures request { IsRequest result }
+{
+    Request::Read {
+        idn: Idn { raw },
+        element,
+    }
+}
+
+/// A procedure command.
+pub fn command(raw: u16) -> Request
+    ensures value { result ≡ request.Command (idn raw) }
+    ensures request { IsRequest result }
+{
+    Request::Command { idn: Idn { raw } }
+}
+
+/// A write of operation data of one word.
+pub fn write_word(raw: u16, value: u16) -> Request
+    ensures value { result ≡ writes_word raw value }
+    ensures request { IsRequest result }
+{
+    let mut bytes = Bytes::new();
+    bytes.push_within((value % 256) as u8);
+    bytes.push_within((value / 256) as u8);
+    Request::Write {
+        idn: Idn { raw },
+        element: 7,
+        bytes,
+    }
+}
+
+// The bytes of a list of identifier numbers.
+fn list_bytes(idns: &[Idn]) -> Bytes
+    requires { length idns.now ≤ 16 }
+    ensures { result ≡ bytes_in (map (λ i. i.raw) idns.now) }
+{
+    let mut bytes = Bytes::new();
+    for idn in idns {
+        bytes.push_within((idn.raw % 256) as u8);
+        bytes.push_within((idn.raw / 256) as u8);
+    }
+    bytes
+}
+
+/// A write of a list of identifier numbers.
+pub fn write_list(raw: u16, idns: &[Idn]) -> Request
+    requires { length idns.now ≤ 16 }
+    ensures value { result ≡ writes_list raw idns.now }
+    ensures request { IsRequest result }
+{
+    Request::Write {
+        idn: Idn { raw },
+        element: 7,
+        bytes: list_bytes(idns),
+    }
+}
+
+/// The number at a place, or 0 past the end.
+pub fn number_at(numbers: &[u16], place: usize) -> u16
+    ensures { result ≡ slice_index numbers.now place }
+{
+    if place < numbers.len() {
+        numbers[place]
+    } else {
+        0
+    }
+}

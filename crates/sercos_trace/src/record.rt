@@ -1,0 +1,157 @@
+// What happens in a cycle.
+ghost use Rattle.std.specs.Prelude.{◌≡◌, ◌++◌, ◌<◌, ◌+◌, List, [], ◌∷◌, None, length};
+ghost use Rattle.sercos_telegram.specs.declared.layout.Kind.{Kind};
+
+use crate::events::Events;
+use arrayvec::ArrayVec;
+use sercos_bits::Content;
+use sercos_telegram::Kind;
+use std::marker::Model;
+
+/// A telegram that was sent. Contracts see the record of its fields.
+#[derive(Debug, Drop)]
+pub struct Sent {
+    /// Its kind.
+    pub kind: Kind,
+    /// Its start, in bit times after the MST's end. That of the MST itself is negative.
+    pub start: i32,
+    /// The length of its frame, in bits.
+    pub bits: u32,
+    /// Its content: the address and the data field, 1 to 2048 bytes.
+    pub content: Content,
+}
+
+impl Model for Sent {
+    ghost use Rattle.sercos_trace.specs.Views.{SentView};
+
+    ghost Value = { SentView };
+
+    ghost view = { λ s. record { kind = s.kind; start = s.start; bits = s.bits; content = s.content } };
+}
+
+// The value of an unused place in a record's array.
+impl Default for Sent {
+    fn default() -> Sent {
+        Sent {
+            kind: Kind::Mst,
+            start: 0,
+            bits: 0,
+            content: Content::new(),
+        }
+    }
+}
+
+impl Sent {
+    // Replaces the telegram. Only as many bytes are copied as the content has.
+    fn fill(&mut self, kind: Kind, start: i32, bits: u32, content: &Content)
+        ensures { self.new ≡ record { kind = kind; start = start; bits = bits; content = content.now } }
+    {
+        self.kind = kind;
+        self.start = start;
+        self.bits = bits;
+        self.content.assign(content.as_slice());
+    }
+}
+
+/// A move of a drive into another phase.
+#[derive(Clone, Copy, Debug, Default, PartialEq, Eq)]
+pub struct Move {
+    /// The drive's address.
+    pub drive: u8,
+    /// The phase into which it moves, 0 to 4.
+    pub phase: u8,
+    /// Whether it moves after the MDT's place in the cycle, and not at the MST.
+    pub late: bool,
+}
+
+/// What happens in a cycle. Contracts see the record of its fields, its vectors as lists.
+#[derive(Debug, Drop)]
+pub struct CycleRecord {
+    /// The number of the cycle, counted from 0.
+    pub cycle: u32,
+    /// The phase that the master commands, 0 to 4.
+    pub phase: u8,
+    /// The MST, then the ATs by ascending start and then in ring order, then the MDT, if one is sent.
+    pub sent: ArrayVec<Sent, 66>,
+    /// The moves at the MST, in ring order, then the late ones, in ring order.
+    pub moves: ArrayVec<Move, 128>,
+    /// What the master reports.
+    pub events: Events,
+    /// How many arrivals differ from what was sent and are a frame all the same.
+    pub unseen: u32,
+}
+
+impl Model for CycleRecord {
+    ghost use Rattle.sercos_trace.specs.Views.{CycleView};
+
+    ghost Value = { CycleView };
+
+    ghost view = { λ r. record { cycle = r.cycle; phase = r.phase; sent = r.sent.items; moves = r.moves.items; events = r.events; unseen = r.unseen } };
+}
+
+/// Appends a telegram: its kind, its start in bit times after the MST's end, the length of its frame in bits, and its
+/// content, which is copied.
+pub fn push_sent(
+    sent: &mut ArrayVec<Sent, 66>,
+    kind: Kind,
+    start: i32,
+    bits: u32,
+    content: &Content,
+)
+    requires { length sent.old.items < 66 }
+    ensures items { sent.new.items ≡ sent.old.items ++ (record { kind = kind; start = start; bits = bits; content = content.now }) ∷ [] }
+    ensures len { length sent.new.items ≡ length sent.old.items + 1 }
+{
+    sent.push(Sent::default());
+    let place = sent.len() - 1;
+    sent[place].fill(kind, start, bits, content);
+}
+
+impl CycleRecord {
+    /// The record of cycle 0 before anything is sent.
+    pub fn new() -> CycleRecord
+        ensures { result ≡ record { cycle = 0; phase = 0; sent = []; moves = []; events = record { outcomes = []; plan = None; stop = None; fall = None }; unseen = 0 } }
+    {
+        CycleRecord {
+            cycle: 0,
+            phase: 0,
+            sent: ArrayVec::new(),
+            moves: ArrayVec::new(),
+            events: Events::new(),
+            unseen: 0,
+        }
+    }
+
+    /// Makes it the record of a cycle in which nothing has happened yet.
+    pub fn begin(&mut self, cycle: u32)
+        ensures { self.new ≡ record { cycle = cycle; phase = 0; sent = []; moves = []; events = record { outcomes = []; plan = None; stop = None; fall = None }; unseen = 0 } }
+    {
+        self.cycle = cycle;
+        self.phase = 0;
+        self.sent.clear();
+        self.moves.clear();
+        self.events.clear();
+        self.unseen = 0;
+    }
+}
+
+/// The totals of a run.
+#[derive(Clone, Copy, Debug, Default, PartialEq, Eq)]
+pub struct Totals {
+    /// How many cycles were run.
+    pub cycles: u32,
+    /// The phase commanded in the last one.
+    pub phase: u8,
+    /// How many requests ended complete.
+    pub complete: u32,
+    /// How many requests were refused.
+    pub refused: u32,
+    /// How many requests were broken by a fall.
+    pub broken: u32,
+    /// How many falls there were, restarts of the master among them.
+    pub falls: u32,
+    /// How many arrivals differed from what was sent and were a frame all the same.
+    pub unseen: u32,
+    /// The first cycle in which phase 4 was commanded.
+    pub phase4: Option<u32>,
+}
