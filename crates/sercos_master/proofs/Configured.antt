@@ -1,9 +1,8 @@
 -- Where phase 3 or 4 is commanded, the check for phase 3 has ended well at every drive, in this epoch.
-use Rattle.std.proofs.Common.{inl, inr, ◌⊎◌, ◌≡◌, ℕ, zero, suc, ◌+◌, ◌<◌, ◌≤◌, ◌==◌, Bool, true, false, List, [], ◌∷◌, ◌++◌, Option, Some, None, Result, Ok, Err, length, ap, subst, refl, sym, ◌∙◌, arith, if◌then◌else◌}
-use Rattle.std.specs.Prelude.{is_some, is_none, nat_le, slice_index, not, ◌&&◌, ◌||◌}
+use Rattle.std.proofs.Common.{inl, inr, ◌⊎◌, ◌≡◌, ℕ, zero, suc, ◌+◌, ◌<◌, ◌≤◌, ◌==◌, Bool, true, false, List, [], ◌∷◌, Option, Some, None, Result, Ok, Err, length, ap, subst, refl, sym, ◌∙◌, arith, if◌then◌else◌}
+use Rattle.std.specs.Prelude.{is_some, is_none, nat_le, slice_index, not, ◌&&◌}
 use Rattle.std.proofs.lemmas.Bool.{false≢true, cases_eq}
 use Rattle.std.proofs.lemmas.Bool.Decides.{nat_tests}
-use Rattle.sercos_telegram.specs.declared.words.Status.{Status}
 use Rattle.sercos_telegram.specs.Words.{status_of}
 use Rattle.sercos_telegram.specs.Spells.{word_at}
 use Rattle.sercos_step.specs.declared.request.Outcome.{Outcome}
@@ -17,7 +16,7 @@ use Rattle.sercos_trace.specs.declared.events.Stop.{Stop}
 use Rattle.sercos_trace.specs.declared.events.Stop.TheVariants as stop
 use Rattle.sercos_seat.specs.Ring.{Known, MemberView, Task, member}
 use Rattle.sercos_seat.specs.Agenda.{reads_count, given, ended_well, is_checked, is_ready, wishes_given, last_long_stop}
-use Rattle.sercos_master.specs.Annals.{all_checked, all_ready, Past, Call, HearMst, HearAt, Mdt, End, Restart, past, outcomes, with_at, after_at_of, is_taken, after_taken, place_of, after_mdt, begins, begun, with_begin, is_sent_to, addressed_in, ready_to_send, settled, with_stop, with_plan, with_due_plan, planned_by, is_plan_due, first_trouble, after_end, fall_of, goes_on, next_phase, new_epoch, still_waiting, is_done, each_place, first_from}
+use Rattle.sercos_master.specs.Annals.{all_checked, all_ready, Past, Call, HearMst, HearAt, Mdt, End, Restart, past, outcomes, with_at, after_at_of, is_taken, after_taken, place_of, after_mdt, begins, begun, with_begin, is_sent_to, addressed_in, ready_to_send, settled, with_stop, with_plan, with_due_plan, planned_by, is_plan_due, first_trouble, after_end, fall_of, goes_on, new_epoch, still_waiting, is_done, first_from}
 use Rattle.sercos_seat.specs.Channel.{outcomes_in, with_outcome}
 use Rattle.sercos_seat.proofs.Channels.{Heard, heard}
 use Rattle.sercos_seat.proofs.Seats.{before_end, behind_end}

@@ -24,11 +24,11 @@ use Rattle.sercos_service_master.specs.Calls as channel
 use Rattle.sercos_trace.specs.declared.events.Stop.{Stop}
 use Rattle.sercos_trace.specs.declared.events.Stop.TheVariants as stop
 use Rattle.sercos_seat.specs.Ring.{Known, Task, member, startup}
-use Rattle.sercos_seat.specs.Agenda.{agenda, reads, reads_count, writes, is_checked, wishes_given, last_long_stop, asked_by, stop_of_task, stop_by}
+use Rattle.sercos_seat.specs.Agenda.{agenda, reads, reads_count, writes, is_checked, wishes_given, last_long_stop, asked_by, stop_of_task}
 use Rattle.sercos_seat.specs.Channel.{with_outcome, outcomes_in, last_outcome, trouble_by, of_phase}
 use Rattle.sercos_seat.proofs.Gets.{get_map, get_left, get_right, get_none, length_map, length_append}
 use Rattle.sercos_seat.proofs.Agendas.{reads_length, ended_there}
-use Rattle.sercos_master.specs.Annals.{Call, HearMst, HearAt, Mdt, End, Restart, Past, past, outcomes, with_at, is_idle, is_taken, after_taken, after_at_of, after_at, place_of, trouble, first_trouble, first_trouble_from, with_stop, is_plan_due, all_read, with_plan, planned_by, with_due_plan, settled, has_turn, next_task, begins, with_task, with_begin, begun, ready_to_send, is_sent_to, addressed_in, after_mdt, fall_of, next_phase, goes_on, new_epoch, still_waiting, after_end}
+use Rattle.sercos_master.specs.Annals.{Call, HearMst, HearAt, Mdt, End, Restart, Past, past, outcomes, with_at, is_idle, is_taken, after_taken, after_at_of, place_of, trouble, first_trouble, first_trouble_from, with_stop, is_plan_due, all_read, with_plan, planned_by, with_due_plan, settled, has_turn, next_task, with_task, with_begin, begun, ready_to_send, is_sent_to, addressed_in, after_mdt, fall_of, next_phase, goes_on, new_epoch, still_waiting}
 use Rattle.sercos_master.specs.Written.{IsWritten, AreWritten}
 use Rattle.sercos_master.proofs.Configured.{configured}
 
@@ -37,25 +37,25 @@ abbrev pub HasNext : Type 0
 HasNext = (r : Request) (h : List Answer) → is_some (outcome_of r h) ≡ false → is_some (next_step r h) ≡ true
 
 -- where the newest of these is of the start-up, it ended without error
-abbrev HasEndedWell : List Begun → List Task → Type 0
+abbrev pub HasEndedWell : List Begun → List Task → Type 0
 HasEndedWell (b ∷ older) (t ∷ tasks) = t.number ≡ None → (bytes : List ℕ) × (outcome_of b.request b.answers ≡ Some (outcome.Complete bytes))
 HasEndedWell _ _ = Unit {0}
 
 -- by the plan, or before there was one
-record Follows (s : Known) (k : ℕ) (plan : Option PlanView) (waiting : List Task) (b : Begun) (t : Task) (older : List Begun) (tasks : List Task) : Type 0 where
-  asks : b.request ≡ t.request
-  by_then : Option PlanView
-  same : (by_then ≡ None) ⊎ (by_then ≡ plan)
-  next : slice_get (agenda s by_then waiting k (outcomes_in older)) (length (outcomes_in older)) ≡ Some t
-  ended : length (outcomes_in older) ≡ length older
-  well : HasEndedWell older tasks
+pub record Follows (s : Known) (k : ℕ) (plan : Option PlanView) (waiting : List Task) (b : Begun) (t : Task) (older : List Begun) (tasks : List Task) : Type 0 where
+  pub asks : b.request ≡ t.request
+  pub by_then : Option PlanView
+  pub same : (by_then ≡ None) ⊎ (by_then ≡ plan)
+  pub next : slice_get (agenda s by_then waiting k (outcomes_in older)) (length (outcomes_in older)) ≡ Some t
+  pub ended : length (outcomes_in older) ≡ length older
+  pub well : HasEndedWell older tasks
 
-abbrev AllFollow : Known → ℕ → Option PlanView → List Task → List Begun → List Task → Type 0
+abbrev pub AllFollow : Known → ℕ → Option PlanView → List Task → List Begun → List Task → Type 0
 AllFollow s k plan waiting [] [] = Unit {0}
 AllFollow s k plan waiting (b ∷ older) (t ∷ tasks) = AllFollow s k plan waiting older tasks × Follows s k plan waiting b t older tasks
 AllFollow s k plan waiting _ _ = ⊥
 
-abbrev Followed : Known → Past → ℕ → Type 0
+abbrev pub Followed : Known → Past → ℕ → Type 0
 Followed s p k = AllFollow s k p.plan (p.waiting k) (begun_by (p.calls k)) (p.tasks k)
 
 -- A PLAN COMES where there was none.
@@ -109,11 +109,11 @@ at_follows s (Some i) content p k all = by (is_taken s p i content)
     by false = all
 
 -- THE ANSWERS ARE LOOKED AT.
-record Settles (q p : Past) : Type 0 where
-  calls : q.calls ≡ p.calls
-  tasks : q.tasks ≡ p.tasks
-  waiting : q.waiting ≡ p.waiting
-  plan : (p.plan ≡ None) ⊎ (q.plan ≡ p.plan)
+pub record Settles (q p : Past) : Type 0 where
+  pub calls : q.calls ≡ p.calls
+  pub tasks : q.tasks ≡ p.tasks
+  pub waiting : q.waiting ≡ p.waiting
+  pub plan : (p.plan ≡ None) ⊎ (q.plan ≡ p.plan)
 
 settles_stop : (x : Option Stop) (p : Past) → Settles (with_stop x p) p
 settles_stop None p = record { calls = refl; tasks = refl; waiting = refl; plan = inr refl }
@@ -145,7 +145,7 @@ settles_due s p = by (is_plan_due s p) refl
         let two = (and_parts (is_none p.stop) _ more).1 in
         made (none_is p.plan (and_parts (is_none p.plan) (all_read s p) two).0) (nat_le (record_bytes (wishes_given s (outcomes p)).drives) 2047)
 
-settles : (s : Known) (p : Past) → Settles (settled s p) p
+pub settles : (s : Known) (p : Past) → Settles (settled s p) p
 settles s p = join (settles_due s (with_stop (first_trouble s p) p)) (settles_stop (first_trouble s p) p)
   where
     join : {a b c : Past} → Settles a b → Settles b c → Settles a c
@@ -156,7 +156,7 @@ settles s p = join (settles_due s (with_stop (first_trouble s p) p)) (settles_st
         which (inl none) (inr same) = inl (sym same ∙ none)
         which (inr e) (inr same) = inr (e ∙ same)
 
-settled_follows : (s : Known) (p : Past) (k : ℕ) → Followed s p k → Followed s (settled s p) k
+pub settled_follows : (s : Known) (p : Past) (k : ℕ) → Followed s p k → Followed s (settled s p) k
 settled_follows s p k all =
     let q = settles s p in
     rw (q.calls, q.tasks, q.waiting) (new_plan s k p.plan (settled s p).plan (p.waiting k) (begun_by (p.calls k)) (p.tasks k) q.plan all)
@@ -212,7 +212,7 @@ none_troubled s p k (suc n) j e low high = by (trouble s p k) refl e (λ rest ot
 
 -- A TASK BEGINS.
 -- an idle channel's requests have all ended
-all_ended : HasNext → (s : Known) (k : ℕ) (plan : Option PlanView) (waiting : List Task) (begun : List Begun) (tasks : List Task) → AllFollow s k plan waiting begun tasks →
+pub all_ended : HasNext → (s : Known) (k : ℕ) (plan : Option PlanView) (waiting : List Task) (begun : List Begun) (tasks : List Task) → AllFollow s k plan waiting begun tasks →
     is_none (open_in begun) ≡ true → length (outcomes_in begun) ≡ length begun
 all_ended has s k plan waiting [] tasks all idle = refl
 all_ended has s k plan waiting (b ∷ older) [] all idle = absurd all
@@ -282,14 +282,17 @@ begun_follows has s p k quiet all = by (is_none p.stop) (is_idle p k) (has_turn 
       where
         which : (b : Bool) → AllFollow s k p.plan (p.waiting k) (begun_by (with_begin (if b then Some t else None) (p.calls k))) (with_task (if b then Some t else None) (p.tasks k))
         which false = all
-        which true = (all, record {
-          asks = refl;
-          by_then = p.plan;
-          same = inr refl;
-          next = e;
-          ended = all_ended has s k p.plan (p.waiting k) (begun_by (p.calls k)) (p.tasks k) all idle;
-          well = ended_well has s p k all idle (quiet (none_is p.stop free));
-        })
+        which true = (
+          all,
+          record {
+            asks = refl;
+            by_then = p.plan;
+            same = inr refl;
+            next = e;
+            ended = all_ended has s k p.plan (p.waiting k) (begun_by (p.calls k)) (p.tasks k) all idle;
+            well = ended_well has s p k all idle (quiet (none_is p.stop free));
+          },
+        )
 
     by : (free idle turn : Bool) → is_none p.stop ≡ free → is_idle p k ≡ idle →
         AllFollow s k p.plan (p.waiting k) (begun_by (with_begin (if free && (idle && turn) then of_phase p.now.phase (next_task s p k) else None) (p.calls k))) (with_task (if free && (idle && turn) then of_phase p.now.phase (next_task s p k) else None) (p.tasks k))
@@ -318,7 +321,7 @@ mdt_follows has s p k within all = by (is_sent_to (ready_to_send s p) (addressed
     by false = ready
 
 -- AFTER ANY CALLS
-followed : HasNext → (s : Known) (requests : ℕ → List Task) (h : List Call) (k : ℕ) → k < length s.drives → Followed s (past s requests h) k
+pub followed : HasNext → (s : Known) (requests : ℕ → List Task) (h : List Call) (k : ℕ) → k < length s.drives → Followed s (past s requests h) k
 followed has s requests [] k within = tt
 followed has s requests (HearMst content ∷ h) k within = followed has s requests h k within
 followed has s requests (HearAt content ∷ h) k within = at_follows s (place_of s (slice_index content 0)) content (past s requests h) k (followed has s requests h k within)

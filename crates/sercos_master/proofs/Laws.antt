@@ -1,7 +1,6 @@
 -- Laws on what the master looks back on, behind any calls.
-use Rattle.std.proofs.Common.{◌≡◌, ℕ, zero, suc, ◌+◌, ◌<◌, ◌≤◌, ◌==◌, Bool, true, false, List, [], ◌∷◌, ◌++◌, Option, Some, None, Result, Ok, Err, length, ap, subst, refl, sym, ◌∙◌, arith, if◌then◌else◌}
-use Rattle.std.specs.Prelude.{is_some, is_none, nat_le, slice_get, slice_index, drop, not, ◌&&◌}
-use Rattle.std.proofs.lemmas.Bool.Decides.{nat_tests}
+use Rattle.std.proofs.Common.{◌≡◌, ℕ, zero, suc, ◌+◌, ◌==◌, Bool, true, false, List, [], ◌∷◌, Option, Some, None, Result, Ok, Err, ap, subst, refl, sym, ◌∙◌, arith, if◌then◌else◌}
+use Rattle.std.specs.Prelude.{is_some, nat_le, slice_get, slice_index, drop}
 use Rattle.sercos_step.specs.declared.request.Job.{Job}
 use Rattle.sercos_timing.specs.Views.{PlanView}
 use Rattle.sercos_timing.specs.Order.{record_bytes}
@@ -11,12 +10,12 @@ use Rattle.sercos_trace.specs.declared.events.Stop.{Stop}
 use Rattle.sercos_trace.specs.declared.events.Stop.TheVariants as stop
 use Rattle.sercos_seat.specs.Ring.{Known, Task, tasks_from, tasks_for, member}
 use Rattle.sercos_seat.specs.Agenda.{wishes_given, last_long_stop}
-use Rattle.sercos_master.specs.Annals.{Past, Call, HearMst, HearAt, Mdt, End, Restart, past, after_at, after_at_of, is_taken, after_taken, place_of, after_mdt, settled, with_stop, with_plan, with_due_plan, planned_by, is_plan_due, first_trouble, after_end, fall_of, still_waiting, new_epoch, goes_on, next_phase, outcomes}
+use Rattle.sercos_master.specs.Annals.{Past, Call, HearMst, HearAt, Mdt, End, Restart, past, after_at_of, is_taken, after_taken, place_of, settled, with_stop, with_plan, with_due_plan, planned_by, is_plan_due, first_trouble, after_end, fall_of, still_waiting, new_epoch, goes_on, next_phase, outcomes}
 use Rattle.sercos_seat.specs.Channel.{count_requests}
 use Rattle.sercos_seat.specs.Seats.{AreWaiting}
 
 -- what waits for the next epoch changes with an epoch alone
-waiting_at : (s : Known) (place : Option ℕ) (content : List ℕ) (p : Past) → (after_at_of s place content p).waiting ≡ p.waiting
+pub waiting_at : (s : Known) (place : Option ℕ) (content : List ℕ) (p : Past) → (after_at_of s place content p).waiting ≡ p.waiting
 waiting_at s None content p = refl
 waiting_at s (Some k) content p = by (is_taken s p k content)
   where

@@ -10,3 +10,4 @@ pub mod Laws
 pub mod Configured
 pub mod Planned
 pub mod Followed
+pub mod InOrder

@@ -1,24 +1,22 @@
 -- Places of the ring, and what a call changes at one of them.
-use Rattle.std.proofs.Common.{◌≡◌, ℕ, zero, suc, ◌+◌, ◌*◌, ◌<◌, ◌≤◌, ◌==◌, Bool, true, false, List, [], ◌∷◌, ◌++◌, Option, Some, None, length, ap, refl, sym, ◌∙◌, arith, if◌then◌else◌, inl, inr}
-use Rattle.std.specs.Prelude.{is_some, is_none, map, take, drop, min, nat_lt, nat_le, slice_get, slice_index, slice_index_or, option_map, unwrap_or, ◌&&◌, ◌||◌, not, sum_by}
-use Rattle.std.specs.List.{position, position_from, fold}
+use Rattle.std.proofs.Common.{◌≡◌, ℕ, suc, ◌+◌, ◌<◌, ◌==◌, Bool, true, false, List, [], ◌∷◌, Some, length, ap, refl, sym, ◌∙◌, arith, if◌then◌else◌, inl, inr}
+use Rattle.std.specs.Prelude.{is_none, nat_le, slice_index_or, ◌&&◌, not}
+use Rattle.std.specs.List.{position, position_from}
 use Rattle.std.proofs.Math.ListN.{set, length-set}
 use Rattle.std.proofs.lemmas.List.{get_or-set_other}
 use Rattle.std.proofs.lemmas.Grind.{get_or-set_at}
-use Rattle.std.proofs.lemmas.Bool.{false≢true, cases_eq}
+use Rattle.std.proofs.lemmas.Bool.{cases_eq}
 use Rattle.std.proofs.lemmas.Bool.Decides.{nat_tests}
 use Rattle.std.proofs.lemmas.Iterator.Adapters.{position_from-zero}
-use Rattle.sercos_telegram.specs.declared.words.Status.{Status}
 use Rattle.sercos_telegram.specs.Words.{status_of}
 use Rattle.sercos_telegram.specs.Spells.{word_at}
 use Rattle.sercos_telegram.specs.Faults.{at_fault}
-use Rattle.sercos_seat.specs.Ring.{Known, MemberView, Task, member}
+use Rattle.sercos_seat.specs.Ring.{Known, member}
 use Rattle.sercos_seat.proofs.Lengths.{at_len_same}
-use Rattle.sercos_step.specs.declared.request.Outcome.{Outcome}
-use Rattle.sercos_seat.specs.Agenda.{at_len, record_len, len_or_none, words_given, reads_count}
-use Rattle.sercos_master.specs.Annals.{Past, Turn, first_from, first_place, with_at, is_awaited, wanted_len, is_taken, place_of, after_taken, after_at_of, after_at, outcomes, addressed_before, has_identified}
+use Rattle.sercos_seat.specs.Agenda.{at_len}
+use Rattle.sercos_master.specs.Annals.{Past, first_from, is_awaited, wanted_len, is_taken, place_of, after_taken, after_at_of, outcomes}
 use Rattle.sercos_seat.specs.Channel.{is_place}
-use Rattle.sercos_seat.specs.Seats.{Seen, SeatView, SeatStandsFor, taken_in, at_in, heard_in, identified_in, at_len_kept, record_len_kept, len_of_words, words_of, outcomes_seen}
+use Rattle.sercos_seat.specs.Seats.{Seen, SeatView, SeatStandsFor, taken_in, at_in, at_len_kept}
 use Rattle.sercos_master.specs.Kept.{SeatsStandFor, CoreView, CoreStandsFor, seen_at}
 
 -- The first seat that passes a test is at the first place that passes the like.

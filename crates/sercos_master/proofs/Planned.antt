@@ -1,7 +1,7 @@
 -- Where there is a plan, it is the plan of what was read in this epoch.
 use Rattle.std.proofs.Common.{◌≡◌, inl, inr, ℕ, zero, suc, ◌+◌, ◌<◌, ◌≤◌, ◌⊎◌, Bool, true, false, not, List, [], ◌∷◌, ◌++◌, length, take, drop, refl, sym, ap, ap₂, ◌∙◌, subst, arith, if◌then◌else◌, length-append}
-use Rattle.std.specs.Prelude.{◌==◌, nat_le, Option, Some, None, Result, Ok, Err, is_some, is_none, option_map, slice_get, slice_index, unwrap_or}
-use Rattle.std.proofs.lemmas.Bool.{and_parts, leb-true, le-leb, cases_eq, false≢true}
+use Rattle.std.specs.Prelude.{◌==◌, nat_le, Option, Some, None, Result, Ok, Err, is_some, is_none, slice_get, slice_index}
+use Rattle.std.proofs.lemmas.Bool.{and_parts, leb-true, le-leb, cases_eq}
 use Rattle.std.proofs.lemmas.Bool.Decides.{nat_tests}
 use Rattle.std.proofs.lemmas.Option.{get_or_from_slice_get}
 use Rattle.std.proofs.lemmas.List.{take-append-le, drop-append-le, length-drop}
@@ -22,7 +22,7 @@ use Rattle.sercos_seat.specs.Agenda.{bytes_of, long_in, short_in, given, reads_c
 use Rattle.sercos_seat.specs.Channel.{outcomes_in, with_outcome}
 use Rattle.sercos_seat.proofs.Channels.{Heard, heard}
 use Rattle.sercos_seat.proofs.Seats.{before_end}
-use Rattle.sercos_master.specs.Annals.{Call, HearMst, HearAt, Mdt, End, Restart, Past, IsPlanned, first_from, with_at, outcomes, is_taken, after_taken, after_at_of, after_at, place_of, all_read, first_trouble, with_stop, is_plan_due, with_plan, planned_by, with_due_plan, settled, begun, ready_to_send, after_mdt, fall_of, next_phase, goes_on, new_epoch, still_waiting, after_end, past}
+use Rattle.sercos_master.specs.Annals.{Call, HearMst, HearAt, Mdt, End, Restart, Past, IsPlanned, first_from, with_at, outcomes, is_taken, after_taken, after_at_of, after_at, place_of, all_read, first_trouble, with_stop, is_plan_due, with_plan, planned_by, with_due_plan, settled, ready_to_send, after_mdt, fall_of, next_phase, goes_on, new_epoch, still_waiting, after_end, past}
 use Rattle.sercos_master.proofs.Configured.{leaves, begun_adds, mdt_adds, each_passes}
 
 -- AN OUTCOME AFTER THE READS changes nothing of what they gave.

@@ -1,7 +1,7 @@
 -- What the ring keeps tells what is looked back on, and what it begins.
 use Rattle.std.proofs.lemmas.Bool.{cases_eq, false≢true}
 use Rattle.std.proofs.Common.{inl, inr, ◌⊎◌, ◌≡◌, ℕ, zero, suc, ◌+◌, ◌<◌, ◌≤◌, ◌==◌, Bool, true, false, List, [], ◌∷◌, Option, Some, None, length, ap, subst, refl, sym, ◌∙◌, arith, if◌then◌else◌}
-use Rattle.std.specs.Prelude.{◌%◌, ◌^◌, is_some, is_none, min, unwrap_or, nat_le, nat_lt, slice_get, slice_index_or, option_map, not, ◌&&◌, ◌||◌}
+use Rattle.std.specs.Prelude.{◌%◌, ◌^◌, is_some, is_none, min, unwrap_or, nat_le, nat_lt, slice_index_or, option_map, not, ◌&&◌, ◌||◌}
 use Rattle.std.specs.List.{position}
 use Rattle.std.specs.Option.{option_or}
 use Rattle.std.proofs.Math.ListN.{set, length-set}
@@ -13,10 +13,10 @@ use Rattle.sercos_plan.specs.ChainOf.{planned}
 use Rattle.sercos_trace.specs.declared.events.Stop.{Stop}
 use Rattle.sercos_trace.specs.declared.events.Fall.TheVariants as fall
 use Rattle.sercos_seat.specs.Ring.{Known, MemberView, Task, member}
-use Rattle.sercos_seat.specs.Agenda.{wishes_given, last_long_stop, agenda, is_read, is_checked, is_ready, reads_count}
-use Rattle.sercos_master.specs.Annals.{all_read, with_due_plan, planned_by, with_plan, Past, Turn, first_from, first_place, each_place, outcomes, is_idle, is_identified, in_turn, has_turn, begins, is_done, is_at_limit, trouble, first_trouble, first_trouble_from, with_stop, new_epoch, still_waiting, after_end, next_phase, goes_on, whole_row, addressed_before, has_lost_mst, fall_of, count_addressed, next_task, with_task, with_begin, begun, has_lost_at}
+use Rattle.sercos_seat.specs.Agenda.{wishes_given, last_long_stop, is_read, is_checked, is_ready, reads_count}
+use Rattle.sercos_master.specs.Annals.{all_read, with_due_plan, planned_by, with_plan, Past, Turn, first_from, first_place, outcomes, is_idle, is_identified, in_turn, has_turn, begins, is_done, is_at_limit, trouble, first_trouble, first_trouble_from, with_stop, new_epoch, still_waiting, after_end, next_phase, goes_on, whole_row, addressed_before, has_lost_mst, fall_of, count_addressed, next_task, with_task, with_begin, begun, has_lost_at}
 use Rattle.sercos_seat.specs.Channel.{is_place, of_phase}
-use Rattle.sercos_seat.specs.Seats.{Seen, SeatView, SeatStandsFor, nothing_seen, forgotten, ended_in, cycles_kept, has_read, with_begun, begun_in, begun_task, is_idle_in}
+use Rattle.sercos_seat.specs.Seats.{Seen, SeatView, SeatStandsFor, forgotten, ended_in, cycles_kept, has_read, with_begun, begun_task}
 use Rattle.sercos_master.specs.Kept.{SeatsStandFor, CoreView, CoreStandsFor, seen_at, waited_with, waited_for, waited_row, has_missed}
 use Rattle.sercos_seat.proofs.Queues.{queue_same}
 use Rattle.sercos_master.proofs.Places.{first_seat, one_seat, same_place, other_place}

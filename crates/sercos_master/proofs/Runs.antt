@@ -1,12 +1,10 @@
 -- Runs whose cycles were worked out by hand, computed from the definitions: what is commanded, reported and sent.
-use Rattle.std.specs.Prelude.{◌≡◌, ℕ, ◌==◌, nat_le, Bool, ◌&&◌, ◌||◌, if◌then◌else◌, List, [], ◌∷◌, map, Option, Some, None, refl}
+use Rattle.std.specs.Prelude.{◌≡◌, ℕ, ◌==◌, nat_le, ◌&&◌, ◌||◌, if◌then◌else◌, List, [], ◌∷◌, map, Option, Some, refl}
 use Rattle.sercos_idn.specs.declared.idn.Idn.{Idn}
 use Rattle.sercos_step.specs.declared.request.Request.TheVariants as request
 use Rattle.sercos_step.specs.declared.request.Outcome.TheVariants as outcome
-use Rattle.sercos_timing.specs.Views.{PlanView}
 use Rattle.sercos_trace.specs.declared.events.Stop.TheVariants as stop
 use Rattle.sercos_trace.specs.declared.events.Fall.TheVariants as fall
-use Rattle.sercos_trace.specs.Views.{EventsView}
 use Rattle.sercos_seat.specs.Ring.{Known, Task}
 use Rattle.sercos_master.specs.Says.{Sent, mdt_said}
 use Rattle.sercos_telegram.specs.Faults as Faults

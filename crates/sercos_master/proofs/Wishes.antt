@@ -1,27 +1,17 @@
 -- What a seat tells of its drive's wish, and what the ring asks of its plan.
-use Rattle.std.proofs.Common.{◌≡◌, ℕ, zero, suc, ◌+◌, ◌*◌, ◌<◌, ◌≤◌, ◌==◌, Bool, true, false, List, [], ◌∷◌, ◌++◌, Option, Some, None, length, ap, refl, sym, ◌∙◌, arith, subst, if◌then◌else◌}
-use Rattle.std.specs.Prelude.{◌-◌, min, nat_le, nat_lt, is_some, map, take, drop, slice_get, slice_index, slice_index_or, option_map, unwrap_or, option_and_then, sum_by}
+use Rattle.std.proofs.Common.{◌≡◌, ℕ, zero, suc, ◌+◌, ◌<◌, ◌≤◌, Bool, true, false, List, [], ◌∷◌, ◌++◌, Option, Some, None, length, ap, refl, sym, ◌∙◌, arith, subst, if◌then◌else◌}
+use Rattle.std.specs.Prelude.{min, nat_le, nat_lt, is_some, map, take, drop, slice_index_or}
 use Rattle.std.proofs.lemmas.Bool.{false≢true}
 use Rattle.std.proofs.lemmas.Bool.Decides.{nat_tests}
-use Rattle.sercos_idn.specs.declared.idn.Idn.{Idn}
 use Rattle.sercos_step.specs.declared.request.Outcome.{Outcome}
-use Rattle.std.specs.List.{fold}
-use Rattle.sercos_idn.specs.declared.attribute.Attribute.{Attribute}
-use Rattle.sercos_idn.specs.declared.kinds.Length.{Length}
-use Rattle.sercos_idn.specs.declared.kinds.Length.TheVariants.{Two, Four, List1, List2, List4}
-use Rattle.sercos_idn.specs.Codes.{item_len}
-use Rattle.sercos_block.specs.Blocks.{is_number}
-use Rattle.sercos_block.specs.Rings.{attribute_in, number_len}
 use Rattle.sercos_timing.specs.declared.wishes.Wish.{Wish}
 use Rattle.sercos_timing.specs.Views.{WishesView}
 use Rattle.sercos_timing.specs.Order.{no_wish, record_bytes}
 use Rattle.sercos_timing.specs.Valid.{IsValid, AreDistinct}
 use Rattle.sercos_trace.specs.declared.events.Stop.{Stop}
-use Rattle.sercos_timing.specs.declared.wishes.Times.{Times}
-use Rattle.sercos_seat.specs.declared.answers.Words.{Words}
 use Rattle.sercos_seat.specs.Ring.{Known, IsKnown, MemberView, member, no_member}
-use Rattle.sercos_seat.specs.Agenda.{last_long_stop, long_stop, wishes_from, wishes_given, last_long, len_or_none, mdt_attributes, words_given, short_in, bytes_of, given, wish_given, times_given, reads_count, at_len, record_len}
-use Rattle.sercos_seat.specs.Seats.{long_of, low_at, no_words, words_of, Seen, SeatView, SeatStandsFor, outcomes_seen, mdt_words_kept, at_len_kept, record_len_kept}
+use Rattle.sercos_seat.specs.Agenda.{last_long_stop, long_stop, wishes_from, wishes_given, last_long, mdt_attributes, words_given, wish_given}
+use Rattle.sercos_seat.specs.Seats.{Seen, outcomes_seen}
 use Rattle.sercos_seat.proofs.Lengths.{drop_at, drop_all, get_there, lens}
 
 -- THE WISHES OF THE RING

@@ -1,6 +1,6 @@
--- What an epoch has brought so far, and what each call adds to it. An epoch begins at the opening, behind a fall, and with a
+-- What an epoch has brought so far, and what each call adds to it. An epoch begins at the opening, after a fall, and with a
 -- restart. Every list has its newest item first.
-use Rattle.std.specs.Prelude.{◌≡◌, ℕ, zero, suc, ◌+◌, ◌-◌, ◌*◌, ◌==◌, nat_le, Bool, true, false, not, ◌&&◌, ◌||◌, if◌then◌else◌, List, [], ◌∷◌, ◌++◌, length, drop, Option, Some, None, Result, Ok, Err, is_some, is_none, option_map, slice_get, slice_index}
+use Rattle.std.specs.Prelude.{◌≡◌, ℕ, zero, suc, ◌+◌, ◌==◌, nat_le, Bool, true, false, not, ◌&&◌, ◌||◌, if◌then◌else◌, List, [], ◌∷◌, length, drop, Option, Some, None, Result, Ok, Err, is_some, is_none, option_map, slice_get, slice_index}
 use Rattle.std.specs.Option.{option_or}
 use Rattle.sercos_telegram.specs.Words.{status_of}
 use Rattle.sercos_telegram.specs.Spells.{word_at}
@@ -55,7 +55,7 @@ new_turn phase = record {
 
 -- What the master looks back on: how many cycles ended since the opening; the requests to each drive that had not been begun
 -- when the epoch began; the cycles of the epoch, the present one first; what each channel was given in the epoch, and which
--- tasks were begun on it; the plan and the stop, where there is one. Channels are named by the drive's place.
+-- tasks were begun on it; the plan and the stop, if there is one. Channels are named by the drive's place.
 pub record Past : Type 0 where
   pub cycle : ℕ
   pub waiting : ℕ → List Task
@@ -83,7 +83,7 @@ new_epoch cycle waiting = record {
 abbrev pub with_at : {A : Type 0} → ℕ → A → (ℕ → A) → ℕ → A
 with_at i x f k = if k == i then x else f k
 
--- the first of the places from k on, so many of them, that passes the test
+-- the first of the n places from k on that passes the test
 abbrev pub first_from : ℕ → ℕ → (ℕ → Bool) → Option ℕ
 first_from k zero test = None
 first_from k (suc n) test = if test k then Some k else first_from (k + 1) n test
@@ -101,7 +101,7 @@ outcomes p k = outcomes_in (begun_by (p.calls k))
 abbrev pub is_idle : Past → ℕ → Bool
 is_idle p k = is_none (open_in (begun_by (p.calls k)))
 
--- THE MST. It is whole where it reads as the MST that was sent.
+-- THE MST. It is whole if it reads as the MST that was sent.
 abbrev pub is_mst : ℕ → Option (List ℕ) → Bool
 is_mst phase None = false
 is_mst phase (Some content) = is_none (mst_fault content) && (slice_index content 1 == phase)
@@ -109,7 +109,8 @@ is_mst phase (Some content) = is_none (mst_fault content) && (slice_index conten
 abbrev pub after_mst : Option (List ℕ) → Past → Past
 after_mst content p = record p { now = record p.now { whole = is_mst p.now.phase content } }
 
--- to which drive the MDT of the cycle before was
+-- AN AT. It belongs to the drive whose address it has.
+-- To which drive the MDT of the cycle before was.
 abbrev pub addressed_before : List Turn → Option ℕ
 addressed_before [] = None
 addressed_before (t ∷ turns) = t.addressed
@@ -121,7 +122,7 @@ place_of s address = first_place s (λ k. (member s k).address == address)
 abbrev pub is_awaited : Past → ℕ → Bool
 is_awaited p k = if nat_le 3 p.now.phase then true else (nat_le 1 p.now.phase && is_place k (addressed_before p.turns))
 
--- the bytes that are wanted behind the address
+-- the bytes that are wanted after the address
 abbrev pub wanted_len : Known → Past → ℕ → ℕ
 wanted_len s p k = if nat_le 3 p.now.phase then at_len (member s k) (outcomes p k) else 4
 
@@ -154,7 +155,8 @@ after_at_of s (Some k) content p = if is_taken s p k content then after_taken k 
 abbrev pub after_at : Known → List ℕ → Past → Past
 after_at s content p = after_at_of s (place_of s (slice_index content 0)) content p
 
--- the stop that the newest outcome of a channel brings
+-- THE MDT. First the answers of the cycle are looked at: a stop, in ring order, and the plan, if all reads have ended.
+-- The stop that the newest outcome of a channel brings.
 abbrev pub trouble : Known → Past → ℕ → Option Stop
 trouble s p k = trouble_by (member s k).address (p.tasks k) (last_outcome (begun_by (p.calls k)))
 
@@ -191,8 +193,8 @@ with_due_plan s p = if is_plan_due s p then planned_by s p else p
 abbrev pub settled : Known → Past → Past
 settled s p = with_due_plan s (with_stop (first_trouble s p) p)
 
--- Then each idle channel begins its next task, if that belongs to the phase and there is no stop. In phase 2 one drive comes
--- behind the other: the first that isn't read, and then the first whose check for phase 3 hasn't ended well.
+-- Then each idle channel begins its next task, if that belongs to the phase and there is no stop. In phase 2 one drive
+-- after the other has its turn: the first that isn't read, and then the first whose check for phase 3 hasn't ended well.
 abbrev pub in_turn : Known → Past → Option ℕ
 in_turn s p = option_or (first_place s (λ k. not (is_read (member s k) (outcomes p k)))) (first_place s (λ k. not (is_checked (member s k) (outcomes p k))))
 
@@ -250,7 +252,7 @@ after_mdt s p = sent_to (addressed_in s (ready_to_send s p)) (ready_to_send s p)
 
 -- THE END OF THE CYCLE. The first that holds of these makes the ring fall to phase 0. The own MST wasn't whole in two cycles in a
 -- row of phases 1 to 4; no AT was taken from a drive in two cycles in a row of phases 3 and 4; a step or an identification
--- has no answer up to the 64th cycle behind the one in which it was first sent.
+-- has no answer up to the 64th cycle after the one in which it was first sent.
 abbrev pub has_lost_mst : List Turn → Bool
 has_lost_mst (t ∷ before ∷ turns) = nat_le 1 before.phase && (not t.whole && not before.whole)
 has_lost_mst _ = false
@@ -278,7 +280,7 @@ fall_of s p =
     (option_or (fall_at fall.AtLost s (first_place s (λ k. has_lost_at k (p.now ∷ p.turns))))
     (fall_at fall.StepLimit s (first_place s (is_at_limit p))))
 
--- the phase goes up by one where all that belongs to it is done
+-- the phase goes up by one if all that belongs to it is done
 abbrev pub whole_row : List Turn → ℕ
 whole_row [] = 0
 whole_row (t ∷ turns) = if t.whole then whole_row turns + 1 else 0
@@ -291,7 +293,7 @@ is_closed p = nat_le 10 (whole_row (p.now ∷ p.turns))
 abbrev pub all_identified : Known → Past → Bool
 all_identified s p = each_place s (is_identified p)
 
--- phase 2: each drive's check for phase 3 has ended well, and before it all its other tasks
+-- phase 2: each drive's check for phase 3 has ended well; its other tasks of phase 2 come before
 abbrev pub all_checked : Known → Past → Bool
 all_checked s p = each_place s (λ k. is_checked (member s k) (outcomes p k))
 
@@ -329,7 +331,7 @@ after_end s p = if is_some (fall_of s p) then new_epoch (p.cycle + 1) (still_wai
 abbrev pub after_restart : Past → Past
 after_restart p = new_epoch p.cycle (still_waiting p)
 
--- WHAT THE MASTER LOOKS BACK ON, behind all calls since its opening.
+-- WHAT THE MASTER LOOKS BACK ON after all calls since its opening.
 abbrev pub past : Known → (ℕ → List Task) → List Call → Past
 past s requests [] = new_epoch 0 requests
 past s requests (HearMst content ∷ h) = after_mst content (past s requests h)
@@ -338,8 +340,8 @@ past s requests (Mdt ∷ h) = after_mdt s (past s requests h)
 past s requests (End ∷ h) = after_end s (past s requests h)
 past s requests (Restart ∷ h) = after_restart (past s requests h)
 
--- WHAT IS SO AFTER ANY CALLS. Where there is a plan, all reads have ended, what they gave fits an MDT, and the plan is the least
--- one of it.
+-- WHAT HOLDS AFTER ANY CALLS. If there is a plan, all reads have ended, what they gave fits an MDT, and the plan is the least one
+-- of it.
 pub record IsPlannedBy (s : Known) (p : Past) (plan : PlanView) : Type 0 where
   pub read : all_read s p ≡ true
   pub fits : nat_le (record_bytes (wishes_given s (outcomes p)).drives) 2047 ≡ true

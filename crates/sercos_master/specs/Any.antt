@@ -1,5 +1,5 @@
 -- What a master stands for, in each of its states.
-use Rattle.std.specs.Prelude.{◌≡◌, ℕ, List}
+use Rattle.std.specs.Prelude.{List}
 use Rattle.sercos_step.specs.declared.request.Job.{Job}
 use Rattle.sercos_master.specs.declared.master.AnyMaster.{AnyMaster}
 use Rattle.sercos_master.specs.declared.master.AnyMaster.TheVariants.{P0, P1, P2, P3, P4}

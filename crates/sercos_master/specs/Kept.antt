@@ -1,5 +1,5 @@
--- What the master keeps of one drive, and how that stands for what it looks back on.
-use Rattle.std.specs.Prelude.{zero, suc, unwrap_or, ◌-◌, ◌*◌, ◌^◌, ◌%◌, ◌||◌, slice_index_or, ◌≡◌, ℕ, ◌+◌, ◌<◌, ◌≤◌, ◌==◌, ◌++◌, nat_le, nat_lt, if◌then◌else◌, Bool, false, not, ◌&&◌, List, [], ◌∷◌, length, min, Option, Some, None, is_some}
+-- What the master keeps of its ring, and how that stands for what it looks back on.
+use Rattle.std.specs.Prelude.{zero, suc, unwrap_or, ◌^◌, ◌%◌, slice_index_or, ◌≡◌, ℕ, ◌+◌, ◌<◌, ◌≤◌, ◌==◌, ◌++◌, nat_le, nat_lt, if◌then◌else◌, Bool, false, not, ◌&&◌, List, [], ◌∷◌, length, min, Option, Some, None, is_some}
 use Rattle.sercos_step.specs.declared.request.Outcome.{Outcome}
 use Rattle.std.specs.List.{position}
 use Rattle.sercos_timing.specs.Views.{PlanView}
@@ -29,7 +29,8 @@ seen_at p k = record {
 
 -- What is kept of the ring: its numbers; a seat for each drive; the cycle's number; the phase; whether the MST of the present
 -- cycle came back whole, how many did in a row before, counted up to 10, and whether that of the cycle before did not, in
--- phases 1 to 4; to which drive the MDT is and was; in how many cycles of phase 1 in a row it was to that drive; the plan and the stop, and whether they are of this cycle.
+-- phases 1 to 4; to which drive the MDT is and was; in how many cycles of phase 1 in a row it was to that drive; the plan and the
+-- stop, and whether they are of this cycle.
 pub record CoreView : Type 0 where
   pub rate : ℕ
   pub cycle : ℕ
@@ -70,7 +71,7 @@ abbrev pub is_same : Option ℕ → Option ℕ → Bool
 is_same None _ = false
 is_same (Some i) other = is_place i other
 
--- and behind the end of a cycle
+-- and after the end of a cycle
 abbrev pub waited_with : ℕ → Option ℕ → Option ℕ → ℕ → ℕ
 waited_with phase addressed before waited =
     if (phase == 1) && is_some addressed then (if is_same addressed before then min (waited + 1) 64 else 1) else 0
@@ -120,7 +121,7 @@ sent_now s p = sent_to (addressed_in s p) p
 abbrev pub Fits : Known → Past → Type 0
 Fits s p = 1 + length (records_upto s (seen_at p) p.cycle (length s.drives)) ≤ 2048
 
--- REPORTS. One more, ascending by its number.
+-- one report more, ascending by its number
 abbrev pub with_pair : Option (ℕ × Outcome) → List (ℕ × Outcome) → List (ℕ × Outcome)
 with_pair None reports = reports
 with_pair (Some x) reports = inserted x.0 x.1 reports

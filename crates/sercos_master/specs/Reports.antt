@@ -1,17 +1,16 @@
 -- What the master reports at the end of a cycle, at a fall and at a restart.
-use Rattle.std.specs.Prelude.{◌≡◌, ◌≤◌, ◌⊎◌, ℕ, zero, suc, ◌+◌, nat_lt, if◌then◌else◌, List, [], ◌∷◌, length, Option, Some, None, is_some}
+use Rattle.std.specs.Prelude.{◌≡◌, ◌≤◌, ◌⊎◌, ℕ, zero, suc, nat_lt, if◌then◌else◌, List, [], ◌∷◌, length, Option, Some, None, is_some}
 use Rattle.std.specs.Option.{option_or}
 use Rattle.sercos_step.specs.declared.request.Outcome.{Outcome}
-use Rattle.sercos_step.specs.declared.request.Outcome.TheVariants as outcome
 use Rattle.sercos_timing.specs.Views.{PlanView}
 use Rattle.sercos_trace.specs.Views.{EventsView}
 use Rattle.sercos_trace.specs.declared.events.Stop.{Stop}
 use Rattle.sercos_trace.specs.declared.events.Fall.TheVariants as fall
-use Rattle.sercos_master.specs.Annals.{Call, HearMst, HearAt, Mdt, End, Restart, Past, fall_of, is_idle, outcomes}
+use Rattle.sercos_master.specs.Annals.{Call, HearMst, HearAt, Mdt, End, Restart, Past, fall_of, is_idle}
 use Rattle.sercos_seat.specs.Channel.{Report, broken_number, number_in}
 use Rattle.sercos_seat.specs.Ring.{Known}
 
--- outcomes stand ascending by the number of the request
+-- outcomes ascend by the number of the request
 abbrev pub inserted : ℕ → Outcome → List (ℕ × Outcome) → List (ℕ × Outcome)
 inserted number o [] = (number, o) ∷ []
 inserted number o (x ∷ reports) = if nat_lt number x.0 then (number, o) ∷ x ∷ reports else x ∷ inserted number o reports

@@ -1,5 +1,5 @@
 -- What the master sends.
-use Rattle.std.specs.Prelude.{ℕ, zero, suc, ◌+◌, ◌*◌, ◌/◌, ◌%◌, ◌==◌, nat_le, false, if◌then◌else◌, List, [], ◌∷◌, ◌++◌, length, Option, None, option_map}
+use Rattle.std.specs.Prelude.{ℕ, zero, suc, ◌+◌, ◌==◌, nat_le, false, if◌then◌else◌, List, [], ◌∷◌, ◌++◌, length, Option, None, option_map}
 use Rattle.sercos_telegram.specs.Spells.{all_drives, mst_content}
 use Rattle.sercos_service_master.specs.Begun.{Said, no_step, master_says}
 use Rattle.sercos_service_master.specs.Calls.{begun_by}
@@ -38,7 +38,7 @@ single s said k = record { start = 650; content = (member s k).address ∷ recor
 abbrev pub joint : Known → Past → PlanView → Sent
 joint s p plan = record { start = plan.t2; content = all_drives ∷ records_from s p 0 (length s.drives) }
 
--- What is sent behind `after_mdt`: in phase 1 an MDT of zeros to the drive that is to be identified, in phase 2 one to the
+-- What is sent, by what `after_mdt` looks back on: in phase 1 an MDT of zeros to the drive that is to be identified, in phase 2 one to the
 -- drive whose step is open, and in phases 3 and 4 one to all.
 abbrev pub mdt_said : Known → Past → Option Sent
 mdt_said s p =

@@ -14,18 +14,17 @@ ghost use Rattle.sercos_seat.specs.Channel.{is_place};
 ghost use Rattle.sercos_seat.specs.Seats.{broken_in, outcomes_seen, SeatView, has_read, cycles_kept, ended_in, forgotten, sent_in, with_begun, begun_task, Seen, AreWaiting, at_len_kept};
 ghost use Rattle.sercos_master.specs.Kept.{IsIn, sent_now, Fits, records_upto, is_same, waited_with, SeatsStandFor, CoreStandsFor};
 
-use sercos_seat::Numbers;
 use crate::opening::{deal, open_seats};
 use crate::reports::add;
-use sercos_seat::Seat;
 use arrayvec::ArrayVec;
-use sercos_step::{Job, byte_at};
 use sercos_bits::Content;
-use sercos_telegram::{Control, joint_begin, read_mst, write_single};
+use sercos_block::{RingSetup, ring_law};
 use sercos_plan::{Chain, plan};
+use sercos_seat::{Numbers, Seat};
+use sercos_step::{Job, byte_at};
+use sercos_telegram::{Control, joint_begin, read_mst, write_single};
 use sercos_timing::{Plan, Wish, Wishes, valid};
 use sercos_trace::{Fall, Reported, Stop};
-use sercos_block::{RingSetup, ring_law};
 use std::alloc::{AllocError, Global};
 use std::marker::Model;
 
@@ -158,7 +157,7 @@ impl Ring {
         self.phase >= 1 && is_place(place, self.before)
     }
 
-    // How many bytes its AT has behind the address.
+    // How many bytes its AT has after the address.
     fn wanted_len(&self, place: usize) -> u16
         requires { place < length self.now.seats }
         ensures value { (v : SeatView) → result ≡ (if nat_le 3 self.now.phase then at_len_kept (slice_index_or self.now.seats place v) else 4) }
@@ -172,7 +171,6 @@ impl Ring {
     }
 }
 
-// Whether the AT of a place may be taken, and is one.
 impl Ring {
     // Hears an AT of the drive at a place.
     fn hear_from(&mut self, place: usize, content: &[u8])
@@ -270,7 +268,7 @@ fn last_long_stop(seats: &[Seat]) -> Option<Stop>
     None
 }
 
-// One wish more, where there is room.
+// Appends a wish, if there is room.
 fn push_wish(wish: Wish, wishes: &mut ArrayVec<Wish, 64>)
     ensures { wishes.new.items ≡ (if nat_lt (length wishes.old.items) 64 then wishes.old.items ++ wish ∷ [] else wishes.old.items) }
 {
@@ -342,7 +340,7 @@ impl Ring {
         self.phase = phase;
     }
 
-    // Looks for the first stop in the order of the ring, where there is none yet.
+    // Looks for the first stop in ring order, if there is none yet.
     fn look_for_stop(&mut self)
         ensures { (s : Known) (p : Past) → CoreStandsFor self.old s p → CoreStandsFor self.new s (with_stop (first_trouble s p) p) }
     {
@@ -407,7 +405,7 @@ impl Ring {
         }
     }
 
-    // Makes the plan where it is due.
+    // Makes the plan if it is due.
     fn make_due_plan(&mut self)
         ensures { (s : Known) (p : Past) → IsKnown s → CoreStandsFor self.old s p → CoreStandsFor self.new s (with_due_plan s p) }
     {
@@ -631,8 +629,11 @@ impl Ring {
         }
     }
 
-    // The cycle ends: the ring falls, or goes on, in the next phase where all that belongs to this one is done.
-    pub fn end_cycle(&mut self, reports: &mut ArrayVec<Reported, 128>) -> (Option<Fall>, Option<Stop>)
+    // Ends the cycle: the ring falls, or goes on, in the next phase if all that belongs to this one is done.
+    pub fn end_cycle(
+        &mut self,
+        reports: &mut ArrayVec<Reported, 128>,
+    ) -> (Option<Fall>, Option<Stop>)
         ensures stands { (s : Known) (p : Past) → CoreStandsFor self.old s p → CoreStandsFor self.new s (after_end s p) }
         ensures fall { (s : Known) (p : Past) → CoreStandsFor self.old s p → result.0 ≡ fall_of s p }
         ensures stop { (s : Known) (p : Past) → CoreStandsFor self.old s p → result.1 ≡ stop_told p }
@@ -651,7 +652,7 @@ impl Ring {
         (fall, stop)
     }
 
-    // The phase of the next cycle, where there is no fall.
+    // The phase of the next cycle, if there is no fall.
     fn next_phase(&self) -> u8
         ensures value { (s : Known) (p : Past) → CoreStandsFor self.now s p → result ≡ next_phase s p }
         ensures bound { self.now.phase ≤ 4 → result ≤ 4 }
@@ -816,7 +817,7 @@ fn idle_control() -> Control
     }
 }
 
-// The seats where an epoch begins; the requests at work are told as broken.
+// Begins an epoch at each seat, and reports the requests at work as broken.
 fn reset_seats(seats: &mut Vec<Seat>, reports: &mut ArrayVec<Reported, 128>)
     ensures count { length seats.new.items ≡ length seats.old.items }
     ensures stand { (s : Known) (seen : ℕ → Seen) → SeatsStandFor seats.old.items s seen → SeatsStandFor seats.new.items s (λ k. forgotten (seen k)) }
@@ -829,7 +830,7 @@ fn reset_seats(seats: &mut Vec<Seat>, reports: &mut ArrayVec<Reported, 128>)
     }
 }
 
-// The seats at the end of a cycle of a phase; the requests that ended are told.
+// Ends a cycle of a phase at each seat, and reports the requests that ended.
 fn end_seats(phase: u8, seats: &mut Vec<Seat>, reports: &mut ArrayVec<Reported, 128>)
     ensures count { length seats.new.items ≡ length seats.old.items }
     ensures stand { (s : Known) (seen : ℕ → Seen) → SeatsStandFor seats.old.items s seen → SeatsStandFor seats.new.items s (λ k. ended_in phase (seen k)) }

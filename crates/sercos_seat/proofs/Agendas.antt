@@ -1,6 +1,6 @@
 -- The next task of a channel, by what is kept.
 use Rattle.std.proofs.Common.{◌≡◌, ℕ, zero, suc, ◌+◌, ◌-◌, ◌<◌, ◌≤◌, ◌==◌, Bool, true, false, List, [], ◌∷◌, ◌++◌, Option, Some, None, length, ap, refl, sym, ◌∙◌, arith, if◌then◌else◌}
-use Rattle.std.specs.Prelude.{min, map, take, slice_get, slice_index_or, option_map, unwrap_or, is_some, nat_lt, nat_le, not, ◌&&◌}
+use Rattle.std.specs.Prelude.{min, map, slice_get, option_map, unwrap_or, is_some, nat_lt, not, ◌&&◌}
 use Rattle.std.proofs.lemmas.Bool.{false≢true}
 use Rattle.std.proofs.lemmas.Bool.Decides.{nat_tests}
 use Rattle.sercos_step.specs.declared.request.Outcome.{Outcome}
@@ -11,7 +11,7 @@ use Rattle.sercos_seat.specs.Ring.{Known, MemberView, Task, member, startup}
 use Rattle.sercos_seat.specs.Agenda.{agenda, checking, reads, reads_count, writes, idn, bytes_of, ended_well, given, is_checked, is_ready}
 use Rattle.sercos_seat.specs.Channel.{of_phase}
 use Rattle.sercos_seat.specs.Seats.{AreWaiting, Seen, SeatView, SeatStandsFor, is_idle_in, outcomes_seen, next_write, next_in_2, next_in_3}
-use Rattle.sercos_seat.proofs.Gets.{get_map, get_left, get_right, get_some, get_none, length_map, length_append}
+use Rattle.sercos_seat.proofs.Gets.{get_map, get_left, get_right, get_none, length_map, length_append}
 
 pub reads_length : (d : MemberView) → length (reads d) ≡ reads_count d
 reads_length d =

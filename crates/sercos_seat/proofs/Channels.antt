@@ -1,16 +1,15 @@
 -- What hearing a status does to the outcomes of a channel.
-use Rattle.std.proofs.Common.{◌≡◌, ℕ, Bool, true, false, List, [], ◌∷◌, ◌++◌, Option, Some, None, ap, refl, sym, ◌∙◌, arith, if◌then◌else◌}
-use Rattle.std.specs.Prelude.{is_some, is_none, map, ◌&&◌, not}
+use Rattle.std.proofs.Common.{◌≡◌, ℕ, Bool, true, false, List, [], ◌∷◌, ◌++◌, Option, Some, None, refl, if◌then◌else◌}
+use Rattle.std.specs.Prelude.{is_some, map, ◌&&◌, not}
 use mathlib.Core.Bool.{beq}
 use Rattle.std.proofs.lemmas.Bool.{false≢true}
 use Rattle.sercos_telegram.specs.declared.words.Status.{Status}
 use Rattle.sercos_step.specs.declared.step.Answer.{Answer}
 use Rattle.sercos_step.specs.declared.step.Step.{Step}
-use Rattle.sercos_step.specs.declared.request.Request.{Request}
 use Rattle.sercos_step.specs.declared.request.Outcome.{Outcome}
 use Rattle.sercos_step.specs.Steps.{outcome_of, next_step}
-use Rattle.sercos_service_master.specs.Begun.{Begun, open_in, step_at, answers_it, answer_in, with_answer, outcome_with, mhs_in}
-use Rattle.sercos_service_master.specs.Calls.{Call, Begin, Send, Hear, EndCycle, begun_by, outcome_at}
+use Rattle.sercos_service_master.specs.Begun.{Begun, open_in, answers_it, answer_in, with_answer, outcome_with, mhs_in}
+use Rattle.sercos_service_master.specs.Calls.{Call, Hear, begun_by, outcome_at}
 use Rattle.sercos_seat.specs.Channel.{outcomes_in, with_outcome, last_outcome}
 
 pub none≢some : {A : Type 0} {x : A} → None ≡ Some x → ⊥

@@ -1,9 +1,8 @@
 -- What stands at a place of lists that are put together.
-use Rattle.std.proofs.Common.{◌≡◌, ℕ, zero, suc, ◌+◌, ◌-◌, ◌<◌, ◌≤◌, List, [], ◌∷◌, ◌++◌, Option, Some, None, length, ap, refl, sym, ◌∙◌, arith}
-use Rattle.std.specs.Prelude.{map, take, slice_get, slice_index_or, option_map}
+use Rattle.std.proofs.Common.{◌≡◌, ℕ, zero, suc, ◌+◌, ◌-◌, ◌<◌, ◌≤◌, List, [], ◌∷◌, ◌++◌, Some, None, length, ap, refl, ◌∙◌, arith}
+use Rattle.std.specs.Prelude.{map, slice_get, slice_index_or, option_map}
 use Rattle.sercos_idn.specs.declared.idn.Idn.{Idn}
 use Rattle.sercos_step.specs.declared.request.Request.TheVariants as request
-use Rattle.sercos_step.specs.Words.{bytes_in}
 use Rattle.sercos_seat.specs.Ring.{MemberView}
 use Rattle.sercos_seat.specs.Agenda.{reads}
 

@@ -1,22 +1,12 @@
 -- How long telegrams are, and what a drive wishes, by what is kept and by the outcomes.
-use Rattle.std.proofs.Common.{◌≡◌, ℕ, zero, suc, ◌+◌, ◌*◌, ◌<◌, ◌≤◌, ◌==◌, Bool, true, false, List, [], ◌∷◌, ◌++◌, Option, Some, None, length, ap, refl, sym, ◌∙◌, arith, if◌then◌else◌, inl, inr, subst}
-use Rattle.std.specs.Prelude.{is_some, is_none, map, take, drop, min, nat_lt, nat_le, slice_get, slice_index, slice_index_or, option_map, unwrap_or, ◌&&◌, ◌||◌, not, sum_by, ◌-◌, option_and_then}
-use Rattle.std.specs.List.{position, position_from, fold}
-use Rattle.std.proofs.Math.ListN.{set, length-set}
-use Rattle.std.proofs.lemmas.List.{get_or-set_other}
-use Rattle.std.proofs.lemmas.Grind.{get_or-set_at}
-use Rattle.std.proofs.lemmas.Bool.{false≢true, cases_eq}
+use Rattle.std.proofs.Common.{◌≡◌, ℕ, zero, suc, ◌+◌, ◌*◌, ◌<◌, ◌≤◌, ◌==◌, Bool, true, false, List, [], ◌∷◌, Option, Some, None, length, ap, refl, ◌∙◌, arith, if◌then◌else◌}
+use Rattle.std.specs.Prelude.{map, take, drop, min, nat_le, slice_get, slice_index_or, unwrap_or, sum_by, ◌-◌, option_and_then}
+use Rattle.std.specs.List.{fold}
 use Rattle.std.proofs.lemmas.Bool.Decides.{nat_tests}
-use Rattle.std.proofs.lemmas.Iterator.Adapters.{position_from-zero}
-use Rattle.sercos_telegram.specs.declared.words.Status.{Status}
-use Rattle.sercos_telegram.specs.Words.{status_of}
-use Rattle.sercos_telegram.specs.Spells.{word_at}
-use Rattle.sercos_telegram.specs.Faults.{at_fault}
-use Rattle.sercos_seat.specs.Ring.{Known, MemberView, Task, member, IsKnown, no_member}
+use Rattle.sercos_seat.specs.Ring.{MemberView}
 use Rattle.sercos_step.specs.declared.request.Outcome.{Outcome}
-use Rattle.sercos_seat.specs.Agenda.{at_len, record_len, len_or_none, words_given, reads_count, last_long_stop, long_stop, wishes_from, wishes_given, last_long, mdt_attributes, short_in, bytes_of, given, wish_given, times_given}
-use Rattle.sercos_seat.specs.Channel.{is_place}
-use Rattle.sercos_seat.specs.Seats.{Seen, SeatView, SeatStandsFor, taken_in, at_in, heard_in, identified_in, at_len_kept, record_len_kept, len_of_words, words_of, outcomes_seen, long_of, low_at, no_words, mdt_words_kept}
+use Rattle.sercos_seat.specs.Agenda.{at_len, record_len, len_or_none, words_given, reads_count, last_long, mdt_attributes, short_in, given}
+use Rattle.sercos_seat.specs.Seats.{Seen, SeatView, SeatStandsFor, at_len_kept, record_len_kept, len_of_words, words_of, outcomes_seen, long_of, low_at, mdt_words_kept}
 use Rattle.sercos_idn.specs.declared.idn.Idn.{Idn}
 use Rattle.sercos_idn.specs.declared.attribute.Attribute.{Attribute}
 use Rattle.sercos_idn.specs.declared.kinds.Length.{Length}
@@ -24,12 +14,6 @@ use Rattle.sercos_idn.specs.declared.kinds.Length.TheVariants.{Two, Four, List1,
 use Rattle.sercos_idn.specs.Codes.{item_len}
 use Rattle.sercos_block.specs.Blocks.{is_number}
 use Rattle.sercos_block.specs.Rings.{attribute_in, number_len}
-use Rattle.sercos_timing.specs.declared.wishes.Wish.{Wish}
-use Rattle.sercos_timing.specs.Views.{WishesView}
-use Rattle.sercos_timing.specs.Order.{no_wish, record_bytes}
-use Rattle.sercos_timing.specs.Valid.{IsValid, AreDistinct}
-use Rattle.sercos_trace.specs.declared.events.Stop.{Stop}
-use Rattle.sercos_timing.specs.declared.wishes.Times.{Times}
 use Rattle.sercos_seat.specs.declared.answers.Words.{Words}
 
 -- a part of a part is one of the whole

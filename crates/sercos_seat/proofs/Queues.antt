@@ -1,7 +1,7 @@
 -- The requests that wait, behind what a channel hears and begins.
 use Rattle.std.proofs.Common.{◌≡◌, ℕ, zero, suc, ◌+◌, ◌<◌, ◌≤◌, ◌==◌, Bool, true, false, List, [], ◌∷◌, ◌++◌, Option, Some, None, length, ap, refl, sym, ◌∙◌, arith, subst, if◌then◌else◌, inl, inr, ◌⊎◌}
 use Rattle.std.proofs.lemmas.Bool.Decides.{nat_tests}
-use Rattle.std.specs.Prelude.{◌-◌, min, nat_lt, not, is_some, is_none, map, drop, reverse, slice_get, ◌&&◌, option_map, unwrap_or}
+use Rattle.std.specs.Prelude.{◌-◌, min, nat_lt, is_some, is_none, map, drop, reverse, slice_get, ◌&&◌, option_map, unwrap_or}
 use Rattle.std.proofs.lemmas.Bool.{false≢true}
 use Rattle.std.proofs.lemmas.List.{reverse-append}
 use Rattle.sercos_step.specs.declared.request.Outcome.{Outcome}
@@ -13,12 +13,12 @@ use Rattle.sercos_service_master.specs.Calls.{Begin, begun_by}
 use Rattle.sercos_timing.specs.Views.{PlanView}
 use Rattle.sercos_seat.specs.declared.queue.Waiting.{Waiting}
 use Rattle.sercos_seat.specs.Ring.{Known, MemberView, Task, member, startup}
-use Rattle.sercos_seat.specs.Agenda.{idn, agenda, reads, writes, checking, given, ended_well, bytes_of, reads_count, is_checked, is_ready}
+use Rattle.sercos_seat.specs.Agenda.{idn, agenda, reads, writes, checking, given, ended_well, bytes_of, reads_count, is_ready}
 use Rattle.sercos_seat.specs.Channel.{count_requests, of_phase}
-use Rattle.sercos_seat.specs.Seats.{next_write, next_in_2, next_in_3, Seen, SeatView, SeatStandsFor, IsQueue, AreRequests, AreWaiting, waiting_task, left_in, opened_in, is_idle_in, outcomes_seen, begun_in, nothing_seen, forgotten, with_begun}
+use Rattle.sercos_seat.specs.Seats.{next_write, next_in_2, next_in_3, Seen, SeatView, SeatStandsFor, IsQueue, AreRequests, waiting_task, left_in, is_idle_in, outcomes_seen, begun_in, nothing_seen}
 use Rattle.sercos_seat.proofs.Channels.{none≢some}
-use Rattle.sercos_seat.proofs.Seats.{length_more, before_end, behind_end}
-use Rattle.sercos_seat.proofs.Agendas.{ended_there, next_behind, planned_task, at_check, checks}
+use Rattle.sercos_seat.proofs.Seats.{length_more, before_end}
+use Rattle.sercos_seat.proofs.Agendas.{ended_there, planned_task, at_check, checks}
 
 both_well : (d : MemberView) (outcomes : List Outcome) → is_ready d outcomes ≡ true →
     (ended_well (given outcomes (reads_count d + 11)) ≡ true) × (ended_well (given outcomes (reads_count d + 12)) ≡ true)
@@ -34,7 +34,7 @@ pub ready_long : (d : MemberView) (outcomes : List Outcome) → is_ready d outco
 ready_long d outcomes e = ended_there outcomes (reads_count d + 12) (both_well d outcomes e).1
 
 -- where they have ended, one outcome more changes nothing
-ready_stays : (d : MemberView) (outcomes : List Outcome) (o : Outcome) → reads_count d + 12 < length outcomes → is_ready d (outcomes ++ o ∷ []) ≡ is_ready d outcomes
+pub ready_stays : (d : MemberView) (outcomes : List Outcome) (o : Outcome) → reads_count d + 12 < length outcomes → is_ready d (outcomes ++ o ∷ []) ≡ is_ready d outcomes
 ready_stays d outcomes o long =
     let a : given (outcomes ++ o ∷ []) (reads_count d + 11) ≡ given outcomes (reads_count d + 11) = before_end outcomes o (reads_count d + 11) (λ e. omega (arith, long, e)) in
     let b : given (outcomes ++ o ∷ []) (reads_count d + 12) ≡ given outcomes (reads_count d + 12) = before_end outcomes o (reads_count d + 12) (λ e. omega (arith, long, e)) in
@@ -154,13 +154,15 @@ queue_next kept rest w d x q is ready idle =
     let order : waiting_task w ∷ map waiting_task (reverse rest) ≡ left_in x = sym (tasks_last rest w) ∙ (ap (λ k. map waiting_task (reverse k)) (sym is) ∙ q.order) in
     let first = drop_first (count_requests x.tasks) x.waiting (waiting_task w) (map waiting_task (reverse rest)) order in
     let requests = requests_last rest w (subst AreRequests is q.requests) in
-    let c : length (outcomes_seen x) + 0 ≡ reads_count d + 13 + count_requests x.tasks = subst (λ b. length (outcomes_seen x) + (if b then 0 else 1) ≡ reads_count d + 13 + count_requests x.tasks) idle (q.count ready) in
-    (record {
-      order = first.0;
-      requests = requests.1;
-      none = λ e. absurd (false≢true (sym e ∙ ready));
-      count = λ e. rw (opens w.request x.calls) (omega (arith, c));
-    }, (requests.0, first.1))
+    let c : length (outcomes_seen x) + 0 ≡ reads_count d + 13 + count_requests x.tasks = subst (λ b. length (outcomes_seen x) + (if b then 0 else 1) ≡ reads_count d + 13 + count_requests x.tasks) idle (q.count ready) in (
+      record {
+        order = first.0;
+        requests = requests.1;
+        none = λ e. absurd (false≢true (sym e ∙ ready));
+        count = λ e. rw (opens w.request x.calls) (omega (arith, c));
+      },
+      (requests.0, first.1),
+    )
 
 -- the agenda goes on with what waits
 pub next_request : (s : Known) (plan : PlanView) (waiting : List Task) (k : ℕ) (outcomes : List Outcome) (j : ℕ) → is_ready (member s k) outcomes ≡ true → length outcomes ≡ reads_count (member s k) + 13 + j →

@@ -1,20 +1,18 @@
 -- What a seat stands for behind a status that it heard.
 use Rattle.std.proofs.Common.{◌≡◌, ℕ, zero, suc, ◌+◌, ◌<◌, ◌≤◌, ◌==◌, Bool, true, false, List, [], ◌∷◌, ◌++◌, Option, Some, None, length, ap, refl, sym, ◌∙◌, arith, if◌then◌else◌}
-use Rattle.std.specs.Prelude.{is_some, is_none, not, map, take, min, nat_lt, nat_le, slice_get, option_map, unwrap_or, ◌&&◌}
+use Rattle.std.specs.Prelude.{is_some, is_none, not, map, take, min, nat_lt, option_map, ◌&&◌}
 use Rattle.std.specs.Option.{option_or}
-use Rattle.std.proofs.lemmas.Bool.{false≢true}
 use Rattle.std.proofs.lemmas.Bool.Decides.{nat_tests}
 use Rattle.sercos_telegram.specs.declared.words.Status.{Status}
 use Rattle.sercos_step.specs.declared.request.Outcome.{Outcome}
 use Rattle.sercos_service_master.specs.Kept.{MasterView, MasterStandsFor}
 use Rattle.sercos_service_master.specs.Calls.{Call, Hear, begun_by, outcome_at}
 use Rattle.sercos_service_master.specs.Begun.{Begun, open_in}
-use Rattle.sercos_seat.specs.declared.answers.Words.{Words}
 use Rattle.sercos_seat.specs.declared.answers.Asked.{Asked}
 use Rattle.sercos_seat.specs.Ring.{MemberView, Task}
-use Rattle.sercos_seat.specs.Agenda.{asked_by, bytes_of, given, reads_count, ended_well, is_checked, is_ready, stop_of_task}
-use Rattle.sercos_seat.specs.Channel.{outcomes_in, last_outcome, with_outcome, trouble_by, number_in, report_of, numbered, Report}
-use Rattle.sercos_seat.specs.Seats.{IsQueue, Seen, SeatView, SeatStandsFor, IsAsked, words_of, words_in, heard_in, after_outcome, kept_given, kept_checked, kept_ready, kept_report, pair_of, trouble_seen, outcomes_seen, is_idle_in}
+use Rattle.sercos_seat.specs.Agenda.{bytes_of, given, reads_count, ended_well, stop_of_task}
+use Rattle.sercos_seat.specs.Channel.{last_outcome, trouble_by, number_in, report_of, Report}
+use Rattle.sercos_seat.specs.Seats.{IsQueue, Seen, SeatView, SeatStandsFor, IsAsked, words_of, heard_in, after_outcome, kept_given, kept_report, pair_of, outcomes_seen, is_idle_in}
 use Rattle.sercos_seat.proofs.Channels.{Heard, heard}
 
 -- one outcome more

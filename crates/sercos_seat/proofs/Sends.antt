@@ -1,7 +1,6 @@
 -- What is sent.
-use Rattle.std.proofs.Common.{◌≡◌, ℕ, zero, suc, ◌+◌, ◌*◌, ◌/◌, ◌%◌, ◌^◌, ◌<◌, ◌≤◌, ◌==◌, Bool, true, false, List, [], ◌∷◌, ◌++◌, Option, Some, None, length, ap, refl, sym, ◌∙◌, arith, subst, if◌then◌else◌}
-use Rattle.std.specs.Prelude.{Result, Ok, Err, IsErr, OnOk, cond, ◌&&◌, nat_le, nat_lt, map, take, slice_index_or}
-use Rattle.std.proofs.lemmas.Bool.Decides.{nat_tests}
+use Rattle.std.proofs.Common.{◌≡◌, ℕ, zero, suc, ◌+◌, ◌*◌, ◌/◌, ◌%◌, ◌<◌, ◌≤◌, List, [], ◌∷◌, ◌++◌, length, ap, refl, sym, ◌∙◌, arith}
+use Rattle.std.specs.Prelude.{Result, Ok, Err, IsErr, OnOk, map, take, slice_index_or}
 use Rattle.sercos_telegram.specs.declared.words.Control.{Control}
 use Rattle.sercos_telegram.specs.Words.{control_word}
 use Rattle.sercos_telegram.specs.Spells

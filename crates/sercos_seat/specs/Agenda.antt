@@ -1,5 +1,5 @@
 -- The tasks of each channel in an epoch, as far as the outcomes so far determine them, and what the outcomes say. Outcomes
--- stand oldest first.
+-- come oldest first.
 use Rattle.std.specs.Prelude.{ℕ, ◌+◌, ◌*◌, ◌==◌, nat_le, Bool, false, ◌&&◌, if◌then◌else◌, List, [], ◌∷◌, ◌++◌, length, map, take, drop, sum_by, Option, Some, None, is_none, is_some, option_map, option_and_then, unwrap_or, slice_get, slice_index}
 use Rattle.sercos_idn.specs.declared.idn.Idn.{Idn}
 use Rattle.sercos_step.specs.declared.request.Request.{Request}
@@ -68,14 +68,14 @@ writes s p k =
     ∷ writes_word 9 (slice_index p.position k) ∷ writes_word 10 p.mdt_len ∷ writes_word 15 7
     ∷ writes_list 16 (member s k).at ∷ writes_list 24 (member s k).mdt ∷ writes_word 89 p.t2 ∷ []
 
--- A check: its procedure command; then what comes next where it ended well, and else the drive's list of invalid data, and
+-- A check: its procedure command; then, if it ended well, what comes next; otherwise the drive's list of invalid data, and
 -- nothing more.
 abbrev pub checking : ℕ → ℕ → ℕ → Option Outcome → List Task → List Task
 checking phase command list None next = startup phase (request.Command (idn command)) ∷ []
 checking phase command list (Some o) next =
     startup phase (request.Command (idn command)) ∷ (if ended_well (bytes_of o) then next else startup phase (request.Read (idn list) 7) ∷ [])
 
--- All tasks of the channel to the drive at place k: the reads of phase 2; where there is a plan, its writes and the check for
+-- All tasks of the channel to the drive at place k: the reads of phase 2; if there is a plan, its writes and the check for
 -- phase 3; in phase 3 the check for phase 4; then the requests that wait.
 abbrev pub agenda : Known → Option PlanView → List Task → ℕ → List Outcome → List Task
 agenda s plan waiting k outcomes =
@@ -85,7 +85,7 @@ agenda s plan waiting k outcomes =
     checking 2 127 21 (slice_get outcomes (reads_count (member s k) + 11))
     (checking 3 128 22 (slice_get outcomes (reads_count (member s k) + 12)) waiting)) plan) [])
 
--- whether all reads have ended; whether the check for phase 3 has ended well; whether that for phase 4 has
+-- whether all reads have ended; whether the check for phase 3 has ended well; whether the check for phase 4 has too
 abbrev pub is_read : MemberView → List Outcome → Bool
 is_read d outcomes = nat_le (reads_count d) (length outcomes)
 
@@ -95,8 +95,8 @@ is_checked d outcomes = ended_well (given outcomes (reads_count d + 11))
 abbrev pub is_ready : MemberView → List Outcome → Bool
 is_ready d outcomes = is_checked d outcomes && ended_well (given outcomes (reads_count d + 12))
 
--- The attributes that were read, as words, and how many bytes each adds to a telegram: two or four where it is that of a
--- number, and none else.
+-- The attributes that were read, as words, and how many bytes each adds to a telegram: two or four if it is that of a number,
+-- and none otherwise.
 abbrev pub words_given : List Outcome → List ℕ
 words_given [] = []
 words_given (o ∷ outcomes) = long_in (bytes_of o) ∷ words_given outcomes
@@ -113,7 +113,7 @@ len_said word = option_and_then number_len (attribute_in word)
 abbrev pub len_or_none : ℕ → ℕ
 len_or_none word = unwrap_or (len_said word) 0
 
--- bytes behind the address of its AT, and of its data record: two words, and what is configured
+-- the bytes of its AT after the address, and those of its data record: two words, and what is configured
 abbrev pub at_len : MemberView → List Outcome → ℕ
 at_len d outcomes = 4 + sum_by len_or_none (at_attributes d outcomes)
 
@@ -161,8 +161,8 @@ asked_by (request.Read i e) = record { idn = i; reads = Some e }
 asked_by (request.Write i e bytes) = record { idn = i; reads = None }
 asked_by (request.Command i) = record { idn = i; reads = None }
 
--- The stop that the outcome of a start-up task brings: it is refused; an attribute can't be configured; or the list behind
--- a check that failed has come.
+-- The stop that the outcome of a start-up task brings: it is refused; an attribute can't be configured; or the list after
+-- a failed check has come.
 abbrev pub attribute_stop : ℕ → Idn → ℕ → Option Stop
 attribute_stop address i word = if is_none (len_said word) then Some (stop.BadConfig address i word) else None
 
@@ -191,7 +191,7 @@ stop_by address asked outcome.Broken = None
 abbrev pub stop_of_task : ℕ → Option ℕ → Asked → Outcome → Option Stop
 stop_of_task address number asked o = if is_some number then None else stop_by address asked o
 
--- Where the data records are longer than an MDT, the last entry in ring order that was read as one of four bytes is bad.
+-- If the data records are longer than an MDT, the last entry in ring order that was read as one of four bytes is bad.
 abbrev pub last_long : List Idn → List ℕ → Option (Idn × ℕ)
 last_long (i ∷ idns) (word ∷ words) =
     if is_some (last_long idns words) then last_long idns words else (if len_or_none word == 4 then Some (i, word) else None)

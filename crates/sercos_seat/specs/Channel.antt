@@ -1,6 +1,5 @@
--- What an epoch has brought so far, and what each call adds to it. An epoch begins at the opening, behind a fall, and with a
--- restart. Every list has its newest item first.
-use Rattle.std.specs.Prelude.{ℕ, ◌+◌, ◌-◌, ◌*◌, ◌==◌, Bool, false, ◌&&◌, ◌||◌, if◌then◌else◌, List, [], ◌∷◌, ◌++◌, Option, Some, None, is_some, option_map}
+-- What came of the tasks of a channel in an epoch. Lists have their newest item first, but for the outcomes.
+use Rattle.std.specs.Prelude.{ℕ, ◌+◌, ◌==◌, Bool, false, if◌then◌else◌, List, [], ◌∷◌, ◌++◌, Option, Some, None, is_some, option_map}
 use Rattle.sercos_step.specs.declared.request.Outcome.{Outcome}
 use Rattle.sercos_step.specs.declared.request.Outcome.TheVariants as outcome
 use Rattle.sercos_step.specs.Steps.{outcome_of}
@@ -14,7 +13,7 @@ pub record Report : Type 0 where
   pub number : ℕ
   pub outcome : Outcome
 
--- The outcomes of a channel in this epoch, the oldest first, and whether it is idle.
+-- the outcomes of a channel in this epoch, the oldest first
 abbrev pub with_outcome : Option Outcome → List Outcome → List Outcome
 with_outcome None outcomes = outcomes
 with_outcome (Some o) outcomes = outcomes ++ o ∷ []
@@ -23,7 +22,7 @@ abbrev pub outcomes_in : List Begun → List Outcome
 outcomes_in [] = []
 outcomes_in (b ∷ past) = with_outcome (outcome_of b.request b.answers) (outcomes_in past)
 
--- AN AT. It belongs to the drive whose address it has.
+-- a place is this one
 abbrev pub is_place : ℕ → Option ℕ → Bool
 is_place k None = false
 is_place k (Some i) = k == i
@@ -40,7 +39,7 @@ abbrev pub report_of : Option Outcome → Option ℕ → Option Report
 report_of None number = None
 report_of (Some o) number = option_map (numbered o) number
 
--- THE MDT. First the answers of the cycle are looked at: a stop, in ring order, and the plan, where all reads have ended.
+-- the outcome of the request that was begun last, and the stop that it brings, if it is of the start-up
 abbrev pub last_outcome : List Begun → Option Outcome
 last_outcome [] = None
 last_outcome (b ∷ past) = outcome_of b.request b.answers
@@ -53,7 +52,7 @@ abbrev pub of_phase : ℕ → Option Task → Option Task
 of_phase phase None = None
 of_phase phase (Some t) = if t.phase == phase then Some t else None
 
--- the requests that were begun in an epoch don't wait any more, whether they have ended or are broken
+-- how many requests were begun: they don't wait any more, whether they have ended or are broken
 abbrev pub count_requests : List Task → ℕ
 count_requests [] = 0
 count_requests (t ∷ tasks) = if is_some t.number then count_requests tasks + 1 else count_requests tasks

@@ -1,5 +1,5 @@
--- What the master sends.
-use Rattle.std.specs.Prelude.{ℕ, ◌+◌, ◌*◌, ◌/◌, ◌%◌, ◌==◌, if◌then◌else◌, List, [], ◌∷◌, ◌++◌, take, cond}
+-- A drive's record in an MDT.
+use Rattle.std.specs.Prelude.{ℕ, ◌+◌, ◌*◌, ◌/◌, ◌%◌, List, [], ◌∷◌, ◌++◌, take, cond}
 use Rattle.sercos_telegram.specs.Spells.{fields}
 use Rattle.sercos_service_master.specs.Begun.{Said}
 use Rattle.sercos_seat.specs.Agenda.{len_or_none}
@@ -11,7 +11,7 @@ word_said said = cond said.mhs 1 0 + cond said.step.write 2 0 + cond said.step.l
 abbrev pub record_said : Said → List ℕ → List ℕ
 record_said said values = fields (word_said said) said.step.word values
 
--- A command value of so many bytes in a cycle is the number of the cycle, as far as it fits: its low bytes.
+-- A command value of `len` bytes in a cycle is the low bytes of the number of the cycle.
 abbrev pub value_said : ℕ → ℕ → List ℕ
 value_said cycle len = take len ((cycle % 256) ∷ (cycle / 256 % 256) ∷ (cycle / 65536 % 256) ∷ (cycle / 16777216 % 256) ∷ [])
 

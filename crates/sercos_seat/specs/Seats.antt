@@ -1,5 +1,5 @@
 -- What the master keeps of one drive, and how that stands for what it looks back on.
-use Rattle.std.specs.Prelude.{reverse, unwrap_or, ◌-◌, slice_get, ◌*◌, ◌^◌, ◌%◌, ◌||◌, sum_by, slice_index_or, ◌≡◌, ℕ, ◌+◌, ◌<◌, ◌≤◌, ◌==◌, ◌++◌, nat_le, nat_lt, if◌then◌else◌, Bool, true, false, not, ◌&&◌, List, [], ◌∷◌, length, map, take, drop, min, Option, Some, None, is_some, option_map, is_none}
+use Rattle.std.specs.Prelude.{reverse, unwrap_or, ◌-◌, slice_get, ◌*◌, sum_by, slice_index_or, ◌≡◌, ℕ, ◌+◌, ◌≤◌, ◌==◌, ◌++◌, nat_le, nat_lt, if◌then◌else◌, Bool, true, false, not, ◌&&◌, List, [], ◌∷◌, length, map, take, drop, min, Option, Some, None, is_some, option_map, is_none}
 use Rattle.sercos_step.specs.declared.request.Outcome.{Outcome}
 use Rattle.sercos_service_master.specs.Kept.{MasterView, MasterStandsFor}
 use Rattle.std.specs.Option.{option_or}
@@ -72,7 +72,7 @@ pair_of r = (r.number, r.outcome)
 abbrev pub trouble_seen : MemberView → Seen → Option Stop
 trouble_seen d x = trouble_by d.address x.tasks (last_outcome (begun_by x.calls))
 
--- what was begun and isn't idle
+-- whether no step is open
 abbrev pub is_idle_in : Seen → Bool
 is_idle_in x = is_none (open_in (begun_by x.calls))
 
@@ -91,8 +91,8 @@ abbrev pub AreRequests : List Waiting → Type 0
 AreRequests [] = Unit {0}
 AreRequests (w ∷ waiting) = IsRequest w.request × AreRequests waiting
 
--- What is kept of the requests to a drive, the last one first. A request is begun only behind both checks, so that there are as
--- many outcomes and tasks at work as the start-up has, and requests that were begun.
+-- What is kept of the requests to a drive, the last one first. A request is begun only after both checks. So the outcomes, with
+-- the task at work, are as many as the start-up and the requests begun have.
 pub record IsQueue (kept : List Waiting) (d : MemberView) (x : Seen) : Type 0 where
   pub order : map waiting_task (reverse kept) ≡ left_in x
   pub requests : AreRequests kept
@@ -130,7 +130,7 @@ kept_checked reads done checked bytes = if done == reads + 11 then ended_well by
 abbrev pub kept_ready : ℕ → ℕ → Bool → Bool → List ℕ → Bool
 kept_ready reads done checked ready bytes = if done == reads + 12 then checked && ended_well bytes else ready
 
--- what is so of every seat
+-- what holds of every seat
 pub record IsSeat (v : SeatView) : Type 0 where
   pub few : length v.given ≤ 38
 
@@ -205,7 +205,7 @@ abbrev pub at_in : Bool → ℕ → ℕ → List ℕ → Seen → Seen
 at_in identifies address wanted content x =
     if not x.heard && is_none (at_fault address wanted content) then taken_in identifies (status_of (word_at content 1)) (word_at content 3) x else x
 
--- the bytes behind the address of a telegram, by the words that were read of its attributes
+-- the bytes of a telegram after the address, by the words that were read of its attributes
 abbrev pub long_of : Words → ℕ
 long_of w = w.low + 65536 * w.high
 
@@ -235,7 +235,7 @@ low_at words place = (slice_index_or words place no_words).low
 abbrev pub AreWaiting : List Task → Type 0
 AreWaiting waiting = (i : ℕ) (t : Task) → slice_get waiting i ≡ Some t → t.phase ≡ 4
 
--- what a seat keeps behind the end of a cycle
+-- what was seen after the end of a cycle
 abbrev pub ended_in : ℕ → Seen → Seen
 ended_in phase x = record x {
   calls = EndCycle ∷ x.calls;

@@ -29,7 +29,7 @@ pub struct Asked {
     pub reads: Option<u8>,
 }
 
-// What a request names.
+/// What a request names.
 pub fn asked_by(request: &Request) -> Asked
     ensures { result ≡ asked_by request.now }
 {
@@ -63,7 +63,7 @@ fn second_word(bytes: &[u8]) -> u16
     u16::from(byte_at(bytes, 2)) + 256 * u16::from(byte_at(bytes, 3))
 }
 
-// The two words of up to four bytes.
+/// The two words of up to four bytes.
 pub fn words_in(bytes: &[u8]) -> Words
     ensures { result ≡ words_in bytes.now }
 {
@@ -74,7 +74,7 @@ pub fn words_in(bytes: &[u8]) -> Words
 }
 
 impl Words {
-    // The number of both.
+    /// The number of both.
     pub fn long(&self) -> u32
         ensures { result ≡ self.now.low + 65536 * self.now.high }
     {
@@ -82,14 +82,14 @@ impl Words {
     }
 }
 
-// The data status of a procedure command that ended well.
+/// The data status of a procedure command that ended well.
 pub fn ended_well(bytes: &[u8]) -> bool
     ensures { result ≡ ended_well bytes.now }
 {
     first_word(bytes) == 3
 }
 
-// The bytes that an outcome gives.
+/// The bytes that an outcome gives.
 pub fn outcome_bytes(outcome: &Outcome) -> &[u8]
     ensures { result.now ≡ bytes_of outcome.now }
 {
@@ -99,7 +99,7 @@ pub fn outcome_bytes(outcome: &Outcome) -> &[u8]
     }
 }
 
-// How many bytes the attribute of a word adds to a telegram.
+/// How many bytes the attribute of a word adds to a telegram.
 pub fn len_said(word: u32) -> Option<usize>
     ensures value { result ≡ len_said word }
     ensures bound { IfSome result (λ len. len ≤ 4) }
@@ -110,7 +110,7 @@ pub fn len_said(word: u32) -> Option<usize>
     }
 }
 
-// How many bytes the attribute of these words adds to a telegram, and 0 where it is that of no number.
+/// How many bytes the attribute of these words adds to a telegram: 0 if it is not that of a number.
 pub fn len_of(words: &Words) -> u16
     ensures value { result ≡ len_of_words words.now }
     ensures bound { result ≤ 4 }
@@ -121,7 +121,7 @@ pub fn len_of(words: &Words) -> u16
     }
 }
 
-// Two words, and the values of these attributes.
+/// Two words, and the values of these attributes.
 pub fn listed_len(words: &[Words]) -> u16
     requires { length words.now ≤ 16 }
     ensures value { result ≡ listed_len words.now }
@@ -134,7 +134,7 @@ pub fn listed_len(words: &[Words]) -> u16
     len
 }
 
-// So many words from a place on, as far as there are.
+/// At most `count` words from a place on.
 pub fn part(words: &[Words], from: usize, count: usize) -> &[Words]
     ensures value { result.now ≡ take count (drop from words.now) }
     ensures bound { length result.now ≤ count }
@@ -144,7 +144,7 @@ pub fn part(words: &[Words], from: usize, count: usize) -> &[Words]
     &rest[..count.min(rest.len())]
 }
 
-// The first word of the pair at a place.
+/// The first word of the pair at a place.
 pub fn low_at(words: &[Words], place: usize) -> u16
     ensures { result ≡ low_at words.now place }
 {
@@ -155,7 +155,7 @@ pub fn low_at(words: &[Words], place: usize) -> u16
     }
 }
 
-// One byte of a command value, where it has that many.
+// Appends a byte of a command value, if it has that many.
 fn push_value(byte: u32, len: u16, wanted: u16, values: &mut ArrayVec<u8, 64>)
     ensures { values.new.items ≡ (if nat_le wanted len && nat_lt (length values.old.items) 64 then values.old.items ++ (byte % 256) ∷ [] else values.old.items) }
 {
@@ -164,7 +164,7 @@ fn push_value(byte: u32, len: u16, wanted: u16, values: &mut ArrayVec<u8, 64>)
     }
 }
 
-// A command value of so many bytes: the low bytes of the count of cycles.
+// Appends a command value of `len` bytes: the low bytes of the count of cycles.
 fn push_count(count: u32, len: u16, values: &mut ArrayVec<u8, 64>)
     ensures { len ≤ 4 → length values.old.items + len ≤ 64 → values.new.items ≡ values.old.items ++ value_said count len }
 {
@@ -174,7 +174,7 @@ fn push_count(count: u32, len: u16, values: &mut ArrayVec<u8, 64>)
     push_value(count / 16777216, len, 4, values);
 }
 
-// The command values of a record.
+/// The command values of a record.
 pub fn command_values(count: u32, words: &[Words]) -> ArrayVec<u8, 64>
     requires { length words.now ≤ 16 }
     ensures { result.items ≡ values_said count (map long_of words.now) }
@@ -186,7 +186,7 @@ pub fn command_values(count: u32, words: &[Words]) -> ArrayVec<u8, 64>
     values
 }
 
-// The last of these that was read as one of four bytes, with its word.
+/// The last of these numbers that was read as one of four bytes, with its word.
 pub fn last_long(idns: &[Idn], words: &[Words]) -> Option<(Idn, u32)>
     ensures { result ≡ last_long idns.now (map long_of words.now) }
 {
@@ -213,14 +213,14 @@ fn long_stop(address: u8, found: Option<(Idn, u32)>) -> Option<Stop>
     }
 }
 
-// The stop that the last of these brings.
+/// The stop that the last of these brings.
 pub fn last_long_stop(address: u8, idns: &[Idn], words: &[Words]) -> Option<Stop>
     ensures { result ≡ long_stop address (last_long idns.now (map long_of words.now)) }
 {
     long_stop(address, last_long(idns, words))
 }
 
-// The identifier numbers of a list: its whole pairs of bytes, 64 at most.
+/// The identifier numbers of a list: its whole pairs of bytes, 64 at most.
 #[tactic(auto, using(crate::proofs::Lists::one_idn, crate::proofs::Lists::no_idn, crate::proofs::Lists::idns_length))]
 pub fn idns_in(bytes: &[u8]) -> ArrayVec<Idn, 64>
     ensures { result.items ≡ take 64 (idns_in bytes.now) }
@@ -290,7 +290,7 @@ impl Asked {
         }
     }
 
-    // The stop that an outcome of the start-up brings.
+    /// The stop that an outcome of the start-up brings.
     pub fn stop_by(&self, address: u8, outcome: &Outcome) -> Option<Stop>
         ensures { result ≡ stop_by address self.now outcome.now }
     {

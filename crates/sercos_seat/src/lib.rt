@@ -6,7 +6,5 @@ mod member;
 mod queue;
 mod seat;
 
-pub use answers::{Asked, Words};
 pub use member::{Member, Numbers};
-pub use queue::Waiting;
 pub use seat::Seat;

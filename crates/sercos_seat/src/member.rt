@@ -29,12 +29,8 @@ impl Model for Member {
 }
 
 impl Member {
-    pub fn new(
-        address: u8,
-        slave: u8,
-        at: ArrayVec<Idn, 16>,
-        mdt: ArrayVec<Idn, 16>,
-    ) -> Member
+    /// A drive by its address, its slave, and what its AT and its data record are to carry.
+    pub fn new(address: u8, slave: u8, at: ArrayVec<Idn, 16>, mdt: ArrayVec<Idn, 16>) -> Member
         ensures { (result.address ≡ address) × (result.slave ≡ slave) × (result.at ≡ at.items) × (result.mdt ≡ mdt.items) }
     {
         Member {
@@ -45,45 +41,47 @@ impl Member {
         }
     }
 
+    /// Returns its address, 1 to 254 in a ring that keeps the rules.
     pub fn address(&self) -> u8
         ensures { result ≡ self.now.address }
     {
         self.address
     }
 
-    pub fn slave(&self) -> u8
+    // Its slave.
+    pub(crate) fn slave(&self) -> u8
         ensures { result ≡ self.now.slave }
     {
         self.slave
     }
 
-    // how many reads of the start-up there are
-    pub fn reads_count(&self) -> usize
+    /// Returns how many reads the start-up has, 6 to 38.
+    pub(crate) fn reads_count(&self) -> usize
         ensures value { result ≡ reads_count self.now }
         ensures bounds { (6 ≤ result) × (result ≤ 38) }
     {
         6 + self.at.len() + self.mdt.len()
     }
 
-    // How many values its AT is to carry.
-    pub fn at_count(&self) -> usize
+    /// Returns how many values its AT is to carry, at most 16.
+    pub(crate) fn at_count(&self) -> usize
         ensures value { result ≡ length self.now.at }
         ensures bound { result ≤ 16 }
     {
         self.at.len()
     }
 
-    // How many values its data record is to carry.
-    pub fn mdt_count(&self) -> usize
+    /// Returns how many values its data record is to carry, at most 16.
+    pub(crate) fn mdt_count(&self) -> usize
         ensures value { result ≡ length self.now.mdt }
         ensures bound { result ≤ 16 }
     {
         self.mdt.len()
     }
 
-    // The read of the start-up with a number.
+    /// Returns the read of the start-up at an index: the six times, then the attributes of what AT and data record are to carry.
     #[tactic(auto, using(crate::proofs::Gets::reads_at, crate::proofs::Gets::reads_mdt))]
-    pub fn read_at(&self, index: usize) -> Request
+    pub(crate) fn read_at(&self, index: usize) -> Request
         requires { index < reads_count self.now }
         ensures value { slice_get (reads self.now) index ≡ Some result }
         ensures request { IsRequest result }
@@ -98,15 +96,16 @@ impl Member {
         read(idn_at(self.mdt(), index - 6 - at_count).raw, 3)
     }
 
-    // What the AT is to carry, and the data record.
-    pub fn at(&self) -> &[Idn]
+    /// Returns what the AT is to carry.
+    pub(crate) fn at(&self) -> &[Idn]
         ensures value { result.now ≡ self.now.at }
         ensures bound { length result.now ≤ 16 }
     {
         self.at.as_slice()
     }
 
-    pub fn mdt(&self) -> &[Idn]
+    // What the data record is to carry.
+    pub(crate) fn mdt(&self) -> &[Idn]
         ensures value { result.now ≡ self.now.mdt }
         ensures bound { length result.now ≤ 16 }
     {
@@ -133,7 +132,7 @@ pub struct Numbers {
     pub cycle: u16,
 }
 
-// A read.
+/// A read.
 pub fn read(raw: u16, element: u8) -> Request
     requires { (1 ≤ element) × (element ≤ 7) }
     ensures value { result ≡ request.Read (idn raw) element }
@@ -145,7 +144,7 @@ pub fn read(raw: u16, element: u8) -> Request
     }
 }
 
-// A procedure command.
+/// A procedure command.
 pub fn command(raw: u16) -> Request
     ensures value { result ≡ request.Command (idn raw) }
     ensures request { IsRequest result }
@@ -153,7 +152,7 @@ pub fn command(raw: u16) -> Request
     Request::Command { idn: Idn { raw } }
 }
 
-// A write of operation data of one word.
+/// A write of operation data of one word.
 pub fn write_word(raw: u16, value: u16) -> Request
     ensures value { result ≡ writes_word raw value }
     ensures request { IsRequest result }
@@ -181,7 +180,7 @@ fn list_bytes(idns: &[Idn]) -> Bytes
     bytes
 }
 
-// A write of a list of identifier numbers.
+/// A write of a list of identifier numbers.
 pub fn write_list(raw: u16, idns: &[Idn]) -> Request
     requires { length idns.now ≤ 16 }
     ensures value { result ≡ writes_list raw idns.now }
@@ -194,7 +193,7 @@ pub fn write_list(raw: u16, idns: &[Idn]) -> Request
     }
 }
 
-// The number at a place, or 0 past the end.
+/// The number at a place, or 0 past the end.
 pub fn number_at(numbers: &[u16], place: usize) -> u16
     ensures { result ≡ slice_index numbers.now place }
 {

@@ -17,29 +17,32 @@ ghost use Rattle.sercos_service_master.specs.Calls.{begun_by};
 ghost use Rattle.sercos_seat.specs.Seats.{pair_of, broken_in, record_seen, record_len_kept, mdt_words_kept, IsQueue, sent_in, forgotten, after_outcome, words_of, Seen, SeatStandsFor, heard_in, identified_in, taken_in, at_in, begun_in, with_begun, is_idle_in, has_read, cycles_kept, nothing_seen, ended_in, AreWaiting, outcomes_seen, next_write, next_in_2, next_in_3, at_len_kept, IsSeat, kept_given, kept_checked, kept_ready};
 
 use crate::answers::{
-    Asked, Words, asked_by, command_values, ended_well, last_long_stop, listed_len, low_at, outcome_bytes, part, words_in,
+    Asked, Words, asked_by, command_values, ended_well, last_long_stop, listed_len, low_at,
+    outcome_bytes, part, words_in,
 };
 use crate::member::{Member, Numbers, command, number_at, read, write_list, write_word};
 use crate::queue::{Waiting, is_request};
 use arrayvec::ArrayVec;
+use sercos_bits::Content;
+use sercos_idn::Idn;
 use sercos_service_master::MasterChannel;
 use sercos_step::{Outcome, Request};
-use sercos_bits::Content;
 use sercos_telegram::{Control, Record, Status, joint_record, read_at, write_single};
 use sercos_timing::{Plan, Times, Wish};
 use sercos_trace::{Reported, Stop};
-use sercos_idn::Idn;
 use std::alloc::{AllocError, Global};
 use std::marker::Model;
 
 // The most outcomes that are counted: more than the start-up has.
 const MOST: u8 = 100;
 
-// Where the checks stand behind the reads and the eleven writes.
+// The places of the checks after the reads and the eleven writes.
 const CHECK_127: usize = 11;
 
 const CHECK_128: usize = 12;
 
+/// One drive as the master keeps it: its channel, what its answers said, what was seen of it, and the requests that wait. Contracts
+/// see the record of what it keeps.
 #[derive(Drop)]
 pub struct Seat {
     member: Member,
@@ -88,7 +91,7 @@ fn one_more(done: u8) -> u8
 }
 
 impl Seat {
-    // A seat of which nothing was seen yet.
+    /// Opens a seat of which nothing was seen yet.
     pub fn open(alloc: Global, member: Member) -> Seat
         ensures fresh { (d : MemberView) → d ≡ member → SeatStandsFor result d (nothing_seen []) }
     {
@@ -113,7 +116,7 @@ impl Seat {
         }
     }
 
-    // Keeps a request, which is to come before those that wait already.
+    /// Keeps a request, which is to come before those that wait already.
     pub fn wait(&mut self, number: u16, request: Request) -> Result<(), AllocError>
         requires { IsRequest request }
         ensures { OnOk result ((d : MemberView) (waiting : List Task) → SeatStandsFor self.old d (nothing_seen waiting) →
@@ -169,8 +172,8 @@ impl Seat {
         }
     }
 
-    // Hears a status of the drive, and the information word behind it.
-    pub fn hear(&mut self, status: &Status, info: u16)
+    // Hears a status of the drive, and the information word after it.
+    fn hear(&mut self, status: &Status, info: u16)
         ensures { (d : MemberView) (x : Seen) → SeatStandsFor self.old d x → SeatStandsFor self.new d (heard_in status.now info x) }
     {
         self.heard = true;
@@ -180,7 +183,7 @@ impl Seat {
     }
 
     // The drive's AT identifies it.
-    pub fn identify(&mut self)
+    fn identify(&mut self)
         ensures { (d : MemberView) (x : Seen) → SeatStandsFor self.old d x → SeatStandsFor self.new d (identified_in x) }
     {
         self.heard = true;
@@ -188,7 +191,7 @@ impl Seat {
     }
 
     // Takes an AT: it identifies the drive, or its status is heard.
-    pub fn take(&mut self, identifies: bool, status: &Status, info: u16)
+    fn take(&mut self, identifies: bool, status: &Status, info: u16)
         ensures { (d : MemberView) (x : Seen) → SeatStandsFor self.old d x → SeatStandsFor self.new d (taken_in identifies status.now info x) }
     {
         if identifies {
@@ -198,7 +201,8 @@ impl Seat {
         }
     }
 
-    // An AT comes with the drive's address: it is taken where it has the wanted length and is the first of the cycle.
+    /// Hears a content with the drive's address. It is taken as its AT if it has the wanted length, in bytes after the address, and
+    /// is the first one of the cycle. In phase 1 it identifies the drive, later its status is heard.
     pub fn take_at(&mut self, identifies: bool, wanted: u16, content: &[u8])
         requires { 4 ≤ wanted }
         ensures { (d : MemberView) (x : Seen) → SeatStandsFor self.old d x → SeatStandsFor self.new d (at_in identifies d.address wanted content.now x) }
@@ -212,7 +216,7 @@ impl Seat {
         }
     }
 
-    // Whether no task is at work.
+    /// Returns whether no task is at work.
     pub fn is_idle(&self) -> bool
         ensures { result ≡ is_none self.now.channel.transfer }
     {
@@ -220,7 +224,7 @@ impl Seat {
     }
 
     // Begins a task.
-    pub fn begin(&mut self, request: Request, number: Option<u16>)
+    fn begin(&mut self, request: Request, number: Option<u16>)
         requires idle { is_none self.old.channel.transfer ≡ true }
         requires request { IsRequest request }
         ensures { (d : MemberView) (x : Seen) (t : Task) (waiting : List Waiting) → t.request ≡ request → t.number ≡ number → IsQueue self.old.waiting d (begun_in t x) →
@@ -232,7 +236,7 @@ impl Seat {
         self.channel.begin(request);
     }
 
-    // The request that writes the plan, or sets the check behind it.
+    // The request at an index after the reads: a write of the plan, or the check for phase 3.
     fn next_write(
         &self,
         index: usize,
@@ -264,8 +268,8 @@ impl Seat {
         }
     }
 
-    // The next request of phase 2.
-    pub fn next_in_2(&self, place: usize, numbers: &Numbers, plan: &Option<Plan>) -> Option<Request>
+    // Returns the next request of phase 2, if there is one.
+    fn next_in_2(&self, place: usize, numbers: &Numbers, plan: &Option<Plan>) -> Option<Request>
         ensures value { (s : Known) → member s place ≡ self.now.member → s.control ≡ numbers.now.control → s.cycle ≡ numbers.now.cycle →
             result ≡ next_in_2 s plan.now place self.now.done self.now.checked }
         ensures request { IfSome result IsRequest }
@@ -282,9 +286,9 @@ impl Seat {
         self.next_write(done - reads, place, numbers, plan)
     }
 
-    // The next request of phase 3.
+    // Returns the next request of phase 3, if there is one.
     #[tactic(auto, using(crate::proofs::Agendas::kept_reads))]
-    pub fn next_in_3(&self, planned: bool) -> Option<Request>
+    fn next_in_3(&self, planned: bool) -> Option<Request>
         ensures value { result ≡ next_in_3 (reads_count self.now.member) planned self.now.done self.now.checked self.now.ready }
         ensures few { reads_count self.now.member ≤ 38 }
         ensures request { IfSome result IsRequest }
@@ -303,27 +307,28 @@ impl Seat {
         None
     }
 
-    // Whether all reads have ended.
+    /// Returns whether all reads have ended.
     pub fn has_read(&self) -> bool
         ensures { result ≡ has_read self.now }
     {
         self.member.reads_count() <= usize::from(self.done)
     }
 
-    // Whether the check for phase 3 ended well, and that for phase 4.
+    /// Returns whether the check for phase 3 ended well.
     pub fn is_checked(&self) -> bool
         ensures { result ≡ self.now.checked }
     {
         self.checked
     }
 
+    /// Returns whether the check for phase 4 ended well, after the check for phase 3.
     pub fn is_ready(&self) -> bool
         ensures { result ≡ self.now.ready }
     {
         self.ready
     }
 
-    // Begins the next task of phase 2, if no task is at work.
+    /// Begins the next task of phase 2, if no task is at work.
     pub fn begin_in_2(&mut self, place: usize, numbers: &Numbers, plan: &Option<Plan>)
         ensures { (s : Known) (x : Seen) (waiting : List Task) → member s place ≡ self.old.member → s.control ≡ numbers.now.control → s.cycle ≡ numbers.now.cycle →
             AreWaiting waiting → SeatStandsFor self.old (member s place) x → SeatStandsFor self.new (member s place)
@@ -337,7 +342,7 @@ impl Seat {
         }
     }
 
-    // Begins the next task of phase 3, if no task is at work.
+    /// Begins the next task of phase 3, if no task is at work.
     pub fn begin_in_3(&mut self, planned: bool)
         ensures { (s : Known) (k : ℕ) (x : Seen) (plan : Option PlanView) (waiting : List Task) → AreWaiting waiting → is_some plan ≡ planned →
             SeatStandsFor self.old (member s k) x → SeatStandsFor self.new (member s k)
@@ -351,7 +356,7 @@ impl Seat {
         }
     }
 
-    // Begins the next request that waits, if no task is at work and both checks have ended well.
+    /// Begins the next request that waits, if no task is at work and both checks have ended well.
     pub fn begin_in_4(&mut self, planned: bool)
         ensures { (s : Known) (k : ℕ) (x : Seen) (plan : Option PlanView) → AreWaiting x.waiting → is_some plan ≡ planned →
             SeatStandsFor self.old (member s k) x → SeatStandsFor self.new (member s k)
@@ -373,18 +378,7 @@ impl Seat {
         }
     }
 
-    // Sends the record of the channel.
-    pub fn send(&mut self) -> (Control, u16)
-        ensures stands { (d : MemberView) (x : Seen) → SeatStandsFor self.old d x → SeatStandsFor self.new d (sent_in x) }
-        ensures says { (d : MemberView) (x : Seen) → SeatStandsFor self.old d x → said_by result.0 result.1 ≡ master_says (begun_by x.calls) }
-        ensures cyclic { result.0.cyclic ≡ 0 }
-        ensures member { self.new.member ≡ self.old.member }
-        ensures given { self.new.given ≡ self.old.given }
-    {
-        self.channel.send()
-    }
-
-    // Sends an MDT to the drive alone.
+    /// Replaces the content by an MDT to the drive alone, with its record.
     pub fn send_single(&mut self, out: &mut Content)
         ensures stands { (d : MemberView) (x : Seen) → SeatStandsFor self.old d x → SeatStandsFor self.new d (sent_in x) }
         ensures bytes { (d : MemberView) (x : Seen) → SeatStandsFor self.old d x → out.new ≡ d.address ∷ record_said (master_says (begun_by x.calls)) [] }
@@ -395,7 +389,8 @@ impl Seat {
         write_single(address, &control, info, out);
     }
 
-    // Sends the record of the drive in an MDT for all.
+    /// Appends the drive's record to an MDT for all: the open step or the idle record, and the command values of the cycle. Nothing
+    /// is appended if it would pass 2048 bytes.
     pub fn send_record(&mut self, count: u32, out: &mut Content)
         ensures stands { (d : MemberView) (x : Seen) → SeatStandsFor self.old d x → SeatStandsFor self.new d (sent_in x) }
         ensures bytes { (d : MemberView) (x : Seen) → SeatStandsFor self.old d x → length out.old + length (record_seen count d x) ≤ 2048 → out.new ≡ out.old ++ record_seen count d x }
@@ -411,14 +406,14 @@ impl Seat {
         let _full = joint_record(&record, out);
     }
 
-    // Whether an outcome brings a stop.
+    /// Returns whether the newest outcome brings a stop.
     pub fn has_trouble(&self) -> bool
         ensures { result ≡ is_some self.now.trouble }
     {
         self.trouble.is_some()
     }
 
-    // Takes out the stop that it brings.
+    /// Takes out the stop that it brings.
     pub fn take_trouble(&mut self) -> Option<Stop>
         ensures value { result ≡ self.old.trouble }
         ensures rest { self.new ≡ record self.old { trouble = None } }
@@ -426,21 +421,21 @@ impl Seat {
         self.trouble.take()
     }
 
-    // Whether the drive is identified.
+    /// Returns whether the drive is identified.
     pub fn is_identified(&self) -> bool
         ensures { result ≡ self.now.identified }
     {
         self.identified
     }
 
-    // Whether no AT was taken in this cycle and the one before, in phases 3 and 4.
+    /// Returns whether no AT was taken in this cycle and the one before, in phases 3 and 4.
     pub fn is_lost(&self) -> bool
         ensures { result ≡ (self.now.missed && not self.now.heard) }
     {
         self.missed && !self.heard
     }
 
-    // How many cycles ended since the open step was first sent.
+    /// Returns how many cycles ended since the open step was first sent, at most 64.
     pub fn cycles_open(&self) -> u8
         ensures value { (h : List Call) → MasterStandsFor self.now.channel h → result ≡ cycles_open h }
         ensures kept { result ≡ cycles_kept self.now }
@@ -448,7 +443,7 @@ impl Seat {
         self.channel.cycles_open()
     }
 
-    // The cycle ends, which was one of this phase; an outcome that was to be reported is handed out.
+    /// Ends a cycle of this phase. Returns the request that ended in it, if one did.
     pub fn end_cycle(&mut self, phase: u8) -> Option<Reported>
         ensures stands { (d : MemberView) (x : Seen) → SeatStandsFor self.old d x → SeatStandsFor self.new d (ended_in phase x) }
         ensures report { result ≡ self.old.report }
@@ -459,7 +454,7 @@ impl Seat {
         self.report.take()
     }
 
-    // An epoch begins. The task at work is broken; if it is a request, that is handed out.
+    /// Begins an epoch: nothing was seen of the drive. Returns the request at work as broken, if there is one.
     pub fn reset(&mut self) -> Option<Reported>
         ensures fresh { (d : MemberView) (x : Seen) → SeatStandsFor self.old d x → SeatStandsFor self.new d (forgotten x) }
         ensures broken { (d : MemberView) (x : Seen) → SeatStandsFor self.old d x → result ≡ option_map pair_of (broken_in x) }
@@ -481,20 +476,14 @@ impl Seat {
         }
     }
 
+    /// Returns the drive.
     pub fn member(&self) -> &Member
         ensures { result.now ≡ self.now.member }
     {
         &self.member
     }
 
-    // Whether an AT of this cycle was taken.
-    pub fn is_heard(&self) -> bool
-        ensures { result ≡ self.now.heard }
-    {
-        self.heard
-    }
-
-    // What its drive asks of the plan, by the answers to the reads.
+    /// Returns what the drive asks of the plan, by its answers to the reads. A time that wasn't read is 0.
     pub fn wish(&self) -> Wish
         ensures { (d : MemberView) (x : Seen) → SeatStandsFor self.now d x → result ≡ wish_given d (outcomes_seen x) }
     {
@@ -527,22 +516,22 @@ impl Seat {
         )
     }
 
-    // How many bytes its record has.
-    pub fn record_len(&self) -> u16
+    // Returns how many bytes its record has, 4 to 68.
+    fn record_len(&self) -> u16
         ensures value { result ≡ record_len_kept self.now }
         ensures bounds { (4 ≤ result) × (result ≤ 68) }
     {
         listed_len(self.mdt_words())
     }
 
-    // The last of what its record is to carry that was read as four bytes.
+    /// Returns the stop for the last number of its record that was read as one of four bytes, if there is one.
     pub fn last_long(&self) -> Option<Stop>
         ensures { (d : MemberView) (x : Seen) → SeatStandsFor self.now d x → result ≡ long_stop d.address (last_long d.mdt (mdt_attributes d (outcomes_seen x))) }
     {
         last_long_stop(self.member.address(), self.member.mdt(), self.mdt_words())
     }
 
-    // How many bytes its AT has behind the address in phases 3 and 4.
+    /// Returns how many bytes its AT has after the address in phases 3 and 4, 4 to 68.
     pub fn at_len(&self) -> u16
         ensures value { result ≡ at_len_kept self.now }
         ensures bounds { (4 ≤ result) × (result ≤ 68) }

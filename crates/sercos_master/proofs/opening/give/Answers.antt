@@ -1,5 +1,5 @@
-use Rattle.std.proofs.Common.{◌≡◌, ◌<◌, ◌∙◌, ap, sym, length}
-use Rattle.std.specs.Prelude.{Some, None, ◌==◌}
+use Rattle.std.proofs.Common.{◌<◌, ◌∙◌, ap, sym, length}
+use Rattle.std.specs.Prelude.{◌==◌}
 use Rattle.std.specs.List.{position}
 use Rattle.sercos_seat.specs.Ring.{member}
 use Rattle.sercos_seat.specs.Seats.{SeatView, SeatStandsFor, nothing_seen}

@@ -1,7 +1,7 @@
-use Rattle.std.proofs.Common.{◌≡◌, ℕ, Option, List, length, if◌then◌else◌}
+use Rattle.std.proofs.Common.{◌≡◌, ℕ, Option, length, if◌then◌else◌}
 use Rattle.std.specs.Prelude.{nat_lt, is_some}
 use Rattle.sercos_timing.specs.Views.{PlanView}
-use Rattle.sercos_seat.specs.Ring.{Known, Task}
+use Rattle.sercos_seat.specs.Ring.{Known}
 use Rattle.sercos_seat.specs.Seats.{Seen, AreWaiting, with_begun, begun_task}
 use Rattle.sercos_master.specs.Kept.{SeatsStandFor}
 use Rattle.sercos_master.proofs.ring.begin_requests.Given as goal

@@ -1,8 +1,6 @@
-use Rattle.std.proofs.Common.{rules, ◌≡◌, ◌<◌, ◌≤◌, ◌-◌, ◌+◌, ℕ, Bool, true, false, List, length, sym, refl, ◌∙◌, ap, arith}
-use Rattle.std.specs.Prelude.{drop, Option, None, is_some, slice_index_or}
-use Rattle.sercos_trace.specs.declared.events.Stop.{Stop}
+use Rattle.std.proofs.Common.{rules, ◌≡◌, ◌<◌, ◌≤◌, ◌-◌, ◌+◌, ℕ, true, false, length, sym, ◌∙◌, arith}
+use Rattle.std.specs.Prelude.{is_some}
 use Rattle.sercos_seat.specs.Ring.{member}
-use Rattle.sercos_seat.specs.Agenda.{long_stop, last_long, mdt_attributes, last_long_stop}
 use Rattle.sercos_seat.specs.Seats.{SeatStandsFor, outcomes_seen}
 use Rattle.sercos_master.proofs.Wishes.{stop_more, stop_none, stop_there, none_is, some_is}
 use Rattle.sercos_master.proofs.ring.last_long_stop.Goals as goal
@@ -20,13 +18,15 @@ returns-then-is_some c = λ s seen count all.
     some_is c.last_long-stop.result known (λ x e. e ∙ sym (stop_there s (λ k. outcomes_seen (seen k)) (length c.args.seats.now - 1 - c.loop-i.i) (length c.args.seats.now - c.loop-i.i) x (omega (arith, below, count)) (omega (arith, below)) (sym is ∙ e) (c.loop-i.invariant.none s seen count all)))
 
 pub loop-i-preserved : goal.loop-i-preserved
-loop-i-preserved c = record { none = λ s seen count all.
-    let below : c.loop-i.i < length c.args.seats.now = search rules in
-    let here : SeatStandsFor c.index-seats-count.result (member s (length c.args.seats.now - 1 - c.loop-i.i)) (seen (length c.args.seats.now - 1 - c.loop-i.i)) = rw c.index-seats-count.is (all (length c.args.seats.now - 1 - c.loop-i.i) c.index-seats-count.result (omega (arith, below))) in
-    let is = c.last_long-stop.ensures (member s (length c.args.seats.now - 1 - c.loop-i.i)) (seen (length c.args.seats.now - 1 - c.loop-i.i)) here in
-    let known : is_some c.last_long-stop.result ≡ false = search rules in
-    let same : length c.args.seats.now - (c.loop-i.i + 1) ≡ length c.args.seats.now - 1 - c.loop-i.i = omega arith in
-    rw same (stop_more s (λ k. outcomes_seen (seen k)) (length c.args.seats.now - 1 - c.loop-i.i) (length c.args.seats.now - c.loop-i.i) (omega (arith, below, count)) (omega (arith, below)) (sym is ∙ none_is c.last_long-stop.result known) (c.loop-i.invariant.none s seen count all)) }
+loop-i-preserved c = record {
+  none = λ s seen count all.
+      let below : c.loop-i.i < length c.args.seats.now = search rules in
+      let here : SeatStandsFor c.index-seats-count.result (member s (length c.args.seats.now - 1 - c.loop-i.i)) (seen (length c.args.seats.now - 1 - c.loop-i.i)) = rw c.index-seats-count.is (all (length c.args.seats.now - 1 - c.loop-i.i) c.index-seats-count.result (omega (arith, below))) in
+      let is = c.last_long-stop.ensures (member s (length c.args.seats.now - 1 - c.loop-i.i)) (seen (length c.args.seats.now - 1 - c.loop-i.i)) here in
+      let known : is_some c.last_long-stop.result ≡ false = search rules in
+      let same : length c.args.seats.now - (c.loop-i.i + 1) ≡ length c.args.seats.now - 1 - c.loop-i.i = omega arith in
+      rw same (stop_more s (λ k. outcomes_seen (seen k)) (length c.args.seats.now - 1 - c.loop-i.i) (length c.args.seats.now - c.loop-i.i) (omega (arith, below, count)) (omega (arith, below)) (sym is ∙ none_is c.last_long-stop.result known) (c.loop-i.invariant.none s seen count all));
+}
 
 pub returns : goal.returns
 returns c = λ s seen count all.

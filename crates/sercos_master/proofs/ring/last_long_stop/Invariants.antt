@@ -1,4 +1,4 @@
-use Rattle.std.proofs.Common.{◌≡◌, ◌≤◌, ℕ, List, length, Option, None}
+use Rattle.std.proofs.Common.{◌≡◌, ℕ, length, None}
 use Rattle.std.specs.Prelude.{◌-◌, drop}
 use Rattle.sercos_seat.specs.Ring.{Known}
 use Rattle.sercos_seat.specs.Agenda.{last_long_stop}

@@ -1,8 +1,7 @@
-use Rattle.std.proofs.Common.{rules, ◌≡◌, ◌<◌, ◌≤◌, ◌+◌, ◌++◌, ◌∷◌, ◌==◌, ℕ, Bool, true, false, List, [], length, refl, sym, ◌∙◌, arith, ap, subst}
+use Rattle.std.proofs.Common.{rules, ◌<◌, ◌≤◌, length, refl, sym, ◌∙◌}
 use Rattle.std.proofs.Math.ListN.{length-set}
 use Rattle.sercos_seat.specs.Ring.{member}
-use Rattle.sercos_seat.specs.Seats.{Seen, SeatStandsFor, sent_in, record_seen}
-use Rattle.sercos_master.specs.Kept.{records_upto}
+use Rattle.sercos_seat.specs.Seats.{SeatStandsFor, sent_in}
 use Rattle.sercos_master.proofs.Rings.{one_changed, all_changed, none_changed}
 use Rattle.sercos_master.proofs.Sent.{fits_next, out_next, not_yet_sent, upto_end}
 use Rattle.sercos_master.proofs.ring.send_records.Goals as goal

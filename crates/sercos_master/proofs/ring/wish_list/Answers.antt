@@ -1,7 +1,6 @@
-use Rattle.std.proofs.Common.{rules, ◌≡◌, ◌<◌, ◌≤◌, ◌+◌, ℕ, Bool, true, false, List, length, sym, refl, ◌∙◌, ap, arith}
-use Rattle.std.specs.Prelude.{min}
+use Rattle.std.proofs.Common.{rules, ◌<◌, ◌≤◌, length, arith}
 use Rattle.sercos_seat.specs.Ring.{member}
-use Rattle.sercos_seat.specs.Seats.{SeatStandsFor, outcomes_seen}
+use Rattle.sercos_seat.specs.Seats.{SeatStandsFor}
 use Rattle.sercos_master.proofs.Wishes.{list_more, list_whole, push_room, push_count}
 use Rattle.sercos_master.proofs.ring.wish_list.Goals as goal
 

@@ -1,4 +1,4 @@
-use Rattle.std.proofs.Common.{◌≡◌, ◌≤◌, ℕ, List, length}
+use Rattle.std.proofs.Common.{◌≡◌, ◌≤◌, ℕ, length}
 use Rattle.std.specs.Prelude.{min, take}
 use Rattle.sercos_seat.specs.Ring.{Known}
 use Rattle.sercos_seat.specs.Agenda.{wishes_from}

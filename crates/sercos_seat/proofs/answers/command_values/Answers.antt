@@ -1,7 +1,6 @@
-use Rattle.std.proofs.Common.{rules, ◌≡◌, ◌<◌, ◌≤◌, ◌+◌, ◌++◌, ℕ, List, length, sym, refl, ◌∙◌, ap, arith}
-use Rattle.std.specs.Prelude.{slice_index_or}
+use Rattle.std.proofs.Common.{rules, ◌≡◌, ◌<◌, ◌≤◌, ◌++◌, length, sym, ◌∙◌, ap, arith}
 use Rattle.sercos_seat.specs.Records.{value_said}
-use Rattle.sercos_seat.specs.Seats.{len_of_words, no_words}
+use Rattle.sercos_seat.specs.Seats.{no_words}
 use Rattle.sercos_seat.proofs.Sends.{values_more, values_whole, longer}
 use Rattle.sercos_seat.proofs.answers.command_values.Goals as goal
 

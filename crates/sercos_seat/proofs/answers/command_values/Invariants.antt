@@ -1,4 +1,4 @@
-use Rattle.std.proofs.Common.{◌≡◌, ◌≤◌, ◌*◌, ℕ, List, length}
+use Rattle.std.proofs.Common.{◌≡◌, ◌≤◌, ◌*◌, length}
 use Rattle.std.specs.Prelude.{map, take}
 use Rattle.sercos_seat.specs.Records.{values_said}
 use Rattle.sercos_seat.specs.Seats.{long_of}

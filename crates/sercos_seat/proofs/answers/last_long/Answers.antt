@@ -1,6 +1,5 @@
-use Rattle.std.proofs.Common.{rules, ◌≡◌, ◌<◌, ◌==◌, ℕ, Bool, true, false, List, length, sym, refl, ◌∙◌, ap}
-use Rattle.std.specs.Prelude.{◌-◌, min}
-use Rattle.sercos_seat.specs.declared.answers.Words.{Words}
+use Rattle.std.proofs.Common.{rules, ◌≡◌, ◌<◌, ◌==◌, true, false, length, sym, ◌∙◌, ap}
+use Rattle.std.specs.Prelude.{min}
 use Rattle.sercos_seat.specs.Seats.{no_words}
 use Rattle.sercos_seat.proofs.Lengths.{long_init, long_preserved, long_found}
 use Rattle.sercos_seat.proofs.answers.last_long.Goals as goal

@@ -1,4 +1,4 @@
-use Rattle.std.proofs.Common.{◌≡◌, ℕ, List, Option, None}
+use Rattle.std.proofs.Common.{◌≡◌, None}
 use Rattle.std.specs.Prelude.{◌-◌, map, drop}
 use Rattle.sercos_seat.specs.Agenda.{last_long}
 use Rattle.sercos_seat.specs.Seats.{long_of}

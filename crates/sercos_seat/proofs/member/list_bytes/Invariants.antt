@@ -1,4 +1,4 @@
-use Rattle.std.proofs.Common.{◌≡◌, ◌+◌, ◌*◌, ◌≤◌, ◌++◌, length, map, drop}
+use Rattle.std.proofs.Common.{◌≡◌, ◌*◌, ◌++◌, length, map, drop}
 use Rattle.sercos_step.specs.Words.{bytes_in}
 use Rattle.sercos_seat.proofs.member.list_bytes.Given as goal
 

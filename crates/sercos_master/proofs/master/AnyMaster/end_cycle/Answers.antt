@@ -1,10 +1,9 @@
-use Rattle.std.proofs.Common.{◌≡◌, ◌≤◌, ◌∷◌, ◌+◌, ℕ, List, length, sym, ◌∙◌, ap, subst}
+use Rattle.std.proofs.Common.{◌≤◌, ◌∷◌, sym, ◌∙◌, ap, subst}
 use Rattle.std.specs.Option.{option_or}
-use Rattle.sercos_step.specs.declared.request.Outcome.{Outcome}
 use Rattle.sercos_trace.specs.contracts.events.Events.{the_view}
 use Rattle.sercos_seat.specs.Ring.{tasks_for}
-use Rattle.sercos_master.specs.Annals.{Past, past, End, fall_of}
-use Rattle.sercos_master.specs.Reports.{AreOpen, plan_told, stop_told, outcomes_told}
+use Rattle.sercos_master.specs.Annals.{past, End}
+use Rattle.sercos_master.specs.Reports.{AreOpen}
 use Rattle.sercos_master.specs.Kept.{CoreStandsFor}
 use Rattle.sercos_master.proofs.Told.{has_room, told_all}
 use Rattle.sercos_master.proofs.master.AnyMaster.end_cycle.Goals as goal

@@ -1,4 +1,4 @@
-use Rattle.std.proofs.Common.{◌≡◌, ◌≤◌, ◌∷◌, ℕ, ◌∙◌, subst, arith}
+use Rattle.std.proofs.Common.{◌≤◌, ◌∙◌, subst, arith}
 use Rattle.sercos_seat.specs.Ring.{tasks_for}
 use Rattle.sercos_master.specs.Annals.{past}
 use Rattle.sercos_master.specs.Any.{AnyStandsFor}

@@ -1,4 +1,4 @@
-use Rattle.std.proofs.Common.{◌≡◌, ◌≤◌, ◌+◌, ◌∷◌, ℕ, length, arith}
+use Rattle.std.proofs.Common.{◌≤◌, ◌∷◌, length, arith}
 use Rattle.sercos_seat.specs.Ring.{tasks_for}
 use Rattle.sercos_master.specs.Annals.{Past, past, Restart}
 use Rattle.sercos_master.proofs.master.AnyMaster.restart.Goals as goal

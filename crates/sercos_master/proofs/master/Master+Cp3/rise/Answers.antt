@@ -1,4 +1,4 @@
-use Rattle.std.proofs.Common.{◌≡◌, sym, ◌∙◌, ap}
+use Rattle.std.proofs.Common.{sym, ◌∙◌, ap}
 use Rattle.sercos_master.specs.Annals.{is_done_in}
 use Rattle.sercos_master.specs.Kept.{CoreStandsFor}
 use Rattle.sercos_master.proofs.master.Master+Cp3.rise.Goals as goal

@@ -1,9 +1,7 @@
-use Rattle.std.proofs.Common.{rules, ◌≡◌, ◌<◌, ℕ, Bool, true, false, sym, ◌∙◌, ap, List, ◌∷◌, length}
-use Rattle.std.specs.Prelude.{Option, Some, None, not, ◌&&◌}
+use Rattle.std.proofs.Common.{rules, ◌≡◌, false, sym, ◌∙◌, ap}
+use Rattle.std.specs.Prelude.{Some, None, not, ◌&&◌}
 use Rattle.std.specs.List.{position}
 use Rattle.sercos_trace.specs.declared.events.Fall.TheVariants as fall
-use Rattle.sercos_seat.specs.Ring.{member}
-use Rattle.sercos_master.specs.Annals.{has_lost_mst, has_lost_at, first_place, is_at_limit}
 use Rattle.sercos_master.specs.Kept.{CoreStandsFor}
 use Rattle.sercos_master.specs.contracts.ring.Ring.{the_view}
 use Rattle.sercos_master.proofs.Rings.{lost, fall_2, fall_3, no_fall}

@@ -1,5 +1,5 @@
-use Rattle.std.proofs.Common.{rules, ◌≡◌, ℕ, Bool, false, sym, ◌∙◌, ap, List}
-use Rattle.std.specs.Prelude.{Option, ◌==◌, nat_le}
+use Rattle.std.proofs.Common.{rules, ◌≡◌, false, sym, ◌∙◌, ap}
+use Rattle.std.specs.Prelude.{◌==◌, nat_le}
 use Rattle.std.specs.List.{position}
 use Rattle.sercos_master.specs.Kept.{CoreStandsFor}
 use Rattle.sercos_seat.specs.Seats.{cycles_kept}

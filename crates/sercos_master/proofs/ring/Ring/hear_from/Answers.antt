@@ -1,8 +1,8 @@
-use Rattle.std.proofs.Common.{rules, ◌≡◌, ◌<◌, ℕ, Bool, true, sym, ◌∙◌, ap, subst, List}
-use Rattle.std.specs.Prelude.{length, ◌==◌, slice_index_or}
+use Rattle.std.proofs.Common.{rules, ◌≡◌, ◌<◌, true, sym, ◌∙◌, ap, subst}
+use Rattle.std.specs.Prelude.{length, ◌==◌}
 use Rattle.sercos_seat.specs.Ring.{member}
 use Rattle.sercos_master.specs.Annals.{is_awaited, wanted_len}
-use Rattle.sercos_seat.specs.Seats.{SeatView, SeatStandsFor, at_in}
+use Rattle.sercos_seat.specs.Seats.{SeatStandsFor, at_in}
 use Rattle.sercos_master.specs.Kept.{CoreStandsFor, seen_at}
 use Rattle.sercos_master.specs.contracts.ring.Ring.{the_view}
 use Rattle.sercos_master.proofs.Places.{hears_from, wanted_same, awaited_same}

@@ -1,10 +1,9 @@
-use Rattle.std.proofs.Common.{rules, ◌≡◌, ◌<◌, ◌≤◌, ◌+◌, ◌++◌, ◌∷◌, ◌==◌, ℕ, Bool, true, false, List, [], length, refl, sym, ◌∙◌, arith, ap, subst}
-use Rattle.std.specs.Prelude.{Option, Some, None, not, is_none, option_map, IfSome}
+use Rattle.std.proofs.Common.{rules, ◌≡◌, ◌<◌, length, refl, sym, ◌∙◌}
+use Rattle.std.specs.Prelude.{Some, None, not}
 use Rattle.std.specs.List.{position}
 use Rattle.sercos_seat.specs.Ring.{member}
 use Rattle.sercos_master.specs.Kept.{sent_now, CoreStandsFor, seen_at}
 use Rattle.sercos_seat.specs.Seats.{SeatStandsFor}
-use Rattle.sercos_telegram.specs.Spells.{fields}
 use Rattle.sercos_master.specs.contracts.ring.Ring.{the_view}
 use Rattle.sercos_master.proofs.Sent.{sent_1, said_none_1, said_one_1, start_none, content_none}
 use Rattle.sercos_master.proofs.ring.Ring.identify.Goals as goal

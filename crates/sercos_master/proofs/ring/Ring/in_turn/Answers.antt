@@ -1,5 +1,5 @@
-use Rattle.std.proofs.Common.{rules, ◌≡◌, ℕ, sym, ◌∙◌}
-use Rattle.std.specs.Prelude.{Option, Some, None, not}
+use Rattle.std.proofs.Common.{◌≡◌, sym, ◌∙◌}
+use Rattle.std.specs.Prelude.{Some, None, not}
 use Rattle.std.specs.List.{position}
 use Rattle.sercos_master.specs.Kept.{CoreStandsFor}
 use Rattle.sercos_seat.specs.Seats.{has_read}

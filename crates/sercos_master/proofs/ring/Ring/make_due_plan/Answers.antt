@@ -1,7 +1,6 @@
-use Rattle.std.proofs.Common.{rules, ◌≡◌, ◌==◌, ℕ, Bool, true, false, List, length, sym, refl, ◌∙◌, ap, subst}
-use Rattle.std.specs.Prelude.{Option, not, is_some, is_none}
+use Rattle.std.proofs.Common.{rules, ◌≡◌, ◌==◌, true, false, sym, ◌∙◌, ap, subst}
+use Rattle.std.specs.Prelude.{not, is_some}
 use Rattle.std.specs.List.{position}
-use Rattle.sercos_master.specs.Annals.{with_due_plan}
 use Rattle.sercos_master.specs.Kept.{CoreStandsFor}
 use Rattle.sercos_seat.specs.Seats.{has_read}
 use Rattle.sercos_master.specs.contracts.ring.Ring.{the_view}

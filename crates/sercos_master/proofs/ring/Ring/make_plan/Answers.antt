@@ -1,15 +1,14 @@
-use Rattle.std.proofs.Common.{rules, ◌≡◌, ◌≤◌, ℕ, Bool, true, false, List, length, sym, refl, ◌∙◌, ap, subst}
+use Rattle.std.proofs.Common.{◌≡◌, false, sym, ◌∙◌, ap, subst}
 use Rattle.std.proofs.lemmas.Bool.{false≢true}
 use Rattle.std.specs.Prelude.{nat_le}
-use Rattle.sercos_timing.specs.Views.{WishesView}
 use Rattle.sercos_timing.specs.Order.{record_bytes}
 use Rattle.sercos_timing.specs.Valid.{IsValid}
 use Rattle.sercos_plan.specs.ChainOf.{planned}
 use Rattle.sercos_seat.specs.Agenda.{wishes_given}
-use Rattle.sercos_master.specs.Annals.{outcomes, with_plan, with_stop}
+use Rattle.sercos_master.specs.Annals.{outcomes}
 use Rattle.sercos_master.specs.Kept.{CoreStandsFor, seen_at}
 use Rattle.sercos_master.specs.contracts.ring.Ring.{the_view}
-use Rattle.sercos_master.proofs.Wishes.{fits_mdt, is_valid, not_fitting}
+use Rattle.sercos_master.proofs.Wishes.{fits_mdt, not_fitting}
 use Rattle.sercos_master.proofs.Rings.{planned_well, planned_badly}
 use Rattle.sercos_master.proofs.ring.Ring.make_plan.Goals as goal
 

@@ -1,9 +1,8 @@
-use Rattle.std.proofs.Common.{rules, ◌≡◌, ◌≤◌, ℕ, List, refl, sym, ◌∙◌, ap, subst}
-use Rattle.sercos_master.specs.Annals.{Past, after_mdt, begun, settled}
+use Rattle.std.proofs.Common.{◌≤◌, ℕ, sym, subst}
+use Rattle.sercos_master.specs.Annals.{after_mdt, begun, settled}
 use Rattle.sercos_master.specs.Says.{mdt_said}
 use Rattle.sercos_master.proofs.Planned.{sent_planned}
 use Rattle.sercos_master.proofs.Sent.{fits_planned, said_both}
-use Rattle.sercos_master.specs.Kept.{CoreStandsFor}
 use Rattle.sercos_seat.specs.Seats.{AreWaiting}
 use Rattle.sercos_master.proofs.Laws.{waiting_settled}
 use Rattle.sercos_master.proofs.Configured.{leaves}

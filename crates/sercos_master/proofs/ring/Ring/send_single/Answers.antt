@@ -1,5 +1,5 @@
-use Rattle.std.proofs.Common.{rules, ◌≡◌, ◌<◌, ◌≤◌, ◌+◌, ◌++◌, ◌∷◌, ◌==◌, ℕ, Bool, true, false, List, [], length, refl, sym, ◌∙◌, arith, ap, subst}
-use Rattle.std.specs.Prelude.{Option, Some, None, not, is_none, option_map, IfSome}
+use Rattle.std.proofs.Common.{rules, ◌≡◌, ◌<◌, length, refl, sym, ◌∙◌}
+use Rattle.std.specs.Prelude.{Some, None, not, is_none}
 use Rattle.std.specs.List.{position}
 use Rattle.sercos_seat.specs.Ring.{member}
 use Rattle.sercos_master.specs.Kept.{sent_now, CoreStandsFor, seen_at}

@@ -1,5 +1,4 @@
-use Rattle.std.proofs.Common.{rules, ◌≡◌, ◌≤◌, ℕ, List, length, sym, refl, ◌∙◌, ap}
-use Rattle.sercos_timing.specs.declared.wishes.Wish.{Wish}
+use Rattle.std.proofs.Common.{◌≡◌, refl, ◌∙◌}
 use Rattle.sercos_seat.specs.Agenda.{wishes_from}
 use Rattle.sercos_master.specs.Annals.{outcomes}
 use Rattle.sercos_master.specs.Kept.{CoreStandsFor, seen_at}

@@ -1,10 +1,8 @@
-use Rattle.std.proofs.Common.{rules, ◌≡◌, ◌≤◌, ℕ, Bool, true, List, length, sym, refl, ◌∙◌, ap, if◌then◌else◌}
-use Rattle.std.specs.Prelude.{Option, Some, None, slice_get, option_map}
-use Rattle.sercos_step.specs.declared.request.Request.{Request}
-use Rattle.sercos_seat.specs.Ring.{Known, Task, member, startup}
-use Rattle.sercos_seat.specs.Agenda.{agenda, reads_count}
-use Rattle.sercos_seat.specs.Channel.{of_phase}
-use Rattle.sercos_seat.specs.Seats.{Seen, SeatView, SeatStandsFor, is_idle_in, outcomes_seen, AreWaiting, with_begun, begun_in}
+use Rattle.std.proofs.Common.{rules, ◌≡◌, ◌≤◌, true, sym, refl, ◌∙◌, ap}
+use Rattle.std.specs.Prelude.{option_map}
+use Rattle.sercos_seat.specs.Ring.{member, startup}
+use Rattle.sercos_seat.specs.Agenda.{reads_count}
+use Rattle.sercos_seat.specs.Seats.{is_idle_in}
 use Rattle.sercos_seat.proofs.Seats.{idle_same}
 use Rattle.sercos_seat.proofs.Queues.{queue_startup, unready_2}
 use Rattle.sercos_seat.proofs.Agendas.{begins_2}

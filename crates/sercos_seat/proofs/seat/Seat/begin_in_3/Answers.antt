@@ -1,9 +1,8 @@
-use Rattle.std.proofs.Common.{rules, ◌≡◌, ◌≤◌, ℕ, Bool, true, List, length, sym, refl, ◌∙◌, ap, if◌then◌else◌}
-use Rattle.std.specs.Prelude.{Option, Some, None, is_some, slice_get, option_map}
-use Rattle.sercos_step.specs.declared.request.Request.{Request}
+use Rattle.std.proofs.Common.{rules, ◌≡◌, true, sym, refl, ◌∙◌, ap}
+use Rattle.std.specs.Prelude.{is_some, option_map}
 use Rattle.sercos_seat.specs.Ring.{member, startup}
 use Rattle.sercos_seat.specs.Agenda.{reads_count}
-use Rattle.sercos_seat.specs.Seats.{Seen, SeatView, SeatStandsFor, is_idle_in, next_in_3}
+use Rattle.sercos_seat.specs.Seats.{is_idle_in, next_in_3}
 use Rattle.sercos_seat.proofs.Seats.{idle_same}
 use Rattle.sercos_seat.proofs.Queues.{queue_startup, unready_3}
 use Rattle.sercos_seat.proofs.Agendas.{begins_3}

@@ -1,10 +1,9 @@
-use Rattle.std.proofs.Common.{rules, ◌≡◌, ◌≤◌, ℕ, Bool, true, false, List, [], ◌∷◌, ◌++◌, length, sym, refl, ◌∙◌, ap, if◌then◌else◌}
+use Rattle.std.proofs.Common.{rules, ◌≡◌, true, [], ◌∷◌, ◌++◌, sym, refl, ◌∙◌}
 use Rattle.std.proofs.lemmas.Bool.{false≢true}
-use Rattle.std.specs.Prelude.{Option, Some, None, is_some, is_none}
 use Rattle.sercos_seat.specs.declared.queue.Waiting.{Waiting}
 use Rattle.sercos_seat.specs.Ring.{member}
 use Rattle.sercos_seat.specs.Agenda.{is_ready}
-use Rattle.sercos_seat.specs.Seats.{Seen, SeatView, SeatStandsFor, is_idle_in, outcomes_seen, waiting_task}
+use Rattle.sercos_seat.specs.Seats.{SeatStandsFor, is_idle_in, outcomes_seen, waiting_task}
 use Rattle.sercos_seat.specs.contracts.seat.Seat.{the_view}
 use Rattle.sercos_seat.proofs.Seats.{idle_same}
 use Rattle.sercos_seat.proofs.Queues.{queue_next, with_next_4, with_none_4, unplanned_4, not_ready_4}

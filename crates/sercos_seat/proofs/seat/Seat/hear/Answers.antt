@@ -1,15 +1,14 @@
-use Rattle.std.proofs.Common.{rules, ◌≡◌, ◌≤◌, ◌∷◌, ℕ, Bool, true, false, refl, sym, ◌∙◌, subst, ap}
-use Rattle.std.proofs.lemmas.Bool.{false≢true}
+use Rattle.std.proofs.Common.{◌≡◌, ◌≤◌, ◌∷◌, Bool, true, false, refl, sym, ◌∙◌}
 use Rattle.std.specs.Prelude.{is_none, is_some, ◌||◌}
 use Rattle.sercos_service_master.specs.Calls.{Hear}
 use Rattle.sercos_seat.specs.Seats.{IsQueue, Seen, heard_in, is_idle_in}
 use Rattle.sercos_seat.proofs.Seats.{idle_same, idle_of}
 use Rattle.sercos_seat.proofs.Channels.{Heard, heard, none≢some}
 use Rattle.sercos_seat.proofs.Queues.{queue_more, queue_same}
-use Rattle.std.specs.Prelude.{Option, Some, None}
+use Rattle.std.specs.Prelude.{Some, None}
 use Rattle.sercos_service_master.specs.Calls.{outcome_at}
 use Rattle.sercos_seat.specs.Agenda.{reads_count}
-use Rattle.sercos_seat.specs.Seats.{SeatStandsFor, SeatView}
+use Rattle.sercos_seat.specs.Seats.{SeatStandsFor}
 use Rattle.sercos_seat.proofs.Seats.{hears_outcome, hears_none}
 use Rattle.sercos_seat.specs.contracts.seat.Seat.{the_view}
 use Rattle.sercos_seat.proofs.seat.Seat.hear.Goals as goal

@@ -1,7 +1,5 @@
-use Rattle.std.proofs.Common.{rules, ◌≡◌, ℕ, List, sym, refl, ◌∙◌, ap}
-use Rattle.std.specs.Prelude.{map}
-use Rattle.sercos_seat.specs.Agenda.{last_long, long_stop}
-use Rattle.sercos_seat.specs.Seats.{long_of, SeatStandsFor, outcomes_seen}
+use Rattle.std.proofs.Common.{refl}
+use Rattle.sercos_seat.specs.Seats.{SeatStandsFor}
 use Rattle.sercos_seat.specs.contracts.seat.Seat.{the_view}
 use Rattle.sercos_seat.proofs.Lengths.{attributes_same}
 use Rattle.sercos_seat.proofs.seat.Seat.last_long.Goals as goal

@@ -1,10 +1,9 @@
-use Rattle.std.proofs.Common.{rules, ◌≡◌, ◌<◌, ◌≤◌, ◌+◌, ◌++◌, ℕ, List, length, sym, refl, ◌∙◌, ap, arith}
-use Rattle.std.specs.Prelude.{IsErr}
-use Rattle.sercos_service_master.specs.Begun.{Said, said_by, master_says}
+use Rattle.std.proofs.Common.{◌≡◌, length, refl, ◌∙◌, ap, arith}
+use Rattle.sercos_service_master.specs.Begun.{said_by, master_says}
 use Rattle.sercos_service_master.specs.Calls.{begun_by}
 use Rattle.sercos_seat.specs.Agenda.{mdt_attributes}
-use Rattle.sercos_seat.specs.Records.{record_said, values_said}
-use Rattle.sercos_seat.specs.Seats.{SeatStandsFor, outcomes_seen, record_seen}
+use Rattle.sercos_seat.specs.Records.{values_said}
+use Rattle.sercos_seat.specs.Seats.{SeatStandsFor, outcomes_seen}
 use Rattle.sercos_seat.specs.contracts.seat.Seat.{the_view}
 use Rattle.sercos_seat.proofs.Lengths.{attributes_same}
 use Rattle.sercos_seat.proofs.Sends.{same_record, record_length, when_ok}

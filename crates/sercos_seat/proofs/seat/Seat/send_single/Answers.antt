@@ -1,5 +1,5 @@
-use Rattle.std.proofs.Common.{rules, ◌≡◌, ◌∷◌, ◌++◌, ℕ, List, [], length, sym, refl, ◌∙◌, ap}
-use Rattle.sercos_service_master.specs.Begun.{Said, said_by, master_says}
+use Rattle.std.proofs.Common.{◌≡◌, [], refl, ◌∙◌}
+use Rattle.sercos_service_master.specs.Begun.{said_by, master_says}
 use Rattle.sercos_service_master.specs.Calls.{begun_by}
 use Rattle.sercos_seat.specs.Seats.{SeatStandsFor}
 use Rattle.sercos_seat.specs.contracts.seat.Seat.{the_view}

@@ -1,6 +1,6 @@
-use Rattle.std.proofs.Common.{◌≡◌, ◌++◌, ◌∷◌, [], List, subst, sym}
+use Rattle.std.proofs.Common.{◌++◌, ◌∷◌, [], subst, sym}
 use Rattle.sercos_seat.specs.declared.queue.Waiting.{Waiting}
-use Rattle.sercos_seat.specs.Ring.{Task, request_task}
+use Rattle.sercos_seat.specs.Ring.{request_task}
 use Rattle.sercos_seat.specs.Seats.{SeatStandsFor, nothing_seen}
 use Rattle.sercos_seat.specs.contracts.seat.Seat.{the_view}
 use Rattle.sercos_seat.proofs.Queues.{waits}

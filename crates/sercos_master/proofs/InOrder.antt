@@ -1,0 +1,267 @@
+-- A request that begins is the first one that still waits.
+use Rattle.std.proofs.Common.{◌≡◌, ℕ, zero, suc, ◌+◌, ◌<◌, ◌≤◌, Bool, true, false, List, [], ◌∷◌, ◌++◌, length, refl, sym, ap, ◌∙◌, subst, arith, if◌then◌else◌, length-append}
+use Rattle.std.specs.Prelude.{◌==◌, ◌&&◌, nat_lt, Option, Some, None, is_some, is_none, map, drop, slice_get, option_map, unwrap_or}
+use Rattle.std.proofs.lemmas.Bool.{false≢true}
+use Rattle.std.proofs.lemmas.Bool.Decides.{nat_tests}
+use Rattle.std.proofs.lemmas.List.{drop-drop}
+use Rattle.sercos_step.specs.declared.request.Job.{Job}
+use Rattle.sercos_step.specs.declared.request.Request.{Request}
+use Rattle.sercos_step.specs.declared.request.Request.TheVariants as request
+use Rattle.sercos_step.specs.declared.request.Outcome.{Outcome}
+use Rattle.sercos_step.specs.Steps.{outcome_of}
+use Rattle.sercos_timing.specs.Views.{PlanView}
+use Rattle.sercos_service_master.specs.Begun.{Begun}
+use Rattle.sercos_service_master.specs.Calls.{begun_by}
+use Rattle.sercos_seat.specs.Ring.{Known, Task, member, startup, request_task, tasks_from, tasks_for}
+use Rattle.sercos_seat.specs.Agenda.{agenda, checking, reads, reads_count, writes, idn, bytes_of, ended_well, is_ready}
+use Rattle.sercos_seat.specs.Channel.{with_outcome, outcomes_in, of_phase, count_requests}
+use Rattle.sercos_seat.proofs.Gets.{get_none, length_map, length_append}
+use Rattle.sercos_seat.proofs.Agendas.{reads_length}
+use Rattle.sercos_seat.proofs.Queues.{ready_long, ready_stays, next_request, none_4}
+use Rattle.sercos_master.specs.Annals.{Call, HearMst, HearAt, Mdt, End, Restart, Past, past, outcomes, is_idle, has_turn, next_task, begins, settled, still_waiting, after_end, fall_of, next_phase, goes_on, new_epoch}
+use Rattle.sercos_master.proofs.Laws.{waiting_at, waiting_settled}
+use Rattle.sercos_master.proofs.Followed.{HasNext, AllFollow, Followed, Follows, followed, settled_follows, settles, all_ended}
+
+none≢some : {A : Type 0} {x : A} → None ≡ Some x → ⊥
+none≢some e = cc
+
+inside : {A : Type 0} {a b : A} → Some a ≡ Some b → a ≡ b
+inside e = cc
+
+-- REQUESTS ARE OF PHASE 4, and nothing else is.
+abbrev Tells : Task → Type 0
+Tells t = (t.phase == 4) ≡ is_some t.number
+
+abbrev AllTell : List Task → Type 0
+AllTell xs = (i : ℕ) (t : Task) → slice_get xs i ≡ Some t → Tells t
+
+tell_nil : AllTell []
+tell_nil i t e = absurd (none≢some e)
+
+tell_more : (x : Task) (xs : List Task) → Tells x → AllTell xs → AllTell (x ∷ xs)
+tell_more x xs one all zero t e = subst Tells (inside e) one
+tell_more x xs one all (suc i) t e = all i t e
+
+tell_both : (xs ys : List Task) → AllTell xs → AllTell ys → AllTell (xs ++ ys)
+tell_both [] ys first all = all
+tell_both (x ∷ xs) ys first all = tell_more x (xs ++ ys) (first zero x refl) (tell_both xs ys (λ i t e. first (suc i) t e) all)
+
+tell_startups : (rs : List Request) → AllTell (map (startup 2) rs)
+tell_startups [] = tell_nil
+tell_startups (r ∷ rs) = tell_more (startup 2 r) (map (startup 2) rs) refl (tell_startups rs)
+
+tell_checking : (phase command list : ℕ) (o : Option Outcome) (next : List Task) → (phase == 4) ≡ false → AllTell next → AllTell (checking phase command list o next)
+tell_checking phase command list None next e all = tell_more (startup phase (request.Command (idn command))) [] e tell_nil
+tell_checking phase command list (Some o) next e all =
+    tell_more (startup phase (request.Command (idn command))) (if ended_well (bytes_of o) then next else startup phase (request.Read (idn list) 7) ∷ []) e (by (ended_well (bytes_of o)))
+  where
+    by : (b : Bool) → AllTell (if b then next else startup phase (request.Read (idn list) 7) ∷ [])
+    by true = all
+    by false = tell_more (startup phase (request.Read (idn list) 7)) [] e tell_nil
+
+tell_agenda : (s : Known) (plan : Option PlanView) (waiting : List Task) (k : ℕ) (all : List Outcome) → AllTell waiting → AllTell (agenda s plan waiting k all)
+tell_agenda s None waiting k all tells = tell_both (map (startup 2) (reads (member s k))) [] (tell_startups (reads (member s k))) tell_nil
+tell_agenda s (Some p) waiting k all tells =
+    tell_both (map (startup 2) (reads (member s k))) _ (tell_startups (reads (member s k)))
+    (tell_both (map (startup 2) (writes s p k)) _ (tell_startups (writes s p k))
+    (tell_checking 2 127 21 (slice_get all (reads_count (member s k) + 11)) (checking 3 128 22 (slice_get all (reads_count (member s k) + 12)) waiting) refl
+    (tell_checking 3 128 22 (slice_get all (reads_count (member s k) + 12)) waiting refl tells)))
+
+-- the requests of these jobs have numbers
+abbrev AreNumbered : List Task → Type 0
+AreNumbered xs = (i : ℕ) (t : Task) → slice_get xs i ≡ Some t → (t.phase ≡ 4) × (is_some t.number ≡ true)
+
+numbered_tell : (xs : List Task) → AreNumbered xs → AllTell xs
+numbered_tell xs all i t e = let n = all i t e in rw (n.0, n.1) refl
+
+tasks_numbered : (address i : ℕ) (jobs : List Job) → AreNumbered (tasks_from address i jobs)
+tasks_numbered address i [] = λ j t e. absurd (none≢some e)
+tasks_numbered address i (job ∷ jobs) = by (job.drive == address) (tasks_numbered address (i + 1) jobs)
+  where
+    one_more : AreNumbered (tasks_from address (i + 1) jobs) → AreNumbered (request_task i job.request ∷ tasks_from address (i + 1) jobs)
+    one_more all zero t e = (ap (λ x. x.phase) (sym (inside e)), ap (λ x. is_some x.number) (sym (inside e)))
+    one_more all (suc j) t e = all j t e
+
+    by : (b : Bool) → AreNumbered (tasks_from address (i + 1) jobs) → AreNumbered (if b then request_task i job.request ∷ tasks_from address (i + 1) jobs else tasks_from address (i + 1) jobs)
+    by false all = all
+    by true all = one_more all
+
+dropped_numbered : (n : ℕ) (xs : List Task) → AreNumbered xs → AreNumbered (drop n xs)
+dropped_numbered zero xs all = all
+dropped_numbered (suc n) [] all = all
+dropped_numbered (suc n) (x ∷ xs) all = dropped_numbered n xs (λ i t e. all (suc i) t e)
+
+-- THE REQUESTS BEGUN, by the number of requests and jobs begun on the channel.
+-- until both checks have ended well there are none
+none_yet : (s : Known) (k : ℕ) (plan : Option PlanView) (waiting : List Task) (begun : List Begun) (tasks : List Task) → AreNumbered waiting → AllFollow s k plan waiting begun tasks →
+    is_ready (member s k) (outcomes_in begun) ≡ false → count_requests tasks ≡ 0
+none_yet s k plan waiting [] [] numbered all early = refl
+none_yet s k plan waiting [] (t ∷ tasks) numbered all early = absurd all
+none_yet s k plan waiting (b ∷ older) [] numbered all early = refl
+none_yet s k plan waiting (b ∷ older) (t ∷ tasks) numbered all early = by (is_ready (member s k) (outcomes_in older)) refl (none_yet s k plan waiting older tasks numbered all.0)
+  where
+    f : Follows s k plan waiting b t older tasks
+    f = all.1
+
+    stays : (o : Option Outcome) → is_ready (member s k) (outcomes_in older) ≡ true → is_ready (member s k) (with_outcome o (outcomes_in older)) ≡ true
+    stays None e = e
+    stays (Some o) e = ready_stays (member s k) (outcomes_in older) o (ready_long (member s k) (outcomes_in older) e) ∙ e
+
+    by : (ready : Bool) → is_ready (member s k) (outcomes_in older) ≡ ready → (is_ready (member s k) (outcomes_in older) ≡ false → count_requests tasks ≡ 0) → (if is_some t.number then count_requests tasks + 1 else count_requests tasks) ≡ 0
+    by true e before = absurd (false≢true (sym early ∙ stays (outcome_of b.request b.answers) e))
+    by false e before =
+        let tells : (t.phase == 4) ≡ is_some t.number = tell_agenda s f.by_then waiting k (outcomes_in older) (numbered_tell waiting numbered) (length (outcomes_in older)) t f.next in
+        let other : of_phase 4 (Some t) ≡ None = ap (of_phase 4) (sym f.next) ∙ none_4 s f.by_then waiting k (outcomes_in older) e (length (outcomes_in older)) in
+        let four : (t.phase == 4) ≡ false = not_four (t.phase == 4) other in
+        rw (sym tells ∙ four) (before e)
+      where
+        not_four : (b : Bool) → (if b then Some t else None) ≡ None → b ≡ false
+        not_four true e = absurd (none≢some (sym e))
+        not_four false e = refl
+
+-- then each task is the next request
+each_then : (s : Known) (k : ℕ) (plan : Option PlanView) (waiting : List Task) (begun : List Begun) (tasks : List Task) → AreNumbered waiting → AllFollow s k plan waiting begun tasks →
+    length (outcomes_in begun) ≡ length begun → is_ready (member s k) (outcomes_in begun) ≡ true → reads_count (member s k) + 13 + count_requests tasks ≡ length begun
+each_then s k plan waiting [] tasks numbered all ended ready = let l = ready_long (member s k) [] ready in absurd (omega (arith, l))
+each_then s k plan waiting (b ∷ older) [] numbered all ended ready = absurd all
+each_then s k plan waiting (b ∷ older) (t ∷ tasks) numbered all ended ready = by (is_ready (member s k) (outcomes_in older)) refl (each_then s k plan waiting older tasks numbered all.0 all.1.ended)
+  where
+    f : Follows s k plan waiting b t older tasks
+    f = all.1
+
+    -- one outcome more
+    one_more : (o : Option Outcome) → length (with_outcome o (outcomes_in older)) ≡ suc (length older) → is_ready (member s k) (with_outcome o (outcomes_in older)) ≡ true →
+        is_ready (member s k) (outcomes_in older) ≡ false → length older ≡ reads_count (member s k) + 12
+    one_more None long e early = absurd (false≢true (sym early ∙ e))
+    one_more (Some o) long e early =
+        let many = ready_long (member s k) (outcomes_in older ++ o ∷ []) e in
+        let l = length-append (outcomes_in older) (o ∷ []) in
+        let same = f.ended in
+        by_place (nat_lt (reads_count (member s k) + 12) (length (outcomes_in older))) refl (omega (arith, many, l, same))
+      where
+        by_place : (b : Bool) → nat_lt (reads_count (member s k) + 12) (length (outcomes_in older)) ≡ b → reads_count (member s k) + 12 ≤ length older → length older ≡ reads_count (member s k) + 12
+        by_place true g h =
+            let beyond : reads_count (member s k) + 12 < length (outcomes_in older) = grind (arith, nat_tests, g) in
+            absurd (false≢true (sym early ∙ (sym (ready_stays (member s k) (outcomes_in older) o beyond) ∙ e)))
+        by_place false g h = let same = f.ended in let not_beyond : length (outcomes_in older) ≤ reads_count (member s k) + 12 = grind (arith, nat_tests, g) in omega (arith, same, not_beyond, h)
+
+    by : (early : Bool) → is_ready (member s k) (outcomes_in older) ≡ early → (is_ready (member s k) (outcomes_in older) ≡ true → reads_count (member s k) + 13 + count_requests tasks ≡ length older) → reads_count (member s k) + 13 + (if is_some t.number then count_requests tasks + 1 else count_requests tasks) ≡ suc (length older)
+    by true e rest = go f.by_then f.next
+      where
+        before : reads_count (member s k) + 13 + count_requests tasks ≡ length older
+        before = rest e
+
+        go : (o : Option PlanView) → slice_get (agenda s o waiting k (outcomes_in older)) (length (outcomes_in older)) ≡ Some t → reads_count (member s k) + 13 + (if is_some t.number then count_requests tasks + 1 else count_requests tasks) ≡ suc (length older)
+        go None next = absurd (unplanned (outcomes_in older) (ready_long (member s k) (outcomes_in older) e) next)
+          where
+            unplanned : (all : List Outcome) → reads_count (member s k) + 12 < length all → slice_get (map (startup 2) (reads (member s k)) ++ []) (length all) ≡ Some t → ⊥
+            unplanned all long next =
+                let l : length (map (startup 2) (reads (member s k))) ≡ reads_count (member s k) = length_map (startup 2) (reads (member s k)) ∙ reads_length (member s k) in
+                let a = length_append (map (startup 2) (reads (member s k))) [] in
+                none≢some (sym (get_none (map (startup 2) (reads (member s k)) ++ []) (length all) (omega (arith, l, a, long))) ∙ next)
+        go (Some p) next =
+            let at : length (outcomes_in older) ≡ reads_count (member s k) + 13 + count_requests tasks = f.ended ∙ sym before in
+            let is : slice_get waiting (count_requests tasks) ≡ Some t = sym (next_request s p waiting k (outcomes_in older) (count_requests tasks) e at) ∙ next in
+            let has = numbered (count_requests tasks) t is in
+            rw has.1 (omega (arith, before))
+    by false e rest =
+        let at : length older ≡ reads_count (member s k) + 12 = one_more (outcome_of b.request b.answers) ended ready e in
+        let tells : (t.phase == 4) ≡ is_some t.number = tell_agenda s f.by_then waiting k (outcomes_in older) (numbered_tell waiting numbered) (length (outcomes_in older)) t f.next in
+        let other : of_phase 4 (Some t) ≡ None = ap (of_phase 4) (sym f.next) ∙ none_4 s f.by_then waiting k (outcomes_in older) e (length (outcomes_in older)) in
+        let four : (t.phase == 4) ≡ false = not_four (t.phase == 4) other in
+        let none : count_requests tasks ≡ 0 = none_yet s k plan waiting older tasks numbered all.0 e in
+        rw (sym tells ∙ four) (omega (arith, at, none))
+      where
+        not_four : (b : Bool) → (if b then Some t else None) ≡ None → b ≡ false
+        not_four true e = absurd (none≢some (sym e))
+        not_four false e = refl
+
+-- WHAT WAITS is what is left of the requests that the master was opened with.
+drop_twice : (n m : ℕ) (xs : List Task) → drop n (drop m xs) ≡ drop (m + n) xs
+drop_twice n m xs = drop-drop n m xs
+
+pub still_left : (s : Known) (requests : ℕ → List Task) (h : List Call) (k : ℕ) → (n : ℕ) × ((past s requests h).waiting k ≡ drop n (requests k))
+still_left s requests [] k = (0, refl)
+still_left s requests (HearMst content ∷ h) k = still_left s requests h k
+still_left s requests (HearAt content ∷ h) k =
+    let before = still_left s requests h k in
+    (before.0, ap (λ w. w k) (waiting_at s (Rattle.sercos_master.specs.Annals.place_of s (Rattle.std.specs.Prelude.slice_index content 0)) content (past s requests h)) ∙ before.1)
+still_left s requests (Mdt ∷ h) k = let before = still_left s requests h k in (before.0, ap (λ w. w k) (waiting_settled s (past s requests h)) ∙ before.1)
+still_left s requests (End ∷ h) k = by (is_some (fall_of s (past s requests h))) (still_left s requests h k)
+  where
+    by : (falls : Bool) → (n : ℕ) × ((past s requests h).waiting k ≡ drop n (requests k)) →
+        (n : ℕ) × ((if falls then new_epoch ((past s requests h).cycle + 1) (still_waiting (past s requests h)) else goes_on (next_phase s (past s requests h)) (past s requests h)).waiting k ≡ drop n (requests k))
+    by true before = (before.0 + count_requests ((past s requests h).tasks k), ap (drop (count_requests ((past s requests h).tasks k))) before.1 ∙ drop_twice (count_requests ((past s requests h).tasks k)) before.0 (requests k))
+    by false before = before
+still_left s requests (Restart ∷ h) k =
+    let before = still_left s requests h k in
+    (before.0 + count_requests ((past s requests h).tasks k), ap (drop (count_requests ((past s requests h).tasks k))) before.1 ∙ drop_twice (count_requests ((past s requests h).tasks k)) before.0 (requests k))
+
+pub first_waiting : HasNext → (s : Known) (jobs : List Job) (h : List Call) (k : ℕ) (t : Task) → k < length s.drives → begins s (settled s (past s (tasks_for s jobs) h)) k ≡ Some t → is_some t.number ≡ true →
+    slice_get (still_waiting (past s (tasks_for s jobs) h) k) 0 ≡ Some t
+first_waiting has s jobs h k t within begin number = by (is_none q.stop) (is_idle q k) (has_turn s q k) refl refl begin
+  where
+    p : Past
+    p = past s (tasks_for s jobs) h
+
+    q : Past
+    q = settled s (past s (tasks_for s jobs) h)
+
+    all : Followed s (settled s (past s (tasks_for s jobs) h)) k
+    all = settled_follows s (past s (tasks_for s jobs) h) k (followed has s (tasks_for s jobs) h k within)
+
+    numbered : AreNumbered ((settled s (past s (tasks_for s jobs) h)).waiting k)
+    numbered =
+        let left = still_left s (tasks_for s jobs) h k in
+        subst AreNumbered (sym (ap (λ w. w k) (waiting_settled s (past s (tasks_for s jobs) h)) ∙ left.1)) (dropped_numbered left.0 (tasks_for s jobs k) (tasks_numbered (member s k).address 1 jobs))
+
+    of_its : (phase : ℕ) (o : Option Task) → of_phase phase o ≡ Some t → o ≡ Some t
+    of_its phase None e = absurd (none≢some e)
+    of_its phase (Some u) e = which (u.phase == phase) e
+      where
+        which : (b : Bool) → (if b then Some u else None) ≡ Some t → Some u ≡ Some t
+        which true e = e
+        which false e = absurd (none≢some e)
+
+    get_dropped : (n : ℕ) (xs : List Task) → slice_get (drop n xs) 0 ≡ slice_get xs n
+    get_dropped zero xs = refl
+    get_dropped (suc n) [] = refl
+    get_dropped (suc n) (x ∷ xs) = get_dropped n xs
+
+    one : is_idle (settled s (past s (tasks_for s jobs) h)) k ≡ true → next_task s (settled s (past s (tasks_for s jobs) h)) k ≡ Some t → slice_get ((settled s (past s (tasks_for s jobs) h)).waiting k) (count_requests ((settled s (past s (tasks_for s jobs) h)).tasks k)) ≡ Some t
+    one idle next = which (is_ready (member s k) (outcomes q k)) refl
+      where
+        ended : length (outcomes (settled s (past s (tasks_for s jobs) h)) k) ≡ length (begun_by ((settled s (past s (tasks_for s jobs) h)).calls k))
+        ended = all_ended has s k q.plan (q.waiting k) (begun_by (q.calls k)) (q.tasks k) all idle
+
+        which : (b : Bool) → is_ready (member s k) (outcomes (settled s (past s (tasks_for s jobs) h)) k) ≡ b → slice_get ((settled s (past s (tasks_for s jobs) h)).waiting k) (count_requests ((settled s (past s (tasks_for s jobs) h)).tasks k)) ≡ Some t
+        which false early =
+            let tells : (t.phase == 4) ≡ is_some t.number = tell_agenda s q.plan (q.waiting k) k (outcomes q k) (numbered_tell (q.waiting k) numbered) (length (outcomes q k)) t next in
+            let other : of_phase 4 (Some t) ≡ None = ap (of_phase 4) (sym next) ∙ none_4 s q.plan (q.waiting k) k (outcomes q k) early (length (outcomes q k)) in
+            absurd (none≢some (sym (ap (λ b. if b then Some t else None) (sym (tells ∙ number)) ∙ other)))
+        which true ready = go q.plan refl
+          where
+            count : reads_count (member s k) + 13 + count_requests ((settled s (past s (tasks_for s jobs) h)).tasks k) ≡ length (begun_by ((settled s (past s (tasks_for s jobs) h)).calls k))
+            count = each_then s k q.plan (q.waiting k) (begun_by (q.calls k)) (q.tasks k) numbered all ended ready
+
+            go : (o : Option PlanView) → (settled s (past s (tasks_for s jobs) h)).plan ≡ o → slice_get ((settled s (past s (tasks_for s jobs) h)).waiting k) (count_requests ((settled s (past s (tasks_for s jobs) h)).tasks k)) ≡ Some t
+            go None none =
+                let l : length (map (startup 2) (reads (member s k))) ≡ reads_count (member s k) = length_map (startup 2) (reads (member s k)) ∙ reads_length (member s k) in
+                let a = length_append (map (startup 2) (reads (member s k))) [] in
+                let long = ready_long (member s k) (outcomes q k) ready in
+                let at : slice_get (map (startup 2) (reads (member s k)) ++ []) (length (outcomes q k)) ≡ Some t = subst (λ o. slice_get (agenda s o (q.waiting k) k (outcomes q k)) (length (outcomes q k)) ≡ Some t) none next in
+                absurd (none≢some (sym (get_none (map (startup 2) (reads (member s k)) ++ []) (length (outcomes q k)) (omega (arith, l, a, long))) ∙ at))
+            go (Some plan) some =
+                let at : slice_get (agenda s (Some plan) (q.waiting k) k (outcomes q k)) (length (outcomes q k)) ≡ Some t = subst (λ o. slice_get (agenda s o (q.waiting k) k (outcomes q k)) (length (outcomes q k)) ≡ Some t) some next in
+                sym (next_request s plan (q.waiting k) k (outcomes q k) (count_requests (q.tasks k)) ready (ended ∙ sym count)) ∙ at
+
+    by : (free idle turn : Bool) → is_none (settled s (past s (tasks_for s jobs) h)).stop ≡ free → is_idle (settled s (past s (tasks_for s jobs) h)) k ≡ idle →
+        (if free && (idle && turn) then of_phase (settled s (past s (tasks_for s jobs) h)).now.phase (next_task s (settled s (past s (tasks_for s jobs) h)) k) else None) ≡ Some t →
+        slice_get (still_waiting (past s (tasks_for s jobs) h) k) 0 ≡ Some t
+    by true true true free idle e =
+        let is = one idle (of_its q.now.phase (next_task s q k) e) in
+        let keeps = settles s (past s (tasks_for s jobs) h) in
+        get_dropped (count_requests (p.tasks k)) (p.waiting k) ∙ (sym (ap (λ w. slice_get (w k) (count_requests (p.tasks k))) (waiting_settled s p)) ∙ (sym (ap (λ ts. slice_get (q.waiting k) (count_requests (ts k))) keeps.tasks) ∙ is))
+    by true true false free idle e = absurd (none≢some e)
+    by true false turn free idle e = absurd (none≢some e)
+    by false idle turn free is e = absurd (none≢some e)
