@@ -1,4 +1,5 @@
 pub mod SoundLemmas
+pub mod TypeLemmas
 pub mod PutLemmas
 pub mod OpenLemmas
 pub mod WishLemmas

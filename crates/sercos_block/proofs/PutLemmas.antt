@@ -14,6 +14,7 @@ use Rattle.sercos_idn.specs.Codes.{is_list, item_len}
 use Rattle.sercos_block.specs.declared.block.Block.{Block}
 use Rattle.sercos_block.specs.Stores.{find_block, with_value, with_data, is_sound, is_len, is_short, is_long, write_fault, data_fault, put_fault, are_ascending, IsStore}
 use Rattle.sercos_block.proofs.SoundLemmas.{SoundParts-is_sound, is_sound-written}
+use Rattle.sercos_block.proofs.TypeLemmas.{typed_stays}
 
 -- bytes that are neither too few nor too many
 len_by : (list : Bool) (count most item : ℕ) → (not list && nat_lt count item) ≡ false → nat_lt (cond list (most) (item)) count ≡ false
@@ -120,11 +121,12 @@ sound_stays raw bytes (b ∷ blocks) (suc place) d up sound in' is len =
 
 pub IsStore-written : (raw : ℕ) (bytes : List ℕ) (blocks : List Block) (place : ℕ) (d : Block) → IsStore blocks
     → place < length blocks → (slice_index_or blocks place d).idn.raw ≡ raw → is_len (slice_index_or blocks place d) (length bytes) ≡ true
-    → IsStore (with_data raw bytes blocks)
-IsStore-written raw bytes blocks place d is in' at len = record {
+    → list_all (λ byte. nat_lt byte 256) bytes ≡ true → IsStore (with_data raw bytes blocks)
+IsStore-written raw bytes blocks place d is in' at len are = record {
   few = rw (length_stays raw bytes blocks) is.few;
   ascending = ascending_stays raw bytes blocks ∙ is.ascending;
   sound = sound_stays raw bytes blocks place d is.ascending is.sound in' at len;
+  typed = typed_stays raw bytes blocks are is.typed;
 }
 
 -- what holds of the element at a place
@@ -141,8 +143,8 @@ pub record IsWritten (raw : ℕ) (bytes : List ℕ) (blocks blocks' : List Block
 
 pub IsWritten-at : (raw : ℕ) (bytes : List ℕ) (blocks : List Block) (place : ℕ) (d : Block) → IsStore blocks
     → position (λ b. b.idn.raw == raw) blocks ≡ Some place → IfSome (slice_get blocks place) (λ b. is_len b (length bytes) ≡ true)
-    → IsWritten raw bytes blocks (slice_set blocks place (record (slice_index_or blocks place d) { value = bytes }))
-IsWritten-at raw bytes blocks place d is at len =
+    → list_all (λ byte. nat_lt byte 256) bytes ≡ true → IsWritten raw bytes blocks (slice_set blocks place (record (slice_index_or blocks place d) { value = bytes }))
+IsWritten-at raw bytes blocks place d is at len are =
     let (in', here, _) = position-Some (λ b. b.idn.raw == raw) blocks place d at in
     let number : (slice_index_or blocks place d).idn.raw ≡ raw = grind (arith, nat_tests) in
     let len' = at_place (λ b. is_len b (length bytes) ≡ true) blocks place d in' len in
@@ -150,22 +152,22 @@ IsWritten-at raw bytes blocks place d is at len =
     let same = with_data-at raw bytes blocks place d is.ascending in' number in
     record {
       room = fits-is_len (slice_index_or blocks place d) (length bytes) sound len';
-      store = rw same (IsStore-written raw bytes blocks place d is in' number len');
+      store = rw same (IsStore-written raw bytes blocks place d is in' number len' are);
       same = same;
     }
 
 pub IsWritten-by : {raw : ℕ} {bytes : List ℕ} {blocks now : List Block} {place : ℕ} (old new : Block) → blocks ≡ now → IsStore blocks
     → position (λ b. b.idn.raw == raw) now ≡ Some place → IfSome (slice_get now place) (λ b. is_len b (length bytes) ≡ true)
-    → old ≡ slice_index_or blocks place old → new ≡ record old { value = bytes }
+    → list_all (λ byte. nat_lt byte 256) bytes ≡ true → old ≡ slice_index_or blocks place old → new ≡ record old { value = bytes }
     → IsWritten raw bytes now (slice_set blocks place new)
-IsWritten-by {raw} {bytes} {blocks} {now} {place} old new seen is at len old_is new_is =
-    let written = IsWritten-at raw bytes now place old (rw seen at is) at len in
+IsWritten-by {raw} {bytes} {blocks} {now} {place} old new seen is at len are old_is new_is =
+    let written = IsWritten-at raw bytes now place old (rw seen at is) at len are in
     let value : new ≡ record (slice_index_or now place old) { value = bytes } = new_is ∙ ap (λ (b : Block). record b { value = bytes }) (rw seen at old_is) in
     rw (seen, value) written
 
 pub room_by : (raw : ℕ) (bytes : List ℕ) {blocks now : List Block} {place : ℕ} (d : Block) → blocks ≡ now → IsStore blocks
-    → position (λ b. b.idn.raw == raw) now ≡ Some place → IfSome (slice_get now place) (λ b. is_len b (length bytes) ≡ true) → length bytes ≤ 1024
-room_by raw bytes {blocks} {now} {place} d seen is at len = (IsWritten-at raw bytes now place d (rw seen at is) at len).room
+    → position (λ b. b.idn.raw == raw) now ≡ Some place → IfSome (slice_get now place) (λ b. is_len b (length bytes) ≡ true) → list_all (λ byte. nat_lt byte 256) bytes ≡ true → length bytes ≤ 1024
+room_by raw bytes {blocks} {now} {place} d seen is at len are = (IsWritten-at raw bytes now place d (rw seen at is) at len are).room
 
 -- bytes that have no fault are as many as the block may have
 pub fits-put_fault : (block : Option Block) (phase : ℕ) (bytes : List ℕ) → put_fault block phase bytes ≡ None → IfSome block (λ b. is_len b (length bytes) ≡ true)

@@ -14,7 +14,7 @@ use Rattle.sercos_step.specs.declared.step.Step.{Step}
 use Rattle.sercos_step.specs.Steps.{a_step, outcome_of}
 use Rattle.sercos_block.specs.declared.block.Block.{Block}
 use Rattle.sercos_block.specs.Blocks.{element_of}
-use Rattle.sercos_block.specs.Stores.{IsStore, are_ascending, is_sound}
+use Rattle.sercos_block.specs.Stores.{IsStore, are_ascending, is_sound, is_typed}
 use Rattle.sercos_command.specs.Settings.{CommandsView}
 use Rattle.sercos_service_drive.specs.Log.{Taken, Entry}
 use Rattle.sercos_service_drive.specs.Replies.{good, data_in, element_words}
@@ -76,8 +76,8 @@ unfolding attribute_fault attribute_of
 completes = refl
 
 store : IsStore (block ∷ [])
-unfolding are_ascending is_sound
-store = record { few = few; ascending = refl; sound = refl }
+unfolding are_ascending is_sound is_typed
+store = record { few = few; ascending = refl; sound = refl; typed = refl }
   where
     few : 1 ≤ 57
     few = omega arith

@@ -1,4 +1,4 @@
-ghost use Rattle.std.specs.Prelude.{◌≡◌, ℕ, ◌^◌, ◌<◌, ◌≤◌, ◌==◌, if◌then◌else◌, List, Some, None, Ok, length, IfOk, IfNone, MatchResult};
+ghost use Rattle.std.specs.Prelude.{◌≡◌, ℕ, ◌+◌, ◌^◌, ◌<◌, ◌≤◌, ◌==◌, if◌then◌else◌, List, Some, None, Ok, length, IfOk, IfNone, IfSome, MatchResult};
 ghost use Rattle.sercos_idn.specs.Idns.{can_stand, has_byte, letter_of, head_fault, digits_fault, idn_fault, spelled_number, spelled_raw, digit_at};
 
 use std::fmt;
@@ -52,7 +52,9 @@ fn has_byte(text: &[u8], place: usize, slot: Slot) -> bool
 // The place of the first byte that can't stand, among letter, dash, parameter set and dash.
 #[tactic(auto, unfolding(crate::specs::Idns::head_fault))]
 fn head_fault(text: &[u8]) -> Option<usize>
-    ensures { result ≡ head_fault text.now }
+    ensures value { result ≡ head_fault text.now }
+    ensures place { IfSome result (λ place. place ≤ length text.now) }
+    ensures whole { IfNone result (4 ≤ length text.now) }
 {
     if !has_byte(text, 0, Slot::Letter) {
         return Some(0);
@@ -74,6 +76,7 @@ fn head_fault(text: &[u8]) -> Option<usize>
 fn digits_fault(text: &[u8]) -> Option<usize>
     ensures value { result ≡ digits_fault text.now }
     ensures length { IfNone result (8 ≤ length text.now) }
+    ensures place { 4 ≤ length text.now → IfSome result (λ place. place ≤ length text.now) }
 {
     if !has_byte(text, 4, Slot::Decimal) {
         return Some(4);
@@ -110,10 +113,13 @@ fn spelled_number(text: &[u8]) -> u32
         + u32::from(digit_at(text, 7))
 }
 
-// The place of the first byte that can't stand.
+/// Returns the place of the first byte of a text that can't stand in that of an identifier number, as [`BadIdn`] names it;
+/// `None` exactly if the text is that of one.
 #[tactic(auto, unfolding(crate::specs::Idns::idn_fault))]
-fn idn_fault(text: &[u8]) -> Option<usize>
-    ensures { result ≡ idn_fault text.now }
+pub fn idn_fault(text: &[u8]) -> Option<usize>
+    ensures value { result ≡ idn_fault text.now }
+    ensures place { IfSome result (λ place. place ≤ length text.now) }
+    ensures whole { IfNone result (8 ≤ length text.now) }
 {
     if let Some(place) = head_fault(text) {
         return Some(place);
@@ -183,6 +189,32 @@ impl Idn {
             }),
         }
     }
+
+    /// Returns the eight bytes of the text, as `Display` prints it.
+    #[tactic(auto, unfolding(crate::specs::Idns::idn_text, crate::specs::Idns::four_digits))]
+    pub fn text(self) -> [u8; 8]
+        ensures { result ≡ idn_text self.raw }
+    {
+        let number = self.raw % SET;
+        [
+            if self.raw < PRODUCT { b'S' } else { b'P' },
+            b'-',
+            digit(self.raw / SET % SETS),
+            b'-',
+            digit(number / 1000),
+            digit(number / 100 % 10),
+            digit(number / 10 % 10),
+            digit(number % 10),
+        ]
+    }
+}
+
+// The decimal digit of a number below 10.
+fn digit(number: u16) -> u8
+    requires { number < 10 }
+    ensures { result ≡ 48 + number }
+{
+    b'0' + number as u8
 }
 
 // The letter of an identifier number.

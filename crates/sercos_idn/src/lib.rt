@@ -9,6 +9,6 @@ mod law;
 
 pub use attribute::{Attribute, BadAttribute};
 pub use code::Code;
-pub use idn::{BadIdn, Idn};
+pub use idn::{BadIdn, Idn, idn_fault};
 pub use kinds::{Form, Length};
 pub use law::attribute_law;

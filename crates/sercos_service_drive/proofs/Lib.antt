@@ -5,5 +5,6 @@ pub mod RunLemmas
 pub mod SessionLemmas
 pub mod ReadAnswers
 pub mod WriteAnswers
+pub mod AllowedWrites
 pub mod ChannelLemmas
 pub mod Worked

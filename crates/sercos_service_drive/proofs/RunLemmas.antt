@@ -8,7 +8,7 @@ use mathlib.Core.Bool.{beq}
 use Rattle.sercos_service_drive.specs.Log.{Taken, Entry, opens, run_before}
 use Rattle.sercos_service_drive.specs.Kept.{run_of, place_of, selection_in, continued, place_in, HoldsRun}
 
-same_bits : (a b : Bool) → beq a b ≡ true → a ≡ b
+pub same_bits : (a b : Bool) → beq a b ≡ true → a ≡ b
 same_bits true true h = refl
 same_bits false false h = refl
 same_bits true false h = cc

@@ -64,11 +64,11 @@ pub length-in_order : (run : List Taken) (words : List ℕ) → length (in_order
 length-in_order [] words = omega arith
 length-in_order (t ∷ run) words = let more = length-in_order run (t.step.word ∷ words) in omega (arith, more)
 
-started_by : (b : Block) (words : List ℕ) → IsMidway b words → IsStarted b words
+pub started_by : (b : Block) (words : List ℕ) → IsMidway b words → IsStarted b words
 started_by b [] m = tt
 started_by b (v ∷ words) m = m
 
-midway_in : (raw : ℕ) (blocks others : List Block) (c : Block) (words : List ℕ) → AreAlike blocks others → find_block raw others ≡ Some c
+pub midway_in : (raw : ℕ) (blocks others : List Block) (c : Block) (words : List ℕ) → AreAlike blocks others → find_block raw others ≡ Some c
     → IfSome (find_block raw blocks) (λ b. IsMidway b words) → IsMidway c words
 midway_in raw blocks others c words same is m = let (alike, there) = found_alike raw blocks others c same is in by (find_block raw blocks) alike there m
   where

@@ -84,7 +84,7 @@ impl DriveChannel {
     }
 
     /// Takes a record in a cycle and in a phase from 2 to 4. The store is that of the drive: but for their operation data, its
-    /// blocks are those of each earlier record since the reset. A step that writes the last word of operation data changes
+    /// blocks are those of each earlier record since the reset, and they are so of this record too. A step that writes the last word of operation data changes
     /// the block, and tells the procedure commands. True where a step was accepted that wrote operation data.
     pub fn take(
         &mut self,
@@ -99,6 +99,8 @@ impl DriveChannel {
         requires set { are_commands_of store.old commands.old ≡ true }
         ensures stands { (busy : ℕ) (h : List Taken) → ChannelStandsFor self.old busy h → AreThose store.old h →
             ChannelStandsFor self.new busy (record_of cycle phase control.now info store.old commands.old ∷ h) }
+        ensures those { (busy : ℕ) (h : List Taken) → ChannelStandsFor self.old busy h → AreThose store.old h →
+            AreThose store.new (record_of cycle phase control.now info store.old commands.old ∷ h) }
         ensures added { (busy : ℕ) (h : List Taken) → ChannelStandsFor self.old busy h → AreThose store.old h →
             result ≡ is_some (added_on (record_of cycle phase control.now info store.old commands.old) h) }
         ensures blocks { (busy : ℕ) (h : List Taken) → ChannelStandsFor self.old busy h → AreThose store.old h →

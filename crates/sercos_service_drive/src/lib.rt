@@ -6,8 +6,10 @@ mod causes;
 mod channel;
 mod copying;
 mod data;
+mod law;
 mod session;
 mod writing;
 
 pub use channel::DriveChannel;
 pub use data::push_data;
+pub use law::writes_law;

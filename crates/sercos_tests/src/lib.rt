@@ -10,6 +10,8 @@ mod channels;
 #[cfg(test)]
 mod checks;
 #[cfg(test)]
+mod drives;
+#[cfg(test)]
 mod faults;
 #[cfg(test)]
 mod identifiers;

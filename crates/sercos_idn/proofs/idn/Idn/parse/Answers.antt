@@ -10,7 +10,7 @@ returns-in-Some-clause-only c = λ raw small is.
 
 pub returns-in-None-clause-ok : goal.returns-in-None-clause-ok
 returns-in-None-clause-ok c =
-    let none : idn_fault c.as_bytes-text.result.now ≡ None = sym c.idn_fault.ensures ∙ c.in-None.is in
+    let none : idn_fault c.as_bytes-text.result.now ≡ None = sym c.idn_fault.ensures.value ∙ c.in-None.is in
     sym c.as_bytes-text.ensures.value ∙ idn_text-spelled_raw _ (IsSpelled-idn_fault _ none) ∙ ap idn_text (sym c.spelled_raw.ensures)
 
 pub returns-in-None-clause-only : goal.returns-in-None-clause-only

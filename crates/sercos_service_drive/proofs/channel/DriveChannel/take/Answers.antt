@@ -1,6 +1,8 @@
 use Rattle.std.proofs.Common.{◌∙◌, sym, ap, is_some}
 use Rattle.sercos_service_drive.specs.Log.{Taken, record_of}
 use Rattle.sercos_service_drive.specs.Replies.{log_of}
+use Rattle.sercos_service_drive.specs.Writes.{AreAlike, adds}
+use Rattle.sercos_service_drive.proofs.AllowedWrites.{alike, those_moved}
 use Rattle.sercos_service_drive.proofs.ChannelLemmas.{goes_with, taken_stands, adds_new, effect_adds}
 use Rattle.sercos_service_drive.proofs.channel.DriveChannel.take.Goals as goal
 
@@ -24,6 +26,14 @@ returns-clause-blocks c = λ busy h stood those.
     let t : Taken = record_of c.args.cycle c.args.phase c.args.control.now c.args.info c.args.store.now c.args.commands.now in
     let effect = rw c.step_of-step.ensures.step at (c.answer-answer.ensures.effect c.args.control.now.mhs _ s.session_is (goes_with c.args.store.now h those)) in
     rw (adds_new _ busy h t s c.if-control-self.false) effect.blocks_is
+
+pub returns-clause-those : goal.returns-clause-those
+returns-clause-those c = λ busy h stood those.
+    let s = rw (← c.self.view_is) at stood in
+    let t : Taken = record_of c.args.cycle c.args.phase c.args.control.now c.args.info c.args.store.now c.args.commands.now in
+    let effect = rw c.step_of-step.ensures.step at (c.answer-answer.ensures.effect c.args.control.now.mhs _ s.session_is (goes_with c.args.store.now h those)) in
+    let same : AreAlike c.answer-answer.new.store c.args.store.now = rw effect.blocks_is (alike (adds t (log_of h)) c.args.commands.now c.args.store.now) in
+    (sym same, those_moved c.args.store.now _ h same those)
 
 pub returns-clause-commands : goal.returns-clause-commands
 returns-clause-commands c = λ busy h stood those.

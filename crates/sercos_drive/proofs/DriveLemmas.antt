@@ -1,0 +1,237 @@
+-- What a drive keeps stays right with one call more.
+use Rattle.std.proofs.Common.{◌≡◌, ℕ, ◌+◌, ◌≤◌, ◌==◌, nat_le, Bool, true, false, cond, not, ◌&&◌, List, [], ◌∷◌, length, Option, Some, None, IfSome, is_some, option_map, option_and_then, if◌then◌else◌, refl, sym, ◌∙◌, ap, subst, arith}
+use mathlib.Core.Bool.{beq}
+use Rattle.sercos_block.specs.declared.block.Block.{Block}
+use Rattle.sercos_block.specs.Views.{DriveView}
+use Rattle.sercos_block.specs.Stores.{find_block, with_data}
+use Rattle.sercos_command.specs.Settings.{CommandsView, is_command}
+use Rattle.sercos_command.specs.Calls.{Call, Wrote, Other, Reset, newest, CommandsStandFor}
+use Rattle.sercos_service_drive.specs.Log.{Taken, ahs, record_of, open_idn, run_before, in_order as words_in_order}
+use Rattle.sercos_service_drive.specs.Replies.{bytes_written, reply_of, log_of}
+use Rattle.sercos_service_drive.specs.Writes.{Write, with_added, setting_in, blocks_with, commands_with, calls_with, takes_effect, written_by, adds, added_on, AreAlike, AreThose}
+use Rattle.sercos_service_drive.specs.Kept.{ChannelView, ChannelStandsFor}
+use Rattle.sercos_drive.specs.declared.hearing.Told.{Told}
+use Rattle.sercos_drive.specs.Heard.{DriveCall, Mst, Mdt, Restart, mst_got, mdt_got}
+use Rattle.sercos_drive.specs.Moments.{Moment, AtMst, AtRestart, phase_in, cycle_in, has_mst, has_missed, in_phase, with_record, write_in, taken_in, writes_in, blocks_in, commands_in, calls_in, blocks_after, commands_after, calls_after, with_reset, reset_in}
+use Rattle.sercos_drive.specs.Annals.{stands_in, takes, processed_in, ends_in, after_mdt, annals}
+use Rattle.sercos_drive.specs.Kept.{DriveState, counted, KeepsMoments}
+use Rattle.sercos_drive.specs.Steps.{goes_to, processed_by, counted_with, ends_with, IsEntered, IsProcessed}
+
+newest-with_reset : (phase : ℕ) (calls : List Call) → newest (with_reset phase calls) ≡ newest calls
+newest-with_reset phase calls = by (phase == 0)
+  where
+    by : (zero : Bool) → newest (cond zero (Reset ∷ calls) calls) ≡ newest calls
+    by true = refl
+    by false = refl
+
+-- The phase after the MST's place.
+pub goes_to-stands_in : (v : DriveState) (d : DriveView) (rate cycle : ℕ) (got : Option ℕ) (past : List Moment) → KeepsMoments v d rate past → cycle_in past ≤ cycle
+    → goes_to v cycle got ≡ stands_in d rate cycle got past
+goes_to-stands_in v d rate cycle None past k later = rw (k.got_is, k.phase_is) refl
+goes_to-stands_in v d rate cycle (Some phase) past k later =
+    let order = k.in_order in
+    let now : newest (calls_in past) ≤ cycle = omega (arith, order, later) in
+    rw (k.phase_is, k.calls_are.passed_127_is cycle now, k.calls_are.passed_128_is cycle now) refl
+
+pub keeps-mst : (v w : DriveState) (d : DriveView) (rate cycle : ℕ) (got : Option ℕ) (past : List Moment) → KeepsMoments v d rate past → cycle_in past ≤ cycle
+    → IsEntered (record v { cycle = cycle; got = is_some got }) w (goes_to v cycle got)
+    → KeepsMoments w d rate (AtMst cycle (is_some got) (stands_in d rate cycle got past) ∷ past)
+keeps-mst v w d rate cycle got past k later entered = by (rw (goes_to-stands_in v d rate cycle got past k later) at entered)
+  where
+    by : IsEntered (record v { cycle = cycle; got = is_some got }) w (stands_in d rate cycle got past) → KeepsMoments w d rate (AtMst cycle (is_some got) (stands_in d rate cycle got past) ∷ past)
+    by e = record {
+      address_is = ap (λ (x : DriveState). x.address) e.same ∙ k.address_is;
+      phase_is = ap (λ (x : DriveState). x.phase) e.same;
+      cycle_is = ap (λ (x : DriveState). x.cycle) e.same;
+      got_is = ap (λ (x : DriveState). x.got) e.same;
+      took_is = ap (λ (x : DriveState). x.took) e.same ∙ k.took_is;
+      missed_is = ap (λ (x : DriveState). x.missed) e.same ∙ k.missed_is;
+      writes_is = ap (λ (x : DriveState). x.writes) e.same ∙ k.writes_is;
+      channel_is = e.channel d.busy (taken_in past) k.channel_is;
+      commands_is = ap (λ (x : DriveState). x.commands) e.same ∙ ap (reset_in (stands_in d rate cycle got past)) k.commands_is;
+      blocks_is = ap (λ (x : DriveState). x.blocks) e.same ∙ k.blocks_is;
+      calls_are = e.calls rate d.command (calls_in past) k.calls_are;
+      in_order = let order = k.in_order in rw (newest-with_reset (stands_in d rate cycle got past) (calls_in past)) (omega (arith, order, later));
+    }
+
+pub keeps-restart : (v w : DriveState) (d : DriveView) (rate : ℕ) (past : List Moment) → KeepsMoments v d rate past
+    → IsEntered (record v { got = false; took = false; missed = false }) w 0
+    → KeepsMoments w d rate (AtRestart ∷ past)
+keeps-restart v w d rate past k e = record {
+  address_is = ap (λ (x : DriveState). x.address) e.same ∙ k.address_is;
+  phase_is = ap (λ (x : DriveState). x.phase) e.same;
+  cycle_is = ap (λ (x : DriveState). x.cycle) e.same ∙ k.cycle_is;
+  got_is = ap (λ (x : DriveState). x.got) e.same;
+  took_is = ap (λ (x : DriveState). x.took) e.same;
+  missed_is = ap (λ (x : DriveState). x.missed) e.same;
+  writes_is = ap (λ (x : DriveState). x.writes) e.same ∙ k.writes_is;
+  channel_is = e.channel d.busy (taken_in past) k.channel_is;
+  commands_is = ap (λ (x : DriveState). x.commands) e.same ∙ ap (reset_in 0) k.commands_is;
+  blocks_is = ap (λ (x : DriveState). x.blocks) e.same ∙ k.blocks_is;
+  calls_are = e.calls rate d.command (calls_in past) k.calls_are;
+  in_order = k.in_order;
+}
+
+-- The record of an MDT.
+pub processed_by-in : (v : DriveState) (d : DriveView) (rate : ℕ) (told : Option Told) (past : List Moment) → KeepsMoments v d rate past → processed_by v told ≡ processed_in d rate told past
+processed_by-in v d rate None past k = refl
+processed_by-in v d rate (Some told) past k = rw (k.got_is, k.phase_is, k.cycle_is, k.blocks_is, k.commands_is) refl
+
+counted_with-length : (r : Option Taken) (h : List Taken) (writes : List Write) (n : ℕ) → n ≡ counted (length writes)
+    → counted_with (write_in r h) n ≡ counted (length (with_added (write_in r h) writes))
+counted_with-length r h writes n is = by (write_in r h)
+  where
+    by : (w : Option Write) → counted_with w n ≡ counted (length (with_added w writes))
+    by None = is
+    by (Some w) = rw is (grind arith)
+
+newest-calls_with : (w : Option Write) (blocks : List Block) (calls : List Call) (cycle : ℕ) → newest calls ≤ cycle → IfSome w (λ x. x.cycle ≤ cycle) → newest (calls_with w blocks calls) ≤ cycle
+newest-calls_with None blocks calls cycle le is = le
+newest-calls_with (Some w) blocks calls cycle le is = by (is_command blocks w.raw)
+  where
+    by : (command : Bool) → newest (cond command (Wrote w.raw (setting_in w) w.cycle (with_data w.raw w.bytes blocks)) (Other w.cycle) ∷ calls) ≤ cycle
+    by true = is
+    by false = is
+
+-- What a channel makes of a record.
+pub processed_one : (v : DriveState) (channel : ChannelView) (commands : CommandsView) (blocks : List Block) (added : Bool) (busy : ℕ) (t : Taken) (h : List Taken)
+    → t.blocks ≡ v.blocks → t.commands ≡ v.commands
+    → added ≡ is_some (added_on t h)
+    → blocks ≡ blocks_with (added_on t h) t.commands t.blocks
+    → commands ≡ commands_with (added_on t h) t.blocks t.commands
+    → ChannelStandsFor channel busy (t ∷ h)
+    → ((rate time : ℕ) (c : List Call) → CommandsStandFor v.commands rate time c → newest c ≤ v.cycle → CommandsStandFor commands rate time (calls_with (added_on t h) t.blocks c))
+    → IsProcessed v (record v { channel = channel; commands = commands; blocks = blocks; writes = if added then counted (v.writes + 1) else v.writes }) busy (Some t) h
+processed_one v channel commands blocks added busy t h old_blocks old_commands added_is blocks_is commands_is stands calls = record {
+  same = rw (added_is, blocks_is, commands_is) (by (added_on t h));
+  channel = stands;
+  calls = calls;
+}
+  where
+    by : (w : Option Write)
+        → record v { channel = channel; commands = commands_with w t.blocks t.commands; blocks = blocks_with w t.commands t.blocks; writes = if is_some w then counted (v.writes + 1) else v.writes }
+        ≡ record v { writes = counted_with w v.writes; channel = channel; commands = commands_with w t.blocks t.commands; blocks = blocks_with w t.commands t.blocks }
+    by None = refl
+    by (Some w) = refl
+
+pub not_processed : (v : DriveState) (busy : ℕ) (h : List Taken) → ChannelStandsFor v.channel busy h → IsProcessed v v busy None h
+not_processed v busy h stands = record { same = refl; channel = stands; calls = λ rate time c stood le. stood }
+
+-- The cycle of a write is that of its step.
+added-cycle : (t : Taken) (h : List Taken) → IfSome (added_on t h) (λ w. w.cycle ≤ t.cycle)
+added-cycle t h = on (beq t.mhs (ahs h))
+  where
+    found : (run : List Taken) (raw : ℕ) (o : Option Block)
+        → IfSome {T = Write} (option_map (λ (b : Block). (record { cycle = t.cycle; raw = raw; bytes = bytes_written b (words_in_order run (t.step.word ∷ [])) })) o) (λ w. w.cycle ≤ t.cycle)
+    found run raw None = tt
+    found run raw (Some b) = omega arith
+
+    opened : (run : List Taken) (o : Option ℕ) → IfSome (option_and_then (written_by t run) o) (λ w. w.cycle ≤ t.cycle)
+    opened run None = tt
+    opened run (Some raw) = found run raw (find_block raw t.blocks)
+
+    effect : (b : Bool) → IfSome (cond b (option_and_then (written_by t (run_before true 7 (log_of h))) (open_idn (log_of h))) None) (λ w. w.cycle ≤ t.cycle)
+    effect true = opened (run_before true 7 (log_of h)) (open_idn (log_of h))
+    effect false = tt
+
+    on : (same : Bool) → IfSome (cond same None (adds t (log_of h))) (λ w. w.cycle ≤ t.cycle)
+    on true = tt
+    on false = effect (takes_effect (record { taken = t; answer = reply_of t (log_of h) }))
+
+newest-after : (d : DriveView) (rate : ℕ) (told : Option Told) (past : List Moment) → newest (calls_in past) ≤ cycle_in past
+    → newest (calls_after (processed_in d rate told past) (taken_in past) (calls_in past)) ≤ cycle_in past
+newest-after d rate None past order = order
+newest-after d rate (Some told) past order = by (has_mst past && nat_le 2 (phase_in past))
+  where
+    t : Taken
+    t = record_of (cycle_in past) (phase_in past) told.control told.info (blocks_in d past) (commands_in d rate past)
+
+    by : (b : Bool) → newest (calls_after (cond b (Some t) None) (taken_in past) (calls_in past)) ≤ cycle_in past
+    by true = newest-calls_with (added_on t (taken_in past)) (blocks_in d past) (calls_in past) (cycle_in past) order (added-cycle t (taken_in past))
+    by false = order
+
+misses : (p q : ℕ) (a b : Bool) → p ≡ q → a ≡ b → (nat_le 3 p && not a) ≡ (nat_le 3 q && not b)
+misses p q a b number flag = rw (number, flag) refl
+
+ends : (p q : ℕ) (a b m n : Bool) → p ≡ q → a ≡ b → m ≡ n → (if nat_le 3 p && (not a && m) then 0 else p) ≡ (if nat_le 3 q && (not b && n) then 0 else q)
+ends p q a b m n number flag missed = rw (number, flag, missed) refl
+
+pub keeps-mdt : (v w x : DriveState) (d : DriveView) (rate : ℕ) (told : Option Told) (past : List Moment) → KeepsMoments v d rate past
+    → IsProcessed v w d.busy (processed_by v told) (taken_in past)
+    → (took : Bool) → took ≡ (v.got && (nat_le 1 v.phase && is_some told))
+    → IsEntered (record w { took = took; missed = nat_le 3 w.phase && not took }) x (ends_with w took)
+    → KeepsMoments x d rate (after_mdt d rate told past ∷ past)
+keeps-mdt v w x d rate told past k processed took took_is entered =
+    by (processed_in d rate told past) refl (rw (processed_by-in v d rate told past k) at processed) (ends_in told past) refl
+    (subst (λ (p : ℕ). IsEntered (record w { took = took; missed = nat_le 3 w.phase && not took }) x p) (ends _ _ _ _ _ _ phase same_took missed) entered)
+  where
+    phase : w.phase ≡ phase_in past
+    phase = ap (λ (y : DriveState). y.phase) processed.same ∙ k.phase_is
+
+    missed : w.missed ≡ has_missed past
+    missed = ap (λ (y : DriveState). y.missed) processed.same ∙ k.missed_is
+
+    same_took : took ≡ takes told past
+    same_took = rw (k.got_is, k.phase_is) at took_is
+
+    by : (r : Option Taken) → processed_in d rate told past ≡ r → IsProcessed v w d.busy r (taken_in past)
+        → (end : ℕ) → ends_in told past ≡ end → IsEntered (record w { took = took; missed = nat_le 3 w.phase && not took }) x end
+        → KeepsMoments x d rate (after_mdt d rate told past ∷ past)
+    by r r_is p end end_is e = rw (r_is, end_is) (record {
+      address_is = ap (λ (y : DriveState). y.address) e.same ∙ ap (λ (y : DriveState). y.address) p.same ∙ k.address_is;
+      phase_is = ap (λ (y : DriveState). y.phase) e.same;
+      cycle_is = ap (λ (y : DriveState). y.cycle) e.same ∙ ap (λ (y : DriveState). y.cycle) p.same ∙ k.cycle_is;
+      got_is = ap (λ (y : DriveState). y.got) e.same ∙ ap (λ (y : DriveState). y.got) p.same ∙ k.got_is;
+      took_is = ap (λ (y : DriveState). y.took) e.same ∙ same_took;
+      missed_is = ap (λ (y : DriveState). y.missed) e.same ∙ misses _ _ _ _ phase same_took;
+      writes_is = ap (λ (y : DriveState). y.writes) e.same ∙ ap (λ (y : DriveState). y.writes) p.same ∙ counted_with-length r (taken_in past) (writes_in past) v.writes k.writes_is;
+      channel_is = e.channel d.busy (with_record r (taken_in past)) p.channel;
+      commands_is = ap (λ (y : DriveState). y.commands) e.same ∙ ap (reset_in end) (ap (λ (y : DriveState). y.commands) p.same ∙ ap (commands_after r (taken_in past)) k.commands_is);
+      blocks_is = ap (λ (y : DriveState). y.blocks) e.same ∙ ap (λ (y : DriveState). y.blocks) p.same ∙ ap (blocks_after r (taken_in past)) k.blocks_is;
+      calls_are = e.calls rate d.command (calls_after r (taken_in past) (calls_in past)) (p.calls rate d.command (calls_in past) k.calls_are (rw k.cycle_is k.in_order));
+      in_order = rw (newest-with_reset end (calls_after r (taken_in past) (calls_in past))) (rw r_is at (newest-after d rate told past k.in_order));
+    })
+
+-- What the MDT says.
+pub told_is : (v : DriveState) (d : DriveView) (rate : ℕ) (content : Option (List ℕ)) (past : List Moment) → KeepsMoments v d rate past
+    → mdt_got v.address v.phase v.blocks content ≡ mdt_got d.address (phase_in past) (blocks_in d past) content
+told_is v d rate content past k = rw (k.address_is, k.phase_is, k.blocks_is) refl
+
+-- The blocks of each record since the last reset are, but for their operation data, those of the drive.
+
+-- a write changes the operation data of blocks alone
+abbrev pub StaysAlike : Type 0
+StaysAlike = (w : Option Write) (c : CommandsView) (blocks : List Block) → AreAlike (blocks_with w c blocks) blocks
+
+AreThose-alike : (blocks others : List Block) (h : List Taken) → AreAlike blocks others → AreThose blocks h → AreThose others h
+AreThose-alike blocks others [] same those = tt
+AreThose-alike blocks others (t ∷ h) same those = (those.0 ∙ same, AreThose-alike blocks others h same those.1)
+
+AreThose-in_phase : (phase : ℕ) (blocks : List Block) (h : List Taken) → AreThose blocks h → AreThose blocks (in_phase phase h)
+AreThose-in_phase phase blocks h those = by (phase == 0)
+  where
+    by : (zero : Bool) → AreThose blocks (cond zero [] h)
+    by true = tt
+    by false = those
+
+AreThose-after : StaysAlike → (d : DriveView) (rate : ℕ) (told : Option Told) (past : List Moment) → AreThose (blocks_in d past) (taken_in past)
+    → AreThose (blocks_after (processed_in d rate told past) (taken_in past) (blocks_in d past)) (with_record (processed_in d rate told past) (taken_in past))
+AreThose-after alike d rate None past those = those
+AreThose-after alike d rate (Some told) past those = by (has_mst past && nat_le 2 (phase_in past))
+  where
+    t : Taken
+    t = record_of (cycle_in past) (phase_in past) told.control told.info (blocks_in d past) (commands_in d rate past)
+
+    by : (b : Bool) → AreThose (blocks_after (cond b (Some t) None) (taken_in past) (blocks_in d past)) (with_record (cond b (Some t) None) (taken_in past))
+    by true =
+        let same = alike (added_on t (taken_in past)) (commands_in d rate past) (blocks_in d past) in
+        (sym same, AreThose-alike (blocks_in d past) _ (taken_in past) (sym same) those)
+    by false = those
+
+pub those_at : StaysAlike → (d : DriveView) (rate : ℕ) (h : List DriveCall) → AreThose (blocks_in d (annals d rate h)) (taken_in (annals d rate h))
+those_at alike d rate [] = tt
+those_at alike d rate (Mst cycle content ∷ h) = AreThose-in_phase (stands_in d rate cycle (mst_got content) (annals d rate h)) _ _ (those_at alike d rate h)
+those_at alike d rate (Mdt content ∷ h) =
+    let told = mdt_got d.address (phase_in (annals d rate h)) (blocks_in d (annals d rate h)) content in
+    AreThose-in_phase (ends_in told (annals d rate h)) _ _ (AreThose-after alike d rate told (annals d rate h) (those_at alike d rate h))
+those_at alike d rate (Restart ∷ h) = tt

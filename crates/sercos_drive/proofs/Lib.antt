@@ -1,0 +1,3 @@
+mod DriveLemmas
+mod RecordLemmas
+mod Worked

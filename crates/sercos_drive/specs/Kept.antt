@@ -1,0 +1,46 @@
+-- What a drive keeps of the calls so far, and for which calls it stands.
+use Rattle.std.specs.Prelude.{◌≡◌, ℕ, ◌^◌, ◌-◌, ◌≤◌, Bool, List, length, min}
+use Rattle.sercos_block.specs.declared.block.Block.{Block}
+use Rattle.sercos_block.specs.Views.{DriveView}
+use Rattle.sercos_command.specs.Settings.{CommandsView}
+use Rattle.sercos_command.specs.Calls.{newest, CommandsStandFor}
+use Rattle.sercos_service_drive.specs.Kept.{ChannelView, ChannelStandsFor}
+use Rattle.sercos_drive.specs.Heard.{DriveCall}
+use Rattle.sercos_drive.specs.Moments.{Moment, phase_in, cycle_in, has_mst, has_taken, has_missed, taken_in, writes_in, blocks_in, commands_in, calls_in}
+use Rattle.sercos_drive.specs.Annals.{annals}
+
+pub record DriveState : Type 0 where
+  pub address : ℕ
+  pub phase : ℕ
+  pub cycle : ℕ
+  pub got : Bool
+  pub took : Bool
+  pub missed : Bool
+  pub writes : ℕ
+  pub channel : ChannelView
+  pub commands : CommandsView
+  pub blocks : List Block
+
+-- a count of 32 bits stands still at its end
+abbrev pub counted : ℕ → ℕ
+counted n = min n (2 ^ 32 - 1)
+
+-- what is kept are these functions of the moments
+pub record KeepsMoments (v : DriveState) (d : DriveView) (rate : ℕ) (past : List Moment) : Type 0 where
+  pub address_is : v.address ≡ d.address
+  pub phase_is : v.phase ≡ phase_in past
+  pub cycle_is : v.cycle ≡ cycle_in past
+  pub got_is : v.got ≡ has_mst past
+  pub took_is : v.took ≡ has_taken past
+  pub missed_is : v.missed ≡ has_missed past
+  pub writes_is : v.writes ≡ counted (length (writes_in past))
+  pub channel_is : ChannelStandsFor v.channel d.busy (taken_in past)
+  pub commands_is : v.commands ≡ commands_in d rate past
+  pub blocks_is : v.blocks ≡ blocks_in d past
+  pub calls_are : CommandsStandFor v.commands rate d.command (calls_in past)
+  -- no call on the procedure commands was for a later cycle
+  pub in_order : newest (calls_in past) ≤ cycle_in past
+
+-- The drive stands for these calls since it was opened with this setup, in a ring of this rate.
+abbrev pub DriveStandsFor : DriveState → DriveView → ℕ → List DriveCall → Type 0
+DriveStandsFor v d rate h = KeepsMoments v d rate (annals d rate h)

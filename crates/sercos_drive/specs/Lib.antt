@@ -1,0 +1,7 @@
+pub mod Heard
+pub mod Moments
+pub mod Annals
+pub mod Says
+pub mod Kept
+pub mod Steps
+pub mod Laws

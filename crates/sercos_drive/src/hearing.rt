@@ -1,0 +1,105 @@
+// What a drive gets of the contents that arrive.
+ghost use Rattle.std.specs.Prelude.{◌≡◌, ◌≤◌, IfSome};
+ghost use Rattle.std.specs.Option.{option_copied};
+ghost use Rattle.sercos_drive.specs.Heard.{mst_in, mst_got, single_in, lies_within, record_in, joint_in, mdt_got};
+
+use sercos_block::Store;
+use sercos_block::numbers::{MDT_LENGTH, MDT_LIST, POSITION};
+use sercos_command::{carried_len, number_at};
+use sercos_telegram::{Control, read_joint, read_mst, read_single};
+
+/// What an MDT tells the drive.
+#[derive(Clone, Copy, Debug, PartialEq, Eq)]
+pub struct Told {
+    /// The control word.
+    pub control: Control,
+    /// The information word of the service channel.
+    pub info: u16,
+}
+
+// The phase that an MST commands, if the content spells one.
+#[tactic(auto, unfolding(crate::specs::Heard::mst_in))]
+fn mst_in(content: &[u8]) -> Option<u8>
+    ensures value { result ≡ mst_in content.now }
+    ensures bound { IfSome result (λ phase. phase ≤ 4) }
+{
+    match read_mst(content) {
+        Ok(mst) => Some(mst.phase),
+        Err(_) => None,
+    }
+}
+
+// The phase of the MST that was got, if one was.
+pub(crate) fn mst_got(content: Option<&[u8]>) -> Option<u8>
+    ensures value { result ≡ mst_got (option_copied content.entry) }
+    ensures bound { IfSome result (λ phase. phase ≤ 4) }
+{
+    match content {
+        Some(content) => mst_in(content),
+        None => None,
+    }
+}
+
+// An MDT to the drive of this address.
+#[tactic(auto, unfolding(crate::specs::Heard::single_in))]
+fn single_in(address: u8, content: &[u8]) -> Option<Told>
+    ensures { result ≡ single_in address content.now }
+{
+    match read_single(address, content) {
+        Ok((control, info)) => Some(Told { control, info }),
+        Err(_) => None,
+    }
+}
+
+// Whether a record of this length lies within an MDT at this position.
+fn lies_within(mdt_len: u16, position: u16, len: u16) -> bool
+    ensures { result ≡ lies_within mdt_len position len }
+{
+    1 <= position && u32::from(position) + u32::from(len) <= u32::from(mdt_len) + 1
+}
+
+// The record at a position of an MDT to all drives.
+fn record_in(mdt_len: u16, position: u16, len: u16, content: &[u8]) -> Option<Told>
+    requires { 4 ≤ len }
+    ensures { result ≡ record_in mdt_len position len content.now }
+{
+    if !lies_within(mdt_len, position, len) {
+        return None;
+    }
+    match read_joint(mdt_len, position, len, content) {
+        Ok(record) => Some(Told {
+            control: record.control,
+            info: record.info,
+        }),
+        Err(_) => None,
+    }
+}
+
+// The record of an MDT to all drives that is the drive's own, by its data blocks.
+#[tactic(auto, unfolding(crate::specs::Heard::joint_in))]
+fn joint_in(store: &Store, content: &[u8]) -> Option<Told>
+    ensures { result ≡ joint_in store.now content.now }
+{
+    record_in(
+        number_at(store, MDT_LENGTH) as u16,
+        number_at(store, POSITION) as u16,
+        carried_len(store, MDT_LIST) as u16,
+        content,
+    )
+}
+
+// What the drive gets at the MDT's place, in the phase in which it stands.
+pub(crate) fn mdt_got(address: u8, phase: u8, store: &Store, content: Option<&[u8]>) -> Option<Told>
+    ensures { result ≡ mdt_got address phase store.now (option_copied content.entry) }
+{
+    match content {
+        Some(content) => {
+            if 3 <= phase {
+                joint_in(store, content)
+            } else {
+                single_in(address, content)
+            }
+        }
+        None => None,
+    }
+}

@@ -1,0 +1,10 @@
+//! A drive of the ring: its phase, what it takes of the MDTs, what it writes, and what it says.
+#![tactic(auto)]
+
+mod drive;
+mod feedback;
+mod hearing;
+mod law;
+
+pub use drive::Drive;
+pub use law::drive_law;
