@@ -1,5 +1,5 @@
 -- A request of a document.
-use Rattle.std.specs.Prelude.{ℕ, pos, ◌&&◌, ◌++◌, nat_le, not, Bool, true, false, List, [], ◌∷◌, length, codes, if◌then◌else◌, Option, Some, None, Ok}
+use Rattle.std.specs.Prelude.{ℕ, pos, ◌++◌, nat_le, not, Bool, true, false, List, [], ◌∷◌, length, codes, if◌then◌else◌, Option, Some, None, Ok}
 use Rattle.std.specs.Str.{bytes_eq}
 use Rattle.std.specs.Result.{result_ok}
 use Rattle.hex.specs.Hex.{decode_of}

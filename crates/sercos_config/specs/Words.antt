@@ -1,5 +1,5 @@
 -- Keys whose values are words or addresses of drives.
-use Rattle.std.specs.Prelude.{ℕ, pos, List, length, codes, if◌then◌else◌, Bool, Option, Some, None, option_and_then, Ok}
+use Rattle.std.specs.Prelude.{ℕ, pos, List, length, codes, if◌then◌else◌, Bool, Option, option_and_then, Ok}
 use Rattle.toml.specs.Data.{get_member, as_str}
 use Rattle.sercos_block.specs.Views.{DriveView}
 use Rattle.sercos_block.specs.Rings.{has_address}

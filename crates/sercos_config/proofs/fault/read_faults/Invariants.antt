@@ -1,4 +1,4 @@
-use Rattle.std.proofs.Common.{◌≡◌, ◌≤◌, [], map, drop, length}
+use Rattle.std.proofs.Common.{◌≡◌, ◌≤◌, [], map, drop}
 use Rattle.std.specs.List.{All}
 use Rattle.toml.specs.View.{table_view}
 use Rattle.sercos_config.specs.Fault.{faults_onto}
