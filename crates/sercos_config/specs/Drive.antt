@@ -54,11 +54,17 @@ drive_keys =
     codes "address" ∷ codes "slave" ∷ codes "busy" ∷ codes "command" ∷ codes "t1min" ∷ codes "tatmt" ∷ codes "t4min" ∷ codes "tatat"
     ∷ codes "tmtsy" ∷ codes "tmtsg" ∷ codes "cycle_min" ∷ codes "cycle_max" ∷ codes "block" ∷ codes "at" ∷ codes "mdt" ∷ []
 
--- the numbers of a drive, whose address none of these drives has
-unfoldable pub drive_numbers_of : List DriveView → Located → Answer DriveNumbers
-drive_numbers_of before t = do
+-- an address that none of these drives has
+unfoldable pub new_address : List DriveView → Located → Answer ℕ
+new_address before t = do
   address ← number t (codes "address") 1 254
   demand (not (has_address address before)) (bad.Twice (path t.place (codes "address")))
+  Ok address
+
+-- the numbers of a drive, behind these drives
+unfoldable pub drive_numbers_of : List DriveView → Located → Answer DriveNumbers
+drive_numbers_of before t = do
+  address ← new_address before t
   slave ← number_or t (codes "slave") 1 254 address
   busy ← number_or t (codes "busy") 0 20 0
   command ← number_or t (codes "command") 0 200 0

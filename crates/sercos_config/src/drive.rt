@@ -7,7 +7,7 @@ ghost use Rattle.sercos_document.specs.Answers.{Gives, Shows};
 ghost use Rattle.sercos_document.specs.Tables.{known};
 ghost use Rattle.sercos_document.specs.Located.{located};
 ghost use Rattle.sercos_config.specs.Block.{idn_in};
-ghost use Rattle.sercos_config.specs.Drive.{idn_at, idns_onto, idns_of, times_of, drive_keys, drive_numbers_of, drive_of, drives_onto};
+ghost use Rattle.sercos_config.specs.Drive.{idn_at, idns_onto, idns_of, times_of, drive_keys, new_address, drive_numbers_of, drive_of, drives_onto};
 
 use crate::block::{idn_of, read_blocks};
 use arrayvec::ArrayVec;
@@ -80,6 +80,19 @@ fn read_drive(keys: &Keys<'_>, before: &[DriveSetup]) -> Result<DriveSetup, BadD
     })
 }
 
+// An address that none of these drives has.
+#[tactic(auto, unfolding(crate::specs::Drive::new_address))]
+fn read_new_address(keys: &Keys<'_>, before: &[DriveSetup]) -> Result<u8, BadDocument>
+    ensures value { Gives result (new_address before.now (located keys.now)) }
+    ensures within { IfOk result (λ address. (1 ≤ address) × (address ≤ 254)) }
+    ensures once { IfOk result (λ address. has_address address before.now ≡ false) }
+{
+    let address = keys.number("address", 1, 254)?;
+    let taken = has_address(address as u8, before);
+    keys.demand_once(!taken, "address")?;
+    Ok(address as u8)
+}
+
 // The numbers of a drive, behind these drives.
 #[tactic(auto, unfolding(crate::specs::Drive::drive_numbers_of, sercos_block::specs::Rings::are_drive_numbers))]
 fn read_numbers(keys: &Keys<'_>, before: &[DriveSetup]) -> Result<DriveNumbers, BadDocument>
@@ -88,17 +101,15 @@ fn read_numbers(keys: &Keys<'_>, before: &[DriveSetup]) -> Result<DriveNumbers, 
     ensures valid { IfOk result (λ n.
         are_drive_numbers n.address n.slave n.busy n.command n.times n.cycle_min n.cycle_max ≡ true) }
 {
-    let address = keys.number("address", 1, 254)?;
-    let taken = has_address(address as u8, before);
-    keys.demand_once(!taken, "address")?;
-    let slave = keys.number_or("slave", 1, 254, address)?;
+    let address = read_new_address(keys, before)?;
+    let slave = keys.number_or("slave", 1, 254, u32::from(address))?;
     let busy = keys.number_or("busy", 0, 20, 0)?;
     let command = keys.number_or("command", 0, 200, 0)?;
     let times = read_times(keys)?;
     let cycle_min = keys.number_or("cycle_min", 0, 64000, 125)?;
     let cycle_max = keys.number_or("cycle_max", 0, 64000, 64000)?;
     Ok(DriveNumbers {
-        address: address as u8,
+        address,
         slave: slave as u8,
         busy: busy as u8,
         command: command as u16,
