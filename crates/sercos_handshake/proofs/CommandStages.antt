@@ -90,7 +90,7 @@ module _ (idn : Idn) (b : Block) where
       by : (n k : ℕ) → n ≡ suc k → nat_le (suc (suc n)) (suc (suc k)) ≡ false
       by n k is = grind (arith, nat_tests)
 
-  whole_cancels : (words : List ℕ) (w v : ℕ) (polled : List ℕ) (x : ℕ) → words ≡ w ∷ v ∷ polled → length (polling (polled ++ x ∷ [])) ≡ suc (length polled) → is_whole asked (words ++ x ∷ []) ≡ true
+  pub whole_cancels : (words : List ℕ) (w v : ℕ) (polled : List ℕ) (x : ℕ) → words ≡ w ∷ v ∷ polled → length (polling (polled ++ x ∷ [])) ≡ suc (length polled) → is_whole asked (words ++ x ∷ []) ≡ true
   whole_cancels words w v polled x is long =
       let more = length-append polled (x ∷ []) in
       rw is (by (length (polling (polled ++ x ∷ []))) (length (polled ++ x ∷ [])) (omega arith))

@@ -136,7 +136,7 @@ found_read e cycle b c low high said alike there sound are =
     ap (λ (s : Shape). read_from s (element_words e cycle c)) layout ∙ reads_element e cycle c low high (keeps c sound) (none_of-then (is_none (element_of c e)) (0x1000 * e + 1) there) are
 
 -- a data status is one byte
-status_small : (time cycle : ℕ) (o : Option SetCommand) → status_by time o cycle < 256
+pub status_small : (time cycle : ℕ) (o : Option SetCommand) → status_by time o cycle < 256
 status_small time cycle None = omega arith
 status_small time cycle (Some s) = by (has_ended time cycle s) s.well
   where
@@ -155,39 +155,40 @@ words_of_it raw e t = words_at raw e t.cycle t.blocks t.commands
 no_status : (e : ℕ) → 2 ≤ e → (e == 1) ≡ false
 no_status e low = grind (arith, nat_tests)
 
-copied_read : (raw e : ℕ) (b c : Block) (t : Taken) → 1 ≤ e → e ≤ 7 → shape_of 7 (low_of b + 65536 * high_of b) ≡ shape_by b.attribute.length → find_block raw t.blocks ≡ Some c → without_data c ≡ without_data b →
-    missing raw e t.blocks ≡ None → (2 ≤ e → IsStore t.blocks) → (e ≡ 7 → AreBytes c.value) → read_from (shape_read e b) (words_of_it raw e t) ≡ bytes_at raw e c t
-copied_read raw zero b c t low high said found alike there store are = absurd (omega arith)
-copied_read raw (suc zero) b c t low high said found alike there store are = status_read (status_in t.commands raw t.cycle) (status_small t.commands.time t.cycle (find_set raw t.commands.set))
-copied_read raw (suc (suc n)) b c t low high said found alike there store are =
-    let more : 2 ≤ suc (suc n) = omega arith in
-    let other = no_status (suc (suc n)) more in
-    let words : words_of_it raw (suc (suc n)) t ≡ element_words (suc (suc n)) t.cycle c = cond-false (suc (suc n) == 1) _ _ other ∙ ap (λ (o : Option Block). unwrap_or (option_map (element_words (suc (suc n)) t.cycle) o) []) found in
-    let bytes : bytes_at raw (suc (suc n)) c t ≡ element_in (suc (suc n)) t.cycle c = cond-false (suc (suc n) == 1) _ _ other in
-    let fault : missing raw (suc (suc n)) t.blocks ≡ read_fault (Some c) (suc (suc n)) = cond-false (suc (suc n) == 1) _ _ other ∙ ap (λ (o : Option Block). read_fault o (suc (suc n))) found in
-    let sound = found_sound raw t.blocks c (store more).sound found in
-    ap (read_from (shape_read (suc (suc n)) b)) words ∙ found_read (suc (suc n)) t.cycle b c more high said alike (sym fault ∙ there) sound are ∙ sym bytes
+module _ (typed : (blocks : List Block) (raw : ℕ) (b : Block) → IsStore blocks → find_block raw blocks ≡ Some b → AreBytes b.value) where
+  copied_read : (raw e : ℕ) (b c : Block) (t : Taken) → 1 ≤ e → e ≤ 7 → shape_of 7 (low_of b + 65536 * high_of b) ≡ shape_by b.attribute.length → find_block raw t.blocks ≡ Some c → without_data c ≡ without_data b →
+      missing raw e t.blocks ≡ None → (2 ≤ e → IsStore t.blocks) → read_from (shape_read e b) (words_of_it raw e t) ≡ bytes_at raw e c t
+  copied_read raw zero b c t low high said found alike there store = absurd (omega arith)
+  copied_read raw (suc zero) b c t low high said found alike there store = status_read (status_in t.commands raw t.cycle) (status_small t.commands.time t.cycle (find_set raw t.commands.set))
+  copied_read raw (suc (suc n)) b c t low high said found alike there store =
+      let more : 2 ≤ suc (suc n) = omega arith in
+      let other = no_status (suc (suc n)) more in
+      let words : words_of_it raw (suc (suc n)) t ≡ element_words (suc (suc n)) t.cycle c = cond-false (suc (suc n) == 1) _ _ other ∙ ap (λ (o : Option Block). unwrap_or (option_map (element_words (suc (suc n)) t.cycle) o) []) found in
+      let bytes : bytes_at raw (suc (suc n)) c t ≡ element_in (suc (suc n)) t.cycle c = cond-false (suc (suc n) == 1) _ _ other in
+      let fault : missing raw (suc (suc n)) t.blocks ≡ read_fault (Some c) (suc (suc n)) = cond-false (suc (suc n) == 1) _ _ other ∙ ap (λ (o : Option Block). read_fault o (suc (suc n))) found in
+      let sound = found_sound raw t.blocks c (store more).sound found in
+      ap (read_from (shape_read (suc (suc n)) b)) words ∙ found_read (suc (suc n)) t.cycle b c more high said alike (sym fault ∙ there) sound (λ seven. typed t.blocks raw c (store more) found) ∙ sym bytes
 
-pub reads_once_by : (idn : Idn) (e : ℕ) (bytes : List ℕ) (blocks : List Block) (b : Block) (s : Entry) (entries log : List Entry) → shape_of 7 (low_of b + 65536 * high_of b) ≡ shape_by b.attribute.length → 1 ≤ e → e ≤ 7 →
-    find_block idn.raw blocks ≡ Some b → IsTransfer (request.Read idn e) blocks s entries log → outcome_of (request.Read idn e) (replies_of (s ∷ entries)) ≡ Some (outcome.Complete bytes) →
-    (selection : Entry) × (entry_behind (steps_before e) (s ∷ entries) ≡ Some selection) × IsReadAt idn.raw e b bytes selection.taken
-reads_once_by idn e bytes blocks b s entries log said low high found is complete =
-    let given = given_by idn e b blocks found (some e low) bytes s entries log is complete in
-    let stands = block_there b (find_block idn.raw given.entry.taken.blocks) (find-alike idn.raw given.entry.taken.blocks blocks b given.alike found) in
-    let there = ap (λ (n : ℕ). missing idn.raw n given.entry.taken.blocks) (sym given.element) ∙ given.there in
-    let copied = ap (λ (n : ℕ). words_of_it idn.raw n given.entry.taken) given.element in (
-      given.entry,
-      given.at,
-      record {
-        reads = given.reads;
-        element = given.element;
-        block = stands.0;
-        found = stands.1;
-        alike = stands.2;
-        there = given.there;
-        gives = λ store are. given.gives ∙ ap (read_from (shape_read e b)) copied ∙ copied_read idn.raw e b stands.0 given.entry.taken low high said stands.1 stands.2 there store are;
-      },
-    )
-  where
-    some : (n : ℕ) → 1 ≤ n → (n == 0) ≡ false
-    some n low = grind (arith, nat_tests)
+  pub reads_once_by : (idn : Idn) (e : ℕ) (bytes : List ℕ) (blocks : List Block) (b : Block) (s : Entry) (entries log : List Entry) → shape_of 7 (low_of b + 65536 * high_of b) ≡ shape_by b.attribute.length → 1 ≤ e → e ≤ 7 →
+      find_block idn.raw blocks ≡ Some b → IsTransfer (request.Read idn e) blocks s entries log → outcome_of (request.Read idn e) (replies_of (s ∷ entries)) ≡ Some (outcome.Complete bytes) →
+      (selection : Entry) × (entry_behind (steps_before e) (s ∷ entries) ≡ Some selection) × IsReadAt idn.raw e b bytes selection.taken
+  reads_once_by idn e bytes blocks b s entries log said low high found is complete =
+      let given = given_by idn e b blocks found (some e low) bytes s entries log is complete in
+      let stands = block_there b (find_block idn.raw given.entry.taken.blocks) (find-alike idn.raw given.entry.taken.blocks blocks b given.alike found) in
+      let there = ap (λ (n : ℕ). missing idn.raw n given.entry.taken.blocks) (sym given.element) ∙ given.there in
+      let copied = ap (λ (n : ℕ). words_of_it idn.raw n given.entry.taken) given.element in (
+        given.entry,
+        given.at,
+        record {
+          reads = given.reads;
+          element = given.element;
+          block = stands.0;
+          found = stands.1;
+          alike = stands.2;
+          there = given.there;
+          gives = λ store. given.gives ∙ ap (read_from (shape_read e b)) copied ∙ copied_read idn.raw e b stands.0 given.entry.taken low high said stands.1 stands.2 there store;
+        },
+      )
+    where
+      some : (n : ℕ) → 1 ≤ n → (n == 0) ≡ false
+      some n low = grind (arith, nat_tests)

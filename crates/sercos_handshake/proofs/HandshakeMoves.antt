@@ -6,12 +6,13 @@ use Rattle.sercos_telegram.specs.declared.words.Status.{Status}
 use Rattle.sercos_step.specs.declared.step.Step.{Step}
 use Rattle.sercos_step.specs.declared.step.Answer.{Answer}
 use Rattle.sercos_service_drive.specs.Log.{Taken, Entry, ahs, accepted}
+use Rattle.sercos_service_drive.specs.Replies.{reply_of, answered, log_of}
 use Rattle.sercos_service_drive.specs.Says.{Shown, shown, shown_by}
 use Rattle.sercos_service_master.specs.Begun.{Begun, Said, open_in, steps_in, answers_in, steps_begun, step_at, with_step, is_odd, mhs_in, answers_it, answer_in, with_answer, step_or_none, master_says}
 use Rattle.sercos_handshake.specs.InStep.{InStep, Idle, Sent, Kept, AreInStep, steps_of, replies_of}
 use Rattle.sercos_handshake.specs.Moves.{Hears, Begins, Takes, with_status, said_in, with_taken}
 
-beq-self : (b : Bool) → beq b b ≡ true
+pub beq-self : (b : Bool) → beq b b ≡ true
 beq-self true = refl
 beq-self false = refl
 
@@ -30,11 +31,26 @@ bit_step false true t h e = ap not e
 bit_step false false t h e = e
 
 -- AHS is the parity of the accepted steps
-pub ahs-is_odd : (h : List Taken) → ahs h ≡ is_odd (accepted h)
+ahs-is_odd : (h : List Taken) → ahs h ≡ is_odd (accepted h)
 ahs-is_odd [] = refl
 ahs-is_odd (t ∷ h) = bit_step t.mhs (ahs h) t (accepted h) (ahs-is_odd h)
 
-pub is_odd-steps_of : (log : List Entry) → is_odd (steps_of log) ≡ is_odd log
+is_odd-answered : (h : List Taken) → is_odd (answered h) ≡ is_odd h
+is_odd-answered [] = refl
+is_odd-answered (t ∷ h) = ap not (is_odd-answered h)
+
+pub ahs-log : (h : List Taken) → ahs h ≡ is_odd (log_of h)
+ahs-log h = ahs-is_odd h ∙ sym (is_odd-answered (accepted h))
+
+-- the log with one more record
+pub log-taken : (t : Taken) (h : List Taken) → log_of (t ∷ h) ≡ with_taken t (reply_of t (log_of h)) (log_of h)
+log-taken t h = joined (beq t.mhs (ahs h)) ∙ ap (λ (a : Bool). if beq t.mhs a then log_of h else (record { taken = t; answer = reply_of t (log_of h) }) ∷ log_of h) (ahs-log h)
+  where
+    joined : (v : Bool) → answered (if v then accepted h else t ∷ accepted h) ≡ (if v then log_of h else (record { taken = t; answer = reply_of t (log_of h) }) ∷ log_of h)
+    joined true = refl
+    joined false = refl
+
+is_odd-steps_of : (log : List Entry) → is_odd (steps_of log) ≡ is_odd log
 is_odd-steps_of [] = refl
 is_odd-steps_of (e ∷ log) = ap not (is_odd-steps_of log)
 
@@ -52,7 +68,7 @@ ahs-shown_so : (bit change : Bool) (e : Entry) (v : Bool) → (shown_so bit chan
 ahs-shown_so bit change e true = refl
 ahs-shown_so bit change e false = refl
 
-ahs-shown : (busy cycle : ℕ) (bit change : Bool) (log : List Entry) → (shown busy cycle bit change log).ahs ≡ bit
+pub ahs-shown : (busy cycle : ℕ) (bit change : Bool) (log : List Entry) → (shown busy cycle bit change log).ahs ≡ bit
 ahs-shown busy cycle bit change [] = refl
 ahs-shown busy cycle bit change (e ∷ log) = ahs-shown_so bit change e (nat_le (cycle - e.taken.cycle) busy)
 
@@ -60,13 +76,13 @@ ahs-shown busy cycle bit change (e ∷ log) = ahs-shown_so bit change e (nat_le 
 quiet_none : (begun : List Begun) (status : Status) → open_in begun ≡ None → answers_it begun status ≡ false
 quiet_none begun status none = rw none refl
 
-quiet_bit : (begun : List Begun) (log : List Entry) (s : Step) (status : Status) → steps_in begun ≡ s ∷ steps_of log → status.ahs ≡ is_odd log → open_in begun ≡ Some s → answers_it begun status ≡ false
+pub quiet_bit : (begun : List Begun) (log : List Entry) (s : Step) (status : Status) → steps_in begun ≡ s ∷ steps_of log → status.ahs ≡ is_odd log → open_in begun ≡ Some s → answers_it begun status ≡ false
 quiet_bit begun log s status steps bit opened = rw (opened, steps, bit, is_odd-steps_of log, beq-not (is_odd log)) refl
 
 -- the open step has the answer, and with it the next one is open or none
-answered : (o : Option Step) (steps : List Step) (answers : List Answer) (log : List Entry) → steps ≡ steps_of log → answers ≡ replies_of log → InStep o (with_step o steps) answers log
-answered None steps answers log s a = Idle refl s a
-answered (Some step) steps answers log s a = Sent step refl (ap (λ (l : List Step). step ∷ l) s) a
+next_open : (o : Option Step) (steps : List Step) (answers : List Answer) (log : List Entry) → steps ≡ steps_of log → answers ≡ replies_of log → InStep o (with_step o steps) answers log
+next_open None steps answers log s a = Idle refl s a
+next_open (Some step) steps answers log s a = Sent step refl (ap (λ (l : List Step). step ∷ l) s) a
 
 with_step-append : (o : Option Step) (steps more : List Step) → with_step o steps ++ more ≡ with_step o (steps ++ more)
 with_step-append None steps more = refl
@@ -76,7 +92,7 @@ takes_answer : (begun : List Begun) (e : Entry) (past : List Entry) → open_in 
 takes_answer [] e past opened steps answers = absurd (cc)
 takes_answer (b ∷ begun) e past opened steps answers =
     rw (with_step-append (step_at b.request (e.answer ∷ b.answers)) (steps_begun b.request b.answers) (steps_in begun))
-    (answered (step_at b.request (e.answer ∷ b.answers)) (steps_in (b ∷ begun)) (e.answer ∷ answers_in (b ∷ begun)) (e ∷ past) steps (ap (λ (l : List Answer). e.answer ∷ l) answers))
+    (next_open (step_at b.request (e.answer ∷ b.answers)) (steps_in (b ∷ begun)) (e.answer ∷ answers_in (b ∷ begun)) (e ∷ past) steps (ap (λ (l : List Answer). e.answer ∷ l) answers))
 
 hears_kept : (begun : List Begun) (e : Entry) (past : List Entry) (change : Bool) (status : Status) (word : ℕ) (v : Bool) →
     open_in begun ≡ Some e.taken.step → steps_in begun ≡ steps_of (e ∷ past) → answers_in begun ≡ replies_of past →
@@ -131,16 +147,16 @@ takes_new begun log t answer bit opened s a =
     joins false off = Kept (record { taken = t; answer = answer }) log opened refl s a
 
 -- a record's parts
-said_bit : (t : Taken) (begun : List Begun) → said_in t ≡ master_says begun → t.mhs ≡ mhs_in begun
+pub said_bit : (t : Taken) (begun : List Begun) → said_in t ≡ master_says begun → t.mhs ≡ mhs_in begun
 said_bit t begun says = ap (λ (s : Said). s.mhs) says
 
-said_step : (t : Taken) (begun : List Begun) → said_in t ≡ master_says begun → t.step ≡ step_or_none (open_in begun)
+pub said_step : (t : Taken) (begun : List Begun) → said_in t ≡ master_says begun → t.step ≡ step_or_none (open_in begun)
 said_step t begun says = ap (λ (s : Said). s.step) says
 
-parity : (steps : List Step) (log : List Entry) → steps ≡ steps_of log → is_odd steps ≡ is_odd log
+pub parity : (steps : List Step) (log : List Entry) → steps ≡ steps_of log → is_odd steps ≡ is_odd log
 parity steps log s = ap (λ (l : List Step). is_odd l) s ∙ is_odd-steps_of log
 
-parity_sent : (steps : List Step) (s : Step) (log : List Entry) → steps ≡ s ∷ steps_of log → is_odd steps ≡ not (is_odd log)
+pub parity_sent : (steps : List Step) (s : Step) (log : List Entry) → steps ≡ s ∷ steps_of log → is_odd steps ≡ not (is_odd log)
 parity_sent steps s log e = ap (λ (l : List Step). is_odd l) e ∙ ap not (is_odd-steps_of log)
 
 pub takes : Takes

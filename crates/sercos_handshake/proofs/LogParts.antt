@@ -15,7 +15,7 @@ use Rattle.sercos_handshake.specs.Parts.{AreInTurn, ComeInTurn, IsRow, IsPart, U
 use Rattle.sercos_handshake.proofs.TransferSteps.{length-steps_of, length-replies_of, length-steps_begun}
 
 -- a step is open only where the transfer goes on
-goes_on_at : (r : Request) (h : List Answer) → is_some (step_at r h) ≡ true → outcome_of r h ≡ None
+pub goes_on_at : (r : Request) (h : List Answer) → is_some (step_at r h) ≡ true → outcome_of r h ≡ None
 goes_on_at r h some = by (outcome_of r h) some
   where
     by : (o : Option Outcome) → is_some (if is_some o then None else next_step r h) ≡ true → o ≡ None
@@ -23,11 +23,11 @@ goes_on_at r h some = by (outcome_of r h) some
     by (Some x) some = absurd (cc)
 
 -- one call more
-answered_in_turn : (a : Answer) (begun : List Begun) → is_some (open_in begun) ≡ true → AreInTurn begun → AreInTurn (with_answer a begun)
+pub answered_in_turn : (a : Answer) (begun : List Begun) → is_some (open_in begun) ≡ true → AreInTurn begun → AreInTurn (with_answer a begun)
 answered_in_turn a [] some are = tt
 answered_in_turn a (b ∷ past) some are = (are.0, (are.1.0, (are.1.1, goes_on_at b.request b.answers some)))
 
-heard_in_turn : (v rest : Bool) (a : Answer) (begun : List Begun) → v ≡ is_some (open_in begun) → AreInTurn begun → AreInTurn (if v && rest then with_answer a begun else begun)
+pub heard_in_turn : (v rest : Bool) (a : Answer) (begun : List Begun) → v ≡ is_some (open_in begun) → AreInTurn begun → AreInTurn (if v && rest then with_answer a begun else begun)
 heard_in_turn true true a begun some are = answered_in_turn a begun (sym some) are
 heard_in_turn true false a begun some are = are
 heard_in_turn false rest a begun some are = are

@@ -20,7 +20,7 @@ use Rattle.sercos_service_drive.specs.Writes.{AreAlike}
 use Rattle.sercos_handshake.specs.InStep.{replies_of}
 use Rattle.sercos_handshake.specs.Transfers.{IsTransfer}
 use Rattle.sercos_handshake.specs.ReadTransfers.{entry_behind}
-use Rattle.sercos_handshake.proofs.TransferSteps.{newest_step, without_newest, goes_on-outcome_of, length-replies_of}
+use Rattle.sercos_handshake.proofs.TransferSteps.{length-answer_words, newest_step, without_newest, goes_on-outcome_of, length-replies_of}
 use Rattle.sercos_handshake.proofs.AttributeReplies.{attribute_words, IsRead, IsRead-alike, reply-read, reply_low, reply_high}
 use Rattle.sercos_handshake.proofs.ReadRows.{row, row-more, reading_next, reading_full, some_reading}
 use Rattle.sercos_handshake.proofs.WriteRuns.{run_grows, run_starts, open_by}
@@ -104,10 +104,6 @@ complete_is r a h bytes is = by a.error (is_whole r (answer_words h ++ a.word �
     by true whole code given is = absurd (cc)
     by false true code given is = (refl, refl, cc)
     by false false code given is = absurd (cc)
-
-length-answer_words : (h : List Answer) → length (answer_words h) ≡ length h
-length-answer_words [] = refl
-length-answer_words (a ∷ h) = let more = length-answer_words h in omega (arith, length-append (answer_words h) (a.word ∷ []))
 
 module _ (idn : Idn) (e : ℕ) (b : Block) (blocks : List Block) (found : find_block idn.raw blocks ≡ Some b) (some : (e == 0) ≡ false) where
   abbrev asked : Request

@@ -1,7 +1,8 @@
 -- The steps of the entries of a transfer, one by one.
-use Rattle.std.proofs.Common.{◌≡◌, ℕ, suc, ◌≤◌, Bool, true, false, not, ◌&&◌, List, [], ◌∷◌, ◌++◌, length, refl, ap, arith, if◌then◌else◌}
-use Rattle.std.specs.Prelude.{◌==◌, Option, Some, None, is_some}
-use Rattle.std.proofs.lemmas.Bool.{cond-false}
+use Rattle.std.proofs.Common.{◌≡◌, ℕ, zero, suc, ◌≤◌, Bool, true, false, not, ◌&&◌, List, [], ◌∷◌, ◌++◌, length, refl, sym, ap, ◌∙◌, arith, if◌then◌else◌, length-append}
+use Rattle.std.specs.Prelude.{◌==◌, Option, Some, None, is_some, slice_get}
+use Rattle.std.specs.List.{list_all}
+use Rattle.std.proofs.lemmas.Bool.{and_parts, cond-false}
 use Rattle.sercos_step.specs.declared.step.Step.{Step}
 use Rattle.sercos_step.specs.declared.step.Answer.{Answer}
 use Rattle.sercos_step.specs.declared.request.Request.{Request}
@@ -21,6 +22,16 @@ length-steps_of (e ∷ entries) = ap suc (length-steps_of entries)
 pub length-replies_of : (entries : List Entry) → length (replies_of entries) ≡ length entries
 length-replies_of [] = refl
 length-replies_of (e ∷ entries) = ap suc (length-replies_of entries)
+
+pub length-answer_words : (h : List Answer) → length (answer_words h) ≡ length h
+length-answer_words [] = refl
+length-answer_words (a ∷ h) = let more = length-answer_words h in omega (arith, length-append (answer_words h) (a.word ∷ []))
+
+-- what holds of all steps holds of each
+pub all-slice_get : (p : Step → Bool) (steps : List Step) (k : ℕ) (s : Step) → list_all p steps ≡ true → slice_get steps k ≡ Some s → p s ≡ true
+all-slice_get p [] k s all got = absurd (cc)
+all-slice_get p (x ∷ steps) zero s all got = let same : x ≡ s = cc in ap p (sym same) ∙ (and_parts (p x) (list_all p steps) all).0
+all-slice_get p (x ∷ steps) (suc k) s all got = all-slice_get p steps k s (and_parts (p x) (list_all p steps) all).1 got
 
 length-with_step : (o : Option Step) (steps : List Step) → length (with_step o steps) ≤ suc (length steps)
 length-with_step None steps = omega arith

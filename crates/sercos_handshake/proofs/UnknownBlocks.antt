@@ -1,7 +1,7 @@
 -- A transfer to a data block that the drive hasn't comes no further than its opening.
-use Rattle.std.proofs.Common.{◌≡◌, ℕ, Bool, true, false, List, [], ◌∷◌, ◌++◌, refl, ap, sym, ◌∙◌, if◌then◌else◌}
+use Rattle.std.proofs.Common.{◌≡◌, ℕ, true, false, List, [], ◌∷◌, ◌++◌, refl, ap, sym, ◌∙◌}
 use Rattle.std.specs.Prelude.{Option, Some, None, option_map, is_some, slice_get}
-use Rattle.std.proofs.lemmas.Bool.{cond-true}
+use Rattle.std.proofs.lemmas.Bool.{cond-true, cond-false}
 use Rattle.sercos_idn.specs.declared.idn.Idn.{Idn}
 use Rattle.sercos_step.specs.declared.step.Step.{Step}
 use Rattle.sercos_step.specs.declared.step.Answer.{Answer}
@@ -15,11 +15,11 @@ use Rattle.sercos_service_drive.specs.Replies.{good, refused, reply_of}
 use Rattle.sercos_service_drive.specs.Writes.{AreAlike, without_data, writes_of}
 use Rattle.sercos_handshake.specs.InStep.{replies_of}
 use Rattle.sercos_handshake.specs.Transfers.{IsTransfer}
-use Rattle.sercos_handshake.specs.CommandTransfers.{WritesNowhere, idn_of}
+use Rattle.sercos_handshake.specs.CommandTransfers.{RefusesUnknown, WritesNowhere, idn_of}
 use Rattle.sercos_handshake.proofs.AttributeReplies.{find-without_data}
 use Rattle.sercos_handshake.proofs.TransferSteps.{newest_step, without_newest, goes_on-outcome_of, adds_none, effect_by}
 
-first_step : (r : Request) (s : Step) → slice_get (steps_of r []) 0 ≡ Some s → s ≡ opening (idn_of r)
+pub first_step : (r : Request) (s : Step) → slice_get (steps_of r []) 0 ≡ Some s → s ≡ opening (idn_of r)
 first_step (request.Read idn e) s is = cc
 first_step (request.Write idn e bytes) s is = cc
 first_step (request.Command idn) s is = cc
@@ -33,15 +33,11 @@ none_alike raw others blocks alike none =
     by (Some b) is = absurd (cc)
 
 -- an opening is refused there
-refused_opening : (idn : Idn) (t : Taken) (all : List Entry) (blocks : List Block) → t.step ≡ opening idn → AreAlike t.blocks blocks → find_block idn.raw blocks ≡ None → (reply_of t all).error ≡ true
+refused_opening : (idn : Idn) (t : Taken) (all : List Entry) (blocks : List Block) → t.step ≡ opening idn → AreAlike t.blocks blocks → find_block idn.raw blocks ≡ None → reply_of t all ≡ refused 0x1001
 refused_opening idn t all blocks is alike none =
     let opened : opens t.step ≡ true = ap opens is in
     let no_block : is_some (find_block t.step.word t.blocks) ≡ false = ap (λ (s : Step). is_some (find_block s.word t.blocks)) is ∙ none_alike idn.raw t.blocks blocks alike none in
-    ap (λ (a : Answer). a.error) (cond-true (opens t.step) _ _ opened) ∙ by (is_some (find_block t.step.word t.blocks)) no_block
-  where
-    by : (v : Bool) → v ≡ false → (let a : Answer = if v then good 0 else refused 0x1001 in a.error) ≡ true
-    by true off = absurd (cc)
-    by false off = refl
+    cond-true (opens t.step) _ _ opened ∙ cond-false (is_some (find_block t.step.word t.blocks)) (good 0) (refused 0x1001) no_block
 
 -- such a transfer has one entry
 pub only_opening : (r : Request) (blocks : List Block) (e : Entry) (entries log : List Entry) → find_block (idn_of r).raw blocks ≡ None → IsTransfer r blocks e entries log → (entries ≡ []) × (e.taken.step ≡ opening (idn_of r))
@@ -50,8 +46,12 @@ only_opening r blocks e (d ∷ entries) log none is =
     let was = without_newest r blocks log e d entries is in
     let before = only_opening r blocks d entries log none was in
     let well = (goes_on-outcome_of r d.answer (replies_of entries) is.goes_on).0 in
-    let off : d.answer.error ≡ true = ap (λ (a : Answer). a.error) was.replies.1 ∙ refused_opening (idn_of r) d.taken (entries ++ log) blocks before.1 was.alike.1 none in
+    let off : d.answer.error ≡ true = ap (λ (a : Answer). a.error) (was.replies.1 ∙ refused_opening (idn_of r) d.taken (entries ++ log) blocks before.1 was.alike.1 none) in
     absurd (cc)
+
+pub refuses_unknown : RefusesUnknown
+refuses_unknown r blocks e entries log none is =
+    let only = only_opening r blocks e entries log none is in (only.0, is.replies.1 ∙ refused_opening (idn_of r) e.taken (entries ++ log) blocks only.1 is.alike.1 none)
 
 pub writes_nowhere : WritesNowhere
 writes_nowhere r blocks e entries log none is =

@@ -1,6 +1,6 @@
--- What a transfer that sets a procedure command writes, and one to a data block that the drive hasn't. Each list has its
--- newest item first.
-use Rattle.std.specs.Prelude.{◌≡◌, ℕ, Bool, true, if◌then◌else◌, List, [], ◌∷◌, ◌++◌, Option, Some, None}
+-- What a transfer that sets a procedure command writes and gives, and what becomes of one to a data block that the drive
+-- hasn't. Each list has its newest item first.
+use Rattle.std.specs.Prelude.{◌≡◌, ℕ, Bool, true, false, if◌then◌else◌, List, [], ◌∷◌, ◌++◌, Option, Some, None}
 use Rattle.sercos_idn.specs.declared.attribute.Attribute.{Attribute}
 use Rattle.sercos_idn.specs.declared.code.Code.{Code}
 use Rattle.sercos_idn.specs.declared.idn.Idn.{Idn}
@@ -11,7 +11,9 @@ use Rattle.sercos_step.specs.Steps.{outcome_of}
 use Rattle.sercos_block.specs.declared.block.Block.{Block}
 use Rattle.sercos_block.specs.Blocks.{is_protected}
 use Rattle.sercos_block.specs.Stores.{find_block}
+use Rattle.sercos_command.specs.Settings.{status_in}
 use Rattle.sercos_service_drive.specs.Log.{Entry}
+use Rattle.sercos_service_drive.specs.Replies.{refused}
 use Rattle.sercos_service_drive.specs.Writes.{Write, writes_of}
 use Rattle.sercos_handshake.specs.InStep.{replies_of}
 use Rattle.sercos_handshake.specs.Transfers.{IsTransfer, is_complete}
@@ -55,11 +57,28 @@ RefusedAddsNothing = (idn : Idn) (blocks : List Block) (b : Block) (e : Entry) (
     IsTransfer (request.Command idn) blocks e entries log → outcome_of (request.Command idn) (replies_of (e ∷ entries)) ≡ Some (outcome.Refused code) →
     writes_of ((e ∷ entries) ++ log) ≡ writes_of log
 
--- Where the drive hasn't the data block, no transfer adds a write.
+-- These entries end with the cancel of a command and, before it, the step that reads its data status the last time. Its status
+-- when the drive accepted that step is these bytes.
+abbrev pub GivesStatus : ℕ → List ℕ → List Entry → Type 0
+GivesStatus raw bytes part =
+    (cancel : Entry) × (poll : Entry) × (before : List Entry) × (part ≡ cancel ∷ poll ∷ before) × (poll.taken.step.write ≡ false) × (poll.taken.step.element ≡ 1)
+    × (bytes ≡ status_in poll.taken.commands raw poll.taken.cycle ∷ 0 ∷ [])
+
+-- Such a transfer that is complete gives the data status of the last step that reads it.
+abbrev pub EndsWithStatus : Type 0
+EndsWithStatus = (idn : Idn) (bytes : List ℕ) (blocks : List Block) (e : Entry) (entries log : List Entry) → IsTransfer (request.Command idn) blocks e entries log →
+    outcome_of (request.Command idn) (replies_of (e ∷ entries)) ≡ Some (outcome.Complete bytes) → GivesStatus idn.raw bytes (e ∷ entries)
+
+-- the identifier number of a request
 abbrev pub idn_of : Request → Idn
 idn_of (request.Read idn e) = idn
 idn_of (request.Write idn e bytes) = idn
 idn_of (request.Command idn) = idn
+
+-- Where the drive hasn't the data block, a transfer is refused at its opening, with 0x1001, and adds no write.
+abbrev pub RefusesUnknown : Type 0
+RefusesUnknown = (r : Request) (blocks : List Block) (e : Entry) (entries log : List Entry) → find_block (idn_of r).raw blocks ≡ None → IsTransfer r blocks e entries log →
+    (entries ≡ []) × (e.answer ≡ refused 0x1001)
 
 abbrev pub WritesNowhere : Type 0
 WritesNowhere = (r : Request) (blocks : List Block) (e : Entry) (entries log : List Entry) → find_block (idn_of r).raw blocks ≡ None → IsTransfer r blocks e entries log →

@@ -1,8 +1,14 @@
 pub mod InStep
-pub mod Runs
 pub mod Moves
-pub mod Choices
 pub mod Transfers
 pub mod CommandTransfers
 pub mod Parts
 pub mod ReadTransfers
+pub mod Views
+pub mod Epochs
+pub mod Runs
+pub mod Choices
+pub mod WholeRun
+pub mod RunLaws
+pub mod Exact
+pub mod Values

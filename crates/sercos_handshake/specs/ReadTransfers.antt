@@ -1,6 +1,5 @@
 -- What a complete read gives. Each list has its newest item first.
 use Rattle.std.specs.Prelude.{◌≡◌, ℕ, ◌^◌, ◌<◌, ◌≤◌, ◌==◌, false, not, ◌&&◌, if◌then◌else◌, List, [], ◌∷◌, length, Option, Some, None, unwrap_or}
-use Rattle.sercos_model.specs.Bits.{AreBytes}
 use Rattle.sercos_idn.specs.declared.idn.Idn.{Idn}
 use Rattle.sercos_idn.specs.Codes.{is_list}
 use Rattle.sercos_step.specs.declared.request.Request.TheVariants as request
@@ -30,8 +29,7 @@ abbrev pub bytes_at : ℕ → ℕ → Block → Taken → List ℕ
 bytes_at raw e c t = if e == 1 then status_in t.commands raw t.cycle ∷ 0 ∷ [] else element_in e t.cycle c
 
 -- A step reads the element, the drive then has the block, alike but for its operation data, and the block has the element;
--- and these are its bytes then, where the drive's blocks keep the rules of a store and operation data are bytes. A data status
--- needs neither.
+-- and these are its bytes then, if the drive's blocks keep the rules of a store. A data status doesn't need that.
 pub record IsReadAt (raw e : ℕ) (b : Block) (bytes : List ℕ) (t : Taken) : Type 0 where
   pub reads : t.step.write ≡ false
   pub element : t.step.element ≡ e
@@ -39,7 +37,7 @@ pub record IsReadAt (raw e : ℕ) (b : Block) (bytes : List ℕ) (t : Taken) : T
   pub found : find_block raw t.blocks ≡ Some block
   pub alike : without_data block ≡ without_data b
   pub there : read_cause raw t ≡ None
-  pub gives : (2 ≤ e → IsStore t.blocks) → (e ≡ 7 → AreBytes block.value) → bytes ≡ bytes_at raw e block t
+  pub gives : (2 ≤ e → IsStore t.blocks) → bytes ≡ bytes_at raw e block t
 
 -- A complete read gives the element's bytes as they stood when the drive accepted the selection, which is the first step
 -- behind the opening and, where the attribute is read, the two steps that read it.

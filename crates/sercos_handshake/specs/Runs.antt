@@ -1,60 +1,33 @@
--- One channel of each kind, coupled by telegrams that come or are lost. The newest cycle stands first.
-use Rattle.std.specs.Prelude.{◌≡◌, ℕ, Bool, true, false, if◌then◌else◌, List, [], ◌∷◌, Option, Some, None, IsSome}
-use Rattle.sercos_telegram.specs.declared.words.Status.{Status}
-use Rattle.sercos_step.specs.declared.request.Request.{Request}
-use Rattle.sercos_block.specs.declared.block.Block.{Block}
-use Rattle.sercos_command.specs.Settings.{CommandsView}
-use Rattle.sercos_service_drive.specs.Log.{Taken}
+-- Which cycles may follow others. Whatever the master does of its own choice is left open. Each list has its newest item first.
+use Rattle.std.specs.Prelude.{◌≡◌, ℕ, ◌≤◌, ◌<◌, true, List, [], ◌∷◌, length, None, IsSome, IfSome}
 use Rattle.sercos_service_drive.specs.Says.{shown_by, drive_says}
-use Rattle.sercos_service_master.specs.Begun.{Said, open_in, master_says}
-use Rattle.sercos_service_master.specs.Calls.{Call, Begin, Send, Hear, EndCycle, begun_by}
+use Rattle.sercos_service_master.specs.Begun.{open_in, master_says}
+use Rattle.sercos_handshake.specs.Views.{Heard, View, standing, stood_in, kept_in}
+use Rattle.sercos_handshake.specs.Epochs.{command_in, whole_row, with_heard, unless_restart, epoch_begun, begun_in}
 
--- A cycle, with any number. The drive shows a status and a word in its AT, where the procedure commands stand so, and the AT
--- comes or not. The master begins a request or not, and sends its record, which comes or not. The drive takes it in a
--- phase, where its blocks and procedure commands stand so.
-pub record Turn : Type 0 where
-  pub cycle : ℕ
-  pub status : Status
-  pub word : ℕ
-  pub showing : CommandsView
-  pub at_comes : Bool
-  pub begins : Option Request
-  pub sent : Said
-  pub mdt_comes : Bool
-  pub phase : ℕ
-  pub blocks : List Block
-  pub commands : CommandsView
+-- The drive sent an AT that is heard: it got the MST, isn't in phase 0, and shows what its channel says.
+pub record IsShown (busy : ℕ) (a : Heard) (v : View) (past : List View) : Type 0 where
+  pub got_mst : v.mst_comes ≡ true
+  pub stands : 1 ≤ stood_in v (standing past)
+  pub says : shown_by a.status a.word ≡ drive_says busy (length past) v.showing (kept_in v past)
 
-abbrev pub with_heard : Bool → Status → ℕ → List Call → List Call
-with_heard true status word h = Hear status word ∷ h
-with_heard false status word h = h
+-- A cycle follows these, if the drive is busy with each step for so many cycles.
+pub record IsNext (busy : ℕ) (v : View) (past : List View) : Type 0 where
+  -- the commanded phase is that of the cycles before, and 0 if the master restarts
+  pub commanded : v.phase ≡ command_in v past
+  -- what is heard was said
+  pub heard : IfSome v.heard (λ a. IsShown busy a v past)
+  -- a request is begun in phases 2 to 4 alone, and only if no step is open
+  pub late : IsSome v.begins → 2 ≤ v.phase
+  pub begins : IsSome v.begins → open_in (with_heard v.heard (unless_restart v (epoch_begun past))) ≡ None
+  -- a record that is sent says what the master's channel says: the open step, or zeros
+  pub sent : IfSome v.sent (λ s. s ≡ master_says (begun_in v past))
+  -- phase 0 lasts until ten MSTs in a row came back whole
+  pub ten : v.rises ≡ true → v.phase ≡ 0 → 10 ≤ whole_row (v ∷ past)
+  -- the master rises only if no step is open, and up to phase 4
+  pub rests : v.rises ≡ true → open_in (begun_in v past) ≡ None
+  pub top : v.rises ≡ true → v.phase < 4
 
-abbrev pub with_begun : Option Request → List Call → List Call
-with_begun None h = h
-with_begun (Some r) h = Begin r ∷ h
-
--- what the master's end was given up to its record of the cycle, and in all cycles
-abbrev pub calls_in : Turn → List Call → List Call
-calls_in t h = Send ∷ with_begun t.begins (with_heard t.at_comes t.status t.word h)
-
-abbrev pub master_calls : List Turn → List Call
-master_calls [] = []
-master_calls (t ∷ j) = EndCycle ∷ calls_in t (master_calls j)
-
--- what the drive's end took
-abbrev pub record_in : Turn → Taken
-record_in t = record { cycle = t.cycle; phase = t.phase; mhs = t.sent.mhs; step = t.sent.step; blocks = t.blocks; commands = t.commands }
-
-abbrev pub drive_taken : List Turn → List Taken
-drive_taken [] = []
-drive_taken (t ∷ j) = if t.mdt_comes then record_in t ∷ drive_taken j else drive_taken j
-
--- A cycle follows: each end says what it has to say of what it was given, and a request is begun only where no step is open.
-pub record IsNext (busy : ℕ) (t : Turn) (j : List Turn) : Type 0 where
-  pub at : shown_by t.status t.word ≡ drive_says busy t.cycle t.showing (drive_taken j)
-  pub begins : IsSome t.begins → open_in (begun_by (with_heard t.at_comes t.status t.word (master_calls j))) ≡ None
-  pub sent : t.sent ≡ master_says (begun_by (calls_in t (master_calls j)))
-
-abbrev pub IsRun : ℕ → List Turn → Type 0
+abbrev pub IsRun : ℕ → List View → Type 0
 IsRun busy [] = Unit {0}
-IsRun busy (t ∷ j) = IsRun busy j × IsNext busy t j
+IsRun busy (v ∷ past) = IsRun busy past × IsNext busy v past

@@ -1,4 +1,3 @@
-use Rattle.sercos_handshake.proofs.InStepRuns.{run_in_parts}
 use Rattle.sercos_handshake.proofs.LogParts.{come_in_turn, fall_into_parts, have_replies}
 use Rattle.sercos_handshake.proofs.law.parts_law.Goals as goal
 
@@ -10,9 +9,6 @@ returns-clause-parts c = fall_into_parts
 
 pub returns-clause-replies : goal.returns-clause-replies
 returns-clause-replies c = have_replies
-
-pub returns-clause-run : goal.returns-clause-run
-returns-clause-run c = run_in_parts
 
 pub returns-clause-transfers : goal.returns-clause-transfers
 returns-clause-transfers c = λ b blocks e entries log row replies alike.
