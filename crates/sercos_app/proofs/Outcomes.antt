@@ -10,13 +10,13 @@ use Rattle.sercos_app.specs.declared.form.Form.TheVariants.{Show, Plan}
 use Rattle.sercos_app.specs.Answer.{command_answer, form_answer, answer_of, SaysWell}
 use Rattle.sercos_app.specs.Form.{form_of}
 use Rattle.sercos_app.specs.Show.{show_answer, show_status, first_fault, lines_of}
-use Rattle.sercos_app.specs.Planning.{wishes_answer, ring_answer, plan_answer}
+use Rattle.sercos_app.specs.Planning.{wishes_answer, document_answer, plan_answer}
 use Rattle.sercos_timing.specs.Views.{WishesView, PlanView}
 use Rattle.sercos_plan.specs.Views.{ChainView}
 use Rattle.sercos_plan.specs.ChainOf.{planned}
-use Rattle.sercos_block.specs.Views.{RingView}
 use Rattle.sercos_block.specs.Rings.{wishes_of}
 use Rattle.sercos_document.specs.declared.refusal.BadDocument.{BadDocument}
+use Rattle.sercos_config.specs.Views.{DocumentView}
 use Rattle.sercos_config.specs.Document.{document_of}
 use Rattle.sercos_app.specs.Outcome.{SourceChange, SinkChange, Writes, Outcome}
 use Rattle.sercos_app.specs.Outcome.Writes.{whole, short}
@@ -39,15 +39,15 @@ unfolding wishes_answer
 IsGiven-wishes w (Ok p) = done
 IsGiven-wishes w (Err c) = declined
 
-IsGiven-ring : (document : Result RingView BadDocument) → IsGiven (ring_answer document).status
-unfolding ring_answer
-IsGiven-ring (Ok r) = IsGiven-wishes (wishes_of r) (planned (wishes_of r))
-IsGiven-ring (Err bad) = refused
+IsGiven-document : (document : Result DocumentView BadDocument) → IsGiven (document_answer document).status
+unfolding document_answer
+IsGiven-document (Ok d) = IsGiven-wishes (wishes_of d.setup) (planned (wishes_of d.setup))
+IsGiven-document (Err bad) = refused
 
 IsGiven-answer : (form : Form) (bytes : List ℕ) → IsGiven (command_answer form bytes).status
 unfolding command_answer show_answer plan_answer
 IsGiven-answer Show bytes = IsGiven-fault (first_fault 1 (lines_of bytes))
-IsGiven-answer Plan bytes = IsGiven-ring (document_of bytes)
+IsGiven-answer Plan bytes = IsGiven-document (document_of bytes)
 
 answer_of-form : (words : List (List ℕ)) (bytes : List ℕ) (form : Form) → form_of words ≡ Some form → answer_of words bytes ≡ command_answer form bytes
 unfolding answer_of form_answer
@@ -315,11 +315,11 @@ at_room (too_many form is reads takes sink_same writes) all told fits = writes
 at_room (no_memory form is reads takes sink_same writes) all told fits = writes
 at_room (answered form bytes status is says reads input ends) all told fits = let answer = told_answer _ form all bytes is (read_told all bytes _ _ told input) in elim (whole_or_short ends) [ inl w ↦ w.same | inr w ↦ absurd (w.full (rw answer fits)) ]
 
--- the ring of a document that isn't refused
-ring_read : (document : Result RingView BadDocument) → (ring_answer document).status ≢ Refused → (ring : RingView) × (document ≡ Ok ring)
-unfolding ring_answer
-ring_read (Ok ring) given = (ring, refl)
-ring_read (Err bad) given = absurd (given refl)
+-- what a document says that isn't refused
+document_read : (document : Result DocumentView BadDocument) → (document_answer document).status ≢ Refused → (d : DocumentView) × (document ≡ Ok d)
+unfolding document_answer
+document_read (Ok d) given = (d, refl)
+document_read (Err bad) given = absurd (given refl)
 
 -- what the answers of `plan` say
 none-plan : (form : Form) (bytes : List ℕ) (left left' : Option (List ℕ)) → form ≡ Plan → SaysWell form bytes → (command_answer form bytes).status ≡ No → ReadsWhole left left' bytes
@@ -327,17 +327,17 @@ none-plan : (form : Form) (bytes : List ℕ) (left left' : Option (List ℕ)) �
 unfolding command_answer plan_answer
 none-plan Show bytes left left' is says at input = absurd (cc)
 none-plan Plan bytes left left' is says at input =
-    let (ring, read) = ring_read (document_of bytes) (λ e. absurd (cc)) in
-    record { bytes = bytes; read = input; ring = ring; document = read; none = (says ring read).no at }
+    let (d, read) = document_read (document_of bytes) (λ e. absurd (cc)) in
+    record { bytes = bytes; read = input; says = d; document = read; none = (says d read).no at }
 
 least-plan : (form : Form) (bytes : List ℕ) (left left' held held' : Option (List ℕ)) → form ≡ Plan → SaysWell form bytes → (command_answer form bytes).status ≡ Done → ReadsWhole left left' bytes
     → Appends held held' (command_answer form bytes).output → LeastPlanned left left' held held'
 unfolding command_answer plan_answer
 least-plan Show bytes left left' held held' is says at input written = absurd (cc)
 least-plan Plan bytes left left' held held' is says at input written =
-    let (ring, read) = ring_read (document_of bytes) (λ e. absurd (cc)) in
-    let (plan, least, text) = (says ring read).done at in
-    record { bytes = bytes; read = input; ring = ring; document = read; plan = plan; least = least; written = rw text at written }
+    let (d, read) = document_read (document_of bytes) (λ e. absurd (cc)) in
+    let (plan, least, text) = (says d read).done at in
+    record { bytes = bytes; read = input; says = d; document = read; plan = plan; least = least; written = rw text at written }
 
 pub at_none_fits : {words : List (List ℕ)} {source : SourceChange} {sink : SinkChange} {Unread Unwritten : Type 0} {status : Status} → Outcome words source sink Unread Unwritten status → status ≡ No → form_of words ≡ Some Plan → NonePlanned source.left source.left'
 at_none_fits (no_form nothing source_same sink_same reads writes) e f = absurd (cc)

@@ -8,10 +8,10 @@ use Rattle.sercos_plan.specs.declared.chain.Link.{Link}
 use Rattle.sercos_plan.specs.Views.{ChainView}
 use Rattle.sercos_plan.specs.ChainOf.{planned}
 use Rattle.sercos_plan.specs.Least.{IsLeast, NoneFits}
-use Rattle.sercos_block.specs.Views.{RingView}
 use Rattle.sercos_block.specs.Rings.{wishes_of}
 use Rattle.sercos_document.specs.declared.refusal.BadDocument.{BadDocument}
 use Rattle.sercos_document.specs.Lines.{line_of}
+use Rattle.sercos_config.specs.Views.{DocumentView}
 use Rattle.sercos_config.specs.Document.{document_of}
 use Rattle.sercos_app.specs.Show.{Answer, line_feed, two_numbers}
 
@@ -46,13 +46,13 @@ unfoldable pub wishes_answer : WishesView → Result PlanView ChainView → Answ
 wishes_answer w (Ok p) = record { status = Done; output = plan_text w p }
 wishes_answer w (Err c) = record { status = No; output = chain_text c }
 
--- the answer to a ring, or to the refusal of its document
-unfoldable pub ring_answer : Result RingView BadDocument → Answer
-ring_answer (Ok r) = wishes_answer (wishes_of r) (planned (wishes_of r))
-ring_answer (Err bad) = record { status = Refused; output = line_of bad }
+-- the answer to what a document says of its ring, its requests and faults left aside, or to its refusal
+unfoldable pub document_answer : Result DocumentView BadDocument → Answer
+document_answer (Ok d) = wishes_answer (wishes_of d.setup) (planned (wishes_of d.setup))
+document_answer (Err bad) = record { status = Refused; output = line_of bad }
 
 unfoldable pub plan_answer : List ℕ → Answer
-plan_answer bytes = ring_answer (document_of bytes)
+plan_answer bytes = document_answer (document_of bytes)
 
 -- An answer says what it should of wishes: no, only where no plan fits, whatever plan it is; done, only with the text of the
 -- least plan.
@@ -62,4 +62,4 @@ pub record IsPlanned (w : WishesView) (answer : Answer) : Type 0 where
 
 -- the answer to a document does so of what its ring asks
 abbrev pub PlansItsRing : List ℕ → Type 0
-PlansItsRing bytes = (ring : RingView) → document_of bytes ≡ Ok ring → IsPlanned (wishes_of ring) (plan_answer bytes)
+PlansItsRing bytes = (d : DocumentView) → document_of bytes ≡ Ok d → IsPlanned (wishes_of d.setup) (plan_answer bytes)

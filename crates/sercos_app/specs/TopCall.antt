@@ -9,8 +9,8 @@ use Rattle.sercos_app.specs.Show.{Answer}
 use Rattle.sercos_app.specs.Planning.{plan_text}
 use Rattle.sercos_timing.specs.Views.{PlanView}
 use Rattle.sercos_plan.specs.Least.{IsLeast, NoneFits}
-use Rattle.sercos_block.specs.Views.{RingView}
 use Rattle.sercos_block.specs.Rings.{wishes_of}
+use Rattle.sercos_config.specs.Views.{DocumentView}
 use Rattle.sercos_config.specs.Document.{document_of}
 
 -- the statuses that come before anything is written
@@ -69,16 +69,16 @@ pub record IsAnswer (answer : Answer) (status : Status) (held held' : Option (Li
 pub record NonePlanned (left left' : Option (List ℕ)) : Type 0 where
   pub bytes : List ℕ
   pub read : ReadsWhole left left' bytes
-  pub ring : RingView
-  pub document : document_of bytes ≡ Ok ring
-  pub none : NoneFits (wishes_of ring)
+  pub says : DocumentView
+  pub document : document_of bytes ≡ Ok says
+  pub none : NoneFits (wishes_of says.setup)
 
 -- the source was read to its end as the document of a ring, and the text of its least plan was appended
 pub record LeastPlanned (left left' held held' : Option (List ℕ)) : Type 0 where
   pub bytes : List ℕ
   pub read : ReadsWhole left left' bytes
-  pub ring : RingView
-  pub document : document_of bytes ≡ Ok ring
+  pub says : DocumentView
+  pub document : document_of bytes ≡ Ok says
   pub plan : PlanView
-  pub least : IsLeast (wishes_of ring) plan
-  pub written : Appends held held' (plan_text (wishes_of ring) plan)
+  pub least : IsLeast (wishes_of says.setup) plan
+  pub written : Appends held held' (plan_text (wishes_of says.setup) plan)

@@ -37,7 +37,7 @@ fn answer_wishes(alloc: Global, wishes: &Wishes) -> Result<Reply, AllocError>
 
 /// Answers a ring document: by the least plan, or with `No` by the chain that proves that none fits. The error is the
 /// document's first refusal, or want of memory.
-#[tactic(auto, unfolding(crate::specs::Planning::plan_answer, crate::specs::Planning::ring_answer))]
+#[tactic(auto, unfolding(crate::specs::Planning::plan_answer, crate::specs::Planning::document_answer))]
 pub fn plan(alloc: Global, bytes: &[u8]) -> Result<Reply, BadDocument>
     ensures answer { MatchResult result
         (λ reply. (reply.status ≡ (plan_answer bytes.now).status) × (reply.text.items ≡ (plan_answer bytes.now).output))

@@ -2,3 +2,4 @@ pub mod BlockLemmas
 pub mod DriveLemmas
 pub mod OrderLemmas
 pub mod TextLemmas
+mod Worked

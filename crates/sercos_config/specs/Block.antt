@@ -23,6 +23,12 @@ idn_of text = if is_none (idn_fault text) then Some (record { raw = spelled_raw 
 unfoldable pub idn_in : List ℕ → List ℕ → Answer Idn
 idn_in p text = or_refused (bad.Range p (pos (length text))) (idn_of text)
 
+-- the identifier number of the text under a key
+unfoldable pub idn_under : Located → List ℕ → Answer Idn
+idn_under t key = do
+  text ← required as_str t key
+  idn_in (path t.place key) text
+
 -- an attribute: its word is a number of 32 bits, and one that is an attribute's
 unfoldable pub attribute_under : Located → Answer Attribute
 attribute_under t = do
@@ -60,8 +66,7 @@ block_keys =
 unfoldable pub block_of : List Block → Located → Answer Block
 block_of before t = do
   known t block_keys
-  text ← required as_str t (codes "idn")
-  idn ← idn_in (path t.place (codes "idn")) text
+  idn ← idn_under t (codes "idn")
   demand (not (is_built_in idn.raw || has_block idn.raw before)) (bad.Twice (path t.place (codes "idn")))
   attribute ← attribute_under t
   name ← text_under t (codes "name") 60

@@ -13,6 +13,7 @@ use Rattle.sercos_document.specs.Paths.{path, item_path}
 use Rattle.sercos_document.specs.Answers.{Answer, ◌>>=◌, ◌>>◌, demand}
 use Rattle.sercos_document.specs.Tables.{Located, number, number_or, known}
 use Rattle.sercos_document.specs.Lists.{tables, short_list, all_onto}
+use Rattle.sercos_config.specs.declared.drive.DriveNumbers.{DriveNumbers}
 use Rattle.sercos_config.specs.Block.{idn_in, blocks_onto}
 
 -- the identifier number of an item, which can stand in a telegram of the drive; else Range with the raw number
@@ -43,31 +44,48 @@ times_of t = do
   tmtsg ← number t (codes "tmtsg") 0 64000
   Ok (record { t1min = t1min; tatmt = tatmt; t4min = t4min; tatat = tatat; tmtsy = tmtsy; tmtsg = tmtsg })
 
+-- a drive with these numbers
+abbrev pub with_lists : DriveNumbers → List Idn → List Idn → List Block → DriveView
+with_lists n at mdt blocks =
+    record { address = n.address; slave = n.slave; busy = n.busy; command = n.command; times = n.times; cycle_min = n.cycle_min; cycle_max = n.cycle_max; at = at; mdt = mdt; blocks = blocks }
+
 unfoldable pub drive_keys : List (List ℕ)
 drive_keys =
     codes "address" ∷ codes "slave" ∷ codes "busy" ∷ codes "command" ∷ codes "t1min" ∷ codes "tatmt" ∷ codes "t4min" ∷ codes "tatat"
     ∷ codes "tmtsy" ∷ codes "tmtsg" ∷ codes "cycle_min" ∷ codes "cycle_max" ∷ codes "block" ∷ codes "at" ∷ codes "mdt" ∷ []
 
--- The drive of a table, behind these drives. Its blocks come after its own keys, and the items of `at` and `mdt` after the
--- blocks, in which they are looked up.
-unfoldable pub drive_of : List DriveView → Located → Answer DriveView
-drive_of before t = do
-  known t drive_keys
+-- an address that none of these drives has
+unfoldable pub new_address : List DriveView → Located → Answer ℕ
+new_address before t = do
   address ← number t (codes "address") 1 254
   demand (not (has_address address before)) (bad.Twice (path t.place (codes "address")))
+  Ok address
+
+-- the numbers of a drive, behind these drives
+unfoldable pub drive_numbers_of : List DriveView → Located → Answer DriveNumbers
+drive_numbers_of before t = do
+  address ← new_address before t
   slave ← number_or t (codes "slave") 1 254 address
   busy ← number_or t (codes "busy") 0 20 0
   command ← number_or t (codes "command") 0 200 0
   times ← times_of t
   cycle_min ← number_or t (codes "cycle_min") 0 64000 125
   cycle_max ← number_or t (codes "cycle_max") 0 64000 64000
+  Ok (record { address = address; slave = slave; busy = busy; command = command; times = times; cycle_min = cycle_min; cycle_max = cycle_max })
+
+-- The drive of a table, behind these drives. Its blocks come after its own keys, and the items of `at` and `mdt` after the
+-- blocks, in which they are looked up.
+unfoldable pub drive_of : List DriveView → Located → Answer DriveView
+drive_of before t = do
+  known t drive_keys
+  numbers ← drive_numbers_of before t
   tables ← tables t (codes "block") 0 36
   at_items ← short_list t (codes "at") 16
   mdt_items ← short_list t (codes "mdt") 16
   blocks ← blocks_onto (length before) [] tables
   at ← idns_of blocks t.place (codes "at") at_items
   mdt ← idns_of blocks t.place (codes "mdt") mdt_items
-  Ok (record { address = address; slave = slave; busy = busy; command = command; times = times; cycle_min = cycle_min; cycle_max = cycle_max; at = at; mdt = mdt; blocks = blocks })
+  Ok (with_lists numbers at mdt blocks)
 
 -- the drives of these tables, behind those
 unfoldable pub drives_onto : List DriveView → List Members → Answer (List DriveView)

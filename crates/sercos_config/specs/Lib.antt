@@ -2,4 +2,8 @@ pub mod Numbers
 pub mod Block
 pub mod Drive
 pub mod Ring
+pub mod Words
+pub mod Request
+pub mod Fault
+pub mod Views
 pub mod Document

@@ -9,7 +9,7 @@ ghost use Rattle.sercos_document.specs.Paths.{path};
 ghost use Rattle.sercos_document.specs.Answers.{Gives, Shows};
 ghost use Rattle.sercos_document.specs.Tables.{known};
 ghost use Rattle.sercos_document.specs.Located.{located};
-ghost use Rattle.sercos_config.specs.Block.{idn_of, idn_in, attribute_under, text_under, step_under, fails_under, block_keys, block_of, blocks_onto};
+ghost use Rattle.sercos_config.specs.Block.{idn_of, idn_in, idn_under, attribute_under, text_under, step_under, fails_under, block_keys, block_of, blocks_onto};
 
 use crate::data::{read_data, read_limit, read_max_len, text_of};
 use sercos_bits::Text;
@@ -52,7 +52,7 @@ fn read_block(keys: &Keys<'_>, before: &[Block]) -> Result<Block, BadDocument>
     ensures valid { IfOk result (λ b. block_fault before.now b ≡ None) }
 {
     known(keys)?;
-    let idn = read_idn(keys, "idn", keys.required_text("idn")?)?;
+    let idn = read_idn(keys, "idn")?;
     let taken = is_taken(idn, before);
     keys.demand_once(!taken, "idn")?;
     let attribute = read_attribute(keys)?;
@@ -110,11 +110,12 @@ pub(crate) fn idn_of(text: &str) -> Option<Idn>
     }
 }
 
-// The identifier number of the text under a key.
-#[tactic(auto, unfolding(crate::specs::Block::idn_in))]
-fn read_idn(keys: &Keys<'_>, key: &str, text: &str) -> Result<Idn, BadDocument>
-    ensures { Gives result (idn_in (path keys.now.place key.now) text.now) }
+/// The identifier number of the text under a key.
+#[tactic(auto, unfolding(crate::specs::Block::idn_in, crate::specs::Block::idn_under))]
+pub(crate) fn read_idn(keys: &Keys<'_>, key: &str) -> Result<Idn, BadDocument>
+    ensures { Gives result (idn_under (located keys.now) key.now) }
 {
+    let text = keys.required_text(key)?;
     match idn_of(text) {
         Some(idn) => Ok(idn),
         None => Err(keys.range(key, text.len() as i64)),

@@ -119,8 +119,8 @@ pub(crate) fn read_max_len(keys: &Keys<'_>, attribute: Attribute) -> Result<u16,
     }
 }
 
-// The bytes that digits spell.
-fn decoded(digits: &[u8]) -> Option<Text>
+/// The bytes that digits spell, two a byte.
+pub(crate) fn decoded(digits: &[u8]) -> Option<Text>
     requires { length digits.now ≤ 2048 }
     ensures value { result ≡ result_ok (decode_of digits.now) }
     ensures count { IfSome result (λ bytes. length bytes ≡ length digits.now / 2) }

@@ -1,54 +1,79 @@
 // A ring document.
-ghost use Rattle.std.specs.Prelude.{◌≡◌, true, IfOk};
+ghost use Rattle.std.specs.Prelude.{◌≡◌, ◌≤◌, true, length, map, IfOk};
+ghost use Rattle.std.specs.List.{All};
 ghost use Rattle.toml.specs.View.{table_view};
-ghost use Rattle.sercos_block.specs.Rings.{is_ring};
-ghost use Rattle.sercos_document.specs.Answers.{Gives, Shows};
+ghost use Rattle.sercos_block.specs.Rings.{has_address, has_other_data, is_ring};
+ghost use Rattle.sercos_step.specs.Jobs.{AreJobs};
+ghost use Rattle.sercos_document.specs.Answers.{Gives};
 ghost use Rattle.sercos_document.specs.Tables.{known};
 ghost use Rattle.sercos_document.specs.Located.{located};
-ghost use Rattle.sercos_config.specs.Document.{top_keys, ring_of, document_of};
+ghost use Rattle.sercos_config.specs.Document.{top_keys, ring_of, document_in, document_of};
 
 use crate::drive::read_drives;
+use crate::fault::read_faults;
+use crate::request::read_requests;
 use crate::ring::{read_head, read_order};
 use sercos_block::{RingSetup, mdt_len};
 use sercos_document::{BadDocument, Keys, Place};
+use sercos_script::Fault;
+use sercos_step::Job;
 use std::alloc::Global;
+use std::marker::Model;
 use toml::Table;
 
-/// What a ring document says.
+/// What a ring document says. Contracts see the record of its fields, each vector as the list of its items.
 #[derive(Drop)]
 pub struct Document {
     /// What the ring is made of. It is a valid one.
     pub setup: RingSetup,
+    /// The requests to the drives, in the order of the document: at most 4,096.
+    pub jobs: Vec<Job>,
+    /// The script of faults, in the order of the document: at most 4,096.
+    pub faults: Vec<Fault>,
 }
 
-/// Reads a ring document, which is a TOML text: what it says, or its first refusal. Want of memory is the one other error.
+impl Model for Document {
+    ghost use Rattle.sercos_config.specs.Views.{DocumentView};
+
+    ghost Value = { DocumentView };
+
+    ghost view = { λ d. record { setup = d.setup; jobs = d.jobs.items; faults = d.faults.items } };
+}
+
+/// Reads a ring document (this profile), which is a TOML text of bytes in UTF-8. The error is its first refusal, or
+/// `Memory`. What is read is a valid ring, jobs that a master of it may be opened with, and faults whose `every` is at
+/// least 1.
 ///
-/// The tables are looked at in this order: the top one, `ring`, each `drive` in turn with its `block` tables right after
-/// its own keys. In each, the unknown keys come first, and the least of them in the order of bytes is named; then each key
-/// in the order in which the rules list it, as `Missing`, `Kind`, `Range` or `Twice`. The items of `at` and `mdt` come after the
-/// drive's blocks, and the length of the MDT and `order` after all drives.
+/// The tables are looked at in this order: the top one, `ring`, each `drive` in turn with its `block` tables right after its
+/// own keys, each `request`, each `fault`. In each, the unknown keys come first, and the least of them in the order of bytes
+/// is named; then each key in the order in which the rules list it, as `Missing`, `Kind`, `Range` or `Twice`. The items of
+/// `at` and `mdt` come after the drive's blocks, and the length of the MDT and `order` after all drives.
 #[tactic(auto, using(crate::proofs::TextLemmas::texts), unfolding(crate::specs::Document::document_of, crate::specs::Document::table_of))]
 pub fn read_ring(alloc: Global, bytes: &[u8]) -> Result<Document, BadDocument>
-    ensures value { Shows (λ d. d.setup) result (document_of bytes.now) }
-    ensures valid { IfOk result (λ d. is_ring d.setup ≡ true) }
+    ensures value { Gives result (document_of bytes.now) }
+    ensures setup { IfOk result (λ d. is_ring d.setup ≡ true) }
+    ensures jobs { IfOk result (λ d.
+        AreJobs (λ address. has_address address d.setup.drives) (λ address raw. has_other_data address raw d.setup.drives) d.jobs) }
+    ensures faults { IfOk result (λ d. All (λ f. 1 ≤ f.every) d.faults) }
 {
     let Ok(text) = std::str::from_utf8(bytes) else {
         return Err(BadDocument::Toml);
     };
     match toml::table_from_str(alloc, text) {
-        Ok(table) => Ok(Document {
-            setup: read_table(alloc, &table)?,
-        }),
+        Ok(table) => read_table(alloc, &table),
         Err(e) if e.is_memory() => Err(BadDocument::Memory),
         Err(_) => Err(BadDocument::Toml),
     }
 }
 
-// The ring of a document's table.
-#[tactic(auto, unfolding(crate::specs::Document::ring_of, sercos_block::specs::Rings::is_ring, sercos_block::specs::Rings::has_drives))]
-fn read_table(alloc: Global, table: &Table) -> Result<RingSetup, BadDocument>
-    ensures value { Gives result (ring_of (table_view table.now)) }
-    ensures valid { IfOk result (λ ring. is_ring ring ≡ true) }
+// What a document's table says.
+#[tactic(auto, unfolding(crate::specs::Document::document_in))]
+fn read_table(alloc: Global, table: &Table) -> Result<Document, BadDocument>
+    ensures value { Gives result (document_in (table_view table.now)) }
+    ensures setup { IfOk result (λ d. is_ring d.setup ≡ true) }
+    ensures jobs { IfOk result (λ d.
+        AreJobs (λ address. has_address address d.setup.drives) (λ address raw. has_other_data address raw d.setup.drives) d.jobs) }
+    ensures faults { IfOk result (λ d. All (λ f. 1 ≤ f.every) d.faults) }
 {
     let keys = Keys {
         alloc,
@@ -56,17 +81,51 @@ fn read_table(alloc: Global, table: &Table) -> Result<RingSetup, BadDocument>
         table,
     };
     known(&keys)?;
-    let ring = Keys {
+    let ring = keys.required_table("ring")?;
+    let drives = keys.required_tables("drive", 1, 64)?;
+    let requests = keys.tables("request", 0, 4096)?;
+    let faults = keys.tables("fault", 0, 4096)?;
+    let setup = read_setup(alloc, ring, drives.as_slice())?;
+    let jobs = read_requests(alloc, setup.drives.as_slice(), requests.as_slice())?;
+    let faults = read_faults(alloc, setup.drives.as_slice(), faults.as_slice())?;
+    Ok(Document {
+        setup,
+        jobs,
+        faults,
+    })
+}
+
+#[tactic(auto, unfolding(crate::specs::Document::top_keys))]
+fn known(keys: &Keys<'_>) -> Result<(), BadDocument>
+    ensures { Gives result (known (located keys.now) top_keys) }
+{
+    keys.known(&["ring", "drive", "request", "fault"])
+}
+
+// The ring of its own table, with the drives of these.
+#[tactic(auto, unfolding(crate::specs::Document::ring_of, sercos_block::specs::Rings::is_ring, sercos_block::specs::Rings::has_drives))]
+fn read_setup(alloc: Global, ring: &Table, tables: &[&Table]) -> Result<RingSetup, BadDocument>
+    requires some { 1 ≤ length tables.now }
+    requires few { length tables.now ≤ 64 }
+    ensures value { Gives result (ring_of (table_view ring.now) (map (λ t. table_view t.now) tables.now)) }
+    ensures valid { IfOk result (λ ring. is_ring ring ≡ true) }
+    ensures drives { IfOk result (λ ring. length ring.drives ≤ 64) }
+{
+    let top = Keys {
+        alloc,
+        place: Place::Top,
+        table: ring,
+    };
+    let keys = Keys {
         alloc,
         place: Place::Ring,
-        table: keys.required_table("ring")?,
+        table: ring,
     };
-    let tables = keys.required_tables("drive", 1, 64)?;
-    let head = read_head(&ring)?;
-    let drives = read_drives(alloc, tables.as_slice())?;
+    let head = read_head(&keys)?;
+    let drives = read_drives(alloc, tables)?;
     let len = mdt_len(drives.as_slice());
-    keys.demand(len <= 2047, "ring", i64::from(len))?;
-    let order = read_order(&ring, drives.as_slice())?;
+    top.demand(len <= 2047, "ring", i64::from(len))?;
+    let order = read_order(&keys, drives.as_slice())?;
     Ok(RingSetup {
         rate: head.rate,
         cycle: head.cycle,
@@ -76,11 +135,4 @@ fn read_table(alloc: Global, table: &Table) -> Result<RingSetup, BadDocument>
         order,
         drives,
     })
-}
-
-#[tactic(auto, unfolding(crate::specs::Document::top_keys))]
-fn known(keys: &Keys<'_>) -> Result<(), BadDocument>
-    ensures { Gives result (known (located keys.now) top_keys) }
-{
-    keys.known(&["ring", "drive"])
 }

@@ -1,13 +1,13 @@
 // The drives of a ring.
-ghost use Rattle.std.specs.Prelude.{◌≡◌, ◌≤◌, true, [], length, map, IfOk};
+ghost use Rattle.std.specs.Prelude.{◌≡◌, ◌≤◌, true, false, [], length, map, IfOk};
 ghost use Rattle.toml.specs.View.{table_view, items_view};
-ghost use Rattle.sercos_block.specs.Rings.{is_cyclic, are_cyclic, are_times, are_drives, is_drive};
+ghost use Rattle.sercos_block.specs.Rings.{is_cyclic, are_cyclic, are_times, are_drive_numbers, has_address, are_drives, is_drive};
 ghost use Rattle.sercos_document.specs.Paths.{item_path};
 ghost use Rattle.sercos_document.specs.Answers.{Gives, Shows};
 ghost use Rattle.sercos_document.specs.Tables.{known};
 ghost use Rattle.sercos_document.specs.Located.{located};
 ghost use Rattle.sercos_config.specs.Block.{idn_in};
-ghost use Rattle.sercos_config.specs.Drive.{idn_at, idns_onto, idns_of, times_of, drive_keys, drive_of, drives_onto};
+ghost use Rattle.sercos_config.specs.Drive.{idn_at, idns_onto, idns_of, times_of, drive_keys, new_address, drive_numbers_of, drive_of, drives_onto};
 
 use crate::block::{idn_of, read_blocks};
 use arrayvec::ArrayVec;
@@ -40,22 +40,26 @@ pub(crate) fn read_drives(alloc: Global, tables: &[&Table]) -> Result<Vec<DriveS
     Ok(drives)
 }
 
+// The numbers of a drive: busy and command in cycles, the times in microseconds.
+#[derive(Clone, Copy, Debug, PartialEq, Eq)]
+struct DriveNumbers {
+    address: u8,
+    slave: u8,
+    busy: u8,
+    command: u16,
+    times: Times,
+    cycle_min: u16,
+    cycle_max: u16,
+}
+
 // The drive of a table, behind these drives.
-#[tactic(auto, unfolding(crate::specs::Drive::drive_of, sercos_block::specs::Rings::is_drive, sercos_block::specs::Rings::are_drive_numbers, sercos_block::specs::Rings::has_blocks))]
+#[tactic(auto, unfolding(crate::specs::Drive::drive_of, sercos_block::specs::Rings::is_drive, sercos_block::specs::Rings::has_blocks))]
 fn read_drive(keys: &Keys<'_>, before: &[DriveSetup]) -> Result<DriveSetup, BadDocument>
     ensures value { Gives result (drive_of before.now (located keys.now)) }
     ensures valid { IfOk result (λ d. is_drive before.now d ≡ true) }
 {
     known(keys)?;
-    let address = keys.number("address", 1, 254)?;
-    let taken = has_address(address as u8, before);
-    keys.demand_once(!taken, "address")?;
-    let slave = keys.number_or("slave", 1, 254, address)?;
-    let busy = keys.number_or("busy", 0, 20, 0)?;
-    let command = keys.number_or("command", 0, 200, 0)?;
-    let times = read_times(keys)?;
-    let cycle_min = keys.number_or("cycle_min", 0, 64000, 125)?;
-    let cycle_max = keys.number_or("cycle_max", 0, 64000, 64000)?;
+    let numbers = read_numbers(keys, before)?;
     let tables = keys.tables("block", 0, 36)?;
     let at_items = keys.short_list("at", 16)?;
     let mdt_items = keys.short_list("mdt", 16)?;
@@ -63,16 +67,55 @@ fn read_drive(keys: &Keys<'_>, before: &[DriveSetup]) -> Result<DriveSetup, BadD
     let at = read_idns(keys, blocks.as_slice(), "at", at_items)?;
     let mdt = read_idns(keys, blocks.as_slice(), "mdt", mdt_items)?;
     Ok(DriveSetup {
-        address: address as u8,
+        address: numbers.address,
+        slave: numbers.slave,
+        busy: numbers.busy,
+        command: numbers.command,
+        times: numbers.times,
+        cycle_min: numbers.cycle_min,
+        cycle_max: numbers.cycle_max,
+        at,
+        mdt,
+        blocks,
+    })
+}
+
+// An address that none of these drives has.
+#[tactic(auto, unfolding(crate::specs::Drive::new_address))]
+fn read_new_address(keys: &Keys<'_>, before: &[DriveSetup]) -> Result<u8, BadDocument>
+    ensures value { Gives result (new_address before.now (located keys.now)) }
+    ensures within { IfOk result (λ address. (1 ≤ address) × (address ≤ 254)) }
+    ensures once { IfOk result (λ address. has_address address before.now ≡ false) }
+{
+    let address = keys.number("address", 1, 254)?;
+    let taken = has_address(address as u8, before);
+    keys.demand_once(!taken, "address")?;
+    Ok(address as u8)
+}
+
+// The numbers of a drive, behind these drives.
+#[tactic(auto, unfolding(crate::specs::Drive::drive_numbers_of, sercos_block::specs::Rings::are_drive_numbers))]
+fn read_numbers(keys: &Keys<'_>, before: &[DriveSetup]) -> Result<DriveNumbers, BadDocument>
+    ensures value { Gives result (drive_numbers_of before.now (located keys.now)) }
+    ensures once { IfOk result (λ n. has_address n.address before.now ≡ false) }
+    ensures valid { IfOk result (λ n.
+        are_drive_numbers n.address n.slave n.busy n.command n.times n.cycle_min n.cycle_max ≡ true) }
+{
+    let address = read_new_address(keys, before)?;
+    let slave = keys.number_or("slave", 1, 254, u32::from(address))?;
+    let busy = keys.number_or("busy", 0, 20, 0)?;
+    let command = keys.number_or("command", 0, 200, 0)?;
+    let times = read_times(keys)?;
+    let cycle_min = keys.number_or("cycle_min", 0, 64000, 125)?;
+    let cycle_max = keys.number_or("cycle_max", 0, 64000, 64000)?;
+    Ok(DriveNumbers {
+        address,
         slave: slave as u8,
         busy: busy as u8,
         command: command as u16,
         times,
         cycle_min: cycle_min as u16,
         cycle_max: cycle_max as u16,
-        at,
-        mdt,
-        blocks,
     })
 }
 

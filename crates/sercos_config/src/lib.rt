@@ -5,7 +5,10 @@ mod block;
 mod data;
 mod document;
 mod drive;
+mod fault;
+mod request;
 mod ring;
+mod words;
 
 pub use document::{Document, read_ring};
 pub use sercos_document::{BadDocument, Path, write_refusal};

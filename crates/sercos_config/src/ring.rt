@@ -157,9 +157,9 @@ fn is_among(place: u8, done: &[u8]) -> bool
     done.iter().any(|k| *k == place)
 }
 
-// The place of the first drive that has this address.
+/// The place of the first drive that has this address.
 #[tactic(auto, unfolding(crate::specs::Ring::place_from))]
-fn place_of(address: i64, drives: &[DriveSetup]) -> Option<usize>
+pub(crate) fn place_of(address: i64, drives: &[DriveSetup]) -> Option<usize>
     ensures value { result ≡ place_from 0 address drives.now }
     ensures within { IfSome result (λ place. place < length drives.now) }
 {

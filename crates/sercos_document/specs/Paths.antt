@@ -2,7 +2,7 @@
 use Rattle.std.specs.Prelude.{ℕ, List, [], ◌++◌, codes}
 use Rattle.std.specs.Fmt.{decimal}
 use Rattle.sercos_document.specs.declared.path.Place.{Place}
-use Rattle.sercos_document.specs.declared.path.Place.TheVariants.{Top, Ring, Drive, Block}
+use Rattle.sercos_document.specs.declared.path.Place.TheVariants.{Top, Ring, Drive, Block, Request, Fault}
 
 -- the key of a list and a place in it, from 0 on
 unfoldable pub listed : List ℕ → ℕ → List ℕ
@@ -14,6 +14,8 @@ before_keys Top = []
 before_keys Ring = codes "ring."
 before_keys (Drive drive) = listed (codes "drive") drive ++ codes "."
 before_keys (Block drive block) = listed (codes "drive") drive ++ codes "." ++ listed (codes "block") block ++ codes "."
+before_keys (Request request) = listed (codes "request") request ++ codes "."
+before_keys (Fault fault) = listed (codes "fault") fault ++ codes "."
 
 -- the path of a key, and of an item of its list
 unfoldable pub path : Place → List ℕ → List ℕ

@@ -16,6 +16,10 @@ pub enum Place {
     Drive(usize),
     /// A table of the list `block` of a drive: the drive's place, then the block's.
     Block(usize, usize),
+    /// A table of the list `request`.
+    Request(usize),
+    /// A table of the list `fault`.
+    Fault(usize),
 }
 
 /// The path to a key of a document, or to an item of its list: `drive[0].block[2].idn`, `ring.order[1]`. Keys stand in it
@@ -80,6 +84,14 @@ fn push_place(text: &mut String, place: Place) -> Result<(), AllocError>
             push_listed(text, "drive", drive)?;
             text.push_str(".")?;
             push_listed(text, "block", block)?;
+            text.push_str(".")
+        }
+        Place::Request(request) => {
+            push_listed(text, "request", request)?;
+            text.push_str(".")
+        }
+        Place::Fault(fault) => {
+            push_listed(text, "fault", fault)?;
             text.push_str(".")
         }
     }

@@ -1,0 +1,390 @@
+// The faults of a document.
+ghost use Rattle.std.specs.Prelude.{◌≡◌, ◌≤◌, [], length, map, IfOk, IfSome};
+ghost use Rattle.std.specs.List.{All};
+ghost use Rattle.toml.specs.View.{table_view};
+ghost use Rattle.sercos_document.specs.Answers.{Gives, Shows, demand};
+ghost use Rattle.sercos_document.specs.Tables.{known};
+ghost use Rattle.sercos_document.specs.Located.{located};
+ghost use Rattle.sercos_config.specs.Words.{glimpse, word};
+ghost use Rattle.sercos_config.specs.Fault.{fault_kind, telegram_kind, has_telegram, has_from, has_link, has_bit, has_station, keys_if, fault_keys, telegram_of, drive_station, any_station, from_of, hears, station_of, link_of, damage_of, fault_of, faults_onto};
+
+use crate::ring::place_of;
+use crate::words::{glance, key_if};
+use sercos_block::DriveSetup;
+use sercos_document::{BadDocument, Keys, Place};
+use sercos_script::{Damage, Fault};
+use sercos_telegram::Kind;
+use std::alloc::Global;
+use toml::Table;
+
+// What a fault does, without where.
+#[derive(Clone, Copy, Debug, PartialEq, Eq)]
+enum FaultKind {
+    Lose,
+    Flip,
+    Cut,
+    Deaf,
+    Restart,
+}
+
+/// The faults of a document's tables, in a ring of these drives.
+#[tactic(auto, unfolding(crate::specs::Fault::faults_onto))]
+pub(crate) fn read_faults(
+    alloc: Global,
+    drives: &[DriveSetup],
+    tables: &[&Table],
+) -> Result<Vec<Fault>, BadDocument>
+    requires { length drives.now ≤ 64 }
+    ensures value { Shows (λ v. v.items) result (faults_onto drives.now [] (map (λ t. table_view t.now) tables.now)) }
+    ensures valid { IfOk result (λ v. All (λ f. 1 ≤ f.every) v.items) }
+{
+    let Ok(mut faults) = Vec::with_capacity(alloc, tables.len()) else {
+        return Err(BadDocument::Memory);
+    };
+    for table in tables {
+        let keys = Keys {
+            alloc,
+            place: Place::Fault(faults.len()),
+            table: *table,
+        };
+        let fault = read_fault(&keys, drives)?;
+        faults.push(fault)?;
+    }
+    Ok(faults)
+}
+
+// The fault of a table.
+#[tactic(auto, unfolding(crate::specs::Fault::fault_of))]
+fn read_fault(keys: &Keys<'_>, drives: &[DriveSetup]) -> Result<Fault, BadDocument>
+    requires { length drives.now ≤ 64 }
+    ensures value { Gives result (fault_of drives.now (located keys.now)) }
+    ensures valid { IfOk result (λ f. 1 ≤ f.every) }
+{
+    known(
+        keys,
+        glimpsed_kind(keys, "kind"),
+        glimpsed_telegram(keys, "telegram"),
+    )?;
+    let kind = read_kind(keys, "kind")?;
+    let cycle = keys.number("cycle", 0, 49999)?;
+    let last = keys.number_or("last", cycle, 49999, cycle)?;
+    let every = keys.number_or("every", 1, 50000, 1)?;
+    let telegram = read_telegram(keys, kind)?;
+    let from = read_from(keys, drives, telegram)?;
+    let damage = read_damage(keys, drives, kind, telegram)?;
+    Ok(Fault {
+        cycle,
+        last,
+        every,
+        kind: telegram,
+        from,
+        damage,
+    })
+}
+
+// The kind that a fault names, if it names one.
+#[tactic(auto, unfolding(crate::specs::Words::glimpse))]
+fn glimpsed_kind(keys: &Keys<'_>, key: &str) -> Option<FaultKind>
+    ensures { result ≡ glimpse fault_kind (located keys.now) key.now }
+{
+    match glance(keys, key) {
+        Some(text) => fault_kind(text),
+        None => None,
+    }
+}
+
+// The kind of telegrams that a fault names, if it names one.
+#[tactic(auto, unfolding(crate::specs::Words::glimpse))]
+fn glimpsed_telegram(keys: &Keys<'_>, key: &str) -> Option<Kind>
+    ensures { result ≡ glimpse telegram_kind (located keys.now) key.now }
+{
+    match glance(keys, key) {
+        Some(text) => telegram_kind(text),
+        None => None,
+    }
+}
+
+#[tactic(auto, unfolding(crate::specs::Fault::fault_keys))]
+fn known(
+    keys: &Keys<'_>,
+    kind: Option<FaultKind>,
+    telegram: Option<Kind>,
+) -> Result<(), BadDocument>
+    ensures { Gives result (known (located keys.now) (fault_keys kind telegram)) }
+{
+    known_if(
+        keys,
+        has_telegram(kind),
+        has_from(kind, telegram),
+        has_link(kind, telegram),
+        has_bit(kind, telegram),
+        has_station(kind, telegram),
+    )
+}
+
+// Refuses the least unknown key, where some of the keys count if they are said to.
+#[tactic(auto, unfolding(crate::specs::Fault::keys_if))]
+fn known_if(
+    keys: &Keys<'_>,
+    telegram: bool,
+    from: bool,
+    link: bool,
+    bit: bool,
+    station: bool,
+) -> Result<(), BadDocument>
+    ensures { Gives result (known (located keys.now) (keys_if telegram from link bit station)) }
+{
+    keys.known(&[
+        "kind",
+        "cycle",
+        "last",
+        "every",
+        key_if(telegram, "telegram"),
+        key_if(from, "from"),
+        key_if(link, "link"),
+        key_if(bit, "bit"),
+        key_if(station, "station"),
+    ])
+}
+
+#[tactic(auto, unfolding(crate::specs::Fault::has_telegram))]
+fn has_telegram(kind: Option<FaultKind>) -> bool
+    ensures { result ≡ has_telegram kind }
+{
+    match kind {
+        Some(FaultKind::Restart) => false,
+        _ => true,
+    }
+}
+
+#[tactic(auto, unfolding(crate::specs::Fault::has_from))]
+fn has_from(kind: Option<FaultKind>, telegram: Option<Kind>) -> bool
+    ensures { result ≡ has_from kind telegram }
+{
+    match (kind, telegram) {
+        (Some(FaultKind::Restart), _) => false,
+        (Some(_), Some(Kind::Mst | Kind::Mdt)) => false,
+        _ => true,
+    }
+}
+
+#[tactic(auto, unfolding(crate::specs::Fault::has_link))]
+fn has_link(kind: Option<FaultKind>, telegram: Option<Kind>) -> bool
+    ensures { result ≡ has_link kind telegram }
+{
+    match (kind, telegram) {
+        (Some(FaultKind::Restart), _) => false,
+        (Some(FaultKind::Deaf), Some(_)) => false,
+        _ => true,
+    }
+}
+
+#[tactic(auto, unfolding(crate::specs::Fault::has_bit))]
+fn has_bit(kind: Option<FaultKind>, telegram: Option<Kind>) -> bool
+    ensures { result ≡ has_bit kind telegram }
+{
+    match (kind, telegram) {
+        (Some(FaultKind::Restart), _) => false,
+        (Some(FaultKind::Lose | FaultKind::Deaf), Some(_)) => false,
+        _ => true,
+    }
+}
+
+#[tactic(auto, unfolding(crate::specs::Fault::has_station))]
+fn has_station(kind: Option<FaultKind>, telegram: Option<Kind>) -> bool
+    ensures { result ≡ has_station kind telegram }
+{
+    match (kind, telegram) {
+        (Some(FaultKind::Lose | FaultKind::Flip | FaultKind::Cut), Some(_)) => false,
+        _ => true,
+    }
+}
+
+#[tactic(auto, unfolding(crate::specs::Fault::fault_kind))]
+fn fault_kind(text: &str) -> Option<FaultKind>
+    ensures { result ≡ fault_kind text.now }
+{
+    if text == "lose" {
+        Some(FaultKind::Lose)
+    } else if text == "flip" {
+        Some(FaultKind::Flip)
+    } else if text == "cut" {
+        Some(FaultKind::Cut)
+    } else if text == "deaf" {
+        Some(FaultKind::Deaf)
+    } else if text == "restart" {
+        Some(FaultKind::Restart)
+    } else {
+        None
+    }
+}
+
+#[tactic(auto, unfolding(crate::specs::Fault::telegram_kind))]
+fn telegram_kind(text: &str) -> Option<Kind>
+    ensures { result ≡ telegram_kind text.now }
+{
+    if text == "mst" {
+        Some(Kind::Mst)
+    } else if text == "mdt" {
+        Some(Kind::Mdt)
+    } else if text == "at" {
+        Some(Kind::At)
+    } else {
+        None
+    }
+}
+
+// What a fault does, without where.
+#[tactic(auto, unfolding(crate::specs::Words::word))]
+fn read_kind(keys: &Keys<'_>, key: &str) -> Result<FaultKind, BadDocument>
+    ensures { Gives result (word fault_kind (located keys.now) key.now) }
+{
+    let text = keys.required_text(key)?;
+    match fault_kind(text) {
+        Some(kind) => Ok(kind),
+        None => Err(keys.range(key, text.len() as i64)),
+    }
+}
+
+// The kind of telegrams under a key.
+#[tactic(auto, unfolding(crate::specs::Words::word))]
+fn read_telegram_kind(keys: &Keys<'_>, key: &str) -> Result<Kind, BadDocument>
+    ensures { Gives result (word telegram_kind (located keys.now) key.now) }
+{
+    let text = keys.required_text(key)?;
+    match telegram_kind(text) {
+        Some(kind) => Ok(kind),
+        None => Err(keys.range(key, text.len() as i64)),
+    }
+}
+
+// The kind of the telegrams that a fault acts on: a restart counts as one of the MST.
+#[tactic(auto, unfolding(crate::specs::Fault::telegram_of))]
+fn read_telegram(keys: &Keys<'_>, kind: FaultKind) -> Result<Kind, BadDocument>
+    ensures { Gives result (telegram_of kind (located keys.now)) }
+{
+    match kind {
+        FaultKind::Restart => Ok(Kind::Mst),
+        FaultKind::Lose | FaultKind::Flip | FaultKind::Cut | FaultKind::Deaf => {
+            read_telegram_kind(keys, "telegram")
+        }
+    }
+}
+
+// The station of a drive: drives are counted from 1 in the order of the ring.
+#[tactic(auto, unfolding(crate::specs::Fault::drive_station))]
+fn drive_station(drives: &[DriveSetup], address: i64) -> Option<u8>
+    requires { length drives.now ≤ 64 }
+    ensures { result ≡ drive_station drives.now address }
+{
+    match place_of(address, drives) {
+        Some(place) => Some(place as u8 + 1),
+        None => None,
+    }
+}
+
+// The station of a drive, or of the master, whose address is 0.
+#[tactic(auto, unfolding(crate::specs::Fault::any_station))]
+fn any_station(drives: &[DriveSetup], address: i64) -> Option<u8>
+    requires { length drives.now ≤ 64 }
+    ensures { result ≡ any_station drives.now address }
+{
+    if address == 0 {
+        Some(0)
+    } else {
+        drive_station(drives, address)
+    }
+}
+
+// The station that sends the telegrams that a fault acts on.
+#[tactic(auto, unfolding(crate::specs::Fault::from_of))]
+fn read_from(keys: &Keys<'_>, drives: &[DriveSetup], telegram: Kind) -> Result<u8, BadDocument>
+    requires { length drives.now ≤ 64 }
+    ensures { Gives result (from_of drives.now telegram (located keys.now)) }
+{
+    match telegram {
+        Kind::Mst | Kind::Mdt => Ok(0),
+        Kind::At => {
+            let address = keys.required_integer("from")?;
+            match drive_station(drives, address) {
+                Some(station) => Ok(station),
+                None => Err(keys.range("from", address)),
+            }
+        }
+    }
+}
+
+// Whether a station hears telegrams of a kind: the master alone an AT, drives alone an MDT.
+#[tactic(auto, unfolding(crate::specs::Fault::hears))]
+fn hears(telegram: Kind, station: u8) -> bool
+    ensures { result ≡ hears telegram station }
+{
+    match telegram {
+        Kind::Mst => true,
+        Kind::At => station == 0,
+        Kind::Mdt => station != 0,
+    }
+}
+
+// The station at which a fault acts.
+#[tactic(auto, unfolding(crate::specs::Fault::station_of))]
+fn read_station(keys: &Keys<'_>, drives: &[DriveSetup], telegram: Kind) -> Result<u8, BadDocument>
+    requires { length drives.now ≤ 64 }
+    ensures { Gives result (station_of drives.now telegram (located keys.now)) }
+{
+    let address = keys.required_integer("station")?;
+    match any_station(drives, address) {
+        None => Err(keys.range("station", address)),
+        Some(station) => {
+            keys.demand(hears(telegram, station), "station", address)?;
+            Ok(station)
+        }
+    }
+}
+
+// What a fault of a kind does.
+#[tactic(auto, unfolding(crate::specs::Fault::damage_of))]
+fn read_damage(
+    keys: &Keys<'_>,
+    drives: &[DriveSetup],
+    kind: FaultKind,
+    telegram: Kind,
+) -> Result<Damage, BadDocument>
+    requires { length drives.now ≤ 64 }
+    ensures { Gives result (damage_of drives.now kind telegram (located keys.now)) }
+{
+    match kind {
+        FaultKind::Lose => {
+            let link = read_link(keys, drives)?;
+            Ok(Damage::Lose { link })
+        }
+        FaultKind::Flip => {
+            let link = read_link(keys, drives)?;
+            let bit = keys.number("bit", 0, 19695)?;
+            Ok(Damage::Flip { link, bit })
+        }
+        FaultKind::Cut => {
+            let link = read_link(keys, drives)?;
+            let bit = keys.number("bit", 0, 19695)?;
+            Ok(Damage::Cut { link, bit })
+        }
+        FaultKind::Deaf => {
+            let station = read_station(keys, drives, telegram)?;
+            Ok(Damage::Deaf { station })
+        }
+        FaultKind::Restart => {
+            let station = read_station(keys, drives, telegram)?;
+            Ok(Damage::Restart { station })
+        }
+    }
+}
+
+// The link on which a fault acts: 0 to the number of drives.
+#[tactic(auto, unfolding(crate::specs::Fault::link_of))]
+fn read_link(keys: &Keys<'_>, drives: &[DriveSetup]) -> Result<u8, BadDocument>
+    requires { length drives.now ≤ 64 }
+    ensures { Gives result (link_of drives.now (located keys.now)) }
+{
+    let link = keys.number("link", 0, drives.len() as u32)?;
+    Ok(link as u8)
+}

@@ -1,0 +1,249 @@
+// The requests of a document.
+ghost use Rattle.std.specs.Prelude.{◌≡◌, ◌≤◌, [], length, map, IfOk};
+ghost use Rattle.std.specs.List.{All};
+ghost use Rattle.toml.specs.View.{table_view};
+ghost use Rattle.sercos_block.specs.Rings.{has_address, has_other_data};
+ghost use Rattle.sercos_step.specs.Steps.{IsRequest};
+ghost use Rattle.sercos_step.specs.Jobs.{IsCommand, IsJob};
+ghost use Rattle.sercos_document.specs.Answers.{Gives, Shows};
+ghost use Rattle.sercos_document.specs.Tables.{known};
+ghost use Rattle.sercos_document.specs.Located.{located};
+ghost use Rattle.sercos_config.specs.Words.{glimpse, word};
+ghost use Rattle.sercos_config.specs.Request.{request_kind, has_element, has_data, keys_if, request_keys, bytes_spelled, bytes_under, asked_of, request_of, requests_onto};
+
+use crate::block::read_idn;
+use crate::data::decoded;
+use crate::words::{glance, key_if, read_address};
+use sercos_bits::Bytes;
+use sercos_block::{DriveSetup, has_other_data};
+use sercos_document::{BadDocument, Keys, Place};
+use sercos_idn::Idn;
+use sercos_step::{Job, Request};
+use std::alloc::Global;
+use toml::Table;
+
+// What a request asks for.
+#[derive(Clone, Copy, Debug, PartialEq, Eq)]
+enum RequestKind {
+    Read,
+    Write,
+    Command,
+}
+
+/// The requests of a document's tables, to these drives.
+#[tactic(auto, unfolding(crate::specs::Request::requests_onto))]
+pub(crate) fn read_requests(
+    alloc: Global,
+    drives: &[DriveSetup],
+    tables: &[&Table],
+) -> Result<Vec<Job>, BadDocument>
+    ensures value { Shows (λ v. v.items) result (requests_onto drives.now [] (map (λ t. table_view t.now) tables.now)) }
+    ensures valid { IfOk result (λ v.
+        All (IsJob (λ address. has_address address drives.now) (λ address raw. has_other_data address raw drives.now)) v.items) }
+    ensures count { IfOk result (λ v. length v.items ≡ length tables.now) }
+{
+    let Ok(mut jobs) = Vec::with_capacity(alloc, tables.len()) else {
+        return Err(BadDocument::Memory);
+    };
+    for table in tables {
+        let keys = Keys {
+            alloc,
+            place: Place::Request(jobs.len()),
+            table: *table,
+        };
+        let job = read_request(&keys, drives)?;
+        jobs.push(job)?;
+    }
+    Ok(jobs)
+}
+
+// The request of a table.
+#[tactic(auto, unfolding(crate::specs::Request::request_of))]
+fn read_request(keys: &Keys<'_>, drives: &[DriveSetup]) -> Result<Job, BadDocument>
+    ensures value { Gives result (request_of drives.now (located keys.now)) }
+    ensures valid { IfOk result
+        (IsJob (λ address. has_address address drives.now) (λ address raw. has_other_data address raw drives.now)) }
+{
+    known(keys, glimpsed_kind(keys, "kind"))?;
+    let drive = read_address(keys, drives, "drive")?;
+    let kind = read_kind(keys, "kind")?;
+    let idn = read_idn(keys, "idn")?;
+    let request = read_asked(keys, drives, drive, kind, idn)?;
+    Ok(Job { drive, request })
+}
+
+// The kind that a request names, if it names one.
+#[tactic(auto, unfolding(crate::specs::Words::glimpse))]
+fn glimpsed_kind(keys: &Keys<'_>, key: &str) -> Option<RequestKind>
+    ensures { result ≡ glimpse request_kind (located keys.now) key.now }
+{
+    match glance(keys, key) {
+        Some(text) => request_kind(text),
+        None => None,
+    }
+}
+
+#[tactic(auto, unfolding(crate::specs::Request::request_keys))]
+fn known(keys: &Keys<'_>, kind: Option<RequestKind>) -> Result<(), BadDocument>
+    ensures { Gives result (known (located keys.now) (request_keys kind)) }
+{
+    known_if(keys, has_element(kind), has_data(kind))
+}
+
+// Refuses the least unknown key, where some of the keys count if they are said to.
+#[tactic(auto, unfolding(crate::specs::Request::keys_if))]
+fn known_if(keys: &Keys<'_>, element: bool, bytes: bool) -> Result<(), BadDocument>
+    ensures { Gives result (known (located keys.now) (keys_if element bytes)) }
+{
+    keys.known(&[
+        "drive",
+        "kind",
+        "idn",
+        key_if(element, "element"),
+        key_if(bytes, "data"),
+    ])
+}
+
+#[tactic(auto, unfolding(crate::specs::Request::has_element))]
+fn has_element(kind: Option<RequestKind>) -> bool
+    ensures { result ≡ has_element kind }
+{
+    match kind {
+        Some(RequestKind::Command) => false,
+        _ => true,
+    }
+}
+
+#[tactic(auto, unfolding(crate::specs::Request::has_data))]
+fn has_data(kind: Option<RequestKind>) -> bool
+    ensures { result ≡ has_data kind }
+{
+    match kind {
+        Some(RequestKind::Write) | None => true,
+        Some(RequestKind::Read | RequestKind::Command) => false,
+    }
+}
+
+#[tactic(auto, unfolding(crate::specs::Request::request_kind))]
+fn request_kind(text: &str) -> Option<RequestKind>
+    ensures { result ≡ request_kind text.now }
+{
+    if text == "read" {
+        Some(RequestKind::Read)
+    } else if text == "write" {
+        Some(RequestKind::Write)
+    } else if text == "command" {
+        Some(RequestKind::Command)
+    } else {
+        None
+    }
+}
+
+// The kind of a request.
+#[tactic(auto, unfolding(crate::specs::Words::word))]
+fn read_kind(keys: &Keys<'_>, key: &str) -> Result<RequestKind, BadDocument>
+    ensures { Gives result (word request_kind (located keys.now) key.now) }
+{
+    let text = keys.required_text(key)?;
+    match request_kind(text) {
+        Some(kind) => Ok(kind),
+        None => Err(keys.range(key, text.len() as i64)),
+    }
+}
+
+// What a request of a kind does at the drive with an address.
+fn read_asked(
+    keys: &Keys<'_>,
+    drives: &[DriveSetup],
+    address: u8,
+    kind: RequestKind,
+    idn: Idn,
+) -> Result<Request, BadDocument>
+    ensures value { Gives result (asked_of drives.now address kind idn (located keys.now)) }
+    ensures element { IfOk result IsRequest }
+    ensures command { IfOk result (IsCommand (λ raw. has_other_data address raw drives.now)) }
+{
+    match kind {
+        RequestKind::Read => read_read(keys, drives, address, idn),
+        RequestKind::Write => read_write(keys, drives, address, idn),
+        RequestKind::Command => read_command(keys, drives, address, idn),
+    }
+}
+
+#[tactic(auto, unfolding(crate::specs::Request::asked_of))]
+fn read_read(
+    keys: &Keys<'_>,
+    drives: &[DriveSetup],
+    address: u8,
+    idn: Idn,
+) -> Result<Request, BadDocument>
+    ensures value { Gives result (asked_of drives.now address RequestKind.Read idn (located keys.now)) }
+    ensures element { IfOk result IsRequest }
+    ensures command { IfOk result (IsCommand (λ raw. has_other_data address raw drives.now)) }
+{
+    let element = keys.number_or("element", 1, 7, 7)?;
+    Ok(Request::Read {
+        idn,
+        element: element as u8,
+    })
+}
+
+#[tactic(auto, unfolding(crate::specs::Request::asked_of))]
+fn read_write(
+    keys: &Keys<'_>,
+    drives: &[DriveSetup],
+    address: u8,
+    idn: Idn,
+) -> Result<Request, BadDocument>
+    ensures value { Gives result (asked_of drives.now address RequestKind.Write idn (located keys.now)) }
+    ensures element { IfOk result IsRequest }
+    ensures command { IfOk result (IsCommand (λ raw. has_other_data address raw drives.now)) }
+{
+    let element = keys.number_or("element", 2, 7, 7)?;
+    let bytes = read_bytes(keys, "data")?;
+    Ok(Request::Write {
+        idn,
+        element: element as u8,
+        bytes,
+    })
+}
+
+#[tactic(auto, unfolding(crate::specs::Request::asked_of))]
+fn read_command(
+    keys: &Keys<'_>,
+    drives: &[DriveSetup],
+    address: u8,
+    idn: Idn,
+) -> Result<Request, BadDocument>
+    ensures value { Gives result (asked_of drives.now address RequestKind.Command idn (located keys.now)) }
+    ensures element { IfOk result IsRequest }
+    ensures command { IfOk result (IsCommand (λ raw. has_other_data address raw drives.now)) }
+{
+    let other = has_other_data(address, idn, drives);
+    keys.demand(!other, "idn", i64::from(idn.raw))?;
+    Ok(Request::Command { idn })
+}
+
+// What is written.
+#[tactic(auto, unfolding(crate::specs::Request::bytes_under))]
+fn read_bytes(keys: &Keys<'_>, key: &str) -> Result<Bytes, BadDocument>
+    ensures { Gives result (bytes_under (located keys.now) key.now) }
+{
+    let text = keys.required_text(key)?;
+    match bytes_spelled(text.as_bytes()) {
+        Some(bytes) => Ok(bytes),
+        None => Err(keys.range(key, text.len() as i64)),
+    }
+}
+
+// The bytes that digits spell.
+#[tactic(auto, unfolding(crate::specs::Request::bytes_spelled))]
+fn bytes_spelled(digits: &[u8]) -> Option<Bytes>
+    ensures { result ≡ bytes_spelled digits.now }
+{
+    if digits.len() <= 2048 {
+        decoded(digits)
+    } else {
+        None
+    }
+}

@@ -1,0 +1,57 @@
+// The faults of a script.
+use sercos_telegram::Kind;
+
+/// What a fault does (this profile). Link 0 leads from the master to the first drive, link k from drive k to the next, and
+/// link n, for n drives, back to the master. Station 0 is the master, and stations 1 to n are the drives in the order of the
+/// ring.
+#[derive(Clone, Copy, Debug, PartialEq, Eq)]
+pub enum Damage {
+    /// Nothing leaves the link.
+    Lose {
+        /// The link, 0 to n.
+        link: u8,
+    },
+    /// One bit is complemented on the link, if the telegram has it.
+    Flip {
+        /// The link, 0 to n.
+        link: u8,
+        /// The place of the bit in the frame, from 0.
+        bit: u32,
+    },
+    /// Only the first bits leave the link.
+    Cut {
+        /// The link, 0 to n.
+        link: u8,
+        /// How many bits leave it.
+        bit: u32,
+    },
+    /// Nothing arrives at the station.
+    Deaf {
+        /// The station, 0 to n.
+        station: u8,
+    },
+    /// The station restarts before the MST of the cycle. Such a fault does nothing to telegrams: its kind is `Mst` and its
+    /// sender is 0.
+    Restart {
+        /// The station, 0 to n.
+        station: u8,
+    },
+}
+
+/// A fault of a script (this profile). It acts in the cycles from `cycle` to `last` whose distance from `cycle` is a multiple
+/// of `every`, on the telegrams of a kind that one station sends.
+#[derive(Clone, Copy, Debug, PartialEq, Eq)]
+pub struct Fault {
+    /// The first cycle in which it may act.
+    pub cycle: u32,
+    /// The last cycle in which it may act.
+    pub last: u32,
+    /// The number of cycles from one action to the next. A document has at least 1.
+    pub every: u32,
+    /// The kind of the telegrams.
+    pub kind: Kind,
+    /// The station that sends them: 0 for an MST and an MDT, 1 to n for an AT.
+    pub from: u8,
+    /// What it does to them.
+    pub damage: Damage,
+}
