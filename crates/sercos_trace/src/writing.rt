@@ -108,70 +108,70 @@ fn write_head<K: Sink>(wishes: &Wishes, line: &mut Line, sink: &mut K) -> Result
 
 // Writes the first telegram of a cycle, the MST.
 fn write_first<K: Sink>(
-    record: &CycleRecord,
+    cycle: &CycleRecord,
     line: &mut Line,
     sink: &mut K,
 ) -> Result<(), WriteFailed>
-    ensures { Writes (seen K.held K.faults K.room sink.old) (seen K.held K.faults K.room sink.new) result (flat_map (sent_text record.now.cycle) (take 1 record.now.sent)) }
+    ensures { Writes (seen K.held K.faults K.room sink.old) (seen K.held K.faults K.room sink.new) result (flat_map (sent_text cycle.now.cycle) (take 1 cycle.now.sent)) }
 {
-    let sent = record.sent.as_slice();
-    write_all_sent(record.cycle, &sent[..sent.len().min(1)], line, sink)
+    let sent = cycle.sent.as_slice();
+    write_all_sent(cycle.cycle, &sent[..sent.len().min(1)], line, sink)
 }
 
 // Writes the other telegrams of a cycle.
 fn write_rest<K: Sink>(
-    record: &CycleRecord,
+    cycle: &CycleRecord,
     line: &mut Line,
     sink: &mut K,
 ) -> Result<(), WriteFailed>
-    ensures { Writes (seen K.held K.faults K.room sink.old) (seen K.held K.faults K.room sink.new) result (flat_map (sent_text record.now.cycle) (drop 1 record.now.sent)) }
+    ensures { Writes (seen K.held K.faults K.room sink.old) (seen K.held K.faults K.room sink.new) result (flat_map (sent_text cycle.now.cycle) (drop 1 cycle.now.sent)) }
 {
-    let sent = record.sent.as_slice();
-    write_all_sent(record.cycle, &sent[sent.len().min(1)..], line, sink)
+    let sent = cycle.sent.as_slice();
+    write_all_sent(cycle.cycle, &sent[sent.len().min(1)..], line, sink)
 }
 
 // Writes the moves of a cycle, the late ones or the others.
 fn write_moves_of<K: Sink>(
-    record: &CycleRecord,
+    cycle: &CycleRecord,
     late: bool,
     line: &mut Line,
     sink: &mut K,
 ) -> Result<(), WriteFailed>
-    ensures { Writes (seen K.held K.faults K.room sink.old) (seen K.held K.faults K.room sink.new) result (moves_text record.now.cycle late record.now.moves) }
+    ensures { Writes (seen K.held K.faults K.room sink.old) (seen K.held K.faults K.room sink.new) result (moves_text cycle.now.cycle late cycle.now.moves) }
 {
-    write_moves(record.cycle, late, record.moves.as_slice(), line, sink)
+    write_moves(cycle.cycle, late, cycle.moves.as_slice(), line, sink)
 }
 
 // Writes the events of a cycle.
 fn write_events_of<K: Sink>(
     wishes: &Wishes,
-    record: &CycleRecord,
+    cycle: &CycleRecord,
     line: &mut Line,
     sink: &mut K,
 ) -> Result<(), WriteFailed>
-    requires starts { IfSome record.now.events.plan (λ p. length p.t1 ≡ length wishes.now.drives) }
-    requires positions { IfSome record.now.events.plan (λ p. length p.position ≡ length wishes.now.drives) }
-    ensures { Writes (seen K.held K.faults K.room sink.old) (seen K.held K.faults K.room sink.new) result (events_text wishes.now record.now.cycle record.now.events) }
+    requires starts { IfSome cycle.now.events.plan (λ p. length p.t1 ≡ length wishes.now.drives) }
+    requires positions { IfSome cycle.now.events.plan (λ p. length p.position ≡ length wishes.now.drives) }
+    ensures { Writes (seen K.held K.faults K.room sink.old) (seen K.held K.faults K.room sink.new) result (events_text wishes.now cycle.now.cycle cycle.now.events) }
 {
-    write_events(record.cycle, wishes, &record.events, line, sink)
+    write_events(cycle.cycle, wishes, &cycle.events, line, sink)
 }
 
 // Writes the lines of a cycle.
 fn write_lines<K: Sink>(
     wishes: &Wishes,
-    record: &CycleRecord,
+    cycle: &CycleRecord,
     line: &mut Line,
     sink: &mut K,
 ) -> Result<(), WriteFailed>
-    requires starts { IfSome record.now.events.plan (λ p. length p.t1 ≡ length wishes.now.drives) }
-    requires positions { IfSome record.now.events.plan (λ p. length p.position ≡ length wishes.now.drives) }
-    ensures { Writes (seen K.held K.faults K.room sink.old) (seen K.held K.faults K.room sink.new) result (cycle_text wishes.now record.now) }
+    requires starts { IfSome cycle.now.events.plan (λ p. length p.t1 ≡ length wishes.now.drives) }
+    requires positions { IfSome cycle.now.events.plan (λ p. length p.position ≡ length wishes.now.drives) }
+    ensures { Writes (seen K.held K.faults K.room sink.old) (seen K.held K.faults K.room sink.new) result (cycle_text wishes.now cycle.now) }
 {
-    write_first(record, line, sink)?;
-    write_moves_of(record, false, line, sink)?;
-    write_rest(record, line, sink)?;
-    write_moves_of(record, true, line, sink)?;
-    write_events_of(wishes, record, line, sink)
+    write_first(cycle, line, sink)?;
+    write_moves_of(cycle, false, line, sink)?;
+    write_rest(cycle, line, sink)?;
+    write_moves_of(cycle, true, line, sink)?;
+    write_events_of(wishes, cycle, line, sink)
 }
 
 // Writes the end line.
@@ -213,20 +213,20 @@ pub fn write_header<K: Sink>(wishes: &Wishes, sink: &mut K) -> Result<(), WriteF
 #[tactic(auto, using(crate::proofs::WriteLemmas::ok_of, crate::proofs::WriteLemmas::err_of, crate::proofs::WriteLemmas::cause_of, crate::proofs::WriteLemmas::room_of, crate::proofs::WriteLemmas::left_of))]
 pub fn write_cycle<K: Sink>(
     wishes: &Wishes,
-    record: &CycleRecord,
+    cycle: &CycleRecord,
     sink: &mut K,
 ) -> Result<(), WriteFailed>
-    requires starts { IfSome record.now.events.plan (λ p. length p.t1 ≡ length wishes.now.drives) }
-    requires positions { IfSome record.now.events.plan (λ p. length p.position ≡ length wishes.now.drives) }
-    ensures ok { OnOk result (Appends (K.held sink.old) (K.held sink.new) (cycle_text wishes.now record.now)) }
-    ensures err { OnErr result ((count : ℕ) × (count < length (cycle_text wishes.now record.now))
-        × Appends (K.held sink.old) (K.held sink.new) (take count (cycle_text wishes.now record.now))) }
+    requires starts { IfSome cycle.now.events.plan (λ p. length p.t1 ≡ length wishes.now.drives) }
+    requires positions { IfSome cycle.now.events.plan (λ p. length p.position ≡ length wishes.now.drives) }
+    ensures ok { OnOk result (Appends (K.held sink.old) (K.held sink.new) (cycle_text wishes.now cycle.now)) }
+    ensures err { OnErr result ((count : ℕ) × (count < length (cycle_text wishes.now cycle.now))
+        × Appends (K.held sink.old) (K.held sink.new) (take count (cycle_text wishes.now cycle.now))) }
     ensures cause { HasCause (K.faults sink.old) (K.faults sink.new) result }
-    ensures room { length (cycle_text wishes.now record.now) ≤ K.room sink.old → IsOk result }
-    ensures room_left { K.room sink.old ≤ K.room sink.new + length (cycle_text wishes.now record.now) }
+    ensures room { length (cycle_text wishes.now cycle.now) ≤ K.room sink.old → IsOk result }
+    ensures room_left { K.room sink.old ≤ K.room sink.new + length (cycle_text wishes.now cycle.now) }
 {
     let mut line = Line::new();
-    write_lines(wishes, record, &mut line, sink)
+    write_lines(wishes, cycle, &mut line, sink)
 }
 
 /// Writes the end line of a trace. After an error the sink has taken a prefix of the text, short of the whole, and its count of
