@@ -56,6 +56,22 @@ line_spelled tail (letter ∷ template) line none =
     let behind_it = none_of-map _ (line_fault tail template (drop (part_len found line) line)) parts.1 in
     line_of_part tail letter template _ line found refl parts.0 (line_spelled tail template (drop (part_len found line) line) behind_it)
 
+-- each value is one of its field
+fields_of_part : (letter : ℕ) (template text : List ℕ) (found : Option Field) → field_of letter ≡ found → part_fault found letter text ≡ None → AreOf template (values_of template (drop (part_len found text) text))
+    → IsPart found (part_values found text ++ values_of template (drop (part_len found text) text)) × AreOf template (part_left found (part_values found text ++ values_of template (drop (part_len found text) text)))
+unfolding part_fault part_len part_values part_left IsPart
+fields_of_part letter template text None is none rest = (tt, rest)
+fields_of_part letter template text (Some field) is none rest = ((field_spells field text (is_field-found letter field is) none).fits, rest)
+
+pub fields_are : (tail : Tail) (template line : List ℕ) → line_fault tail template line ≡ None → AreOf template (values_of template line)
+unfolding line_fault values_of AreOf
+fields_are tail [] line none = tt
+fields_are tail (letter ∷ template) line none =
+    let found = field_of letter in
+    let parts = none_of-or (part_fault found letter line) _ none in
+    let rest = none_of-map _ (line_fault tail template (drop (part_len found line) line)) parts.1 in
+    fields_of_part letter template line found refl parts.0 (fields_are tail template (drop (part_len found line) line) rest)
+
 -- ---- each line of a template is read as its values
 
 pub record Reads (tail : Tail) (template line : List ℕ) (values : List Value) (items : List ℕ) : Type 0 where

@@ -137,13 +137,20 @@ unfoldable pub is_template : List ℕ → Bool
 is_template [] = true
 is_template (letter ∷ template) = (is_none (field_of letter) || (slice_index_or template 0 32 == 32)) && is_template template
 
--- the numbers among values, and the bytes of the last that are bytes, or those that were kept before
-unfoldable pub numbers_in : List Value → List ℤ
+-- the numbers without a sign among values; the last number with a sign, and the last bytes, or what was kept before
+unfoldable pub numbers_in : List Value → List ℕ
 numbers_in [] = []
-numbers_in (number n ∷ values) = pos n ∷ numbers_in values
-numbers_in (signed z ∷ values) = z ∷ numbers_in values
+numbers_in (number n ∷ values) = n ∷ numbers_in values
+numbers_in (signed z ∷ values) = numbers_in values
 numbers_in (bytes list ∷ values) = numbers_in values
 numbers_in (ident raw ∷ values) = numbers_in values
+
+unfoldable pub signed_by : ℤ → List Value → ℤ
+signed_by kept [] = kept
+signed_by kept (number n ∷ values) = signed_by kept values
+signed_by kept (signed z ∷ values) = signed_by z values
+signed_by kept (bytes list ∷ values) = signed_by kept values
+signed_by kept (ident raw ∷ values) = signed_by kept values
 
 unfoldable pub bytes_by : List ℕ → List Value → List ℕ
 bytes_by kept [] = kept

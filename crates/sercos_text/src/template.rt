@@ -2,7 +2,7 @@
 ghost use Rattle.std.specs.Prelude.{◌≡◌, ◌<◌, ◌≤◌, ◌+◌, ◌*◌, ◌++◌, [], ◌∷◌, pos, true, length, take, drop, IfOk, IfErr, IfSome, OnOk};
 ghost use Rattle.sercos_text.specs.Fields.{number_fault, number_len, number_of, signed_fault, signed_len, signed_of, hex_fault, hex_len, hex_of, digits_fault, low_pairs};
 ghost use Rattle.std.specs.Result.{result_err};
-ghost use Rattle.sercos_text.specs.Templates.{field_of, field_fault, field_len, byte_fault, part_fault, part_len, line_fault, field_value, part_values, values_of, items_of, numbers_in, bytes_by, is_field};
+ghost use Rattle.sercos_text.specs.Templates.{field_of, field_fault, field_len, byte_fault, part_fault, part_len, line_fault, field_value, part_values, values_of, items_of, numbers_in, signed_by, bytes_by, is_field, AreOf};
 ghost use Rattle.sercos_text.specs.Tails.{addresses_in};
 
 use crate::digits::{read_digits, read_hex, set_bytes, set_digits};
@@ -53,8 +53,10 @@ pub const MOST_NUMBERS: usize = 64;
 /// What the fields of a line give.
 #[derive(Debug, Drop)]
 pub struct Told {
-    /// Its numbers, in order.
-    pub numbers: ArrayVec<i64, MOST_NUMBERS>,
+    /// Its numbers without a sign, in order.
+    pub numbers: ArrayVec<u32, MOST_NUMBERS>,
+    /// Its number with a sign; 0 if it has none.
+    pub signed: i32,
     /// Its bytes.
     pub bytes: Content,
     /// The addresses of its list.
@@ -62,19 +64,20 @@ pub struct Told {
 }
 
 // A number at the front of a text.
-#[tactic(auto, unfolding(crate::specs::Templates::field_fault, crate::specs::Templates::field_len, crate::specs::Templates::field_value, crate::specs::Templates::numbers_in, crate::specs::Templates::bytes_by))]
+#[tactic(auto, unfolding(crate::specs::Templates::field_fault, crate::specs::Templates::field_len, crate::specs::Templates::field_value, crate::specs::Templates::numbers_in, crate::specs::Templates::signed_by, crate::specs::Templates::bytes_by))]
 fn take_number(most: u32, text: &[u8], told: &mut Told) -> Result<usize, usize>
     requires { length told.old.numbers.items < 64 }
     ensures fault { result_err result ≡ number_fault most text.now }
     ensures len { IfOk result (λ len. len ≡ number_len text.now) }
     ensures bound { IfOk result (λ len. len ≤ length text.now) }
     ensures place { IfErr result (λ place. place ≤ length text.now) }
-    ensures numbers { OnOk result (told.new.numbers.items ≡ told.old.numbers.items ++ pos (number_of text.now) ∷ []) }
+    ensures numbers { OnOk result (told.new.numbers.items ≡ told.old.numbers.items ++ number_of text.now ∷ []) }
+    ensures signed { told.new.signed ≡ told.old.signed }
     ensures bytes { told.new.bytes ≡ told.old.bytes }
 {
     match read_number(text, most) {
         Ok((len, number)) => {
-            told.numbers.push(i64::from(number));
+            told.numbers.push(number);
             Ok(len)
         }
         Err(place) => Err(place),
@@ -83,17 +86,17 @@ fn take_number(most: u32, text: &[u8], told: &mut Told) -> Result<usize, usize>
 
 // A signed number at the front of a text.
 fn take_signed(text: &[u8], told: &mut Told) -> Result<usize, usize>
-    requires { length told.old.numbers.items < 64 }
     ensures fault { result_err result ≡ signed_fault text.now }
     ensures len { IfOk result (λ len. len ≡ signed_len text.now) }
     ensures bound { IfOk result (λ len. len ≤ length text.now) }
     ensures place { IfErr result (λ place. place ≤ length text.now) }
-    ensures numbers { OnOk result (told.new.numbers.items ≡ told.old.numbers.items ++ signed_of text.now ∷ []) }
+    ensures numbers { told.new.numbers ≡ told.old.numbers }
+    ensures signed { OnOk result (told.new.signed ≡ signed_of text.now) }
     ensures bytes { told.new.bytes ≡ told.old.bytes }
 {
     match read_signed(text) {
         Ok((len, number)) => {
-            told.numbers.push(i64::from(number));
+            told.signed = number;
             Ok(len)
         }
         Err(place) => Err(place),
@@ -108,6 +111,7 @@ fn take_hex(most: u16, text: &[u8], told: &mut Told) -> Result<usize, usize>
     ensures bound { IfOk result (λ len. len ≤ length text.now) }
     ensures place { IfErr result (λ place. place ≤ length text.now) }
     ensures numbers { told.new.numbers ≡ told.old.numbers }
+    ensures signed { told.new.signed ≡ told.old.signed }
     ensures bytes { OnOk result (told.new.bytes ≡ hex_of text.now) }
 {
     match read_hex(text, most) {
@@ -127,6 +131,7 @@ fn take_digits(count: u16, text: &[u8], told: &mut Told) -> Result<usize, usize>
     ensures bound { IfOk result (λ len. len ≤ length text.now) }
     ensures place { IfErr result (λ place. place ≤ length text.now) }
     ensures numbers { told.new.numbers ≡ told.old.numbers }
+    ensures signed { told.new.signed ≡ told.old.signed }
     ensures bytes { OnOk result (told.new.bytes ≡ low_pairs (take (2 * count) text.now)) }
 {
     match read_digits(text, count) {
@@ -139,7 +144,7 @@ fn take_digits(count: u16, text: &[u8], told: &mut Told) -> Result<usize, usize>
 }
 
 // A field at the front of a text: how many bytes it takes. The error is the place of the first byte that can't stand.
-#[tactic(auto, unfolding(crate::specs::Templates::field_fault, crate::specs::Templates::field_len, crate::specs::Templates::field_value, crate::specs::Templates::numbers_in, crate::specs::Templates::bytes_by))]
+#[tactic(auto, unfolding(crate::specs::Templates::field_fault, crate::specs::Templates::field_len, crate::specs::Templates::field_value, crate::specs::Templates::numbers_in, crate::specs::Templates::signed_by, crate::specs::Templates::bytes_by))]
 fn read_field(field: Field, text: &[u8], told: &mut Told) -> Result<usize, usize>
     requires few { length told.old.numbers.items < 64 }
     requires field { is_field field ≡ true }
@@ -148,6 +153,7 @@ fn read_field(field: Field, text: &[u8], told: &mut Told) -> Result<usize, usize
     ensures bound { IfOk result (λ len. len ≤ length text.now) }
     ensures place { IfErr result (λ place. place ≤ length text.now) }
     ensures numbers { OnOk result (told.new.numbers.items ≡ told.old.numbers.items ++ numbers_in (field_value field text.now ∷ [])) }
+    ensures signed { OnOk result (told.new.signed ≡ signed_by told.old.signed (field_value field text.now ∷ [])) }
     ensures bytes { OnOk result (told.new.bytes ≡ bytes_by told.old.bytes (field_value field text.now ∷ [])) }
 {
     match field {
@@ -174,7 +180,7 @@ fn read_byte(byte: u8, text: &[u8]) -> Result<usize, usize>
 }
 
 // The part of a line for one letter of the template, at the front of a text.
-#[tactic(auto, unfolding(crate::specs::Templates::part_fault, crate::specs::Templates::part_len, crate::specs::Templates::part_values, crate::specs::Templates::numbers_in, crate::specs::Templates::bytes_by))]
+#[tactic(auto, unfolding(crate::specs::Templates::part_fault, crate::specs::Templates::part_len, crate::specs::Templates::part_values, crate::specs::Templates::numbers_in, crate::specs::Templates::signed_by, crate::specs::Templates::bytes_by))]
 fn read_part(letter: u8, text: &[u8], told: &mut Told) -> Result<usize, usize>
     requires { length told.old.numbers.items < 64 }
     ensures fault { result_err result ≡ part_fault (field_of letter) letter text.now }
@@ -182,6 +188,7 @@ fn read_part(letter: u8, text: &[u8], told: &mut Told) -> Result<usize, usize>
     ensures bound { IfOk result (λ len. len ≤ length text.now) }
     ensures place { IfErr result (λ place. place ≤ length text.now) }
     ensures numbers { OnOk result (told.new.numbers.items ≡ told.old.numbers.items ++ numbers_in (part_values (field_of letter) text.now)) }
+    ensures signed { OnOk result (told.new.signed ≡ signed_by told.old.signed (part_values (field_of letter) text.now)) }
     ensures bytes { OnOk result (told.new.bytes ≡ bytes_by told.old.bytes (part_values (field_of letter) text.now)) }
 {
     match field_of(letter) {
@@ -197,10 +204,13 @@ pub fn read_line(template: &[u8], tail: Tail, line: &[u8], told: &mut Told) -> R
     requires { length template.now ≤ 64 }
     ensures fault { result_err result ≡ line_fault tail template.now line.now }
     ensures numbers { OnOk result (told.new.numbers.items ≡ numbers_in (values_of template.now line.now)) }
+    ensures signed { OnOk result (told.new.signed ≡ signed_by (pos 0) (values_of template.now line.now)) }
     ensures bytes { OnOk result (told.new.bytes ≡ bytes_by [] (values_of template.now line.now)) }
+    ensures fields { OnOk result (AreOf template.now (values_of template.now line.now)) }
     ensures addresses { OnOk result (told.new.addresses.items ≡ addresses_in tail (items_of tail template.now line.now)) }
 {
     told.numbers.clear();
+    told.signed = 0;
     told.bytes.clear();
     let mut at = 0;
     for letter in template {
