@@ -63,6 +63,20 @@ pub struct Told {
     pub addresses: Addresses,
 }
 
+impl Told {
+    /// What a line without fields gives.
+    pub fn new() -> Told
+        ensures { (result.numbers.items ≡ []) × (result.signed ≡ pos 0) × (result.bytes ≡ []) × (result.addresses.items ≡ []) }
+    {
+        Told {
+            numbers: ArrayVec::new(),
+            signed: 0,
+            bytes: Content::new(),
+            addresses: Addresses::new(),
+        }
+    }
+}
+
 // A number at the front of a text.
 #[tactic(auto, unfolding(crate::specs::Templates::field_fault, crate::specs::Templates::field_len, crate::specs::Templates::field_value, crate::specs::Templates::numbers_in, crate::specs::Templates::signed_by, crate::specs::Templates::bytes_by))]
 fn take_number(most: u32, text: &[u8], told: &mut Told) -> Result<usize, usize>
@@ -203,6 +217,7 @@ fn read_part(letter: u8, text: &[u8], told: &mut Told) -> Result<usize, usize>
 pub fn read_line(template: &[u8], tail: Tail, line: &[u8], told: &mut Told) -> Result<(), usize>
     requires { length template.now ≤ 64 }
     ensures fault { result_err result ≡ line_fault tail template.now line.now }
+    ensures place { IfErr result (λ place. place ≤ length line.now + 1) }
     ensures numbers { OnOk result (told.new.numbers.items ≡ numbers_in (values_of template.now line.now)) }
     ensures signed { OnOk result (told.new.signed ≡ signed_by (pos 0) (values_of template.now line.now)) }
     ensures bytes { OnOk result (told.new.bytes ≡ bytes_by [] (values_of template.now line.now)) }

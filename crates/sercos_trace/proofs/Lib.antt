@@ -1,3 +1,4 @@
 mod KindLemmas
 mod WriteLemmas
 mod Worked
+mod NumberLemmas

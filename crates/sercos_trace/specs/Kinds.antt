@@ -1,9 +1,9 @@
 -- The kinds of lines of a trace, each with its template: B, W and D stand for numbers up to 255, 65535 and 2^32 - 1, S for a
 -- signed one of 32 bits, H and R for up to 2048 and 1024 bytes, C and A for two and four bytes, I for an identifier number.
-use Rattle.std.specs.Prelude.{ℕ, List, [], ◌∷◌, ◌++◌, codes}
+use Rattle.std.specs.Prelude.{ℕ, max, if◌then◌else◌, List, [], ◌∷◌, ◌++◌, codes, Option, Some, None, is_none}
 use Rattle.sercos_text.specs.declared.tail.Tail.{Tail}
 use Rattle.sercos_text.specs.declared.tail.Tail.TheVariants.{End, Addresses, Idents}
-use Rattle.sercos_text.specs.Templates.{Value, line_text}
+use Rattle.sercos_text.specs.Templates.{Value, line_fault, line_text}
 use Rattle.sercos_text.specs.Tails.{tail_text}
 use Rattle.sercos_trace.specs.declared.kind.LineKind.{LineKind}
 use Rattle.sercos_trace.specs.declared.kind.LineKind.TheVariants as kind
@@ -48,3 +48,25 @@ line_of kind values = line_text (template_of kind) values ++ 10 ∷ []
 
 abbrev pub line_with : LineKind → List Value → List ℕ → List ℕ
 line_with kind values items = line_text (template_of kind) values ++ tail_text (tail_for kind) items ++ 10 ∷ []
+
+-- all kinds, those first that most lines have
+abbrev pub all_kinds : List LineKind
+all_kinds =
+    kind.Mst ∷ kind.At ∷ kind.Mdt ∷ kind.Version ∷ kind.Ring ∷ kind.Drive ∷ kind.Order ∷ kind.Phase ∷ kind.Complete ∷ kind.Refused ∷ kind.Broken ∷ kind.Plan ∷ kind.Slot ∷ kind.NoFit ∷ kind.RuleAt ∷ kind.RuleSum ∷ kind.StopRefused ∷ kind.StopConfig ∷ kind.Check127 ∷ kind.Check128 ∷ kind.FallMst ∷ kind.FallAt ∷ kind.FallStep ∷ kind.FallRestart ∷ kind.End ∷ []
+
+-- The faults of two kinds: none if one of them has none, else the later place, which is that of the first byte with which
+-- neither goes on.
+unfoldable pub later : Option ℕ → Option ℕ → Option ℕ
+later None other = None
+later (Some place) None = None
+later (Some place) (Some other) = Some (max place other)
+
+-- the place of the first byte of a line with which no kind of the list goes on
+unfoldable pub kinds_fault : List LineKind → List ℕ → Option ℕ
+kinds_fault [] line = Some 0
+kinds_fault (kind ∷ kinds) line = later (line_fault (tail_for kind) (template_of kind) line) (kinds_fault kinds line)
+
+-- the kind of a line: the first of which it has no fault
+unfoldable pub first_kind : List LineKind → List ℕ → Option LineKind
+first_kind [] line = None
+first_kind (kind ∷ kinds) line = if is_none (line_fault (tail_for kind) (template_of kind) line) then Some kind else first_kind kinds line

@@ -1,7 +1,11 @@
 // The kinds of lines of a trace.
-ghost use Rattle.std.specs.Prelude.{◌≡◌, ◌≤◌, true, length};
-ghost use Rattle.sercos_text.specs.Templates.{is_template};
-ghost use Rattle.sercos_trace.specs.Kinds.{template_of};
+ghost use Rattle.std.specs.Prelude.{◌≡◌, ◌≤◌, ◌+◌, pos, max, true, [], length, None, Some, OnOk, IfOk, IfErr};
+ghost use Rattle.std.specs.Result.{result_err};
+ghost use Rattle.sercos_text.specs.Tails.{addresses_in};
+ghost use Rattle.sercos_text.specs.Templates.{is_template, values_of, items_of, numbers_in, signed_by, bytes_by, AreOf};
+ghost use Rattle.sercos_trace.specs.Kinds.{template_of, tail_for, all_kinds, kinds_fault, first_kind};
+
+use sercos_text::{Tail, Told, read_line};
 
 /// A kind of line of a trace.
 #[derive(Clone, Copy, Debug, PartialEq, Eq)]
@@ -58,6 +62,35 @@ pub enum LineKind {
     End,
 }
 
+// All kinds, those first that most lines have.
+const KINDS: [LineKind; 25] = [
+    LineKind::Mst,
+    LineKind::At,
+    LineKind::Mdt,
+    LineKind::Version,
+    LineKind::Ring,
+    LineKind::Drive,
+    LineKind::Order,
+    LineKind::Phase,
+    LineKind::Complete,
+    LineKind::Refused,
+    LineKind::Broken,
+    LineKind::Plan,
+    LineKind::Slot,
+    LineKind::NoFit,
+    LineKind::RuleAt,
+    LineKind::RuleSum,
+    LineKind::StopRefused,
+    LineKind::StopConfig,
+    LineKind::Check127,
+    LineKind::Check128,
+    LineKind::FallMst,
+    LineKind::FallAt,
+    LineKind::FallStep,
+    LineKind::FallRestart,
+    LineKind::End,
+];
+
 /// Returns the template of a kind.
 #[tactic(auto, unfolding(crate::specs::Kinds::template_of))]
 pub(crate) fn template_for(kind: LineKind) -> &'static [u8]
@@ -98,3 +131,58 @@ pub(crate) fn template_for(kind: LineKind) -> &'static [u8]
 pub fn template_law()
     ensures { (kind : LineKind) → is_template (template_of kind) ≡ true }
 {}
+
+// What comes after the template of a kind.
+#[tactic(auto, unfolding(crate::specs::Kinds::tail_for))]
+fn tail_for(kind: LineKind) -> Tail
+    ensures { result ≡ tail_for kind }
+{
+    match kind {
+        LineKind::Order => Tail::Addresses,
+        LineKind::Check127 | LineKind::Check128 => Tail::Idents,
+        _ => Tail::End,
+    }
+}
+
+// The later of two places.
+fn later(place: usize, other: usize) -> usize
+    ensures { result ≡ max place other }
+{
+    place.max(other)
+}
+
+// Reads a line as the first of these kinds that it is.
+fn read_kinds(kinds: &[LineKind], line: &[u8], told: &mut Told) -> Result<LineKind, usize>
+    ensures fault { result_err result ≡ kinds_fault kinds.now line.now }
+    ensures bound { IfErr result (λ place. place ≤ length line.now + 1) }
+    ensures kind { IfOk result (λ kind. first_kind kinds.now line.now ≡ Some kind) }
+    ensures fields { IfOk result (λ kind. AreOf (template_of kind) (values_of (template_of kind) line.now)) }
+    ensures numbers { IfOk result (λ kind. told.new.numbers.items ≡ numbers_in (values_of (template_of kind) line.now)) }
+    ensures signed { IfOk result (λ kind. told.new.signed ≡ signed_by (pos 0) (values_of (template_of kind) line.now)) }
+    ensures bytes { IfOk result (λ kind. told.new.bytes ≡ bytes_by [] (values_of (template_of kind) line.now)) }
+    ensures addresses { IfOk result (λ kind. told.new.addresses.items ≡ addresses_in (tail_for kind) (items_of (tail_for kind) (template_of kind) line.now)) }
+{
+    let mut last = 0;
+    for kind in kinds {
+        match read_line(template_for(*kind), tail_for(*kind), line, told) {
+            Ok(()) => return Ok(*kind),
+            Err(place) => last = later(last, place),
+        }
+    }
+    Err(last)
+}
+
+/// Reads a line of a trace, without its line feed: its kind, and what its fields give in `told`. The error is the place of the
+/// first byte with which no kind goes on.
+pub(crate) fn read_kind(line: &[u8], told: &mut Told) -> Result<LineKind, usize>
+    ensures fault { result_err result ≡ kinds_fault all_kinds line.now }
+    ensures bound { IfErr result (λ place. place ≤ length line.now + 1) }
+    ensures kind { IfOk result (λ kind. first_kind all_kinds line.now ≡ Some kind) }
+    ensures fields { IfOk result (λ kind. AreOf (template_of kind) (values_of (template_of kind) line.now)) }
+    ensures numbers { IfOk result (λ kind. told.new.numbers.items ≡ numbers_in (values_of (template_of kind) line.now)) }
+    ensures signed { IfOk result (λ kind. told.new.signed ≡ signed_by (pos 0) (values_of (template_of kind) line.now)) }
+    ensures bytes { IfOk result (λ kind. told.new.bytes ≡ bytes_by [] (values_of (template_of kind) line.now)) }
+    ensures addresses { IfOk result (λ kind. told.new.addresses.items ≡ addresses_in (tail_for kind) (items_of (tail_for kind) (template_of kind) line.now)) }
+{
+    read_kinds(&KINDS, line, told)
+}

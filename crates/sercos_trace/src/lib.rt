@@ -6,10 +6,12 @@ mod event_text;
 mod events;
 mod kind;
 mod line;
+mod reading;
 mod record;
 mod writing;
 
 pub use events::{Events, Fall, Reported, Stop};
 pub use kind::{LineKind, template_law};
+pub use reading::{BadLine, Line, read_line};
 pub use record::{CycleRecord, Move, Sent, Totals, push_sent};
 pub use writing::{write_cycle, write_end, write_header};

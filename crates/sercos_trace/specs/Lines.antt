@@ -1,0 +1,76 @@
+-- What a line of a trace gives to its reader.
+use Rattle.std.specs.Prelude.{ℕ, ℤ, pos, ◌≤◌, ◌<◌, List, [], ◌∷◌, ◌++◌, length, slice_index, Option, Some, None, option_map}
+use Rattle.sercos_telegram.specs.declared.layout.Kind.TheVariants as telegram
+use Rattle.sercos_timing.specs.declared.wishes.Wish.{Wish}
+use Rattle.sercos_text.specs.declared.template.Field.{Field}
+use Rattle.sercos_text.specs.declared.template.Field.TheVariants.{Number}
+use Rattle.sercos_text.specs.Tails.{addresses_in}
+use Rattle.sercos_text.specs.Templates.{field_of, values_of, items_of, numbers_in, signed_by, bytes_by}
+use Rattle.sercos_trace.specs.declared.kind.LineKind.{LineKind}
+use Rattle.sercos_trace.specs.declared.kind.LineKind.TheVariants as kind
+use Rattle.sercos_trace.specs.declared.reading.Line.{Line}
+use Rattle.sercos_trace.specs.declared.reading.Line.TheVariants as line
+use Rattle.sercos_trace.specs.Kinds.{template_of, tail_for, all_kinds, first_kind}
+use Rattle.sercos_trace.specs.Views.{SentView}
+
+-- what a drive asks of the plan, by the ten numbers of its line
+abbrev pub wish_by : List ℕ → Wish
+wish_by numbers = record {
+  address = slice_index numbers 0;
+  slave = slice_index numbers 1;
+  times = record {
+    t1min = slice_index numbers 2;
+    tatmt = slice_index numbers 3;
+    t4min = slice_index numbers 4;
+    tatat = slice_index numbers 5;
+    tmtsy = slice_index numbers 6;
+    tmtsg = slice_index numbers 7;
+  };
+  at_len = slice_index numbers 8;
+  record_len = slice_index numbers 9;
+}
+
+-- a line of a kind, by its numbers without a sign, its number with one, its bytes, and its addresses
+unfoldable pub line_by : LineKind → List ℕ → ℤ → List ℕ → List ℕ → Line
+line_by kind.Version numbers signed bytes addresses = line.Version
+line_by kind.Ring numbers signed bytes addresses =
+    line.Ring (slice_index numbers 0) (slice_index numbers 1) (slice_index numbers 2) (slice_index numbers 3) (slice_index numbers 4)
+line_by kind.Drive numbers signed bytes addresses = line.Drive (wish_by numbers)
+line_by kind.Order numbers signed bytes addresses = line.Order (record { items = addresses })
+line_by kind.Mst numbers signed bytes addresses =
+    line.Telegram (slice_index numbers 0) (record { kind = telegram.Mst; start = signed; bits = slice_index numbers 1; content = bytes })
+line_by kind.At numbers signed bytes addresses =
+    line.Telegram (slice_index numbers 0) (record { kind = telegram.At; start = signed; bits = slice_index numbers 1; content = bytes })
+line_by kind.Mdt numbers signed bytes addresses =
+    line.Telegram (slice_index numbers 0) (record { kind = telegram.Mdt; start = signed; bits = slice_index numbers 1; content = bytes })
+line_by kind.End numbers signed bytes addresses = line.End
+line_by _ numbers signed bytes addresses = line.Other
+
+-- what a text gives as a line of a kind
+abbrev pub line_as : LineKind → List ℕ → Line
+line_as kind text =
+    line_by kind (numbers_in (values_of (template_of kind) text)) (signed_by (pos 0) (values_of (template_of kind) text))
+    (bytes_by [] (values_of (template_of kind) text)) (addresses_in (tail_for kind) (items_of (tail_for kind) (template_of kind) text))
+
+-- what a text gives as a line of a trace, without its line feed: nothing if it isn't one
+abbrev pub line_in : List ℕ → Option Line
+line_in text = option_map (λ kind. line_as kind text) (first_kind all_kinds text)
+
+-- numbers within bounds, one by one
+abbrev pub AreWithin : List ℕ → List ℕ → Type 0
+AreWithin [] [] = Unit {0}
+AreWithin (n ∷ numbers) (bound ∷ bounds) = (n ≤ bound) × AreWithin numbers bounds
+AreWithin _ _ = ⊥
+
+-- the bounds of the numbers without a sign in a template
+unfoldable pub bound_by : Option Field → List ℕ
+bound_by (Some (Number most)) = most ∷ []
+bound_by _ = []
+
+unfoldable pub bounds_of : List ℕ → List ℕ
+bounds_of [] = []
+bounds_of (letter ∷ template) = bound_by (field_of letter) ++ bounds_of template
+
+-- there is a number at a place, and it is within a bound
+abbrev pub IsNumber : List ℕ → ℕ → ℕ → Type 0
+IsNumber numbers place bound = (place < length numbers) × (slice_index numbers place ≤ bound)
