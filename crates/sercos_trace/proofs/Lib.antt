@@ -2,3 +2,4 @@ mod KindLemmas
 mod WriteLemmas
 mod Worked
 mod NumberLemmas
+mod ReadBack

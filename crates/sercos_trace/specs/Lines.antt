@@ -1,11 +1,11 @@
 -- What a line of a trace gives to its reader.
-use Rattle.std.specs.Prelude.{ℕ, ℤ, pos, ◌≤◌, ◌<◌, List, [], ◌∷◌, ◌++◌, length, slice_index, Option, Some, None, option_map}
+use Rattle.std.specs.Prelude.{◌≡◌, ℕ, ℤ, pos, ◌≤◌, ◌<◌, List, [], ◌∷◌, ◌++◌, length, slice_index, Option, Some, None, option_map}
 use Rattle.sercos_telegram.specs.declared.layout.Kind.TheVariants as telegram
 use Rattle.sercos_timing.specs.declared.wishes.Wish.{Wish}
 use Rattle.sercos_text.specs.declared.template.Field.{Field}
 use Rattle.sercos_text.specs.declared.template.Field.TheVariants.{Number}
-use Rattle.sercos_text.specs.Tails.{addresses_in}
-use Rattle.sercos_text.specs.Templates.{field_of, values_of, items_of, numbers_in, signed_by, bytes_by}
+use Rattle.sercos_text.specs.Tails.{addresses_in, tail_text, IsTail}
+use Rattle.sercos_text.specs.Templates.{field_of, Value, AreOf, line_text, values_of, items_of, numbers_in, signed_by, bytes_by}
 use Rattle.sercos_trace.specs.declared.kind.LineKind.{LineKind}
 use Rattle.sercos_trace.specs.declared.kind.LineKind.TheVariants as kind
 use Rattle.sercos_trace.specs.declared.reading.Line.{Line}
@@ -74,3 +74,9 @@ bounds_of (letter ∷ template) = bound_by (field_of letter) ++ bounds_of templa
 -- there is a number at a place, and it is within a bound
 abbrev pub IsNumber : List ℕ → ℕ → ℕ → Type 0
 IsNumber numbers place bound = (place < length numbers) × (slice_index numbers place ≤ bound)
+
+-- A line that is written of values of its kind's fields, and of items of its tail, is read back as that kind, with these values.
+abbrev pub ReadsBack : Type 0
+ReadsBack = (kind : LineKind) (values : List Value) (items : List ℕ) → AreOf (template_of kind) values → IsTail (tail_for kind) items →
+    line_in (line_text (template_of kind) values ++ tail_text (tail_for kind) items)
+    ≡ Some (line_by kind (numbers_in values) (signed_by (pos 0) values) (bytes_by [] values) (addresses_in (tail_for kind) items))

@@ -12,6 +12,6 @@ mod writing;
 
 pub use events::{Events, Fall, Reported, Stop};
 pub use kind::{LineKind, template_law};
-pub use reading::{BadLine, Line, read_line};
+pub use reading::{BadLine, Line, read_line, reading_law};
 pub use record::{CycleRecord, Move, Sent, Totals, push_sent};
 pub use writing::{write_cycle, write_end, write_header};

@@ -4,13 +4,13 @@ ghost use Rattle.std.specs.Result.{result_ok, result_err};
 ghost use Rattle.sercos_trace.specs.declared.kind.LineKind.TheVariants as kind;
 ghost use Rattle.sercos_trace.specs.declared.reading.Line.TheVariants as line;
 ghost use Rattle.sercos_trace.specs.Kinds.{template_of, all_kinds, kinds_fault};
-ghost use Rattle.sercos_trace.specs.Lines.{wish_by, line_by, line_in, AreWithin, IsNumber, bounds_of};
+ghost use Rattle.sercos_trace.specs.Lines.{wish_by, line_by, line_in, AreWithin, IsNumber, bounds_of, ReadsBack};
 
 use crate::kind::{LineKind, read_kind};
 use crate::record::Sent;
 use sercos_bits::Content;
 use sercos_telegram::Kind;
-use sercos_text::{Addresses, Told};
+use sercos_text::{Addresses, Told, line_law};
 use sercos_timing::{Times, Wish};
 
 /// A line of a trace. Lines of a cycle other than its telegrams have no fields here.
@@ -191,4 +191,12 @@ pub fn read_line(line: &[u8]) -> Result<Line, BadLine>
         Ok(kind) => Ok(line_of(kind, &told)),
         Err(place) => Err(BadLine { column: place + 1 }),
     }
+}
+
+/// A law: a line that is written of values of its kind's fields is read back as a line of that kind, with these values. So no
+/// text is a line of two kinds.
+pub fn reading_law()
+    ensures { ReadsBack }
+{
+    line_law();
 }
