@@ -4,12 +4,14 @@ ghost use Rattle.std.specs.List.{All};
 
 use arrayvec::ArrayVec;
 use sercos_bits::{Bytes, Content};
+use sercos_idn::{Code, Idn};
 use sercos_io::MemorySink;
+use sercos_plan::{Chain, Link};
 use sercos_step::Outcome;
 use sercos_telegram::Kind;
 use sercos_timing::{Plan, Times, Wish, Wishes};
 use sercos_trace::{
-    CycleRecord, Fall, Line, Move, Totals, push_sent, read_line, write_cycle, write_end,
+    CycleRecord, Fall, Line, Move, Stop, Totals, push_sent, read_line, write_cycle, write_end,
     write_header,
 };
 use std::process::Abort;
@@ -17,7 +19,8 @@ use std::test::Fail;
 
 // A ring of one drive at 4 Mbit/s.
 fn ring() -> Wishes
-    ensures { All (λ place. place < length result.drives) result.order }
+    ensures order { All (λ place. place < length result.drives) result.order }
+    ensures count { length result.drives ≡ 1 }
 {
     let mut order = ArrayVec::new();
     order.push(0);
@@ -137,6 +140,173 @@ fn lines(rt: HostRuntime) -> Result<(), Fail> {
     let mut sink = MemorySink::new(Vec::with_capacity(alloc, 512)?, 7, failing);
     assert!(rt; write_cycle(&wishes, &record, &mut sink).is_err());
     assert_eq!(rt; sink.as_slice(), b"m 121 -49 49 f".as_slice());
+    Ok(())
+}
+
+// A drive of a ring of three.
+fn third(address: u8) -> Wish {
+    Wish {
+        address,
+        slave: address,
+        times: Times {
+            t1min: 20,
+            tatmt: 15,
+            t4min: 100,
+            tatat: 20,
+            tmtsy: 20,
+            tmtsg: 50,
+        },
+        at_len: 12,
+        record_len: 12,
+    }
+}
+
+const THREE: &str = "sercos 1
+ring 4 1000 1000 10 3
+drive 1 1 20 15 100 20 20 50 12 12
+drive 2 2 20 15 100 20 20 50 12 12
+drive 3 3 20 15 100 20 20 50 12 12
+order 3 1 2
+";
+
+// The order line has addresses, in the order of the ATs.
+#[test]
+fn three(rt: HostRuntime) -> Result<(), Fail> {
+    let mut order = ArrayVec::new();
+    order.push(2);
+    order.push(0);
+    order.push(1);
+    let mut drives = ArrayVec::new();
+    drives.push(third(1));
+    drives.push(third(2));
+    drives.push(third(3));
+    let wishes = Wishes {
+        rate: 4,
+        cycle: 1000,
+        control: 1000,
+        gap: 10,
+        order,
+        drives,
+    };
+    let alloc = rt.alloc();
+    let mut sink = MemorySink::new(Vec::with_capacity(alloc, 512)?, 512, Vec::new(alloc));
+    assert!(rt; write_header(&wishes, &mut sink).is_ok());
+    assert_eq!(rt; sink.as_slice(), THREE.as_bytes());
+    Ok(())
+}
+
+const OUTCOMES: &str = "r 104 1 refused 0x7005
+r 104 2 complete -
+r 104 3 broken
+plan 104 t2 47 t3 98 t4 230 mdt 8
+slot 104 1 t1 10 position 1
+";
+
+// Outcomes come before the plan.
+#[test]
+fn outcomes(rt: HostRuntime) -> Result<(), Fail> {
+    let wishes = ring();
+    let mut record = CycleRecord::new();
+    record.begin(104);
+    let _room = record
+        .events
+        .outcomes
+        .try_push((1, Outcome::Refused(Code { raw: 0x7005 })));
+    let _room = record
+        .events
+        .outcomes
+        .try_push((2, Outcome::Complete(Bytes::new())));
+    let _room = record.events.outcomes.try_push((3, Outcome::Broken));
+    let mut t1 = ArrayVec::new();
+    t1.push(10);
+    let mut position = ArrayVec::new();
+    position.push(1);
+    record.events.plan = Some(Plan {
+        t1,
+        t2: 47,
+        t3: 98,
+        t4: 230,
+        position,
+        mdt_len: 8,
+    });
+    let alloc = rt.alloc();
+    let mut sink = MemorySink::new(Vec::with_capacity(alloc, 512)?, 512, Vec::new(alloc));
+    assert!(rt; write_cycle(&wishes, &record, &mut sink).is_ok());
+    assert_eq!(rt; sink.as_slice(), OUTCOMES.as_bytes());
+    Ok(())
+}
+
+// A record with nothing but a stop and a fall.
+fn stopped(cycle: u32, stop: Option<Stop>, fall: Option<Fall>) -> CycleRecord
+    ensures { result.events.plan ≡ None }
+{
+    let mut record = CycleRecord::new();
+    record.begin(cycle);
+    record.events.stop = stop;
+    record.events.fall = fall;
+    record
+}
+
+const STOPS: &str = "stop 42 nofit
+rule 42 1 drive 1 at 40
+rule 42 9 drive 1 sum 570 bound 446
+stop 50 refused 1 S-0-0002 0x7006
+stop 51 config 1 S-0-0051 0x00550001
+stop 95 check127 1 -
+stop 105 check128 1 P-0-0010 S-0-0001
+fall 105 mst
+fall 106 step 1
+fall 107 restart
+";
+
+// Each stop and each fall has its line.
+#[test]
+fn stops(rt: HostRuntime) -> Result<(), Fail> {
+    let mut links = ArrayVec::new();
+    let _room = links.try_push(Link {
+        rule: 1,
+        drive: 1,
+        at: 40,
+    });
+    let no_fit = Stop::NoFit(Chain {
+        links,
+        rule: 9,
+        drive: 1,
+        sum: 570,
+        bound: 446,
+    });
+    let refused = Stop::Refused {
+        drive: 1,
+        idn: Idn { raw: 2 },
+        code: Code { raw: 0x7006 },
+    };
+    let config = Stop::BadConfig {
+        drive: 1,
+        idn: Idn { raw: 51 },
+        attribute: 0x0055_0001,
+    };
+    let third = Stop::Check127 {
+        drive: 1,
+        list: ArrayVec::new(),
+    };
+    let mut list = ArrayVec::new();
+    let _room = list.try_push(Idn { raw: 0x800A });
+    let _room = list.try_push(Idn { raw: 1 });
+    let fourth = Stop::Check128 { drive: 1, list };
+    let wishes = ring();
+    let alloc = rt.alloc();
+    let mut sink = MemorySink::new(Vec::with_capacity(alloc, 512)?, 16, Vec::new(alloc));
+    assert!(rt; write_cycle(&wishes, &stopped(42, Some(no_fit), None), &mut sink).is_ok());
+    assert!(rt; write_cycle(&wishes, &stopped(50, Some(refused), None), &mut sink).is_ok());
+    assert!(rt; write_cycle(&wishes, &stopped(51, Some(config), None), &mut sink).is_ok());
+    assert!(rt; write_cycle(&wishes, &stopped(95, Some(third), None), &mut sink).is_ok());
+    let last = stopped(105, Some(fourth), Some(Fall::MstLost));
+    assert!(rt; write_cycle(&wishes, &last, &mut sink).is_ok());
+    let step = stopped(106, None, Some(Fall::StepLimit(1)));
+    assert!(rt; write_cycle(&wishes, &step, &mut sink).is_ok());
+    let restart = stopped(107, None, Some(Fall::Restart));
+    assert!(rt; write_cycle(&wishes, &restart, &mut sink).is_ok());
+    assert_eq!(rt; sink.as_slice(), STOPS.as_bytes());
     Ok(())
 }
 
