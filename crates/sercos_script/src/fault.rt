@@ -55,3 +55,17 @@ pub struct Fault {
     /// What it does to them.
     pub damage: Damage,
 }
+
+// The value of an unused place in an array: a fault that never acts, as its last cycle is before its first.
+impl Default for Fault {
+    fn default() -> Fault {
+        Fault {
+            cycle: 1,
+            last: 0,
+            every: 1,
+            kind: Kind::Mst,
+            from: 0,
+            damage: Damage::Restart { station: 0 },
+        }
+    }
+}

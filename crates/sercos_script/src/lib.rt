@@ -1,6 +1,11 @@
-//! Scripts of faults: what is done to which telegrams of a ring in which cycles, and which stations restart.
+//! Scripts of faults: what is done to which telegrams of a ring in which cycles, and which stations restart; and the links
+//! that do it.
 #![tactic(auto)]
 
 mod fault;
+mod link;
+mod script;
 
 pub use fault::{Damage, Fault};
+pub use link::{BitLink, Both, Clean, Passage};
+pub use script::Scripted;
