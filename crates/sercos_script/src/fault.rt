@@ -11,7 +11,7 @@ pub enum Damage {
         /// The link, 0 to n.
         link: u8,
     },
-    /// One bit is complemented on the link, if the telegram has it.
+    /// One bit is complemented on the link, if the frame has it.
     Flip {
         /// The link, 0 to n.
         link: u8,
@@ -25,13 +25,13 @@ pub enum Damage {
         /// How many bits leave it.
         bit: u32,
     },
-    /// Nothing arrives at the station.
+    /// Nothing arrives at the station. Other stations get the telegram.
     Deaf {
         /// The station, 0 to n.
         station: u8,
     },
-    /// The station restarts before the MST of the cycle. Such a fault does nothing to telegrams: its kind is `Mst` and its
-    /// sender is 0.
+    /// The station restarts before the MST of the cycle. Such a fault does nothing to telegrams. In a ring document its kind
+    /// is `Mst` and its sender 0.
     Restart {
         /// The station, 0 to n.
         station: u8,
@@ -39,14 +39,15 @@ pub enum Damage {
 }
 
 /// A fault of a script (this profile). It acts in the cycles from `cycle` to `last` whose distance from `cycle` is a multiple
-/// of `every`, on the telegrams of a kind that one station sends.
+/// of `every`, on the telegrams of one kind that one station sends. A fault of a link that a telegram doesn't take has no
+/// effect on it.
 #[derive(Clone, Copy, Debug, PartialEq, Eq)]
 pub struct Fault {
     /// The first cycle in which it may act.
     pub cycle: u32,
     /// The last cycle in which it may act.
     pub last: u32,
-    /// The number of cycles from one action to the next. A document has at least 1.
+    /// The number of cycles from one action to the next, at least 1 in a ring document. With 0 the fault acts in `cycle` alone.
     pub every: u32,
     /// The kind of the telegrams.
     pub kind: Kind,

@@ -1,7 +1,8 @@
 // A script of faults.
 ghost use Rattle.std.specs.Prelude.{◌≡◌, ◌≤◌, ◌+◌, ◌==◌, ◌&&◌, ◌||◌, ◌++◌, [], length, take, drop, Some, None};
 ghost use Rattle.std.specs.List.{filter, list_any};
-ghost use Rattle.sercos_script.specs.Scripts.{is_kind, acts, concerns, flipped, over_fault, over_link, over_links, is_deaf, links_between, carried_by, carried, is_restart, restarts_at, arrived, IsGathered};
+ghost use Rattle.sercos_script.specs.Scripts.{is_kind, acts, concerns, flipped, over_fault, over_link, over_links, is_deaf, links_between, carried_by, carried, is_restart, restarts_at, IsGathered};
+ghost use Rattle.sercos_script.specs.Links.{arrived};
 
 use crate::fault::{Damage, Fault};
 use crate::link::{BitLink, Passage};
