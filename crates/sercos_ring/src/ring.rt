@@ -221,7 +221,9 @@ impl<L: BitLink> Ring<L> {
         requires ring { is_ring setup.now ≡ true }
         requires few { length jobs.items ≤ 4096 }
         requires requests { All (λ job. IsRequest job.request) jobs.items }
-        ensures { IfOk result (λ ring. RingStandsFor L.carry L.restart ring setup.now jobs.items (L.carry link) (L.restart link) []) }
+        ensures stands { IfOk result (λ ring. RingStandsFor L.carry L.restart ring setup.now jobs.items (L.carry link) (L.restart link) []) }
+        ensures count { IfOk result (λ ring. cycles_made ring ≡ 0) }
+        ensures drives { IfOk result (λ ring. drives_in ring ≡ length setup.now.drives) }
     {
         let drives = open_drives(alloc, setup)?;
         let master = AnyMaster::open(alloc, setup, jobs)?;

@@ -1,4 +1,4 @@
-use Rattle.std.proofs.Common.{rules, ◌≡◌, true, ◌∙◌, ◌+◌, ◌≤◌, arith}
+use Rattle.std.proofs.Common.{rules, ◌≡◌, true, ◌∙◌, ◌+◌, ◌≤◌, refl, arith}
 use Rattle.sercos_ring.proofs.RunLemmas.{whole, never}
 use Rattle.sercos_ring.proofs.ring.Ring.run.Goals as goal
 
@@ -10,5 +10,6 @@ returns-then-not-is_whole g c = record {
         (c.is_whole.ensures ∙ whole (g.L.BitLink.carry c.args.self.now.link) (g.L.BitLink.restart c.args.self.now.link) c.args.self.now.cycle c.args.self.now.rate
         c.args.self.now.addresses.items c.args.self.now.drives.items c.args.master r jobs carry restarts j s);
     count = omega arith;
+    drives = refl;
   };
 }
