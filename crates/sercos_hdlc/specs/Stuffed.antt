@@ -1,4 +1,5 @@
--- What is sent between the flags: the plain bits, and a zero behind each five ones in a row.
+-- What is sent between the flags: the plain bits, and a zero after each five ones in a row.
+use Rattle.sercos_model.specs.Frames.{flag, plain_of}
 use Rattle.std.specs.Prelude.{ℕ, suc, ◌==◌, Bool, false, not, ◌&&◌, cond, List, [], ◌∷◌, ◌++◌}
 
 -- whether a bit, behind so many ones in a row, is the fifth of them
@@ -17,3 +18,7 @@ ones_behind ones bit = cond (bit && not (is_fifth ones bit)) (suc ones) 0
 unfoldable pub stuffed : ℕ → List Bool → List Bool
 stuffed ones [] = []
 stuffed ones (bit ∷ bits) = sent_for ones bit ++ stuffed (ones_behind ones bit) bits
+
+-- the one frame of a content of 1 to 2048 bytes
+unfoldable pub frame_of : List ℕ → List Bool
+frame_of content = flag ++ stuffed 0 (plain_of content) ++ flag

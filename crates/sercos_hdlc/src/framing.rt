@@ -2,7 +2,7 @@ ghost use Rattle.std.specs.Prelude.{◌≡◌, ℕ, ◌+◌, ◌*◌, ◌<◌, �
 ghost use Rattle.sercos_model.specs.Bits.{low_bits, bits_of, AreBytes};
 ghost use Rattle.sercos_model.specs.CheckSequence.{fcs_of};
 ghost use Rattle.sercos_model.specs.Frames.{flag, plain_of, wire_bits, IsFrame};
-ghost use Rattle.sercos_hdlc.specs.Stuffed.{stuffed};
+ghost use Rattle.sercos_hdlc.specs.Stuffed.{stuffed, frame_of};
 
 use crate::stuffing::{count_bytes, push_bytes};
 use sercos_bits::{BitBuf, MAX_CONTENT, bits_of, fcs};
@@ -59,9 +59,11 @@ fn write_frame(content: &[u8], out: &mut BitBuf)
 /// Replaces the bits by the one frame of a content, from the first bit of its opening flag to the last bit of its closing
 /// flag. `TooLong` exactly above 2048 bytes, and then the bits stay as they were. [`unframe`](crate::unframe) gives the
 /// content back: `ok` says that the bits are its frame, and of a frame of any content `unframe` answers that content.
+#[tactic(auto, unfolding(crate::specs::Stuffed::frame_of))]
 pub fn frame(content: &[u8], out: &mut BitBuf) -> Result<(), TooLong>
     requires { 0 < length content.now }
     ensures ok { OnOk result (IsFrame content.now out.new) }
+    ensures bits { OnOk result (out.new ≡ frame_of content.now) }
     ensures wire { OnOk result (length out.new ≤ wire_bits (length content.now)) }
     ensures too_long { IsErr result ↔ (2048 < length content.now) }
     ensures err { OnErr result (out.new ≡ out.old) }

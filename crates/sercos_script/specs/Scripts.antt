@@ -1,7 +1,7 @@
 -- What a script of faults does to a telegram on its way through the ring, and which stations restart. A script is a list of
 -- faults. A telegram takes the links of its path one after the other, and on each link the faults of that link act in the order
 -- of the script.
-use Rattle.std.specs.Prelude.{◌≡◌, ◌≤◌, ℕ, ◌+◌, ◌-◌, ◌%◌, ◌==◌, nat_lt, nat_le, Bool, true, false, not, ◌&&◌, if◌then◌else◌, List, [], ◌∷◌, suc, zero, length, take, slice_index_or, slice_set, Option, Some, None, option_and_then}
+use Rattle.std.specs.Prelude.{ℕ, ◌+◌, ◌-◌, ◌%◌, ◌==◌, nat_lt, nat_le, Bool, true, false, not, ◌&&◌, if◌then◌else◌, List, [], ◌∷◌, suc, zero, length, take, slice_index_or, slice_set, Option, Some, None, option_and_then}
 use Rattle.std.specs.List.{filter, list_any}
 use Rattle.sercos_telegram.specs.declared.layout.Kind.{Kind}
 use Rattle.sercos_telegram.specs.declared.layout.Kind.TheVariants as kinds
@@ -85,13 +85,3 @@ restarts_at faults cycle station = list_any (λ (f : Fault). acts cycle f && is_
 pub record ScriptView : Type 0 where
   pub faults : List Fault
   pub stations : ℕ
-
--- The faults of a script that act in a cycle: those of its first ones, and how many these are.
-pub record GatheredView : Type 0 where
-  pub cycle : ℕ
-  pub faults : List Fault
-  pub seen : ℕ
-
-pub record IsGathered (script : List Fault) (v : GatheredView) : Type 0 where
-  pub within : v.seen ≤ length script
-  pub faults_are : v.faults ≡ filter (acts v.cycle) (take v.seen script)

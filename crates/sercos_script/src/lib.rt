@@ -2,8 +2,12 @@
 //! that do it.
 #![tactic(auto)]
 
+mod effect;
 mod fault;
+mod gathered;
+mod lanes;
 mod link;
+mod path;
 mod script;
 
 pub use fault::{Damage, Fault};

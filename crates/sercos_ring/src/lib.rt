@@ -1,0 +1,14 @@
+//! The ring: its drives and its master, and the link between them.
+#![tactic(auto)]
+
+mod moves;
+mod opening;
+mod receiving;
+mod ring;
+mod run;
+mod sending;
+mod stations;
+mod turns;
+
+pub use ring::Ring;
+pub use run::run_law;

@@ -1,0 +1,299 @@
+// The ring.
+ghost use Rattle.std.specs.Prelude.{◌≡◌, ℕ, ◌+◌, ◌^◌, ◌<◌, ◌≤◌, ◌==◌, nat_le, ◌&&◌, true, IfOk, Bool, List, [], ◌∷◌, Option, Some, None, if◌then◌else◌, length, vec_len};
+ghost use Rattle.std.specs.Borrow.{sem};
+ghost use Rattle.std.specs.List.{All};
+ghost use Rattle.sercos_step.specs.Steps.{IsRequest};
+ghost use Rattle.sercos_step.specs.declared.request.Job.{Job};
+ghost use Rattle.sercos_block.specs.Views.{DriveView, RingView};
+ghost use Rattle.sercos_trace.specs.Views.{CycleView};
+ghost use Rattle.sercos_script.specs.Links.{Carry, Restarts};
+ghost use Rattle.sercos_ring.specs.Runs.{no_events, drive_at, given_before};
+ghost use Rattle.sercos_ring.specs.Parts.{PartsStandFor};
+ghost use Rattle.sercos_drive.specs.Heard.{DriveCall};
+ghost use Rattle.sercos_drive.specs.Kept.{DriveStandsFor};
+ghost use Rattle.sercos_ring.specs.Stations.{AllStand};
+ghost use Rattle.sercos_seat.specs.Ring.{Known, known_of, tasks_for};
+ghost use Rattle.sercos_block.specs.Rings.{is_ring};
+ghost use Rattle.sercos_master.specs.Any.{AnyStandsFor};
+ghost use Rattle.sercos_master.specs.Annals.{Call, Restart, past};
+ghost use Rattle.sercos_master.specs.Reports.{restart_told};
+
+use crate::moves::{phases_of, push_moves};
+use crate::opening::{addresses_of, open_drives};
+use crate::receiving::frame_said;
+use crate::sending::{pass_own, push_mst, send_ats, send_mdt};
+use crate::stations::{hear_msts, restart_drives};
+use crate::turns::turns_of;
+use arrayvec::ArrayVec;
+use sercos_bits::{BitBuf, Content};
+use sercos_block::RingSetup;
+use sercos_drive::Drive;
+use sercos_master::AnyMaster;
+use sercos_script::BitLink;
+use sercos_step::Job;
+use sercos_trace::{CycleRecord, Events, Move, Sent};
+use std::alloc::{AllocError, Global};
+
+/// A ring: its drives, its master, and the links between them.
+#[derive(Drop)]
+pub struct Ring<L: BitLink> {
+    link: L,
+    drives: Vec<Drive>,
+    addresses: ArrayVec<u8, 64>,
+    // there between the cycles
+    master: Option<AnyMaster>,
+    rate: u8,
+    cycle: u32,
+    record: Box<CycleRecord>,
+    desk: Box<Desk>,
+}
+
+// Where a telegram is worked on: what is said, its frame, the bits that arrive of it, and what they are the frame of.
+#[derive(Drop)]
+struct Desk {
+    said: Content,
+    sent: BitBuf,
+    bits: BitBuf,
+    content: Content,
+}
+
+impl Desk {
+    fn new() -> Desk {
+        Desk {
+            said: Content::new(),
+            sent: BitBuf::new(),
+            bits: BitBuf::new(),
+            content: Content::new(),
+        }
+    }
+}
+
+// The master restarts, where it does.
+fn restart_master(master: AnyMaster, restarts: bool, events: &mut Events) -> AnyMaster
+    ensures goes { (s : Known) (jobs : List Job) (h : List Call) → AnyStandsFor master s jobs h → AnyStandsFor result s jobs (if restarts then Restart ∷ h else h) }
+    ensures told { (s : Known) (jobs : List Job) (h : List Call) → AnyStandsFor master s jobs h → events.old.outcomes ≡ [] →
+        events.new ≡ (if restarts then restart_told s (past s (tasks_for s jobs) h) events.old else events.old) }
+{
+    if restarts {
+        return master.restart(events);
+    }
+    master
+}
+
+// What a cycle brings beside what is put into its record.
+#[derive(Drop)]
+struct Turned {
+    master: AnyMaster,
+    phase: u8,
+    unseen: u32,
+}
+
+// A cycle: what is sent in it, the moves and the events are put into these lists, which are empty before.
+fn turn<L: BitLink>(
+    link: &mut L,
+    drives: &mut Vec<Drive>,
+    master: AnyMaster,
+    addresses: &[u8],
+    cycle: u32,
+    rate: u8,
+    list: &mut ArrayVec<Sent, 66>,
+    moves: &mut ArrayVec<Move, 128>,
+    events: &mut Events,
+    said: &mut Content,
+    sent: &mut BitBuf,
+    bits: &mut BitBuf,
+    content: &mut Content,
+) -> Turned
+    requires few { length drives.old.items ≤ 64 }
+    requires addresses { length addresses.now ≡ length drives.old.items }
+    requires list { list.old.items ≡ [] }
+    requires moves { moves.old.items ≡ [] }
+    requires events { events.old ≡ no_events }
+    ensures count { length drives.new.items ≡ length drives.old.items }
+    ensures after { (r : RingView) (jobs : List Job) (carry : Carry) (restarts : Restarts) (j : List CycleView) →
+        PartsStandFor (L.carry link.old) (L.restart link.old) cycle rate addresses.now drives.old.items master r jobs carry restarts j →
+        PartsStandFor (L.carry link.new) (L.restart link.new) (cycle + 1) rate addresses.now drives.new.items result.master r jobs carry restarts
+        ((record { cycle = cycle; phase = result.phase; sent = list.new.items; moves = moves.new.items; events = events.new; unseen = result.unseen }) ∷ j) }
+{
+    let restarts = link.restarts(cycle, 0);
+    let mut master = restart_master(master, restarts, events);
+    let before = phases_of(drives.as_slice());
+    restart_drives(link, drives, cycle);
+    let phase = master.command();
+    master.mst(said);
+    frame_said(said, sent);
+    push_mst(list, said, sent);
+    let mst = hear_msts(link, drives, cycle, said, sent, bits, content);
+    let own = pass_own(link, &mut master, cycle, said, sent, bits, content);
+    push_moves(
+        moves,
+        false,
+        addresses,
+        before.as_slice(),
+        drives.as_slice(),
+    );
+    let turns = turns_of(drives.as_slice(), said);
+    let ats = send_ats(
+        link,
+        &mut master,
+        drives.as_slice(),
+        turns.as_slice(),
+        cycle,
+        rate,
+        list,
+        said,
+        sent,
+        bits,
+        content,
+    );
+    let middle = phases_of(drives.as_slice());
+    let start = master.mdt(said);
+    let mdt = send_mdt(
+        link, drives, start, cycle, rate, list, said, sent, bits, content,
+    );
+    push_moves(moves, true, addresses, middle.as_slice(), drives.as_slice());
+    let master = master.end_cycle(events);
+    Turned {
+        master,
+        phase,
+        unseen: mst + own + ats + mdt,
+    }
+}
+
+// A cycle, which makes its record.
+fn fill<L: BitLink>(
+    made: &mut CycleRecord,
+    link: &mut L,
+    drives: &mut Vec<Drive>,
+    master: AnyMaster,
+    addresses: &[u8],
+    cycle: u32,
+    rate: u8,
+    desk: &mut Desk,
+) -> AnyMaster
+    requires few { length drives.old.items ≤ 64 }
+    requires addresses { length addresses.now ≡ length drives.old.items }
+    ensures count { length drives.new.items ≡ length drives.old.items }
+    ensures after { (r : RingView) (jobs : List Job) (carry : Carry) (restarts : Restarts) (j : List CycleView) →
+        PartsStandFor (L.carry link.old) (L.restart link.old) cycle rate addresses.now drives.old.items master r jobs carry restarts j →
+        PartsStandFor (L.carry link.new) (L.restart link.new) (cycle + 1) rate addresses.now drives.new.items result r jobs carry restarts (made.new ∷ j) }
+{
+    made.begin(cycle);
+    let Turned {
+        master,
+        phase,
+        unseen,
+    } = turn(
+        link,
+        drives,
+        master,
+        addresses,
+        cycle,
+        rate,
+        &mut made.sent,
+        &mut made.moves,
+        &mut made.events,
+        &mut desk.said,
+        &mut desk.sent,
+        &mut desk.bits,
+        &mut desk.content,
+    );
+    made.phase = phase;
+    made.unseen = unseen;
+    master
+}
+
+impl<L: BitLink> Ring<L> {
+    ghost use Rattle.std.specs.Prelude.{⊤};
+    ghost use Rattle.std.specs.Borrow.{follows_so};
+    ghost use mathlib.Core.Option.{none};
+    ghost use Rattle.sercos_ring.specs.contracts.ring.Ring.{the_row};
+    ghost use Rattle.sercos_ring.specs.Kept.{AfterCycle, AfterTurn, RingStandsFor, cycles_made, drives_in, newest};
+
+    /// Opens a ring of a valid setup, with at most 4,096 requests, in its first cycle. A request to an address that no drive of
+    /// the setup has is never begun. `AllocError` comes where memory isn't found, and then nothing is left behind.
+    pub fn open(
+        alloc: Global,
+        setup: &RingSetup,
+        jobs: Vec<Job>,
+        link: L,
+    ) -> Result<Ring<L>, AllocError>
+        requires ring { is_ring setup.now ≡ true }
+        requires few { length jobs.items ≤ 4096 }
+        requires requests { All (λ job. IsRequest job.request) jobs.items }
+        ensures { IfOk result (λ ring. RingStandsFor L.carry L.restart ring setup.now jobs.items (L.carry link) (L.restart link) []) }
+    {
+        let drives = open_drives(alloc, setup)?;
+        let master = AnyMaster::open(alloc, setup, jobs)?;
+        let record = Box::new(alloc, CycleRecord::new())?;
+        let desk = Box::new(alloc, Desk::new())?;
+        Ok(Ring {
+            link,
+            drives,
+            addresses: addresses_of(setup),
+            master: Some(master),
+            rate: setup.rate,
+            cycle: 0,
+            record,
+            desk,
+        })
+    }
+
+    // Whether it has 1 to 64 drives, each with its address.
+    fn is_whole(&self) -> bool
+        ensures { result ≡ (nat_le (length self.now.drives.items) 64 && (length self.now.addresses.items == length self.now.drives.items)) }
+    {
+        self.drives.len() <= 64 && self.addresses.len() == self.drives.len()
+    }
+
+    // A cycle, with the master taken out.
+    fn run(&mut self, master: AnyMaster) -> AnyMaster
+        requires room { cycles_made self.old < 2 ^ 31 }
+        ensures after { AfterTurn L.carry L.restart self.old master self.new result }
+    {
+        if !self.is_whole() {
+            return master;
+        }
+        let master = fill(
+            &mut self.record,
+            &mut self.link,
+            &mut self.drives,
+            master,
+            self.addresses.as_slice(),
+            self.cycle,
+            self.rate,
+            &mut self.desk,
+        );
+        self.cycle += 1;
+        master
+    }
+
+    // A cycle.
+    fn go(&mut self)
+        requires room { cycles_made self.old < 2 ^ 31 }
+        ensures after { AfterCycle L.carry L.restart self.old self.new }
+    {
+        if let Some(master) = self.master.take() {
+            let master = self.run(master);
+            self.master = Some(master);
+        }
+    }
+
+    /// Goes on by a cycle, and lends what happened in it.
+    pub fn cycle(&mut self) -> &CycleRecord
+        requires room { cycles_made self.old < 2 ^ 31 }
+        ensures* after { sem 𝓛 (follows_so (the_row L.row) (the_row L.row) self.entry.ghost_name none (λ _ _. ⊤) (λ new. AfterCycle L.carry L.restart self.old new × (result.now ≡ newest new))) }
+    {
+        self.go();
+        &self.record
+    }
+
+    /// The drive at a place of the ring, counted from 0.
+    pub fn drive(&self, index: usize) -> &Drive
+        requires { index < drives_in self.now }
+        ensures { (r : RingView) (jobs : List Job) (carry : Carry) (restarts : Restarts) (j : List CycleView) → RingStandsFor L.carry L.restart self.now r jobs carry restarts j →
+            DriveStandsFor result.now (drive_at r index) r.rate (given_before carry restarts j index) }
+    {
+        &self.drives[index]
+    }
+}

@@ -1,0 +1,324 @@
+// How the telegrams of a cycle are sent, and what comes of them.
+ghost use Rattle.std.specs.Prelude.{◌≡◌, ℕ, ◌+◌, ◌*◌, ◌<◌, ◌≤◌, List, [], ◌∷◌, ◌++◌, Option, Some, None, true, is_some, if◌then◌else◌, pos, vec_len, length, slice_index, slice_index_or};
+ghost use Rattle.sercos_hdlc.specs.Stuffed.{frame_of};
+ghost use Rattle.sercos_telegram.specs.declared.layout.Kind.TheVariants as kinds;
+ghost use Rattle.sercos_step.specs.declared.request.Job.{Job};
+ghost use Rattle.sercos_block.specs.Views.{DriveView, RingView};
+ghost use Rattle.sercos_drive.specs.Heard.{DriveCall, Mdt};
+ghost use Rattle.sercos_drive.specs.Says.{Said, drive_says};
+ghost use Rattle.sercos_drive.specs.Kept.{DriveStandsFor};
+ghost use Rattle.sercos_seat.specs.Ring.{Known};
+ghost use Rattle.sercos_master.specs.Says.{sent_as};
+ghost use Rattle.sercos_master.specs.Any.{AnyStandsFor};
+ghost use Rattle.sercos_master.specs.Annals.{Call, HearMst};
+ghost use Rattle.sercos_ring.specs.Arrivals.{IsSent, heard, passage, sum_below, unseen_at};
+ghost use Rattle.sercos_ring.specs.Runs.{content_of, mdt_heard, own_mst, sent_at, sent_mdt, sent_mst, start_before, station_of, unseen_mdt, with_at};
+ghost use Rattle.sercos_ring.specs.Stations.{AllStand};
+ghost use Rattle.sercos_ring.specs.Sendings.{said_by, AreSent, AreTurns};
+
+use crate::receiving::{frame_said, receive};
+use crate::stations::{hear_mdts, hear_no_mdts, one};
+use crate::turns::AtTurn;
+use arrayvec::ArrayVec;
+use sercos_bits::{BitBuf, Content};
+use sercos_drive::Drive;
+use sercos_master::AnyMaster;
+use sercos_script::{BitLink, Passage};
+use sercos_telegram::Kind;
+use sercos_trace::{Sent, push_sent};
+
+// The master hears what arrives at the place of its own MST.
+fn hear_own(master: &mut AnyMaster, framed: bool, content: &Content)
+    ensures { (s : Known) (jobs : List Job) (h : List Call) → AnyStandsFor master.old s jobs h →
+        AnyStandsFor master.new s jobs (HearMst (if framed then Some content.now else None) ∷ h) }
+{
+    if framed {
+        master.hear_mst(Some(content.as_slice()));
+    } else {
+        master.hear_mst(None);
+    }
+}
+
+/// The master hears what arrives of its own MST. The answer is how many arrivals are unseen.
+pub(crate) fn pass_own<L: BitLink>(
+    link: &mut L,
+    master: &mut AnyMaster,
+    cycle: u32,
+    said: &Content,
+    sent: &BitBuf,
+    bits: &mut BitBuf,
+    content: &mut Content,
+) -> u32
+    requires sent { IsSent said.now sent.now }
+    ensures carry { L.carry link.new ≡ L.carry link.old }
+    ensures restart { L.restart link.new ≡ L.restart link.old }
+    ensures unseen { result ≡ unseen_at (L.carry link.old) (passage cycle kinds.Mst 0 0) said.now }
+    ensures bound { result ≤ 1 }
+    ensures heard { (s : Known) (jobs : List Job) (h : List Call) → AnyStandsFor master.old s jobs h →
+        AnyStandsFor master.new s jobs (own_mst (L.carry link.old) cycle said.now h) }
+{
+    let p = Passage {
+        cycle,
+        kind: Kind::Mst,
+        from: 0,
+        to: 0,
+    };
+    let receipt = receive(link, p, said, sent, bits, content);
+    hear_own(master, receipt.framed, content);
+    one(receipt.unseen)
+}
+
+// The master hears what arrives of an AT.
+fn hear_at(master: &mut AnyMaster, framed: bool, content: &Content)
+    ensures { (s : Known) (jobs : List Job) (h : List Call) → AnyStandsFor master.old s jobs h →
+        AnyStandsFor master.new s jobs (with_at (if framed then Some content.now else None) h) }
+{
+    if framed {
+        master.hear_at(content.as_slice());
+    }
+}
+
+// An AT passes from its station to the master. The answer is how many arrivals are unseen.
+fn pass_at<L: BitLink>(
+    link: &mut L,
+    master: &mut AnyMaster,
+    station: u8,
+    cycle: u32,
+    said: &Content,
+    sent: &BitBuf,
+    bits: &mut BitBuf,
+    content: &mut Content,
+) -> u32
+    requires sent { IsSent said.now sent.now }
+    ensures carry { L.carry link.new ≡ L.carry link.old }
+    ensures restart { L.restart link.new ≡ L.restart link.old }
+    ensures unseen { result ≡ unseen_at (L.carry link.old) (passage cycle kinds.At station 0) said.now }
+    ensures bound { result ≤ 1 }
+    ensures heard { (s : Known) (jobs : List Job) (h : List Call) → AnyStandsFor master.old s jobs h →
+        AnyStandsFor master.new s jobs (with_at (heard (L.carry link.old) (passage cycle kinds.At station 0) said.now) h) }
+{
+    let p = Passage {
+        cycle,
+        kind: Kind::At,
+        from: station,
+        to: 0,
+    };
+    let receipt = receive(link, p, said, sent, bits, content);
+    hear_at(master, receipt.framed, content);
+    one(receipt.unseen)
+}
+
+// A start in bit times.
+fn in_bits(rate: u8, start: u16) -> i32
+    ensures { result ≡ pos (rate * start) }
+{
+    i32::from(rate) * i32::from(start)
+}
+
+// Appends a telegram to those that were sent; `sent` are the bits of its frame.
+fn push_timed(
+    list: &mut ArrayVec<Sent, 66>,
+    kind: Kind,
+    rate: u8,
+    start: u16,
+    said: &Content,
+    sent: &BitBuf,
+)
+    requires room { length list.old.items < 66 }
+    requires sent { IsSent said.now sent.now }
+    ensures items { list.new.items ≡ list.old.items ++ (record { kind = kind; start = pos (rate * start); bits = length (frame_of said.now); content = said.now }) ∷ [] }
+    ensures len { length list.new.items ≡ length list.old.items + 1 }
+{
+    push_sent(list, kind, in_bits(rate, start), sent.len() as u32, said);
+}
+
+// When the frame of an MST starts, which ends at 0.
+fn before(bits: usize) -> i32
+    requires { bits ≤ 19696 }
+    ensures { result ≡ start_before bits }
+{
+    -(bits as i32)
+}
+
+/// Appends the MST to those that were sent; `sent` are the bits of its frame.
+pub(crate) fn push_mst(list: &mut ArrayVec<Sent, 66>, said: &Content, sent: &BitBuf)
+    requires room { length list.old.items < 66 }
+    requires sent { IsSent said.now sent.now }
+    ensures items { list.new.items ≡ list.old.items ++ sent_mst said.now ∷ [] }
+    ensures len { length list.new.items ≡ length list.old.items + 1 }
+{
+    push_sent(list, Kind::Mst, before(sent.len()), sent.len() as u32, said);
+}
+
+// What a drive says is sent. The answer is how many arrivals are unseen.
+fn send_said<L: BitLink>(
+    link: &mut L,
+    master: &mut AnyMaster,
+    station: u8,
+    cycle: u32,
+    rate: u8,
+    start: u16,
+    list: &mut ArrayVec<Sent, 66>,
+    said: &Content,
+    sent: &mut BitBuf,
+    bits: &mut BitBuf,
+    content: &mut Content,
+) -> u32
+    requires room { length list.old.items < 66 }
+    requires some { 0 < length said.now }
+    ensures carry { L.carry link.new ≡ L.carry link.old }
+    ensures restart { L.restart link.new ≡ L.restart link.old }
+    ensures bound { result ≤ 1 }
+    ensures len { length list.new.items ≤ length list.old.items + 1 }
+    ensures sent { (r : RingView) → station_of r (slice_index said.now 0) ≡ station →
+        AreSent r (L.carry link.old) cycle rate ((record { start = start; content = said.now }) ∷ []) list.old.items list.new.items master.old master.new result }
+{
+    frame_said(said, sent);
+    push_timed(list, Kind::At, rate, start, said, sent);
+    pass_at(link, master, station, cycle, said, sent, bits, content)
+}
+
+// A drive sends its AT, if it sends one.
+fn send_at<L: BitLink>(
+    link: &mut L,
+    master: &mut AnyMaster,
+    drive: &Drive,
+    station: u8,
+    cycle: u32,
+    rate: u8,
+    list: &mut ArrayVec<Sent, 66>,
+    said: &mut Content,
+    sent: &mut BitBuf,
+    bits: &mut BitBuf,
+    content: &mut Content,
+) -> u32
+    requires room { length list.old.items < 66 }
+    ensures carry { L.carry link.new ≡ L.carry link.old }
+    ensures restart { L.restart link.new ≡ L.restart link.old }
+    ensures bound { result ≤ 1 }
+    ensures len { length list.new.items ≤ length list.old.items + 1 }
+    ensures sent { (d : DriveView) (speed : ℕ) (h : List DriveCall) (s : Said) (r : RingView) → DriveStandsFor drive.now d speed h → drive_says d speed h ≡ Some s →
+        station_of r (slice_index s.content 0) ≡ station →
+        AreSent r (L.carry link.old) cycle rate (s ∷ []) list.old.items list.new.items master.old master.new result }
+{
+    match drive.at(said) {
+        None => 0,
+        Some(start) => send_said(
+            link, master, station, cycle, rate, start, list, said, sent, bits, content,
+        ),
+    }
+}
+
+// The drive at a turn sends its AT.
+fn send_turn<L: BitLink>(
+    link: &mut L,
+    master: &mut AnyMaster,
+    drives: &[Drive],
+    turn: AtTurn,
+    cycle: u32,
+    rate: u8,
+    list: &mut ArrayVec<Sent, 66>,
+    said: &mut Content,
+    sent: &mut BitBuf,
+    bits: &mut BitBuf,
+    content: &mut Content,
+) -> u32
+    requires few { length drives.now ≤ 64 }
+    requires room { length list.old.items < 66 }
+    ensures carry { L.carry link.new ≡ L.carry link.old }
+    ensures restart { L.restart link.new ≡ L.restart link.old }
+    ensures bound { result ≤ 1 }
+    ensures len { length list.new.items ≤ length list.old.items + 1 }
+    ensures sent { (d : ℕ → DriveView) (speed : ℕ) (h : ℕ → List DriveCall) (s : Said) (r : RingView) → AllStand drives.now d speed h → turn.place < length drives.now →
+        drive_says (d turn.place) speed (h turn.place) ≡ Some s → station_of r (slice_index s.content 0) ≡ turn.place + 1 →
+        AreSent r (L.carry link.old) cycle rate (s ∷ []) list.old.items list.new.items master.old master.new result }
+{
+    let place = usize::from(turn.place);
+    if place >= drives.len() {
+        return 0;
+    }
+    send_at(
+        link,
+        master,
+        &drives[place],
+        turn.place + 1,
+        cycle,
+        rate,
+        list,
+        said,
+        sent,
+        bits,
+        content,
+    )
+}
+
+/// The drives send their ATs, in turn. The answer is how many arrivals are unseen.
+pub(crate) fn send_ats<L: BitLink>(
+    link: &mut L,
+    master: &mut AnyMaster,
+    drives: &[Drive],
+    turns: &[AtTurn],
+    cycle: u32,
+    rate: u8,
+    list: &mut ArrayVec<Sent, 66>,
+    said: &mut Content,
+    sent: &mut BitBuf,
+    bits: &mut BitBuf,
+    content: &mut Content,
+) -> u32
+    requires few { length drives.now ≤ 64 }
+    requires turns { length turns.now ≤ 64 }
+    requires room { length list.old.items + length turns.now ≤ 65 }
+    ensures carry { L.carry link.new ≡ L.carry link.old }
+    ensures restart { L.restart link.new ≡ L.restart link.old }
+    ensures bound { result ≤ length turns.now }
+    ensures len { length list.new.items ≤ length list.old.items + length turns.now }
+    ensures sent { (d : ℕ → DriveView) (speed : ℕ) (h : ℕ → List DriveCall) (r : RingView) → AllStand drives.now d speed h → AreTurns (length drives.now) d speed h r turns.now →
+        AreSent r (L.carry link.old) cycle rate (said_by d speed h turns.now) list.old.items list.new.items master.old master.new result }
+{
+    let mut unseen = 0;
+    for k in 0..turns.len() {
+        unseen += send_turn(
+            link, master, drives, turns[k], cycle, rate, list, said, sent, bits, content,
+        );
+    }
+    unseen
+}
+
+/// The MDT is sent, if one is. The answer is how many arrivals are unseen.
+pub(crate) fn send_mdt<L: BitLink>(
+    link: &mut L,
+    drives: &mut Vec<Drive>,
+    start: Option<u16>,
+    cycle: u32,
+    rate: u8,
+    list: &mut ArrayVec<Sent, 66>,
+    said: &Content,
+    sent: &mut BitBuf,
+    bits: &mut BitBuf,
+    content: &mut Content,
+) -> u32
+    requires few { length drives.old.items ≤ 64 }
+    requires room { length list.old.items < 66 }
+    requires some { is_some start ≡ true → 0 < length said.now }
+    ensures count { length drives.new.items ≡ length drives.old.items }
+    ensures carry { L.carry link.new ≡ L.carry link.old }
+    ensures restart { L.restart link.new ≡ L.restart link.old }
+    ensures bound { result ≤ 64 }
+    ensures sent { list.new.items ≡ list.old.items ++ sent_mdt rate (sent_as start said.now) }
+    ensures unseen { result ≡ sum_below (length drives.old.items) (unseen_mdt (L.carry link.old) cycle (content_of (sent_as start said.now))) }
+    ensures stand { (d : ℕ → DriveView) (speed : ℕ) (h : ℕ → List DriveCall) → AllStand drives.old.items d speed h →
+        AllStand drives.new.items d speed (λ k. Mdt (mdt_heard (L.carry link.old) cycle (k + 1) (content_of (sent_as start said.now))) ∷ h k) }
+{
+    match start {
+        None => {
+            hear_no_mdts(drives);
+            0
+        }
+        Some(start) => {
+            frame_said(said, sent);
+            push_timed(list, Kind::Mdt, rate, start, said, sent);
+            hear_mdts(link, drives, cycle, said, sent, bits, content)
+        }
+    }
+}
