@@ -6,6 +6,7 @@ use Rattle.sercos_trace.specs.Views.{CycleView}
 use Rattle.sercos_master.specs.declared.master.AnyMaster.{AnyMaster}
 use Rattle.sercos_script.specs.Links.{Carry, Restarts}
 use Rattle.sercos_ring.specs.Parts.{PartsStandFor}
+use Rattle.sercos_ring.specs.Runs.{IsNext}
 use Rattle.sercos_ring.specs.declared.ring.Ring.{Ring}
 
 -- A ring, with its master apart, stands for what its opening was given, and for its cycles, the newest first.
@@ -43,3 +44,8 @@ pub record AfterCycle {L : Type 0} (carry_of : L → Carry) (restart_of : L → 
       → RingStandsFor carry_of restart_of old r jobs carry restarts j
       → RingStandsFor carry_of restart_of new r jobs carry restarts (newest new ∷ j)
   pub count : cycles_made new ≤ cycles_made old + 1
+
+-- a record is that of the next cycle of a ring, whatever the ring stands for
+pub record IsNextOf {L : Type 0} (carry_of : L → Carry) (restart_of : L → Restarts) (ring : Ring L) (made : CycleView) : Type 0 where
+  pub next : (r : RingView) (jobs : List Job) (carry : Carry) (restarts : Restarts) (j : List CycleView)
+      → RingStandsFor carry_of restart_of ring r jobs carry restarts j → IsNext r jobs carry restarts made j
