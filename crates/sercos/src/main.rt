@@ -1,7 +1,7 @@
 //! The program: the top call over standard input and standard output.
 #![tactic(auto)]
 
-use sercos_app::sercos;
+use sercos_app::{Clean, sercos};
 use sercos_io::{Status, StdSink, StdSource, Words};
 use std::alloc::Global;
 use std::process::ExitCode;
@@ -28,7 +28,7 @@ fn main(rt: HostRuntime) -> ExitCode {
         Ok(words) => {
             let mut source = StdSource::new(rt.reader());
             let mut sink = StdSink::new(io::writer(&rt));
-            sercos(rt.alloc(), &words, &mut source, &mut sink)
+            sercos(rt.alloc(), &words, &mut source, &mut sink, Clean)
         }
         Err(status) => status,
     };

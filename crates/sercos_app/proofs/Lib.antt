@@ -7,3 +7,4 @@ pub mod WrittenLines
 pub mod FormLemmas
 pub mod ShowLemmas
 pub mod Outcomes
+pub mod ReplyLemmas

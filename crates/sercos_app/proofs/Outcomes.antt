@@ -7,6 +7,7 @@ use Rattle.sercos_io.specs.declared.status.Status.{Status}
 use Rattle.sercos_io.specs.declared.status.Status.TheVariants.{Done, No, BadWords, Refused, ReadFault, WriteFault, Memory, TooLong}
 use Rattle.sercos_app.specs.declared.form.Form.{Form}
 use Rattle.sercos_app.specs.declared.form.Form.TheVariants.{Show, Plan}
+use Rattle.sercos_script.specs.Links.{Carry, Restarts}
 use Rattle.sercos_app.specs.Answer.{command_answer, form_answer, answer_of, SaysWell}
 use Rattle.sercos_app.specs.Form.{form_of}
 use Rattle.sercos_app.specs.Show.{show_answer, show_status, first_fault, lines_of}
@@ -44,14 +45,14 @@ unfolding document_answer
 IsGiven-document (Ok d) = IsGiven-wishes (wishes_of d.setup) (planned (wishes_of d.setup))
 IsGiven-document (Err bad) = refused
 
-IsGiven-answer : (form : Form) (bytes : List ℕ) → IsGiven (command_answer form bytes).status
+IsGiven-answer : (carry : Carry) (restarts : Restarts) (form : Form) (bytes : List ℕ) → IsGiven (command_answer carry restarts form bytes).status
 unfolding command_answer show_answer plan_answer
-IsGiven-answer Show bytes = IsGiven-fault (first_fault 1 (lines_of bytes))
-IsGiven-answer Plan bytes = IsGiven-document (document_of bytes)
+IsGiven-answer carry restarts Show bytes = IsGiven-fault (first_fault 1 (lines_of bytes))
+IsGiven-answer carry restarts Plan bytes = IsGiven-document (document_of bytes)
 
-answer_of-form : (words : List (List ℕ)) (bytes : List ℕ) (form : Form) → form_of words ≡ Some form → answer_of words bytes ≡ command_answer form bytes
+answer_of-form : (carry : Carry) (restarts : Restarts) (words : List (List ℕ)) (bytes : List ℕ) (form : Form) → form_of words ≡ Some form → answer_of carry restarts words bytes ≡ command_answer carry restarts form bytes
 unfolding answer_of form_answer
-answer_of-form words bytes form e = rw e refl
+answer_of-form carry restarts words bytes form e = rw e refl
 
 -- no status that is written is one of those that come before
 IsGiven-writes_nothing : {status : Status} → IsGiven status → writes_nothing status ≡ false
@@ -103,45 +104,45 @@ many_told bytes (Some xs) (Some ys) told takes =
 form_clash : (words : List (List ℕ)) (form : Form) → form_of words ≡ Some form → form_of words ≡ None → ⊥
 form_clash words form some none = cc
 
-pub at_bad_words : {words : List (List ℕ)} {source : SourceChange} {sink : SinkChange} {Unread Unwritten : Type 0} {status : Status} → Outcome words source sink Unread Unwritten status → (status ≡ BadWords) ↔ (form_of words ≡ None)
+pub at_bad_words : {carry : Carry} {restarts : Restarts} {words : List (List ℕ)} {source : SourceChange} {sink : SinkChange} {Unread Unwritten : Type 0} {status : Status} → Outcome carry restarts words source sink Unread Unwritten status → (status ≡ BadWords) ↔ (form_of words ≡ None)
 unfolding writes_nothing
 at_bad_words (no_form nothing source_same sink_same reads writes) = (λ _. nothing, λ _. refl)
 at_bad_words (unreadable form is falls rose takes sink_same writes) = (λ e. absurd (cc), λ none. absurd (form_clash _ _ is none))
 at_bad_words (too_many form is reads takes sink_same writes) = (λ e. absurd (cc), λ none. absurd (form_clash _ _ is none))
 at_bad_words (no_memory form is reads takes sink_same writes) = (λ e. absurd (cc), λ none. absurd (form_clash _ _ is none))
-at_bad_words (answered form bytes status is says reads input ends) = (λ e. absurd (not_before (writes_nothing-Writes (IsGiven-answer form bytes) ends) refl e), λ none. absurd (form_clash _ _ is none))
+at_bad_words (answered form bytes status is says reads input ends) = (λ e. absurd (not_before (writes_nothing-Writes (IsGiven-answer _ _ form bytes) ends) refl e), λ none. absurd (form_clash _ _ is none))
 
-pub at_unread : {words : List (List ℕ)} {source : SourceChange} {sink : SinkChange} {Unread Unwritten : Type 0} {status : Status} → Outcome words source sink Unread Unwritten status → status ≡ BadWords → Unread
+pub at_unread : {carry : Carry} {restarts : Restarts} {words : List (List ℕ)} {source : SourceChange} {sink : SinkChange} {Unread Unwritten : Type 0} {status : Status} → Outcome carry restarts words source sink Unread Unwritten status → status ≡ BadWords → Unread
 unfolding writes_nothing
 at_unread (no_form nothing source_same sink_same reads writes) e = source_same
 at_unread (unreadable form is falls rose takes sink_same writes) e = absurd (cc)
 at_unread (too_many form is reads takes sink_same writes) e = absurd (cc)
 at_unread (no_memory form is reads takes sink_same writes) e = absurd (cc)
-at_unread (answered form bytes status is says reads input ends) e = absurd (not_before (writes_nothing-Writes (IsGiven-answer form bytes) ends) refl e)
+at_unread (answered form bytes status is says reads input ends) e = absurd (not_before (writes_nothing-Writes (IsGiven-answer _ _ form bytes) ends) refl e)
 
-pub at_unwritten : {words : List (List ℕ)} {source : SourceChange} {sink : SinkChange} {Unread Unwritten : Type 0} {status : Status} → Outcome words source sink Unread Unwritten status → IsTrue (writes_nothing status) → Unwritten
+pub at_unwritten : {carry : Carry} {restarts : Restarts} {words : List (List ℕ)} {source : SourceChange} {sink : SinkChange} {Unread Unwritten : Type 0} {status : Status} → Outcome carry restarts words source sink Unread Unwritten status → IsTrue (writes_nothing status) → Unwritten
 at_unwritten (no_form nothing source_same sink_same reads writes) e = sink_same
 at_unwritten (unreadable form is falls rose takes sink_same writes) e = sink_same
 at_unwritten (too_many form is reads takes sink_same writes) e = sink_same
 at_unwritten (no_memory form is reads takes sink_same writes) e = sink_same
-at_unwritten (answered form bytes status is says reads input ends) e = absurd (false≢true (sym (writes_nothing-Writes (IsGiven-answer form bytes) ends) ∙ e))
+at_unwritten (answered form bytes status is says reads input ends) e = absurd (false≢true (sym (writes_nothing-Writes (IsGiven-answer _ _ form bytes) ends) ∙ e))
 
-pub at_read_fault : {words : List (List ℕ)} {source : SourceChange} {sink : SinkChange} {Unread Unwritten : Type 0} {status : Status} → Outcome words source sink Unread Unwritten status → status ≡ ReadFault → Rose source.faults source.faults'
+pub at_read_fault : {carry : Carry} {restarts : Restarts} {words : List (List ℕ)} {source : SourceChange} {sink : SinkChange} {Unread Unwritten : Type 0} {status : Status} → Outcome carry restarts words source sink Unread Unwritten status → status ≡ ReadFault → Rose source.faults source.faults'
 unfolding writes_nothing
 at_read_fault (no_form nothing source_same sink_same reads writes) e = absurd (cc)
 at_read_fault (unreadable form is falls rose takes sink_same writes) e = rose
 at_read_fault (too_many form is reads takes sink_same writes) e = absurd (cc)
 at_read_fault (no_memory form is reads takes sink_same writes) e = absurd (cc)
-at_read_fault (answered form bytes status is says reads input ends) e = absurd (not_before (writes_nothing-Writes (IsGiven-answer form bytes) ends) refl e)
+at_read_fault (answered form bytes status is says reads input ends) e = absurd (not_before (writes_nothing-Writes (IsGiven-answer _ _ form bytes) ends) refl e)
 
-pub at_read_count : {words : List (List ℕ)} {source : SourceChange} {sink : SinkChange} {Unread Unwritten : Type 0} {status : Status} → Outcome words source sink Unread Unwritten status → source.faults ≤ source.faults'
+pub at_read_count : {carry : Carry} {restarts : Restarts} {words : List (List ℕ)} {source : SourceChange} {sink : SinkChange} {Unread Unwritten : Type 0} {status : Status} → Outcome carry restarts words source sink Unread Unwritten status → source.faults ≤ source.faults'
 at_read_count (no_form nothing source_same sink_same reads writes) = omega arith
 at_read_count (unreadable form is falls rose takes sink_same writes) = falls
 at_read_count (too_many form is reads takes sink_same writes) = omega arith
 at_read_count (no_memory form is reads takes sink_same writes) = omega arith
 at_read_count (answered form bytes status is says reads input ends) = omega arith
 
-pub at_read_well : {words : List (List ℕ)} {source : SourceChange} {sink : SinkChange} {Unread Unwritten : Type 0} {status : Status} → Outcome words source sink Unread Unwritten status → status ≢ ReadFault → source.faults' ≡ source.faults
+pub at_read_well : {carry : Carry} {restarts : Restarts} {words : List (List ℕ)} {source : SourceChange} {sink : SinkChange} {Unread Unwritten : Type 0} {status : Status} → Outcome carry restarts words source sink Unread Unwritten status → status ≢ ReadFault → source.faults' ≡ source.faults
 at_read_well (no_form nothing source_same sink_same reads writes) e = reads
 at_read_well (unreadable form is falls rose takes sink_same writes) e = absurd (e refl)
 at_read_well (too_many form is reads takes sink_same writes) e = reads
@@ -160,7 +161,7 @@ takes_none most left left' same =
 takes_more : {less most : ℕ} {left left' : Option (List ℕ)} → less ≤ most → TakesAtMost less left left' → TakesAtMost most left left'
 takes_more above t = record { taken = t.taken; few = omega (arith, t.few); consumed = t.consumed }
 
-pub at_taken : {words : List (List ℕ)} {source : SourceChange} {sink : SinkChange} {Unread Unwritten : Type 0} {status : Status} → (Unread → source.left' ≡ source.left) → Outcome words source sink Unread Unwritten status → TakesAtMost 1048577 source.left source.left'
+pub at_taken : {carry : Carry} {restarts : Restarts} {words : List (List ℕ)} {source : SourceChange} {sink : SinkChange} {Unread Unwritten : Type 0} {status : Status} → (Unread → source.left' ≡ source.left) → Outcome carry restarts words source sink Unread Unwritten status → TakesAtMost 1048577 source.left source.left'
 at_taken kept (no_form nothing source_same sink_same reads writes) = takes_none _ _ _ (kept source_same)
 at_taken kept (unreadable form is falls rose takes sink_same writes) = takes_more (omega arith) takes
 at_taken kept (too_many form is reads takes sink_same writes) =
@@ -169,13 +170,13 @@ at_taken kept (no_memory form is reads takes sink_same writes) = takes_more (ome
 at_taken kept (answered form bytes status is says reads input ends) =
     record { taken = bytes; few = omega (arith, input.fits); consumed = input.consumed }
 
-pub at_too_long : {words : List (List ℕ)} {source : SourceChange} {sink : SinkChange} {Unread Unwritten : Type 0} {status : Status} → Outcome words source sink Unread Unwritten status → status ≡ TooLong → TakesTooMany source.left source.left'
+pub at_too_long : {carry : Carry} {restarts : Restarts} {words : List (List ℕ)} {source : SourceChange} {sink : SinkChange} {Unread Unwritten : Type 0} {status : Status} → Outcome carry restarts words source sink Unread Unwritten status → status ≡ TooLong → TakesTooMany source.left source.left'
 unfolding writes_nothing
 at_too_long (no_form nothing source_same sink_same reads writes) e = absurd (cc)
 at_too_long (unreadable form is falls rose takes sink_same writes) e = absurd (cc)
 at_too_long (too_many form is reads takes sink_same writes) e = takes
 at_too_long (no_memory form is reads takes sink_same writes) e = absurd (cc)
-at_too_long (answered form bytes status is says reads input ends) e = absurd (not_before (writes_nothing-Writes (IsGiven-answer form bytes) ends) refl e)
+at_too_long (answered form bytes status is says reads input ends) e = absurd (not_before (writes_nothing-Writes (IsGiven-answer _ _ form bytes) ends) refl e)
 
 -- a failed write's status is no other answer's
 fault-done : {status : Status} → IsGiven status → fault_status status ≢ Done
@@ -216,50 +217,50 @@ whole_or_short (whole appends same) = inl (record { status_is = refl; written = 
 whole_or_short (short count below appends falls rose full) =
     inr (record { status_is = refl; count = count; short = below; written = appends; falls = falls; rose = rose; full = full })
 
-answered-whole : (words : List (List ℕ)) (form : Form) (bytes : List ℕ) (status wanted : Status) (left left' : Option (List ℕ)) (sink : SinkChange) → form_of words ≡ Some form → ReadsWhole left left' bytes → IsWhole (command_answer form bytes).status status (command_answer form bytes).output sink → status ≡ wanted → IsAnswered words wanted left left' sink.held sink.held'
-answered-whole words form bytes status wanted left left' sink is input w e =
-    record { bytes = bytes; read = input; status_is = rw (answer_of-form words bytes form is) (w.status_is ∙ e); written = rw (answer_of-form words bytes form is) w.written }
+answered-whole : (carry : Carry) (restarts : Restarts) (words : List (List ℕ)) (form : Form) (bytes : List ℕ) (status wanted : Status) (left left' : Option (List ℕ)) (sink : SinkChange) → form_of words ≡ Some form → ReadsWhole left left' bytes → IsWhole (command_answer carry restarts form bytes).status status (command_answer carry restarts form bytes).output sink → status ≡ wanted → IsAnswered carry restarts words wanted left left' sink.held sink.held'
+answered-whole carry restarts words form bytes status wanted left left' sink is input w e =
+    record { bytes = bytes; read = input; status_is = rw (answer_of-form carry restarts words bytes form is) (w.status_is ∙ e); written = rw (answer_of-form carry restarts words bytes form is) w.written }
 
-answered-short : (words : List (List ℕ)) (form : Form) (bytes : List ℕ) (status wanted : Status) (left left' : Option (List ℕ)) (sink : SinkChange) → form_of words ≡ Some form → ReadsWhole left left' bytes → IsShort (command_answer form bytes).status status (command_answer form bytes).output sink → status ≡ wanted → IsCutShort words wanted left left' sink.held sink.held'
-answered-short words form bytes status wanted left left' sink is input w e =
+answered-short : (carry : Carry) (restarts : Restarts) (words : List (List ℕ)) (form : Form) (bytes : List ℕ) (status wanted : Status) (left left' : Option (List ℕ)) (sink : SinkChange) → form_of words ≡ Some form → ReadsWhole left left' bytes → IsShort (command_answer carry restarts form bytes).status status (command_answer carry restarts form bytes).output sink → status ≡ wanted → IsCutShort carry restarts words wanted left left' sink.held sink.held'
+answered-short carry restarts words form bytes status wanted left left' sink is input w e =
     record {
       bytes = bytes;
       read = input;
-      status_is = rw (answer_of-form words bytes form is) (w.status_is ∙ e);
+      status_is = rw (answer_of-form carry restarts words bytes form is) (w.status_is ∙ e);
       count = w.count;
-      short = rw (answer_of-form words bytes form is) w.short;
-      written = rw (answer_of-form words bytes form is) w.written;
+      short = rw (answer_of-form carry restarts words bytes form is) w.short;
+      written = rw (answer_of-form carry restarts words bytes form is) w.written;
     }
 
-pub at_done : {words : List (List ℕ)} {source : SourceChange} {sink : SinkChange} {Unread Unwritten : Type 0} {status : Status} → Outcome words source sink Unread Unwritten status → status ≡ Done → IsAnswered words Done source.left source.left' sink.held sink.held'
+pub at_done : {carry : Carry} {restarts : Restarts} {words : List (List ℕ)} {source : SourceChange} {sink : SinkChange} {Unread Unwritten : Type 0} {status : Status} → Outcome carry restarts words source sink Unread Unwritten status → status ≡ Done → IsAnswered carry restarts words Done source.left source.left' sink.held sink.held'
 at_done (no_form nothing source_same sink_same reads writes) e = absurd (cc)
 at_done (unreadable form is falls rose takes sink_same writes) e = absurd (cc)
 at_done (too_many form is reads takes sink_same writes) e = absurd (cc)
 at_done (no_memory form is reads takes sink_same writes) e = absurd (cc)
-at_done (answered form bytes status is says reads input ends) e = elim (whole_or_short ends) [ inl w ↦ answered-whole _ form bytes _ Done _ _ _ is input w e | inr w ↦ absurd (fault-done (IsGiven-answer form bytes) (w.status_is ∙ e)) ]
+at_done (answered form bytes status is says reads input ends) e = elim (whole_or_short ends) [ inl w ↦ answered-whole _ _ _ form bytes _ Done _ _ _ is input w e | inr w ↦ absurd (fault-done (IsGiven-answer _ _ form bytes) (w.status_is ∙ e)) ]
 
-pub at_no : {words : List (List ℕ)} {source : SourceChange} {sink : SinkChange} {Unread Unwritten : Type 0} {status : Status} → Outcome words source sink Unread Unwritten status → status ≡ No → IsAnswered words No source.left source.left' sink.held sink.held'
+pub at_no : {carry : Carry} {restarts : Restarts} {words : List (List ℕ)} {source : SourceChange} {sink : SinkChange} {Unread Unwritten : Type 0} {status : Status} → Outcome carry restarts words source sink Unread Unwritten status → status ≡ No → IsAnswered carry restarts words No source.left source.left' sink.held sink.held'
 at_no (no_form nothing source_same sink_same reads writes) e = absurd (cc)
 at_no (unreadable form is falls rose takes sink_same writes) e = absurd (cc)
 at_no (too_many form is reads takes sink_same writes) e = absurd (cc)
 at_no (no_memory form is reads takes sink_same writes) e = absurd (cc)
-at_no (answered form bytes status is says reads input ends) e = elim (whole_or_short ends) [ inl w ↦ answered-whole _ form bytes _ No _ _ _ is input w e | inr w ↦ absurd (fault-no (IsGiven-answer form bytes) (w.status_is ∙ e)) ]
+at_no (answered form bytes status is says reads input ends) e = elim (whole_or_short ends) [ inl w ↦ answered-whole _ _ _ form bytes _ No _ _ _ is input w e | inr w ↦ absurd (fault-no (IsGiven-answer _ _ form bytes) (w.status_is ∙ e)) ]
 
-pub at_refused : {words : List (List ℕ)} {source : SourceChange} {sink : SinkChange} {Unread Unwritten : Type 0} {status : Status} → Outcome words source sink Unread Unwritten status → status ≡ Refused → ((sink.faults' ≡ sink.faults) × IsAnswered words Refused source.left source.left' sink.held sink.held') ⊎ (Rose sink.faults sink.faults' × IsCutShort words Refused source.left source.left' sink.held sink.held')
+pub at_refused : {carry : Carry} {restarts : Restarts} {words : List (List ℕ)} {source : SourceChange} {sink : SinkChange} {Unread Unwritten : Type 0} {status : Status} → Outcome carry restarts words source sink Unread Unwritten status → status ≡ Refused → ((sink.faults' ≡ sink.faults) × IsAnswered carry restarts words Refused source.left source.left' sink.held sink.held') ⊎ (Rose sink.faults sink.faults' × IsCutShort carry restarts words Refused source.left source.left' sink.held sink.held')
 at_refused (no_form nothing source_same sink_same reads writes) e = absurd (cc)
 at_refused (unreadable form is falls rose takes sink_same writes) e = absurd (cc)
 at_refused (too_many form is reads takes sink_same writes) e = absurd (cc)
 at_refused (no_memory form is reads takes sink_same writes) e = absurd (cc)
-at_refused (answered form bytes status is says reads input ends) e = elim (whole_or_short ends) [ inl w ↦ inl (w.same, answered-whole _ form bytes _ Refused _ _ _ is input w e) | inr w ↦ inr (w.rose, answered-short _ form bytes _ Refused _ _ _ is input w e) ]
+at_refused (answered form bytes status is says reads input ends) e = elim (whole_or_short ends) [ inl w ↦ inl (w.same, answered-whole _ _ _ form bytes _ Refused _ _ _ is input w e) | inr w ↦ inr (w.rose, answered-short _ _ _ form bytes _ Refused _ _ _ is input w e) ]
 
-pub at_write_fault : {words : List (List ℕ)} {source : SourceChange} {sink : SinkChange} {Unread Unwritten : Type 0} {status : Status} → Outcome words source sink Unread Unwritten status → status ≡ WriteFault → Rose sink.faults sink.faults' × IsCutShort words WriteFault source.left source.left' sink.held sink.held'
+pub at_write_fault : {carry : Carry} {restarts : Restarts} {words : List (List ℕ)} {source : SourceChange} {sink : SinkChange} {Unread Unwritten : Type 0} {status : Status} → Outcome carry restarts words source sink Unread Unwritten status → status ≡ WriteFault → Rose sink.faults sink.faults' × IsCutShort carry restarts words WriteFault source.left source.left' sink.held sink.held'
 at_write_fault (no_form nothing source_same sink_same reads writes) e = absurd (cc)
 at_write_fault (unreadable form is falls rose takes sink_same writes) e = absurd (cc)
 at_write_fault (too_many form is reads takes sink_same writes) e = absurd (cc)
 at_write_fault (no_memory form is reads takes sink_same writes) e = absurd (cc)
-at_write_fault (answered form bytes status is says reads input ends) e = elim (whole_or_short ends) [ inl w ↦ absurd (not_write_fault (IsGiven-answer form bytes) (w.status_is ∙ e)) | inr w ↦ (w.rose, answered-short _ form bytes _ WriteFault _ _ _ is input w e) ]
+at_write_fault (answered form bytes status is says reads input ends) e = elim (whole_or_short ends) [ inl w ↦ absurd (not_write_fault (IsGiven-answer _ _ form bytes) (w.status_is ∙ e)) | inr w ↦ (w.rose, answered-short _ _ _ form bytes _ WriteFault _ _ _ is input w e) ]
 
-pub at_write_count : {words : List (List ℕ)} {source : SourceChange} {sink : SinkChange} {Unread Unwritten : Type 0} {status : Status} → Outcome words source sink Unread Unwritten status → sink.faults ≤ sink.faults'
+pub at_write_count : {carry : Carry} {restarts : Restarts} {words : List (List ℕ)} {source : SourceChange} {sink : SinkChange} {Unread Unwritten : Type 0} {status : Status} → Outcome carry restarts words source sink Unread Unwritten status → sink.faults ≤ sink.faults'
 at_write_count (no_form nothing source_same sink_same reads writes) = omega arith
 at_write_count (unreadable form is falls rose takes sink_same writes) = omega arith
 at_write_count (too_many form is reads takes sink_same writes) = omega arith
@@ -272,48 +273,48 @@ fault_is done e = absurd (e refl)
 fault_is refused e = refl
 fault_is declined e = absurd (e refl)
 
-pub at_write_well : {words : List (List ℕ)} {source : SourceChange} {sink : SinkChange} {Unread Unwritten : Type 0} {status : Status} → Outcome words source sink Unread Unwritten status → status ≢ WriteFault → status ≢ Refused → sink.faults' ≡ sink.faults
+pub at_write_well : {carry : Carry} {restarts : Restarts} {words : List (List ℕ)} {source : SourceChange} {sink : SinkChange} {Unread Unwritten : Type 0} {status : Status} → Outcome carry restarts words source sink Unread Unwritten status → status ≢ WriteFault → status ≢ Refused → sink.faults' ≡ sink.faults
 at_write_well (no_form nothing source_same sink_same reads writes) e f = writes
 at_write_well (unreadable form is falls rose takes sink_same writes) e f = writes
 at_write_well (too_many form is reads takes sink_same writes) e f = writes
 at_write_well (no_memory form is reads takes sink_same writes) e f = writes
-at_write_well (answered form bytes status is says reads input ends) e f = elim (whole_or_short ends) [ inl w ↦ w.same | inr w ↦ absurd (f (sym w.status_is ∙ fault_is (IsGiven-answer form bytes) (λ same. e (sym w.status_is ∙ same)))) ]
+at_write_well (answered form bytes status is says reads input ends) e f = elim (whole_or_short ends) [ inl w ↦ w.same | inr w ↦ absurd (f (sym w.status_is ∙ fault_is (IsGiven-answer _ _ form bytes) (λ same. e (sym w.status_is ∙ same)))) ]
 
 -- the answer to the bytes that a source told
-told_answer : (words : List (List ℕ)) (form : Form) (bytes read : List ℕ) → form_of words ≡ Some form → read ≡ bytes → command_answer form read ≡ answer_of words bytes
-told_answer words form bytes read is same = ap (command_answer form) same ∙ sym (answer_of-form words bytes form is)
+told_answer : (carry : Carry) (restarts : Restarts) (words : List (List ℕ)) (form : Form) (bytes read : List ℕ) → form_of words ≡ Some form → read ≡ bytes → command_answer carry restarts form read ≡ answer_of carry restarts words bytes
+told_answer carry restarts words form bytes read is same = ap (command_answer carry restarts form) same ∙ sym (answer_of-form carry restarts words bytes form is)
 
-pub at_answers : {words : List (List ℕ)} {source : SourceChange} {sink : SinkChange} {Unread Unwritten : Type 0} {status : Status} → Outcome words source sink Unread Unwritten status → (bytes : List ℕ) → source.left ≡ Some bytes → length bytes ≤ 1048576 → form_of words ≢ None → (Rose source.faults source.faults' → ⊥) → (Rose sink.faults sink.faults' → ⊥) → (status ≡ Memory) ⊎ IsAnswer (answer_of words bytes) status sink.held sink.held'
+pub at_answers : {carry : Carry} {restarts : Restarts} {words : List (List ℕ)} {source : SourceChange} {sink : SinkChange} {Unread Unwritten : Type 0} {status : Status} → Outcome carry restarts words source sink Unread Unwritten status → (bytes : List ℕ) → source.left ≡ Some bytes → length bytes ≤ 1048576 → form_of words ≢ None → (Rose source.faults source.faults' → ⊥) → (Rose sink.faults sink.faults' → ⊥) → (status ≡ Memory) ⊎ IsAnswer (answer_of carry restarts words bytes) status sink.held sink.held'
 at_answers (no_form nothing source_same sink_same reads writes) all told fits some well taken = absurd (some nothing)
 at_answers (unreadable form is falls rose takes sink_same writes) all told fits some well taken = absurd (well rose)
 at_answers (too_many form is reads takes sink_same writes) all told fits some well taken = absurd (omega (arith, many_told all _ _ told takes))
 at_answers (no_memory form is reads takes sink_same writes) all told fits some well taken = inl refl
-at_answers (answered form bytes status is says reads input ends) all told fits some well taken = let answer = told_answer _ form all bytes is (read_told all bytes _ _ told input) in elim (whole_or_short ends) [ inl w ↦ inr (record { status_is = sym w.status_is ∙ ap (λ a. a.status) answer; written = rw (← answer) w.written }) | inr w ↦ absurd (taken w.rose) ]
+at_answers (answered form bytes status is says reads input ends) all told fits some well taken = let answer = told_answer _ _ _ form all bytes is (read_told all bytes _ _ told input) in elim (whole_or_short ends) [ inl w ↦ inr (record { status_is = sym w.status_is ∙ ap (λ a. a.status) answer; written = rw (← answer) w.written }) | inr w ↦ absurd (taken w.rose) ]
 
 fault-refused : {status : Status} → status ≡ Refused → fault_status status ≡ Refused
 unfolding fault_status
 fault-refused e = rw e refl
 
-pub at_refuses : {words : List (List ℕ)} {source : SourceChange} {sink : SinkChange} {Unread Unwritten : Type 0} {status : Status} → Outcome words source sink Unread Unwritten status → (bytes : List ℕ) → source.left ≡ Some bytes → length bytes ≤ 1048576 → form_of words ≢ None → (Rose source.faults source.faults' → ⊥) → (answer_of words bytes).status ≡ Refused → (status ≡ Memory) ⊎ (status ≡ Refused)
+pub at_refuses : {carry : Carry} {restarts : Restarts} {words : List (List ℕ)} {source : SourceChange} {sink : SinkChange} {Unread Unwritten : Type 0} {status : Status} → Outcome carry restarts words source sink Unread Unwritten status → (bytes : List ℕ) → source.left ≡ Some bytes → length bytes ≤ 1048576 → form_of words ≢ None → (Rose source.faults source.faults' → ⊥) → (answer_of carry restarts words bytes).status ≡ Refused → (status ≡ Memory) ⊎ (status ≡ Refused)
 at_refuses (no_form nothing source_same sink_same reads writes) all told fits some well refusal = absurd (some nothing)
 at_refuses (unreadable form is falls rose takes sink_same writes) all told fits some well refusal = absurd (well rose)
 at_refuses (too_many form is reads takes sink_same writes) all told fits some well refusal = absurd (omega (arith, many_told all _ _ told takes))
 at_refuses (no_memory form is reads takes sink_same writes) all told fits some well refusal = inl refl
-at_refuses (answered form bytes status is says reads input ends) all told fits some well refusal = let first : (command_answer form bytes).status ≡ Refused = ap (λ a. a.status) (told_answer _ form all bytes is (read_told all bytes _ _ told input)) ∙ refusal in elim (whole_or_short ends) [ inl w ↦ inr (sym w.status_is ∙ first) | inr w ↦ inr (sym w.status_is ∙ fault-refused first) ]
+at_refuses {carry = carry} {restarts = restarts} (answered form bytes status is says reads input ends) all told fits some well refusal = let first : (command_answer carry restarts form bytes).status ≡ Refused = ap (λ a. a.status) (told_answer _ _ _ form all bytes is (read_told all bytes _ _ told input)) ∙ refusal in elim (whole_or_short ends) [ inl w ↦ inr (sym w.status_is ∙ first) | inr w ↦ inr (sym w.status_is ∙ fault-refused first) ]
 
-pub at_exceeds : {words : List (List ℕ)} {source : SourceChange} {sink : SinkChange} {Unread Unwritten : Type 0} {status : Status} → Outcome words source sink Unread Unwritten status → (bytes : List ℕ) → source.left ≡ Some bytes → 1048577 ≤ length bytes → form_of words ≢ None → (Rose source.faults source.faults' → ⊥) → (status ≡ Memory) ⊎ (status ≡ TooLong)
+pub at_exceeds : {carry : Carry} {restarts : Restarts} {words : List (List ℕ)} {source : SourceChange} {sink : SinkChange} {Unread Unwritten : Type 0} {status : Status} → Outcome carry restarts words source sink Unread Unwritten status → (bytes : List ℕ) → source.left ≡ Some bytes → 1048577 ≤ length bytes → form_of words ≢ None → (Rose source.faults source.faults' → ⊥) → (status ≡ Memory) ⊎ (status ≡ TooLong)
 at_exceeds (no_form nothing source_same sink_same reads writes) all told many some well = absurd (some nothing)
 at_exceeds (unreadable form is falls rose takes sink_same writes) all told many some well = absurd (well rose)
 at_exceeds (too_many form is reads takes sink_same writes) all told many some well = inr refl
 at_exceeds (no_memory form is reads takes sink_same writes) all told many some well = inl refl
 at_exceeds (answered form bytes status is says reads input ends) all told many some well = let same : bytes ≡ all = read_told all bytes _ _ told input in absurd (omega (arith, input.fits, ap length same))
 
-pub at_room : {words : List (List ℕ)} {source : SourceChange} {sink : SinkChange} {Unread Unwritten : Type 0} {status : Status} → Outcome words source sink Unread Unwritten status → (bytes : List ℕ) → source.left ≡ Some bytes → length (answer_of words bytes).output ≤ sink.room → sink.faults' ≡ sink.faults
+pub at_room : {carry : Carry} {restarts : Restarts} {words : List (List ℕ)} {source : SourceChange} {sink : SinkChange} {Unread Unwritten : Type 0} {status : Status} → Outcome carry restarts words source sink Unread Unwritten status → (bytes : List ℕ) → source.left ≡ Some bytes → length (answer_of carry restarts words bytes).output ≤ sink.room → sink.faults' ≡ sink.faults
 at_room (no_form nothing source_same sink_same reads writes) all told fits = writes
 at_room (unreadable form is falls rose takes sink_same writes) all told fits = writes
 at_room (too_many form is reads takes sink_same writes) all told fits = writes
 at_room (no_memory form is reads takes sink_same writes) all told fits = writes
-at_room (answered form bytes status is says reads input ends) all told fits = let answer = told_answer _ form all bytes is (read_told all bytes _ _ told input) in elim (whole_or_short ends) [ inl w ↦ w.same | inr w ↦ absurd (w.full (rw answer fits)) ]
+at_room {carry = carry} {restarts = restarts} {words = words} (answered form bytes status is says reads input ends) all told fits = let answer = told_answer carry restarts words form all bytes is (read_told all bytes _ _ told input) in elim (whole_or_short ends) [ inl w ↦ w.same | inr w ↦ absurd (w.full (rw answer fits)) ]
 
 -- what a document says that isn't refused
 document_read : (document : Result DocumentView BadDocument) → (document_answer document).status ≢ Refused → (d : DocumentView) × (document ≡ Ok d)
@@ -322,33 +323,33 @@ document_read (Ok d) given = (d, refl)
 document_read (Err bad) given = absurd (given refl)
 
 -- what the answers of `plan` say
-none-plan : (form : Form) (bytes : List ℕ) (left left' : Option (List ℕ)) → form ≡ Plan → SaysWell form bytes → (command_answer form bytes).status ≡ No → ReadsWhole left left' bytes
+none-plan : (carry : Carry) (restarts : Restarts) (form : Form) (bytes : List ℕ) (left left' : Option (List ℕ)) → form ≡ Plan → SaysWell form bytes → (command_answer carry restarts form bytes).status ≡ No → ReadsWhole left left' bytes
     → NonePlanned left left'
 unfolding command_answer plan_answer
-none-plan Show bytes left left' is says at input = absurd (cc)
-none-plan Plan bytes left left' is says at input =
+none-plan carry restarts Show bytes left left' is says at input = absurd (cc)
+none-plan carry restarts Plan bytes left left' is says at input =
     let (d, read) = document_read (document_of bytes) (λ e. absurd (cc)) in
     record { bytes = bytes; read = input; says = d; document = read; none = (says d read).no at }
 
-least-plan : (form : Form) (bytes : List ℕ) (left left' held held' : Option (List ℕ)) → form ≡ Plan → SaysWell form bytes → (command_answer form bytes).status ≡ Done → ReadsWhole left left' bytes
-    → Appends held held' (command_answer form bytes).output → LeastPlanned left left' held held'
+least-plan : (carry : Carry) (restarts : Restarts) (form : Form) (bytes : List ℕ) (left left' held held' : Option (List ℕ)) → form ≡ Plan → SaysWell form bytes → (command_answer carry restarts form bytes).status ≡ Done → ReadsWhole left left' bytes
+    → Appends held held' (command_answer carry restarts form bytes).output → LeastPlanned left left' held held'
 unfolding command_answer plan_answer
-least-plan Show bytes left left' held held' is says at input written = absurd (cc)
-least-plan Plan bytes left left' held held' is says at input written =
+least-plan carry restarts Show bytes left left' held held' is says at input written = absurd (cc)
+least-plan carry restarts Plan bytes left left' held held' is says at input written =
     let (d, read) = document_read (document_of bytes) (λ e. absurd (cc)) in
     let (plan, least, text) = (says d read).done at in
     record { bytes = bytes; read = input; says = d; document = read; plan = plan; least = least; written = rw text at written }
 
-pub at_none_fits : {words : List (List ℕ)} {source : SourceChange} {sink : SinkChange} {Unread Unwritten : Type 0} {status : Status} → Outcome words source sink Unread Unwritten status → status ≡ No → form_of words ≡ Some Plan → NonePlanned source.left source.left'
+pub at_none_fits : {carry : Carry} {restarts : Restarts} {words : List (List ℕ)} {source : SourceChange} {sink : SinkChange} {Unread Unwritten : Type 0} {status : Status} → Outcome carry restarts words source sink Unread Unwritten status → status ≡ No → form_of words ≡ Some Plan → NonePlanned source.left source.left'
 at_none_fits (no_form nothing source_same sink_same reads writes) e f = absurd (cc)
 at_none_fits (unreadable form is falls rose takes sink_same writes) e f = absurd (cc)
 at_none_fits (too_many form is reads takes sink_same writes) e f = absurd (cc)
 at_none_fits (no_memory form is reads takes sink_same writes) e f = absurd (cc)
-at_none_fits (answered form bytes status is says reads input ends) e f = elim (whole_or_short ends) [ inl w ↦ none-plan form bytes _ _ (some_same (sym is ∙ f)) says (w.status_is ∙ e) input | inr w ↦ absurd (fault-no (IsGiven-answer form bytes) (w.status_is ∙ e)) ]
+at_none_fits (answered form bytes status is says reads input ends) e f = elim (whole_or_short ends) [ inl w ↦ none-plan _ _ form bytes _ _ (some_same (sym is ∙ f)) says (w.status_is ∙ e) input | inr w ↦ absurd (fault-no (IsGiven-answer _ _ form bytes) (w.status_is ∙ e)) ]
 
-pub at_least_plan : {words : List (List ℕ)} {source : SourceChange} {sink : SinkChange} {Unread Unwritten : Type 0} {status : Status} → Outcome words source sink Unread Unwritten status → status ≡ Done → form_of words ≡ Some Plan → LeastPlanned source.left source.left' sink.held sink.held'
+pub at_least_plan : {carry : Carry} {restarts : Restarts} {words : List (List ℕ)} {source : SourceChange} {sink : SinkChange} {Unread Unwritten : Type 0} {status : Status} → Outcome carry restarts words source sink Unread Unwritten status → status ≡ Done → form_of words ≡ Some Plan → LeastPlanned source.left source.left' sink.held sink.held'
 at_least_plan (no_form nothing source_same sink_same reads writes) e f = absurd (cc)
 at_least_plan (unreadable form is falls rose takes sink_same writes) e f = absurd (cc)
 at_least_plan (too_many form is reads takes sink_same writes) e f = absurd (cc)
 at_least_plan (no_memory form is reads takes sink_same writes) e f = absurd (cc)
-at_least_plan (answered form bytes status is says reads input ends) e f = elim (whole_or_short ends) [ inl w ↦ least-plan form bytes _ _ _ _ (some_same (sym is ∙ f)) says (w.status_is ∙ e) input w.written | inr w ↦ absurd (fault-done (IsGiven-answer form bytes) (w.status_is ∙ e)) ]
+at_least_plan (answered form bytes status is says reads input ends) e f = elim (whole_or_short ends) [ inl w ↦ least-plan _ _ form bytes _ _ _ _ (some_same (sym is ∙ f)) says (w.status_is ∙ e) input w.written | inr w ↦ absurd (fault-done (IsGiven-answer _ _ form bytes) (w.status_is ∙ e)) ]

@@ -1,13 +1,17 @@
 -- How a call of the top call went: each way in which it can end, with what is known then. The clauses of the top call
 -- are read off this.
-use Rattle.std.specs.Prelude.{◌≡◌, ℕ, ◌<◌, ◌≤◌, List, length, take, Option, Some, None}
+use Rattle.std.specs.Prelude.{◌≡◌, ℕ, ◌<◌, ◌≤◌, List, length, take, Option, Some, None, Result, Ok, Err}
 use Rattle.std.specs.Io.KnownBytes.{Appends}
 use Rattle.sercos_model.specs.Streams.{Rose}
 use Rattle.sercos_io.specs.declared.status.Status.{Status}
 use Rattle.sercos_io.specs.declared.status.Status.TheVariants.{BadWords, ReadFault, Memory, TooLong}
 use Rattle.sercos_app.specs.declared.form.Form.{Form}
+use Rattle.sercos_script.specs.Links.{Carry, Restarts}
 use Rattle.sercos_app.specs.Answer.{command_answer, SaysWell}
 use Rattle.sercos_app.specs.Form.{form_of}
+use Rattle.sercos_app.specs.Show.{Answer}
+use Rattle.sercos_app.specs.declared.given.Given.{Given}
+use Rattle.sercos_app.specs.Given.{given_status, given_text}
 use Rattle.sercos_app.specs.TopCall.{fault_status, ReadsWhole, TakesAtMost, TakesTooMany}
 
 -- a source before and after: the bytes that it has left, and its count of faults
@@ -25,15 +29,29 @@ pub record SinkChange : Type 0 where
   pub faults' : ℕ
   pub room : ℕ
 
+abbrev pub changed : {S : Type 0} → (S → Option (List ℕ)) → (S → ℕ) → (S → ℕ) → S → S → SinkChange
+changed held faults room old new = record { held = held old; held' = held new; faults = faults old; faults' = faults new; room = room old }
+
 -- how writing a text with its status ends: the whole text was appended, or a prefix of it, short of the whole
 pub data Writes (status : Status) (text : List ℕ) (sink : SinkChange) : Status → Type 0 where
   whole : Appends sink.held sink.held' text → sink.faults' ≡ sink.faults → Writes status text sink status
   short : (count : ℕ) → count < length text → Appends sink.held sink.held' (take count text) → sink.faults ≤ sink.faults' → Rose sink.faults sink.faults' → (length text ≤ sink.room → ⊥) → Writes status text sink (fault_status status)
 
+-- how giving what was made ends, if memory was found for it
+abbrev pub GivesMade : {E : Type 0} → Result Given E → SinkChange → Type 0 → Status → Type 0
+GivesMade (Ok given) sink Unwritten status = Writes (given_status given) (given_text given) sink status
+GivesMade (Err error) sink Unwritten status = (status ≡ Memory) × Unwritten
+
+-- How answering an input ends: no memory was found, or the answer was written, and it says what it should. Unwritten says that the
+-- sink is as it was.
+pub data Replies (answer : Answer) (Says : Type 0) (sink : SinkChange) (Unwritten : Type 0) : Status → Type 0 where
+  none_found : Unwritten → Replies answer Says sink Unwritten Memory
+  replied : (status : Status) → Says → Writes answer.status answer.output sink status → Replies answer Says sink Unwritten status
+
 -- How the call ends. Unread says that the source is as it was, and Unwritten that the sink is.
-pub data Outcome (words : List (List ℕ)) (source : SourceChange) (sink : SinkChange) (Unread Unwritten : Type 0) : Status → Type 0 where
-  no_form : form_of words ≡ None → Unread → Unwritten → source.faults' ≡ source.faults → sink.faults' ≡ sink.faults → Outcome words source sink Unread Unwritten BadWords
-  unreadable : (form : Form) → form_of words ≡ Some form → source.faults ≤ source.faults' → Rose source.faults source.faults' → TakesAtMost 1048576 source.left source.left' → Unwritten → sink.faults' ≡ sink.faults → Outcome words source sink Unread Unwritten ReadFault
-  too_many : (form : Form) → form_of words ≡ Some form → source.faults' ≡ source.faults → TakesTooMany source.left source.left' → Unwritten → sink.faults' ≡ sink.faults → Outcome words source sink Unread Unwritten TooLong
-  no_memory : (form : Form) → form_of words ≡ Some form → source.faults' ≡ source.faults → TakesAtMost 1048576 source.left source.left' → Unwritten → sink.faults' ≡ sink.faults → Outcome words source sink Unread Unwritten Memory
-  answered : (form : Form) (bytes : List ℕ) (status : Status) → form_of words ≡ Some form → SaysWell form bytes → source.faults' ≡ source.faults → ReadsWhole source.left source.left' bytes → Writes (command_answer form bytes).status (command_answer form bytes).output sink status → Outcome words source sink Unread Unwritten status
+pub data Outcome (carry : Carry) (restarts : Restarts) (words : List (List ℕ)) (source : SourceChange) (sink : SinkChange) (Unread Unwritten : Type 0) : Status → Type 0 where
+  no_form : form_of words ≡ None → Unread → Unwritten → source.faults' ≡ source.faults → sink.faults' ≡ sink.faults → Outcome carry restarts words source sink Unread Unwritten BadWords
+  unreadable : (form : Form) → form_of words ≡ Some form → source.faults ≤ source.faults' → Rose source.faults source.faults' → TakesAtMost 1048576 source.left source.left' → Unwritten → sink.faults' ≡ sink.faults → Outcome carry restarts words source sink Unread Unwritten ReadFault
+  too_many : (form : Form) → form_of words ≡ Some form → source.faults' ≡ source.faults → TakesTooMany source.left source.left' → Unwritten → sink.faults' ≡ sink.faults → Outcome carry restarts words source sink Unread Unwritten TooLong
+  no_memory : (form : Form) → form_of words ≡ Some form → source.faults' ≡ source.faults → TakesAtMost 1048576 source.left source.left' → Unwritten → sink.faults' ≡ sink.faults → Outcome carry restarts words source sink Unread Unwritten Memory
+  answered : (form : Form) (bytes : List ℕ) (status : Status) → form_of words ≡ Some form → SaysWell form bytes → source.faults' ≡ source.faults → ReadsWhole source.left source.left' bytes → Writes (command_answer carry restarts form bytes).status (command_answer carry restarts form bytes).output sink status → Outcome carry restarts words source sink Unread Unwritten status

@@ -4,6 +4,7 @@ use Rattle.std.specs.Prelude.{◌≡◌, ℕ, ◌<◌, ◌≤◌, Bool, true, fa
 use Rattle.std.specs.Io.KnownBytes.{Appends, Consumes, IsAtEnd}
 use Rattle.sercos_io.specs.declared.status.Status.{Status}
 use Rattle.sercos_io.specs.declared.status.Status.TheVariants.{BadWords, Refused, ReadFault, WriteFault, Memory, TooLong}
+use Rattle.sercos_script.specs.Links.{Carry, Restarts}
 use Rattle.sercos_app.specs.Answer.{answer_of}
 use Rattle.sercos_app.specs.Show.{Answer}
 use Rattle.sercos_app.specs.Planning.{plan_text}
@@ -45,20 +46,20 @@ pub record TakesTooMany (old new : Option (List ℕ)) : Type 0 where
   pub consumed : Consumes old new taken
 
 -- the source was read to its end, the answer to its bytes has this status, and its whole output was appended
-pub record IsAnswered (words : List (List ℕ)) (status : Status) (left left' held held' : Option (List ℕ)) : Type 0 where
+pub record IsAnswered (carry : Carry) (restarts : Restarts) (words : List (List ℕ)) (status : Status) (left left' held held' : Option (List ℕ)) : Type 0 where
   pub bytes : List ℕ
   pub read : ReadsWhole left left' bytes
-  pub status_is : (answer_of words bytes).status ≡ status
-  pub written : Appends held held' (answer_of words bytes).output
+  pub status_is : (answer_of carry restarts words bytes).status ≡ status
+  pub written : Appends held held' (answer_of carry restarts words bytes).output
 
 -- the same, but that writing failed after a prefix of the output, short of the whole
-pub record IsCutShort (words : List (List ℕ)) (status : Status) (left left' held held' : Option (List ℕ)) : Type 0 where
+pub record IsCutShort (carry : Carry) (restarts : Restarts) (words : List (List ℕ)) (status : Status) (left left' held held' : Option (List ℕ)) : Type 0 where
   pub bytes : List ℕ
   pub read : ReadsWhole left left' bytes
-  pub status_is : fault_status (answer_of words bytes).status ≡ status
+  pub status_is : fault_status (answer_of carry restarts words bytes).status ≡ status
   pub count : ℕ
-  pub short : count < length (answer_of words bytes).output
-  pub written : Appends held held' (take count (answer_of words bytes).output)
+  pub short : count < length (answer_of carry restarts words bytes).output
+  pub written : Appends held held' (take count (answer_of carry restarts words bytes).output)
 
 -- this answer was given: its status, and its whole output, which was appended
 pub record IsAnswer (answer : Answer) (status : Status) (held held' : Option (List ℕ)) : Type 0 where

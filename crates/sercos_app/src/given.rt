@@ -2,7 +2,7 @@
 ghost use Rattle.std.specs.Prelude.{◌≡◌, ◌≢◌, MatchResult};
 ghost use Rattle.sercos_app.specs.Given.{IsWritable, given_status, given_text};
 ghost use Rattle.sercos_document.specs.Lines.{line_of};
-ghost use Rattle.sercos_app.specs.Outcome.{Writes};
+ghost use Rattle.sercos_app.specs.Outcome.{Writes, changed};
 ghost use Rattle.sercos_app.specs.TopCall.{fault_status};
 
 use crate::show::Reply;
@@ -43,14 +43,7 @@ fn fault_status(status: Status) -> Status
 // Writes a reply, and answers its status, or that of a failed write.
 fn give_reply<K: Sink>(reply: &Reply, sink: &mut K) -> Status
     ensures { Writes reply.now.status reply.now.text.items
-        (record {
-          held = K.held sink.old;
-          held' = K.held sink.new;
-          faults = K.faults sink.old;
-          faults' = K.faults sink.new;
-          room = K.room sink.old;
-        })
-        result }
+        (changed K.held K.faults K.room sink.old sink.new) result }
 {
     match write_all(sink, reply.text.as_slice()) {
         Ok(()) => reply.status,
@@ -62,14 +55,7 @@ fn give_reply<K: Sink>(reply: &Reply, sink: &mut K) -> Status
 fn give_refusal<K: Sink>(bad: &BadDocument, sink: &mut K) -> Status
     requires { bad.now ≢ BadDocument.Memory }
     ensures { Writes Status.Refused (line_of bad.now)
-        (record {
-          held = K.held sink.old;
-          held' = K.held sink.new;
-          faults = K.faults sink.old;
-          faults' = K.faults sink.new;
-          room = K.room sink.old;
-        })
-        result }
+        (changed K.held K.faults K.room sink.old sink.new) result }
 {
     match write_refusal(bad, sink) {
         Ok(()) => Status::Refused,
@@ -81,14 +67,7 @@ fn give_refusal<K: Sink>(bad: &BadDocument, sink: &mut K) -> Status
 pub fn give<K: Sink>(given: &Given, sink: &mut K) -> Status
     requires { IsWritable given.now }
     ensures { Writes (given_status given.now) (given_text given.now)
-        (record {
-          held = K.held sink.old;
-          held' = K.held sink.new;
-          faults = K.faults sink.old;
-          faults' = K.faults sink.new;
-          room = K.room sink.old;
-        })
-        result }
+        (changed K.held K.faults K.room sink.old sink.new) result }
 {
     match given {
         Given::Reply(reply) => give_reply(reply, sink),

@@ -14,4 +14,5 @@ mod top_call;
 
 pub use law::line_law;
 pub use over_memory::answer_in_memory;
+pub use sercos_script::Clean;
 pub use top_call::sercos;

@@ -7,24 +7,26 @@ ghost use Rattle.sercos_app.specs.TopCall.{IsAnswer};
 
 use crate::top_call::sercos;
 use sercos_io::{MemorySink, PlainSource, Status, Words};
+use sercos_script::BitLink;
 use std::alloc::Global;
 
 /// The top call over a source that never fails and a sink in memory. Where the words are a command's, the input has at
 /// most 1,048,576 bytes, and the sink fails no call and has room for the whole output, nothing outside can fail: the
 /// answer is given whole, or memory was wanting. Else the answer is that of [`sercos`], by its causes.
-pub fn answer_in_memory(
+pub fn answer_in_memory<L: BitLink>(
     alloc: Global,
     words: &Words,
     source: &mut PlainSource,
     sink: &mut MemorySink,
+    link: L,
 ) -> Status
     ensures { form_of words.now ≢ None
         → length source.old ≤ 1048576
         → length sink.old.failing ≡ 0
         → sink.old.faults < last_count
-        → length (answer_of words.now source.old).output ≤ sink.old.spare
+        → length (answer_of (L.carry link) (L.restart link) words.now source.old).output ≤ sink.old.spare
         → (result ≡ Status.Memory)
-        ⊎ IsAnswer (answer_of words.now source.old) result (Some sink.old.held) (Some sink.new.held) }
+        ⊎ IsAnswer (answer_of (L.carry link) (L.restart link) words.now source.old) result (Some sink.old.held) (Some sink.new.held) }
 {
-    sercos(alloc, words, source, sink)
+    sercos(alloc, words, source, sink, link)
 }

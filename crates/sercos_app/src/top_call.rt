@@ -3,8 +3,10 @@ ghost use Rattle.std.specs.Prelude.{◌≡◌, ◌≢◌, ◌↔◌, ℕ, ◌≤
 ghost use Rattle.sercos_model.specs.Streams.{Rose};
 ghost use Rattle.sercos_app.specs.Answer.{answer_of, command_answer, SaysWell};
 ghost use Rattle.sercos_app.specs.Form.{form_of};
-ghost use Rattle.sercos_app.specs.Given.{Gives};
-ghost use Rattle.sercos_app.specs.Outcome.{Outcome};
+ghost use Rattle.sercos_app.specs.Given.{Gives, IsWritable};
+ghost use Rattle.sercos_app.specs.Outcome.{Outcome, Replies, GivesMade, changed};
+ghost use Rattle.sercos_app.specs.Planning.{PlansItsRing, plan_answer};
+ghost use Rattle.sercos_app.specs.Show.{show_answer};
 ghost use Rattle.sercos_app.specs.TopCall.{writes_nothing, TakesAtMost, TakesTooMany, IsAnswered, IsCutShort, IsAnswer, NonePlanned, LeastPlanned};
 
 use crate::form::{Form, form_of};
@@ -12,39 +14,88 @@ use crate::given::{Given, give, refused};
 use crate::planning::plan;
 use crate::show::show;
 use sercos_io::{ReadAll, Sink, Source, Status, Words, read_all};
+use sercos_script::BitLink;
 use std::alloc::{AllocError, Global};
 
-// What a command gives for an input.
+// What `show` gives for an input.
+fn shown(alloc: Global, text: &[u8]) -> Result<Given, AllocError>
+    ensures { IfOk result (λ given. Gives given (show_answer text.now)) }
+{
+    Ok(Given::Reply(show(alloc, text)?))
+}
+
+// What `plan` gives for an input.
+fn planned(alloc: Global, bytes: &[u8]) -> Result<Given, AllocError>
+    ensures given { IfOk result (λ given. Gives given (plan_answer bytes.now)) }
+    ensures says { IfOk result (λ _. PlansItsRing bytes.now) }
+{
+    match plan(alloc, bytes) {
+        Ok(reply) => Ok(Given::Reply(reply)),
+        Err(bad) => refused(bad),
+    }
+}
+
+// Writes what a command gives, if memory was found for it.
+fn give_made<K: Sink>(made: &Result<Given, AllocError>, sink: &mut K) -> Status
+    requires { IfOk made.now IsWritable }
+    ensures { GivesMade made.now (changed K.held K.faults K.room sink.old sink.new) (sink.new ≡ sink.old) result }
+{
+    match made {
+        Ok(given) => give(given, sink),
+        Err(_) => Status::Memory,
+    }
+}
+
+// Answers an input by `show`.
+fn answer_show<K: Sink>(alloc: Global, text: &[u8], sink: &mut K) -> Status
+    ensures { Replies (show_answer text.now) (Unit {0})
+        (changed K.held K.faults K.room sink.old sink.new) (sink.new ≡ sink.old) result }
+{
+    give_made(&shown(alloc, text), sink)
+}
+
+// Answers an input by `plan`.
+fn answer_plan<K: Sink>(alloc: Global, bytes: &[u8], sink: &mut K) -> Status
+    ensures { Replies (plan_answer bytes.now) (PlansItsRing bytes.now)
+        (changed K.held K.faults K.room sink.old sink.new) (sink.new ≡ sink.old) result }
+{
+    give_made(&planned(alloc, bytes), sink)
+}
+
+// Answers an input by the command of a form.
 #[tactic(auto, unfolding(crate::specs::Answer::command_answer))]
-fn given_by(alloc: Global, form: Form, bytes: &[u8]) -> Result<Given, AllocError>
-    ensures given { IfOk result (λ given. Gives given (command_answer form bytes.now)) }
-    ensures says { IfOk result (λ _. SaysWell form bytes.now) }
+fn answer<K: Sink, L: BitLink>(
+    alloc: Global,
+    form: Form,
+    bytes: &[u8],
+    sink: &mut K,
+    link: L,
+) -> Status
+    ensures { Replies (command_answer (L.carry link) (L.restart link) form bytes.now) (SaysWell form bytes.now)
+        (changed K.held K.faults K.room sink.old sink.new) (sink.new ≡ sink.old) result }
 {
     match form {
-        Form::Show => Ok(Given::Reply(show(alloc, bytes)?)),
-        Form::Plan => match plan(alloc, bytes) {
-            Ok(reply) => Ok(Given::Reply(reply)),
-            Err(bad) => refused(bad),
-        },
+        Form::Show => answer_show(alloc, bytes, sink),
+        Form::Plan => answer_plan(alloc, bytes, sink),
     }
 }
 
 // Reads the input, and gives the reply to it.
-fn respond<S: Source, K: Sink>(alloc: Global, words: &Words, source: &mut S, sink: &mut K) -> Status
-    ensures { Outcome words.now
+fn respond<S: Source, K: Sink, L: BitLink>(
+    alloc: Global,
+    words: &Words,
+    source: &mut S,
+    sink: &mut K,
+    link: L,
+) -> Status
+    ensures { Outcome (L.carry link) (L.restart link) words.now
         (record {
           left = S.left source.old;
           left' = S.left source.new;
           faults = S.faults source.old;
           faults' = S.faults source.new;
         })
-        (record {
-          held = K.held sink.old;
-          held' = K.held sink.new;
-          faults = K.faults sink.old;
-          faults' = K.faults sink.new;
-          room = K.room sink.old;
-        })
+        (changed K.held K.faults K.room sink.old sink.new)
         (source.new ≡ source.old) (sink.new ≡ sink.old) result }
 {
     let Some(form) = form_of(words) else {
@@ -56,10 +107,7 @@ fn respond<S: Source, K: Sink>(alloc: Global, words: &Words, source: &mut S, sin
         Err(ReadAll::TooLong) => return Status::TooLong,
         Err(ReadAll::Memory) => return Status::Memory,
     };
-    match given_by(alloc, form, bytes.as_slice()) {
-        Ok(given) => give(&given, sink),
-        Err(_) => Status::Memory,
-    }
+    answer(alloc, form, bytes.as_slice(), sink, link)
 }
 
 /// Runs the command that the words name, over one input and one output, and answers the status with which it ends.
@@ -71,11 +119,12 @@ fn respond<S: Source, K: Sink>(alloc: Global, words: &Words, source: &mut S, sin
 /// nothing is read. `ReadFault` comes where a read failed, `TooLong` where the input is longer, and `Memory` where no
 /// memory was found; then nothing is written. A refused input is `Refused`, also where its line could not be written
 /// whole. Where a write failed else, the status is `WriteFault`, and the sink has taken a prefix of the output.
-pub fn sercos<S: Source, K: Sink>(
+pub fn sercos<S: Source, K: Sink, L: BitLink>(
     alloc: Global,
     words: &Words,
     source: &mut S,
     sink: &mut K,
+    link: L,
 ) -> Status
     // The words come first: those in no form are refused before anything is read.
     ensures bad_words { (result ≡ Status.BadWords) ↔ (form_of words.now ≡ None) }
@@ -97,9 +146,9 @@ pub fn sercos<S: Source, K: Sink>(
 
     // Done and No come only where the input was read to its end, its answer has this status, and the whole output was
     // appended.
-    ensures done { result ≡ Status.Done → IsAnswered words.now Status.Done
+    ensures done { result ≡ Status.Done → IsAnswered (L.carry link) (L.restart link) words.now Status.Done
         (S.left source.old) (S.left source.new) (K.held sink.old) (K.held sink.new) }
-    ensures no { result ≡ Status.No → IsAnswered words.now Status.No
+    ensures no { result ≡ Status.No → IsAnswered (L.carry link) (L.restart link) words.now Status.No
         (S.left source.old) (S.left source.new) (K.held sink.old) (K.held sink.new) }
 
     // No comes from `plan` only where no plan fits the ring that was read, whatever plan it is; and Done only with the text
@@ -111,14 +160,14 @@ pub fn sercos<S: Source, K: Sink>(
 
     // So does Refused; but where writing the refusal failed, a prefix of it was appended.
     ensures refused { result ≡ Status.Refused →
-        ((K.faults sink.new ≡ K.faults sink.old) × IsAnswered words.now Status.Refused
+        ((K.faults sink.new ≡ K.faults sink.old) × IsAnswered (L.carry link) (L.restart link) words.now Status.Refused
         (S.left source.old) (S.left source.new) (K.held sink.old) (K.held sink.new))
-        ⊎ (Rose (K.faults sink.old) (K.faults sink.new) × IsCutShort words.now Status.Refused
+        ⊎ (Rose (K.faults sink.old) (K.faults sink.new) × IsCutShort (L.carry link) (L.restart link) words.now Status.Refused
         (S.left source.old) (S.left source.new) (K.held sink.old) (K.held sink.new)) }
 
     // WriteFault comes only where the sink's count rose, after a prefix of the output; elsewhere no write failed.
     ensures write_fault { result ≡ Status.WriteFault →
-        Rose (K.faults sink.old) (K.faults sink.new) × IsCutShort words.now Status.WriteFault
+        Rose (K.faults sink.old) (K.faults sink.new) × IsCutShort (L.carry link) (L.restart link) words.now Status.WriteFault
         (S.left source.old) (S.left source.new) (K.held sink.old) (K.held sink.new) }
     ensures write_count { K.faults sink.old ≤ K.faults sink.new }
     ensures write_well { result ≢ Status.WriteFault → result ≢ Status.Refused →
@@ -131,11 +180,11 @@ pub fn sercos<S: Source, K: Sink>(
         → (Rose (S.faults source.old) (S.faults source.new) → ⊥)
         → (Rose (K.faults sink.old) (K.faults sink.new) → ⊥)
         → (result ≡ Status.Memory)
-        ⊎ IsAnswer (answer_of words.now bytes) result (K.held sink.old) (K.held sink.new) }
+        ⊎ IsAnswer (answer_of (L.carry link) (L.restart link) words.now bytes) result (K.held sink.old) (K.held sink.new) }
     ensures refuses { (bytes : List ℕ) → S.left source.old ≡ Some bytes → length bytes ≤ 1048576
         → form_of words.now ≢ None
         → (Rose (S.faults source.old) (S.faults source.new) → ⊥)
-        → (answer_of words.now bytes).status ≡ Status.Refused
+        → (answer_of (L.carry link) (L.restart link) words.now bytes).status ≡ Status.Refused
         → (result ≡ Status.Memory) ⊎ (result ≡ Status.Refused) }
 
     // A longer input is TooLong, or Memory.
@@ -146,8 +195,8 @@ pub fn sercos<S: Source, K: Sink>(
 
     // A sink that has room for the whole output doesn't fail.
     ensures room { (bytes : List ℕ) → S.left source.old ≡ Some bytes
-        → length (answer_of words.now bytes).output ≤ K.room sink.old
+        → length (answer_of (L.carry link) (L.restart link) words.now bytes).output ≤ K.room sink.old
         → K.faults sink.new ≡ K.faults sink.old }
 {
-    respond(alloc, words, source, sink)
+    respond(alloc, words, source, sink, link)
 }

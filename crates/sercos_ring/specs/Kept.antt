@@ -9,7 +9,7 @@ use Rattle.sercos_master.specs.declared.master.AnyMaster.{AnyMaster}
 use Rattle.sercos_master.specs.Annals.{Call}
 use Rattle.sercos_master.specs.Any.{AnyStandsFor}
 use Rattle.sercos_script.specs.Links.{Carry, Restarts}
-use Rattle.sercos_ring.specs.Runs.{drive_at, master_calls, given_before, IsRun}
+use Rattle.sercos_ring.specs.Runs.{drive_at, master_calls, given_before, IsNext, IsRun}
 use Rattle.sercos_ring.specs.Stations.{AllStand, addresses_below}
 use Rattle.sercos_ring.specs.Parts.{PartsStandFor}
 use Rattle.sercos_ring.specs.declared.ring.Ring.{Ring}
@@ -63,3 +63,8 @@ pub record AfterCycle {L : Type 0} (carry_of : L → Carry) (restart_of : L → 
       → RingStandsFor carry_of restart_of new r jobs carry restarts (newest new ∷ j)
   pub count : cycles_made new ≤ cycles_made old + 1
   pub drives : drives_in new ≡ drives_in old
+
+-- a record is that of the next cycle of a ring, whatever the ring stands for
+pub record IsNextOf {L : Type 0} (carry_of : L → Carry) (restart_of : L → Restarts) (ring : Ring L) (made : CycleView) : Type 0 where
+  pub next : (r : RingView) (jobs : List Job) (carry : Carry) (restarts : Restarts) (j : List CycleView)
+      → RingStandsFor carry_of restart_of ring r jobs carry restarts j → IsNext r jobs carry restarts made j

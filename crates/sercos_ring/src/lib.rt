@@ -1,6 +1,7 @@
 //! The ring: its drives and its master, and the link between them.
 #![tactic(auto)]
 
+mod law;
 mod moves;
 mod opening;
 mod receiving;
@@ -10,5 +11,6 @@ mod sending;
 mod stations;
 mod turns;
 
+pub use law::standing_law;
 pub use ring::Ring;
 pub use run::run_law;

@@ -208,7 +208,7 @@ impl<L: BitLink> Ring<L> {
     ghost use Rattle.std.specs.Borrow.{follows_so};
     ghost use mathlib.Core.Option.{none};
     ghost use Rattle.sercos_ring.specs.contracts.ring.Ring.{the_row};
-    ghost use Rattle.sercos_ring.specs.Kept.{AfterCycle, AfterTurn, RingStandsFor, cycles_made, drives_in, newest};
+    ghost use Rattle.sercos_ring.specs.Kept.{AfterCycle, AfterTurn, IsNextOf, RingStandsFor, cycles_made, drives_in, newest};
 
     /// Opens a ring of a valid setup, with at most 4,096 requests, in its first cycle. A request to an address that no drive of
     /// the setup has is never begun. `AllocError` comes where memory isn't found, and then nothing is left behind.
@@ -274,6 +274,7 @@ impl<L: BitLink> Ring<L> {
     fn go(&mut self)
         requires room { cycles_made self.old < 2 ^ 31 }
         ensures after { AfterCycle L.carry L.restart self.old self.new }
+        ensures next { IsNextOf L.carry L.restart self.old (newest self.new) }
     {
         if let Some(master) = self.master.take() {
             let master = self.run(master);
@@ -285,6 +286,7 @@ impl<L: BitLink> Ring<L> {
     pub fn cycle(&mut self) -> &CycleRecord
         requires room { cycles_made self.old < 2 ^ 31 }
         ensures* after { sem 𝓛 (follows_so (the_row L.row) (the_row L.row) self.entry.ghost_name none (λ _ _. ⊤) (λ new. AfterCycle L.carry L.restart self.old new × (result.now ≡ newest new))) }
+        ensures next { IsNextOf L.carry L.restart self.old result.now }
     {
         self.go();
         &self.record

@@ -1,6 +1,6 @@
 // What the top call answers where its source or its sink fails, and where memory does.
 use crate::show::{answer, words_of};
-use sercos_app::sercos;
+use sercos_app::{Clean, sercos};
 use sercos_io::{MemorySink, MemorySource, PlainSource, Status};
 use std::alloc::Global;
 use std::test::Fail;
@@ -15,7 +15,7 @@ fn failing_reads(rt: HostRuntime) -> Result<(), Fail> {
         let failing = Vec::from_slice(alloc, &[call])?;
         let mut source = MemorySource::new(Vec::from_slice(alloc, LINE)?, 8, failing);
         let mut sink = MemorySink::new(Vec::with_capacity(alloc, 64)?, 64, Vec::new(alloc));
-        let status = sercos(alloc, &words, &mut source, &mut sink);
+        let status = sercos(alloc, &words, &mut source, &mut sink, Clean);
         assert_eq!(rt; status, Status::ReadFault, "read {call}");
         assert_eq!(rt; sink.as_slice().len(), 0, "read {call}");
     }
@@ -38,7 +38,7 @@ fn failing_writes(rt: HostRuntime) -> Result<(), Fail> {
         let mut source = PlainSource::new(Vec::from_slice(alloc, LINE)?);
         let mut sink = MemorySink::new(Vec::with_capacity(alloc, room)?, 5, failing);
         assert_eq!(rt;
-            sercos(alloc, &words, &mut source, &mut sink),
+            sercos(alloc, &words, &mut source, &mut sink, Clean),
             status,
             "write {call}"
         );
@@ -55,7 +55,7 @@ fn refusal_cut_short(rt: HostRuntime) -> Result<(), Fail> {
     let mut source = PlainSource::new(Vec::from_slice(alloc, b"raw x\n")?);
     let mut sink = MemorySink::new(Vec::with_capacity(alloc, 7)?, 5, Vec::new(alloc));
     assert_eq!(rt;
-        sercos(alloc, &words, &mut source, &mut sink),
+        sercos(alloc, &words, &mut source, &mut sink, Clean),
         Status::Refused
     );
     assert_eq!(rt; sink.as_slice(), b"refused".as_slice());
@@ -67,7 +67,7 @@ fn feeds(alloc: Global, count: usize) -> Result<(Status, usize), Fail> {
     let words = words_of(alloc, "show")?;
     let mut source = PlainSource::new(vec![in alloc; 10u8; count]?);
     let mut sink = MemorySink::new(Vec::with_capacity(alloc, 64)?, 64, Vec::new(alloc));
-    let status = sercos(alloc, &words, &mut source, &mut sink);
+    let status = sercos(alloc, &words, &mut source, &mut sink, Clean);
     Ok((status, sink.as_slice().len()))
 }
 

@@ -1,7 +1,7 @@
 // Ring documents and their plans: the layers below the top call, and the top call where source or sink fail.
 use crate::show::words_of;
 use arrayvec::ArrayVec;
-use sercos_app::sercos;
+use sercos_app::{Clean, sercos};
 use sercos_config::{BadDocument, read_ring, write_refusal};
 use sercos_io::{MemorySink, MemorySource, PlainSource, Status};
 use sercos_plan::{Chain, Link, check_chain, plan};
@@ -251,13 +251,13 @@ fn bad_sources(rt: HostRuntime) -> Result<(), Fail> {
     let mut sink = MemorySink::new(Vec::with_capacity(alloc, 64)?, 64, Vec::new(alloc));
     let mut long = PlainSource::new(vec![in alloc; 10u8; 1_048_577]?);
     assert_eq!(rt;
-        sercos(alloc, &words, &mut long, &mut sink),
+        sercos(alloc, &words, &mut long, &mut sink, Clean),
         Status::TooLong
     );
     let failing = Vec::from_slice(alloc, &[1u32])?;
     let mut source = MemorySource::new(document(alloc, "250")?, 64, failing);
     assert_eq!(rt;
-        sercos(alloc, &words, &mut source, &mut sink),
+        sercos(alloc, &words, &mut source, &mut sink, Clean),
         Status::ReadFault
     );
     assert_eq!(rt; sink.as_slice().len(), 0);
@@ -273,7 +273,7 @@ fn bad_sinks(rt: HostRuntime) -> Result<(), Fail> {
         let mut source = PlainSource::new(document(alloc, "250")?);
         let failing = Vec::from_slice(alloc, &[call])?;
         let mut sink = MemorySink::new(Vec::with_capacity(alloc, 128)?, 8, failing);
-        let status = sercos(alloc, &words, &mut source, &mut sink);
+        let status = sercos(alloc, &words, &mut source, &mut sink, Clean);
         let held = (8 * (call as usize - 1)).min(ANSWER.len());
         let wanted = if held < ANSWER.len() {
             Status::WriteFault

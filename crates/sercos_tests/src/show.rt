@@ -1,5 +1,5 @@
 // Worked examples of `show`, over a source and a sink in memory.
-use sercos_app::{answer_in_memory, sercos};
+use sercos_app::{Clean, answer_in_memory, sercos};
 use sercos_io::{MemorySink, MemorySource, PlainSource, Status, Words};
 use std::alloc::{AllocError, Global};
 use std::test::Fail;
@@ -19,7 +19,7 @@ pub fn answer(alloc: Global, line: &str, input: &str) -> Result<(Status, MemoryS
     let bytes = Vec::from_slice(alloc, input.as_bytes())?;
     let mut source = MemorySource::new(bytes, 7, Vec::new(alloc));
     let mut sink = MemorySink::new(Vec::with_capacity(alloc, 4096)?, 5, Vec::new(alloc));
-    let status = sercos(alloc, &words, &mut source, &mut sink);
+    let status = sercos(alloc, &words, &mut source, &mut sink, Clean);
     Ok((status, sink))
 }
 
@@ -194,7 +194,7 @@ fn answered_in_memory(rt: HostRuntime) -> Result<(), Fail> {
         let mut source = PlainSource::new(Vec::from_slice(alloc, input.as_bytes())?);
         let mut sink = MemorySink::new(Vec::with_capacity(alloc, 64)?, 64, Vec::new(alloc));
         assert_eq!(rt;
-            answer_in_memory(alloc, &words, &mut source, &mut sink),
+            answer_in_memory(alloc, &words, &mut source, &mut sink, Clean),
             status,
             "{input}"
         );

@@ -12,7 +12,7 @@ still a b same below (inl more) = omega arith
 still a b same below (inr last) = omega arith
 
 pub returns : goal.returns
-returns c form fits none below spare =
+returns g c form fits none below spare =
     let whole = room c.args.sink.now none below in
     let same = c.sercos.ensures.room c.args.source.now refl (rw whole spare) in
     c.sercos.ensures.answers c.args.source.now refl fits form (still 0 0 refl (omega arith)) (still _ _ same below)

@@ -1,6 +1,7 @@
 use Rattle.std.proofs.Common.{sym, ◌∙◌, refl, ap, Err}
 use Rattle.sercos_app.specs.TopCall.{TakesAtMost}
-use Rattle.sercos_app.specs.Outcome.Outcome.{no_form, unreadable, too_many, no_memory, answered}
+use Rattle.sercos_app.specs.Outcome.Outcome.{no_form, unreadable, too_many, no_memory}
+use Rattle.sercos_app.proofs.ReplyLemmas.{answer_ends}
 use Rattle.sercos_app.proofs.top_call.respond.Goals as goal
 
 pub returns-in_default : goal.returns-in_default
@@ -26,17 +27,8 @@ returns-in-Err-Memory g c =
     let takes : TakesAtMost 1048576 _ _ = record { taken = lost.0; few = lost.2; consumed = lost.1 } in
     no_memory c.in-Some.form (sym c.in-Some.ensures) cause takes refl refl
 
-pub returns-in-Ok-given_by : goal.returns-in-Ok-given_by
-returns-in-Ok-given_by g c =
-    let read = c.in-Ok.ensures.ok in
-    let gives = rw (c.as_slice.ensures.value) at c.in-Ok-given_by.ensures.given in
-    let says = rw (c.as_slice.ensures.value) at c.in-Ok-given_by.ensures.says in
-    answered c.in-Some.form c.in-Ok.bytes.items _ (sym c.in-Some.ensures) says c.in-Ok.ensures.cause
-    (record { consumed = read.0; ended = read.1; fits = read.2 })
-    (rw (← gives.status, ← gives.text) c.give.ensures)
-
 pub returns : goal.returns
 returns g c =
     let read = c.in-Ok.ensures.ok in
-    no_memory c.in-Some.form (sym c.in-Some.ensures) c.in-Ok.ensures.cause
-    (record { taken = c.in-Ok.bytes.items; few = read.2; consumed = read.0 }) refl refl
+    answer_ends _ _ _ c.in-Some.form c.in-Ok.bytes.items _ _ _ _ _ (sym c.in-Some.ensures) c.in-Ok.ensures.cause
+    (record { consumed = read.0; ended = read.1; fits = read.2 }) (ap g.K.Sink.faults) (rw (c.as_slice.ensures.value) at c.answer.ensures)
