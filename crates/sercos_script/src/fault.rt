@@ -59,7 +59,12 @@ pub struct Fault {
 
 // The value of an unused place in an array: a fault that never acts, as its last cycle is before its first.
 impl Default for Fault {
-    fn default() -> Fault {
+    ghost use Rattle.std.specs.Prelude.{◌≡◌, ℕ, false};
+    ghost use Rattle.sercos_script.specs.Scripts.{acts};
+
+    fn default() -> Fault
+        ensures { (cycle : ℕ) → acts cycle result ≡ false }
+    {
         Fault {
             cycle: 1,
             last: 0,

@@ -2,7 +2,7 @@
 ghost use Rattle.std.specs.Prelude.{◌≡◌, true, ℕ, Bool, List};
 ghost use Rattle.std.specs.List.{filter};
 ghost use Rattle.std.specs.List.Sorted.{IsNonDecreasingBy};
-ghost use Rattle.sercos_script.specs.Lanes.{lane_of, is_in, IsGathered, candidates};
+ghost use Rattle.sercos_script.specs.Lanes.{key_of, is_in, AreByLink, IsGathered, candidates};
 ghost use Rattle.sercos_script.specs.Scripts.{acts, carried, restarts_at};
 
 use crate::effect::acts;
@@ -88,18 +88,19 @@ impl Gathered {
     // Returns the faults of a lane, among them all that act in this cycle.
     fn in_lane<'a>(&'a self, script: &'a [Fault], lane: u16) -> &'a [Fault]
         requires gathered { IsGathered script.now self.now }
-        requires sorted { IsNonDecreasingBy lane_of script.now }
+        requires sorted { IsNonDecreasingBy key_of script.now }
         ensures { result.now ≡ filter (is_in lane) (candidates script.now self.now) }
     {
         in_lane(self.candidates(script), lane)
     }
 
-    // Returns faults that do to a passage of this cycle what the script does.
+    // Returns faults that do to a passage of this cycle what the script does, in the order of their links.
     pub(crate) fn on_passage<'a>(&'a self, script: &'a [Fault], p: &Passage) -> &'a [Fault]
         requires gathered { IsGathered script.now self.now }
-        requires sorted { IsNonDecreasingBy lane_of script.now }
+        requires sorted { IsNonDecreasingBy key_of script.now }
         requires cycle { p.now.cycle ≡ self.now.cycle }
-        ensures { (stations : ℕ) (bits : List Bool) → carried stations result.now p.now bits ≡ carried stations script.now p.now bits }
+        ensures same { (stations : ℕ) (bits : List Bool) → carried stations result.now p.now bits ≡ carried stations script.now p.now bits }
+        ensures sorted { AreByLink result.now }
     {
         self.in_lane(script, telegram_lane(p.kind, p.from))
     }
@@ -107,7 +108,7 @@ impl Gathered {
     // Returns faults that restart a station in this cycle if the script does.
     pub(crate) fn on_station<'a>(&'a self, script: &'a [Fault], station: u8) -> &'a [Fault]
         requires gathered { IsGathered script.now self.now }
-        requires sorted { IsNonDecreasingBy lane_of script.now }
+        requires sorted { IsNonDecreasingBy key_of script.now }
         ensures { restarts_at result.now self.now.cycle station ≡ restarts_at script.now self.now.cycle station }
     {
         self.in_lane(script, restart_lane(station))

@@ -1,34 +1,38 @@
 // What faults do to a passage over the links of its path.
 ghost use Rattle.std.specs.Prelude.{◌≡◌, ◌≤◌, ◌+◌};
 ghost use Rattle.std.specs.List.{filter, list_any};
+ghost use Rattle.sercos_script.specs.Lanes.{AreByLink, over_path};
 ghost use Rattle.sercos_script.specs.Links.{arrived};
-ghost use Rattle.sercos_script.specs.Scripts.{acts, concerns, over_link, over_links, is_deaf, is_restart, links_between, carried, restarts_at};
+ghost use Rattle.sercos_script.specs.Scripts.{acts, concerns, over_links, is_deaf, is_restart, links_between, carried, restarts_at};
 
 use crate::effect::{acts, concerns, is_deaf, is_restart, over_fault};
 use crate::fault::Fault;
+use crate::lanes::link_of;
 use crate::link::Passage;
 use sercos_bits::BitBuf;
 
-// Does to the bits on a link what the faults do that concern the passage. Returns whether anything leaves the link.
-fn over_link(faults: &[Fault], p: &Passage, link: u8, bits: &mut BitBuf) -> bool
-    ensures { arrived result bits.new ≡ over_link (filter (concerns p.now) faults.now) link bits.old }
+// Does to the bits on a path of `count` links what a fault does, if it concerns the passage. Returns whether anything leaves
+// the path.
+fn over_path(fault: &Fault, p: &Passage, link: u8, count: u16, bits: &mut BitBuf) -> bool
+    ensures { arrived result bits.new ≡ over_path p.now fault.now link count bits.old }
 {
-    for fault in faults {
-        if concerns(fault, p) && !over_fault(fault.damage, link, bits) {
-            return false;
-        }
+    let at = link_of(fault.damage);
+    if concerns(fault, p) && link <= at && u32::from(at) < u32::from(link) + u32::from(count) {
+        over_fault(fault.damage, at, bits)
+    } else {
+        true
     }
-    true
 }
 
-// The same over `count` links, from the link with this number on.
+// Does to the bits of a passage what the faults do that concern it, on `count` links from the link with this number on. Since
+// the faults are in the order of the links, one pass through them does it. Returns whether anything leaves the last link.
 fn over_links(faults: &[Fault], p: &Passage, link: u8, count: u16, bits: &mut BitBuf) -> bool
-    requires { link + count ≤ 256 }
+    requires range { link + count ≤ 256 }
+    requires sorted { AreByLink faults.now }
     ensures { arrived result bits.new ≡ over_links (filter (concerns p.now) faults.now) link count bits.old }
 {
-    for place in 0..count {
-        let at = (u16::from(link) + place) as u8;
-        if !over_link(faults, p, at, bits) {
+    for fault in faults {
+        if !over_path(fault, p, link, count, bits) {
             return false;
         }
     }
@@ -63,6 +67,7 @@ fn links_between(stations: u8, from: u8, to: u8) -> u16
 // Does to the bits of a passage what the faults do. Returns whether anything arrives.
 #[tactic(auto, unfolding(crate::specs::Scripts::carried))]
 pub(crate) fn carry(faults: &[Fault], stations: u8, p: &Passage, bits: &mut BitBuf) -> bool
+    requires { AreByLink faults.now }
     ensures { arrived result bits.new ≡ carried stations faults.now p.now bits.old }
 {
     if any_deaf(faults, p) {

@@ -1,6 +1,6 @@
 // The links of a ring under a script of faults.
 ghost use Rattle.std.specs.List.Sorted.{IsNonDecreasingBy};
-ghost use Rattle.sercos_script.specs.Lanes.{lane_of, HaveSameLanes};
+ghost use Rattle.sercos_script.specs.Lanes.{key_of, HaveSameOrder};
 
 use crate::fault::Fault;
 use crate::gathered::Gathered;
@@ -12,8 +12,9 @@ use std::marker::Model;
 
 /// The links of a ring under a script of faults (this profile). On each link the faults act in the order of the script.
 ///
-/// The faults that act in a cycle are gathered once, up to 512 of them, so that no passage goes through the whole script. A
-/// passage looks only at those on telegrams of its kind from its sender. More faults are right too, only slower.
+/// The faults are kept sorted by the telegrams on which they act, and by links; faults of the same telegrams and link keep their
+/// order. In each cycle the faults that act are gathered once, at most 512 of them. A passage goes once through those of its
+/// kind and sender. If more act, it goes through all faults of its kind and sender. No call takes memory.
 #[derive(Drop)]
 pub struct Scripted {
     faults: Vec<Fault>,
@@ -23,20 +24,20 @@ pub struct Scripted {
 
 impl Model for Scripted {
     ghost use Rattle.std.specs.List.Sorted.{IsNonDecreasingBy};
-    ghost use Rattle.sercos_script.specs.Lanes.{lane_of, IsGathered};
+    ghost use Rattle.sercos_script.specs.Lanes.{key_of, IsGathered};
     ghost use Rattle.sercos_script.specs.Scripts.{ScriptView};
 
     ghost Value = { ScriptView };
 
     ghost view = { λ s. record { faults = s.faults.items; stations = s.stations } };
 
-    ghost invariant = { λ s. IsNonDecreasingBy lane_of s.faults.items × IsGathered s.faults.items s.gathered };
+    ghost invariant = { λ s. IsNonDecreasingBy key_of s.faults.items × IsGathered s.faults.items s.gathered };
 }
 
-// Returns faults sorted by their lanes.
+// Returns faults sorted by their keys.
 fn sorted(faults: Vec<Fault>) -> Vec<Fault>
-    ensures sorted { IsNonDecreasingBy lane_of result.items }
-    ensures lanes { HaveSameLanes faults.items result.items }
+    ensures sorted { IsNonDecreasingBy key_of result.items }
+    ensures order { HaveSameOrder faults.items result.items }
 {
     let mut faults = faults;
     sort(faults.as_mut_slice());
@@ -47,8 +48,8 @@ impl Scripted {
     ghost use Rattle.std.specs.Prelude.{◌≡◌};
     ghost use Rattle.sercos_script.specs.Scripts.{carried, restarts_at};
 
-    /// Returns the links of a ring of `stations` drives under a script of faults. What they carry and which stations restart is
-    /// that of the script given; it is kept in another order.
+    /// Returns the links of a ring of `stations` drives under a script of faults. What they carry, and which stations restart, is
+    /// what the script given says. Time is quadratic in the number of faults.
     pub fn new(faults: Vec<Fault>, stations: u8) -> Scripted
         ensures carry { carried result.stations result.faults ≡ carried stations faults.items }
         ensures restart { restarts_at result.faults ≡ restarts_at faults.items }

@@ -18,6 +18,8 @@ mod identifiers;
 #[cfg(test)]
 mod layers;
 #[cfg(test)]
+mod links;
+#[cfg(test)]
 mod masters;
 #[cfg(test)]
 mod plans;
