@@ -24,6 +24,8 @@ mod masters;
 #[cfg(test)]
 mod plans;
 #[cfg(test)]
+mod rings;
+#[cfg(test)]
 mod show;
 #[cfg(test)]
 mod station;

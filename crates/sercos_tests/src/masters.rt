@@ -31,7 +31,7 @@ enum Noted {
 
 type Notes = ArrayVec<(u32, Noted), 32>;
 
-// The setup of document A: cycles of 250 microseconds, S-0-0051 in the AT and S-0-0047 in the record.
+// A drive with S-0-0051 in its AT and S-0-0047 in its record.
 fn member(alloc: Global) -> Result<DriveSetup, AllocError> {
     let mut one = drive(alloc)?;
     let _at = one.at.try_push(Idn { raw: 51 });
@@ -39,7 +39,8 @@ fn member(alloc: Global) -> Result<DriveSetup, AllocError> {
     Ok(one)
 }
 
-fn ring(alloc: Global) -> Result<RingSetup, AllocError> {
+// A ring of this drive alone, with cycles of 250 microseconds.
+pub fn ring(alloc: Global) -> Result<RingSetup, AllocError> {
     let one = member(alloc)?;
     let mut order = ArrayVec::new();
     order.push(0);
@@ -57,7 +58,7 @@ fn ring(alloc: Global) -> Result<RingSetup, AllocError> {
 }
 
 // A write of S-0-0047, and then a read of it.
-fn write_and_read(alloc: Global) -> Result<Vec<Job>, AllocError>
+pub fn write_and_read(alloc: Global) -> Result<Vec<Job>, AllocError>
     ensures few { IfOk result (λ jobs. length jobs.items ≤ 4096) }
     ensures requests { IfOk result (λ jobs. All (λ job. IsRequest job.request) jobs.items) }
 {

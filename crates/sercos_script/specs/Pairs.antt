@@ -1,0 +1,8 @@
+-- The two links that one after the other are one.
+use Rattle.sercos_script.specs.declared.link.Both.{Both}
+
+abbrev pub first_of : {A B : Type 0} → Both A B → A
+first_of link = link.first
+
+abbrev pub second_of : {A B : Type 0} → Both A B → B
+second_of link = link.second
