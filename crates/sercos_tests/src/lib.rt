@@ -22,6 +22,8 @@ mod masters;
 #[cfg(test)]
 mod plans;
 #[cfg(test)]
+mod runs;
+#[cfg(test)]
 mod show;
 #[cfg(test)]
 mod station;
