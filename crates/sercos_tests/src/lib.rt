@@ -26,6 +26,8 @@ mod plans;
 #[cfg(test)]
 mod rings;
 #[cfg(test)]
+mod runs;
+#[cfg(test)]
 mod show;
 #[cfg(test)]
 mod station;

@@ -65,7 +65,10 @@ fn writes_once(rt: HostRuntime) -> Result<(), Fail> {
     let drive = ring.drive(0);
     assert_eq!(rt; drive.phase(), 4);
     assert_eq!(rt; drive.writes(), 16);
-    assert_eq!(rt; drive.store().data(Idn { raw: 47 }), [1, 0, 0, 0].as_slice());
+    assert_eq!(rt;
+        drive.store().data(Idn { raw: 47 }),
+        [1, 0, 0, 0].as_slice()
+    );
     Ok(())
 }
 

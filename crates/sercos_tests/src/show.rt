@@ -187,7 +187,7 @@ fn answered_in_memory(rt: HostRuntime) -> Result<(), Fail> {
             Status::Refused,
             "refused line 1 column 5\n",
         ),
-        ("run", "raw x 7e", Status::BadWords, ""),
+        ("check", "raw x 7e", Status::BadWords, ""),
     ];
     for (words, input, status, output) in rows {
         let words = words_of(alloc, words)?;
