@@ -8,3 +8,8 @@ pub mod FormLemmas
 pub mod ShowLemmas
 pub mod Outcomes
 pub mod ReplyLemmas
+pub mod Bounds
+pub mod TotalsLemmas
+pub mod PartLemmas
+pub mod JournalLemmas
+pub mod RunLemmas

@@ -1,28 +1,33 @@
 -- What each way in which the top call can end says for its clauses.
-use Rattle.std.proofs.Common.{◌≡◌, ◌≢◌, ℕ, ◌<◌, ◌≤◌, ◌⊎◌, inl, inr, true, false, IsTrue, List, [], ◌++◌, length, take, Option, Some, None, Result, Ok, Err, refl, sym, ◌∙◌, ap, subst, arith, ◌↔◌, ◌+◌, append-nil, length-append}
+use Rattle.std.proofs.Common.{◌≡◌, ◌≢◌, ℕ, zero, suc, ◌<◌, ◌≤◌, ◌⊎◌, inl, inr, true, false, IsTrue, List, [], ◌++◌, length, take, Option, Some, None, Result, Ok, Err, refl, sym, ◌∙◌, ap, subst, arith, ◌↔◌, ◌+◌, append-nil, length-append}
 use Rattle.std.proofs.lemmas.Bool.{false≢true}
 use Rattle.std.specs.Io.KnownBytes.{Appends, Consumes}
 use Rattle.sercos_model.specs.Streams.{Rose}
 use Rattle.sercos_io.specs.declared.status.Status.{Status}
 use Rattle.sercos_io.specs.declared.status.Status.TheVariants.{Done, No, BadWords, Refused, ReadFault, WriteFault, Memory, TooLong}
 use Rattle.sercos_app.specs.declared.form.Form.{Form}
-use Rattle.sercos_app.specs.declared.form.Form.TheVariants.{Show, Plan}
+use Rattle.sercos_app.specs.declared.form.Form.TheVariants.{Show, Plan, Run}
 use Rattle.sercos_script.specs.Links.{Carry, Restarts}
 use Rattle.sercos_app.specs.Answer.{command_answer, form_answer, answer_of, SaysWell}
 use Rattle.sercos_app.specs.Form.{form_of}
 use Rattle.sercos_app.specs.Show.{show_answer, show_status, first_fault, lines_of}
 use Rattle.sercos_app.specs.Planning.{wishes_answer, document_answer, plan_answer}
+use Rattle.sercos_app.specs.Journals.{journal_text}
+use Rattle.sercos_app.specs.Running.{carry_under, restarts_under, document_run, traced_answer, run_answer}
 use Rattle.sercos_timing.specs.Views.{WishesView, PlanView}
 use Rattle.sercos_plan.specs.Views.{ChainView}
 use Rattle.sercos_plan.specs.ChainOf.{planned}
+use Rattle.sercos_step.specs.declared.request.Job.{Job}
+use Rattle.sercos_block.specs.Views.{RingView}
 use Rattle.sercos_block.specs.Rings.{wishes_of}
+use Rattle.sercos_ring.specs.Runs.{run_of}
 use Rattle.sercos_document.specs.declared.refusal.BadDocument.{BadDocument}
 use Rattle.sercos_config.specs.Views.{DocumentView}
 use Rattle.sercos_config.specs.Document.{document_of}
 use Rattle.sercos_app.specs.Outcome.{SourceChange, SinkChange, Writes, Outcome}
 use Rattle.sercos_app.specs.Outcome.Writes.{whole, short}
 use Rattle.sercos_app.specs.Outcome.Outcome.{no_form, unreadable, too_many, no_memory, answered}
-use Rattle.sercos_app.specs.TopCall.{writes_nothing, fault_status, ReadsWhole, TakesAtMost, TakesTooMany, IsAnswered, IsCutShort, IsAnswer, NonePlanned, LeastPlanned}
+use Rattle.sercos_app.specs.TopCall.{writes_nothing, fault_status, ReadsWhole, TakesAtMost, TakesTooMany, IsAnswered, IsCutShort, IsAnswer, NonePlanned, LeastPlanned, RunTraced}
 
 -- the statuses of answers
 data IsGiven : Status → Type 0 where
@@ -45,10 +50,16 @@ unfolding document_answer
 IsGiven-document (Ok d) = IsGiven-wishes (wishes_of d.setup) (planned (wishes_of d.setup))
 IsGiven-document (Err bad) = refused
 
+IsGiven-traced : (carry : Carry) (restarts : Restarts) (document : Result DocumentView BadDocument) → IsGiven (traced_answer carry restarts document).status
+unfolding traced_answer
+IsGiven-traced carry restarts (Ok d) = done
+IsGiven-traced carry restarts (Err bad) = refused
+
 IsGiven-answer : (carry : Carry) (restarts : Restarts) (form : Form) (bytes : List ℕ) → IsGiven (command_answer carry restarts form bytes).status
-unfolding command_answer show_answer plan_answer
+unfolding command_answer show_answer plan_answer run_answer
 IsGiven-answer carry restarts Show bytes = IsGiven-fault (first_fault 1 (lines_of bytes))
 IsGiven-answer carry restarts Plan bytes = IsGiven-document (document_of bytes)
+IsGiven-answer carry restarts Run bytes = IsGiven-traced carry restarts (document_of bytes)
 
 answer_of-form : (carry : Carry) (restarts : Restarts) (words : List (List ℕ)) (bytes : List ℕ) (form : Form) → form_of words ≡ Some form → answer_of carry restarts words bytes ≡ command_answer carry restarts form bytes
 unfolding answer_of form_answer
@@ -323,18 +334,20 @@ document_read (Ok d) given = (d, refl)
 document_read (Err bad) given = absurd (given refl)
 
 -- what the answers of `plan` say
-none-plan : (carry : Carry) (restarts : Restarts) (form : Form) (bytes : List ℕ) (left left' : Option (List ℕ)) → form ≡ Plan → SaysWell form bytes → (command_answer carry restarts form bytes).status ≡ No → ReadsWhole left left' bytes
+none-plan : (carry : Carry) (restarts : Restarts) (form : Form) (bytes : List ℕ) (left left' : Option (List ℕ)) → form ≡ Plan → SaysWell carry restarts form bytes → (command_answer carry restarts form bytes).status ≡ No → ReadsWhole left left' bytes
     → NonePlanned left left'
 unfolding command_answer plan_answer
 none-plan carry restarts Show bytes left left' is says at input = absurd (cc)
+none-plan carry restarts Run bytes left left' is says at input = absurd (cc)
 none-plan carry restarts Plan bytes left left' is says at input =
     let (d, read) = document_read (document_of bytes) (λ e. absurd (cc)) in
     record { bytes = bytes; read = input; says = d; document = read; none = (says d read).no at }
 
-least-plan : (carry : Carry) (restarts : Restarts) (form : Form) (bytes : List ℕ) (left left' held held' : Option (List ℕ)) → form ≡ Plan → SaysWell form bytes → (command_answer carry restarts form bytes).status ≡ Done → ReadsWhole left left' bytes
+least-plan : (carry : Carry) (restarts : Restarts) (form : Form) (bytes : List ℕ) (left left' held held' : Option (List ℕ)) → form ≡ Plan → SaysWell carry restarts form bytes → (command_answer carry restarts form bytes).status ≡ Done → ReadsWhole left left' bytes
     → Appends held held' (command_answer carry restarts form bytes).output → LeastPlanned left left' held held'
 unfolding command_answer plan_answer
 least-plan carry restarts Show bytes left left' held held' is says at input written = absurd (cc)
+least-plan carry restarts Run bytes left left' held held' is says at input written = absurd (cc)
 least-plan carry restarts Plan bytes left left' held held' is says at input written =
     let (d, read) = document_read (document_of bytes) (λ e. absurd (cc)) in
     let (plan, least, text) = (says d read).done at in
@@ -353,3 +366,59 @@ at_least_plan (unreadable form is falls rose takes sink_same writes) e f = absur
 at_least_plan (too_many form is reads takes sink_same writes) e f = absurd (cc)
 at_least_plan (no_memory form is reads takes sink_same writes) e f = absurd (cc)
 at_least_plan (answered form bytes status is says reads input ends) e f = elim (whole_or_short ends) [ inl w ↦ least-plan _ _ form bytes _ _ _ _ (some_same (sym is ∙ f)) says (w.status_is ∙ e) input w.written | inr w ↦ absurd (fault-done (IsGiven-answer _ _ form bytes) (w.status_is ∙ e)) ]
+
+-- what the answers of `run` say
+run_counts : (r : RingView) (jobs : List Job) (carry : Carry) (restarts : Restarts) (n : ℕ) → length (run_of r jobs carry restarts n) ≡ n
+run_counts r jobs carry restarts zero = refl
+run_counts r jobs carry restarts (suc n) = ap suc (run_counts r jobs carry restarts n)
+
+traced-read : (carry : Carry) (restarts : Restarts) (document : Result DocumentView BadDocument) → (traced_answer carry restarts document).status ≢ Refused
+    → (d : DocumentView) × (document ≡ Ok d) × ((traced_answer carry restarts document).output ≡ journal_text (wishes_of d.setup) (document_run carry restarts d))
+unfolding traced_answer
+traced-read carry restarts (Ok d) given = (d, refl, refl)
+traced-read carry restarts (Err bad) given = absurd (given refl)
+
+traced-run : (carry : Carry) (restarts : Restarts) (form : Form) (bytes : List ℕ) (left left' held held' : Option (List ℕ)) → form ≡ Run → SaysWell carry restarts form bytes
+    → (command_answer carry restarts form bytes).status ≡ Done → ReadsWhole left left' bytes → Appends held held' (command_answer carry restarts form bytes).output
+    → RunTraced carry restarts left left' held held'
+unfolding command_answer run_answer
+traced-run carry restarts Show bytes left left' held held' is says at input written = absurd (cc)
+traced-run carry restarts Plan bytes left left' held held' is says at input written = absurd (cc)
+traced-run carry restarts Run bytes left left' held held' is says at input written =
+    let (d, read, text) = traced-read carry restarts (document_of bytes) (λ e. absurd (cc)) in
+    record {
+      bytes = bytes;
+      read = input;
+      says = d;
+      document = read;
+      journal = document_run carry restarts d;
+      run = says d read;
+      count = run_counts d.setup d.jobs (carry_under d carry) (restarts_under d restarts) d.setup.cycles;
+      written = rw text at written;
+    }
+
+pub at_traced : {carry : Carry} {restarts : Restarts} {words : List (List ℕ)} {source : SourceChange} {sink : SinkChange} {Unread Unwritten : Type 0} {status : Status} → Outcome carry restarts words source sink Unread Unwritten status → status ≡ Done → form_of words ≡ Some Run → RunTraced carry restarts source.left source.left' sink.held sink.held'
+at_traced (no_form nothing source_same sink_same reads writes) e f = absurd (cc)
+at_traced (unreadable form is falls rose takes sink_same writes) e f = absurd (cc)
+at_traced (too_many form is reads takes sink_same writes) e f = absurd (cc)
+at_traced (no_memory form is reads takes sink_same writes) e f = absurd (cc)
+at_traced (answered form bytes status is says reads input ends) e f = elim (whole_or_short ends) [ inl w ↦ traced-run _ _ form bytes _ _ _ _ (some_same (sym is ∙ f)) says (w.status_is ∙ e) input w.written | inr w ↦ absurd (fault-done (IsGiven-answer _ _ form bytes) (w.status_is ∙ e)) ]
+
+-- `run` never declines
+traced-done : (carry : Carry) (restarts : Restarts) (document : Result DocumentView BadDocument) → (traced_answer carry restarts document).status ≢ No
+unfolding traced_answer
+traced-done carry restarts (Ok d) e = cc
+traced-done carry restarts (Err bad) e = cc
+
+run-done : (carry : Carry) (restarts : Restarts) (form : Form) (bytes : List ℕ) → form ≡ Run → (command_answer carry restarts form bytes).status ≢ No
+unfolding command_answer run_answer
+run-done carry restarts Show bytes is e = absurd (cc)
+run-done carry restarts Plan bytes is e = absurd (cc)
+run-done carry restarts Run bytes is e = traced-done carry restarts (document_of bytes) e
+
+pub at_run_never_no : {carry : Carry} {restarts : Restarts} {words : List (List ℕ)} {source : SourceChange} {sink : SinkChange} {Unread Unwritten : Type 0} {status : Status} → Outcome carry restarts words source sink Unread Unwritten status → form_of words ≡ Some Run → status ≢ No
+at_run_never_no (no_form nothing source_same sink_same reads writes) f e = absurd (cc)
+at_run_never_no (unreadable form is falls rose takes sink_same writes) f e = absurd (cc)
+at_run_never_no (too_many form is reads takes sink_same writes) f e = absurd (cc)
+at_run_never_no (no_memory form is reads takes sink_same writes) f e = absurd (cc)
+at_run_never_no (answered form bytes status is says reads input ends) f e = elim (whole_or_short ends) [ inl w ↦ run-done _ _ form bytes (some_same (sym is ∙ f)) (w.status_is ∙ e) | inr w ↦ fault-no (IsGiven-answer _ _ form bytes) (w.status_is ∙ e) ]

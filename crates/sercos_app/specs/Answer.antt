@@ -7,17 +7,20 @@ use Rattle.sercos_app.specs.declared.form.Form.TheVariants as forms
 use Rattle.sercos_app.specs.Form.{form_of}
 use Rattle.sercos_app.specs.Show.{Answer, show_answer}
 use Rattle.sercos_app.specs.Planning.{plan_answer, PlansItsRing}
+use Rattle.sercos_app.specs.Running.{run_answer, RunsItsRing}
 use Rattle.sercos_script.specs.Links.{Carry, Restarts}
 
 -- the answer of each command to an input
 unfoldable pub command_answer : Carry → Restarts → Form → List ℕ → Answer
 command_answer carry restarts forms.Show bytes = show_answer bytes
 command_answer carry restarts forms.Plan bytes = plan_answer bytes
+command_answer carry restarts forms.Run bytes = run_answer carry restarts bytes
 
 -- what the answer of each command says beside its text
-abbrev pub SaysWell : Form → List ℕ → Type 0
-SaysWell forms.Show bytes = Unit {0}
-SaysWell forms.Plan bytes = PlansItsRing bytes
+abbrev pub SaysWell : Carry → Restarts → Form → List ℕ → Type 0
+SaysWell carry restarts forms.Show bytes = Unit {0}
+SaysWell carry restarts forms.Plan bytes = PlansItsRing bytes
+SaysWell carry restarts forms.Run bytes = RunsItsRing carry restarts bytes
 
 unfoldable pub form_answer : Carry → Restarts → Option Form → List ℕ → Answer
 form_answer carry restarts None bytes = record { status = BadWords; output = [] }

@@ -2,7 +2,7 @@
 use Rattle.std.specs.Prelude.{ℕ, cond, List, [], ◌∷◌, codes, Option, Some, None}
 use Rattle.std.specs.Str.{bytes_eq}
 use Rattle.sercos_app.specs.declared.form.Form.{Form}
-use Rattle.sercos_app.specs.declared.form.Form.TheVariants.{Show, Plan}
+use Rattle.sercos_app.specs.declared.form.Form.TheVariants.{Show, Plan, Run}
 
 -- the words without the first `--`, wherever it stands
 unfoldable pub without_dashes : List (List ℕ) → List (List ℕ)
@@ -11,7 +11,10 @@ without_dashes (word ∷ words) = cond (bytes_eq word (codes "--")) words (word 
 
 -- the form of one word
 unfoldable pub word_form : List ℕ → Option Form
-word_form word = cond (bytes_eq word (codes "show")) (Some Show) (cond (bytes_eq word (codes "plan")) (Some Plan) None)
+word_form word =
+    cond (bytes_eq word (codes "show")) (Some Show)
+    (cond (bytes_eq word (codes "plan")) (Some Plan)
+    (cond (bytes_eq word (codes "run")) (Some Run) None))
 
 -- the form of words that hold no `--`
 unfoldable pub plain_form : List (List ℕ) → Option Form

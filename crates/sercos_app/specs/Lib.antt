@@ -3,6 +3,11 @@ pub mod SpelledLine
 pub mod Show
 pub mod Form
 pub mod Planning
+pub mod Totals
+pub mod Counting
+pub mod Journals
+pub mod RunWriting
+pub mod Running
 pub mod Given
 pub mod Answer
 pub mod TopCall

@@ -54,4 +54,4 @@ pub data Outcome (carry : Carry) (restarts : Restarts) (words : List (List ℕ))
   unreadable : (form : Form) → form_of words ≡ Some form → source.faults ≤ source.faults' → Rose source.faults source.faults' → TakesAtMost 1048576 source.left source.left' → Unwritten → sink.faults' ≡ sink.faults → Outcome carry restarts words source sink Unread Unwritten ReadFault
   too_many : (form : Form) → form_of words ≡ Some form → source.faults' ≡ source.faults → TakesTooMany source.left source.left' → Unwritten → sink.faults' ≡ sink.faults → Outcome carry restarts words source sink Unread Unwritten TooLong
   no_memory : (form : Form) → form_of words ≡ Some form → source.faults' ≡ source.faults → TakesAtMost 1048576 source.left source.left' → Unwritten → sink.faults' ≡ sink.faults → Outcome carry restarts words source sink Unread Unwritten Memory
-  answered : (form : Form) (bytes : List ℕ) (status : Status) → form_of words ≡ Some form → SaysWell form bytes → source.faults' ≡ source.faults → ReadsWhole source.left source.left' bytes → Writes (command_answer carry restarts form bytes).status (command_answer carry restarts form bytes).output sink status → Outcome carry restarts words source sink Unread Unwritten status
+  answered : (form : Form) (bytes : List ℕ) (status : Status) → form_of words ≡ Some form → SaysWell carry restarts form bytes → source.faults' ≡ source.faults → ReadsWhole source.left source.left' bytes → Writes (command_answer carry restarts form bytes).status (command_answer carry restarts form bytes).output sink status → Outcome carry restarts words source sink Unread Unwritten status

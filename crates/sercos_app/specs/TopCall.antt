@@ -1,6 +1,6 @@
 -- What the top call does with its source and its sink. The bytes that a source has left and those that a sink holds are
 -- known where it tells them.
-use Rattle.std.specs.Prelude.{◌≡◌, ℕ, ◌<◌, ◌≤◌, Bool, true, false, List, length, take, Option, Ok}
+use Rattle.std.specs.Prelude.{◌≡◌, ℕ, ◌<◌, ◌≤◌, Bool, true, false, List, length, reverse, take, Option, Ok}
 use Rattle.std.specs.Io.KnownBytes.{Appends, Consumes, IsAtEnd}
 use Rattle.sercos_io.specs.declared.status.Status.{Status}
 use Rattle.sercos_io.specs.declared.status.Status.TheVariants.{BadWords, Refused, ReadFault, WriteFault, Memory, TooLong}
@@ -11,6 +11,11 @@ use Rattle.sercos_app.specs.Planning.{plan_text}
 use Rattle.sercos_timing.specs.Views.{PlanView}
 use Rattle.sercos_plan.specs.Least.{IsLeast, NoneFits}
 use Rattle.sercos_block.specs.Rings.{wishes_of}
+use Rattle.sercos_trace.specs.Views.{CycleView}
+use Rattle.sercos_trace.specs.Texts.{trace_of}
+use Rattle.sercos_ring.specs.Runs.{IsRun}
+use Rattle.sercos_app.specs.Totals.{totals_of}
+use Rattle.sercos_app.specs.Running.{carry_under, restarts_under}
 use Rattle.sercos_config.specs.Views.{DocumentView}
 use Rattle.sercos_config.specs.Document.{document_of}
 
@@ -83,3 +88,15 @@ pub record LeastPlanned (left left' held held' : Option (List ℕ)) : Type 0 whe
   pub plan : PlanView
   pub least : IsLeast (wishes_of says.setup) plan
   pub written : Appends held held' (plan_text (wishes_of says.setup) plan)
+
+-- The source was read to its end as the document of a ring, and what was appended is the trace of the one run of this ring, for its
+-- number of cycles, under its script followed by the link handed in. The newest cycle of the journal comes first.
+pub record RunTraced (carry : Carry) (restarts : Restarts) (left left' held held' : Option (List ℕ)) : Type 0 where
+  pub bytes : List ℕ
+  pub read : ReadsWhole left left' bytes
+  pub says : DocumentView
+  pub document : document_of bytes ≡ Ok says
+  pub journal : List CycleView
+  pub run : IsRun says.setup says.jobs (carry_under says carry) (restarts_under says restarts) journal
+  pub count : length journal ≡ says.setup.cycles
+  pub written : Appends held held' (trace_of (wishes_of says.setup) (reverse journal) (totals_of (reverse journal)))

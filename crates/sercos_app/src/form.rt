@@ -11,6 +11,8 @@ pub enum Form {
     Show,
     /// `plan`: a ring document is answered by the least plan of its time slots.
     Plan,
+    /// `run`: a ring document is answered by the trace of its run.
+    Run,
 }
 
 // The form of one word.
@@ -22,6 +24,8 @@ fn word_form(word: &str) -> Option<Form>
         Some(Form::Show)
     } else if word == "plan" {
         Some(Form::Plan)
+    } else if word == "run" {
+        Some(Form::Run)
     } else {
         None
     }

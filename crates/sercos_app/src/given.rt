@@ -1,5 +1,5 @@
 // What a command gives to the sink.
-ghost use Rattle.std.specs.Prelude.{◌≡◌, ◌≢◌, MatchResult};
+ghost use Rattle.std.specs.Prelude.{◌≡◌, ◌≢◌, ◌⊎◌, MatchResult};
 ghost use Rattle.sercos_app.specs.Given.{IsWritable, given_status, given_text};
 ghost use Rattle.sercos_document.specs.Lines.{line_of};
 ghost use Rattle.sercos_app.specs.Outcome.{Writes, changed};
@@ -31,7 +31,7 @@ pub fn refused(bad: BadDocument) -> Result<Given, AllocError>
 
 // The status where writing a reply of this status fails.
 #[tactic(auto, unfolding(crate::specs::TopCall::fault_status))]
-fn fault_status(status: Status) -> Status
+pub fn fault_status(status: Status) -> Status
     ensures { result ≡ fault_status status }
 {
     match status {
@@ -61,6 +61,17 @@ fn give_refusal<K: Sink>(bad: &BadDocument, sink: &mut K) -> Status
         Ok(()) => Status::Refused,
         Err(_) => fault_status(Status::Refused),
     }
+}
+
+/// Writes the refusal of a document; if that is want of memory, nothing is written.
+pub fn refuse<K: Sink>(bad: &BadDocument, sink: &mut K) -> Status
+    ensures { ((bad.now ≡ BadDocument.Memory) × (result ≡ Status.Memory) × (sink.new ≡ sink.old))
+        ⊎ ((bad.now ≢ BadDocument.Memory) × Writes Status.Refused (line_of bad.now) (changed K.held K.faults K.room sink.old sink.new) result) }
+{
+    if matches!(bad, BadDocument::Memory) {
+        return Status::Memory;
+    }
+    give_refusal(bad, sink)
 }
 
 /// Writes what a command gives, and answers its status, or that of a failed write.

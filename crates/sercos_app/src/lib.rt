@@ -1,6 +1,7 @@
 //! The top call: from words and bytes to a status and bytes.
 #![tactic(auto)]
 
+mod counting;
 mod form;
 mod given;
 mod law;
@@ -8,11 +9,14 @@ mod line;
 mod over_memory;
 mod plan_text;
 mod planning;
+mod run_command;
+mod running;
 mod show;
 mod text;
 mod top_call;
 
 pub use law::line_law;
 pub use over_memory::answer_in_memory;
+pub use running::write_run;
 pub use sercos_script::Clean;
 pub use top_call::sercos;

@@ -7,11 +7,12 @@ ghost use Rattle.sercos_app.specs.Given.{Gives, IsWritable};
 ghost use Rattle.sercos_app.specs.Outcome.{Outcome, Replies, GivesMade, changed};
 ghost use Rattle.sercos_app.specs.Planning.{PlansItsRing, plan_answer};
 ghost use Rattle.sercos_app.specs.Show.{show_answer};
-ghost use Rattle.sercos_app.specs.TopCall.{writes_nothing, TakesAtMost, TakesTooMany, IsAnswered, IsCutShort, IsAnswer, NonePlanned, LeastPlanned};
+ghost use Rattle.sercos_app.specs.TopCall.{writes_nothing, TakesAtMost, TakesTooMany, IsAnswered, IsCutShort, IsAnswer, NonePlanned, LeastPlanned, RunTraced};
 
 use crate::form::{Form, form_of};
 use crate::given::{Given, give, refused};
 use crate::planning::plan;
+use crate::run_command::answer_run;
 use crate::show::show;
 use sercos_io::{ReadAll, Sink, Source, Status, Words, read_all};
 use sercos_script::BitLink;
@@ -71,12 +72,13 @@ fn answer<K: Sink, L: BitLink>(
     sink: &mut K,
     link: L,
 ) -> Status
-    ensures { Replies (command_answer (L.carry link) (L.restart link) form bytes.now) (SaysWell form bytes.now)
+    ensures { Replies (command_answer (L.carry link) (L.restart link) form bytes.now) (SaysWell (L.carry link) (L.restart link) form bytes.now)
         (changed K.held K.faults K.room sink.old sink.new) (sink.new ≡ sink.old) result }
 {
     match form {
         Form::Show => answer_show(alloc, bytes, sink),
         Form::Plan => answer_plan(alloc, bytes, sink),
+        Form::Run => answer_run(alloc, bytes, link, sink),
     }
 }
 
@@ -157,6 +159,11 @@ pub fn sercos<S: Source, K: Sink, L: BitLink>(
         NonePlanned (S.left source.old) (S.left source.new) }
     ensures least { result ≡ Status.Done → form_of words.now ≡ Some Form.Plan → LeastPlanned
         (S.left source.old) (S.left source.new) (K.held sink.old) (K.held sink.new) }
+
+    // Done comes from `run` only with the trace of the one run of the ring that was read; and No never does.
+    ensures traced { result ≡ Status.Done → form_of words.now ≡ Some Form.Run → RunTraced (L.carry link) (L.restart link)
+        (S.left source.old) (S.left source.new) (K.held sink.old) (K.held sink.new) }
+    ensures run_never_no { form_of words.now ≡ Some Form.Run → result ≢ Status.No }
 
     // So does Refused; but where writing the refusal failed, a prefix of it was appended.
     ensures refused { result ≡ Status.Refused →

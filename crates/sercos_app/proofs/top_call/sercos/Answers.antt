@@ -1,5 +1,5 @@
 use Rattle.std.proofs.Common.{ap}
-use Rattle.sercos_app.proofs.Outcomes.{at_bad_words, at_unread, at_taken, at_unwritten, at_read_fault, at_read_count, at_read_well, at_too_long, at_done, at_no, at_none_fits, at_least_plan, at_refused, at_write_fault, at_write_count, at_write_well, at_answers, at_refuses, at_exceeds, at_room}
+use Rattle.sercos_app.proofs.Outcomes.{at_bad_words, at_unread, at_taken, at_unwritten, at_read_fault, at_read_count, at_read_well, at_too_long, at_done, at_no, at_none_fits, at_least_plan, at_traced, at_run_never_no, at_refused, at_write_fault, at_write_count, at_write_well, at_answers, at_refuses, at_exceeds, at_room}
 use Rattle.sercos_app.proofs.top_call.sercos.Goals as goal
 
 pub returns-clause-bad_words : goal.returns-clause-bad_words
@@ -37,6 +37,12 @@ returns-clause-none_fits g c = at_none_fits c.respond.ensures
 
 pub returns-clause-least : goal.returns-clause-least
 returns-clause-least g c = at_least_plan c.respond.ensures
+
+pub returns-clause-traced : goal.returns-clause-traced
+returns-clause-traced g c = at_traced c.respond.ensures
+
+pub returns-clause-run_never_no : goal.returns-clause-run_never_no
+returns-clause-run_never_no g c = at_run_never_no c.respond.ensures
 
 pub returns-clause-refused : goal.returns-clause-refused
 returns-clause-refused g c = at_refused c.respond.ensures

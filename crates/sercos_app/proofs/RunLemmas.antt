@@ -1,0 +1,71 @@
+-- From a run that is written to what `run` answers.
+use Rattle.std.proofs.Common.{◌≡◌, ◌≢◌, ◌⊎◌, inl, inr, ℕ, zero, suc, List, length, Ok, Err, refl, sym, subst}
+use Rattle.sercos_io.specs.declared.status.Status.{Status}
+use Rattle.sercos_io.specs.declared.status.Status.TheVariants.{Refused, Memory}
+use Rattle.sercos_step.specs.declared.request.Job.{Job}
+use Rattle.sercos_block.specs.Views.{RingView}
+use Rattle.sercos_script.specs.declared.fault.Fault.{Fault}
+use Rattle.sercos_script.specs.Links.{Carry, Restarts, carried_by_both, restarts_in_either}
+use Rattle.sercos_script.specs.Scripts.{carried, restarts_at}
+use Rattle.sercos_trace.specs.Views.{CycleView}
+use Rattle.sercos_ring.specs.Runs.{IsNext, IsRun, next_record, run_of}
+use Rattle.sercos_document.specs.declared.refusal.BadDocument.{BadDocument}
+use Rattle.sercos_document.specs.declared.refusal.BadDocument.TheVariants as bads
+use Rattle.sercos_document.specs.Lines.{line_of}
+use Rattle.sercos_config.specs.Views.{DocumentView}
+use Rattle.sercos_config.specs.Document.{document_of}
+use Rattle.sercos_app.specs.Show.{Answer}
+use Rattle.sercos_app.specs.Running.{RunsItsRing, carry_under, restarts_under, run_answer, run_traced, traced_answer}
+use Rattle.sercos_app.specs.Outcome.{SinkChange, Writes, Replies}
+use Rattle.sercos_app.specs.Outcome.Replies.{none_found, replied}
+
+-- each cycle that the function gives is the next one
+run_is : ((r : RingView) (jobs : List Job) (carry : Carry) (restarts : Restarts) (j : List CycleView) → IsNext r jobs carry restarts (next_record r jobs carry restarts j) j)
+    → (r : RingView) (jobs : List Job) (carry : Carry) (restarts : Restarts) (n : ℕ) → IsRun r jobs carry restarts (run_of r jobs carry restarts n)
+run_is law r jobs carry restarts zero = tt
+run_is law r jobs carry restarts (suc n) = (run_is law r jobs carry restarts n, law r jobs carry restarts (run_of r jobs carry restarts n))
+
+document_runs : ((r : RingView) (jobs : List Job) (carry : Carry) (restarts : Restarts) (j : List CycleView) → IsNext r jobs carry restarts (next_record r jobs carry restarts j) j)
+    → (carry : Carry) (restarts : Restarts) (bytes : List ℕ) → RunsItsRing carry restarts bytes
+document_runs law carry restarts bytes d is = run_is law d.setup d.jobs (carry_under d carry) (restarts_under d restarts) d.setup.cycles
+
+run_answer_of : (carry : Carry) (restarts : Restarts) (bytes : List ℕ) (d : DocumentView) → document_of bytes ≡ Ok d
+    → run_answer carry restarts bytes ≡ run_traced d.setup d.jobs (carry_under d carry) (restarts_under d restarts)
+unfolding run_answer traced_answer
+run_answer_of carry restarts bytes d is = rw is refl
+
+run_refusal_of : (carry : Carry) (restarts : Restarts) (bytes : List ℕ) (bad : BadDocument) → document_of bytes ≡ Err bad → run_answer carry restarts bytes ≡ record { status = Refused; output = line_of bad }
+unfolding run_answer traced_answer
+run_refusal_of carry restarts bytes bad is = rw is refl
+
+pub run_replies : ((r : RingView) (jobs : List Job) (carry : Carry) (restarts : Restarts) (j : List CycleView) → IsNext r jobs carry restarts (next_record r jobs carry restarts j) j)
+    → (carry : Carry) (restarts : Restarts) (bytes : List ℕ) (d : DocumentView) (sink : SinkChange) (Unwritten : Type 0) (status : Status) → document_of bytes ≡ Ok d
+    → Replies (run_traced d.setup d.jobs (carry_under d carry) (restarts_under d restarts)) (Unit {0}) sink Unwritten status
+    → Replies (run_answer carry restarts bytes) (RunsItsRing carry restarts bytes) sink Unwritten status
+run_replies law carry restarts bytes d sink Unwritten status is (none_found unwritten) = none_found unwritten
+run_replies law carry restarts bytes d sink Unwritten status is (replied ended says written) =
+    replied ended (document_runs law carry restarts bytes)
+    (subst (λ (a : Answer). Writes a.status a.output sink ended) (sym (run_answer_of carry restarts bytes d is)) written)
+
+pub run_refuses : ((r : RingView) (jobs : List Job) (carry : Carry) (restarts : Restarts) (j : List CycleView) → IsNext r jobs carry restarts (next_record r jobs carry restarts j) j)
+    → (carry : Carry) (restarts : Restarts) (bytes : List ℕ) (bad : BadDocument) (sink : SinkChange) (Unwritten : Type 0) (status : Status) → (bad ≡ bads.Memory) ⊎ (document_of bytes ≡ Err bad)
+    → ((bad ≡ bads.Memory) × (status ≡ Memory) × Unwritten) ⊎ ((bad ≢ bads.Memory) × Writes Refused (line_of bad) sink status)
+    → Replies (run_answer carry restarts bytes) (RunsItsRing carry restarts bytes) sink Unwritten status
+run_refuses law carry restarts bytes bad sink Unwritten status cause (inl ended) =
+    subst (λ s. Replies (run_answer carry restarts bytes) (RunsItsRing carry restarts bytes) sink Unwritten s) (sym ended.1) (none_found ended.2)
+run_refuses law carry restarts bytes bad sink Unwritten status (inl wanting) (inr written) = absurd (written.0 wanting)
+run_refuses law carry restarts bytes bad sink Unwritten status (inr is) (inr written) =
+    replied status (document_runs law carry restarts bytes)
+    (subst (λ (a : Answer). Writes a.status a.output sink status) (sym (run_refusal_of carry restarts bytes bad is)) written.1)
+
+-- a run over the links of the document's script, and then the link handed in
+pub run_under : (d : DocumentView) (setup : RingView) (jobs : List Job) (faults : List Fault) (first second carry : Carry) (early late restarts : Restarts) (sink : SinkChange) (Unwritten : Type 0) (status : Status)
+    → d ≡ record { setup = setup; jobs = jobs; faults = faults } → first ≡ carried (length setup.drives) faults → second ≡ carry → early ≡ restarts_at faults → late ≡ restarts
+    → Replies (run_traced setup jobs (carried_by_both first second) (restarts_in_either early late)) (Unit {0}) sink Unwritten status
+    → Replies (run_traced d.setup d.jobs (carry_under d carry) (restarts_under d restarts)) (Unit {0}) sink Unwritten status
+run_under d setup jobs faults first second carry early late restarts sink Unwritten status is carries then restarts_early restarts_late replies =
+    let one = subst (λ (c : Carry). Replies (run_traced setup jobs (carried_by_both c second) (restarts_in_either early late)) (Unit {0}) sink Unwritten status) carries replies in
+    let two = subst (λ (c : Carry). Replies (run_traced setup jobs (carried_by_both (carried (length setup.drives) faults) c) (restarts_in_either early late)) (Unit {0}) sink Unwritten status) then one in
+    let three = subst (λ (r : Restarts). Replies (run_traced setup jobs (carried_by_both (carried (length setup.drives) faults) carry) (restarts_in_either r late)) (Unit {0}) sink Unwritten status) restarts_early two in
+    let four = subst (λ (r : Restarts). Replies (run_traced setup jobs (carried_by_both (carried (length setup.drives) faults) carry) (restarts_in_either (restarts_at faults) r)) (Unit {0}) sink Unwritten status) restarts_late three in
+    subst (λ (x : DocumentView). Replies (run_traced x.setup x.jobs (carry_under x carry) (restarts_under x restarts)) (Unit {0}) sink Unwritten status) (sym is) four

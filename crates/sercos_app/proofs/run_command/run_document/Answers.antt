@@ -1,0 +1,19 @@
+use Rattle.std.proofs.Common.{ap, sym, ◌∙◌}
+use Rattle.sercos_script.specs.Scripts.{carried, restarts_at}
+use Rattle.sercos_script.specs.declared.link.Both.{Both}
+use Rattle.sercos_script.specs.declared.script.Scripted.{Scripted}
+use Rattle.sercos_app.proofs.RunLemmas.{run_under}
+use Rattle.sercos_app.proofs.run_command.run_document.Goals as goal
+
+pub returns : goal.returns
+returns g c =
+    let pair = c.new.ensures in
+    run_under c.args.document c.document.inside.setup c.document.inside.jobs.items c.document.inside.faults.items
+    (carried c.new.result.first.stations c.new.result.first.faults) (g.L.BitLink.carry c.new.result.second) (g.L.BitLink.carry c.args.link)
+    (restarts_at c.new.result.first.faults) (g.L.BitLink.restart c.new.result.second) (g.L.BitLink.restart c.args.link) _ _ _
+    (sym c.document.view_is)
+    (ap (λ (b : Both Scripted g.row.L.Denot). carried b.first.stations b.first.faults) pair ∙ c.new-script.ensures.carry ∙ ap (λ n. carried n c.document.inside.faults.items) c.drives_of.ensures)
+    (ap (λ (b : Both Scripted g.row.L.Denot). g.L.BitLink.carry b.second) pair)
+    (ap (λ (b : Both Scripted g.row.L.Denot). restarts_at b.first.faults) pair ∙ c.new-script.ensures.restart)
+    (ap (λ (b : Both Scripted g.row.L.Denot). g.L.BitLink.restart b.second) pair)
+    c.run_over.ensures

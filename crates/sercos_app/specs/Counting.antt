@@ -1,0 +1,35 @@
+-- One cycle more is counted.
+use Rattle.std.specs.Prelude.{◌+◌, ◌<◌, ◌≤◌, ◌^◌, ◌==◌, if◌then◌else◌, Some, None}
+use Rattle.std.specs.Option.{option_or}
+use Rattle.sercos_trace.specs.Views.{CycleView}
+use Rattle.sercos_trace.specs.declared.record.Totals.{Totals}
+use Rattle.sercos_app.specs.Totals.{ended_in, falls_in, is_complete, is_refused, is_broken}
+
+-- there is room in the counts for a cycle more
+pub record HasRoom (t : Totals) : Type 0 where
+  pub cycles : t.cycles + 1 < 2 ^ 32
+  pub complete : t.complete + 128 < 2 ^ 32
+  pub refused : t.refused + 128 < 2 ^ 32
+  pub broken : t.broken + 128 < 2 ^ 32
+  pub falls : t.falls + 1 < 2 ^ 32
+  pub unseen : t.unseen + 195 < 2 ^ 32
+
+-- these totals with a cycle more
+abbrev pub with_cycle : Totals → CycleView → Totals
+with_cycle t made = record {
+  cycles = t.cycles + 1;
+  phase = made.phase;
+  complete = t.complete + ended_in is_complete made;
+  refused = t.refused + ended_in is_refused made;
+  broken = t.broken + ended_in is_broken made;
+  falls = t.falls + falls_in made;
+  unseen = t.unseen + made.unseen;
+  phase4 = option_or t.phase4 (if made.phase == 4 then Some made.cycle else None);
+}
+
+-- at most 128 requests end in a cycle, and few of its arrivals are unseen
+pub record IsFew (made : CycleView) : Type 0 where
+  pub complete : ended_in is_complete made ≤ 128
+  pub refused : ended_in is_refused made ≤ 128
+  pub broken : ended_in is_broken made ≤ 128
+  pub unseen : made.unseen ≤ 195

@@ -1,0 +1,44 @@
+-- What `run` answers to a ring document.
+use Rattle.std.specs.Prelude.{◌≡◌, ℕ, List, length, Result, Ok, Err}
+use Rattle.sercos_io.specs.declared.status.Status.TheVariants.{Done, Refused}
+use Rattle.sercos_step.specs.declared.request.Job.{Job}
+use Rattle.sercos_block.specs.Views.{RingView}
+use Rattle.sercos_block.specs.Rings.{wishes_of}
+use Rattle.sercos_script.specs.Links.{Carry, Restarts, carried_by_both, restarts_in_either}
+use Rattle.sercos_script.specs.Scripts.{carried, restarts_at}
+use Rattle.sercos_trace.specs.Views.{CycleView}
+use Rattle.sercos_ring.specs.Runs.{IsRun, run_of}
+use Rattle.sercos_document.specs.declared.refusal.BadDocument.{BadDocument}
+use Rattle.sercos_document.specs.Lines.{line_of}
+use Rattle.sercos_config.specs.Views.{DocumentView}
+use Rattle.sercos_config.specs.Document.{document_of}
+use Rattle.sercos_app.specs.Show.{Answer}
+use Rattle.sercos_app.specs.Journals.{journal_text}
+
+-- The ring's link is the script of the document, followed by the link handed in.
+abbrev pub carry_under : DocumentView → Carry → Carry
+carry_under d carry = carried_by_both (carried (length d.setup.drives) d.faults) carry
+
+abbrev pub restarts_under : DocumentView → Restarts → Restarts
+restarts_under d restarts = restarts_in_either (restarts_at d.faults) restarts
+
+-- the answer that is the trace of a ring's run, for its number of cycles
+abbrev pub run_traced : RingView → List Job → Carry → Restarts → Answer
+run_traced r jobs carry restarts = record { status = Done; output = journal_text (wishes_of r) (run_of r jobs carry restarts r.cycles) }
+
+-- the run of a document, for its number of cycles, the newest one first
+abbrev pub document_run : Carry → Restarts → DocumentView → List CycleView
+document_run carry restarts d = run_of d.setup d.jobs (carry_under d carry) (restarts_under d restarts) d.setup.cycles
+
+-- the answer to what a document says, or to its refusal
+unfoldable pub traced_answer : Carry → Restarts → Result DocumentView BadDocument → Answer
+traced_answer carry restarts (Ok d) = run_traced d.setup d.jobs (carry_under d carry) (restarts_under d restarts)
+traced_answer carry restarts (Err bad) = record { status = Refused; output = line_of bad }
+
+unfoldable pub run_answer : Carry → Restarts → List ℕ → Answer
+run_answer carry restarts bytes = traced_answer carry restarts (document_of bytes)
+
+-- what is written of a document is a run: each cycle is the next one after those before it
+abbrev pub RunsItsRing : Carry → Restarts → List ℕ → Type 0
+RunsItsRing carry restarts bytes = (d : DocumentView) → document_of bytes ≡ Ok d
+    → IsRun d.setup d.jobs (carry_under d carry) (restarts_under d restarts) (document_run carry restarts d)

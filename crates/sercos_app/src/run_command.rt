@@ -1,0 +1,114 @@
+// `run`: the trace of a ring's run.
+ghost use Rattle.std.specs.Prelude.{◌≡◌, ◌≤◌, true, [], length};
+ghost use Rattle.std.specs.List.{All};
+ghost use Rattle.sercos_step.specs.declared.request.Job.{Job};
+ghost use Rattle.sercos_step.specs.Steps.{IsRequest};
+ghost use Rattle.sercos_block.specs.Rings.{is_ring};
+ghost use Rattle.sercos_ring.specs.Kept.{RingStandsFor};
+ghost use Rattle.sercos_app.specs.Journals.{IsRingOf, OfRun, journal_text};
+ghost use Rattle.sercos_app.specs.Outcome.{Replies, Writes, changed};
+ghost use Rattle.sercos_app.specs.Running.{RunsItsRing, carry_under, restarts_under, run_answer, run_traced};
+
+use crate::given::{fault_status, refuse};
+use crate::running::write_run;
+use sercos_block::{RingSetup, ring_law};
+use sercos_config::{Document, read_ring};
+use sercos_io::{Sink, Status};
+use sercos_ring::{Ring, run_law};
+use sercos_script::{BitLink, Both, Scripted};
+use sercos_step::Job;
+use sercos_timing::Wishes;
+use std::alloc::Global;
+
+// How many cycles a ring runs: 1 to 50,000.
+#[tactic(auto, unfolding(sercos_block::specs::Rings::is_ring, sercos_block::specs::Rings::are_ring_numbers))]
+fn cycles_of(setup: &RingSetup) -> u32
+    requires { is_ring setup.now ≡ true }
+    ensures value { result ≡ setup.now.cycles }
+    ensures some { 1 ≤ result }
+    ensures few { result ≤ 50000 }
+{
+    setup.cycles
+}
+
+// How many drives a ring has: at most 64.
+fn drives_of(setup: &RingSetup) -> u8
+    requires { is_ring setup.now ≡ true }
+    ensures { result ≡ length setup.now.drives }
+{
+    ring_law();
+    setup.drives.len() as u8
+}
+
+// Writes the trace of a ring's run.
+fn give_run<L: BitLink, K: Sink>(
+    ring: &mut Ring<L>,
+    w: &Wishes,
+    cycles: u32,
+    sink: &mut K,
+) -> Status
+    requires ring { IsRingOf (RingStandsFor L.carry L.restart) ring.old w.now [] }
+    requires some { 1 ≤ cycles }
+    requires few { cycles ≤ 50000 }
+    ensures { OfRun (RingStandsFor L.carry L.restart) ring.old cycles (λ run.
+        Writes Status.Done (journal_text w.now run) (changed K.held K.faults K.room sink.old sink.new) result) }
+{
+    match write_run(ring, w, cycles, sink) {
+        Ok(_) => Status::Done,
+        Err(_) => fault_status(Status::Done),
+    }
+}
+
+// Writes the trace of the run of a setup over a link. All memory is taken before anything is written.
+fn run_over<L: BitLink, K: Sink>(
+    alloc: Global,
+    setup: &RingSetup,
+    jobs: Vec<Job>,
+    link: L,
+    sink: &mut K,
+) -> Status
+    requires ring { is_ring setup.now ≡ true }
+    requires few { length jobs.items ≤ 4096 }
+    requires requests { All (λ job. IsRequest job.request) jobs.items }
+    ensures { Replies (run_traced setup.now jobs.items (L.carry link) (L.restart link)) (Unit {0})
+        (changed K.held K.faults K.room sink.old sink.new) (sink.new ≡ sink.old) result }
+{
+    match Ring::open(alloc, setup, jobs, link) {
+        Ok(mut ring) => give_run(&mut ring, &setup.wishes(), cycles_of(setup), sink),
+        Err(_) => Status::Memory,
+    }
+}
+
+// Writes the trace of the run of a document, under its script followed by the link handed in.
+fn run_document<L: BitLink, K: Sink>(
+    alloc: Global,
+    document: Document,
+    link: L,
+    sink: &mut K,
+) -> Status
+    requires ring { is_ring document.setup ≡ true }
+    requires few { length document.jobs ≤ 4096 }
+    requires requests { All (λ job. IsRequest job.request) document.jobs }
+    ensures { Replies (run_traced document.setup document.jobs (carry_under document (L.carry link)) (restarts_under document (L.restart link)))
+        (Unit {0}) (changed K.held K.faults K.room sink.old sink.new) (sink.new ≡ sink.old) result }
+{
+    let Document {
+        setup,
+        jobs,
+        faults,
+    } = document;
+    let script = Scripted::new(faults, drives_of(&setup));
+    run_over(alloc, &setup, jobs, Both::new(script, link), sink)
+}
+
+/// Answers a ring document by the trace of its run, under its script followed by the link handed in, or by its first refusal.
+pub fn answer_run<L: BitLink, K: Sink>(alloc: Global, bytes: &[u8], link: L, sink: &mut K) -> Status
+    ensures { Replies (run_answer (L.carry link) (L.restart link) bytes.now) (RunsItsRing (L.carry link) (L.restart link) bytes.now)
+        (changed K.held K.faults K.room sink.old sink.new) (sink.new ≡ sink.old) result }
+{
+    run_law();
+    match read_ring(alloc, bytes) {
+        Ok(document) => run_document(alloc, document, link, sink),
+        Err(bad) => refuse(&bad, sink),
+    }
+}

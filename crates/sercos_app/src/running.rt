@@ -1,0 +1,156 @@
+// The trace of a ring's run, written as the run goes on.
+ghost use Rattle.std.specs.Prelude.{◌≡◌, ℕ, ◌≤◌, ◌<◌, ◌^◌, List, [], length, reverse, take, IfSome, IfOk, OnOk, OnErr, IsOk, is_ok};
+ghost use Rattle.std.specs.Io.KnownBytes.{Appends};
+ghost use Rattle.sercos_model.specs.Streams.{HasCause};
+ghost use Rattle.std.specs.List.{All};
+ghost use Rattle.sercos_trace.specs.Views.{CycleView};
+ghost use Rattle.sercos_trace.specs.Texts.{header_text, cycle_text, end_text};
+ghost use Rattle.sercos_trace.specs.Written.{seen, Writes};
+ghost use Rattle.sercos_ring.specs.Kept.{AfterCycle, RingStandsFor, cycles_made, newest};
+ghost use Rattle.sercos_app.specs.Counting.{HasRoom, IsFew, with_cycle};
+ghost use Rattle.sercos_app.specs.Journals.{HasMade, IsRingOf, OfRun, WritesCycles, journal_text};
+ghost use Rattle.sercos_app.specs.Totals.{totals_of};
+ghost use Rattle.sercos_app.specs.RunWriting.{WritesRun};
+
+use crate::counting::count_cycle;
+use sercos_block::ring_law;
+use sercos_io::{Sink, WriteFailed};
+use sercos_master::master_law;
+use sercos_ring::{Ring, run_law, standing_law};
+use sercos_script::BitLink;
+use sercos_timing::Wishes;
+use sercos_trace::{CycleRecord, Totals, write_cycle, write_end, write_header};
+
+// Writes the head of a trace.
+
+fn write_head<K: Sink>(w: &Wishes, sink: &mut K) -> Result<(), WriteFailed>
+    requires { All (λ place. place < length w.now.drives) w.now.order }
+    ensures { Writes (seen K.held K.faults K.room sink.old) (seen K.held K.faults K.room sink.new) result (header_text w.now) }
+{
+    write_header(w, sink)
+}
+
+// Writes the lines of a cycle.
+fn write_made<K: Sink>(w: &Wishes, made: &CycleRecord, sink: &mut K) -> Result<(), WriteFailed>
+    requires starts { IfSome made.now.events.plan (λ p. length p.t1 ≡ length w.now.drives) }
+    requires positions { IfSome made.now.events.plan (λ p. length p.position ≡ length w.now.drives) }
+    ensures { Writes (seen K.held K.faults K.room sink.old) (seen K.held K.faults K.room sink.new) result (cycle_text w.now made.now) }
+{
+    write_cycle(w, made, sink)
+}
+
+// Writes the last line of a trace.
+fn write_totals<K: Sink>(totals: &Totals, sink: &mut K) -> Result<(), WriteFailed>
+    ensures { Writes (seen K.held K.faults K.room sink.old) (seen K.held K.faults K.room sink.new) result (end_text totals.now) }
+{
+    write_end(totals, sink)
+}
+
+// A cycle has at most 66 telegrams.
+fn show_sent(made: &CycleRecord)
+    ensures { length made.now.sent ≤ 66 }
+{
+    let _count = made.sent.len();
+}
+
+// Goes on by a cycle, counts it, and writes its lines.
+fn write_next<L: BitLink, K: Sink>(
+    ring: &mut Ring<L>,
+    w: &Wishes,
+    totals: &mut Totals,
+    sink: &mut K,
+) -> Result<(), WriteFailed>
+    requires ring { (j : List CycleView) × IsRingOf (RingStandsFor L.carry L.restart) ring.old w.now j }
+    requires made { cycles_made ring.old < 2 ^ 31 }
+    requires room { HasRoom totals.old }
+    ensures after { AfterCycle L.carry L.restart ring.old ring.new }
+    ensures counted { totals.new ≡ with_cycle totals.old (newest ring.new) }
+    ensures few { IsFew (newest ring.new) }
+    ensures written { Writes (seen K.held K.faults K.room sink.old) (seen K.held K.faults K.room sink.new) result (cycle_text w.now (newest ring.new)) }
+{
+    ring_law();
+    master_law();
+    let made = ring.cycle();
+    show_sent(made);
+    count_cycle(totals, made);
+    write_made(w, made, sink)
+}
+
+// The ring's next cycles: writes their lines, and counts them.
+fn write_cycles<L: BitLink, K: Sink>(
+    ring: &mut Ring<L>,
+    w: &Wishes,
+    cycles: u32,
+    sink: &mut K,
+) -> Result<Totals, WriteFailed>
+    requires ring { IsRingOf (RingStandsFor L.carry L.restart) ring.old w.now [] }
+    requires made { cycles_made ring.old ≡ 0 }
+    requires few { cycles ≤ 50000 }
+    ensures { WritesCycles (RingStandsFor L.carry L.restart) w.now ring.old ring.new cycles
+        (seen K.held K.faults K.room sink.old) (seen K.held K.faults K.room sink.new) result }
+{
+    let mut totals = Totals {
+        cycles: 0,
+        phase: 0,
+        complete: 0,
+        refused: 0,
+        broken: 0,
+        falls: 0,
+        unseen: 0,
+        phase4: None,
+    };
+    for _k in 0..cycles {
+        write_next(ring, w, &mut totals, sink)?;
+    }
+    Ok(totals)
+}
+
+// Writes a whole run.
+fn write_whole<L: BitLink, K: Sink>(
+    ring: &mut Ring<L>,
+    w: &Wishes,
+    cycles: u32,
+    sink: &mut K,
+) -> Result<Totals, WriteFailed>
+    requires ring { IsRingOf (RingStandsFor L.carry L.restart) ring.old w.now [] }
+    requires made { cycles_made ring.old ≡ 0 }
+    requires few { cycles ≤ 50000 }
+    requires order { All (λ place. place < length w.now.drives) w.now.order }
+    ensures { WritesRun (RingStandsFor L.carry L.restart) w.now ring.old ring.new cycles
+        (seen K.held K.faults K.room sink.old) (seen K.held K.faults K.room sink.new) result }
+{
+    run_law();
+    standing_law::<L>();
+    write_head(w, sink)?;
+    let totals = write_cycles(ring, w, cycles, sink)?;
+    write_totals(&totals, sink)?;
+    Ok(totals)
+}
+
+/// Writes the trace of a ring's run: the head, the lines of each cycle as it is made, and the last line with the totals, which are
+/// returned. It takes no memory.
+///
+/// The ring has made no cycle, and the wishes are those of the setup with which it was opened; 1 to 50,000 cycles. After an error
+/// the sink has taken a prefix of the text, short of the whole, and its count of faults has risen. In both cases the ring stands
+/// for the cycles that it has made.
+pub fn write_run<L: BitLink, K: Sink>(
+    ring: &mut Ring<L>,
+    w: &Wishes,
+    cycles: u32,
+    sink: &mut K,
+) -> Result<Totals, WriteFailed>
+    requires ring { IsRingOf (RingStandsFor L.carry L.restart) ring.old w.now [] }
+    requires some { 1 ≤ cycles }
+    requires few { cycles ≤ 50000 }
+    ensures made { HasMade (RingStandsFor L.carry L.restart) ring.old ring.new cycles (is_ok result) }
+    ensures totals { IfOk result (λ totals. OfRun (RingStandsFor L.carry L.restart) ring.old cycles (λ run. totals ≡ totals_of (reverse run))) }
+    ensures ok { OnOk result (OfRun (RingStandsFor L.carry L.restart) ring.old cycles (λ run. Appends (K.held sink.old) (K.held sink.new) (journal_text w.now run))) }
+    ensures err { OnErr result (OfRun (RingStandsFor L.carry L.restart) ring.old cycles (λ run. (count : ℕ) × (count < length (journal_text w.now run))
+        × Appends (K.held sink.old) (K.held sink.new) (take count (journal_text w.now run)))) }
+    ensures cause { HasCause (K.faults sink.old) (K.faults sink.new) result }
+    ensures room { OfRun (RingStandsFor L.carry L.restart) ring.old cycles (λ run. length (journal_text w.now run) ≤ K.room sink.old → IsOk result) }
+{
+    ring_law();
+    standing_law::<L>();
+    write_whole(ring, w, cycles, sink)
+}
