@@ -20,7 +20,7 @@ import sys
 STATUS = ["Done", "No", "BadWords", "Refused", "ReadFault", "WriteFault", "Memory", "TooLong"]
 # The first words of lines that a case names all of, if it names one.
 WHOLE = {"r", "plan", "stop", "fall", "end"}
-READERS = ["plan"]
+READERS = ["plan", "run"]
 
 
 def read(path, default):
