@@ -2,31 +2,78 @@
 """Runs a program on each case of a folder: cases.py PROGRAM FOLDER
 
 A case is a folder with the files `words` (one a line; none: no words), `stdin` (none: empty), `stdout` (none: nothing)
-and `status` (none: 0). On standard error the program names a status other than 0. The folder `refusals` has sheets of
-ring documents that are refused: each begins with a line `== NAME`, its refusal follows, and then the document. Ends with
-0 where each case passed.
+and `status` (none: 0). On standard error the program names a status other than 0.
+
+Where only some lines of the output are known, `lines` stands in place of `stdout`. It has patterns of lines, with *, ?
+and [..], that are among the output in this order. Of the words r, plan, stop, fall and end, each that begins a pattern
+begins no other line of the output; nor does a word of the file `only`. No line of the output has a pattern of the file
+`none`.
+
+The folder `refusals` has sheets of ring documents that are refused, by each command that reads one: a part begins with
+a line `== NAME`, its refusal follows, and then the document. Ends with 0 where each case passed.
 """
+import fnmatch
 import pathlib
 import subprocess
 import sys
 
 STATUS = ["Done", "No", "BadWords", "Refused", "ReadFault", "WriteFault", "Memory", "TooLong"]
+# The first words of lines that a case names all of, if it names one.
+WHOLE = {"r", "plan", "stop", "fall", "end"}
+READERS = ["plan", "run"]
 
 
 def read(path, default):
     return path.read_bytes() if path.exists() else default
 
 
+def patterns(path):
+    return read(path, b"").decode().splitlines()
+
+
+def has_pattern(line, several):
+    return any(fnmatch.fnmatchcase(line, pattern) for pattern in several)
+
+
+def other_output(wanted):
+    """The test of an output that is known whole."""
+    def faults(output):
+        if output != wanted:
+            yield f"output {output[:300]!r}, wanted {wanted[:300]!r}"
+    return faults
+
+
+def other_lines(wanted, only, none):
+    """The test of an output of which some lines are known."""
+    words = WHOLE & {pattern.split(" ")[0] for pattern in wanted} | set(only)
+
+    def faults(output):
+        lines = output.decode().splitlines()
+        rest = iter(lines)
+        for pattern in wanted:
+            if not any(fnmatch.fnmatchcase(line, pattern) for line in rest):
+                yield f"no line {pattern!r}, or not in this order"
+        for line in lines:
+            if line.split(" ")[0] in words and not has_pattern(line, wanted) or has_pattern(line, none):
+                yield f"line {line[:200]!r}"
+    return faults
+
+
 def folder_case(case):
-    words = read(case / "words", b"").decode().splitlines()
-    return case.name, words, read(case / "stdin", b""), read(case / "stdout", b""), int(read(case / "status", b"0"))
+    words = patterns(case / "words")
+    if (case / "lines").exists():
+        test = other_lines(patterns(case / "lines"), patterns(case / "only"), patterns(case / "none"))
+    else:
+        test = other_output(read(case / "stdout", b""))
+    return case.name, words, read(case / "stdin", b""), test, int(read(case / "status", b"0"))
 
 
 def sheet_cases(sheet):
     for part in ("\n" + sheet.read_text(encoding="utf-8")).split("\n== ")[1:]:
         name, _, text = part.partition("\n")
         refusal, _, document = text.partition("\n")
-        yield f"{sheet.stem} {name}", ["plan"], document.encode(), refusal.encode() + b"\n", 3
+        for word in READERS:
+            yield f"{sheet.stem} {name} {word}", [word], document.encode(), other_output(refusal.encode() + b"\n"), 3
 
 
 def cases(folder):
@@ -37,13 +84,12 @@ def cases(folder):
         yield from sheet_cases(sheet)
 
 
-def faults(program, words, source, wanted, status):
+def faults(program, words, source, test, status):
     name = b"" if status == 0 else STATUS[status].encode() + b"\n"
     run = subprocess.run([program] + words, input=source, capture_output=True, timeout=60)
     if run.returncode != status:
         yield f"status {run.returncode}, wanted {status}"
-    if run.stdout != wanted:
-        yield f"output {run.stdout[:300]!r}, wanted {wanted[:300]!r}"
+    yield from test(run.stdout)
     if run.stderr != name:
         yield f"standard error {run.stderr[:300]!r}, wanted {name!r}"
 

@@ -1,0 +1,81 @@
+#!/usr/bin/env python3
+"""Compares two programs on random rings: compare.py ONE OTHER FIRST COUNT [JOBS]
+
+ONE and OTHER are commands that read a ring document, such as `crates/sercos/out/sercos run`. For each of the COUNT seeds
+from FIRST on, both are given the document of the seed. Of each document on which they differ, in output or status, the
+first line that differs is printed, and at the end what occurred in the traces of ONE. Ends with 0 where none differs.
+"""
+import collections
+import concurrent.futures
+import shlex
+import subprocess
+import sys
+
+from random_rings import document
+
+SECONDS = 600
+
+
+def answer(command, source):
+    run = subprocess.run(shlex.split(command), input=source, capture_output=True, timeout=SECONDS)
+    return run.returncode, run.stdout.decode(errors="replace").splitlines()
+
+
+def difference(one, other):
+    """The first difference of two answers, or None."""
+    for place, (a, b) in enumerate(zip(one[1], other[1])):
+        if a != b:
+            return f"line {place + 1}: {a[:200]!r}, other {b[:200]!r}"
+    if len(one[1]) != len(other[1]):
+        return f"{len(one[1])} lines, other {len(other[1])}"
+    if one[0] != other[0]:
+        return f"status {one[0]}, other {other[0]}"
+    return None
+
+
+def occurs_in(status, lines):
+    """What a trace shows, each named once."""
+    if status:
+        return {f"status {status}"}
+    found = set()
+    for line in lines:
+        words = line.split(" ")
+        if words[0] == "m":
+            found.add("phase " + words[4][-1])
+        elif words[0] == "p" and words[3] == "0":
+            found.add("a drive falls")
+        elif words[0] in ("stop", "fall"):
+            found.add(f"{words[0]} {words[2]}")
+        elif words[0] == "r":
+            found.add("request " + words[3])
+        elif words[0] == "end" and words[-1] != "0":
+            found.add("unseen")
+    return found
+
+
+def compared(one, other, seed):
+    source = document(seed).encode()
+    answers = answer(one, source), answer(other, source)
+    return seed, difference(*answers), occurs_in(*answers[0])
+
+
+def main():
+    one, other, first, count = sys.argv[1:5]
+    jobs = int(sys.argv[5]) if len(sys.argv) > 5 else 2
+    seeds = range(int(first), int(first) + int(count))
+    counts = collections.Counter()
+    differ = 0
+    with concurrent.futures.ThreadPoolExecutor(jobs) as pool:
+        for seed, found, occurred in pool.map(lambda seed: compared(one, other, seed), seeds):
+            counts.update(occurred)
+            if found:
+                differ += 1
+                print(f"seed {seed}: {found}", flush=True)
+    for name in sorted(counts):
+        print(f"{counts[name]:6} {name}")
+    print(f"rings: {len(seeds)} compared, {differ} differ")
+    return 1 if differ else 0
+
+
+if __name__ == "__main__":
+    sys.exit(main())
