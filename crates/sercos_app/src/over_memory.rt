@@ -12,7 +12,7 @@ use std::alloc::Global;
 
 /// The top call over a source that never fails and a sink in memory. Where the words are a command's, the input has at
 /// most 1,048,576 bytes, and the sink fails no call and has room for the whole output, nothing outside can fail: the
-/// answer is given whole, or memory was wanting. Else the answer is that of [`sercos`], by its causes.
+/// answer is given whole, or `Memory` is returned.
 pub fn answer_in_memory<L: BitLink>(
     alloc: Global,
     words: &Words,

@@ -114,13 +114,15 @@ fn respond<S: Source, K: Sink, L: BitLink>(
 
 /// Runs the command that the words name, over one input and one output, and answers the status with which it ends.
 ///
-/// The input is the source's bytes up to its end, at most 1,048,576 of them; the output is one text, written where it
-/// is whole. The clauses on the bytes of source and sink hold where these tell them, as those in memory do.
+/// The input is the source's bytes up to its end, at most 1,048,576 of them. It is read whole before anything is written. `show`
+/// and `plan` write their output once it is whole; `run` writes the lines of each cycle as the cycle is made. The clauses on the
+/// bytes of source and sink hold where these tell them, as those in memory do.
 ///
-/// The forms of words are `show` and `plan` so far, with at most one word `--` anywhere. Words in no form are `BadWords`, and
-/// nothing is read. `ReadFault` comes where a read failed, `TooLong` where the input is longer, and `Memory` where no
-/// memory was found; then nothing is written. A refused input is `Refused`, also where its line could not be written
-/// whole. Where a write failed else, the status is `WriteFault`, and the sink has taken a prefix of the output.
+/// The forms of words are `show`, `plan` and `run`, with at most one word `--` anywhere. `run` runs its ring over the script of
+/// the document, followed by `link`; no other command uses `link`. Words in no form are `BadWords`, and nothing is read.
+/// `ReadFault` is returned if a read failed, `TooLong` if the input is longer, and `Memory` if no memory was found; then nothing
+/// is written. A refused input is `Refused`, also if its line couldn't be written whole. After any other failed write the status
+/// is `WriteFault`, and the sink has taken a prefix of the output.
 pub fn sercos<S: Source, K: Sink, L: BitLink>(
     alloc: Global,
     words: &Words,
@@ -165,7 +167,7 @@ pub fn sercos<S: Source, K: Sink, L: BitLink>(
         (S.left source.old) (S.left source.new) (K.held sink.old) (K.held sink.new) }
     ensures run_never_no { form_of words.now ≡ Some Form.Run → result ≢ Status.No }
 
-    // So does Refused; but where writing the refusal failed, a prefix of it was appended.
+    // Refused too comes only where the input was read to its end; if writing the refusal failed, a prefix of it was appended.
     ensures refused { result ≡ Status.Refused →
         ((K.faults sink.new ≡ K.faults sink.old) × IsAnswered (L.carry link) (L.restart link) words.now Status.Refused
         (S.left source.old) (S.left source.new) (K.held sink.old) (K.held sink.new))

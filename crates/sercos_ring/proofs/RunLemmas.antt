@@ -136,6 +136,14 @@ one_run r jobs carry restarts (t ∷ j) (run, next) =
     let before : j ≡ run_of r jobs carry restarts (length j) = one_run r jobs carry restarts j run in
     ap (λ (x : CycleView). x ∷ j) (next-is r jobs carry restarts j t next) ∙ ap (λ (l : List CycleView). next_record r jobs carry restarts l ∷ l) before
 
+pub made_run : (r : RingView) (jobs : List Job) (carry : Carry) (restarts : Restarts) (n : ℕ) → IsRun r jobs carry restarts (run_of r jobs carry restarts n)
+made_run r jobs carry restarts zero = tt
+made_run r jobs carry restarts (suc n) = (made_run r jobs carry restarts n, is-next r jobs carry restarts (run_of r jobs carry restarts n))
+
+pub length-run_of : (r : RingView) (jobs : List Job) (carry : Carry) (restarts : Restarts) (n : ℕ) → length (run_of r jobs carry restarts n) ≡ n
+length-run_of r jobs carry restarts zero = refl
+length-run_of r jobs carry restarts (suc n) = let before = length-run_of r jobs carry restarts n in omega (arith, before)
+
 pub turned : (carries carries' : Carry) (restarting restarting' : Restarts) (cycle rate : ℕ) (addresses : List ℕ)
     (before drives : List DriveState) (m master : AnyMaster) (r : RingView) (jobs : List Job) (carry : Carry) (restarts : Restarts) (j : List CycleView) (t : CycleView)
     (mst : List ℕ) (ats : List Said) (mdt : Option Sent)

@@ -1,5 +1,5 @@
 -- What a ring keeps, and for which cycles it stands.
-use Rattle.std.specs.Prelude.{◌≡◌, ℕ, ◌+◌, ◌≤◌, List, ◌∷◌, length, true, Option, Some, None}
+use Rattle.std.specs.Prelude.{◌≡◌, ℕ, ◌+◌, ◌≤◌, List, [], ◌∷◌, length, true, Option, Some, None}
 use Rattle.sercos_step.specs.declared.request.Job.{Job}
 use Rattle.sercos_block.specs.Views.{RingView}
 use Rattle.sercos_block.specs.Rings.{is_ring}
@@ -24,6 +24,11 @@ cycles_made ring = ring.cycle
 abbrev pub newest : {L : Type 0} → Ring L → CycleView
 newest ring = ring.record.value
 
+-- the record is that of the newest cycle, if there is one
+abbrev pub IsNewest : CycleView → List CycleView → Type 0
+IsNewest v [] = Unit {0}
+IsNewest v (t ∷ j) = v ≡ t
+
 -- the master is there, and stands for its calls
 abbrev pub HasMaster : Option AnyMaster → Known → List Job → List Call → Type 0
 HasMaster None s jobs h = ⊥
@@ -38,6 +43,7 @@ pub record RingStandsFor {L : Type 0} (carry_of : L → Carry) (restart_of : L �
   pub carry_is : carry_of ring.link ≡ carry
   pub restarts_is : restart_of ring.link ≡ restarts
   pub cycle_is : ring.cycle ≡ length j
+  pub record_is : IsNewest (newest ring) j
   pub rate_is : ring.rate ≡ r.rate
   pub addresses_are : ring.addresses.items ≡ addresses_below (length r.drives) (drive_at r)
   pub count_is : length ring.drives.items ≡ length r.drives

@@ -210,8 +210,9 @@ impl<L: BitLink> Ring<L> {
     ghost use Rattle.sercos_ring.specs.contracts.ring.Ring.{the_row};
     ghost use Rattle.sercos_ring.specs.Kept.{AfterCycle, AfterTurn, IsNextOf, RingStandsFor, cycles_made, drives_in, newest};
 
-    /// Opens a ring of a valid setup, with at most 4,096 requests, in its first cycle. A request to an address that no drive of
-    /// the setup has is never begun. `AllocError` comes where memory isn't found, and then nothing is left behind.
+    /// Opens a ring of a valid setup that has made no cycle, over a link, with at most 4,096 requests, each of an element that a
+    /// transfer takes. A request to an address that no drive of the setup has is never begun. `AllocError` is returned if memory
+    /// isn't found; then nothing is kept. No other call of a ring takes memory.
     pub fn open(
         alloc: Global,
         setup: &RingSetup,
@@ -282,7 +283,9 @@ impl<L: BitLink> Ring<L> {
         }
     }
 
-    /// Goes on by a cycle, and lends what happened in it.
+    /// Goes on by a cycle, and lends what happened in it: the telegrams, the moves of the drives, what the master reports, and how
+    /// many arrivals were unseen. The ring has made fewer than 2^31 cycles. The order within a cycle is that of IEC 61491:1995,
+    /// the rest this profile's.
     pub fn cycle(&mut self) -> &CycleRecord
         requires room { cycles_made self.old < 2 ^ 31 }
         ensures* after { sem 𝓛 (follows_so (the_row L.row) (the_row L.row) self.entry.ghost_name none (λ _ _. ⊤) (λ new. AfterCycle L.carry L.restart self.old new × (result.now ≡ newest new))) }
@@ -292,7 +295,7 @@ impl<L: BitLink> Ring<L> {
         &self.record
     }
 
-    /// The drive at a place of the ring, counted from 0.
+    /// Returns the drive at a place of the ring, which is below the number of its drives; the first has place 0.
     pub fn drive(&self, index: usize) -> &Drive
         requires { index < drives_in self.now }
         ensures { (r : RingView) (jobs : List Job) (carry : Carry) (restarts : Restarts) (j : List CycleView) → RingStandsFor L.carry L.restart self.now r jobs carry restarts j →
