@@ -38,7 +38,7 @@ pub record Journal {R : Type 0} (stands : R → RingView → List Job → Carry 
   pub count : length cycles ≡ n
   pub stands_for : (r : RingView) (jobs : List Job) (carry : Carry) (restarts : Restarts) → stands old r jobs carry restarts [] → stands new r jobs carry restarts cycles
 
--- so many cycles of a run have counts of this size at most
+-- n cycles of a run have counts of this size at most
 pub record AreFew (t : Totals) (n : ℕ) : Type 0 where
   pub cycles : t.cycles ≤ n
   pub complete : t.complete ≤ n * 128
@@ -69,7 +69,7 @@ abbrev pub WritesCycles : {R E : Type 0} → (R → RingView → List Job → Ca
 WritesCycles stands w old new n a b (Ok t) = HasWritten stands w old new n a b t
 WritesCycles stands w old new n a b (Err e) = HasStopped stands w old new n a b
 
--- after so many cycles of the run, all of them if nothing failed
+-- the ring has made some cycles of the run, all n of them if nothing failed
 pub record HasMade {R : Type 0} (stands : R → RingView → List Job → Carry → Restarts → List CycleView → Type 0) (old new : R) (n : ℕ) (whole : Bool) : Type 0 where
   pub made : ℕ
   pub few : made ≤ n

@@ -38,7 +38,7 @@ pub record ReadsWhole (old new : Option (List ℕ)) (bytes : List ℕ) : Type 0 
   pub ended : IsAtEnd new
   pub fits : length bytes ≤ 1048576
 
--- at most so many bytes were taken from a source, from the front of those that it had left
+-- at most this number of bytes were taken from a source, from the front of those that it had left
 pub record TakesAtMost (most : ℕ) (old new : Option (List ℕ)) : Type 0 where
   pub taken : List ℕ
   pub few : length taken ≤ most

@@ -18,7 +18,7 @@ abbrev pub is_broken : Outcome → Bool
 is_broken outcome.Broken = true
 is_broken _ = false
 
--- how many requests end so in a cycle
+-- how many requests end in a cycle in this way
 abbrev pub ended : (Outcome → Bool) → List (ℕ × Outcome) → ℕ
 ended test outcomes = length (filter (λ (r : ℕ × Outcome). test r.1) outcomes)
 
