@@ -123,13 +123,13 @@ fn short_run_in_memory(rt: HostRuntime) -> Result<(), Fail> {
 fn sinks_that_fail_within_a_trace(rt: HostRuntime) -> Result<(), Fail> {
     let alloc = rt.alloc();
     let words = words_of(alloc, "run")?;
-    // The call that fails, the room, and how much is held: a line is written by one call, or by two where it is long.
-    let rows: [(u32, usize, usize); 5] = [
-        (1, 1024, 0),
-        (2, 1024, 9),
-        (3, 1024, 28),
-        (99, 40, 40),
-        (99, 0, 0),
+    // The call that fails, the room, and what is held: each line is written by one call.
+    let rows: [(u32, usize, &'static str); 5] = [
+        (1, 1024, ""),
+        (2, 1024, "sercos 1\n"),
+        (3, 1024, "sercos 1\nring 4 250 250 5 1\n"),
+        (99, 40, "sercos 1\nring 4 250 250 5 1\ndrive 1 1 10"),
+        (99, 0, ""),
     ];
     for (call, room, held) in rows {
         let mut source = PlainSource::new(document(alloc, "13", "")?);
@@ -138,7 +138,7 @@ fn sinks_that_fail_within_a_trace(rt: HostRuntime) -> Result<(), Fail> {
         let status = sercos(alloc, &words, &mut source, &mut sink, Clean);
         assert_eq!(rt; status, Status::WriteFault, "write {call}");
         assert_eq!(rt; status.code(), 5);
-        assert_eq!(rt; sink.as_slice(), &SHORT.as_bytes()[..held], "write {call}");
+        assert_eq!(rt; sink.as_slice(), held.as_bytes(), "write {call}");
     }
     Ok(())
 }
