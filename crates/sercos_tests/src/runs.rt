@@ -81,7 +81,7 @@ d 12 2600 72 010f000300
 end 13 phase 2 complete 0 refused 0 broken 0 falls 0 unseen 0
 ";
 
-// A ring document: so many cycles, and what comes after the drive.
+// A ring document: the number of its cycles, and what comes after the drive.
 fn document(alloc: Global, cycles: &str, more: &str) -> Result<Vec<u8>, AllocError> {
     let mut text = Vec::from_slice(alloc, b"[ring]\ncycles = ")?;
     text.extend_from_slice(cycles.as_bytes())?;
@@ -103,7 +103,7 @@ fn run(
     Ok((status, sink))
 }
 
-// The same with a request, into a sink that takes so many bytes a call, and of which one call fails.
+// The same with a request, into a sink that takes at most a piece of this size a call, and of which one call fails.
 fn run_by(alloc: Global, piece: u32, failing: u32) -> Result<(Status, MemorySink), AllocError>
     requires { 1 ≤ piece }
 {
@@ -124,7 +124,7 @@ fn has_line(text: &[u8], wanted: &str) -> bool {
         .any(|line| line == wanted.as_bytes())
 }
 
-// Whether some line begins so.
+// Whether some line begins with this.
 fn has_line_from(text: &[u8], start: &str) -> bool {
     text.split(|byte| *byte == b'\n')
         .any(|line| line.starts_with(start.as_bytes()))
