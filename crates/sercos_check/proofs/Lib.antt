@@ -1,0 +1,9 @@
+mod AtLemmas
+mod CheckerLemmas
+mod FrameLemmas
+mod LawLemmas
+mod ShapeLemmas
+mod SlotLemmas
+mod StandsLemmas
+mod WorkedCaptures
+mod WorkedRules

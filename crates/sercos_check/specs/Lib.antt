@@ -1,0 +1,5 @@
+pub mod Kept
+pub mod Rules
+pub mod Seen
+pub mod Shape
+pub mod Verdicts

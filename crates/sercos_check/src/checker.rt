@@ -1,0 +1,124 @@
+// The checker of captures.
+ghost use Rattle.std.specs.Prelude.{◌≡◌, ℕ, ◌+◌, ◌^◌, ◌<◌, ◌↔◌, List, [], ◌∷◌, length, Some, IsOk, IfOk, IfErr, IfSome, IfNone};
+ghost use Rattle.std.specs.Result.{result_ok, result_err};
+ghost use Rattle.sercos_trace.specs.declared.reading.Line.{Line};
+ghost use Rattle.sercos_check.specs.declared.trouble.Trouble.{Trouble};
+ghost use Rattle.sercos_check.specs.Shape.{CanFollow, HeadStandsFor, IsReady};
+ghost use Rattle.sercos_check.specs.Verdicts.{rule_broken, IsClean, IsFault, IsTrouble, IsWhole, IsRefused, IsNext, AreSeen, CheckerStandsFor};
+
+use crate::seen::Seen;
+use crate::shape::Head;
+use crate::trouble::Trouble;
+use sercos_trace::Line;
+use std::marker::Model;
+
+/// Checks the lines of a capture one by one. It stands for the lines that have come since it was made; contracts list them the
+/// newest first. Nothing here takes memory.
+#[derive(Drop)]
+pub struct Checker {
+    head: Head,
+    seen: Seen,
+    // how many lines have come
+    lines: u32,
+    // the first trouble among them
+    trouble: Option<Trouble>,
+}
+
+impl Model for Checker {
+    ghost use Rattle.std.specs.Prelude.{◌≤◌};
+    ghost use Rattle.sercos_check.specs.Verdicts.{CheckerState};
+
+    ghost Value = { CheckerState };
+
+    ghost view = { λ c. record { head = c.head; seen = c.seen; lines = c.lines; trouble = c.trouble } };
+
+    ghost invariant = { λ c. c.lines ≤ 2147483648 };
+}
+
+// Keeps a line that follows the lines so far. The result is the lowest rule that it breaks.
+fn keep(head: &Head, seen: &mut Seen, line: &Line) -> Option<u8>
+    requires { IsReady head.now line.now }
+    ensures rule { (lines : List Line) → HeadStandsFor head.now (line.now ∷ lines) → CanFollow lines line.now → AreSeen seen.old lines → result ≡ rule_broken lines line.now }
+    ensures seen { (lines : List Line) → HeadStandsFor head.now (line.now ∷ lines) → CanFollow lines line.now → AreSeen seen.old lines → AreSeen seen.new (line.now ∷ lines) }
+{
+    match line {
+        Line::Telegram { cycle, sent } => {
+            let rule = seen.broken(head.wishes(), *cycle, sent);
+            seen.note(head.wishes(), *cycle, sent);
+            rule
+        }
+        _ => None,
+    }
+}
+
+// Takes a line of this number. The result is the trouble with it.
+fn take(head: &mut Head, seen: &mut Seen, line: &Line, number: u32) -> Option<Trouble>
+    ensures fault { (lines : List Line) → HeadStandsFor head.old lines → AreSeen seen.old lines → number ≡ length lines + 1 → IfSome result (IsFault lines line.now) }
+    ensures clean { (lines : List Line) → HeadStandsFor head.old lines → AreSeen seen.old lines → IfNone result (IsNext lines line.now head.new seen.new) }
+{
+    if !head.next(line) {
+        return Some(Trouble::Grammar { line: number });
+    }
+    match keep(head, seen, line) {
+        Some(rule) => Some(Trouble::Violation { line: number, rule }),
+        None => None,
+    }
+}
+
+impl Checker {
+    /// A checker to which no line has come.
+    pub fn new() -> Checker
+        ensures lines { result.lines ≡ 0 }
+        ensures stands { CheckerStandsFor result [] }
+    {
+        Checker {
+            head: Head::new(),
+            seen: Seen::new(),
+            lines: 0,
+            trouble: None,
+        }
+    }
+
+    /// Takes the next line of a capture. The error is the first trouble among the lines so far: a line that can't follow those
+    /// before it, or a telegram that breaks a rule (this profile). A head that is still short is no trouble yet. After an error
+    /// each call returns it again.
+    pub fn line(&mut self, line: &Line) -> Result<(), Trouble>
+        requires { self.old.lines < 2 ^ 31 }
+        ensures lines { self.new.lines ≡ self.old.lines + 1 }
+        ensures stands { (lines : List Line) → CheckerStandsFor self.old lines → CheckerStandsFor self.new (line.now ∷ lines) }
+        ensures ok { (lines : List Line) → CheckerStandsFor self.old lines → (IsOk result ↔ IsClean (line.now ∷ lines)) }
+        ensures err { (lines : List Line) → CheckerStandsFor self.old lines → IfErr result (IsTrouble (line.now ∷ lines)) }
+        ensures trouble { (lines : List Line) → CheckerStandsFor self.old lines → (t : Trouble) → IsTrouble (line.now ∷ lines) t → result_err result ≡ Some t }
+    {
+        self.lines += 1;
+        if let Some(trouble) = self.trouble {
+            return Err(trouble);
+        }
+        match take(&mut self.head, &mut self.seen, line, self.lines) {
+            Some(trouble) => {
+                self.trouble = Some(trouble);
+                Err(trouble)
+            }
+            None => Ok(()),
+        }
+    }
+
+    /// Ends the capture. Returns the number of its lines. The error is the first trouble among them; if there is none and the head
+    /// is not whole, a fault one past the last line.
+    pub fn finish(&self) -> Result<u32, Trouble>
+        ensures ok { (lines : List Line) → CheckerStandsFor self.now lines → IfOk result (IsWhole lines) }
+        ensures whole { (lines : List Line) → CheckerStandsFor self.now lines → (n : ℕ) → IsWhole lines n → result_ok result ≡ Some n }
+        ensures err { (lines : List Line) → CheckerStandsFor self.now lines → IfErr result (IsRefused lines) }
+        ensures refused { (lines : List Line) → CheckerStandsFor self.now lines → (t : Trouble) → IsRefused lines t → result_err result ≡ Some t }
+    {
+        if let Some(trouble) = self.trouble {
+            return Err(trouble);
+        }
+        if !self.head.is_whole() {
+            return Err(Trouble::Grammar {
+                line: self.lines + 1,
+            });
+        }
+        Ok(self.lines)
+    }
+}

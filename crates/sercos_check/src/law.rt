@@ -1,0 +1,13 @@
+// How the shape of a capture and its rules go together.
+ghost use Rattle.sercos_check.specs.Verdicts.{ArePlainClean, ArePlainFaults, IsPlainHead, BreakRules};
+
+/// A law: if each telegram of a capture is handed to a checker as [`Line::Other`](sercos_trace::Line::Other), what the checker
+/// says is the verdict on the shape of the capture alone; and lines of the right shape have no trouble but rules. So a first pass
+/// finds a fault of shape anywhere, and a second one the first rule that is broken.
+#[tactic(auto, using(crate::proofs::LawLemmas::plain_head))]
+pub fn shape_law()
+    ensures clean { ArePlainClean }
+    ensures fault { ArePlainFaults }
+    ensures head { IsPlainHead }
+    ensures rules { BreakRules }
+{}

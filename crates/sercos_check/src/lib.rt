@@ -1,0 +1,16 @@
+//! The checker of captures: the shape of a capture, and the rules that its telegrams keep.
+#![tactic(auto)]
+
+mod awaited;
+mod checker;
+mod drives;
+mod law;
+mod marks;
+mod rules;
+mod seen;
+mod shape;
+mod trouble;
+
+pub use checker::Checker;
+pub use law::shape_law;
+pub use trouble::Trouble;

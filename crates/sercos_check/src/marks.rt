@@ -1,0 +1,65 @@
+// Where telegrams stand in a cycle.
+ghost use Rattle.std.specs.Prelude.{◌≡◌, ◌+ℤ◌, pos};
+ghost use Rattle.std.specs.Ordering.{int_eq};
+ghost use Rattle.sercos_check.specs.Seen.{end_of};
+ghost use Rattle.sercos_check.specs.Rules.{is_after, is_after_mark};
+
+/// What an MST commands, and when.
+#[derive(Clone, Copy, Debug, PartialEq, Eq)]
+pub struct Command {
+    /// The cycle in which it was sent.
+    pub cycle: u32,
+    /// The phase.
+    pub phase: u8,
+}
+
+/// The place of a telegram in its cycle.
+#[derive(Clone, Copy, Debug, PartialEq, Eq)]
+pub struct Mark {
+    /// Its start, in bit times after the MST's end.
+    pub start: i32,
+    /// Its length, in bits.
+    pub bits: u32,
+}
+
+/// What the rules for the next telegram need of a telegram.
+#[derive(Clone, Copy, Debug, PartialEq, Eq)]
+pub struct Note {
+    /// Its place in the cycle.
+    pub mark: Mark,
+    /// The slave that sent it, if it is an AT.
+    pub sender: Option<u8>,
+}
+
+impl Mark {
+    // The bit time at which the telegram has ended and this number of bit times more have passed.
+    pub fn after(self, bits: u32) -> i64
+        ensures { result ≡ end_of self +ℤ pos bits }
+    {
+        i64::from(self.start) + i64::from(self.bits) + i64::from(bits)
+    }
+
+    // Whether a time is at least this number of bit times after the end.
+    pub fn is_after(self, bits: u32, time: i64) -> bool
+        ensures { result ≡ is_after self bits time }
+    {
+        self.after(bits) <= time
+    }
+
+    // Whether the telegram ends with the MST's place.
+    pub fn ends_at_zero(self) -> bool
+        ensures { result ≡ int_eq (end_of self) (pos 0) }
+    {
+        i64::from(self.start) + i64::from(self.bits) == 0
+    }
+}
+
+// The same for a telegram that may be missing: then every time is late enough.
+pub fn is_after_mark(mark: Option<Mark>, bits: u32, time: i64) -> bool
+    ensures { result ≡ is_after_mark mark bits time }
+{
+    match mark {
+        Some(mark) => mark.is_after(bits, time),
+        None => true,
+    }
+}

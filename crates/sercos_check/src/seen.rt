@@ -1,0 +1,245 @@
+// What is kept of the telegrams of a capture.
+ghost use Rattle.std.specs.Prelude.{◌≡◌, ℕ, ◌<◌, ◌&&◌, List, [], ◌∷◌, length, false, None, slice_index_or};
+ghost use Rattle.sercos_telegram.specs.declared.layout.Kind.TheVariants as telegram;
+ghost use Rattle.sercos_timing.specs.Valid.{IsValid};
+ghost use Rattle.sercos_timing.specs.Views.{WishesView};
+ghost use Rattle.sercos_check.specs.Seen.{Told, address_of, slave_of, phase_of};
+ghost use Rattle.sercos_check.specs.Rules.{first_broken, broken_rule};
+ghost use Rattle.sercos_check.specs.Kept.{is_from, SeenStandsFor, is_alone_by, goes_on_by, order_by, recovery_by, transition_by, kept_by, IsBegun, later, with_address, with_at, with_mdt};
+
+use crate::drives::{address_of, bit_times, byte_at, mark_of, note_of, wish_of};
+use crate::marks::{Command, Mark, Note, is_after_mark};
+use crate::rules::{
+    first_broken, goes_on, is_cyclic_at, is_cyclic_mdt, is_next_cycle, keeps_end, keeps_frame,
+    keeps_gap, keeps_layout, keeps_phase, keeps_start, phase_of,
+};
+use sercos_telegram::Kind;
+use sercos_timing::Wishes;
+use sercos_trace::Sent;
+use std::marker::Model;
+
+// The number of different bytes.
+const BYTES: usize = 256;
+
+/// What the rules need of the telegrams of a capture so far. It stands for a list of telegrams, the newest first: those
+/// that [`note`](Seen::note) has taken. Each call speaks of every such list. No call takes memory.
+#[derive(Drop)]
+pub struct Seen {
+    // what the newest MST commands
+    command: Option<Command>,
+    // all else is of its cycle: the newest telegram, and whether there is an MDT
+    newest: Option<Note>,
+    mdt: bool,
+    // whether an AT came from each address byte
+    heard: [bool; BYTES],
+    // the newest AT of each slave
+    marks: [Option<Mark>; BYTES],
+    // the bit time at which the transition of each AT has passed
+    free_at: Option<i64>,
+}
+
+impl Model for Seen {
+    ghost use Rattle.std.specs.Prelude.{◌≡◌, length};
+    ghost use Rattle.sercos_check.specs.Kept.{SeenState};
+
+    ghost Value = { SeenState };
+
+    ghost view = { λ v. record { command = v.command; newest = v.newest; mdt = v.mdt; heard = v.heard; marks = v.marks; free_at = v.free_at } };
+
+    ghost invariant = { λ v. (length v.heard ≡ 256) × (length v.marks ≡ 256) };
+}
+
+// The later one of two times, the first of which may be missing.
+fn later(free_at: Option<i64>, time: i64) -> Option<i64>
+    ensures { result ≡ later free_at time }
+{
+    match free_at {
+        Some(earlier) => {
+            if earlier <= time {
+                Some(time)
+            } else {
+                Some(earlier)
+            }
+        }
+        None => Some(time),
+    }
+}
+
+// No address byte sent an AT.
+fn none_heard() -> [bool; BYTES]
+    ensures { (address : ℕ) → slice_index_or result address false ≡ false }
+{
+    [false; BYTES]
+}
+
+// No slave sent an AT.
+fn none_marked() -> [Option<Mark>; BYTES]
+    ensures { (slave : ℕ) → slice_index_or result slave None ≡ None }
+{
+    [None; BYTES]
+}
+
+impl Seen {
+    /// Returns what is kept before any telegram.
+    pub fn new() -> Seen
+        ensures { (w : WishesView) → SeenStandsFor result w [] }
+    {
+        Seen {
+            command: None,
+            newest: None,
+            mdt: false,
+            heard: none_heard(),
+            marks: none_marked(),
+            free_at: None,
+        }
+    }
+
+    fn goes_on(&self, cycle: u32, start: i32) -> bool
+        ensures { result ≡ goes_on_by self.now cycle start }
+    {
+        goes_on(self.command, self.newest, self.mdt, cycle, start)
+    }
+
+    // Whether the address byte of an AT sends the first one in this cycle.
+    fn is_alone(&self, sent: &Sent) -> bool
+        ensures { result ≡ is_alone_by self.now sent.now }
+    {
+        sent.content.is_empty() || !self.heard[usize::from(address_of(sent))]
+    }
+
+    // Rule 1: the telegrams come in order.
+    fn keeps_order(&self, cycle: u32, sent: &Sent) -> bool
+        ensures { result ≡ order_by sent.now.kind self.now cycle sent.now }
+    {
+        match sent.kind {
+            Kind::Mst => is_next_cycle(self.command, cycle),
+            Kind::At => self.goes_on(cycle, sent.start) && self.is_alone(sent),
+            Kind::Mdt => self.goes_on(cycle, sent.start),
+        }
+    }
+
+    // Rule 7: an AT of phases 3 and 4 leaves its slave time to recover from the AT before.
+    fn keeps_recovery(&self, w: &Wishes, phase: u8, sent: &Sent) -> bool
+        requires { phase ≡ phase_of self.now.command }
+        ensures { result ≡ recovery_by self.now w.now sent.now }
+    {
+        let wish = wish_of(w, sent);
+        let mark = self.marks[usize::from(wish.slave)];
+        !is_cyclic_at(phase, sent.kind)
+            || is_after_mark(mark, bit_times(w, wish.times.tatat), i64::from(sent.start))
+    }
+
+    // Whether the transition of each AT has passed.
+    fn is_free(&self, start: i32) -> bool
+        ensures { result ≡ is_from self.now.free_at start }
+    {
+        match self.free_at {
+            Some(time) => time <= i64::from(start),
+            None => true,
+        }
+    }
+
+    // Rule 8: an MDT of phases 3 and 4 starts when each AT's drive can receive.
+    fn keeps_transition(&self, phase: u8, sent: &Sent) -> bool
+        requires { phase ≡ phase_of self.now.command }
+        ensures { result ≡ transition_by self.now sent.now }
+    {
+        !is_cyclic_mdt(phase, sent.kind) || self.is_free(sent.start)
+    }
+
+    // The lowest rule that a telegram breaks, by what is kept.
+    fn broken_by(&self, w: &Wishes, cycle: u32, sent: &Sent) -> Option<u8>
+        requires { IsValid w.now }
+        ensures { result ≡ first_broken (kept_by self.now w.now cycle sent.now) }
+    {
+        let phase = phase_of(self.command);
+        let kept = [
+            self.keeps_order(cycle, sent),
+            keeps_frame(sent),
+            keeps_layout(w, phase, sent),
+            keeps_phase(self.command, sent),
+            keeps_start(w, phase, sent),
+            keeps_gap(w, phase, self.newest, sent),
+            self.keeps_recovery(w, phase, sent),
+            self.keeps_transition(phase, sent),
+            keeps_end(w, phase, sent),
+        ];
+        first_broken(&kept)
+    }
+
+    // The address of a telegram is a byte, and so is its slave.
+    fn show_bytes(w: &Wishes, sent: &Sent)
+        ensures address { address_of sent.now < 256 }
+        ensures slave { slave_of w.now sent.now < 256 }
+    {
+        let _address = address_of(sent);
+        let _slave = wish_of(w, sent).slave;
+    }
+
+    /// Returns the lowest rule, 1 to 9, that a telegram breaks after those so far; `None` if it keeps all. The rules are those
+    /// of this profile on order, frame, layout, phase, start, gap, recovery, transition and end.
+    #[tactic(auto, using(crate::proofs::StandsLemmas::broken_stands))]
+    pub fn broken(&self, w: &Wishes, cycle: u32, sent: &Sent) -> Option<u8>
+        requires { IsValid w.now }
+        ensures { (before : List Told) → SeenStandsFor self.now w.now before → result ≡ broken_rule w.now before (record { cycle = cycle; sent = sent.now }) }
+    {
+        Seen::show_bytes(w, sent);
+        self.broken_by(w, cycle, sent)
+    }
+
+    // A cycle begins with an MST.
+    fn begin(&mut self, w: &Wishes, cycle: u32, sent: &Sent)
+        ensures { IsBegun self.new w.now cycle sent.now }
+    {
+        self.command = Some(Command {
+            cycle,
+            phase: byte_at(sent.content.as_slice(), 1),
+        });
+        self.newest = Some(note_of(w, sent));
+        self.mdt = false;
+        self.heard = none_heard();
+        self.marks = none_marked();
+        self.free_at = None;
+    }
+
+    // Notes the address byte of an AT.
+    fn hear(&mut self, sent: &Sent)
+        ensures { self.new ≡ record self.old { heard = with_address self.old.heard sent.now } }
+    {
+        if !sent.content.is_empty() {
+            self.heard[usize::from(address_of(sent))] = true;
+        }
+    }
+
+    fn note_at(&mut self, w: &Wishes, sent: &Sent)
+        ensures view { self.new ≡ with_at self.old w.now sent.now }
+        ensures heard { length self.old.heard ≡ 256 }
+        ensures marks { length self.old.marks ≡ 256 }
+    {
+        let wish = wish_of(w, sent);
+        let mark = mark_of(sent);
+        self.hear(sent);
+        self.newest = Some(note_of(w, sent));
+        self.marks[usize::from(wish.slave)] = Some(mark);
+        self.free_at = later(self.free_at, mark.after(bit_times(w, wish.times.tatmt)));
+    }
+
+    fn note_mdt(&mut self, w: &Wishes, sent: &Sent)
+        ensures { self.new ≡ with_mdt self.old w.now sent.now }
+    {
+        self.newest = Some(note_of(w, sent));
+        self.mdt = true;
+    }
+
+    /// Takes a telegram as the newest one, also if it breaks a rule.
+    pub fn note(&mut self, w: &Wishes, cycle: u32, sent: &Sent)
+        ensures { (before : List Told) → SeenStandsFor self.old w.now before → SeenStandsFor self.new w.now (record { cycle = cycle; sent = sent.now } ∷ before) }
+    {
+        Seen::show_bytes(w, sent);
+        match sent.kind {
+            Kind::Mst => self.begin(w, cycle, sent),
+            Kind::At => self.note_at(w, sent),
+            Kind::Mdt => self.note_mdt(w, sent),
+        }
+    }
+}

@@ -1,0 +1,18 @@
+// What a capture is refused for.
+
+/// Why a text is no clean capture. Lines are counted from 1.
+#[derive(Clone, Copy, Debug, PartialEq, Eq)]
+pub enum Trouble {
+    /// A telegram breaks a rule.
+    Violation {
+        /// Its line.
+        line: u32,
+        /// The lowest rule that it breaks, 1 to 9.
+        rule: u8,
+    },
+    /// A line can't follow those before it, or the text ends within the head.
+    Grammar {
+        /// The line; one past the last line if the head isn't whole.
+        line: u32,
+    },
+}
