@@ -5,3 +5,4 @@ pub mod Rules
 pub mod Stores
 pub mod Rings
 pub mod ValidRings
+pub mod Startup
