@@ -1,0 +1,31 @@
+//! Tests of the layers below the top call, on worked examples that cross the crates.
+#![tactic(auto)]
+
+#[cfg(test)]
+mod adapters;
+#[cfg(test)]
+mod blocks;
+#[cfg(test)]
+mod channels;
+#[cfg(test)]
+mod checks;
+#[cfg(test)]
+mod drives;
+#[cfg(test)]
+mod identifiers;
+#[cfg(test)]
+mod layers;
+#[cfg(test)]
+mod links;
+#[cfg(test)]
+mod masters;
+#[cfg(test)]
+mod rings;
+#[cfg(test)]
+mod station;
+#[cfg(test)]
+mod steps;
+#[cfg(test)]
+mod stores;
+#[cfg(test)]
+mod traces;
