@@ -5,5 +5,6 @@ mod LawLemmas
 mod ShapeLemmas
 mod SlotLemmas
 mod StandsLemmas
+mod TestLemmas
 mod WorkedCaptures
 mod WorkedRules

@@ -1,4 +1,5 @@
 // How the shape of a capture and its rules go together.
+ghost use Rattle.sercos_check.specs.Tests.{TellsValid, TellsFollowing};
 ghost use Rattle.sercos_check.specs.Verdicts.{ArePlainClean, ArePlainFaults, IsPlainHead, BreakRules};
 
 /// A law: if each telegram of a capture is handed to a checker as [`Line::Other`](sercos_trace::Line::Other), what the checker
@@ -10,4 +11,11 @@ pub fn shape_law()
     ensures fault { ArePlainFaults }
     ensures head { IsPlainHead }
     ensures rules { BreakRules }
+{}
+
+/// A law: the test of wishes tells whether a plan may be asked for them, and the test of a line whether it can follow those
+/// before it. So the shape of a capture can be computed.
+pub fn test_law()
+    ensures valid { TellsValid }
+    ensures follows { TellsFollowing }
 {}

@@ -12,5 +12,5 @@ mod shape;
 mod trouble;
 
 pub use checker::Checker;
-pub use law::shape_law;
+pub use law::{shape_law, test_law};
 pub use trouble::Trouble;
