@@ -2,4 +2,6 @@ pub mod BlockLemmas
 pub mod DriveLemmas
 pub mod OrderLemmas
 pub mod TextLemmas
+pub mod GeneratedLemmas
 mod Worked
+mod WorkedGenerated

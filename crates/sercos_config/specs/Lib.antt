@@ -7,3 +7,4 @@ pub mod Request
 pub mod Fault
 pub mod Views
 pub mod Document
+pub mod Generated

@@ -177,7 +177,7 @@ fn read_list_data(keys: &Keys<'_>, most: u16, attribute: Attribute) -> Result<Te
 }
 
 // The bytes of a number, low byte first.
-fn bytes_for(attribute: Attribute, bits: u32) -> Text
+pub(crate) fn bytes_for(attribute: Attribute, bits: u32) -> Text
     requires bits { bits < number_end attribute.length }
     requires number { is_list attribute.length ≡ false }
     ensures value { result ≡ bytes_for attribute bits }

@@ -73,7 +73,7 @@ pub(crate) fn read_order(
 
 // All drives, in the order of the ring.
 #[tactic(auto, using(crate::proofs::OrderLemmas::places_more, crate::proofs::OrderLemmas::is_order_places), unfolding(crate::specs::Ring::places_below))]
-fn all_drives(count: usize) -> ArrayVec<u8, 64>
+pub(crate) fn all_drives(count: usize) -> ArrayVec<u8, 64>
     requires { count ≤ 64 }
     ensures value { result.items ≡ places_below count }
     ensures valid { is_order count result.items ≡ true }

@@ -1,0 +1,274 @@
+// The document that this profile generates for a number of drives.
+ghost use Rattle.std.specs.Prelude.{◌≡◌, ◌≤◌, ◌+◌, ◌*◌, ◌^◌, true, false, List, [], ◌∷◌, length, map, IfOk};
+ghost use Rattle.std.specs.List.{All, range_with_len, sum_by};
+ghost use Rattle.sercos_idn.specs.Attributes.{attribute_of};
+ghost use Rattle.sercos_idn.specs.Codes.{is_list};
+ghost use Rattle.sercos_block.specs.Blocks.{number_end};
+ghost use Rattle.sercos_block.specs.Rings.{has_address, has_other_data, is_ring};
+ghost use Rattle.sercos_block.specs.Startup.{startup_of};
+ghost use Rattle.sercos_step.specs.Jobs.{AreJobs};
+ghost use Rattle.sercos_config.specs.Generated.{position_command, position_feedback, position_block, generated_times, generated_drive, generated_job, generated_fault, generated_ring, generated_cycles, generated};
+
+use crate::data::bytes_for;
+use crate::document::Document;
+use crate::ring::all_drives;
+use arrayvec::ArrayVec;
+use sercos_block::{Block, DriveSetup, RingSetup, attribute_in};
+use sercos_idn::{Attribute, Idn};
+use sercos_script::{Damage, Fault};
+use sercos_step::{Job, Request};
+use sercos_telegram::Kind;
+use sercos_timing::Times;
+use std::alloc::{AllocError, Global};
+
+// S-0-0047 and S-0-0051.
+const POSITION_COMMAND: Idn = Idn { raw: 47 };
+
+const POSITION_FEEDBACK: Idn = Idn { raw: 51 };
+
+// The number of cycles that a generated ring runs beyond its start-up.
+const CYCLES_AFTER_STARTUP: u32 = 100;
+
+// The attribute of a number of four bytes with sign, which the master may write in each phase.
+#[tactic(auto, using(crate::proofs::GeneratedLemmas::position_read, crate::proofs::GeneratedLemmas::position_is_four, crate::proofs::GeneratedLemmas::position_is_number))]
+fn position_attribute() -> Attribute
+    ensures value { result ≡ attribute_of 0x00220001 }
+    ensures four { number_end result.length ≡ 2 ^ 32 }
+    ensures number { is_list result.length ≡ false }
+{
+    attribute_in(0x0022_0001).unwrap()
+}
+
+// The block of a position.
+fn position_block(idn: Idn, value: u32, step: u32) -> Block
+    ensures { result ≡ position_block idn value step }
+{
+    let attribute = position_attribute();
+    Block {
+        idn,
+        attribute,
+        name: None,
+        unit: None,
+        min: None,
+        max: None,
+        value: bytes_for(attribute, value),
+        max_len: 0,
+        fixed: false,
+        step,
+        fails: false,
+    }
+}
+
+// The blocks of every drive.
+fn position_blocks(alloc: Global) -> Result<Vec<Block>, AllocError>
+    ensures { IfOk result (λ v. v.items ≡ position_block position_command 0 0 ∷ position_block position_feedback 64500 10 ∷ []) }
+{
+    let mut blocks = Vec::with_capacity(alloc, 2)?;
+    blocks.push(position_block(POSITION_COMMAND, 0, 0))?;
+    blocks.push(position_block(POSITION_FEEDBACK, 64500, 10))?;
+    Ok(blocks)
+}
+
+// A list of one identifier number.
+fn one(idn: Idn) -> ArrayVec<Idn, 16>
+    ensures { result.items ≡ idn ∷ [] }
+{
+    let mut idns = ArrayVec::new();
+    idns.push(idn);
+    idns
+}
+
+// The times that drive k declares, in microseconds.
+fn times_of(k: u8) -> Times
+    ensures { result ≡ generated_times k }
+{
+    Times {
+        t1min: u16::from(20 + k % 7),
+        tatmt: 6,
+        t4min: 20,
+        tatat: 5,
+        tmtsy: 10,
+        tmtsg: 20,
+    }
+}
+
+// Drive k, from 1 on.
+#[tactic(auto, unfolding(crate::specs::Generated::generated_drive))]
+fn generated_drive(alloc: Global, k: u8) -> Result<DriveSetup, AllocError>
+    requires { 1 ≤ k }
+    ensures { IfOk result (λ d. d ≡ generated_drive k) }
+{
+    let blocks = position_blocks(alloc)?;
+    Ok(DriveSetup {
+        address: k,
+        slave: 1 + (k - 1) / 2,
+        busy: k % 3,
+        command: u16::from(k % 4),
+        times: times_of(k),
+        cycle_min: 125,
+        cycle_max: 64000,
+        at: one(POSITION_FEEDBACK),
+        mdt: one(POSITION_COMMAND),
+        blocks,
+    })
+}
+
+// The drives 1 to n.
+#[tactic(auto, using(crate::proofs::GeneratedLemmas::made_more, crate::proofs::GeneratedLemmas::made_count))]
+fn generated_drives(alloc: Global, n: u8) -> Result<Vec<DriveSetup>, AllocError>
+    requires { n ≤ 64 }
+    ensures value { IfOk result (λ v. v.items ≡ map generated_drive (range_with_len 1 n)) }
+    ensures count { IfOk result (λ v. length v.items ≡ n) }
+{
+    let mut drives = Vec::with_capacity(alloc, usize::from(n))?;
+    for place in 0..n {
+        drives.push(generated_drive(alloc, place + 1)?)?;
+    }
+    Ok(drives)
+}
+
+// The read of the position feedback of drive k.
+#[tactic(auto, unfolding(crate::specs::Generated::generated_job))]
+fn generated_job(k: u8) -> Job
+    ensures { result ≡ generated_job k }
+{
+    Job {
+        drive: k,
+        request: Request::Read {
+            idn: POSITION_FEEDBACK,
+            element: 7,
+        },
+    }
+}
+
+// One request to each of n drives.
+#[tactic(auto, using(crate::proofs::GeneratedLemmas::made_more))]
+fn generated_jobs(alloc: Global, n: u8) -> Result<Vec<Job>, AllocError>
+    requires { n ≤ 64 }
+    ensures { IfOk result (λ v. v.items ≡ map generated_job (range_with_len 1 n)) }
+{
+    let mut jobs = Vec::with_capacity(alloc, usize::from(n))?;
+    for place in 0..n {
+        jobs.push(generated_job(place + 1))?;
+    }
+    Ok(jobs)
+}
+
+// The AT of drive k, lost on link n.
+#[tactic(auto, unfolding(crate::specs::Generated::generated_fault))]
+fn generated_fault(n: u8, k: u8) -> Fault
+    ensures { result ≡ generated_fault n k }
+{
+    let cycle = 37 * u32::from(k);
+    Fault {
+        cycle,
+        last: cycle,
+        every: 1,
+        kind: Kind::At,
+        from: k,
+        damage: Damage::Lose { link: n },
+    }
+}
+
+// One fault for each of n drives.
+#[tactic(auto, using(crate::proofs::GeneratedLemmas::made_more))]
+fn generated_faults(alloc: Global, n: u8) -> Result<Vec<Fault>, AllocError>
+    requires { n ≤ 64 }
+    ensures { IfOk result (λ v. v.items ≡ map (generated_fault n) (range_with_len 1 n)) }
+{
+    let mut faults = Vec::with_capacity(alloc, usize::from(n))?;
+    for place in 0..n {
+        faults.push(generated_fault(n, place + 1))?;
+    }
+    Ok(faults)
+}
+
+// The number of steps that the start-up of a drive is counted with.
+fn steps_of(drive: &DriveSetup) -> u32
+    ensures value { result ≡ 82 + 4 * (length drive.now.at + length drive.now.mdt) + 2 * drive.now.command }
+    ensures bound { result ≤ 131280 }
+{
+    let command = u32::from(drive.command);
+    let lists = drive.at.as_slice().len() + drive.mdt.as_slice().len();
+    82 + 4 * lists as u32 + 2 * command
+}
+
+// The cycles that the start-up of a drive takes.
+#[tactic(auto, using(crate::proofs::GeneratedLemmas::startup_fits))]
+fn startup_of(drive: &DriveSetup) -> u32
+    ensures value { result ≡ startup_of drive.now }
+    ensures bound { result ≤ 33738960 }
+{
+    let cycles = u32::from(drive.busy) + 2;
+    cycles * steps_of(drive)
+}
+
+// The cycles that the start-up of these drives takes, one after the other.
+fn startup_of_all(drives: &[DriveSetup]) -> u32
+    requires { length drives.now ≤ 64 }
+    ensures value { result ≡ sum_by startup_of drives.now }
+    ensures bound { result ≤ 2159293440 }
+{
+    let mut cycles = 0;
+    for drive in drives {
+        cycles += startup_of(drive);
+    }
+    cycles
+}
+
+// The number of cycles that a ring of these drives runs.
+fn cycles_for(drives: &[DriveSetup]) -> u32
+    requires { length drives.now ≤ 64 }
+    ensures { result ≡ 20 + 2 * length drives.now + sum_by startup_of drives.now + 100 }
+{
+    20 + 2 * drives.len() as u32 + startup_of_all(drives) + CYCLES_AFTER_STARTUP
+}
+
+// The ring of n drives.
+#[tactic(auto, unfolding(crate::specs::Generated::generated_ring, crate::specs::Generated::generated_cycles))]
+fn generated_ring(alloc: Global, n: u8) -> Result<RingSetup, AllocError>
+    requires { n ≤ 64 }
+    ensures { IfOk result (λ r. r ≡ generated_ring n (generated_cycles n)) }
+{
+    let drives = generated_drives(alloc, n)?;
+    Ok(RingSetup {
+        rate: 4,
+        cycle: 4000,
+        control: 4000,
+        gap: 5,
+        cycles: cycles_for(drives.as_slice()),
+        order: all_drives(usize::from(n)),
+        drives,
+    })
+}
+
+// The document of n drives.
+#[tactic(auto, unfolding(crate::specs::Generated::generated))]
+fn document_for(alloc: Global, n: u8) -> Result<Document, AllocError>
+    requires { n ≤ 64 }
+    ensures { IfOk result (λ d. d ≡ generated n) }
+{
+    Ok(Document {
+        setup: generated_ring(alloc, n)?,
+        jobs: generated_jobs(alloc, n)?,
+        faults: generated_faults(alloc, n)?,
+    })
+}
+
+/// Returns the document of `n` drives, 1 to 64, that this profile generates. Its drives are busy for 0 to 2 cycles, and their
+/// procedure commands take 0 to 3. It has a read of S-0-0051 for each drive, and for each drive a fault that loses one of its ATs
+/// on the link to the master. The ring runs for 100 cycles more than the bound of its start-up.
+///
+/// The ring is a valid one, a master of it may be opened with the jobs, and the `every` of each fault is at least 1. The error is
+/// `AllocError` if memory runs out.
+pub fn generate(alloc: Global, n: u8) -> Result<Document, AllocError>
+    requires some { 1 ≤ n }
+    requires few { n ≤ 64 }
+    ensures value { IfOk result (λ d. d ≡ generated n) }
+    ensures setup { IfOk result (λ d. is_ring d.setup ≡ true) }
+    ensures jobs { IfOk result (λ d.
+        AreJobs (λ address. has_address address d.setup.drives) (λ address raw. has_other_data address raw d.setup.drives) d.jobs) }
+    ensures faults { IfOk result (λ d. All (λ f. 1 ≤ f.every) d.faults) }
+{
+    document_for(alloc, n)
+}
