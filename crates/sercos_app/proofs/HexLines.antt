@@ -9,7 +9,8 @@ use Rattle.std.proofs.lemmas.List.Sums.{prefix_len-le-length}
 use Rattle.hex.specs.Hex.{decode_of}
 use Rattle.sercos_model.specs.Bits.{bits_of}
 use Rattle.sercos_model.proofs.BitLemmas.{length-bits_of}
-use Rattle.sercos_app.specs.Line.{hex_bytes, byte_of, wanted_digits, has_spare, dash_fault, digits_fault, hex_fault, hex_bits}
+use Rattle.sercos_text.specs.Fields.{pairs_of}
+use Rattle.sercos_app.specs.Line.{byte_of, wanted_digits, has_spare, dash_fault, digits_fault, hex_fault, hex_bits}
 use Rattle.sercos_app.specs.SpelledLine.{AreDigitsOf, IsHexOf}
 use Rattle.sercos_model.proofs.FaultLemmas.{none_of-or, none_of-then, at_least, nat_lt-at_least}
 use Rattle.sercos_app.proofs.HexPairs.{pair_bytes, pair_bytes-at, byte_of-least, AllPass-prefix_len, prefix_len-AllPass, decode_of-pair_bytes, ArePairs-decoded}
@@ -67,7 +68,7 @@ digits_fault-AreGoodDigits count text some good =
     rw (first, good.least, third, good.last, fifth) refl
 
 hex_bits-decoded : (count : ℕ) (text bytes : List ℕ) → length text ≡ wanted_digits count → decode_of text ≡ Ok bytes → hex_bits count text ≡ take count (bits_of bytes)
-unfolding hex_bits hex_bytes
+unfolding hex_bits pairs_of
 hex_bits-decoded count text bytes long decoded =
     let all : take (wanted_digits count) text ≡ text = take_all (wanted_digits count) text (omega arith) in
     rw (all, decoded) refl

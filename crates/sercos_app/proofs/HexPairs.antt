@@ -8,7 +8,8 @@ use Rattle.std.proofs.lemmas.List.Sums.{prefix_len_passes, prefix_len_is}
 use Rattle.hex.specs.Hex.{decode_of, decode_pairs, hex_digit_value, is_hex_digit, pair_value}
 use Rattle.hex.proofs.Pairs.{cons_byte, decode_pairs-ok_pair}
 use Rattle.hex.proofs.HexLemmas.{decode_of-even, decode_of-ok, decode_of-same}
-use Rattle.sercos_app.specs.Line.{byte_of, hex_bytes}
+use Rattle.sercos_app.specs.Line.{byte_of}
+use Rattle.sercos_text.specs.Fields.{pairs_of}
 
 is_hex_digit-ascii : (c : ℕ) → is_hex_digit c ≡ is_ascii_hexdigit c
 is_hex_digit-ascii c = grind (arith, nat_tests)
@@ -22,7 +23,7 @@ digit_of c digit = some_of (hex_digit_value c) digit
     some_of None some = cc
 
 byte_of-digits : (high low h l : ℕ) → hex_digit_value high ≡ Some h → hex_digit_value low ≡ Some l → byte_of high low ≡ h * 16 + l
-unfolding byte_of hex_bytes decode_pairs
+unfolding byte_of pairs_of decode_pairs
 byte_of-digits high low h l high_is low_is = rw (high_is, low_is) refl
 
 pair_value-digits : (i high low h l : ℕ) → hex_digit_value high ≡ Some h → hex_digit_value low ≡ Some l → pair_value high low i ≡ Ok (h * 16 + l)

@@ -1,5 +1,5 @@
 -- The cycles of a ring whose run is written: one more, a write that fails, and the whole text.
-use Rattle.std.proofs.Common.{◌≡◌, ℕ, zero, suc, ◌+◌, ◌<◌, ◌≤◌, ◌⊎◌, inl, inr, Bool, true, false, List, [], ◌∷◌, ◌++◌, length, reverse, if◌then◌else◌, is_some, None, Result, Ok, Err, IfOk, OnOk, OnErr, IsOk, IsErr, take, map, refl, sym, ap, ◌∙◌, subst, arith, append_assoc, append-nil}
+use Rattle.std.proofs.Common.{◌≡◌, ℕ, zero, suc, ◌+◌, ◌<◌, ◌≤◌, ◌⊎◌, inl, inr, Bool, true, false, List, [], ◌∷◌, ◌++◌, length, reverse, if◌then◌else◌, is_some, Result, Ok, Err, IfOk, OnOk, OnErr, IsOk, IsErr, take, map, refl, sym, ap, ◌∙◌, subst, arith, append_assoc, append-nil}
 use Rattle.std.specs.List.{flat_map}
 use Rattle.std.proofs.lemmas.Bool.{cases_lt}
 use Rattle.std.specs.List.{All}
@@ -21,8 +21,8 @@ use Rattle.sercos_app.proofs.PartLemmas.{taken_none, taken_then, failed_early, f
 use Rattle.sercos_script.specs.Links.{Carry, Restarts}
 use Rattle.sercos_ring.specs.Runs.{IsRun, run_of, next_record}
 use Rattle.sercos_app.specs.Totals.{totals_of, falls_in}
-use Rattle.sercos_app.specs.Counting.{HasRoom, IsFew, with_cycle}
-use Rattle.sercos_app.specs.Journals.{IsRingOf, OfRun, Journal, AreFew, HasWritten, HasStopped, WritesCycles, HasMade, cycles_text, journal_text}
+use Rattle.sercos_app.specs.Counting.{HasRoom, IsFew, none_made, with_cycle}
+use Rattle.sercos_app.specs.Journals.{IsRingOf, OfRun, Journal, AreFew, HasCounted, HasWritten, HasStopped, WritesCycles, HasMade, cycles_text, journal_text}
 use Rattle.sercos_app.specs.RunWriting.{WritesRun}
 use Rattle.sercos_app.proofs.TotalsLemmas.{totals_more}
 
@@ -34,11 +34,11 @@ text_more : (w : WishesView) (m : CycleView) (j : List CycleView) → cycles_tex
 text_more w m j = ap (flat_map (cycle_text w)) (in_order m j) ∙ flat_map-append (cycle_text w) (reverse j) (m ∷ []) ∙ ap (λ t. cycles_text w j ++ t) (append-nil (cycle_text w m))
 
 -- nothing was made yet
-pub none_counted : record { cycles = 0; phase = 0; complete = 0; refused = 0; broken = 0; falls = 0; unseen = 0; phase4 = None } ≡ totals_of []
+pub none_counted : none_made ≡ totals_of []
 unfolding totals_of
 none_counted = refl
 
-pub none_few : AreFew (record { cycles = 0; phase = 0; complete = 0; refused = 0; broken = 0; falls = 0; unseen = 0; phase4 = None }) 0
+pub none_few : AreFew none_made 0
 none_few = record {
   cycles = omega arith;
   complete = omega arith;
@@ -48,14 +48,17 @@ none_few = record {
   unseen = omega arith;
 }
 
-pub written_none : {R : Type 0} (stands : R → RingView → List Job → Carry → Restarts → List CycleView → Type 0) (w : WishesView) (ring : R) (a : Seen) (t : Totals) → t ≡ totals_of []
-    → AreFew t 0 → HasWritten stands w ring ring 0 a a t
-written_none stands w ring a t is few = record {
+pub counted_none : {R : Type 0} (stands : R → RingView → List Job → Carry → Restarts → List CycleView → Type 0) (ring : R) (t : Totals) → t ≡ totals_of [] → AreFew t 0 → HasCounted stands ring ring 0 t
+counted_none stands ring t is few = record {
   journal = record { cycles = []; count = refl; stands_for = λ r jobs carry restarts s. s };
   counted = is;
   few = few;
-  taken = taken_none a;
 }
+
+pub written_none : {R : Type 0} (stands : R → RingView → List Job → Carry → Restarts → List CycleView → Type 0) (w : WishesView) (ring : R) (a : Seen) (t : Totals) → t ≡ totals_of []
+    → AreFew t 0 → HasWritten stands w ring ring 0 a a t
+unfolding counted_none
+written_none stands w ring a t is few = record { made = counted_none stands ring t is few; taken = taken_none a }
 
 few_more : (t : Totals) (m : CycleView) (k : ℕ) → AreFew t k → IsFew m → falls_in m ≤ 1 → AreFew (with_cycle t m) (k + 1)
 few_more t m k f g falls = record {
@@ -86,17 +89,26 @@ fell_once m = by (is_some m.events.fall)
 counted_more : (t t' : Totals) (m : CycleView) (j : List CycleView) → t ≡ totals_of (reverse j) → t' ≡ with_cycle t m → t' ≡ totals_of (reverse (m ∷ j))
 counted_more t t' m j is next = next ∙ ap (λ x. with_cycle x m) is ∙ sym (totals_more (reverse j) m) ∙ sym (ap totals_of (in_order m j))
 
--- a cycle more was written
+-- a cycle more was made and counted, and its lines were written
+pub counted_next : {R : Type 0} (stands : R → RingView → List Job → Carry → Restarts → List CycleView → Type 0) (old mid new : R) (k : ℕ) (t t' : Totals) (m : CycleView)
+    → HasCounted stands old mid k t
+    → ((r : RingView) (jobs : List Job) (carry : Carry) (restarts : Restarts) (j : List CycleView) → stands mid r jobs carry restarts j → stands new r jobs carry restarts (m ∷ j))
+    → t' ≡ with_cycle t m → IsFew m → HasCounted stands old new (k + 1) t'
+unfolding journal_more
+counted_next stands old mid new k t t' m done turn is few = record {
+  journal = journal_more stands old mid new k m done.journal turn;
+  counted = counted_more t t' m done.journal.cycles done.counted is;
+  few = subst (λ x. AreFew x (k + 1)) (sym is) (few_more t m k done.few few (fell_once m));
+}
+
 pub written_next : {R : Type 0} (stands : R → RingView → List Job → Carry → Restarts → List CycleView → Type 0) (w : WishesView) (old mid new : R) (k : ℕ) (a b c : Seen) (t t' : Totals) (m : CycleView)
     → HasWritten stands w old mid k a b t
     → ((r : RingView) (jobs : List Job) (carry : Carry) (restarts : Restarts) (j : List CycleView) → stands mid r jobs carry restarts j → stands new r jobs carry restarts (m ∷ j))
     → t' ≡ with_cycle t m → IsFew m → HasTaken b c (cycle_text w m) → HasWritten stands w old new (k + 1) a c t'
-unfolding journal_more
+unfolding journal_more counted_next
 written_next stands w old mid new k a b c t t' m done turn is few taken = record {
-  journal = journal_more stands old mid new k m done.journal turn;
-  counted = counted_more t t' m done.journal.cycles done.counted is;
-  few = subst (λ x. AreFew x (k + 1)) (sym is) (few_more t m k done.few few (fell_once m));
-  taken = subst (HasTaken a c) (sym (text_more w m done.journal.cycles)) (taken_then a b c (cycles_text w done.journal.cycles) (cycle_text w m) done.taken taken);
+  made = counted_next stands old mid new k t t' m done.made turn is few;
+  taken = subst (HasTaken a c) (sym (text_more w m done.made.journal.cycles)) (taken_then a b c (cycles_text w done.made.journal.cycles) (cycle_text w m) done.taken taken);
 }
 
 pub written_at : {R : Type 0} (stands : R → RingView → List Job → Carry → Restarts → List CycleView → Type 0) (w : WishesView) (old new : R) (m n : ℕ) (a b : Seen) (t : Totals)
@@ -112,8 +124,8 @@ unfolding journal_more
 stopped_next stands w old mid new k n a b c t m below done turn failed = record {
   made = k + 1;
   few = omega (arith, below);
-  journal = journal_more stands old mid new k m done.journal turn;
-  failed = subst (HasFailed a c) (sym (text_more w m done.journal.cycles)) (failed_later a b c (cycles_text w done.journal.cycles) (cycle_text w m) done.taken failed);
+  journal = journal_more stands old mid new k m done.made.journal turn;
+  failed = subst (HasFailed a c) (sym (text_more w m done.made.journal.cycles)) (failed_later a b c (cycles_text w done.made.journal.cycles) (cycle_text w m) done.taken failed);
 }
 
 -- up to 50,000 cycles, there is room for a cycle more
@@ -214,10 +226,10 @@ pub ends_whole : {R E : Type 0} (stands : R → RingView → List Job → Carry 
     → (w : WishesView) (old new : R) (n : ℕ) (a b c d : Seen) (t : Totals) → HasTaken a b (header_text w) → HasWritten stands w old new n b c t → HasTaken c d (end_text t)
     → WritesRun {E = E} stands w old new n a d (Ok t)
 ends_whole stands law w old new n a b c d t head done end = record {
-  made = made_of stands law old new n n true (omega arith) (λ is. refl) done.journal;
-  totals = λ r jobs carry restarts s. done.counted ∙ ap (λ j. totals_of (reverse j)) (journal_is stands law old new n done.journal r jobs carry restarts s);
-  written = λ r jobs carry restarts s. subst (HasTaken a d) (whole_text w done.journal.cycles (run_of r jobs carry restarts n) t (journal_is stands law old new n done.journal r jobs carry restarts s) done.counted)
-      (taken_then a b d (header_text w) (cycles_text w done.journal.cycles ++ end_text t) head (taken_then b c d (cycles_text w done.journal.cycles) (end_text t) done.taken end));
+  made = made_of stands law old new n n true (omega arith) (λ is. refl) done.made.journal;
+  totals = λ r jobs carry restarts s. done.made.counted ∙ ap (λ j. totals_of (reverse j)) (journal_is stands law old new n done.made.journal r jobs carry restarts s);
+  written = λ r jobs carry restarts s. subst (HasTaken a d) (whole_text w done.made.journal.cycles (run_of r jobs carry restarts n) t (journal_is stands law old new n done.made.journal r jobs carry restarts s) done.made.counted)
+      (taken_then a b d (header_text w) (cycles_text w done.made.journal.cycles ++ end_text t) head (taken_then b c d (cycles_text w done.made.journal.cycles) (end_text t) done.taken end));
 }
 
 -- the last line was not written whole
@@ -226,10 +238,10 @@ pub fails_late : {R E : Type 0} (stands : R → RingView → List Job → Carry 
     → (w : WishesView) (old new : R) (n : ℕ) (a b c d : Seen) (t : Totals) (e : E) → HasTaken a b (header_text w) → HasWritten stands w old new n b c t → HasFailed c d (end_text t)
     → WritesRun stands w old new n a d (Err e)
 fails_late stands law w old new n a b c d t e head done failed = record {
-  made = made_of stands law old new n n false (omega arith) (λ never. refl) done.journal;
+  made = made_of stands law old new n n false (omega arith) (λ never. refl) done.made.journal;
   totals = tt;
-  written = λ r jobs carry restarts s. subst (HasFailed a d) (whole_text w done.journal.cycles (run_of r jobs carry restarts n) t (journal_is stands law old new n done.journal r jobs carry restarts s) done.counted)
-      (failed_later a b d (header_text w) (cycles_text w done.journal.cycles ++ end_text t) head (failed_later b c d (cycles_text w done.journal.cycles) (end_text t) done.taken failed));
+  written = λ r jobs carry restarts s. subst (HasFailed a d) (whole_text w done.made.journal.cycles (run_of r jobs carry restarts n) t (journal_is stands law old new n done.made.journal r jobs carry restarts s) done.made.counted)
+      (failed_later a b d (header_text w) (cycles_text w done.made.journal.cycles ++ end_text t) head (failed_later b c d (cycles_text w done.made.journal.cycles) (end_text t) done.taken failed));
 }
 
 -- the answer of a call that hands on a failure
@@ -288,3 +300,10 @@ unfolding wishes_of
 order_within w r is order =
     subst (λ v. All (λ place. place < length v.drives) v.order) (sym is)
     (All-from_get_or (λ place. place < length (map wish_of r.drives)) r.order 0 (λ i inside. let below = order.within i inside in let count = length-map r.drives wish_of in omega (arith, below, count)))
+
+-- The counts of all cycles are those of the run.
+pub counts_run : {R : Type 0} (stands : R → RingView → List Job → Carry → Restarts → List CycleView → Type 0)
+    → ((ring : R) (r : RingView) (jobs : List Job) (carry : Carry) (restarts : Restarts) (j : List CycleView) → stands ring r jobs carry restarts j → j ≡ run_of r jobs carry restarts (length j))
+    → (old new : R) (m n : ℕ) (t : Totals) → m ≡ n → HasCounted stands old new m t → OfRun stands old n (λ run. t ≡ totals_of (reverse run))
+counts_run stands law old new m n t same done = λ r jobs carry restarts s.
+    done.counted ∙ ap (λ j. totals_of (reverse j)) (journal_is stands law old new m done.journal r jobs carry restarts s ∙ ap (run_of r jobs carry restarts) same)

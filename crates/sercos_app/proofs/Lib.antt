@@ -1,11 +1,15 @@
 pub mod LineLemmas
+pub mod NumberLemmas
 pub mod SpareBits
 pub mod HexPairs
 pub mod HexLines
 pub mod SpelledLines
 pub mod WrittenLines
+pub mod WordsRead
 pub mod FormLemmas
 pub mod ShowLemmas
+pub mod CheckingLemmas
+pub mod WorkedChecks
 pub mod Outcomes
 pub mod ReplyLemmas
 pub mod Bounds
@@ -13,3 +17,4 @@ pub mod TotalsLemmas
 pub mod PartLemmas
 pub mod JournalLemmas
 pub mod RunLemmas
+mod WorkedSummary

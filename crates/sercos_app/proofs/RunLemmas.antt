@@ -16,6 +16,8 @@ use Rattle.sercos_config.specs.Views.{DocumentView}
 use Rattle.sercos_config.specs.Document.{document_of}
 use Rattle.sercos_app.specs.Show.{Answer}
 use Rattle.sercos_app.specs.Running.{RunsItsRing, carry_under, restarts_under, run_answer, run_traced, traced_answer}
+use Rattle.sercos_config.specs.Generated.{generated}
+use Rattle.sercos_app.specs.Generating.{RunsGenerated, gen_answer, run_summed}
 use Rattle.sercos_app.specs.Outcome.{SinkChange, Writes, Replies}
 use Rattle.sercos_app.specs.Outcome.Replies.{none_found, replied}
 
@@ -58,14 +60,31 @@ run_refuses law carry restarts bytes bad sink Unwritten status (inr is) (inr wri
     replied status (document_runs law carry restarts bytes)
     (subst (λ (a : Answer). Writes a.status a.output sink status) (sym (run_refusal_of carry restarts bytes bad is)) written.1)
 
--- a run over the links of the document's script, and then the link handed in
-pub run_under : (d : DocumentView) (setup : RingView) (jobs : List Job) (faults : List Fault) (first second carry : Carry) (early late restarts : Restarts) (sink : SinkChange) (Unwritten : Type 0) (status : Status)
+-- a run over the links of the document's script, and then the link handed in, whatever is answered of it
+pub run_under : (answer : RingView → List Job → Carry → Restarts → Answer)
+    → (d : DocumentView) (setup : RingView) (jobs : List Job) (faults : List Fault) (first second carry : Carry) (early late restarts : Restarts) (sink : SinkChange) (Unwritten : Type 0) (status : Status)
     → d ≡ record { setup = setup; jobs = jobs; faults = faults } → first ≡ carried (length setup.drives) faults → second ≡ carry → early ≡ restarts_at faults → late ≡ restarts
-    → Replies (run_traced setup jobs (carried_by_both first second) (restarts_in_either early late)) (Unit {0}) sink Unwritten status
-    → Replies (run_traced d.setup d.jobs (carry_under d carry) (restarts_under d restarts)) (Unit {0}) sink Unwritten status
-run_under d setup jobs faults first second carry early late restarts sink Unwritten status is carries then restarts_early restarts_late replies =
-    let one = subst (λ (c : Carry). Replies (run_traced setup jobs (carried_by_both c second) (restarts_in_either early late)) (Unit {0}) sink Unwritten status) carries replies in
-    let two = subst (λ (c : Carry). Replies (run_traced setup jobs (carried_by_both (carried (length setup.drives) faults) c) (restarts_in_either early late)) (Unit {0}) sink Unwritten status) then one in
-    let three = subst (λ (r : Restarts). Replies (run_traced setup jobs (carried_by_both (carried (length setup.drives) faults) carry) (restarts_in_either r late)) (Unit {0}) sink Unwritten status) restarts_early two in
-    let four = subst (λ (r : Restarts). Replies (run_traced setup jobs (carried_by_both (carried (length setup.drives) faults) carry) (restarts_in_either (restarts_at faults) r)) (Unit {0}) sink Unwritten status) restarts_late three in
-    subst (λ (x : DocumentView). Replies (run_traced x.setup x.jobs (carry_under x carry) (restarts_under x restarts)) (Unit {0}) sink Unwritten status) (sym is) four
+    → Replies (answer setup jobs (carried_by_both first second) (restarts_in_either early late)) (Unit {0}) sink Unwritten status
+    → Replies (answer d.setup d.jobs (carry_under d carry) (restarts_under d restarts)) (Unit {0}) sink Unwritten status
+run_under answer d setup jobs faults first second carry early late restarts sink Unwritten status is carries then restarts_early restarts_late replies =
+    let one = subst (λ (c : Carry). Replies (answer setup jobs (carried_by_both c second) (restarts_in_either early late)) (Unit {0}) sink Unwritten status) carries replies in
+    let two = subst (λ (c : Carry). Replies (answer setup jobs (carried_by_both (carried (length setup.drives) faults) c) (restarts_in_either early late)) (Unit {0}) sink Unwritten status) then one in
+    let three = subst (λ (r : Restarts). Replies (answer setup jobs (carried_by_both (carried (length setup.drives) faults) carry) (restarts_in_either r late)) (Unit {0}) sink Unwritten status) restarts_early two in
+    let four = subst (λ (r : Restarts). Replies (answer setup jobs (carried_by_both (carried (length setup.drives) faults) carry) (restarts_in_either (restarts_at faults) r)) (Unit {0}) sink Unwritten status) restarts_late three in
+    subst (λ (x : DocumentView). Replies (answer x.setup x.jobs (carry_under x carry) (restarts_under x restarts)) (Unit {0}) sink Unwritten status) (sym is) four
+
+-- a reply that says more beside its text
+says_too : (answer : Answer) (Says : Type 0) (sink : SinkChange) (Unwritten : Type 0) (status : Status) → Says → Replies answer (Unit {0}) sink Unwritten status → Replies answer Says sink Unwritten status
+says_too answer Says sink Unwritten status told (none_found unwritten) = none_found unwritten
+says_too answer Says sink Unwritten status told (replied ended is written) = replied ended told written
+
+-- the summary of the run of a generated document
+pub gen_replies : ((r : RingView) (jobs : List Job) (carry : Carry) (restarts : Restarts) (j : List CycleView) → IsNext r jobs carry restarts (next_record r jobs carry restarts j) j)
+    → (carry : Carry) (restarts : Restarts) (n : ℕ) (d : DocumentView) (sink : SinkChange) (Unwritten : Type 0) (status : Status) → d ≡ generated n
+    → Replies (run_summed n d.setup d.jobs (carry_under d carry) (restarts_under d restarts)) (Unit {0}) sink Unwritten status
+    → Replies (gen_answer carry restarts n) (RunsGenerated carry restarts n) sink Unwritten status
+unfolding gen_answer
+gen_replies law carry restarts n d sink Unwritten status is replies =
+    says_too (gen_answer carry restarts n) (RunsGenerated carry restarts n) sink Unwritten status
+    (run_is law (generated n).setup (generated n).jobs (carry_under (generated n) carry) (restarts_under (generated n) restarts) (generated n).setup.cycles)
+    (subst (λ (x : DocumentView). Replies (run_summed n x.setup x.jobs (carry_under x carry) (restarts_under x restarts)) (Unit {0}) sink Unwritten status) is replies)

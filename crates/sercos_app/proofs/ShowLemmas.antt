@@ -56,7 +56,7 @@ pub record Cut (rest line others : List ℕ) : Type 0 where
   pub line_is : line ≡ before_first is_feed rest
   pub others_are : others ≡ after_first is_feed rest
 
-lines_of-cut : (rest line others : List ℕ) → Cut rest line others → lines_of rest ≡ line ∷ lines_of others
+pub lines_of-cut : (rest line others : List ℕ) → Cut rest line others → lines_of rest ≡ line ∷ lines_of others
 lines_of-cut rest line others cut = rw (cut.line_is, cut.others_are) (lines_of-first rest cut.some)
 
 -- a line without a fault

@@ -1,23 +1,19 @@
 -- A line of `show` has no fault exactly where it is `KIND COUNT HEX` of some bits, and it gives these.
-use Rattle.std.proofs.Common.{◌≡◌, ℕ, zero, suc, ◌+◌, ◌^◌, ◌<◌, ◌≤◌, Bool, true, false, not, cond, ◌==◌, ◌&&◌, inl, inr, nat_eq, nat_lt, List, [], ◌∷◌, ◌++◌, length, take, drop, get_or, Option, Some, None, refl, sym, ap, ◌∙◌, arith, codes, decimal, append_assoc, length-append}
+use Rattle.std.proofs.Common.{◌≡◌, ℕ, suc, ◌+◌, ◌<◌, ◌≤◌, Bool, true, false, not, cond, ◌==◌, inl, inr, nat_eq, List, [], ◌∷◌, ◌++◌, length, drop, get_or, Option, Some, None, refl, sym, ap, ◌∙◌, arith, codes, decimal, append_assoc, length-append}
 use Rattle.std.specs.Bool.{then_some}
-use Rattle.std.specs.Char.{is_ascii_digit}
-use Rattle.std.specs.Int.{IsInRange}
-use Rattle.std.specs.List.{prefix_len, common_prefix_len, find}
-use Rattle.std.specs.Str.Parse.{digits_value}
+use Rattle.std.specs.List.{common_prefix_len, find}
 use Rattle.std.proofs.lemmas.Bool.{cases_lt}
 use Rattle.std.proofs.lemmas.Bool.Decides.{nat_tests}
-use Rattle.std.proofs.lemmas.Fmt.{decimal-digits_value, digits_value-decimal, digits_decimal, decimal_digit, decimal_nonempty, first_decimal}
-use Rattle.std.proofs.lemmas.List.{take-append-drop, length-take-le, get_or-take, get_or_past, get_or_at, get_or_append_left, drop_more, drop_at, take_at}
-use Rattle.std.proofs.lemmas.List.Sums.{prefix_len_passes, prefix_len_is}
-use Rattle.std.proofs.lemmas.Str.Parse.{IsNumeralModel, numerals_by_value, tells_by_index}
-use Rattle.sercos_app.specs.Line.{kind_text, shared_with, kind_of, fault_by, bits_by, count_fault, count_text, count_of, hex_text, hex_fault, hex_bits, numbers_fault, numbers_bits, line_fault, line_bits}
+use Rattle.std.proofs.lemmas.List.{get_or_past, get_or_at, drop_more, drop_at}
+use Rattle.sercos_app.specs.Line.{kind_text, shared_with, kind_of, fault_by, bits_by, count_fault, count_text, hex_text, hex_fault, hex_bits, numbers_fault, numbers_bits, line_fault, line_bits}
+use Rattle.sercos_text.specs.Fields.{number_len, number_of, number_fault}
 use Rattle.sercos_app.specs.declared.line.LineKind.{LineKind}
 use Rattle.sercos_app.specs.declared.line.LineKind.TheVariants.{Raw, Mst, Single, At}
 use Rattle.std.proofs.Math.Seq.{drop-append_seam}
 use Rattle.sercos_app.specs.SpelledLine.{IsLine}
 use Rattle.sercos_app.proofs.LineLemmas.{common_prefix_len-nil}
-use Rattle.sercos_model.proofs.FaultLemmas.{none_of-or, none_of-then, none_of-map, at_least, nat_lt-at_least}
+use Rattle.sercos_model.proofs.FaultLemmas.{none_of-or, none_of-then, none_of-map}
+use Rattle.sercos_app.proofs.NumberLemmas.{IsGood, IsGood-number_fault, number_fault-IsGood, number_spelled, reads_number}
 use Rattle.sercos_app.proofs.HexLines.{IsHexOf-hex_fault, hex_fault-IsHexOf}
 
 -- the kind
@@ -32,63 +28,24 @@ shared_all (c ∷ line) (byte ∷ kind) all =
     let step = shared_step c byte (common_prefix_len nat_eq line kind) (length kind) all in
     rw (step.0) (ap (λ rest. byte ∷ rest) (shared_all line kind step.1))
 
--- COUNT and the space behind it, without a fault
+-- COUNT and the space after it, without a fault
 record IsGoodCount (text : List ℕ) : Type 0 where
-  some : 0 < prefix_len is_ascii_digit text
-  lead : get_or text 0 0 ≡ 48 → prefix_len is_ascii_digit text ≤ 1
-  most : count_of text ≤ 19696
-  space : get_or text (prefix_len is_ascii_digit text) 0 ≡ 32
+  number : IsGood 19696 text
+  space : get_or text (number_len text) 0 ≡ 32
 
 IsGoodCount-count_fault : (text : List ℕ) → count_fault text ≡ None → IsGoodCount text
 unfolding count_fault
 IsGoodCount-count_fault text none =
-    let digits : ℕ = prefix_len is_ascii_digit text in
-    let first = none_of-or (then_some (digits == 0) 0) _ none in
-    let second = none_of-or (then_some ((get_or text 0 0 == 48) && nat_lt 1 digits) 1) _ first.1 in
-    let third = none_of-or (then_some (nat_lt 19696 (count_of text)) 0) (then_some (not (get_or text digits 0 == 32)) digits) second.1 in
-    record {
-      some = is_some digits (none_of-then _ 0 first.0);
-      lead = is_lead (get_or text 0 0) digits (none_of-then _ 1 second.0);
-      most = at_least 19696 (count_of text) (none_of-then _ 0 third.0);
-      space = is_space (get_or text digits 0) (none_of-then _ digits third.1);
-    }
+    let digits : ℕ = number_len text in
+    let is = none_of-or (number_fault 19696 text) (then_some (not (get_or text digits 0 == 32)) digits) none in
+    record { number = IsGood-number_fault 19696 text is.0; space = is_space (get_or text digits 0) (none_of-then _ digits is.1) }
   where
-    is_some : (digits : ℕ) → (digits == 0) ≡ false → 0 < digits
-    is_some digits fails = grind (arith, nat_tests)
-
-    is_lead : (first digits : ℕ) → ((first == 48) && nat_lt 1 digits) ≡ false → first ≡ 48 → digits ≤ 1
-    is_lead first digits fails zeros = grind (arith, nat_tests)
-
     is_space : (byte : ℕ) → not (byte == 32) ≡ false → byte ≡ 32
     is_space byte fails = grind (arith, nat_tests)
 
 count_fault-IsGoodCount : (text : List ℕ) → IsGoodCount text → count_fault text ≡ None
 unfolding count_fault
-count_fault-IsGoodCount text good =
-    let digits : ℕ = prefix_len is_ascii_digit text in
-    let first = is_some digits good.some in
-    let second = is_lead (get_or text 0 0) digits good.lead in
-    let third = nat_lt-at_least 19696 (count_of text) good.most in
-    rw (first, second, third, good.space) refl
-  where
-    is_some : (digits : ℕ) → 0 < digits → (digits == 0) ≡ false
-    is_some digits some = grind (arith, nat_tests)
-
-    is_lead : (first digits : ℕ) → (first ≡ 48 → digits ≤ 1) → ((first == 48) && nat_lt 1 digits) ≡ false
-    is_lead first digits lead = grind (arith, nat_tests)
-
--- decimal digits by index, and the number that they write
-abbrev AreDigits : List ℕ → Type 0
-AreDigits text = (i : ℕ) → i < length text → IsInRange 48 57 (get_or text i 0)
-
-digits_model : IsNumeralModel AreDigits (digits_value 10)
-digits_model = numerals_by_value AreDigits tells_by_index
-
-digit_in_range : (c : ℕ) → is_ascii_digit c ≡ true → IsInRange 48 57 c
-digit_in_range c is = grind (arith, nat_tests)
-
-in_range_digit : (c : ℕ) → IsInRange 48 57 c → is_ascii_digit c ≡ true
-in_range_digit c within = grind (arith, nat_tests)
+count_fault-IsGoodCount text good = rw (number_fault-IsGood 19696 text good.number, good.space) refl
 
 inside_text : (text : List ℕ) (place : ℕ) → get_or text place 0 ≡ 32 → place < length text
 inside_text text place space = elim (cases_lt place (length text)) [
@@ -96,55 +53,29 @@ inside_text text place space = elim (cases_lt place (length text)) [
   | inr past ↦ absurd (omega (arith, get_or_past text place 0 past, space))
 ]
 
-text_of_count : (text : List ℕ) → IsGoodCount text → text ≡ decimal (count_of text) ++ codes " " ++ hex_text text
+text_of_count : (text : List ℕ) → IsGoodCount text → text ≡ decimal (number_of text) ++ codes " " ++ hex_text text
 text_of_count text good =
-    let digits : ℕ = prefix_len is_ascii_digit text in
-    let front : List ℕ = take digits text in
-    let inside = inside_text text digits good.space in
-    let long = length-take-le digits text (omega arith) in
-    let first = get_or-take digits text 0 0 good.some in
-    let are : AreDigits front =
-    λ i below. rw (get_or-take digits text i 0 (omega arith)) (digit_in_range (get_or text i 0) (prefix_len_passes is_ascii_digit text i 0 (omega arith))) in
-    let number : decimal (count_of text) ≡ front =
-    decimal-digits_value digits_model front are (omega (arith, long, good.some)) (λ zeros. omega (arith, long, good.some, good.lead (sym first ∙ zeros))) (omega (arith, good.most)) in
-    let rest : drop digits text ≡ codes " " ++ hex_text text = drop_more text digits 0 inside ∙ ap (λ byte. byte ∷ hex_text text) good.space in
-    sym (take-append-drop digits text) ∙ ap (λ more. front ++ more) rest ∙ sym (append_assoc front (codes " ") (hex_text text))
-    ∙ ap (λ digits. digits ++ codes " " ++ hex_text text) (sym number)
+    let digits : ℕ = number_len text in
+    let rest : drop digits text ≡ codes " " ++ hex_text text = drop_more text digits 0 (inside_text text digits good.space) ∙ ap (λ byte. byte ∷ hex_text text) good.space in
+    number_spelled 19696 text (omega arith) good.number ∙ ap (λ more. decimal (number_of text) ++ more) rest ∙ sym (append_assoc (decimal (number_of text)) (codes " ") (hex_text text))
 
 -- what COUNT, a space and HEX are read as
 record ReadsCount (text : List ℕ) (count : ℕ) (hex : List ℕ) : Type 0 where
   good : IsGoodCount text
-  number : count_of text ≡ count
+  number : number_of text ≡ count
   rest : hex_text text ≡ hex
-
--- a number has one digit, or doesn't begin with a zero
-leading_zero : (count : ℕ) → count < 2 ^ 64 → get_or (decimal count) 0 0 ≡ 48 → length (decimal count) ≤ 1
-leading_zero zero fits zeros = omega (arith, ap length (decimal_digit 0 (omega arith)))
-leading_zero (suc count) fits zeros = absurd (omega (arith, first_decimal (suc count) (omega arith) fits))
 
 reads_count : (count : ℕ) (hex : List ℕ) → count ≤ 19696 → ReadsCount (decimal count ++ codes " " ++ hex) count hex
 reads_count count hex most =
     let front : List ℕ = decimal count in
-    let text : List ℕ = front ++ 32 ∷ hex in
-    let fits : count < 2 ^ 64 = omega arith in
-    let are = digits_decimal digits_model count fits in
-    let space = get_or_at front 32 hex 0 (length front) refl in
-    let long = length-append front (32 ∷ hex) in
-    let digits : prefix_len is_ascii_digit text ≡ length front =
-    prefix_len_is is_ascii_digit text (length front) 0 (omega arith)
-    (λ k below. rw (get_or_append_left front (32 ∷ hex) 0 k below) (in_range_digit (get_or front k 0) (are k below)))
-    (λ inside. rw space refl) in
-    let first = get_or_append_left front (32 ∷ hex) 0 0 (decimal_nonempty count fits) in
-    let number : count_of text ≡ count = rw (digits, take_at front (32 ∷ hex) (length front) refl) (digits_value-decimal digits_model count fits) in
-    let rest : hex_text text ≡ hex = rw (digits, ← append_assoc front (codes " ") hex) (drop_at (front ++ codes " ") hex (length front + 1) (length-append front (codes " "))) in
+    let reads = reads_number count (32 ∷ hex) (omega arith) refl in
+    let rest : hex_text (front ++ 32 ∷ hex) ≡ hex = rw (reads.len, ← append_assoc front (codes " ") hex) (drop_at (front ++ codes " ") hex (length front + 1) (length-append front (codes " "))) in
     rw (append_assoc front (codes " ") hex) (record {
       good = record {
-        some = omega (arith, digits, decimal_nonempty count fits);
-        lead = λ zeros. omega (arith, digits, leading_zero count fits (sym first ∙ zeros));
-        most = omega (arith, number);
-        space = rw digits space;
+        number = record { some = reads.some; lead = reads.lead; most_is = omega (arith, reads.number) };
+        space = rw reads.len (get_or_at front 32 hex 0 (length front) refl);
       };
-      number = number;
+      number = reads.number;
       rest = rest;
     })
 
@@ -189,12 +120,12 @@ numbers_spelled kind line shared none =
     let text_is = none_of-or (count_fault text) _ none in
     let whole = shared_all line (kind_text kind) shared in
     let count = IsGoodCount-count_fault text text_is.0 in
-    let hex = IsHexOf-hex_fault (count_of text) (hex_text text) (none_of-map _ (hex_fault (count_of text) (hex_text text)) text_is.1) in
+    let hex = IsHexOf-hex_fault (number_of text) (hex_text text) (none_of-map _ (hex_fault (number_of text) (hex_text text)) text_is.1) in
     record {
-      fits = omega (arith, hex.1, count.most);
+      fits = omega (arith, hex.1, count.number.most_is);
       hex = hex_text text;
       spelled = hex.0;
-      whole = rw (hex.1) (whole ∙ ap (λ rest. kind_text kind ++ rest) (text_of_count text count) ∙ regrouped (kind_text kind) (decimal (count_of text)) (codes " ") (hex_text text));
+      whole = rw (hex.1) (whole ∙ ap (λ rest. kind_text kind ++ rest) (text_of_count text count) ∙ regrouped (kind_text kind) (decimal (number_of text)) (codes " ") (hex_text text));
     }
 
 spelled_by : (line : List ℕ) (found : Option LineKind) → kind_of line ≡ found → fault_by found line ≡ None → (kind : LineKind) × (kind_of line ≡ Some kind) × IsLine kind line (bits_by found line)

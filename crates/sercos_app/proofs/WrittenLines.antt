@@ -6,7 +6,8 @@ use Rattle.hex.proofs.HexLemmas.{decode_of-encode_lower}
 use Rattle.hex.proofs.OnLiterals.{hex_on_literals}
 use Rattle.sercos_model.specs.Bits.{is_odd, low_bits, bits_of, bytes_of}
 use Rattle.sercos_model.proofs.BitLemmas.{bits_of-bytes_of, AreBytes-bytes_of, AreBytes-get_or}
-use Rattle.sercos_app.specs.Line.{hex_bytes, byte_of, wanted_digits, has_spare, kind_text, kind_of, fault_by, bits_by, count_fault, digits_fault, hex_fault, numbers_fault, line_fault, hex_bits, numbers_bits, line_bits}
+use Rattle.sercos_text.specs.Fields.{pairs_of, number_fault}
+use Rattle.sercos_app.specs.Line.{byte_of, wanted_digits, has_spare, kind_text, kind_of, fault_by, bits_by, count_fault, digits_fault, hex_fault, numbers_fault, line_fault, hex_bits, numbers_bits, line_bits}
 use Rattle.sercos_app.specs.declared.line.LineKind.{LineKind}
 use Rattle.sercos_app.specs.SpelledLine.{AreDigitsOf, IsHexOf, IsLine}
 use Rattle.sercos_app.proofs.SpelledLines.{line_spelled}
@@ -40,11 +41,11 @@ abbrev frame_bits : List Bool
 frame_bits = map (λ digit. digit == 49) (codes "0111111011111011100000000111000010000111101111110")
 
 frame_line-line_fault : line_fault frame_line ≡ None
-unfolding line_fault fault_by kind_of numbers_fault count_fault hex_fault digits_fault has_spare byte_of hex_bytes wanted_digits hex_on_literals
+unfolding line_fault fault_by kind_of numbers_fault count_fault number_fault hex_fault digits_fault has_spare byte_of pairs_of wanted_digits hex_on_literals
 frame_line-line_fault = refl
 
 frame_line-line_bits : line_bits frame_line ≡ frame_bits
-unfolding line_bits bits_by kind_of numbers_bits hex_bits hex_bytes wanted_digits hex_on_literals bits_of low_bits is_odd
+unfolding line_bits bits_by kind_of numbers_bits hex_bits pairs_of wanted_digits hex_on_literals bits_of low_bits is_odd
 frame_line-line_bits = refl
 
 frame_line-IsLine : (kind : LineKind) × (kind_of frame_line ≡ Some kind) × IsLine kind frame_line frame_bits

@@ -8,6 +8,8 @@ use Rattle.sercos_app.specs.Form.{form_of}
 use Rattle.sercos_app.specs.Show.{Answer, show_answer}
 use Rattle.sercos_app.specs.Planning.{plan_answer, PlansItsRing}
 use Rattle.sercos_app.specs.Running.{run_answer, RunsItsRing}
+use Rattle.sercos_app.specs.Checking.{check_answer}
+use Rattle.sercos_app.specs.Generating.{gen_answer, RunsGenerated}
 use Rattle.sercos_script.specs.Links.{Carry, Restarts}
 
 -- the answer of each command to an input
@@ -15,12 +17,16 @@ unfoldable pub command_answer : Carry → Restarts → Form → List ℕ → Ans
 command_answer carry restarts forms.Show bytes = show_answer bytes
 command_answer carry restarts forms.Plan bytes = plan_answer bytes
 command_answer carry restarts forms.Run bytes = run_answer carry restarts bytes
+command_answer carry restarts forms.Check bytes = check_answer bytes
+command_answer carry restarts (forms.Gen drives) bytes = gen_answer carry restarts drives
 
 -- what the answer of each command says beside its text
 abbrev pub SaysWell : Carry → Restarts → Form → List ℕ → Type 0
 SaysWell carry restarts forms.Show bytes = Unit {0}
 SaysWell carry restarts forms.Plan bytes = PlansItsRing bytes
 SaysWell carry restarts forms.Run bytes = RunsItsRing carry restarts bytes
+SaysWell carry restarts forms.Check bytes = Unit {0}
+SaysWell carry restarts (forms.Gen drives) bytes = RunsGenerated carry restarts drives
 
 unfoldable pub form_answer : Carry → Restarts → Option Form → List ℕ → Answer
 form_answer carry restarts None bytes = record { status = BadWords; output = [] }

@@ -1,8 +1,13 @@
 -- One cycle more is counted.
-use Rattle.std.specs.Prelude.{◌+◌, ◌<◌, ◌≤◌, ◌^◌, ◌==◌, if◌then◌else◌, Some, None}
+use Rattle.std.specs.Prelude.{◌≡◌, ◌+◌, ◌<◌, ◌≤◌, ◌^◌, ◌==◌, true, if◌then◌else◌, List, Some, None}
 use Rattle.std.specs.Option.{option_or}
+use Rattle.sercos_step.specs.declared.request.Job.{Job}
+use Rattle.sercos_block.specs.Views.{RingView}
+use Rattle.sercos_block.specs.Rings.{is_ring}
+use Rattle.sercos_script.specs.Links.{Carry, Restarts}
 use Rattle.sercos_trace.specs.Views.{CycleView}
 use Rattle.sercos_trace.specs.declared.record.Totals.{Totals}
+use Rattle.sercos_ring.specs.Runs.{IsNext}
 use Rattle.sercos_app.specs.Totals.{ended_in, falls_in, is_complete, is_refused, is_broken}
 
 -- there is room in the counts for a cycle more
@@ -13,6 +18,10 @@ pub record HasRoom (t : Totals) : Type 0 where
   pub broken : t.broken + 128 < 2 ^ 32
   pub falls : t.falls + 1 < 2 ^ 32
   pub unseen : t.unseen + 195 < 2 ^ 32
+
+-- the totals of no cycle
+abbrev pub none_made : Totals
+none_made = record { cycles = 0; phase = 0; complete = 0; refused = 0; broken = 0; falls = 0; unseen = 0; phase4 = None }
 
 -- these totals with a cycle more
 abbrev pub with_cycle : Totals → CycleView → Totals
@@ -33,3 +42,13 @@ pub record IsFew (made : CycleView) : Type 0 where
   pub refused : ended_in is_refused made ≤ 128
   pub broken : ended_in is_broken made ≤ 128
   pub unseen : made.unseen ≤ 195
+
+-- this is the next cycle of a valid ring, after some others, the newest of which comes first
+pub record IsMade (made : CycleView) : Type 0 where
+  pub setup : RingView
+  pub jobs : List Job
+  pub carry : Carry
+  pub restarts : Restarts
+  pub before : List CycleView
+  pub valid : is_ring setup ≡ true
+  pub next : IsNext setup jobs carry restarts made before

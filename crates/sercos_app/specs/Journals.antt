@@ -51,12 +51,16 @@ pub record AreFew (t : Totals) (n : ℕ) : Type 0 where
 abbrev pub cycles_text : WishesView → List CycleView → List ℕ
 cycles_text w j = flat_map (cycle_text w) (reverse j)
 
--- the lines of n cycles were written, and they were counted
-pub record HasWritten {R : Type 0} (stands : R → RingView → List Job → Carry → Restarts → List CycleView → Type 0) (w : WishesView) (old new : R) (n : ℕ) (a b : Seen) (t : Totals) : Type 0 where
+-- n cycles were made and counted
+pub record HasCounted {R : Type 0} (stands : R → RingView → List Job → Carry → Restarts → List CycleView → Type 0) (old new : R) (n : ℕ) (t : Totals) : Type 0 where
   pub journal : Journal stands old new n
   pub counted : t ≡ totals_of (reverse journal.cycles)
   pub few : AreFew t n
-  pub taken : HasTaken a b (cycles_text w journal.cycles)
+
+-- and their lines were written
+pub record HasWritten {R : Type 0} (stands : R → RingView → List Job → Carry → Restarts → List CycleView → Type 0) (w : WishesView) (old new : R) (n : ℕ) (a b : Seen) (t : Totals) : Type 0 where
+  pub made : HasCounted stands old new n t
+  pub taken : HasTaken a b (cycles_text w made.journal.cycles)
 
 -- a write failed in the lines of the last of these cycles
 pub record HasStopped {R : Type 0} (stands : R → RingView → List Job → Carry → Restarts → List CycleView → Type 0) (w : WishesView) (old new : R) (n : ℕ) (a b : Seen) : Type 0 where

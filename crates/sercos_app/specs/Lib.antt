@@ -1,13 +1,17 @@
 pub mod Line
 pub mod SpelledLine
 pub mod Show
+pub mod Checking
+pub mod Taken
 pub mod Form
+pub mod CommandLine
 pub mod Planning
 pub mod Totals
 pub mod Counting
 pub mod Journals
 pub mod RunWriting
 pub mod Running
+pub mod Generating
 pub mod Given
 pub mod Answer
 pub mod TopCall

@@ -3,40 +3,34 @@
 -- least significant one of the first byte; bits past the last one are zeros. For no bits HEX is `-`.
 use Rattle.std.specs.Prelude.{ℕ, ◌+◌, ◌-◌, ◌*◌, ◌/◌, ◌^◌, ◌==◌, nat_eq, nat_lt, nat_le, max, Bool, not, ◌&&◌, if◌then◌else◌, List, [], ◌∷◌, length, take, drop, slice_index, codes, Option, Some, None}
 use Rattle.std.specs.Bool.{then_some}
-use Rattle.std.specs.Char.{is_ascii_digit, is_ascii_hexdigit}
+use Rattle.std.specs.Char.{is_ascii_hexdigit}
 use Rattle.std.specs.List.{prefix_len, common_prefix_len, find}
-use Rattle.std.specs.Option.{option_or, option_map}
-use Rattle.std.specs.Result.{result_unwrap_or}
-use Rattle.std.specs.Str.Parse.{digits_value}
-use Rattle.hex.specs.Hex.{decode_of}
+use Rattle.std.specs.Option.{option_or}
 use Rattle.sercos_model.specs.Bits.{bits_of}
+use Rattle.sercos_text.specs.Fields.{behind, number_len, number_of, number_fault, pairs_of}
 use Rattle.sercos_app.specs.declared.line.LineKind.{LineKind}
 use Rattle.sercos_app.specs.declared.line.LineKind.TheVariants.{Raw, Mst, Single, At}
 
--- the greatest COUNT: a frame of 2048 content bytes has at most so many bits
+-- the largest COUNT: the most bits that a frame of 2048 content bytes may have
 abbrev pub most_bits : ℕ
 most_bits = 19696
 
--- the bytes that hexadecimal digits spell, or none where they spell no bytes
-unfoldable pub hex_bytes : List ℕ → List ℕ
-hex_bytes text = result_unwrap_or (decode_of text) []
-
 -- the byte that two hexadecimal digits spell, or 0 where they are no such digits
 unfoldable pub byte_of : ℕ → ℕ → ℕ
-byte_of high low = slice_index (hex_bytes (high ∷ low ∷ [])) 0
+byte_of high low = slice_index (pairs_of (high ∷ low ∷ [])) 0
 
--- how many digits the HEX of so many bits has
+-- how many digits the HEX of `count` bits has
 unfoldable pub wanted_digits : ℕ → ℕ
 wanted_digits count = 2 * ((count + 7) / 8)
 
--- whether the last byte of so many bits has a one behind the last bit
+-- whether the last byte of `count` bits has a one after the last bit
 unfoldable pub has_spare : ℕ → ℕ → Bool
 has_spare count byte = nat_le (2 ^ (count - 8 * ((count + 7) / 8 - 1))) byte
 
 -- The faults of a part of a line are places, from 0 on, counted from the part's first byte. A missing byte's place is
 -- the part's length.
 
--- the kinds, each with the space behind it
+-- the kinds, each with the space after it
 abbrev pub kind_text : LineKind → List ℕ
 kind_text Raw = codes "raw "
 kind_text Mst = codes "mst "
@@ -55,17 +49,12 @@ kind_of line = find (λ kind. shared_with line kind == length (kind_text kind)) 
 unfoldable pub kind_fault : List ℕ → ℕ
 kind_fault line = max (max (max (shared_with line Raw) (shared_with line Mst)) (shared_with line Single)) (shared_with line At)
 
--- COUNT and the space behind it: no digit, a digit behind a leading zero, a number too large (at its first digit),
--- and another byte than a space
+-- COUNT and the space after it: the number's fault, or another byte than a space
 unfoldable pub count_fault : List ℕ → Option ℕ
 count_fault text =
-    let digits = prefix_len is_ascii_digit text in
-    option_or (then_some (digits == 0) 0)
-    (option_or (then_some ((slice_index text 0 == 48) && nat_lt 1 digits) 1)
-    (option_or (then_some (nat_lt most_bits (digits_value 10 (take digits text))) 0)
-    (then_some (not (slice_index text digits == 32)) digits)))
+    option_or (number_fault most_bits text) (then_some (not (slice_index text (number_len text) == 32)) (number_len text))
 
--- the HEX of no bits: another byte than `-`, and a byte behind it
+-- the HEX of no bits: another byte than `-`, and a byte after it
 unfoldable pub dash_fault : List ℕ → Option ℕ
 dash_fault text = option_or (then_some (not (slice_index text 0 == 45)) 0) (then_some (nat_lt 1 (length text)) 1)
 
@@ -85,25 +74,18 @@ digits_fault count text =
 unfoldable pub hex_fault : ℕ → List ℕ → Option ℕ
 hex_fault count text = if count == 0 then dash_fault text else digits_fault count text
 
--- what stands behind the kind
+-- what comes after the kind
 abbrev pub count_text : LineKind → List ℕ → List ℕ
 count_text kind line = drop (length (kind_text kind)) line
 
--- the number that COUNT spells, and what stands behind the space
-abbrev pub count_of : List ℕ → ℕ
-count_of text = digits_value 10 (take (prefix_len is_ascii_digit text) text)
-
+-- what comes after COUNT and its space
 abbrev pub hex_text : List ℕ → List ℕ
-hex_text text = drop (prefix_len is_ascii_digit text + 1) text
-
--- a place in what stands behind so many bytes
-abbrev pub behind : ℕ → Option ℕ → Option ℕ
-behind bytes place = option_map (λ p. bytes + p) place
+hex_text text = drop (number_len text + 1) text
 
 -- COUNT HEX
 unfoldable pub numbers_fault : List ℕ → Option ℕ
 numbers_fault text =
-    option_or (count_fault text) (behind (prefix_len is_ascii_digit text + 1) (hex_fault (count_of text) (hex_text text)))
+    option_or (count_fault text) (behind (number_len text + 1) (hex_fault (number_of text) (hex_text text)))
 
 unfoldable pub fault_by : Option LineKind → List ℕ → Option ℕ
 fault_by None line = Some (kind_fault line)
@@ -115,10 +97,10 @@ line_fault line = fault_by (kind_of line) line
 
 -- the bits of HEX
 unfoldable pub hex_bits : ℕ → List ℕ → List Bool
-hex_bits count text = take count (bits_of (hex_bytes (take (wanted_digits count) text)))
+hex_bits count text = take count (bits_of (pairs_of (take (wanted_digits count) text)))
 
 unfoldable pub numbers_bits : List ℕ → List Bool
-numbers_bits text = hex_bits (count_of text) (hex_text text)
+numbers_bits text = hex_bits (number_of text) (hex_text text)
 
 unfoldable pub bits_by : Option LineKind → List ℕ → List Bool
 bits_by None line = []

@@ -1,6 +1,6 @@
 -- How a call of the top call went: each way in which it can end, with what is known then. The clauses of the top call
 -- are read off this.
-use Rattle.std.specs.Prelude.{◌≡◌, ℕ, ◌<◌, ◌≤◌, List, length, take, Option, Some, None, Result, Ok, Err}
+use Rattle.std.specs.Prelude.{◌≡◌, ℕ, ◌<◌, ◌≤◌, Bool, true, false, List, [], length, take, Option, Some, None, Result, Ok, Err}
 use Rattle.std.specs.Io.KnownBytes.{Appends}
 use Rattle.sercos_model.specs.Streams.{Rose}
 use Rattle.sercos_io.specs.declared.status.Status.{Status}
@@ -8,7 +8,7 @@ use Rattle.sercos_io.specs.declared.status.Status.TheVariants.{BadWords, ReadFau
 use Rattle.sercos_app.specs.declared.form.Form.{Form}
 use Rattle.sercos_script.specs.Links.{Carry, Restarts}
 use Rattle.sercos_app.specs.Answer.{command_answer, SaysWell}
-use Rattle.sercos_app.specs.Form.{form_of}
+use Rattle.sercos_app.specs.Form.{form_of, reads_input}
 use Rattle.sercos_app.specs.Show.{Answer}
 use Rattle.sercos_app.specs.declared.given.Given.{Given}
 use Rattle.sercos_app.specs.Given.{given_status, given_text}
@@ -48,10 +48,20 @@ pub data Replies (answer : Answer) (Says : Type 0) (sink : SinkChange) (Unwritte
   none_found : Unwritten → Replies answer Says sink Unwritten Memory
   replied : (status : Status) → Says → Writes answer.status answer.output sink status → Replies answer Says sink Unwritten status
 
--- How the call ends. Unread says that the source is as it was, and Unwritten that the sink is.
+-- How the call ends before anything is written: the words are in no form, a read failed, the input is too long, or no memory was
+-- found. Unread says that the source is as it was.
+pub data Stops (words : List (List ℕ)) (source : SourceChange) (Unread : Type 0) : Status → Type 0 where
+  no_form : form_of words ≡ None → Unread → source.left' ≡ source.left → source.faults' ≡ source.faults → Stops words source Unread BadWords
+  unreadable : reads_input (form_of words) ≡ true → source.faults ≤ source.faults' → Rose source.faults source.faults' → TakesAtMost 1048576 source.left source.left' → Stops words source Unread ReadFault
+  too_many : reads_input (form_of words) ≡ true → source.faults' ≡ source.faults → TakesTooMany source.left source.left' → Stops words source Unread TooLong
+  no_memory : source.faults' ≡ source.faults → TakesAtMost 1048576 source.left source.left' → (reads_input (form_of words) ≡ false → Unread) → Stops words source Unread Memory
+
+-- The bytes that an answer is given to: all those of the source, up to its end; none, where a command reads nothing.
+abbrev pub TakesInput : Bool → SourceChange → Type 0 → List ℕ → Type 0
+TakesInput true source Unread bytes = ReadsWhole source.left source.left' bytes
+TakesInput false source Unread bytes = Unread × (source.left' ≡ source.left) × (bytes ≡ [])
+
+-- How the call ends. Unwritten says that the sink is as it was.
 pub data Outcome (carry : Carry) (restarts : Restarts) (words : List (List ℕ)) (source : SourceChange) (sink : SinkChange) (Unread Unwritten : Type 0) : Status → Type 0 where
-  no_form : form_of words ≡ None → Unread → Unwritten → source.faults' ≡ source.faults → sink.faults' ≡ sink.faults → Outcome carry restarts words source sink Unread Unwritten BadWords
-  unreadable : (form : Form) → form_of words ≡ Some form → source.faults ≤ source.faults' → Rose source.faults source.faults' → TakesAtMost 1048576 source.left source.left' → Unwritten → sink.faults' ≡ sink.faults → Outcome carry restarts words source sink Unread Unwritten ReadFault
-  too_many : (form : Form) → form_of words ≡ Some form → source.faults' ≡ source.faults → TakesTooMany source.left source.left' → Unwritten → sink.faults' ≡ sink.faults → Outcome carry restarts words source sink Unread Unwritten TooLong
-  no_memory : (form : Form) → form_of words ≡ Some form → source.faults' ≡ source.faults → TakesAtMost 1048576 source.left source.left' → Unwritten → sink.faults' ≡ sink.faults → Outcome carry restarts words source sink Unread Unwritten Memory
-  answered : (form : Form) (bytes : List ℕ) (status : Status) → form_of words ≡ Some form → SaysWell carry restarts form bytes → source.faults' ≡ source.faults → ReadsWhole source.left source.left' bytes → Writes (command_answer carry restarts form bytes).status (command_answer carry restarts form bytes).output sink status → Outcome carry restarts words source sink Unread Unwritten status
+  stopped : (status : Status) → Stops words source Unread status → Unwritten → sink.faults' ≡ sink.faults → Outcome carry restarts words source sink Unread Unwritten status
+  answered : (form : Form) (bytes : List ℕ) (status : Status) → form_of words ≡ Some form → SaysWell carry restarts form bytes → source.faults' ≡ source.faults → TakesInput (reads_input (Some form)) source Unread bytes → Writes (command_answer carry restarts form bytes).status (command_answer carry restarts form bytes).output sink status → Outcome carry restarts words source sink Unread Unwritten status

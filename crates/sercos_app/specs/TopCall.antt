@@ -1,10 +1,11 @@
 -- What the top call does with its source and its sink. The bytes that a source has left and those that a sink holds are
 -- known where it tells them.
-use Rattle.std.specs.Prelude.{◌≡◌, ℕ, ◌<◌, ◌≤◌, Bool, true, false, List, length, reverse, take, Option, Ok}
+use Rattle.std.specs.Prelude.{◌≡◌, ℕ, ◌<◌, ◌≤◌, Bool, true, false, List, [], length, reverse, take, Option, Some, Ok}
 use Rattle.std.specs.Io.KnownBytes.{Appends, Consumes, IsAtEnd}
 use Rattle.sercos_io.specs.declared.status.Status.{Status}
 use Rattle.sercos_io.specs.declared.status.Status.TheVariants.{BadWords, Refused, ReadFault, WriteFault, Memory, TooLong}
 use Rattle.sercos_script.specs.Links.{Carry, Restarts}
+use Rattle.sercos_app.specs.Form.{form_of, reads_input}
 use Rattle.sercos_app.specs.Answer.{answer_of}
 use Rattle.sercos_app.specs.Show.{Answer}
 use Rattle.sercos_app.specs.Planning.{plan_text}
@@ -18,6 +19,8 @@ use Rattle.sercos_app.specs.Totals.{totals_of}
 use Rattle.sercos_app.specs.Running.{carry_under, restarts_under}
 use Rattle.sercos_config.specs.Views.{DocumentView}
 use Rattle.sercos_config.specs.Document.{document_of}
+use Rattle.sercos_config.specs.Generated.{generated}
+use Rattle.sercos_app.specs.Generating.{gen_line}
 
 -- the statuses that come before anything is written
 unfoldable pub writes_nothing : Status → Bool
@@ -38,6 +41,16 @@ pub record ReadsWhole (old new : Option (List ℕ)) (bytes : List ℕ) : Type 0 
   pub ended : IsAtEnd new
   pub fits : length bytes ≤ 1048576
 
+-- The bytes that an answer is given to: all those of the source, up to its end; none, where a command reads nothing.
+abbrev pub IsInput : Bool → Option (List ℕ) → Option (List ℕ) → List ℕ → Type 0
+IsInput true old new bytes = ReadsWhole old new bytes
+IsInput false old new bytes = (new ≡ old) × (bytes ≡ [])
+
+-- the bytes that a source tells to a command; any, where it reads nothing
+abbrev pub HasInput : Bool → Option (List ℕ) → List ℕ → Type 0
+HasInput true left bytes = left ≡ Some bytes
+HasInput false left bytes = Unit {0}
+
 -- at most this number of bytes were taken from a source, from the front of those that it had left
 pub record TakesAtMost (most : ℕ) (old new : Option (List ℕ)) : Type 0 where
   pub taken : List ℕ
@@ -50,17 +63,17 @@ pub record TakesTooMany (old new : Option (List ℕ)) : Type 0 where
   pub many : length taken ≡ 1048577
   pub consumed : Consumes old new taken
 
--- the source was read to its end, the answer to its bytes has this status, and its whole output was appended
+-- the answer to the input has this status, and its whole output was appended
 pub record IsAnswered (carry : Carry) (restarts : Restarts) (words : List (List ℕ)) (status : Status) (left left' held held' : Option (List ℕ)) : Type 0 where
   pub bytes : List ℕ
-  pub read : ReadsWhole left left' bytes
+  pub read : IsInput (reads_input (form_of words)) left left' bytes
   pub status_is : (answer_of carry restarts words bytes).status ≡ status
   pub written : Appends held held' (answer_of carry restarts words bytes).output
 
 -- the same, but that writing failed after a prefix of the output, short of the whole
 pub record IsCutShort (carry : Carry) (restarts : Restarts) (words : List (List ℕ)) (status : Status) (left left' held held' : Option (List ℕ)) : Type 0 where
   pub bytes : List ℕ
-  pub read : ReadsWhole left left' bytes
+  pub read : IsInput (reads_input (form_of words)) left left' bytes
   pub status_is : fault_status (answer_of carry restarts words bytes).status ≡ status
   pub count : ℕ
   pub short : count < length (answer_of carry restarts words bytes).output
@@ -100,3 +113,11 @@ pub record RunTraced (carry : Carry) (restarts : Restarts) (left left' held held
   pub run : IsRun says.setup says.jobs (carry_under says carry) (restarts_under says restarts) journal
   pub count : length journal ≡ says.setup.cycles
   pub written : Appends held held' (trace_of (wishes_of says.setup) (reverse journal) (totals_of (reverse journal)))
+
+-- What was appended is the summary of the one run of the generated ring of n drives, for its number of cycles, under its script
+-- followed by the link handed in. The newest cycle of the journal comes first.
+pub record RunSummed (carry : Carry) (restarts : Restarts) (n : ℕ) (held held' : Option (List ℕ)) : Type 0 where
+  pub journal : List CycleView
+  pub run : IsRun (generated n).setup (generated n).jobs (carry_under (generated n) carry) (restarts_under (generated n) restarts) journal
+  pub count : length journal ≡ (generated n).setup.cycles
+  pub written : Appends held held' (gen_line n (totals_of (reverse journal)))

@@ -1,9 +1,16 @@
 // The totals of a run, counted cycle by cycle.
-ghost use Rattle.std.specs.Prelude.{◌≡◌, ◌≤◌, ◌==◌, if◌then◌else◌, Some, None, is_some, length};
+ghost use Rattle.std.specs.Prelude.{◌≡◌, ◌<◌, ◌≤◌, ◌^◌, ◌==◌, if◌then◌else◌, Some, None, is_some, List, [], length, reverse};
 ghost use Rattle.std.specs.Option.{option_or};
-ghost use Rattle.sercos_app.specs.Totals.{ended, is_complete, is_refused, is_broken};
-ghost use Rattle.sercos_app.specs.Counting.{HasRoom, IsFew, with_cycle};
+ghost use Rattle.sercos_timing.specs.Views.{WishesView};
+ghost use Rattle.sercos_trace.specs.Views.{CycleView};
+ghost use Rattle.sercos_ring.specs.Kept.{AfterCycle, RingStandsFor, cycles_made, newest};
+ghost use Rattle.sercos_app.specs.Totals.{ended, is_complete, is_refused, is_broken, totals_of};
+ghost use Rattle.sercos_app.specs.Counting.{HasRoom, IsFew, IsMade, none_made, with_cycle};
+ghost use Rattle.sercos_app.specs.Journals.{IsRingOf, OfRun};
 
+use sercos_block::ring_law;
+use sercos_ring::{Ring, run_law, standing_law};
+use sercos_script::BitLink;
 use sercos_step::Outcome;
 use sercos_trace::{CycleRecord, Fall, Reported, Totals};
 
@@ -57,8 +64,24 @@ fn falls_in(fall: Option<Fall>) -> u32
     u32::from(fall.is_some())
 }
 
-/// Counts a cycle.
-pub fn count_cycle(totals: &mut Totals, made: &CycleRecord)
+/// The totals before the first cycle.
+pub fn no_totals() -> Totals
+    ensures { result ≡ none_made }
+{
+    Totals {
+        cycles: 0,
+        phase: 0,
+        complete: 0,
+        refused: 0,
+        broken: 0,
+        falls: 0,
+        unseen: 0,
+        phase4: None,
+    }
+}
+
+// Counts a cycle.
+fn count_cycle(totals: &mut Totals, made: &CycleRecord)
     requires room { HasRoom totals.old }
     requires unseen { made.now.unseen ≤ 195 }
     ensures counted { totals.new ≡ with_cycle totals.old made.now }
@@ -73,4 +96,51 @@ pub fn count_cycle(totals: &mut Totals, made: &CycleRecord)
     totals.falls += falls_in(made.events.fall);
     totals.unseen += made.unseen;
     totals.phase4 = first_in_4(totals.phase4, made.phase, made.cycle);
+}
+
+// A cycle has at most 66 telegrams.
+fn show_sent(made: &CycleRecord)
+    ensures { length made.now.sent ≤ 66 }
+{
+    let _count = made.sent.len();
+}
+
+/// Counts a cycle that a ring has made.
+pub fn count_made(totals: &mut Totals, made: &CycleRecord)
+    requires made { IsMade made.now }
+    requires room { HasRoom totals.old }
+    ensures counted { totals.new ≡ with_cycle totals.old made.now }
+    ensures few { IsFew made.now }
+{
+    ring_law();
+    show_sent(made);
+    count_cycle(totals, made);
+}
+
+// Goes on by a cycle, and counts it.
+fn count_next<L: BitLink>(ring: &mut Ring<L>, totals: &mut Totals)
+    requires ring { (w : WishesView) × (j : List CycleView) × IsRingOf (RingStandsFor L.carry L.restart) ring.old w j }
+    requires made { cycles_made ring.old < 2 ^ 31 }
+    requires room { HasRoom totals.old }
+    ensures after { AfterCycle L.carry L.restart ring.old ring.new }
+    ensures counted { totals.new ≡ with_cycle totals.old (newest ring.new) }
+    ensures few { IsFew (newest ring.new) }
+{
+    let made = ring.cycle();
+    count_made(totals, made);
+}
+
+/// Makes a number of cycles, at most 50,000, of a ring that has made none, and returns their totals. It takes no memory.
+pub fn count_cycles<L: BitLink>(ring: &mut Ring<L>, cycles: u32) -> Totals
+    requires ring { (w : WishesView) × IsRingOf (RingStandsFor L.carry L.restart) ring.old w [] }
+    requires few { cycles ≤ 50000 }
+    ensures { OfRun (RingStandsFor L.carry L.restart) ring.old cycles (λ run. result ≡ totals_of (reverse run)) }
+{
+    run_law();
+    standing_law::<L>();
+    let mut totals = no_totals();
+    for _k in 0..cycles {
+        count_next(ring, &mut totals);
+    }
+    totals
 }

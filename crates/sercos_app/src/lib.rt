@@ -1,11 +1,14 @@
 //! The top call: from words and bytes to a status and bytes.
 #![tactic(auto)]
 
+mod check_command;
 mod counting;
 mod form;
+mod gen_command;
 mod given;
 mod law;
 mod line;
+mod lines;
 mod over_memory;
 mod plan_text;
 mod planning;
@@ -14,7 +17,9 @@ mod running;
 mod show;
 mod text;
 mod top_call;
+mod verdict;
 
+pub use gen_command::answer_gen;
 pub use law::line_law;
 pub use over_memory::answer_in_memory;
 pub use running::write_run;

@@ -1,12 +1,12 @@
 // The lines of `show`: `raw COUNT HEX`. A fault is the place, from 0 on, of the first byte that can't stand; that of a
 // missing byte is one past the end.
 ghost use Rattle.std.specs.Prelude.{◌≡◌, ℕ, ◌+◌, ◌-◌, ◌*◌, ◌/◌, ◌<◌, ◌≤◌, min, [], ◌∷◌, OnOk, IfOk, IfErr, IfSome, IfNone, length, take, drop, slice_index, nat_eq, Some};
-ghost use Rattle.std.specs.Char.{is_ascii_digit, is_ascii_hexdigit};
+ghost use Rattle.std.specs.Char.{is_ascii_hexdigit};
 ghost use Rattle.std.specs.List.{prefix_len, common_prefix_len};
 ghost use Rattle.std.specs.Result.{result_ok, result_err};
-ghost use Rattle.std.specs.Str.Parse.{digits_value};
 ghost use Rattle.sercos_model.specs.Bits.{bits_of};
-ghost use Rattle.sercos_app.specs.Line.{hex_bytes, byte_of, wanted_digits, has_spare, kind_text, kind_of, kind_fault, count_fault, dash_fault, digits_fault, hex_fault, hex_bits, numbers_fault, numbers_bits, line_fault, line_bits};
+ghost use Rattle.sercos_text.specs.Fields.{number_len, number_of, pairs_of};
+ghost use Rattle.sercos_app.specs.Line.{byte_of, wanted_digits, has_spare, kind_text, kind_of, kind_fault, count_fault, dash_fault, digits_fault, hex_fault, hex_bits, numbers_fault, numbers_bits, line_fault, line_bits};
 
 use sercos_bits::BitBuf;
 
@@ -23,8 +23,8 @@ pub enum LineKind {
     At,
 }
 
-/// The greatest COUNT.
-const MOST: usize = 19696;
+/// The largest COUNT.
+const MOST: u32 = 19696;
 
 // How many bytes of a text a line begins with.
 fn shared_with(line: &[u8], text: &[u8]) -> usize
@@ -64,7 +64,7 @@ fn kind_of(line: &[u8]) -> Result<LineKind, usize>
     }
 }
 
-// How many bytes stand in front of COUNT.
+// How many bytes there are before COUNT.
 fn kind_len(kind: LineKind) -> usize
     ensures { result ≡ length (kind_text kind) }
 {
@@ -73,22 +73,6 @@ fn kind_len(kind: LineKind) -> usize
         LineKind::Single => 7,
         LineKind::At => 3,
     }
-}
-
-// How many digits a text begins with, and the number that they spell, or 19697 for a greater one.
-fn leading_number(text: &[u8]) -> (usize, usize)
-    ensures digits { result.0 ≡ prefix_len is_ascii_digit text.now }
-    ensures bound { result.0 ≤ length text.now }
-    ensures number { result.1 ≡ min (digits_value 10 (take result.0 text.now)) 19697 }
-{
-    let mut number = 0;
-    for (place, byte) in text.iter().enumerate() {
-        if !byte.is_ascii_digit() {
-            return (place, number);
-        }
-        number = (10 * number + usize::from(*byte - b'0')).min(MOST + 1);
-    }
-    (text.len(), number)
 }
 
 // How many hexadecimal digits a text begins with.
@@ -105,7 +89,7 @@ fn leading_digits(text: &[u8]) -> usize
 }
 
 // The byte that two hexadecimal digits spell.
-#[tactic(auto, unfolding(crate::specs::Line::byte_of, crate::specs::Line::hex_bytes))]
+#[tactic(auto, unfolding(crate::specs::Line::byte_of, sercos_text::specs::Fields::pairs_of))]
 fn byte_of(high: u8, low: u8) -> u8
     ensures { result ≡ byte_of high low }
 {
@@ -187,25 +171,21 @@ fn hex_fault(count: usize, text: &[u8]) -> Option<usize>
     }
 }
 
-// The fault of COUNT and the space behind it, where a text begins with so many digits of this number.
+// Reads COUNT and the space after it: how many bytes they take, and COUNT.
 #[tactic(auto, unfolding(crate::specs::Line::count_fault))]
-fn count_fault(text: &[u8], digits: usize, number: usize) -> Option<usize>
-    requires digits { digits ≡ prefix_len is_ascii_digit text.now }
-    requires number { number ≡ min (digits_value 10 (take digits text.now)) 19697 }
-    ensures value { result ≡ count_fault text.now }
-    ensures none { IfNone result ((digits < length text.now) × (number ≤ 19696)) }
-    ensures bound { IfSome result (λ place. place ≤ length text.now) }
+fn read_count(text: &[u8]) -> Result<(usize, usize), usize>
+    ensures fault { result_err result ≡ count_fault text.now }
+    ensures len { IfOk result (λ r. r.0 ≡ number_len text.now + 1) }
+    ensures inside { IfOk result (λ r. r.0 ≤ length text.now) }
+    ensures count { IfOk result (λ r. r.1 ≡ number_of text.now) }
+    ensures most { IfOk result (λ r. r.1 ≤ 19696) }
+    ensures bound { IfErr result (λ place. place ≤ length text.now) }
 {
-    if digits == 0 {
-        return Some(0);
+    let (len, count) = sercos_text::read_number(text, MOST)?;
+    if text.get(len) != Some(&b' ') {
+        return Err(len);
     }
-    if text[0] == b'0' && digits > 1 {
-        return Some(1);
-    }
-    if number > MOST {
-        return Some(0);
-    }
-    (text.get(digits) != Some(&b' ')).then_some(digits)
+    Ok((len + 1, count as usize))
 }
 
 // The digits of HEX, or those that are there.
@@ -218,10 +198,10 @@ fn hex_digits(count: usize, text: &[u8]) -> &[u8]
 }
 
 // Replaces the bits by those of the bytes that digits spell.
-#[tactic(auto, unfolding(crate::specs::Line::hex_bytes, sercos_model::specs::Bits::bits_of))]
+#[tactic(auto, unfolding(sercos_text::specs::Fields::pairs_of, sercos_model::specs::Bits::bits_of))]
 fn set_bits(digits: &[u8], bits: &mut BitBuf)
     requires { length digits.now ≤ 4924 }
-    ensures { bits.new ≡ bits_of (hex_bytes digits.now) }
+    ensures { bits.new ≡ bits_of (pairs_of digits.now) }
 {
     bits.clear();
     let mut bytes = [0u8; 2462];
@@ -255,14 +235,10 @@ fn read_numbers(text: &[u8], bits: &mut BitBuf) -> Result<(), usize>
     ensures bits { OnOk result (bits.new ≡ numbers_bits text.now) }
     ensures bound { IfErr result (λ place. place ≤ length text.now) }
 {
-    let (digits, count) = leading_number(text);
-    if let Some(place) = count_fault(text, digits, count) {
-        return Err(place);
-    }
-    let behind = digits + 1;
-    match read_hex(count, &text[behind..], bits) {
+    let (begin, count) = read_count(text)?;
+    match read_hex(count, &text[begin..], bits) {
         Ok(()) => Ok(()),
-        Err(place) => Err(behind + place),
+        Err(place) => Err(begin + place),
     }
 }
 

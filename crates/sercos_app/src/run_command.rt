@@ -20,9 +20,9 @@ use sercos_step::Job;
 use sercos_timing::Wishes;
 use std::alloc::Global;
 
-// How many cycles a ring runs: 1 to 50,000.
+/// How many cycles a ring runs: 1 to 50,000.
 #[tactic(auto, unfolding(sercos_block::specs::Rings::is_ring, sercos_block::specs::Rings::are_ring_numbers))]
-fn cycles_of(setup: &RingSetup) -> u32
+pub fn cycles_of(setup: &RingSetup) -> u32
     requires { is_ring setup.now ≡ true }
     ensures value { result ≡ setup.now.cycles }
     ensures some { 1 ≤ result }
@@ -31,8 +31,8 @@ fn cycles_of(setup: &RingSetup) -> u32
     setup.cycles
 }
 
-// How many drives a ring has: at most 64.
-fn drives_of(setup: &RingSetup) -> u8
+/// How many drives a ring has: at most 64.
+pub fn drives_of(setup: &RingSetup) -> u8
     requires { is_ring setup.now ≡ true }
     ensures { result ≡ length setup.now.drives }
 {

@@ -12,7 +12,7 @@ ghost use Rattle.sercos_app.specs.Journals.{HasMade, IsRingOf, OfRun, WritesCycl
 ghost use Rattle.sercos_app.specs.Totals.{totals_of};
 ghost use Rattle.sercos_app.specs.RunWriting.{WritesRun};
 
-use crate::counting::count_cycle;
+use crate::counting::{count_made, no_totals};
 use sercos_block::ring_law;
 use sercos_io::{Sink, WriteFailed};
 use sercos_master::master_law;
@@ -46,13 +46,6 @@ fn write_totals<K: Sink>(totals: &Totals, sink: &mut K) -> Result<(), WriteFaile
     write_end(totals, sink)
 }
 
-// A cycle has at most 66 telegrams.
-fn show_sent(made: &CycleRecord)
-    ensures { length made.now.sent ≤ 66 }
-{
-    let _count = made.sent.len();
-}
-
 // Goes on by a cycle, counts it, and writes its lines.
 fn write_next<L: BitLink, K: Sink>(
     ring: &mut Ring<L>,
@@ -68,11 +61,9 @@ fn write_next<L: BitLink, K: Sink>(
     ensures few { IsFew (newest ring.new) }
     ensures written { Writes (seen K.held K.faults K.room sink.old) (seen K.held K.faults K.room sink.new) result (cycle_text w.now (newest ring.new)) }
 {
-    ring_law();
     master_law();
     let made = ring.cycle();
-    show_sent(made);
-    count_cycle(totals, made);
+    count_made(totals, made);
     write_made(w, made, sink)
 }
 
@@ -89,16 +80,7 @@ fn write_cycles<L: BitLink, K: Sink>(
     ensures { WritesCycles (RingStandsFor L.carry L.restart) w.now ring.old ring.new cycles
         (seen K.held K.faults K.room sink.old) (seen K.held K.faults K.room sink.new) result }
 {
-    let mut totals = Totals {
-        cycles: 0,
-        phase: 0,
-        complete: 0,
-        refused: 0,
-        broken: 0,
-        falls: 0,
-        unseen: 0,
-        phase4: None,
-    };
+    let mut totals = no_totals();
     for _k in 0..cycles {
         write_next(ring, w, &mut totals, sink)?;
     }

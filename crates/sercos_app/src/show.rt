@@ -1,6 +1,5 @@
 // `show`: what lines of frames say.
-ghost use Rattle.std.specs.Prelude.{◌≡◌, ◌==◌, ◌<◌, ◌≤◌, ◌++◌, length, slice_index, drop, IfOk, OnOk, codes, decimal};
-ghost use Rattle.std.specs.List.{before_first, after_first, position_or_len};
+ghost use Rattle.std.specs.Prelude.{◌≡◌, ◌≤◌, ◌++◌, length, slice_index, drop, IfOk, OnOk, codes, decimal};
 ghost use Rattle.sercos_app.specs.Show.{layout_text, layout_or, mst_text, single_text, at_text, wanted_address, wanted_len, content_text, line_feed, refusal_text, frame_text, refused_text, show_answer};
 ghost use Rattle.hex.specs.Hex.{encode_lower};
 ghost use Rattle.sercos_telegram.specs.Faults.{mst_fault, single_fault, at_fault};
@@ -9,6 +8,7 @@ ghost use Rattle.sercos_telegram.specs.Words.{control_of, status_of};
 ghost use Rattle.sercos_hdlc.specs.Reason.{reason_of};
 
 use crate::line::{LineKind, read_line};
+use crate::lines::cut_line;
 use crate::text::{
     push_at, push_hex, push_layout, push_mst, push_number, push_refusal, push_single, push_text,
 };
@@ -23,30 +23,6 @@ use std::alloc::{AllocError, Global};
 pub struct Reply {
     pub status: Status,
     pub text: Vec<u8>,
-}
-
-// How many bytes stand before the first line feed.
-fn line_len(text: &[u8]) -> usize
-    ensures value { result ≡ position_or_len (λ byte. byte == 10) text.now }
-    ensures bound { result ≤ length text.now }
-{
-    for (place, byte) in text.iter().enumerate() {
-        if *byte == b'\n' {
-            return place;
-        }
-    }
-    text.len()
-}
-
-// Cuts a text behind its first line, which loses its line feed.
-fn cut_line(text: &[u8]) -> (&[u8], &[u8])
-    ensures line { result.0.now ≡ before_first (λ byte. byte == 10) text.now }
-    ensures rest { result.1.now ≡ after_first (λ byte. byte == 10) text.now }
-    ensures shorter { 0 < length text.now → length result.1.now < length text.now }
-{
-    let len = line_len(text);
-    let rest = (len + 1).min(text.len());
-    (&text[..len], &text[rest..])
 }
 
 // The line that refuses the input.

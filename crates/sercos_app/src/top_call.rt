@@ -1,15 +1,17 @@
 // The top call.
-ghost use Rattle.std.specs.Prelude.{◌≡◌, ◌≢◌, ◌↔◌, ℕ, ◌≤◌, ◌<◌, ◌⊎◌, ◌^◌, List, length, Some, None, IsTrue, IfOk};
+ghost use Rattle.std.specs.Prelude.{◌≡◌, ◌≢◌, ℕ, ◌≤◌, ◌⊎◌, true, false, List, length, Some, None, IsTrue, IfOk};
 ghost use Rattle.sercos_model.specs.Streams.{Rose};
 ghost use Rattle.sercos_app.specs.Answer.{answer_of, command_answer, SaysWell};
-ghost use Rattle.sercos_app.specs.Form.{form_of};
+ghost use Rattle.sercos_app.specs.Form.{form_of, reads_input, HasDrives};
 ghost use Rattle.sercos_app.specs.Given.{Gives, IsWritable};
 ghost use Rattle.sercos_app.specs.Outcome.{Outcome, Replies, GivesMade, changed};
 ghost use Rattle.sercos_app.specs.Planning.{PlansItsRing, plan_answer};
 ghost use Rattle.sercos_app.specs.Show.{show_answer};
-ghost use Rattle.sercos_app.specs.TopCall.{writes_nothing, TakesAtMost, TakesTooMany, IsAnswered, IsCutShort, IsAnswer, NonePlanned, LeastPlanned, RunTraced};
+ghost use Rattle.sercos_app.specs.TopCall.{writes_nothing, HasInput, TakesAtMost, TakesTooMany, IsAnswered, IsCutShort, IsAnswer, NonePlanned, LeastPlanned, RunTraced, RunSummed};
 
+use crate::check_command::answer_check;
 use crate::form::{Form, form_of};
+use crate::gen_command::answer_gen;
 use crate::given::{Given, give, refused};
 use crate::planning::plan;
 use crate::run_command::answer_run;
@@ -63,6 +65,14 @@ fn answer_plan<K: Sink>(alloc: Global, bytes: &[u8], sink: &mut K) -> Status
     give_made(&planned(alloc, bytes), sink)
 }
 
+// Whether a command reads its source.
+#[tactic(auto, unfolding(crate::specs::Form::reads_input))]
+fn reads_input(form: Form) -> bool
+    ensures { result ≡ reads_input (Some form) }
+{
+    !matches!(form, Form::Gen(_))
+}
+
 // Answers an input by the command of a form.
 #[tactic(auto, unfolding(crate::specs::Answer::command_answer))]
 fn answer<K: Sink, L: BitLink>(
@@ -72,6 +82,8 @@ fn answer<K: Sink, L: BitLink>(
     sink: &mut K,
     link: L,
 ) -> Status
+    requires drives { HasDrives form }
+    requires few { length bytes.now ≤ 1048576 }
     ensures { Replies (command_answer (L.carry link) (L.restart link) form bytes.now) (SaysWell (L.carry link) (L.restart link) form bytes.now)
         (changed K.held K.faults K.room sink.old sink.new) (sink.new ≡ sink.old) result }
 {
@@ -79,6 +91,8 @@ fn answer<K: Sink, L: BitLink>(
         Form::Show => answer_show(alloc, bytes, sink),
         Form::Plan => answer_plan(alloc, bytes, sink),
         Form::Run => answer_run(alloc, bytes, link, sink),
+        Form::Check => answer_check(bytes, sink),
+        Form::Gen(drives) => answer_gen(alloc, drives, link, sink),
     }
 }
 
@@ -100,9 +114,14 @@ fn respond<S: Source, K: Sink, L: BitLink>(
         (changed K.held K.faults K.room sink.old sink.new)
         (source.new ≡ source.old) (sink.new ≡ sink.old) result }
 {
-    let Some(form) = form_of(words) else {
-        return Status::BadWords;
+    let form = match form_of(alloc, words) {
+        Ok(Some(form)) => form,
+        Ok(None) => return Status::BadWords,
+        Err(_) => return Status::Memory,
     };
+    if !reads_input(form) {
+        return answer(alloc, form, &[], sink, link);
+    }
     let bytes = match read_all(alloc, source) {
         Ok(bytes) => bytes,
         Err(ReadAll::ReadFault) => return Status::ReadFault,
@@ -114,15 +133,15 @@ fn respond<S: Source, K: Sink, L: BitLink>(
 
 /// Runs the command that the words name, over one input and one output, and answers the status with which it ends.
 ///
-/// The input is the source's bytes up to its end, at most 1,048,576 of them. It is read whole before anything is written. `show`
-/// and `plan` write their output once it is whole; `run` writes the lines of each cycle as the cycle is made. The clauses on the
-/// bytes of source and sink hold where these tell them, as those in memory do.
+/// The input is the source's bytes up to its end, at most 1,048,576 of them. It is read whole before anything is written; `gen`
+/// reads nothing. `run` writes the lines of each cycle as the cycle is made; each other command writes its output once it is
+/// whole. The clauses on the bytes of source and sink hold where these tell them, as those in memory do.
 ///
-/// The forms of words are `show`, `plan` and `run`, with at most one word `--` anywhere. `run` runs its ring over the script of
-/// the document, followed by `link`; no other command uses `link`. Words in no form are `BadWords`, and nothing is read.
-/// `ReadFault` is returned if a read failed, `TooLong` if the input is longer, and `Memory` if no memory was found; then nothing
-/// is written. A refused input is `Refused`, also if its line couldn't be written whole. After any other failed write the status
-/// is `WriteFault`, and the sink has taken a prefix of the output.
+/// The forms of words are `show`, `plan`, `run`, `check`, and `gen N` for 1 to 64 drives, with at most one word `--` anywhere.
+/// `run` and `gen` run their ring over the script of the document, followed by `link`; no other command uses `link`. Words in no
+/// form are `BadWords`, and nothing is read. `ReadFault` is returned if a read failed, `TooLong` if the input is longer, and
+/// `Memory` if no memory was found; then nothing is written. A refused input is `Refused`, also if its line couldn't be written
+/// whole. After any other failed write the status is `WriteFault`, and the sink has taken a prefix of the output.
 pub fn sercos<S: Source, K: Sink, L: BitLink>(
     alloc: Global,
     words: &Words,
@@ -130,9 +149,11 @@ pub fn sercos<S: Source, K: Sink, L: BitLink>(
     sink: &mut K,
     link: L,
 ) -> Status
-    // The words come first: those in no form are refused before anything is read.
-    ensures bad_words { (result ≡ Status.BadWords) ↔ (form_of words.now ≡ None) }
-    ensures unread { result ≡ Status.BadWords → source.new ≡ source.old }
+    // The words come first: those in no form are refused, if memory was found to read them, before anything is read. `gen` reads
+    // nothing either.
+    ensures bad_words { result ≡ Status.BadWords → form_of words.now ≡ None }
+    ensures no_form { form_of words.now ≡ None → (result ≡ Status.Memory) ⊎ (result ≡ Status.BadWords) }
+    ensures unread { reads_input (form_of words.now) ≡ false → source.new ≡ source.old }
 
     // What is taken from the source is lost: at most 1,048,577 bytes, whatever the answer is.
     ensures taken { TakesAtMost 1048577 (S.left source.old) (S.left source.new) }
@@ -149,11 +170,12 @@ pub fn sercos<S: Source, K: Sink, L: BitLink>(
     ensures too_long { result ≡ Status.TooLong → TakesTooMany (S.left source.old) (S.left source.new) }
 
     // Done and No come only where the input was read to its end, its answer has this status, and the whole output was
-    // appended.
+    // appended; No comes from `plan` and `check` alone.
     ensures done { result ≡ Status.Done → IsAnswered (L.carry link) (L.restart link) words.now Status.Done
         (S.left source.old) (S.left source.new) (K.held sink.old) (K.held sink.new) }
     ensures no { result ≡ Status.No → IsAnswered (L.carry link) (L.restart link) words.now Status.No
         (S.left source.old) (S.left source.new) (K.held sink.old) (K.held sink.new) }
+    ensures no_of { result ≡ Status.No → (form_of words.now ≡ Some Form.Plan) ⊎ (form_of words.now ≡ Some Form.Check) }
 
     // No comes from `plan` only where no plan fits the ring that was read, whatever plan it is; and Done only with the text
     // of the least plan.
@@ -162,10 +184,12 @@ pub fn sercos<S: Source, K: Sink, L: BitLink>(
     ensures least { result ≡ Status.Done → form_of words.now ≡ Some Form.Plan → LeastPlanned
         (S.left source.old) (S.left source.new) (K.held sink.old) (K.held sink.new) }
 
-    // Done comes from `run` only with the trace of the one run of the ring that was read; and No never does.
+    // Done comes from `run` only with the trace of the one run of the ring that was read, and from `gen` only with the summary of
+    // the one run of the ring that it generates.
     ensures traced { result ≡ Status.Done → form_of words.now ≡ Some Form.Run → RunTraced (L.carry link) (L.restart link)
         (S.left source.old) (S.left source.new) (K.held sink.old) (K.held sink.new) }
-    ensures run_never_no { form_of words.now ≡ Some Form.Run → result ≢ Status.No }
+    ensures summed { (n : ℕ) → result ≡ Status.Done → form_of words.now ≡ Some (Form.Gen n) →
+        RunSummed (L.carry link) (L.restart link) n (K.held sink.old) (K.held sink.new) }
 
     // Refused too comes only where the input was read to its end; if writing the refusal failed, a prefix of it was appended.
     ensures refused { result ≡ Status.Refused →
@@ -182,28 +206,28 @@ pub fn sercos<S: Source, K: Sink, L: BitLink>(
     ensures write_well { result ≢ Status.WriteFault → result ≢ Status.Refused →
         K.faults sink.new ≡ K.faults sink.old }
 
-    // Completeness: of a source that tells an input of at most 1,048,576 bytes, where no count rose, the call gives the
-    // answer whole, or Memory. Its refusal is given whatever the sink does.
-    ensures answers { (bytes : List ℕ) → S.left source.old ≡ Some bytes → length bytes ≤ 1048576
+    // Completeness: of a source that tells an input of at most 1,048,576 bytes, or where nothing is read, and where no count
+    // rose, the call gives the answer whole, or Memory. Its refusal is given whatever the sink does.
+    ensures answers { (bytes : List ℕ) → HasInput (reads_input (form_of words.now)) (S.left source.old) bytes → length bytes ≤ 1048576
         → form_of words.now ≢ None
         → (Rose (S.faults source.old) (S.faults source.new) → ⊥)
         → (Rose (K.faults sink.old) (K.faults sink.new) → ⊥)
         → (result ≡ Status.Memory)
         ⊎ IsAnswer (answer_of (L.carry link) (L.restart link) words.now bytes) result (K.held sink.old) (K.held sink.new) }
-    ensures refuses { (bytes : List ℕ) → S.left source.old ≡ Some bytes → length bytes ≤ 1048576
+    ensures refuses { (bytes : List ℕ) → HasInput (reads_input (form_of words.now)) (S.left source.old) bytes → length bytes ≤ 1048576
         → form_of words.now ≢ None
         → (Rose (S.faults source.old) (S.faults source.new) → ⊥)
         → (answer_of (L.carry link) (L.restart link) words.now bytes).status ≡ Status.Refused
         → (result ≡ Status.Memory) ⊎ (result ≡ Status.Refused) }
 
-    // A longer input is TooLong, or Memory.
+    // A longer input is TooLong, or Memory, where it is read.
     ensures exceeds { (bytes : List ℕ) → S.left source.old ≡ Some bytes → 1048577 ≤ length bytes
-        → form_of words.now ≢ None
+        → reads_input (form_of words.now) ≡ true
         → (Rose (S.faults source.old) (S.faults source.new) → ⊥)
         → (result ≡ Status.Memory) ⊎ (result ≡ Status.TooLong) }
 
     // A sink that has room for the whole output doesn't fail.
-    ensures room { (bytes : List ℕ) → S.left source.old ≡ Some bytes
+    ensures room { (bytes : List ℕ) → HasInput (reads_input (form_of words.now)) (S.left source.old) bytes
         → length (answer_of (L.carry link) (L.restart link) words.now bytes).output ≤ K.room sink.old
         → K.faults sink.new ≡ K.faults sink.old }
 {

@@ -174,7 +174,7 @@ fn columns(rt: HostRuntime) -> Result<(), Fail> {
 #[test]
 fn answered_in_memory(rt: HostRuntime) -> Result<(), Fail> {
     let alloc = rt.alloc();
-    let rows: [Row; 3] = [
+    let rows: [Row; 5] = [
         (
             "show",
             "raw 49 7edf010ee1fd00\nraw 40 7e8838f87e\n",
@@ -187,12 +187,24 @@ fn answered_in_memory(rt: HostRuntime) -> Result<(), Fail> {
             Status::Refused,
             "refused line 1 column 5\n",
         ),
-        ("check", "raw x 7e", Status::BadWords, ""),
+        (
+            "check",
+            "raw x 7e",
+            Status::Refused,
+            "refused line 1 column 2\n",
+        ),
+        (
+            "gen 1",
+            "raw x 7e",
+            Status::Done,
+            "gen 1 cycles 398 phase4 186 complete 1 refused 0 broken 0 falls 0 unseen 0\n",
+        ),
+        ("watch", "raw x 7e", Status::BadWords, ""),
     ];
     for (words, input, status, output) in rows {
         let words = words_of(alloc, words)?;
         let mut source = PlainSource::new(Vec::from_slice(alloc, input.as_bytes())?);
-        let mut sink = MemorySink::new(Vec::with_capacity(alloc, 64)?, 64, Vec::new(alloc));
+        let mut sink = MemorySink::new(Vec::with_capacity(alloc, 128)?, 128, Vec::new(alloc));
         assert_eq!(rt;
             answer_in_memory(alloc, &words, &mut source, &mut sink, Clean),
             status,

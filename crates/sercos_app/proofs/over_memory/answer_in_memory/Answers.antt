@@ -1,4 +1,5 @@
-use Rattle.std.proofs.Common.{◌≡◌, ◌<◌, inl, inr, ℕ, length, refl, arith}
+use Rattle.std.proofs.Common.{◌≡◌, ◌<◌, inl, inr, ℕ, Bool, true, false, List, Some, length, refl, arith}
+use Rattle.sercos_app.specs.TopCall.{HasInput}
 use Rattle.std.proofs.lemmas.Bool.Decides.{nat_tests}
 use Rattle.sercos_model.specs.Streams.{Rose}
 use Rattle.sercos_io.specs.Memory.{SinkState, room_of}
@@ -11,8 +12,13 @@ still : (a b : ℕ) → b ≡ a → a < 18446744073709551615 → Rose a b → �
 still a b same below (inl more) = omega arith
 still a b same below (inr last) = omega arith
 
+-- a source in memory tells its bytes, whether they are read or not
+told : (reads : Bool) (bytes : List ℕ) → HasInput reads (Some bytes) bytes
+told true bytes = refl
+told false bytes = tt
+
 pub returns : goal.returns
 returns g c form fits none below spare =
     let whole = room c.args.sink.now none below in
-    let same = c.sercos.ensures.room c.args.source.now refl (rw whole spare) in
-    c.sercos.ensures.answers c.args.source.now refl fits form (still 0 0 refl (omega arith)) (still _ _ same below)
+    let same = c.sercos.ensures.room c.args.source.now (told _ _) (rw whole spare) in
+    c.sercos.ensures.answers c.args.source.now (told _ _) fits form (still 0 0 refl (omega arith)) (still _ _ same below)

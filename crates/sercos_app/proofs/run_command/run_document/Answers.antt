@@ -1,13 +1,14 @@
 use Rattle.std.proofs.Common.{ap, sym, ◌∙◌}
 use Rattle.sercos_script.specs.Scripts.{carried, restarts_at}
 use Rattle.sercos_script.specs.declared.script.Scripted.{Scripted}
+use Rattle.sercos_app.specs.Running.{run_traced}
 use Rattle.sercos_app.proofs.RunLemmas.{run_under}
 use Rattle.sercos_app.proofs.run_command.run_document.Goals as goal
 
 pub returns : goal.returns
 returns g c =
     let pair = c.new.ensures in
-    run_under c.args.document c.document.inside.setup c.document.inside.jobs.items c.document.inside.faults.items
+    run_under run_traced c.args.document c.document.inside.setup c.document.inside.jobs.items c.document.inside.faults.items
     (carried c.new.result.first.stations c.new.result.first.faults) (g.L.BitLink.carry c.new.result.second) (g.L.BitLink.carry c.args.link)
     (restarts_at c.new.result.first.faults) (g.L.BitLink.restart c.new.result.second) (g.L.BitLink.restart c.args.link) _ _ _
     (sym c.document.view_is)

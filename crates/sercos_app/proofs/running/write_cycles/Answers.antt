@@ -5,20 +5,20 @@ use Rattle.sercos_app.proofs.running.write_cycles.Goals as goal
 
 pub loop-k-init : goal.loop-k-init
 loop-k-init g c = record {
-  written = written_none (RingStandsFor g.L.BitLink.carry g.L.BitLink.restart) c.args.w.now c.args.ring.now _ _ none_counted none_few;
+  written = rw c.no_totals-totals.ensures (written_none (RingStandsFor g.L.BitLink.carry g.L.BitLink.restart) c.args.w.now c.args.ring.now _ _ none_counted none_few);
   made = let none = c.requires.made in omega (arith, none);
 }
 
 pub write_next-requires-clause-ring : goal.write_next-requires-clause-ring
 write_next-requires-clause-ring g c =
-    let journal = c.loop-k.invariant.written.journal in
+    let journal = c.loop-k.invariant.written.made.journal in
     (journal.cycles, ring_more (RingStandsFor g.L.BitLink.carry g.L.BitLink.restart) c.args.ring.now c.loop-k.ring c.args.w.now c.loop-k._k journal c.requires.ring)
 
 pub write_next-requires-clause-made : goal.write_next-requires-clause-made
 write_next-requires-clause-made g c = let made = c.loop-k.invariant.made in let few = c.requires.few in omega (arith, made, few, c.loop-k-test.true)
 
 pub write_next-requires-clause-room : goal.write_next-requires-clause-room
-write_next-requires-clause-room g c = let few = c.requires.few in room_for _ c.loop-k._k (omega (arith, few, c.loop-k-test.true)) c.loop-k.invariant.written.few
+write_next-requires-clause-room g c = let few = c.requires.few in room_for _ c.loop-k._k (omega (arith, few, c.loop-k-test.true)) c.loop-k.invariant.written.made.few
 
 pub returns-in_err-write_next : goal.returns-in_err-write_next
 returns-in_err-write_next g c =

@@ -1,10 +1,18 @@
-use Rattle.sercos_app.proofs.Bounds.{unseen_few, plan_starts, plan_positions}
+use Rattle.sercos_app.proofs.Bounds.{plan_starts, plan_positions}
 use Rattle.sercos_app.proofs.running.write_next.Goals as goal
 
-pub count_cycle-requires-clause-unseen : goal.count_cycle-requires-clause-unseen
-count_cycle-requires-clause-unseen g c =
+pub count_made-requires-clause-made : goal.count_made-requires-clause-made
+count_made-requires-clause-made g c =
     let (j, is) = c.requires.ring in
-    unseen_few is.setup is.jobs is.carry is.restarts c.cycle-made.result.now j (c.cycle-made.ensures.next.next is.setup is.jobs is.carry is.restarts j is.stands_for) (c.ring_law.ensures is.setup is.valid).few c.show_sent.ensures
+    record {
+      setup = is.setup;
+      jobs = is.jobs;
+      carry = is.carry;
+      restarts = is.restarts;
+      before = j;
+      valid = is.valid;
+      next = c.cycle-made.ensures.next.next is.setup is.jobs is.carry is.restarts j is.stands_for;
+    }
 
 pub write_made-requires-clause-starts : goal.write_made-requires-clause-starts
 write_made-requires-clause-starts g c =

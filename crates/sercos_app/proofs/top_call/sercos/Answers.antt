@@ -1,15 +1,17 @@
-use Rattle.std.proofs.Common.{ap}
-use Rattle.sercos_app.proofs.Outcomes.{at_bad_words, at_unread, at_taken, at_unwritten, at_read_fault, at_read_count, at_read_well, at_too_long, at_done, at_no, at_none_fits, at_least_plan, at_traced, at_run_never_no, at_refused, at_write_fault, at_write_count, at_write_well, at_answers, at_refuses, at_exceeds, at_room}
+use Rattle.sercos_app.proofs.Outcomes.{at_bad_words, at_no_form, at_unread, at_taken, at_unwritten, at_read_fault, at_read_count, at_read_well, at_too_long, at_done, at_no, at_none_fits, at_least_plan, at_traced, at_summed, at_no_of, at_refused, at_write_fault, at_write_count, at_write_well, at_answers, at_refuses, at_exceeds, at_room}
 use Rattle.sercos_app.proofs.top_call.sercos.Goals as goal
 
 pub returns-clause-bad_words : goal.returns-clause-bad_words
 returns-clause-bad_words g c = at_bad_words c.respond.ensures
 
+pub returns-clause-no_form : goal.returns-clause-no_form
+returns-clause-no_form g c = at_no_form c.respond.ensures
+
 pub returns-clause-unread : goal.returns-clause-unread
 returns-clause-unread g c = at_unread c.respond.ensures
 
 pub returns-clause-taken : goal.returns-clause-taken
-returns-clause-taken g c = at_taken (ap g.S.Source.left) c.respond.ensures
+returns-clause-taken g c = at_taken c.respond.ensures
 
 pub returns-clause-unwritten : goal.returns-clause-unwritten
 returns-clause-unwritten g c = at_unwritten c.respond.ensures
@@ -41,8 +43,11 @@ returns-clause-least g c = at_least_plan c.respond.ensures
 pub returns-clause-traced : goal.returns-clause-traced
 returns-clause-traced g c = at_traced c.respond.ensures
 
-pub returns-clause-run_never_no : goal.returns-clause-run_never_no
-returns-clause-run_never_no g c = at_run_never_no c.respond.ensures
+pub returns-clause-summed : goal.returns-clause-summed
+returns-clause-summed g c = at_summed c.respond.ensures
+
+pub returns-clause-no_of : goal.returns-clause-no_of
+returns-clause-no_of g c = at_no_of c.respond.ensures
 
 pub returns-clause-refused : goal.returns-clause-refused
 returns-clause-refused g c = at_refused c.respond.ensures

@@ -1,0 +1,7 @@
+use Rattle.sercos_app.specs.Outcome.Replies.{replied}
+use Rattle.sercos_app.specs.Checking.{check_answer}
+use Rattle.sercos_app.proofs.check_command.answer_check.Goals as goal
+
+pub returns : goal.returns
+unfolding check_answer
+returns g c = replied _ tt (rw (← c.verdict.ensures) c.give_verdict.ensures)

@@ -1,0 +1,47 @@
+-- What `gen` answers to a number of drives.
+use Rattle.std.specs.Prelude.{ℕ, List, [], ◌∷◌, ◌++◌, codes, reverse, Option, Some, None}
+use Rattle.sercos_io.specs.declared.status.Status.TheVariants.{Done}
+use Rattle.sercos_step.specs.declared.request.Job.{Job}
+use Rattle.sercos_block.specs.Views.{RingView}
+use Rattle.sercos_script.specs.Links.{Carry, Restarts}
+use Rattle.sercos_text.specs.Templates.{line_text}
+use Rattle.sercos_text.specs.Templates.Value.{number}
+use Rattle.sercos_trace.specs.declared.record.Totals.{Totals}
+use Rattle.sercos_ring.specs.Runs.{IsRun, run_of}
+use Rattle.sercos_config.specs.Views.{DocumentView}
+use Rattle.sercos_config.specs.Generated.{generated}
+use Rattle.sercos_app.specs.Show.{Answer, line_feed}
+use Rattle.sercos_app.specs.Totals.{totals_of}
+use Rattle.sercos_app.specs.Running.{carry_under, restarts_under, document_run}
+
+-- The summary of the run of n drives. In the parts of the line a `D` stands for a number: how many drives and cycles; the first
+-- cycle commanded phase 4, if there is one; and the counts.
+abbrev pub head_text : ℕ → ℕ → List ℕ
+head_text n cycles = line_text (codes "gen D cycles D phase4 ") (number n ∷ number cycles ∷ [])
+
+unfoldable pub first_text : Option ℕ → List ℕ
+first_text None = line_text (codes "none") []
+first_text (Some cycle) = line_text (codes "D") (number cycle ∷ [])
+
+abbrev pub counts_text : Totals → List ℕ
+counts_text t =
+    line_text (codes " complete D refused D broken D falls D unseen D")
+    (number t.complete ∷ number t.refused ∷ number t.broken ∷ number t.falls ∷ number t.unseen ∷ [])
+
+unfoldable pub gen_line : ℕ → Totals → List ℕ
+gen_line n t = head_text n t.cycles ++ (first_text t.phase4 ++ (counts_text t ++ line_feed))
+
+-- the answer that is the summary of a ring's run, for its number of cycles
+abbrev pub run_summed : ℕ → RingView → List Job → Carry → Restarts → Answer
+run_summed n r jobs carry restarts = record { status = Done; output = gen_line n (totals_of (reverse (run_of r jobs carry restarts r.cycles))) }
+
+-- the answer to a number of drives: the summary of the run of the document that is generated for it
+unfoldable pub gen_answer : Carry → Restarts → ℕ → Answer
+gen_answer carry restarts n = record { status = Done; output = gen_line n (totals_of (reverse (document_run carry restarts (generated n)))) }
+
+-- what is summed is a run of the document: each cycle is the next one after those before it
+abbrev pub IsDocumentRun : Carry → Restarts → DocumentView → Type 0
+IsDocumentRun carry restarts d = IsRun d.setup d.jobs (carry_under d carry) (restarts_under d restarts) (document_run carry restarts d)
+
+abbrev pub RunsGenerated : Carry → Restarts → ℕ → Type 0
+RunsGenerated carry restarts n = IsDocumentRun carry restarts (generated n)

@@ -1,0 +1,151 @@
+// `gen`: the summary of the run of a generated document.
+ghost use Rattle.std.specs.Prelude.{◌≡◌, ◌≤◌, ◌++◌, true, length};
+ghost use Rattle.std.specs.List.{All};
+ghost use Rattle.sercos_step.specs.Steps.{IsRequest};
+ghost use Rattle.sercos_block.specs.Rings.{is_ring};
+ghost use Rattle.sercos_app.specs.Outcome.{Replies, Writes, changed};
+ghost use Rattle.sercos_app.specs.Running.{carry_under, restarts_under};
+ghost use Rattle.sercos_app.specs.Generating.{RunsGenerated, counts_text, first_text, gen_answer, gen_line, head_text, run_summed};
+
+use crate::counting::count_cycles;
+use crate::given::fault_status;
+use crate::run_command::{cycles_of, drives_of};
+use sercos_block::RingSetup;
+use sercos_config::{Document, generate};
+use sercos_io::{Sink, Status, write_all};
+use sercos_ring::{Ring, run_law};
+use sercos_script::{BitLink, Both, Scripted};
+use sercos_step::Job;
+use sercos_text::{Given, Line, push_line};
+use sercos_trace::Totals;
+use std::alloc::Global;
+
+// Appends the number of drives and of cycles.
+fn push_head(n: u8, cycles: u32, line: &mut Line)
+    requires { length line.old ≡ 0 }
+    ensures value { line.new ≡ line.old ++ head_text n cycles }
+    ensures bound { length line.new ≤ 50 }
+{
+    let values = [Given::Number(u32::from(n)), Given::Number(cycles)];
+    push_line(b"gen D cycles D phase4 ", &values, line);
+}
+
+// Appends the first cycle commanded phase 4, or `none`.
+#[tactic(auto, unfolding(crate::specs::Generating::first_text))]
+fn push_first(first: Option<u32>, line: &mut Line)
+    requires { length line.old ≤ 50 }
+    ensures value { line.new ≡ line.old ++ first_text first }
+    ensures bound { length line.new ≤ 70 }
+{
+    match first {
+        Some(cycle) => push_line(b"D", &[Given::Number(cycle)], line),
+        None => push_line(b"none", &[], line),
+    }
+}
+
+// Appends the counts.
+fn push_counts(totals: &Totals, line: &mut Line)
+    requires { length line.old ≤ 70 }
+    ensures value { line.new ≡ line.old ++ counts_text totals.now }
+    ensures bound { length line.new ≤ 200 }
+{
+    let values = [
+        Given::Number(totals.complete),
+        Given::Number(totals.refused),
+        Given::Number(totals.broken),
+        Given::Number(totals.falls),
+        Given::Number(totals.unseen),
+    ];
+    push_line(
+        b" complete D refused D broken D falls D unseen D",
+        &values,
+        line,
+    );
+}
+
+// The summary line.
+#[tactic(auto, unfolding(crate::specs::Generating::gen_line))]
+fn summary(n: u8, totals: &Totals) -> Line
+    ensures { result ≡ gen_line n totals.now }
+{
+    let mut line = Line::new();
+    push_head(n, totals.cycles, &mut line);
+    push_first(totals.phase4, &mut line);
+    push_counts(totals, &mut line);
+    line.push_within(b'\n');
+    line
+}
+
+// Writes the summary line, and returns the status.
+fn give_summary<K: Sink>(n: u8, totals: &Totals, sink: &mut K) -> Status
+    ensures { Writes Status.Done (gen_line n totals.now) (changed K.held K.faults K.room sink.old sink.new) result }
+{
+    let line = summary(n, totals);
+    match write_all(sink, line.as_slice()) {
+        Ok(()) => Status::Done,
+        Err(_) => fault_status(Status::Done),
+    }
+}
+
+// Writes the summary of the run of a setup over a link. All memory is taken before anything is written.
+fn sum_over<L: BitLink, K: Sink>(
+    alloc: Global,
+    n: u8,
+    setup: &RingSetup,
+    jobs: Vec<Job>,
+    link: L,
+    sink: &mut K,
+) -> Status
+    requires ring { is_ring setup.now ≡ true }
+    requires few { length jobs.items ≤ 4096 }
+    requires requests { All (λ job. IsRequest job.request) jobs.items }
+    ensures { Replies (run_summed n setup.now jobs.items (L.carry link) (L.restart link)) (Unit {0})
+        (changed K.held K.faults K.room sink.old sink.new) (sink.new ≡ sink.old) result }
+{
+    match Ring::open(alloc, setup, jobs, link) {
+        Ok(mut ring) => {
+            let totals = count_cycles(&mut ring, cycles_of(setup));
+            give_summary(n, &totals, sink)
+        }
+        Err(_) => Status::Memory,
+    }
+}
+
+// Writes the summary of the run of a document, under its script followed by the link handed in.
+fn sum_document<L: BitLink, K: Sink>(
+    alloc: Global,
+    n: u8,
+    document: Document,
+    link: L,
+    sink: &mut K,
+) -> Status
+    requires ring { is_ring document.setup ≡ true }
+    requires few { length document.jobs ≤ 4096 }
+    requires requests { All (λ job. IsRequest job.request) document.jobs }
+    ensures { Replies (run_summed n document.setup document.jobs (carry_under document (L.carry link)) (restarts_under document (L.restart link)))
+        (Unit {0}) (changed K.held K.faults K.room sink.old sink.new) (sink.new ≡ sink.old) result }
+{
+    let Document {
+        setup,
+        jobs,
+        faults,
+    } = document;
+    let script = Scripted::new(faults, drives_of(&setup));
+    sum_over(alloc, n, &setup, jobs, Both::new(script, link), sink)
+}
+
+/// Answers `gen N`: runs the document that is generated for n drives, under its script followed by the link handed in, and writes
+/// one line, the summary of the run. There are 1 to 64 drives. All memory is taken before the line is written: if it runs out, the
+/// status is `Memory`, and the sink is as it was. If writing fails, the status is `WriteFault`.
+pub fn answer_gen<L: BitLink, K: Sink>(alloc: Global, n: u8, link: L, sink: &mut K) -> Status
+    requires some { 1 ≤ n }
+    requires few { n ≤ 64 }
+    ensures { Replies (gen_answer (L.carry link) (L.restart link) n) (RunsGenerated (L.carry link) (L.restart link) n)
+        (changed K.held K.faults K.room sink.old sink.new) (sink.new ≡ sink.old) result }
+{
+    run_law();
+    match generate(alloc, n) {
+        Ok(document) => sum_document(alloc, n, document, link, sink),
+        Err(_) => Status::Memory,
+    }
+}

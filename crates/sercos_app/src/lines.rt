@@ -1,0 +1,27 @@
+// The lines of a text.
+ghost use Rattle.std.specs.Prelude.{◌≡◌, ◌==◌, ◌<◌, ◌≤◌, length};
+ghost use Rattle.std.specs.List.{before_first, after_first, position_or_len};
+
+// How many bytes stand before the first line feed.
+fn line_len(text: &[u8]) -> usize
+    ensures value { result ≡ position_or_len (λ byte. byte == 10) text.now }
+    ensures bound { result ≤ length text.now }
+{
+    for (place, byte) in text.iter().enumerate() {
+        if *byte == b'\n' {
+            return place;
+        }
+    }
+    text.len()
+}
+
+/// Cuts a text after its first line, which loses its line feed.
+pub fn cut_line(text: &[u8]) -> (&[u8], &[u8])
+    ensures line { result.0.now ≡ before_first (λ byte. byte == 10) text.now }
+    ensures rest { result.1.now ≡ after_first (λ byte. byte == 10) text.now }
+    ensures shorter { 0 < length text.now → length result.1.now < length text.now }
+{
+    let len = line_len(text);
+    let rest = (len + 1).min(text.len());
+    (&text[..len], &text[rest..])
+}
