@@ -10,7 +10,8 @@ begins no other line of the output; nor does a word of the file `only`. No line 
 `none`.
 
 The folder `refusals` has sheets of ring documents that are refused, by each command that reads one: a part begins with
-a line `== NAME`, its refusal follows, and then the document. Ends with 0 where each case passed.
+a line `== NAME`, its refusal follows, and then the document. The folder `captures` has sheets of captures for `check` in
+the same form, each with its answer. What a case of `run` writes is clean for `check`. Ends with 0 where each case passed.
 """
 import fnmatch
 import pathlib
@@ -21,6 +22,7 @@ STATUS = ["Done", "No", "BadWords", "Refused", "ReadFault", "WriteFault", "Memor
 # The first words of lines that a case names all of, if it names one.
 WHOLE = {"r", "plan", "stop", "fall", "end"}
 READERS = ["plan", "run"]
+VERDICTS = {"clean": 0, "violation": 1, "refused": 3}
 
 
 def read(path, default):
@@ -68,20 +70,37 @@ def folder_case(case):
     return case.name, words, read(case / "stdin", b""), test, int(read(case / "status", b"0"))
 
 
-def sheet_cases(sheet):
+def parts(sheet):
+    """The name, the answer and the input of each part of a sheet."""
     for part in ("\n" + sheet.read_text(encoding="utf-8")).split("\n== ")[1:]:
         name, _, text = part.partition("\n")
-        refusal, _, document = text.partition("\n")
+        answer, _, source = text.partition("\n")
+        yield name, answer, source
+
+
+def refusal_cases(sheet):
+    for name, refusal, document in parts(sheet):
         for word in READERS:
             yield f"{sheet.stem} {name} {word}", [word], document.encode(), other_output(refusal.encode() + b"\n"), 3
 
 
+def capture_cases(sheet):
+    for name, answer, capture in parts(sheet):
+        source = capture.rstrip("\n") + "\n" if capture else ""
+        status = VERDICTS[answer.split(" ")[0]]
+        yield f"{sheet.stem} {name}", ["check"], source.encode(), other_output(answer.encode() + b"\n"), status
+
+
+SHEETS = {"refusals": refusal_cases, "captures": capture_cases}
+
+
 def cases(folder):
     for path in sorted(folder.iterdir()):
-        if path.name != "refusals":
+        if path.name not in SHEETS:
             yield folder_case(path)
-    for sheet in sorted((folder / "refusals").iterdir()):
-        yield from sheet_cases(sheet)
+    for name, cases_of in SHEETS.items():
+        for sheet in sorted((folder / name).iterdir()):
+            yield from cases_of(sheet)
 
 
 def faults(program, words, source, test, status):
@@ -92,6 +111,9 @@ def faults(program, words, source, test, status):
     yield from test(run.stdout)
     if run.stderr != name:
         yield f"standard error {run.stderr[:300]!r}, wanted {name!r}"
+    if words == ["run"] and status == 0:
+        clean = other_output(b"clean %d\n" % run.stdout.count(b"\n"))
+        yield from faults(program, ["check"], run.stdout, clean, 0)
 
 
 def main():
