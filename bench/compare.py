@@ -1,9 +1,14 @@
 #!/usr/bin/env python3
-"""Compares two programs on random rings: compare.py ONE OTHER FIRST COUNT [JOBS]
+"""Compares two programs on random rings, or on random captures:
+
+compare.py ONE OTHER FIRST COUNT [JOBS]
+compare.py --captures RUN ONE OTHER FIRST COUNT [JOBS]
 
 ONE and OTHER are commands that read a ring document, such as `crates/sercos/out/sercos run`. For each of the COUNT seeds
-from FIRST on, both are given the document of the seed. Of each document on which they differ, in output or status, the
-first line that differs is printed, and at the end what occurred in the traces of ONE. Ends with 0 where none differs.
+from FIRST on, both are given the document of the seed. With `--captures` they read a capture, as `sercos check` does: both
+are given a capture made from the trace that the command RUN writes of the document. Of each input on which they differ, in
+output or status, the first line that differs is printed, and at the end what occurred in the outputs of ONE. Ends with 0
+where none differs.
 """
 import collections
 import concurrent.futures
@@ -11,6 +16,7 @@ import shlex
 import subprocess
 import sys
 
+from random_captures import capture
 from random_rings import document
 
 SECONDS = 600
@@ -34,7 +40,9 @@ def difference(one, other):
 
 
 def occurs_in(status, lines):
-    """What a trace shows, each named once."""
+    """What a trace or a verdict shows, each named once."""
+    if status == 1 and len(lines) == 1:
+        return {" ".join(lines[0].split(" ")[3:])}
     if status:
         return {f"status {status}"}
     found = set()
@@ -50,30 +58,44 @@ def occurs_in(status, lines):
             found.add("request " + words[3])
         elif words[0] == "end" and words[-1] != "0":
             found.add("unseen")
+        elif words[0] == "clean":
+            found.add("clean")
     return found
 
 
-def compared(one, other, seed):
-    source = document(seed).encode()
+def source_of(run, seed):
+    """The document of a seed, or the capture made from its trace."""
+    source = document(seed)
+    if run is None:
+        return source
+    return capture(seed, "\n".join(answer(run, source.encode())[1]))
+
+
+def compared(run, one, other, seed):
+    source = source_of(run, seed).encode()
     answers = answer(one, source), answer(other, source)
     return seed, difference(*answers), occurs_in(*answers[0])
 
 
 def main():
-    one, other, first, count = sys.argv[1:5]
-    jobs = int(sys.argv[5]) if len(sys.argv) > 5 else 2
+    words = sys.argv[1:]
+    run = None
+    if words[0] == "--captures":
+        run, words = words[1], words[2:]
+    one, other, first, count = words[:4]
+    jobs = int(words[4]) if len(words) > 4 else 2
     seeds = range(int(first), int(first) + int(count))
     counts = collections.Counter()
     differ = 0
     with concurrent.futures.ThreadPoolExecutor(jobs) as pool:
-        for seed, found, occurred in pool.map(lambda seed: compared(one, other, seed), seeds):
+        for seed, found, occurred in pool.map(lambda seed: compared(run, one, other, seed), seeds):
             counts.update(occurred)
             if found:
                 differ += 1
                 print(f"seed {seed}: {found}", flush=True)
     for name in sorted(counts):
         print(f"{counts[name]:6} {name}")
-    print(f"rings: {len(seeds)} compared, {differ} differ")
+    print(f"{len(seeds)} compared, {differ} differ")
     return 1 if differ else 0
 
 
