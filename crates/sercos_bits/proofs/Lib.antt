@@ -1,3 +1,4 @@
 pub mod Division
 pub mod Law
 pub mod SpellingLemmas
+pub mod TableLemmas

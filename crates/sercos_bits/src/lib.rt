@@ -9,4 +9,4 @@ mod spelling;
 pub use bit_buf::{BitBuf, MAX_BITS};
 pub use byte_list::{ByteList, Bytes, Content, Full, MAX_CONTENT, Text};
 pub use check_sequence::{division_law, fcs};
-pub use spelling::{BadBits, bits_of, bytes_of, number_of};
+pub use spelling::{BadBits, bits_of, bytes_of, number_of, push_number};

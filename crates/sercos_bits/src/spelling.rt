@@ -5,6 +5,9 @@ ghost use Rattle.sercos_bits.specs.Spelling.{bad_bits_of};
 use crate::bit_buf::{BitBuf, MAX_BITS};
 use crate::byte_list::{Content, Full, MAX_CONTENT};
 
+// The bits of a byte.
+const BYTE_BITS: usize = 8;
+
 /// Why bits spell no content.
 #[derive(Clone, Copy, Debug, PartialEq, Eq)]
 pub enum BadBits {
@@ -14,13 +17,14 @@ pub enum BadBits {
     Long,
 }
 
-/// Appends the eight bits of a byte, the least significant first, where there is room for them.
-fn push_byte(byte: u8, out: &mut BitBuf)
-    requires { length out.old + 8 ≤ 19696 }
-    ensures { out.new ≡ out.old ++ low_bits 8 byte }
+/// Appends the lowest bits of a number, `len` of them, the least significant first, where there is room for them.
+pub fn push_number(number: u16, len: usize, out: &mut BitBuf)
+    requires { length out.old + len ≤ 19696 }
+    ensures bits { out.new ≡ out.old ++ low_bits len number }
+    ensures len { length out.new ≡ length out.old + len }
 {
-    let mut rest = byte;
-    for _ in 0..u8::BITS {
+    let mut rest = number;
+    for _ in 0..len {
         out.push_within(rest % 2 == 1);
         rest /= 2;
     }
@@ -38,7 +42,7 @@ pub fn bits_of(bytes: &[u8], out: &mut BitBuf) -> Result<(), Full>
         return Err(Full);
     }
     for byte in bytes {
-        push_byte(*byte, out);
+        push_number(u16::from(*byte), BYTE_BITS, out);
     }
     Ok(())
 }

@@ -1,5 +1,5 @@
 -- What is sent for a content: a list with zeros inserted, the loops that make and count it, and the laws of frames.
-use Rattle.std.proofs.Common.{◌≡◌, ℕ, zero, suc, ◌+◌, ◌-◌, ◌*◌, ◌/◌, ◌%◌, ◌<◌, ◌≤◌, Bool, true, false, List, [], ◌∷◌, ◌++◌, length, drop, get_or, refl, sym, ap, ◌∙◌, arith, length-append, append_assoc}
+use Rattle.std.proofs.Common.{◌≡◌, ℕ, zero, suc, ◌+◌, ◌*◌, ◌/◌, ◌%◌, ◌<◌, ◌≤◌, Bool, true, false, List, [], ◌∷◌, ◌++◌, length, drop, get_or, refl, sym, ap, ◌∙◌, arith, length-append, append_assoc}
 use Rattle.std.specs.Prelude.{fold}
 use Rattle.std.specs.Int.{w16, to_le_bytes}
 use Rattle.std.proofs.lemmas.List.{append-nil}
@@ -8,7 +8,7 @@ use Rattle.sercos_model.specs.Bits.{is_odd, low_bits, bits_of, AreBytes}
 use Rattle.sercos_model.specs.CheckSequence.{fcs_of}
 use Rattle.sercos_model.specs.Frames.{flag, IsStuffed, IsFrame, plain_of, wire_bits}
 use Rattle.sercos_model.specs.Frames.IsStuffed.{both_end, zero_kept, one_kept, zero_inserted}
-use Rattle.sercos_model.proofs.BitLemmas.{low_bits-next, low_bits-none, bits_of-next, bits_of-none}
+use Rattle.sercos_model.proofs.BitLemmas.{bits_of-next, bits_of-none}
 use Rattle.sercos_model.proofs.FrameLemmas.{length-plain_of}
 use Rattle.sercos_hdlc.specs.Reason.{six_place, plain, content_of}
 use Rattle.sercos_hdlc.specs.Stuffed.{sent_for, ones_behind, stuffed}
@@ -97,21 +97,6 @@ sent_more out more now left all grown is before = rw (grown, append_assoc, ← i
 
 pub counted_more : (len more all : ℕ) (now left : List Bool) {whole : List Bool} → more ≡ len + length now → whole ≡ now ++ left → len + length whole ≡ all → more + length left ≡ all
 counted_more len more all now left grown is before = omega (arith, ap length is, length-append now left)
-
--- the bits that are left of a byte
-pub stuffed_next : (ones rest k : ℕ) → k < 8 → stuffed ones (low_bits (8 - k) rest) ≡ sent_for ones (is_odd rest) ++ stuffed (ones_behind ones (is_odd rest)) (low_bits (8 - (k + 1)) (rest / 2))
-unfolding stuffed
-stuffed_next ones rest k left = ap (stuffed ones) (low_bits-next 8 k rest left)
-
-pub ones_next : (ones rest k : ℕ) → k < 8 → fold ones_behind ones (low_bits (8 - k) rest) ≡ fold ones_behind (ones_behind ones (is_odd rest)) (low_bits (8 - (k + 1)) (rest / 2))
-ones_next ones rest k left = ap (fold ones_behind ones) (low_bits-next 8 k rest left)
-
-pub stuffed_end : (ones rest k : ℕ) → 8 ≤ k → stuffed ones (low_bits (8 - k) rest) ≡ []
-unfolding stuffed
-stuffed_end ones rest k done = ap (stuffed ones) (low_bits-none 8 k rest done)
-
-pub ones_end : (ones rest k : ℕ) → 8 ≤ k → fold ones_behind ones (low_bits (8 - k) rest) ≡ ones
-ones_end ones rest k done = ap (fold ones_behind ones) (low_bits-none 8 k rest done)
 
 -- the bytes that are left
 pub stuffed_next_byte : (ones : ℕ) (bytes : List ℕ) (i : ℕ) → i < length bytes → stuffed ones (bits_of (drop i bytes)) ≡ stuffed ones (low_bits 8 (get_or bytes i 0)) ++ stuffed (fold ones_behind ones (low_bits 8 (get_or bytes i 0))) (bits_of (drop (i + 1) bytes))

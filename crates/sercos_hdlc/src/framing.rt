@@ -81,6 +81,7 @@ pub fn frame_len(content: &[u8]) -> u32
     requires fits { length content.now ≤ 2048 }
     ensures bits { (bits : List Bool) × IsFrame content.now bits × (result ≡ length bits) }
     ensures only { (bits : List Bool) → IsFrame content.now bits → result ≡ length bits }
+    ensures frame { result ≡ length (frame_of content.now) }
 {
     let mut len = FLAGS_BITS;
     let ones = count_bytes(content, 0, &mut len);
@@ -88,12 +89,14 @@ pub fn frame_len(content: &[u8]) -> u32
     len
 }
 
-/// Laws and no code. Every content of 1 to 2048 bytes has a frame, and one alone. A frame has no more bits than
+/// Laws and no code. Every content of 1 to 2048 bytes has a frame, and one alone, which `frame_of` gives. A frame has no more bits than
 /// `wire_bits` says of its content's length, so each fits a [`BitBuf`]. No frame is a proper prefix of another, and so what
 /// was framed is read again from its own bits alone.
 pub fn framing_law()
     ensures some { (content : List ℕ) → AreBytes content → 0 < length content → length content ≤ 2048
         → (bits : List Bool) × IsFrame content bits }
+    ensures frame { (content : List ℕ) → AreBytes content → 0 < length content → length content ≤ 2048
+        → IsFrame content (frame_of content) }
     ensures one { (content : List ℕ) (a b : List Bool) → IsFrame content a → IsFrame content b → a ≡ b }
     ensures wire { (content : List ℕ) (bits : List Bool) → IsFrame content bits
         → length bits ≤ wire_bits (length content) }

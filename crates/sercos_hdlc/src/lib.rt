@@ -6,6 +6,7 @@ mod flags;
 mod framing;
 mod reading;
 mod stuffing;
+mod tables;
 
 pub use bad_frame::BadFrame;
 pub use framing::{TooLong, frame, frame_len, framing_law};

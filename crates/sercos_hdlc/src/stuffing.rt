@@ -1,12 +1,24 @@
 ghost use Rattle.std.specs.Prelude.{◌≡◌, ◌+◌, ◌*◌, ◌^◌, ◌<◌, ◌≤◌, ◌++◌, length, fold};
 ghost use Rattle.sercos_model.specs.Bits.{low_bits, bits_of};
-ghost use Rattle.sercos_hdlc.specs.Reason.{unstuffed};
-ghost use Rattle.sercos_hdlc.specs.Stuffed.{is_fifth, sent_for, ones_behind, stuffed};
+ghost use Rattle.sercos_hdlc.specs.Reason.{plain_for, unstuffed};
+ghost use Rattle.sercos_hdlc.specs.Stuffed.{ones_behind, stuffed};
 
-use sercos_bits::BitBuf;
+use crate::tables::{counts_of, sent_for};
+use sercos_bits::{BitBuf, push_number};
 
 // Behind so many ones in a row a zero is inserted.
 const INSERTED_BEHIND: usize = 5;
+
+// Appends a bit, behind so many ones in a row, unless it is an inserted zero.
+fn push_plain(bit: bool, run: usize, plain: &mut BitBuf)
+    requires { length plain.old < 19696 }
+    ensures bits { plain.new ≡ plain.old ++ plain_for run bit }
+    ensures room { length plain.new ≤ length plain.old + 1 }
+{
+    if bit || run != INSERTED_BEHIND {
+        plain.push_within(bit);
+    }
+}
 
 /// Appends the bits without the zeros that were inserted.
 pub fn unstuff(bits: &[bool], plain: &mut BitBuf)
@@ -15,49 +27,8 @@ pub fn unstuff(bits: &[bool], plain: &mut BitBuf)
 {
     let mut run = 0usize;
     for bit in bits {
-        if *bit {
-            plain.push_within(true);
-            run += 1;
-            continue;
-        }
-        if run != INSERTED_BEHIND {
-            plain.push_within(false);
-        }
-        run = 0;
-    }
-}
-
-// Whether a bit, behind so many ones in a row, is the fifth of them.
-fn is_fifth(ones: usize, bit: bool) -> bool
-    requires { ones < 5 }
-    ensures { result ≡ is_fifth ones bit }
-{
-    bit && ones + 1 == INSERTED_BEHIND
-}
-
-// How many ones in a row end what is sent when the bit is.
-fn ones_behind(ones: usize, bit: bool) -> usize
-    requires { ones < 5 }
-    ensures value { result ≡ ones_behind ones bit }
-    ensures few { result < 5 }
-{
-    if bit && !is_fifth(ones, bit) {
-        ones + 1
-    } else {
-        0
-    }
-}
-
-// Appends a bit and, behind the fifth one in a row, a zero.
-fn push_bit(bit: bool, ones: usize, out: &mut BitBuf)
-    requires few { ones < 5 }
-    requires room { 5 * length out.old + ones + 6 ≤ 5 * 19696 }
-    ensures bits { out.new ≡ out.old ++ sent_for ones bit }
-    ensures room { 5 * length out.new + ones_behind ones bit ≤ 5 * length out.old + ones + 6 }
-{
-    out.push_within(bit);
-    if is_fifth(ones, bit) {
-        out.push_within(false);
+        push_plain(*bit, run, plain);
+        run = (run + 1) * usize::from(*bit);
     }
 }
 
@@ -70,15 +41,9 @@ fn push_byte(byte: u8, ones: usize, out: &mut BitBuf) -> usize
     ensures few { result < 5 }
     ensures room { 5 * length out.new + result ≤ 5 * length out.old + ones + 48 }
 {
-    let mut run = ones;
-    let mut rest = byte;
-    for _ in 0..u8::BITS {
-        let bit = rest % 2 == 1;
-        push_bit(bit, run, out);
-        run = ones_behind(run, bit);
-        rest /= 2;
-    }
-    run
+    let counts = counts_of(ones, byte);
+    push_number(sent_for(ones, byte), usize::from(counts / 16), out);
+    usize::from(counts % 16)
 }
 
 /// Appends what is sent for bytes behind so many ones in a row, and answers how many then end it. Room is left for a zero
@@ -98,15 +63,6 @@ pub fn push_bytes(bytes: &[u8], ones: usize, out: &mut BitBuf) -> usize
     run
 }
 
-// How many bits are sent for a bit: the fifth one in a row brings a zero with it.
-fn sent_len(ones: usize, bit: bool) -> u32
-    requires { ones < 5 }
-    ensures value { result ≡ length (sent_for ones bit) }
-    ensures bound { result ≤ 2 }
-{
-    if is_fifth(ones, bit) { 2 } else { 1 }
-}
-
 // Counts what is sent for a byte behind so many ones in a row, and answers how many then end it.
 fn count_byte(byte: u8, ones: usize, len: &mut u32) -> usize
     requires few { ones < 5 }
@@ -116,15 +72,9 @@ fn count_byte(byte: u8, ones: usize, len: &mut u32) -> usize
     ensures few { result < 5 }
     ensures room { len.new ≤ len.old + 16 }
 {
-    let mut run = ones;
-    let mut rest = byte;
-    for _ in 0..u8::BITS {
-        let bit = rest % 2 == 1;
-        *len += sent_len(run, bit);
-        run = ones_behind(run, bit);
-        rest /= 2;
-    }
-    run
+    let counts = counts_of(ones, byte);
+    *len += u32::from(counts / 16);
+    usize::from(counts % 16)
 }
 
 /// Counts what is sent for bytes behind so many ones in a row, as [`push_bytes`] appends it, and answers how many then end

@@ -1,7 +1,7 @@
 use Rattle.std.proofs.Common.{◌≡◌, ◌++◌, ap, arith, length, refl, sym, ◌∙◌}
 use Rattle.sercos_model.specs.Frames.{flag, plain_of, IsFrame}
 use Rattle.sercos_model.proofs.BitLemmas.{AreBytes-by_index}
-use Rattle.sercos_hdlc.specs.Stuffed.{stuffed}
+use Rattle.sercos_hdlc.specs.Stuffed.{stuffed, frame_of}
 use Rattle.sercos_hdlc.proofs.FramingLemmas.{IsFrame-framed, length_framed, one_frame}
 use Rattle.sercos_hdlc.proofs.framing.frame_len.Goals as goal
 
@@ -18,3 +18,7 @@ returns-clause-bits c = (_, framed c, counted c)
 
 pub returns-clause-only : goal.returns-clause-only
 returns-clause-only c = λ bits is. counted c ∙ ap length (one_frame c.args.content.now _ bits (framed c) is)
+
+pub returns-clause-frame : goal.returns-clause-frame
+unfolding frame_of
+returns-clause-frame c = counted c
