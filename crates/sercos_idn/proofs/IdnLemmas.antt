@@ -1,13 +1,16 @@
 -- A text without a fault is the one spelling of its number, and each spelling has no fault.
-use Rattle.std.proofs.Common.{◌≡◌, ℕ, ◌+◌, ◌-◌, ◌*◌, ◌/◌, ◌%◌, ◌^◌, ◌<◌, ◌≤◌, ◌⊎◌, ◌==◌, ◌&&◌, ◌||◌, inl, inr, nat_lt, nat_le, Bool, true, false, not, cond, List, [], ◌∷◌, length, get_or, None, refl, ◌∙◌, ap, arith}
+use Rattle.std.proofs.Common.{◌≡◌, ℕ, zero, suc, ◌+◌, ◌-◌, ◌*◌, ◌/◌, ◌%◌, ◌^◌, ◌<◌, ◌≤◌, ◌⊎◌, ◌==◌, ◌&&◌, ◌||◌, inl, inr, nat_lt, nat_le, Bool, true, false, not, cond, List, [], ◌∷◌, length, get_or, Option, Some, None, refl, ◌∙◌, ap, arith}
 use Rattle.std.specs.Bool.{then_some}
+use Rattle.std.specs.Option.{option_or}
+use Rattle.std.proofs.lemmas.Bool.{cases_eq, ltb-true}
 use Rattle.std.proofs.lemmas.Bool.Decides.{nat_tests}
-use Rattle.sercos_idn.specs.Idns.{idn_fault, head_fault, digits_fault, slot_fault, idn_text, four_digits, letter_of, set_of, number_of, digit_at, spelled_number, spelled_raw}
+use Rattle.sercos_idn.specs.Idns.{idn_fault, head_fault, digits_fault, slot_fault, idn_text, four_digits, has_byte, can_stand, letter_of, set_of, number_of, digit_at, spelled_number, spelled_raw}
+use Rattle.sercos_idn.specs.declared.idn.Slot.{Slot}
 use Rattle.sercos_idn.specs.declared.idn.Slot.TheVariants.{Letter, Dash, Octal, Decimal}
-use Rattle.sercos_model.proofs.FaultLemmas.{none_of-or, none_of-then, at_least, nat_lt-at_least}
+use Rattle.sercos_model.proofs.FaultLemmas.{at_least, nat_lt-at_least}
 
--- what a text without a fault is: eight bytes that can stand, and a number that is small enough
-pub record IsSpelled (text : List ℕ) : Type 0 where
+-- eight bytes, each of which can be at its place
+pub record HasForm (text : List ℕ) : Type 0 where
   pub all : length text ≡ 8
   pub letter : (get_or text 0 0 ≡ 83) ⊎ (get_or text 0 0 ≡ 80)
   pub first_dash : get_or text 1 0 ≡ 45
@@ -22,10 +25,14 @@ pub record IsSpelled (text : List ℕ) : Type 0 where
   pub tens_high : get_or text 6 0 ≤ 57
   pub ones_low : 48 ≤ get_or text 7 0
   pub ones_high : get_or text 7 0 ≤ 57
+
+-- what a text without a fault is: such bytes, and a number that is small enough
+pub record IsSpelled (text : List ℕ) : Type 0 where
+  pub form : HasForm text
   pub small : spelled_number text ≤ 4095
 
 -- the eight bytes, one by one
-eight : (text : List ℕ) → length text ≡ 8
+pub eight : (text : List ℕ) → length text ≡ 8
     → text ≡ get_or text 0 0 ∷ get_or text 1 0 ∷ get_or text 2 0 ∷ get_or text 3 0 ∷ get_or text 4 0 ∷ get_or text 5 0 ∷ get_or text 6 0 ∷ get_or text 7 0 ∷ []
 eight (a ∷ b ∷ c ∷ d ∷ e ∷ f ∷ g ∷ h ∷ []) all = refl
 eight (a ∷ b ∷ c ∷ d ∷ e ∷ f ∷ g ∷ h ∷ i ∷ text) all = absurd (omega arith)
@@ -39,68 +46,115 @@ eight (a ∷ []) all = absurd (omega arith)
 eight [] all = absurd (omega arith)
 
 -- what a byte that can stand in a slot is
-letter_stands : (text : List ℕ) (place : ℕ) → slot_fault text place Letter ≡ None → (place < length text) × ((get_or text place 0 ≡ 83) ⊎ (get_or text place 0 ≡ 80))
-letter_stands text place none = let has = none_of-then _ place none in (in_text place (length text) _ has, is_letter (get_or text place 0) (nat_lt place (length text)) has)
+letter_stands : (text : List ℕ) (place : ℕ) → has_byte text place Letter ≡ true → (get_or text place 0 ≡ 83) ⊎ (get_or text place 0 ≡ 80)
+letter_stands text place has = is_letter (get_or text place 0) (nat_lt place (length text)) has
   where
-    in_text : (place len : ℕ) (stands : Bool) → not (nat_lt place len && stands) ≡ false → place < len
-    in_text place len stands has = grind (arith, nat_tests)
-
-    is_letter : (byte : ℕ) (within : Bool) → not (within && ((byte == 83) || (byte == 80))) ≡ false → (byte ≡ 83) ⊎ (byte ≡ 80)
+    is_letter : (byte : ℕ) (within : Bool) → within && ((byte == 83) || (byte == 80)) ≡ true → (byte ≡ 83) ⊎ (byte ≡ 80)
     is_letter byte within has = grind (arith, nat_tests)
 
-dash_stands : (text : List ℕ) (place : ℕ) → slot_fault text place Dash ≡ None → get_or text place 0 ≡ 45
-dash_stands text place none = is_dash (get_or text place 0) (nat_lt place (length text)) (none_of-then _ place none)
+dash_stands : (text : List ℕ) (place : ℕ) → has_byte text place Dash ≡ true → get_or text place 0 ≡ 45
+dash_stands text place has = is_dash (get_or text place 0) (nat_lt place (length text)) has
   where
-    is_dash : (byte : ℕ) (within : Bool) → not (within && (byte == 45)) ≡ false → byte ≡ 45
+    is_dash : (byte : ℕ) (within : Bool) → within && (byte == 45) ≡ true → byte ≡ 45
     is_dash byte within has = grind (arith, nat_tests)
 
-octal_stands : (text : List ℕ) (place : ℕ) → slot_fault text place Octal ≡ None → (48 ≤ get_or text place 0) × (get_or text place 0 ≤ 55)
-octal_stands text place none = is_octal (get_or text place 0) (nat_lt place (length text)) (none_of-then _ place none)
+digit_stands : (most : ℕ) (text : List ℕ) (place : ℕ) → nat_lt place (length text) && (nat_le 48 (get_or text place 0) && nat_le (get_or text place 0) most) ≡ true → (48 ≤ get_or text place 0) × (get_or text place 0 ≤ most)
+digit_stands most text place has = is_digit (get_or text place 0) (nat_lt place (length text)) has
   where
-    is_octal : (byte : ℕ) (within : Bool) → not (within && (nat_le 48 byte && nat_le byte 55)) ≡ false → (48 ≤ byte) × (byte ≤ 55)
-    is_octal byte within has = (grind (arith, nat_tests), grind (arith, nat_tests))
+    is_digit : (byte : ℕ) (within : Bool) → within && (nat_le 48 byte && nat_le byte most) ≡ true → (48 ≤ byte) × (byte ≤ most)
+    is_digit byte within has = (grind (arith, nat_tests), grind (arith, nat_tests))
 
-decimal_stands : (text : List ℕ) (place : ℕ) → slot_fault text place Decimal ≡ None → (place < length text) × (48 ≤ get_or text place 0) × (get_or text place 0 ≤ 57)
-decimal_stands text place none = is_decimal place (length text) (get_or text place 0) (none_of-then _ place none)
+-- the slots of the eight places
+abbrev pub slot_at : ℕ → Slot
+slot_at zero = Letter
+slot_at (suc zero) = Dash
+slot_at (suc (suc zero)) = Octal
+slot_at (suc (suc (suc zero))) = Dash
+slot_at (suc (suc (suc (suc place)))) = Decimal
+
+-- each of the first `count` places has a byte that can be there
+abbrev pub AreSlots : List ℕ → ℕ → Type 0
+AreSlots text count = (place : ℕ) → place < count → has_byte text place (slot_at place) ≡ true
+
+one_more : (text : List ℕ) (count : ℕ) → AreSlots text count → has_byte text count (slot_at count) ≡ true → AreSlots text (suc count)
+one_more text count slots here place low = elim (cases_eq place count) [
+  | inl same ↦ rw same here
+  | inr other ↦ slots place (omega (arith, other))
+]
+
+-- how a text is refused, or taken
+pub data Judged (text : List ℕ) : Option ℕ → Type 0 where
+  no_byte : (place : ℕ) → place < 8 → AreSlots text place → has_byte text place (slot_at place) ≡ false → Judged text (Some place)
+  too_large : AreSlots text 8 → 4095 < spelled_number text → Judged text (Some 4)
+  too_long : AreSlots text 8 → spelled_number text ≤ 4095 → 8 < length text → Judged text (Some 8)
+  taken : AreSlots text 8 → spelled_number text ≤ 4095 → length text ≤ 8 → Judged text None
+
+four : (a b c d rest : Option ℕ) → option_or (option_or a (option_or b (option_or c d))) rest ≡ option_or a (option_or b (option_or c (option_or d rest)))
+four (Some x) b c d rest = refl
+four None (Some x) c d rest = refl
+four None None (Some x) d rest = refl
+four None None None d rest = refl
+
+step : (text : List ℕ) (place : ℕ) (rest : Option ℕ) → place < 8 → AreSlots text place → (AreSlots text (suc place) → Judged text rest) → Judged text (option_or (slot_fault text place (slot_at place)) rest)
+step text place rest low slots later = cases (has_byte text place (slot_at place)) refl
   where
-    is_decimal : (place len byte : ℕ) → not (nat_lt place len && (nat_le 48 byte && nat_le byte 57)) ≡ false → (place < len) × (48 ≤ byte) × (byte ≤ 57)
-    is_decimal place len byte has = (grind (arith, nat_tests), grind (arith, nat_tests), grind (arith, nat_tests))
+    cases : (has : Bool) → has_byte text place (slot_at place) ≡ has → Judged text (option_or (then_some (not has) place) rest)
+    cases true is = later (one_more text place slots is)
+    cases false is = no_byte place low slots is
 
-pub IsSpelled-idn_fault : (text : List ℕ) → idn_fault text ≡ None → IsSpelled text
+last : (text : List ℕ) → AreSlots text 8 → (large long : Bool) → nat_lt 4095 (spelled_number text) ≡ large → nat_lt 8 (length text) ≡ long
+    → Judged text (option_or (then_some large 4) (then_some long 8))
+last text slots true long above longer = too_large slots (ltb-true 4095 (spelled_number text) above)
+last text slots false true above longer = too_long slots (at_least 4095 (spelled_number text) above) (ltb-true 8 (length text) longer)
+last text slots false false above longer = taken slots (at_least 4095 (spelled_number text) above) (at_least 8 (length text) longer)
+
+pub judged : (text : List ℕ) → Judged text (idn_fault text)
 unfolding idn_fault head_fault digits_fault
-IsSpelled-idn_fault text none =
-    let head = none_of-or (head_fault text) _ none in
-    let digits = none_of-or (digits_fault text) _ head.1 in
-    let last = none_of-or (then_some (nat_lt 4095 (spelled_number text)) 4) _ digits.1 in
-    let h0 = none_of-or (slot_fault text 0 Letter) _ head.0 in
-    let h1 = none_of-or (slot_fault text 1 Dash) _ h0.1 in
-    let h2 = none_of-or (slot_fault text 2 Octal) _ h1.1 in
-    let d4 = none_of-or (slot_fault text 4 Decimal) _ digits.0 in
-    let d5 = none_of-or (slot_fault text 5 Decimal) _ d4.1 in
-    let d6 = none_of-or (slot_fault text 6 Decimal) _ d5.1 in
-    let set = octal_stands text 2 h2.0 in
-    let thousands = decimal_stands text 4 d4.0 in
-    let hundreds = decimal_stands text 5 d5.0 in
-    let tens = decimal_stands text 6 d6.0 in
-    let ones = decimal_stands text 7 d6.1 in
-    let most = at_least 8 (length text) (none_of-then _ 8 last.1) in
+judged text =
+    rw (four (slot_fault text 0 Letter) (slot_fault text 1 Dash) (slot_fault text 2 Octal) (slot_fault text 3 Dash), four (slot_fault text 4 Decimal) (slot_fault text 5 Decimal) (slot_fault text 6 Decimal) (slot_fault text 7 Decimal))
+    (step text 0 _ (omega arith) (λ place low. absurd (omega arith)) (λ slots. step text 1 _ (omega arith) slots (λ slots. step text 2 _ (omega arith) slots (λ slots. step text 3 _ (omega arith) slots
+    (λ slots. step text 4 _ (omega arith) slots (λ slots. step text 5 _ (omega arith) slots (λ slots. step text 6 _ (omega arith) slots (λ slots. step text 7 _ (omega arith) slots
+    (λ slots. last text slots (nat_lt 4095 (spelled_number text)) (nat_lt 8 (length text)) refl refl)))))))))
+
+-- a text that has a byte at a place is longer than it
+pub has_place : (text : List ℕ) (place : ℕ) (slot : Slot) → has_byte text place slot ≡ true → place < length text
+has_place text place slot has = in_text (can_stand slot (get_or text place 0)) has
+  where
+    in_text : (stands : Bool) → nat_lt place (length text) && stands ≡ true → place < length text
+    in_text stands has = grind (arith, nat_tests)
+
+pub form_of : (text : List ℕ) → length text ≡ 8 → AreSlots text 8 → HasForm text
+form_of text all slots =
+    let set = digit_stands 55 text 2 (slots 2 (omega arith)) in
+    let thousands = digit_stands 57 text 4 (slots 4 (omega arith)) in
+    let hundreds = digit_stands 57 text 5 (slots 5 (omega arith)) in
+    let tens = digit_stands 57 text 6 (slots 6 (omega arith)) in
+    let ones = digit_stands 57 text 7 (slots 7 (omega arith)) in
     record {
-      all = omega arith;
-      letter = (letter_stands text 0 h0.0).1;
-      first_dash = dash_stands text 1 h1.0;
+      all = all;
+      letter = letter_stands text 0 (slots 0 (omega arith));
+      first_dash = dash_stands text 1 (slots 1 (omega arith));
       set_low = set.0;
       set_high = set.1;
-      second_dash = dash_stands text 3 h2.1;
-      thousands_low = thousands.1;
-      thousands_high = thousands.2;
-      hundreds_low = hundreds.1;
-      hundreds_high = hundreds.2;
-      tens_low = tens.1;
-      tens_high = tens.2;
-      ones_low = ones.1;
-      ones_high = ones.2;
-      small = at_least 4095 (spelled_number text) (none_of-then _ 4 last.0);
+      second_dash = dash_stands text 3 (slots 3 (omega arith));
+      thousands_low = thousands.0;
+      thousands_high = thousands.1;
+      hundreds_low = hundreds.0;
+      hundreds_high = hundreds.1;
+      tens_low = tens.0;
+      tens_high = tens.1;
+      ones_low = ones.0;
+      ones_high = ones.1;
     }
+
+pub IsSpelled-idn_fault : (text : List ℕ) → idn_fault text ≡ None → IsSpelled text
+IsSpelled-idn_fault text none = cases (idn_fault text) (judged text) none
+  where
+    cases : (o : Option ℕ) → Judged text o → o ≡ None → IsSpelled text
+    cases None (taken slots small short) none =
+        let long = has_place text 7 Decimal (slots 7 (omega arith)) in
+        record { form = form_of text (omega (arith, long, short)) slots; small = small }
+    cases (Some place) how none = cc
 
 -- the letter, the set and the digits of the number that is made of them
 letter_by : (letter raw rest : ℕ) → (letter ≡ 83) ⊎ (letter ≡ 80) → rest < 32768 → raw ≡ cond (letter == 80) 32768 0 + rest → letter_of raw ≡ letter
@@ -124,7 +178,7 @@ number_by letter set number most = cases (letter == 80)
     cases true = omega arith
     cases false = omega arith
 
-four_by : (a b c d number : ℕ) → 48 ≤ a → a ≤ 57 → 48 ≤ b → b ≤ 57 → 48 ≤ c → c ≤ 57 → 48 ≤ d → d ≤ 57 → number ≡ 1000 * (a - 48) + 100 * (b - 48) + 10 * (c - 48) + (d - 48) → four_digits number ≡ a ∷ b ∷ c ∷ d ∷ []
+pub four_by : (a b c d number : ℕ) → 48 ≤ a → a ≤ 57 → 48 ≤ b → b ≤ 57 → 48 ≤ c → c ≤ 57 → 48 ≤ d → d ≤ 57 → number ≡ 1000 * (a - 48) + 100 * (b - 48) + 10 * (c - 48) + (d - 48) → four_digits number ≡ a ∷ b ∷ c ∷ d ∷ []
 unfolding four_digits
 four_by a b c d number al ah bl bh cl ch dl dh is =
     let ea : 48 + number / 1000 ≡ a = omega arith in
@@ -134,19 +188,19 @@ four_by a b c d number al ah bl bh cl ch dl dh is =
     rw (ea, eb, ec, ed) refl
 
 pub spelled_raw-below : (text : List ℕ) → IsSpelled text → spelled_raw text < 2 ^ 16
-spelled_raw-below text is = raw_below (get_or text 0 0) (digit_at text 2) (spelled_number text) (omega (arith, is.set_high)) is.small
+spelled_raw-below text is = raw_below (get_or text 0 0) (digit_at text 2) (spelled_number text) (omega (arith, is.form.set_high)) is.small
 
 pub idn_text-spelled_raw : (text : List ℕ) → IsSpelled text → text ≡ idn_text (spelled_raw text)
 unfolding idn_text
 idn_text-spelled_raw text is =
-    let low : digit_at text 2 ≤ 7 = omega (arith, is.set_high) in
+    let low : digit_at text 2 ≤ 7 = omega (arith, is.form.set_high) in
     let rest : 4096 * digit_at text 2 + spelled_number text < 32768 = omega (arith, is.small) in
-    let letter : letter_of (spelled_raw text) ≡ get_or text 0 0 = letter_by (get_or text 0 0) (spelled_raw text) (4096 * digit_at text 2 + spelled_number text) is.letter rest (omega arith) in
+    let letter : letter_of (spelled_raw text) ≡ get_or text 0 0 = letter_by (get_or text 0 0) (spelled_raw text) (4096 * digit_at text 2 + spelled_number text) is.form.letter rest (omega arith) in
     let set : set_of (spelled_raw text) ≡ digit_at text 2 = set_by (get_or text 0 0) (digit_at text 2) (spelled_number text) low is.small in
-    let set_byte : 48 + digit_at text 2 ≡ get_or text 2 0 = omega (arith, is.set_low) in
+    let set_byte : 48 + digit_at text 2 ≡ get_or text 2 0 = omega (arith, is.form.set_low) in
     let number : number_of (spelled_raw text) ≡ spelled_number text = number_by (get_or text 0 0) (digit_at text 2) (spelled_number text) is.small in
-    let four = four_by (get_or text 4 0) (get_or text 5 0) (get_or text 6 0) (get_or text 7 0) (spelled_number text) is.thousands_low is.thousands_high is.hundreds_low is.hundreds_high is.tens_low is.tens_high is.ones_low is.ones_high refl in
-    eight text is.all ∙ join text (letter_of (spelled_raw text)) (48 + set_of (spelled_raw text)) (four_digits (number_of (spelled_raw text))) letter (ap (λ n. 48 + n) set ∙ set_byte) (ap four_digits number ∙ four) is.first_dash is.second_dash
+    let four = four_by (get_or text 4 0) (get_or text 5 0) (get_or text 6 0) (get_or text 7 0) (spelled_number text) is.form.thousands_low is.form.thousands_high is.form.hundreds_low is.form.hundreds_high is.form.tens_low is.form.tens_high is.form.ones_low is.form.ones_high refl in
+    eight text is.form.all ∙ join text (letter_of (spelled_raw text)) (48 + set_of (spelled_raw text)) (four_digits (number_of (spelled_raw text))) letter (ap (λ n. 48 + n) set ∙ set_byte) (ap four_digits number ∙ four) is.form.first_dash is.form.second_dash
   where
     join : (text : List ℕ) (letter set : ℕ) (four : List ℕ) → letter ≡ get_or text 0 0 → set ≡ get_or text 2 0 → four ≡ get_or text 4 0 ∷ get_or text 5 0 ∷ get_or text 6 0 ∷ get_or text 7 0 ∷ []
         → get_or text 1 0 ≡ 45 → get_or text 3 0 ≡ 45
@@ -154,17 +208,17 @@ idn_text-spelled_raw text is =
     join text letter set four el es ef first second = cc
 
 -- the way back: a spelling has no fault, and spells its number
-letter_good : (raw : ℕ) → (letter_of raw == 83) || (letter_of raw == 80) ≡ true
+pub letter_good : (raw : ℕ) → (letter_of raw == 83) || (letter_of raw == 80) ≡ true
 letter_good raw = cases (nat_lt raw 32768)
   where
     cases : (b : Bool) → ((cond b 83 80 == 83) || (cond b 83 80 == 80)) ≡ true
     cases true = refl
     cases false = refl
 
-digit_good : (most digit : ℕ) → digit ≤ most → nat_le 48 (48 + digit) && nat_le (48 + digit) (48 + most) ≡ true
+pub digit_good : (most digit : ℕ) → digit ≤ most → nat_le 48 (48 + digit) && nat_le (48 + digit) (48 + most) ≡ true
 digit_good most digit small = grind (arith, nat_tests)
 
-number_again : (n : ℕ) → n < 4096 → 1000 * ((48 + n / 1000) - 48) + 100 * ((48 + n / 100 % 10) - 48) + 10 * ((48 + n / 10 % 10) - 48) + ((48 + n % 10) - 48) ≡ n
+pub number_again : (n : ℕ) → n < 10000 → 1000 * ((48 + n / 1000) - 48) + 100 * ((48 + n / 100 % 10) - 48) + 10 * ((48 + n / 10 % 10) - 48) + ((48 + n % 10) - 48) ≡ n
 number_again n small = omega arith
 
 pub idn_fault-idn_text : (raw : ℕ) → raw < 2 ^ 16 → idn_fault (idn_text raw) ≡ None

@@ -1,4 +1,5 @@
 pub mod IdnLemmas
+pub mod PlaceLemmas
 pub mod PrintLemmas
 pub mod AttributeLemmas
 pub mod Worked

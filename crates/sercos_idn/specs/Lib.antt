@@ -1,3 +1,4 @@
 pub mod Idns
+pub mod Places
 pub mod Codes
 pub mod Attributes

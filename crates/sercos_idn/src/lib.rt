@@ -11,4 +11,4 @@ pub use attribute::{Attribute, BadAttribute};
 pub use code::Code;
 pub use idn::{BadIdn, Idn, idn_fault};
 pub use kinds::{Form, Length};
-pub use law::attribute_law;
+pub use law::{attribute_law, code_law, place_law};

@@ -1,5 +1,5 @@
 -- Replies worked out from the definitions.
-use Rattle.std.proofs.Common.{◌≡◌, ℕ, List, [], ◌∷◌, Bool, true, false, map, Option, Some, None, refl}
+use Rattle.std.proofs.Common.{◌≡◌, ℕ, List, [], ◌∷◌, Bool, true, false, map, Option, Some, None, refl, codes}
 use Rattle.sercos_idn.specs.Attributes.{attribute_of}
 use Rattle.sercos_step.specs.declared.step.Step.{Step}
 use Rattle.sercos_step.specs.Steps.{a_step}
@@ -121,6 +121,19 @@ no_minimum = refl
 no_maximum : words (reads 101 6 false ∷ opens 100 51 ∷ []) ≡ 0x6001 ∷ 0 ∷ []
 unfolding attribute_of element_words element_of
 no_maximum = refl
+
+-- A name is a list of at most 60 bytes, a unit one of at most 12: its length, the greatest length, and its bytes two by two.
+-- The last odd byte is alone in its word.
+abbrev speed : Block
+speed = record (a_block 36 0x00220001 None None (0 ∷ 0 ∷ 0 ∷ 0 ∷ []) 0 false 0) { name = Some (codes "Speed"); unit = Some (codes "mm") }
+
+name_words : element_words 2 100 speed ≡ 5 ∷ 60 ∷ 0x7053 ∷ 0x6565 ∷ 0x64 ∷ []
+unfolding attribute_of element_words element_of
+name_words = refl
+
+unit_words : element_words 4 100 speed ≡ 2 ∷ 12 ∷ 0x6d6d ∷ []
+unfolding attribute_of element_words element_of
+unit_words = refl
 
 minimum : words (reads 101 5 true ∷ opens 100 32784 ∷ []) ≡ 10 ∷ 0 ∷ []
 unfolding attribute_of element_words element_of

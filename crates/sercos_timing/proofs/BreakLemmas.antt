@@ -57,7 +57,7 @@ unmet-keeps asked has [] h = refl
 unmet-keeps asked has (k ∷ before) h =
     either_none (first_unmet asked has before) _ (unmet-keeps asked has before h.1) (none_if (is_met (asked k before) (has k)) k (met-meets (asked k before) (has k) h.0))
 
-placed : (next : ℕ) (ds : List Wish) (places : List ℕ) → length places ≡ length ds → first_misplaced next ds places ≡ None → places ≡ positions next ds
+pub placed : (next : ℕ) (ds : List Wish) (places : List ℕ) → length places ≡ length ds → first_misplaced next ds places ≡ None → places ≡ positions next ds
 placed next [] [] count h = refl
 placed next [] (p ∷ ps) count h = absurd (omega arith)
 placed next (d ∷ ds) [] count h = cc

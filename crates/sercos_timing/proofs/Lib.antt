@@ -1,3 +1,4 @@
 pub mod OrderLemmas
 pub mod BreakLemmas
+pub mod NamedLemmas
 mod Worked

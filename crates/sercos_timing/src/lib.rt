@@ -5,6 +5,7 @@
 mod asked;
 mod fitting;
 mod frame_bits;
+mod law;
 mod plan;
 mod validity;
 mod wishes;
@@ -12,6 +13,7 @@ mod wishes;
 pub use asked::{StartRule, asked_of_start, bits_after};
 pub use fitting::{Broken, fits};
 pub use frame_bits::wire;
+pub use law::first_broken_law;
 pub use plan::Plan;
 pub use validity::{is_rate, valid};
 pub use wishes::{Times, Wish, Wishes};

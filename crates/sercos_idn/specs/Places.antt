@@ -1,0 +1,26 @@
+-- What the place of a refused text says of it: how far the text is that of an identifier number.
+use Rattle.std.specs.Prelude.{◌≡◌, ◌≢◌, ℕ, suc, ◌^◌, ◌<◌, List, ◌++◌, length, take}
+use Rattle.sercos_idn.specs.Idns.{idn_text, four_digits}
+
+-- the text of an identifier number with a number in place of its own, from 4096 to 9999, that is too large for one
+pub record IsLarge (text : List ℕ) : Type 0 where
+  pub raw : ℕ
+  pub number : ℕ
+  pub small : raw < 2 ^ 16
+  pub above : 4095 < number
+  pub below : number < 10000
+  pub whole : text ≡ take 4 (idn_text raw) ++ four_digits number
+
+-- bytes with which the text of an identifier number begins, or one whose number is too large
+pub data Begins (bytes : List ℕ) : Type 0 where
+  begins : (raw : ℕ) (rest : List ℕ) → raw < 2 ^ 16 → idn_text raw ≡ bytes ++ rest → Begins bytes
+  begins_large : (rest : List ℕ) → IsLarge (bytes ++ rest) → Begins bytes
+
+-- Why a text is refused at a place. A number is looked at once it has four digits. So one that is too large is refused at its
+-- first digit, place 4, whatever follows it, and the bytes before another place may begin a number that is too large, as
+-- `S-0-9` does. Otherwise the bytes before the place begin an identifier number's text, and with the byte at the place they
+-- begin none; or the text ends at the place, and is none.
+pub data IsRefusedAt (text : List ℕ) : ℕ → Type 0 where
+  large : IsLarge (take 8 text) → IsRefusedAt text 4
+  at_byte : (place : ℕ) → (IsLarge (take 8 text) → ⊥) → place < length text → Begins (take place text) → (Begins (take (suc place) text) → ⊥) → IsRefusedAt text place
+  at_end : (IsLarge (take 8 text) → ⊥) → Begins text → ((raw : ℕ) → idn_text raw ≢ text) → IsRefusedAt text (length text)
