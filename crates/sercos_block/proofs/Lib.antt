@@ -5,3 +5,4 @@ pub mod OpenLemmas
 pub mod WishLemmas
 pub mod RingLemmas
 mod Worked
+mod FindLemmas

@@ -193,6 +193,19 @@ impl Drive {
         self.got && (3 <= self.phase || 1 <= self.phase && self.took)
     }
 
+    /// Returns when this cycle's AT starts, in microseconds after the MST's end, after its `hear_mst`. `None` if the drive sends
+    /// none. It is what [`at`](Drive::at) returns, without the content.
+    pub fn at_start(&self) -> Option<u16>
+        ensures { (d : DriveView) (rate : ℕ) (h : List DriveCall) → DriveStandsFor self.now d rate h →
+            result ≡ option_map (λ s. s.start) (drive_says d rate h) }
+    {
+        if self.sends() {
+            Some(self.start())
+        } else {
+            None
+        }
+    }
+
     /// Writes the content of this cycle's AT, after its `hear_mst`, and returns its start in microseconds after the MST's
     /// end. `None` if the drive sends none, and then `out` stays as it was: without this cycle's MST, in phase 0, and in
     /// phases 1 and 2 where it took no MDT in the cycle before.

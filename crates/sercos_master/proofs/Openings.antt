@@ -19,7 +19,7 @@ use Rattle.sercos_seat.specs.Ring.{Known, IsKnown, MemberView, Task, HasLists, m
 use Rattle.sercos_seat.specs.Seats.{SeatView, SeatStandsFor, nothing_seen}
 use Rattle.sercos_master.specs.Annals.{first_from, new_epoch}
 use Rattle.sercos_master.specs.Kept.{SeatsStandFor, CoreView, CoreStandsFor, AreFresh}
-use Rattle.sercos_master.proofs.Places.{first_seat}
+use Rattle.sercos_master.proofs.Places.{first_seat, place_same}
 
 get_mapped : (drives : List DriveView) (i : ℕ) (d : MemberView) (e : DriveView) → i < length drives → slice_index_or (map member_of drives) i d ≡ member_of (slice_index_or drives i e)
 get_mapped [] i d e h = absurd (omega (arith, h))
@@ -207,14 +207,16 @@ given_none seats s tasks job number count none all i v below =
 
 -- what was opened stands for a ring of which nothing was heard
 pub opened : (v : CoreView) (r : RingView) (requests : ℕ → List Task) → v.rate ≡ r.rate → v.cycle ≡ r.cycle → v.control ≡ r.control → v.gap ≡ r.gap → v.order ≡ r.order → length v.seats ≡ length r.drives →
+    ((address : ℕ) → address < 256 → slice_index_or v.places address None ≡ position (λ seat. seat.member.address == address) v.seats) →
     SeatsStandFor v.seats (known_of r) (λ k. nothing_seen (requests k)) → v ≡ record v { count = 0; phase = 0; whole = false; row = 0; lost = false; addressed = None; before = None; waited = 0; plan = None; plans = false; stopped = false; stop = None } →
     CoreStandsFor v (known_of r) (new_epoch 0 requests)
-opened v r requests rate cycle control gap order count seats rest = record {
+opened v r requests rate cycle control gap order count places seats rest = record {
   rate_is = rate;
   cycle_is = cycle;
   control_is = control;
   gap_is = gap;
   order_is = order;
+  places_are = λ address byte. places address byte ∙ place_same v.seats (known_of r) (λ k. nothing_seen (requests k)) address (count ∙ sym (mapped_length r.drives)) seats;
   seats_count = count ∙ sym (mapped_length r.drives);
   seats = seats;
   count_is = ap (λ w. w.count) rest;

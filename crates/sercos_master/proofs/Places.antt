@@ -8,6 +8,7 @@ use Rattle.std.proofs.lemmas.Grind.{get_or-set_at}
 use Rattle.std.proofs.lemmas.Bool.{cases_eq}
 use Rattle.std.proofs.lemmas.Bool.Decides.{nat_tests}
 use Rattle.std.proofs.lemmas.Iterator.Adapters.{position_from-zero}
+use Rattle.std.proofs.lemmas.List.Quantifiers.{position-Some}
 use Rattle.sercos_telegram.specs.Words.{status_of}
 use Rattle.sercos_telegram.specs.Spells.{word_at}
 use Rattle.sercos_telegram.specs.Faults.{at_fault}
@@ -82,6 +83,7 @@ hears_from v s p k wanted content w c within awaited is here = by (is_taken s p 
           control_is = c.control_is;
           gap_is = c.gap_is;
           order_is = c.order_is;
+          places_are = c.places_are;
           seats_count = length-set v.seats k w ∙ c.seats_count;
           seats = one_seat v.seats s (seen_at p) (seen_at (after_taken k content p)) k w within c.seats (λ i n. seen_elsewhere k i content p n) now;
           count_is = c.count_is;
@@ -105,6 +107,7 @@ hears_from v s p k wanted content w c within awaited is here = by (is_taken s p 
           control_is = c.control_is;
           gap_is = c.gap_is;
           order_is = c.order_is;
+          places_are = c.places_are;
           seats_count = length-set v.seats k w ∙ c.seats_count;
           seats = one_seat v.seats s (seen_at p) (seen_at p) k w within c.seats (λ i n. refl) (rw f at here);
           count_is = c.count_is;
@@ -137,9 +140,17 @@ pub awaited_same : (v : CoreView) (s : Known) (p : Past) (k : ℕ) → CoreStand
 awaited_same v s p k c = rw (c.phase_is, c.before_is) refl
 
 -- the seat with an address
-pub place_same : (v : CoreView) (s : Known) (p : Past) (address : ℕ) → CoreStandsFor v s p →
-    position (λ seat. seat.member.address == address) v.seats ≡ place_of s address
-place_same v s p address c =
-    first_seat v.seats (λ seat. seat.member.address == address) (λ k. (member s k).address == address)
-    (λ i seat below. ap (λ d. d.address == address) (c.seats i seat below).member_is)
-    ∙ ap (λ n. first_from 0 n (λ k. (member s k).address == address)) c.seats_count
+pub place_same : (seats : List SeatView) (s : Known) (seen : ℕ → Seen) (address : ℕ) → length seats ≡ length s.drives → SeatsStandFor seats s seen →
+    position (λ seat. seat.member.address == address) seats ≡ place_of s address
+place_same seats s seen address count all =
+    first_seat seats (λ seat. seat.member.address == address) (λ k. (member s k).address == address)
+    (λ i seat below. ap (λ d. d.address == address) (all i seat below).member_is)
+    ∙ ap (λ n. first_from 0 n (λ k. (member s k).address == address)) count
+
+-- its place is one of the ring
+pub place_inside : (v : CoreView) (s : Known) (p : Past) (address k : ℕ) → CoreStandsFor v s p → place_of s address ≡ Some k → k < length v.seats
+place_inside v s p address k c found = inside (λ seat. seat.member.address == address) v.seats (place_same v.seats s (seen_at p) address c.seats_count c.seats ∙ found)
+  where
+    inside : (test : SeatView → Bool) (seats : List SeatView) → position test seats ≡ Some k → k < length seats
+    inside test [] e = absurd (cc)
+    inside test (seat ∷ seats) e = (position-Some test (seat ∷ seats) k seat e).0

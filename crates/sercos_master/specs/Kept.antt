@@ -4,7 +4,7 @@ use Rattle.sercos_step.specs.declared.request.Outcome.{Outcome}
 use Rattle.std.specs.List.{position}
 use Rattle.sercos_timing.specs.Views.{PlanView}
 use Rattle.sercos_trace.specs.declared.events.Stop.{Stop}
-use Rattle.sercos_master.specs.Annals.{Past, Turn, addressed_before, addressed_in, count_addressed, is_identified, sent_to, whole_row}
+use Rattle.sercos_master.specs.Annals.{Past, Turn, addressed_before, addressed_in, count_addressed, is_identified, place_of, sent_to, whole_row}
 use Rattle.sercos_master.specs.Reports.{inserted, stop_told}
 use Rattle.sercos_seat.specs.Channel.{is_place}
 use Rattle.sercos_seat.specs.Ring.{IsKnown, Known, MemberView, member}
@@ -27,7 +27,7 @@ seen_at p k = record {
   waiting = p.waiting k;
 }
 
--- What is kept of the ring: its numbers; a seat for each drive; the cycle's number; the phase; whether the MST of the present
+-- What is kept of the ring: its numbers; the place of each address; a seat for each drive; the cycle's number; the phase; whether the MST of the present
 -- cycle came back whole, how many did in a row before, counted up to 10, and whether that of the cycle before did not, in
 -- phases 1 to 4; to which drive the MDT is and was; in how many cycles of phase 1 in a row it was to that drive; the plan and the
 -- stop, and whether they are of this cycle.
@@ -37,6 +37,7 @@ pub record CoreView : Type 0 where
   pub control : ℕ
   pub gap : ℕ
   pub order : List ℕ
+  pub places : List (Option ℕ)
   pub seats : List SeatView
   pub count : ℕ
   pub phase : ℕ
@@ -87,6 +88,7 @@ pub record CoreStandsFor (v : CoreView) (s : Known) (p : Past) : Type 0 where
   pub control_is : v.control ≡ s.control
   pub gap_is : v.gap ≡ s.gap
   pub order_is : v.order ≡ s.order
+  pub places_are : (address : ℕ) → address < 256 → slice_index_or v.places address None ≡ place_of s address
   pub seats_count : length v.seats ≡ length s.drives
   pub seats : SeatsStandFor v.seats s (seen_at p)
   pub count_is : v.count ≡ p.cycle % 2 ^ 32

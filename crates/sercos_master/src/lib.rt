@@ -2,6 +2,7 @@
 #![tactic(auto)]
 
 mod law;
+mod lookup;
 mod master;
 mod opening;
 mod reports;

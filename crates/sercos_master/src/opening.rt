@@ -7,7 +7,7 @@ ghost use Rattle.sercos_seat.specs.Ring.{Known, MemberView, Task, HasLists, memb
 ghost use Rattle.sercos_seat.specs.Seats.{nothing_seen};
 ghost use Rattle.sercos_master.specs.Kept.{AreFresh, SeatsStandFor};
 
-use crate::ring::place_of;
+use crate::lookup::place_of;
 use arrayvec::ArrayVec;
 use sercos_block::DriveSetup;
 use sercos_idn::Idn;

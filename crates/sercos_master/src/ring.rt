@@ -9,11 +9,12 @@ ghost use Rattle.sercos_master.specs.Says.{mdt_said, sent_as};
 ghost use Rattle.sercos_master.specs.Reports.{with_reports, with_broken, outcomes_told, stop_told, plan_told};
 ghost use Rattle.sercos_seat.specs.Ring.{known_of, IsKnown, Known, Task, member, tasks_for};
 ghost use Rattle.sercos_seat.specs.Agenda.{wishes_given, wishes_from, last_long_stop};
-ghost use Rattle.sercos_master.specs.Annals.{IsPlanned, after_mdt, with_plan, planned_by, with_due_plan, settled, outcomes, Past, is_mst, after_mst, after_at, is_awaited, wanted_len, after_at_of, in_turn, begun, is_done, has_lost_mst, fall_of, with_stop, first_trouble, first_place, is_at_limit, goes_on, new_epoch, still_waiting, after_end, next_phase};
+ghost use Rattle.sercos_master.specs.Annals.{IsPlanned, after_mdt, with_plan, planned_by, with_due_plan, settled, outcomes, Past, is_mst, after_mst, after_at, place_of, is_awaited, wanted_len, after_at_of, in_turn, begun, is_done, has_lost_mst, fall_of, with_stop, first_trouble, first_place, is_at_limit, goes_on, new_epoch, still_waiting, after_end, next_phase};
 ghost use Rattle.sercos_seat.specs.Channel.{is_place};
 ghost use Rattle.sercos_seat.specs.Seats.{broken_in, outcomes_seen, SeatView, has_read, cycles_kept, ended_in, forgotten, sent_in, with_begun, begun_task, Seen, AreWaiting, at_len_kept};
 ghost use Rattle.sercos_master.specs.Kept.{IsIn, sent_now, Fits, records_upto, is_same, waited_with, SeatsStandFor, CoreStandsFor};
 
+use crate::lookup::Places;
 use crate::opening::{deal, open_seats};
 use crate::reports::add;
 use arrayvec::ArrayVec;
@@ -35,6 +36,7 @@ pub struct Ring {
     control: u16,
     gap: u16,
     order: ArrayVec<u8, 64>,
+    places: Places,
     seats: Vec<Seat>,
     count: u32,
     phase: u8,
@@ -61,6 +63,7 @@ impl Model for Ring {
       control = r.control;
       gap = r.gap;
       order = r.order.items;
+      places = r.places;
       seats = r.seats.items;
       count = r.count;
       phase = r.phase;
@@ -75,16 +78,6 @@ impl Model for Ring {
       stopped = r.stopped;
       stop = r.stop;
     } };
-}
-
-// The place of the drive with an address.
-pub fn place_of(seats: &[Seat], address: u8) -> Option<usize>
-    ensures value { result ≡ position (λ v. v.member.address == address) seats.now }
-    ensures bound { IfSome result (λ k. k < length seats.now) }
-{
-    seats
-        .iter()
-        .position(|seat| seat.member().address() == address)
 }
 
 // Whether a content is the MST of a phase.
@@ -123,6 +116,7 @@ impl Ring {
             control: setup.control,
             gap: setup.gap,
             order: copied(setup.order.as_slice()),
+            places: Places::of_all(seats.as_slice()),
             seats,
             count: 0,
             phase: 0,
@@ -186,11 +180,25 @@ impl Ring {
         seat.take_at(identifies, wanted, content);
     }
 
+    // The place of the drive with an address.
+    fn place_of(&self, address: u8) -> Option<usize>
+        ensures value { (s : Known) (p : Past) → CoreStandsFor self.now s p → result ≡ place_of s address }
+        ensures bound { IfSome result (λ k. k < length self.now.seats) }
+    {
+        let Some(place) = self.places.of(address) else {
+            return None;
+        };
+        if place >= self.seats.len() {
+            return None;
+        }
+        Some(place)
+    }
+
     // An AT arrives.
     pub fn hear_at(&mut self, content: &[u8])
         ensures { (s : Known) (p : Past) → CoreStandsFor self.old s p → CoreStandsFor self.new s (after_at s content.now p) }
     {
-        if let Some(place) = place_of(self.seats.as_slice(), byte_at(content, 0)) {
+        if let Some(place) = self.place_of(byte_at(content, 0)) {
             self.hear_from(place, content);
         }
     }
@@ -826,7 +834,7 @@ fn reset_seats(seats: &mut Vec<Seat>, reports: &mut ArrayVec<Reported, 128>)
 {
     for place in 0..seats.len() {
         let seat = &mut seats[place];
-        add(seat.reset(), reports);
+        add(&mut seat.reset(), reports);
     }
 }
 
@@ -839,7 +847,7 @@ fn end_seats(phase: u8, seats: &mut Vec<Seat>, reports: &mut ArrayVec<Reported, 
 {
     for place in 0..seats.len() {
         let seat = &mut seats[place];
-        add(seat.end_cycle(phase), reports);
+        add(&mut seat.end_cycle(phase), reports);
     }
 }
 

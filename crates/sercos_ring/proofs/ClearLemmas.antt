@@ -3,13 +3,11 @@ use Rattle.std.proofs.Common.{◌≡◌, inl, inr, ◌⊎◌, ℕ, Bool, true, f
 use Rattle.std.specs.Prelude.{option_and_then, is_some, IfSome}
 use lib.Pointwise.{pointwise}
 use mathlib.Core.Bool.{beq}
-use Rattle.sercos_model.specs.Frames.{IsFrame}
-use Rattle.sercos_hdlc.proofs.ReasonLemmas.{reason_of-IsFrame}
 use Rattle.sercos_hdlc.specs.Reason.{reason_of, content_of, plain}
 use Rattle.sercos_hdlc.specs.Stuffed.{frame_of}
 use Rattle.sercos_script.specs.declared.link.Passage.{Passage}
-use Rattle.sercos_ring.specs.Arrivals.{arrival, heard, content_in, is_unseen, are_same, IsSent}
-use Rattle.sercos_script.specs.Links.{Carry}
+use Rattle.sercos_ring.specs.Arrivals.{arrival, heard, content_in, is_unseen, are_same}
+use Rattle.sercos_script.specs.Links.{Carry, IsQuiet}
 
 pub same_bits : (xs ys : List Bool) → are_same xs ys ≡ true → xs ≡ ys
 same_bits [] [] same = refl
@@ -38,11 +36,18 @@ heard-clear carry p content whole clear = by (arrival carry p content) clear
     by None clear = inl refl
     by (Some came) clear = came_as came (are_same came (frame_of content)) refl clear
 
-pub frame_sent : (content : List ℕ) (bits : List Bool) → IsFrame content bits → bits ≡ frame_of content → IsSent content bits
-unfolding content_in
-frame_sent content bits is frame =
-    let read = reason_of-IsFrame content bits is in
-    record { frame = frame; whole = rw (read.0, read.1) refl }
+are_same-refl : (bits : List Bool) → are_same bits bits ≡ true
+are_same-refl [] = refl
+are_same-refl (true ∷ bits) = are_same-refl bits
+are_same-refl (false ∷ bits) = are_same-refl bits
+
+-- where a link changes nothing, what was said is heard
+pub heard-quiet : (carry : Carry) (p : Passage) (content : List ℕ) → IsQuiet carry p.cycle → content_in (frame_of content) ≡ Some content → Some content ≡ heard carry p content
+heard-quiet carry p content quiet whole = sym (ap (λ (o : Option (List Bool)). option_and_then content_in o) (quiet p (frame_of content) refl) ∙ whole)
+
+pub unseen-quiet : (carry : Carry) (p : Passage) (content : List ℕ) → IsQuiet carry p.cycle → false ≡ is_unseen (frame_of content) (arrival carry p content)
+unfolding is_unseen
+unseen-quiet carry p content quiet = rw (quiet p (frame_of content) refl, are_same-refl (frame_of content)) refl
 
 -- what arrives as it was sent has the content that was said
 pub same_heard : (o : Option (List Bool)) (said content : List ℕ) (sent bits : List Bool) → content_in sent ≡ Some said → is_some o ≡ true

@@ -1,12 +1,13 @@
 -- What arrives at a station of what was sent, over a link, and what is a frame of it.
-use Rattle.std.specs.Prelude.{◌≡◌, ℕ, suc, zero, ◌+◌, Bool, true, false, not, ◌&&◌, ◌||◌, if◌then◌else◌, List, [], ◌∷◌, ◌++◌, Option, Some, None, is_none, option_and_then}
+use Rattle.std.specs.Prelude.{◌≡◌, ℕ, suc, zero, ◌+◌, ◌≤◌, Bool, true, false, not, ◌&&◌, ◌||◌, if◌then◌else◌, List, [], ◌∷◌, ◌++◌, length, Option, Some, None, is_none, option_and_then}
 use lib.Pointwise.{pointwise}
 use mathlib.Core.Bool.{beq}
 use Rattle.sercos_hdlc.specs.Reason.{reason_of, content_of, plain}
 use Rattle.sercos_hdlc.specs.Stuffed.{frame_of}
 use Rattle.sercos_telegram.specs.declared.layout.Kind.{Kind}
 use Rattle.sercos_script.specs.declared.link.Passage.{Passage}
-use Rattle.sercos_script.specs.Links.{Carry}
+use Rattle.sercos_script.specs.Links.{Carry, IsQuiet}
+use Rattle.sercos_ring.specs.declared.receiving.Framed.{Framed}
 
 abbrev pub passage : ℕ → Kind → ℕ → ℕ → Passage
 passage cycle kind from to = record { cycle = cycle; kind = kind; from = from; to = to }
@@ -56,7 +57,11 @@ any_below (suc n) f = any_below n f || f n
 abbrev pub disturbed_at : Carry → Passage → List ℕ → Bool
 disturbed_at carry p content = is_disturbed (frame_of content) (arrival carry p content)
 
--- these bits are the frame of this content, and are read so
-pub record IsSent (content : List ℕ) (bits : List Bool) : Type 0 where
-  pub frame : bits ≡ frame_of content
-  pub whole : content_in bits ≡ Some content
+-- What a station keeps of the frame of a content that is sent in a cycle: its length, and its bits if they are made. If they are
+-- not, the link changes nothing in this cycle, so that nobody needs them.
+pub record IsSent (carry : Carry) (cycle : ℕ) (content : List ℕ) (sent : Framed) : Type 0 where
+  pub whole : content_in (frame_of content) ≡ Some content
+  pub len : sent.len ≡ length (frame_of content)
+  pub bound : sent.len ≤ 19696
+  pub made : sent.is_made ≡ true → sent.bits ≡ frame_of content
+  pub quiet : sent.is_made ≡ false → IsQuiet carry cycle

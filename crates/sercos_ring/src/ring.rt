@@ -20,7 +20,7 @@ ghost use Rattle.sercos_master.specs.Reports.{restart_told};
 
 use crate::moves::{phases_of, push_moves};
 use crate::opening::{addresses_of, open_drives};
-use crate::receiving::frame_said;
+use crate::receiving::{Framed, frame_said};
 use crate::sending::{pass_own, push_mst, send_ats, send_mdt};
 use crate::stations::{hear_msts, restart_drives};
 use crate::turns::turns_of;
@@ -52,7 +52,7 @@ pub struct Ring<L: BitLink> {
 #[derive(Drop)]
 struct Desk {
     said: Content,
-    sent: BitBuf,
+    sent: Framed,
     bits: BitBuf,
     content: Content,
 }
@@ -61,7 +61,7 @@ impl Desk {
     fn new() -> Desk {
         Desk {
             said: Content::new(),
-            sent: BitBuf::new(),
+            sent: Framed::new(),
             bits: BitBuf::new(),
             content: Content::new(),
         }
@@ -88,7 +88,7 @@ struct Turned {
     unseen: u32,
 }
 
-// A cycle: what is sent in it, the moves and the events are put into these lists, which are empty before.
+// A cycle: what is sent in it is put over what the list has, and the moves and the events into these lists, which are empty before.
 fn turn<L: BitLink>(
     link: &mut L,
     drives: &mut Vec<Drive>,
@@ -100,13 +100,12 @@ fn turn<L: BitLink>(
     moves: &mut ArrayVec<Move, 128>,
     events: &mut Events,
     said: &mut Content,
-    sent: &mut BitBuf,
+    sent: &mut Framed,
     bits: &mut BitBuf,
     content: &mut Content,
 ) -> Turned
     requires few { length drives.old.items ≤ 64 }
     requires addresses { length addresses.now ≡ length drives.old.items }
-    requires list { list.old.items ≡ [] }
     requires moves { moves.old.items ≡ [] }
     requires events { events.old ≡ no_events }
     ensures count { length drives.new.items ≡ length drives.old.items }
@@ -121,8 +120,9 @@ fn turn<L: BitLink>(
     restart_drives(link, drives, cycle);
     let phase = master.command();
     master.mst(said);
-    frame_said(said, sent);
-    push_mst(list, said, sent);
+    frame_said(link, cycle, said, sent);
+    let mut count = 0;
+    push_mst(list, &mut count, said, sent.len);
     let mst = hear_msts(link, drives, cycle, said, sent, bits, content);
     let own = pass_own(link, &mut master, cycle, said, sent, bits, content);
     push_moves(
@@ -132,7 +132,7 @@ fn turn<L: BitLink>(
         before.as_slice(),
         drives.as_slice(),
     );
-    let turns = turns_of(drives.as_slice(), said);
+    let turns = turns_of(drives.as_slice());
     let ats = send_ats(
         link,
         &mut master,
@@ -141,6 +141,7 @@ fn turn<L: BitLink>(
         cycle,
         rate,
         list,
+        &mut count,
         said,
         sent,
         bits,
@@ -149,8 +150,9 @@ fn turn<L: BitLink>(
     let middle = phases_of(drives.as_slice());
     let start = master.mdt(said);
     let mdt = send_mdt(
-        link, drives, start, cycle, rate, list, said, sent, bits, content,
+        link, drives, start, cycle, rate, list, &mut count, said, sent, bits, content,
     );
+    list.truncate(count);
     push_moves(moves, true, addresses, middle.as_slice(), drives.as_slice());
     let master = master.end_cycle(events);
     Turned {
@@ -178,7 +180,7 @@ fn fill<L: BitLink>(
         PartsStandFor (L.carry link.old) (L.restart link.old) cycle rate addresses.now drives.old.items master r jobs carry restarts j →
         PartsStandFor (L.carry link.new) (L.restart link.new) (cycle + 1) rate addresses.now drives.new.items result r jobs carry restarts (made.new ∷ j) }
 {
-    made.begin(cycle);
+    made.reuse(cycle);
     let Turned {
         master,
         phase,

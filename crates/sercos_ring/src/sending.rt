@@ -1,5 +1,5 @@
 // How the telegrams of a cycle are sent, and what comes of them.
-ghost use Rattle.std.specs.Prelude.{◌≡◌, ℕ, ◌+◌, ◌*◌, ◌<◌, ◌≤◌, List, [], ◌∷◌, ◌++◌, Option, Some, None, true, is_some, if◌then◌else◌, pos, vec_len, length, slice_index, slice_index_or};
+ghost use Rattle.std.specs.Prelude.{◌≡◌, ℕ, ◌+◌, ◌*◌, ◌<◌, ◌≤◌, take, List, [], ◌∷◌, ◌++◌, Option, Some, None, true, is_some, if◌then◌else◌, pos, vec_len, length, slice_index, slice_index_or};
 ghost use Rattle.sercos_hdlc.specs.Stuffed.{frame_of};
 ghost use Rattle.sercos_telegram.specs.declared.layout.Kind.TheVariants as kinds;
 ghost use Rattle.sercos_step.specs.declared.request.Job.{Job};
@@ -16,7 +16,7 @@ ghost use Rattle.sercos_ring.specs.Runs.{content_of, mdt_heard, own_mst, sent_at
 ghost use Rattle.sercos_ring.specs.Stations.{AllStand};
 ghost use Rattle.sercos_ring.specs.Sendings.{said_by, AreSent, AreTurns};
 
-use crate::receiving::{frame_said, receive};
+use crate::receiving::{Framed, frame_said, receive};
 use crate::stations::{hear_mdts, hear_no_mdts, one};
 use crate::turns::AtTurn;
 use arrayvec::ArrayVec;
@@ -25,7 +25,7 @@ use sercos_drive::Drive;
 use sercos_master::AnyMaster;
 use sercos_script::{BitLink, Passage};
 use sercos_telegram::Kind;
-use sercos_trace::{Sent, push_sent};
+use sercos_trace::{Sent, put_sent};
 
 // The master hears what arrives at the place of its own MST.
 fn hear_own(master: &mut AnyMaster, framed: bool, content: &Content)
@@ -45,11 +45,11 @@ pub(crate) fn pass_own<L: BitLink>(
     master: &mut AnyMaster,
     cycle: u32,
     said: &Content,
-    sent: &BitBuf,
+    sent: &Framed,
     bits: &mut BitBuf,
     content: &mut Content,
 ) -> u32
-    requires sent { IsSent said.now sent.now }
+    requires sent { IsSent (L.carry link.old) cycle said.now sent.now }
     ensures carry { L.carry link.new ≡ L.carry link.old }
     ensures restart { L.restart link.new ≡ L.restart link.old }
     ensures unseen { result ≡ unseen_at (L.carry link.old) (passage cycle kinds.Mst 0 0) said.now }
@@ -85,11 +85,11 @@ fn pass_at<L: BitLink>(
     station: u8,
     cycle: u32,
     said: &Content,
-    sent: &BitBuf,
+    sent: &Framed,
     bits: &mut BitBuf,
     content: &mut Content,
 ) -> u32
-    requires sent { IsSent said.now sent.now }
+    requires sent { IsSent (L.carry link.old) cycle said.now sent.now }
     ensures carry { L.carry link.new ≡ L.carry link.old }
     ensures restart { L.restart link.new ≡ L.restart link.old }
     ensures unseen { result ≡ unseen_at (L.carry link.old) (passage cycle kinds.At station 0) said.now }
@@ -115,39 +115,45 @@ fn in_bits(rate: u8, start: u16) -> i32
     i32::from(rate) * i32::from(start)
 }
 
-// Appends a telegram to those that were sent; `sent` are the bits of its frame.
+// Puts a telegram behind those that were sent; its frame has so many bits.
 fn push_timed(
     list: &mut ArrayVec<Sent, 66>,
+    count: &mut usize,
     kind: Kind,
     rate: u8,
     start: u16,
     said: &Content,
-    sent: &BitBuf,
+    bits: u32,
 )
-    requires room { length list.old.items < 66 }
-    requires sent { IsSent said.now sent.now }
-    ensures items { list.new.items ≡ list.old.items ++ (record { kind = kind; start = pos (rate * start); bits = length (frame_of said.now); content = said.now }) ∷ [] }
-    ensures len { length list.new.items ≡ length list.old.items + 1 }
+    requires room { count.old < 66 }
+    requires within { count.old ≤ length list.old.items }
+    requires bits { bits ≡ length (frame_of said.now) }
+    ensures items { take count.new list.new.items ≡ take count.old list.old.items ++ (record { kind = kind; start = pos (rate * start); bits = length (frame_of said.now); content = said.now }) ∷ [] }
+    ensures count { count.new ≡ count.old + 1 }
+    ensures within { count.new ≤ length list.new.items }
 {
-    push_sent(list, kind, in_bits(rate, start), sent.len() as u32, said);
+    put_sent(list, count, kind, in_bits(rate, start), bits, said);
 }
 
 // When the frame of an MST starts, which ends at 0.
-fn before(bits: usize) -> i32
+fn before(bits: u32) -> i32
     requires { bits ≤ 19696 }
     ensures { result ≡ start_before bits }
 {
     -(bits as i32)
 }
 
-/// Appends the MST to those that were sent; `sent` are the bits of its frame.
-pub(crate) fn push_mst(list: &mut ArrayVec<Sent, 66>, said: &Content, sent: &BitBuf)
-    requires room { length list.old.items < 66 }
-    requires sent { IsSent said.now sent.now }
-    ensures items { list.new.items ≡ list.old.items ++ sent_mst said.now ∷ [] }
-    ensures len { length list.new.items ≡ length list.old.items + 1 }
+/// Puts the MST behind those that were sent; its frame has so many bits.
+pub(crate) fn push_mst(list: &mut ArrayVec<Sent, 66>, count: &mut usize, said: &Content, bits: u32)
+    requires room { count.old < 66 }
+    requires within { count.old ≤ length list.old.items }
+    requires bits { bits ≡ length (frame_of said.now) }
+    requires bound { bits ≤ 19696 }
+    ensures items { take count.new list.new.items ≡ take count.old list.old.items ++ sent_mst said.now ∷ [] }
+    ensures count { count.new ≡ count.old + 1 }
+    ensures within { count.new ≤ length list.new.items }
 {
-    push_sent(list, Kind::Mst, before(sent.len()), sent.len() as u32, said);
+    put_sent(list, count, Kind::Mst, before(bits), bits, said);
 }
 
 // What a drive says is sent. The answer is how many arrivals are unseen.
@@ -159,22 +165,25 @@ fn send_said<L: BitLink>(
     rate: u8,
     start: u16,
     list: &mut ArrayVec<Sent, 66>,
+    count: &mut usize,
     said: &Content,
-    sent: &mut BitBuf,
+    sent: &mut Framed,
     bits: &mut BitBuf,
     content: &mut Content,
 ) -> u32
-    requires room { length list.old.items < 66 }
+    requires room { count.old < 66 }
+    requires within { count.old ≤ length list.old.items }
     requires some { 0 < length said.now }
     ensures carry { L.carry link.new ≡ L.carry link.old }
     ensures restart { L.restart link.new ≡ L.restart link.old }
     ensures bound { result ≤ 1 }
-    ensures len { length list.new.items ≤ length list.old.items + 1 }
+    ensures count { count.new ≤ count.old + 1 }
+    ensures within { count.new ≤ length list.new.items }
     ensures sent { (r : RingView) → station_of r (slice_index said.now 0) ≡ station →
-        AreSent r (L.carry link.old) cycle rate ((record { start = start; content = said.now }) ∷ []) list.old.items list.new.items master.old master.new result }
+        AreSent r (L.carry link.old) cycle rate ((record { start = start; content = said.now }) ∷ []) (take count.old list.old.items) (take count.new list.new.items) master.old master.new result }
 {
-    frame_said(said, sent);
-    push_timed(list, Kind::At, rate, start, said, sent);
+    frame_said(link, cycle, said, sent);
+    push_timed(list, count, Kind::At, rate, start, said, sent.len);
     pass_at(link, master, station, cycle, said, sent, bits, content)
 }
 
@@ -187,24 +196,27 @@ fn send_at<L: BitLink>(
     cycle: u32,
     rate: u8,
     list: &mut ArrayVec<Sent, 66>,
+    count: &mut usize,
     said: &mut Content,
-    sent: &mut BitBuf,
+    sent: &mut Framed,
     bits: &mut BitBuf,
     content: &mut Content,
 ) -> u32
-    requires room { length list.old.items < 66 }
+    requires room { count.old < 66 }
+    requires within { count.old ≤ length list.old.items }
     ensures carry { L.carry link.new ≡ L.carry link.old }
     ensures restart { L.restart link.new ≡ L.restart link.old }
     ensures bound { result ≤ 1 }
-    ensures len { length list.new.items ≤ length list.old.items + 1 }
+    ensures count { count.new ≤ count.old + 1 }
+    ensures within { count.new ≤ length list.new.items }
     ensures sent { (d : DriveView) (speed : ℕ) (h : List DriveCall) (s : Said) (r : RingView) → DriveStandsFor drive.now d speed h → drive_says d speed h ≡ Some s →
         station_of r (slice_index s.content 0) ≡ station →
-        AreSent r (L.carry link.old) cycle rate (s ∷ []) list.old.items list.new.items master.old master.new result }
+        AreSent r (L.carry link.old) cycle rate (s ∷ []) (take count.old list.old.items) (take count.new list.new.items) master.old master.new result }
 {
     match drive.at(said) {
         None => 0,
         Some(start) => send_said(
-            link, master, station, cycle, rate, start, list, said, sent, bits, content,
+            link, master, station, cycle, rate, start, list, count, said, sent, bits, content,
         ),
     }
 }
@@ -218,20 +230,23 @@ fn send_turn<L: BitLink>(
     cycle: u32,
     rate: u8,
     list: &mut ArrayVec<Sent, 66>,
+    count: &mut usize,
     said: &mut Content,
-    sent: &mut BitBuf,
+    sent: &mut Framed,
     bits: &mut BitBuf,
     content: &mut Content,
 ) -> u32
     requires few { length drives.now ≤ 64 }
-    requires room { length list.old.items < 66 }
+    requires room { count.old < 66 }
+    requires within { count.old ≤ length list.old.items }
     ensures carry { L.carry link.new ≡ L.carry link.old }
     ensures restart { L.restart link.new ≡ L.restart link.old }
     ensures bound { result ≤ 1 }
-    ensures len { length list.new.items ≤ length list.old.items + 1 }
+    ensures count { count.new ≤ count.old + 1 }
+    ensures within { count.new ≤ length list.new.items }
     ensures sent { (d : ℕ → DriveView) (speed : ℕ) (h : ℕ → List DriveCall) (s : Said) (r : RingView) → AllStand drives.now d speed h → turn.place < length drives.now →
         drive_says (d turn.place) speed (h turn.place) ≡ Some s → station_of r (slice_index s.content 0) ≡ turn.place + 1 →
-        AreSent r (L.carry link.old) cycle rate (s ∷ []) list.old.items list.new.items master.old master.new result }
+        AreSent r (L.carry link.old) cycle rate (s ∷ []) (take count.old list.old.items) (take count.new list.new.items) master.old master.new result }
 {
     let place = usize::from(turn.place);
     if place >= drives.len() {
@@ -245,6 +260,7 @@ fn send_turn<L: BitLink>(
         cycle,
         rate,
         list,
+        count,
         said,
         sent,
         bits,
@@ -261,25 +277,28 @@ pub(crate) fn send_ats<L: BitLink>(
     cycle: u32,
     rate: u8,
     list: &mut ArrayVec<Sent, 66>,
+    count: &mut usize,
     said: &mut Content,
-    sent: &mut BitBuf,
+    sent: &mut Framed,
     bits: &mut BitBuf,
     content: &mut Content,
 ) -> u32
     requires few { length drives.now ≤ 64 }
     requires turns { length turns.now ≤ 64 }
-    requires room { length list.old.items + length turns.now ≤ 65 }
+    requires room { count.old + length turns.now ≤ 65 }
+    requires within { count.old ≤ length list.old.items }
     ensures carry { L.carry link.new ≡ L.carry link.old }
     ensures restart { L.restart link.new ≡ L.restart link.old }
     ensures bound { result ≤ length turns.now }
-    ensures len { length list.new.items ≤ length list.old.items + length turns.now }
+    ensures count { count.new ≤ count.old + length turns.now }
+    ensures within { count.new ≤ length list.new.items }
     ensures sent { (d : ℕ → DriveView) (speed : ℕ) (h : ℕ → List DriveCall) (r : RingView) → AllStand drives.now d speed h → AreTurns (length drives.now) d speed h r turns.now →
-        AreSent r (L.carry link.old) cycle rate (said_by d speed h turns.now) list.old.items list.new.items master.old master.new result }
+        AreSent r (L.carry link.old) cycle rate (said_by d speed h turns.now) (take count.old list.old.items) (take count.new list.new.items) master.old master.new result }
 {
     let mut unseen = 0;
     for k in 0..turns.len() {
         unseen += send_turn(
-            link, master, drives, turns[k], cycle, rate, list, said, sent, bits, content,
+            link, master, drives, turns[k], cycle, rate, list, count, said, sent, bits, content,
         );
     }
     unseen
@@ -293,19 +312,21 @@ pub(crate) fn send_mdt<L: BitLink>(
     cycle: u32,
     rate: u8,
     list: &mut ArrayVec<Sent, 66>,
+    count: &mut usize,
     said: &Content,
-    sent: &mut BitBuf,
+    sent: &mut Framed,
     bits: &mut BitBuf,
     content: &mut Content,
 ) -> u32
     requires few { length drives.old.items ≤ 64 }
-    requires room { length list.old.items < 66 }
+    requires room { count.old < 66 }
+    requires within { count.old ≤ length list.old.items }
     requires some { is_some start ≡ true → 0 < length said.now }
     ensures count { length drives.new.items ≡ length drives.old.items }
     ensures carry { L.carry link.new ≡ L.carry link.old }
     ensures restart { L.restart link.new ≡ L.restart link.old }
     ensures bound { result ≤ 64 }
-    ensures sent { list.new.items ≡ list.old.items ++ sent_mdt rate (sent_as start said.now) }
+    ensures sent { take count.new list.new.items ≡ take count.old list.old.items ++ sent_mdt rate (sent_as start said.now) }
     ensures unseen { result ≡ sum_below (length drives.old.items) (unseen_mdt (L.carry link.old) cycle (content_of (sent_as start said.now))) }
     ensures stand { (d : ℕ → DriveView) (speed : ℕ) (h : ℕ → List DriveCall) → AllStand drives.old.items d speed h →
         AllStand drives.new.items d speed (λ k. Mdt (mdt_heard (L.carry link.old) cycle (k + 1) (content_of (sent_as start said.now))) ∷ h k) }
@@ -316,8 +337,8 @@ pub(crate) fn send_mdt<L: BitLink>(
             0
         }
         Some(start) => {
-            frame_said(said, sent);
-            push_timed(list, Kind::Mdt, rate, start, said, sent);
+            frame_said(link, cycle, said, sent);
+            push_timed(list, count, Kind::Mdt, rate, start, said, sent.len);
             hear_mdts(link, drives, cycle, said, sent, bits, content)
         }
     }

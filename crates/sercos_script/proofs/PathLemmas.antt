@@ -125,7 +125,7 @@ path_step p faults i d link count bits inside sorted range =
     subst (λ (g : Fault). link_of f.damage % 256 ≤ link_of g.damage % 256) (sym (get_or-drop (i + 1) faults k d)) (sorted i (i + 1 + k) d (omega arith) (omega arith))) in
     ap (λ (xs : List Fault). over_links (filter (concerns p) xs) link count bits) (drop_more faults i d inside) ∙ over_next p f (drop (i + 1) faults) link count bits range later
 
-over_none : (link count : ℕ) (bits : List Bool) → over_links [] link count bits ≡ Some bits
+pub over_none : (link count : ℕ) (bits : List Bool) → over_links [] link count bits ≡ Some bits
 over_none link zero bits = refl
 over_none link (suc more) bits = over_none (link + 1) more bits
 

@@ -1,6 +1,6 @@
 -- What a link is: what it does to the bits of each telegram on its way to each station, and which stations restart in which
 -- cycles. Stations are 0 for the master and 1 to n for the drives in the order of the ring. Cycles are counted from 0.
-use Rattle.std.specs.Prelude.{ℕ, Bool, true, false, ◌||◌, List, Option, Some, None, option_and_then}
+use Rattle.std.specs.Prelude.{◌≡◌, ℕ, Bool, true, false, ◌||◌, List, Option, Some, None, option_and_then}
 use Rattle.sercos_script.specs.declared.link.Passage.{Passage}
 
 -- For a passage and the bits sent, the bits that arrive, or nothing.
@@ -18,6 +18,10 @@ carried_clean p bits = Some bits
 -- No station restarts.
 abbrev pub never_restarts : Restarts
 never_restarts cycle station = false
+
+-- In a cycle a link changes nothing: each telegram arrives at each station as it was sent.
+abbrev pub IsQuiet : Carry → ℕ → Type 0
+IsQuiet carry cycle = (p : Passage) (bits : List Bool) → p.cycle ≡ cycle → carry p bits ≡ Some bits
 
 -- One link after another: the second is given what the first lets arrive. If the first lets nothing arrive, nothing does.
 abbrev pub carried_by_both : Carry → Carry → Carry

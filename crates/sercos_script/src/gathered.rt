@@ -1,5 +1,5 @@
 // The faults of a script that act in one cycle.
-ghost use Rattle.std.specs.Prelude.{◌≡◌, true, ℕ, Bool, List};
+ghost use Rattle.std.specs.Prelude.{◌≡◌, true, ℕ, Bool, List, []};
 ghost use Rattle.std.specs.List.{filter};
 ghost use Rattle.std.specs.List.Sorted.{IsNonDecreasingBy};
 ghost use Rattle.sercos_script.specs.Lanes.{key_of, is_in, AreByLink, IsGathered, candidates};
@@ -72,6 +72,14 @@ impl Gathered {
             self.complete = gather(script, cycle, &mut self.faults);
             self.cycle = cycle;
         }
+    }
+
+    // Returns whether it is sure that no fault acts in this cycle.
+    pub(crate) fn is_empty(&self) -> bool
+        ensures complete { result ≡ true → self.now.complete ≡ true }
+        ensures empty { result ≡ true → self.now.faults ≡ [] }
+    {
+        self.complete && self.faults.is_empty()
     }
 
     // Returns where the faults of this cycle are looked for.

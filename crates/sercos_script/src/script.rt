@@ -84,4 +84,11 @@ impl BitLink for Scripted {
         let faults = self.gathered.on_station(script, station);
         any_restart(faults, cycle, station)
     }
+
+    // A cycle is quiet if no fault of the script acts in it, be it a restart.
+    fn is_quiet(&mut self, cycle: u32) -> bool {
+        let script = self.faults.as_slice();
+        self.gathered.turn(script, cycle);
+        self.gathered.is_empty()
+    }
 }

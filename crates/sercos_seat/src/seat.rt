@@ -451,6 +451,9 @@ impl Seat {
         self.channel.end_cycle();
         self.missed = phase >= 3 && !self.heard;
         self.heard = false;
+        if self.report.is_none() {
+            return None;
+        }
         self.report.take()
     }
 

@@ -1,5 +1,6 @@
 -- What a line of a trace gives to its reader.
 use Rattle.std.specs.Prelude.{◌≡◌, ℕ, ℤ, pos, ◌≤◌, ◌<◌, List, [], ◌∷◌, ◌++◌, length, slice_index, Option, Some, None, option_map}
+use Rattle.sercos_telegram.specs.declared.layout.Kind.{Kind}
 use Rattle.sercos_telegram.specs.declared.layout.Kind.TheVariants as telegram
 use Rattle.sercos_timing.specs.declared.wishes.Wish.{Wish}
 use Rattle.sercos_text.specs.declared.template.Field.{Field}
@@ -45,6 +46,13 @@ line_by kind.Mdt numbers signed bytes addresses =
     line.Telegram (slice_index numbers 0) (record { kind = telegram.Mdt; start = signed; bits = slice_index numbers 1; content = bytes })
 line_by kind.End numbers signed bytes addresses = line.End
 line_by _ numbers signed bytes addresses = line.Other
+
+-- the kind of the telegram of a line, if it is that of one
+unfoldable pub telegram_kind : LineKind → Option Kind
+telegram_kind kind.Mst = Some telegram.Mst
+telegram_kind kind.At = Some telegram.At
+telegram_kind kind.Mdt = Some telegram.Mdt
+telegram_kind _ = None
 
 -- what a text gives as a line of a kind
 abbrev pub line_as : LineKind → List ℕ → Line

@@ -6,12 +6,14 @@ mod event_text;
 mod events;
 mod kind;
 mod line;
+mod reader;
 mod reading;
 mod record;
 mod writing;
 
 pub use events::{Events, Fall, Reported, Stop};
 pub use kind::{LineKind, template_law};
+pub use reader::Reader;
 pub use reading::{BadLine, Line, read_line, reading_law};
-pub use record::{CycleRecord, Move, Sent, Totals, push_sent};
+pub use record::{CycleRecord, Move, Sent, Totals, push_sent, put_sent};
 pub use writing::{write_cycle, write_end, write_header};

@@ -56,7 +56,7 @@ pub struct BadLine {
 }
 
 // The number at a place, which has 32 bits.
-fn long(told: &Told, place: usize) -> u32
+pub(crate) fn long(told: &Told, place: usize) -> u32
     requires { IsNumber told.now.numbers.items place 4294967295 }
     ensures { result ≡ slice_index told.now.numbers.items place }
 {
@@ -150,7 +150,7 @@ fn telegram(kind: Kind, told: &Told) -> Sent
 }
 
 // The line of a telegram.
-fn telegram_line(kind: Kind, told: &Told) -> Line
+pub(crate) fn telegram_line(kind: Kind, told: &Told) -> Line
     requires { AreWithin told.now.numbers.items (4294967295 ∷ 4294967295 ∷ []) }
     ensures { result ≡ line.Telegram (slice_index told.now.numbers.items 0) (record { kind = kind; start = told.now.signed; bits = slice_index told.now.numbers.items 1; content = told.now.bytes }) }
 {
@@ -162,7 +162,7 @@ fn telegram_line(kind: Kind, told: &Told) -> Line
 
 // The line of a kind.
 #[tactic(auto, unfolding(crate::specs::Lines::line_by, crate::specs::Lines::bounds_of, crate::specs::Lines::bound_by, crate::specs::Kinds::template_of, sercos_text::specs::Templates::field_of))]
-fn line_of(kind: LineKind, told: &Told) -> Line
+pub(crate) fn line_of(kind: LineKind, told: &Told) -> Line
     requires { AreWithin told.now.numbers.items (bounds_of (template_of kind)) }
     ensures { result ≡ line_by kind told.now.numbers.items told.now.signed told.now.bytes told.now.addresses.items }
 {

@@ -1,5 +1,5 @@
 // What happens in a cycle.
-ghost use Rattle.std.specs.Prelude.{◌≡◌, ◌++◌, ◌<◌, ◌+◌, List, [], ◌∷◌, None, length};
+ghost use Rattle.std.specs.Prelude.{◌≡◌, ◌++◌, ◌<◌, ◌≤◌, ◌+◌, List, [], ◌∷◌, None, length, take};
 ghost use Rattle.sercos_telegram.specs.declared.layout.Kind.{Kind};
 
 use crate::events::Events;
@@ -43,7 +43,7 @@ impl Default for Sent {
 
 impl Sent {
     // Replaces the telegram. Only as many bytes are copied as the content has.
-    fn fill(&mut self, kind: Kind, start: i32, bits: u32, content: &Content)
+    pub(crate) fn fill(&mut self, kind: Kind, start: i32, bits: u32, content: &Content)
         ensures { self.new ≡ record { kind = kind; start = start; bits = bits; content = content.now } }
     {
         self.kind = kind;
@@ -107,6 +107,30 @@ pub fn push_sent(
     sent[place].fill(kind, start, bits, content);
 }
 
+/// Puts a telegram behind the first `count` of a list and counts it, as [`push_sent`] appends it. If one stands there, it is
+/// replaced in its place, so that a record which is used again copies only as many bytes as the content has.
+pub fn put_sent(
+    sent: &mut ArrayVec<Sent, 66>,
+    count: &mut usize,
+    kind: Kind,
+    start: i32,
+    bits: u32,
+    content: &Content,
+)
+    requires room { count.old < 66 }
+    requires within { count.old ≤ length sent.old.items }
+    ensures items { take count.new sent.new.items ≡ take count.old sent.old.items ++ (record { kind = kind; start = start; bits = bits; content = content.now }) ∷ [] }
+    ensures count { count.new ≡ count.old + 1 }
+    ensures within { count.new ≤ length sent.new.items }
+{
+    if *count == sent.len() {
+        push_sent(sent, kind, start, bits, content);
+    } else {
+        sent[*count].fill(kind, start, bits, content);
+    }
+    *count += 1;
+}
+
 impl CycleRecord {
     /// The record of cycle 0 before anything is sent.
     pub fn new() -> CycleRecord
@@ -122,16 +146,24 @@ impl CycleRecord {
         }
     }
 
+    /// Makes it the record of a cycle in which nothing has happened yet, but for the telegrams, which stay as they are, to be
+    /// replaced by [`put_sent`].
+    pub fn reuse(&mut self, cycle: u32)
+        ensures { self.new ≡ record { cycle = cycle; phase = 0; sent = self.old.sent; moves = []; events = record { outcomes = []; plan = None; stop = None; fall = None }; unseen = 0 } }
+    {
+        self.cycle = cycle;
+        self.phase = 0;
+        self.moves.clear();
+        self.events.clear();
+        self.unseen = 0;
+    }
+
     /// Makes it the record of a cycle in which nothing has happened yet.
     pub fn begin(&mut self, cycle: u32)
         ensures { self.new ≡ record { cycle = cycle; phase = 0; sent = []; moves = []; events = record { outcomes = []; plan = None; stop = None; fall = None }; unseen = 0 } }
     {
-        self.cycle = cycle;
-        self.phase = 0;
         self.sent.clear();
-        self.moves.clear();
-        self.events.clear();
-        self.unseen = 0;
+        self.reuse(cycle);
     }
 }
 

@@ -1,4 +1,5 @@
 use Rattle.std.proofs.Common.{rules, ◌≡◌, ℕ, ◌+◌, ◌≤◌, Bool, true, false, List, [], ◌∷◌, ◌++◌, Option, Some, None, length, refl, ◌∙◌, ap, sym, subst, arith, if◌then◌else◌}
+use Rattle.std.specs.Prelude.{take}
 use Rattle.std.proofs.lemmas.Bool.{leb-true}
 use Rattle.sercos_step.specs.declared.request.Job.{Job}
 use Rattle.sercos_telegram.specs.declared.layout.Kind.TheVariants as kinds
@@ -40,8 +41,10 @@ returns-clause-after g c = λ r jobs carry restarts j s.
     let e1 : g.L.BitLink.restart c.restarts-restarts.new.self ≡ restarts = c.restarts-restarts.ensures.restart ∙ s.restarts_is in
     let k2 : g.L.BitLink.carry c.restart_drives.new.link ≡ carry = c.restart_drives.ensures.carry ∙ k1 in
     let e2 : g.L.BitLink.restart c.restart_drives.new.link ≡ restarts = c.restart_drives.ensures.restart ∙ e1 in
-    let k3 : g.L.BitLink.carry c.hear_msts-mst.new.link ≡ carry = c.hear_msts-mst.ensures.carry ∙ k2 in
-    let e3 : g.L.BitLink.restart c.hear_msts-mst.new.link ≡ restarts = c.hear_msts-mst.ensures.restart ∙ e2 in
+    let kf : g.L.BitLink.carry c.frame_said.new.link ≡ carry = c.frame_said.ensures.carry ∙ k2 in
+    let ef : g.L.BitLink.restart c.frame_said.new.link ≡ restarts = c.frame_said.ensures.restart ∙ e2 in
+    let k3 : g.L.BitLink.carry c.hear_msts-mst.new.link ≡ carry = c.hear_msts-mst.ensures.carry ∙ kf in
+    let e3 : g.L.BitLink.restart c.hear_msts-mst.new.link ≡ restarts = c.hear_msts-mst.ensures.restart ∙ ef in
     let k4 : g.L.BitLink.carry c.pass_own-own.new.link ≡ carry = c.pass_own-own.ensures.carry ∙ k3 in
     let e4 : g.L.BitLink.restart c.pass_own-own.new.link ≡ restarts = c.pass_own-own.ensures.restart ∙ e3 in
     let k5 : g.L.BitLink.carry c.send_ats-ats.new.link ≡ carry = c.send_ats-ats.ensures.carry ∙ k4 in
@@ -69,7 +72,7 @@ returns-clause-after g c = λ r jobs carry restarts j s.
     (c.restart_drives.ensures.stand (drive_at r) r.rate given s.drives_stand)
     (before_cycle _ (drive_at r) r.rate carry restarts (g.L.BitLink.restart c.restarts-restarts.new.self) j c.args.cycle s.cycle_is) in
     let raw2 : AllStand c.hear_msts-mst.new.drives.items (drive_at r) r.rate (λ k. Mst c.args.cycle (heard carry (passage c.args.cycle kinds.Mst 0 (k + 1)) mst) ∷ with_restart (g.L.BitLink.restart c.restarts-restarts.new.self c.args.cycle (k + 1)) (given k)) =
-    subst (λ (f : Carry). AllStand c.hear_msts-mst.new.drives.items (drive_at r) r.rate (λ k. Mst c.args.cycle (heard f (passage c.args.cycle kinds.Mst 0 (k + 1)) mst) ∷ with_restart (g.L.BitLink.restart c.restarts-restarts.new.self c.args.cycle (k + 1)) (given k))) k2 raw1 in
+    subst (λ (f : Carry). AllStand c.hear_msts-mst.new.drives.items (drive_at r) r.rate (λ k. Mst c.args.cycle (heard f (passage c.args.cycle kinds.Mst 0 (k + 1)) mst) ∷ with_restart (g.L.BitLink.restart c.restarts-restarts.new.self c.args.cycle (k + 1)) (given k))) kf raw1 in
     let all2 : AllStand c.hear_msts-mst.new.drives.items (drive_at r) r.rate h =
     subst (λ (f : Restarts). AllStand c.hear_msts-mst.new.drives.items (drive_at r) r.rate (λ k. Mst c.args.cycle (heard carry (passage c.args.cycle kinds.Mst 0 (k + 1)) mst) ∷ with_restart (f c.args.cycle (k + 1)) (given k))) e1 raw2 in
     let m2 : AnyStandsFor c.pass_own-own.new.master (known_of r) jobs (own_mst carry c.args.cycle mst begun) =
@@ -82,11 +85,11 @@ returns-clause-after g c = λ r jobs carry restarts j s.
     let n5 : length c.as_slice-5.result.now ≡ length r.drives = ap (λ (xs : List DriveState). length xs) c.as_slice-5.ensures.value ∙ n3 in
     let turns_are = turns_said (length c.as_slice-5.result.now) h r c.as_slice-6.result.now s.valid n5
     (c.as_slice-6.ensures.value ∙ c.turns_of-turns.ensures (drive_at r) r.rate h on4 ∙ ap (λ (n : ℕ). turns_below n (drive_at r) r.rate h) (n4 ∙ sym n5)) in
-    let sent1 : AreSent r carry c.args.cycle c.args.rate (said_by (drive_at r) r.rate h c.as_slice-6.result.now) c.push_mst.new.list.items c.send_ats-ats.new.list.items c.pass_own-own.new.master c.send_ats-ats.new.master c.send_ats-ats.result =
-    subst (λ (f : Carry). AreSent r f c.args.cycle c.args.rate (said_by (drive_at r) r.rate h c.as_slice-6.result.now) c.push_mst.new.list.items c.send_ats-ats.new.list.items c.pass_own-own.new.master c.send_ats-ats.new.master c.send_ats-ats.result) k4
+    let sent1 : AreSent r carry c.args.cycle c.args.rate (said_by (drive_at r) r.rate h c.as_slice-6.result.now) (take c.push_mst.new.count c.push_mst.new.list.items) (take c.send_ats-ats.new.count c.send_ats-ats.new.list.items) c.pass_own-own.new.master c.send_ats-ats.new.master c.send_ats-ats.result =
+    subst (λ (f : Carry). AreSent r f c.args.cycle c.args.rate (said_by (drive_at r) r.rate h c.as_slice-6.result.now) (take c.push_mst.new.count c.push_mst.new.list.items) (take c.send_ats-ats.new.count c.send_ats-ats.new.list.items) c.pass_own-own.new.master c.send_ats-ats.new.master c.send_ats-ats.result) k4
     (c.send_ats-ats.ensures.sent (drive_at r) r.rate h r on5 turns_are.0) in
-    let sent2 : AreSent r carry c.args.cycle c.args.rate ats c.push_mst.new.list.items c.send_ats-ats.new.list.items c.pass_own-own.new.master c.send_ats-ats.new.master c.send_ats-ats.result =
-    subst (λ (l : List Said). AreSent r carry c.args.cycle c.args.rate l c.push_mst.new.list.items c.send_ats-ats.new.list.items c.pass_own-own.new.master c.send_ats-ats.new.master c.send_ats-ats.result) turns_are.1 sent1 in
+    let sent2 : AreSent r carry c.args.cycle c.args.rate ats (take c.push_mst.new.count c.push_mst.new.list.items) (take c.send_ats-ats.new.count c.send_ats-ats.new.list.items) c.pass_own-own.new.master c.send_ats-ats.new.master c.send_ats-ats.result =
+    subst (λ (l : List Said). AreSent r carry c.args.cycle c.args.rate l (take c.push_mst.new.count c.push_mst.new.list.items) (take c.send_ats-ats.new.count c.send_ats-ats.new.list.items) c.pass_own-own.new.master c.send_ats-ats.new.master c.send_ats-ats.result) turns_are.1 sent1 in
     let m3 : AnyStandsFor c.send_ats-ats.new.master (known_of r) jobs (at_calls r carry c.args.cycle (contents ats) (own_mst carry c.args.cycle mst begun)) =
     sent2.heard (known_of r) jobs (own_mst carry c.args.cycle mst begun) m2 in
     -- the MDT
@@ -121,14 +124,14 @@ returns-clause-after g c = λ r jobs carry restarts j s.
     let unseen_is = four c.hear_msts-mst.result c.pass_own-own.result c.send_ats-ats.result c.send_mdt-mdt.result
     (sum_below (length r.drives) (unseen_mst carry c.args.cycle mst)) (unseen_at carry (passage c.args.cycle kinds.Mst 0 0) mst) (unseen_ats r carry c.args.cycle (contents ats))
     (sum_below (length r.drives) (unseen_mdt carry c.args.cycle (content_of mdt)))
-    (c.hear_msts-mst.ensures.unseen ∙ ap (λ (n : ℕ). sum_below n (unseen_mst (g.L.BitLink.carry c.restart_drives.new.link) c.args.cycle mst)) n2 ∙ ap (λ (f : Carry). sum_below (length r.drives) (unseen_mst f c.args.cycle mst)) k2)
+    (c.hear_msts-mst.ensures.unseen ∙ ap (λ (n : ℕ). sum_below n (unseen_mst (g.L.BitLink.carry c.frame_said.new.link) c.args.cycle mst)) n2 ∙ ap (λ (f : Carry). sum_below (length r.drives) (unseen_mst f c.args.cycle mst)) kf)
     (c.pass_own-own.ensures.unseen ∙ ap (λ (f : Carry). unseen_at f (passage c.args.cycle kinds.Mst 0 0) mst) k3)
     sent2.count
     (c.send_mdt-mdt.ensures.unseen ∙ ap (λ (n : ℕ). sum_below n (unseen_mdt (g.L.BitLink.carry c.send_ats-ats.new.link) c.args.cycle (content_of mdt))) n3 ∙ ap (λ (f : Carry). sum_below (length r.drives) (unseen_mdt f c.args.cycle (content_of mdt))) k5) in
     let t : CycleView = record {
       cycle = c.args.cycle;
       phase = c.command-phase.result;
-      sent = c.send_mdt-mdt.new.list.items;
+      sent = c.truncate.new.self.items;
       moves = c.push_moves-2.new.moves.items;
       events = c.end_cycle-master.new.events;
       unseen = c.hear_msts-mst.result + c.pass_own-own.result + c.send_ats-ats.result + c.send_mdt-mdt.result;
@@ -142,8 +145,8 @@ returns-clause-after g c = λ r jobs carry restarts j s.
         mst_is,
         refl,
         mdt_is,
-        all_sent c.args.list.now.items c.push_mst.new.list.items c.send_ats-ats.new.list.items c.send_mdt-mdt.new.list.items mst ats mdt c.args.rate r.rate c.requires.list s.rate_is
-            c.push_mst.ensures.items sent2.sent c.send_mdt-mdt.ensures.sent,
+        all_sent (take 0 c.args.list.now.items) (take c.push_mst.new.count c.push_mst.new.list.items) (take c.send_ats-ats.new.count c.send_ats-ats.new.list.items) c.truncate.new.self.items mst ats mdt c.args.rate r.rate refl s.rate_is
+            c.push_mst.ensures.items sent2.sent (c.truncate.ensures.items ∙ c.send_mdt-mdt.ensures.sent),
         moves2,
         events_are,
         unseen_is,

@@ -1,6 +1,7 @@
 use Rattle.std.proofs.Common.{rules, ◌≡◌, ℕ, ◌+◌, List, ◌∷◌, Option, Some, None, ◌∙◌, ap, sym, subst, length}
 use Rattle.sercos_drive.specs.Heard.{DriveCall, Mdt}
 use Rattle.sercos_master.specs.Says.{sent_as}
+use Rattle.sercos_script.specs.Links.{Carry}
 use Rattle.sercos_ring.specs.Arrivals.{sum_below}
 use Rattle.sercos_ring.specs.Runs.{content_of, mdt_heard, unseen_mdt}
 use Rattle.sercos_ring.specs.Stations.{AllStand}
@@ -18,4 +19,6 @@ returns-in-None-clause-stand g c = λ d speed h all.
 pub returns-in-Some-clause-stand : goal.returns-in-Some-clause-stand
 returns-in-Some-clause-stand g c = λ d speed h all.
     subst (λ (start : Option ℕ). AllStand c.hear_mdts.new.drives.items d speed (λ k. Mdt (mdt_heard (g.L.BitLink.carry c.args.link.now) c.args.cycle (k + 1) (content_of (sent_as start c.args.said.now))) ∷ h k))
-    (sym c.in-Some.is) (c.hear_mdts.ensures.stand d speed h all)
+    (sym c.in-Some.is)
+    (subst (λ (f : Carry). AllStand c.hear_mdts.new.drives.items d speed (λ k. Mdt (mdt_heard f c.args.cycle (k + 1) (Some c.args.said.now)) ∷ h k)) c.frame_said.ensures.carry
+    (c.hear_mdts.ensures.stand d speed h all))

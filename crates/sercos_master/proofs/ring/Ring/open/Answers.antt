@@ -1,9 +1,10 @@
 use Rattle.std.proofs.Common.{◌≡◌, List, length, true, refl, sym, ◌∙◌, subst, ap}
-use Rattle.std.specs.Prelude.{map}
-use Rattle.std.specs.List.{All}
+use Rattle.std.specs.Prelude.{map, ◌==◌}
+use Rattle.std.specs.List.{All, position}
 use Rattle.sercos_block.specs.Rings.{is_ring}
 use Rattle.sercos_block.specs.Views.{DriveView, RingView}
 use Rattle.sercos_seat.specs.Ring.{IsKnown, HasLists, known_of, member_of, tasks_for}
+use Rattle.sercos_seat.specs.Seats.{SeatView}
 use Rattle.sercos_master.specs.Kept.{AreFresh}
 use Rattle.sercos_master.proofs.Openings.{opened, fresh_stand, known_of-IsRing, mapped_length}
 use Rattle.sercos_master.proofs.ring.Ring.open.Goals as goal
@@ -20,7 +21,8 @@ returns c =
     let stand = c.in_ok-deal.ensures.stand (known_of r) known.apart (count ∙ sym (mapped_length r.drives)) (fresh_stand c.in_ok-seats.seats.items (known_of r) fresh) in
     rw (← c.setup.view_is)
     (record {
-      stands = opened _ r (tasks_for (known_of r) c.args.jobs.items) refl refl refl refl (c.copied.ensures ∙ c.as_slice-2.ensures.value) (c.in_ok-deal.ensures.count ∙ count) stand refl;
+      stands = opened _ r (tasks_for (known_of r) c.args.jobs.items) refl refl refl refl (c.copied.ensures ∙ c.as_slice-2.ensures.value) (c.in_ok-deal.ensures.count ∙ count)
+          (λ address byte. c.of_all.ensures address byte ∙ ap (position (λ (v : SeatView). v.member.address == address)) c.as_slice-3.ensures.value) stand refl;
       known = known;
       phase_is = refl;
     })

@@ -1,0 +1,56 @@
+// Where the drive with an address is.
+ghost use Rattle.std.specs.Prelude.{◌≡◌, ◌<◌, ◌==◌, ℕ, length, None, IfSome, slice_index_or};
+ghost use Rattle.std.specs.List.{position};
+
+use sercos_seat::Seat;
+use std::marker::Model;
+
+// The place of the drive with an address.
+pub fn place_of(seats: &[Seat], address: u8) -> Option<usize>
+    ensures value { result ≡ position (λ v. v.member.address == address) seats.now }
+    ensures bound { IfSome result (λ k. k < length seats.now) }
+{
+    seats
+        .iter()
+        .position(|seat| seat.member().address() == address)
+}
+
+// The number of addresses that an AT may have.
+const ADDRESSES: usize = 256;
+
+// The place of the drive with each address. An AT is looked up here, since the seats are far apart in memory.
+#[derive(Drop)]
+pub struct Places {
+    of: [Option<usize>; ADDRESSES],
+}
+
+impl Model for Places {
+    ghost use Rattle.std.specs.Prelude.{◌≡◌, ℕ, List, Option, length};
+
+    ghost Value = { List (Option ℕ) };
+
+    ghost view = { λ p. p.of };
+
+    ghost invariant = { λ p. length p.of ≡ 256 };
+}
+
+impl Places {
+    // Looks up each address.
+    pub fn of_all(seats: &[Seat]) -> Places
+        ensures { (address : ℕ) → address < 256 → slice_index_or result address None ≡ position (λ v. v.member.address == address) seats.now }
+    {
+        let mut of = [None; ADDRESSES];
+        for address in 0..ADDRESSES {
+            of[address] = place_of(seats, address as u8);
+        }
+        Places { of }
+    }
+
+    // The place of the drive with an address.
+    pub fn of(&self, address: u8) -> Option<usize>
+        ensures value { result ≡ slice_index_or self.now address None }
+        ensures byte { address < 256 }
+    {
+        self.of[usize::from(address)]
+    }
+}

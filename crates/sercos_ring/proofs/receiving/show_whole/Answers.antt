@@ -1,0 +1,12 @@
+use Rattle.std.proofs.Common.{rules, ◌≡◌, ◌<◌, List, None, refl, sym, length}
+use Rattle.sercos_model.specs.Frames.{IsFrame}
+use Rattle.sercos_hdlc.specs.Reason.{reason_of, content_of, plain}
+use Rattle.sercos_hdlc.specs.Stuffed.{frame_of}
+use Rattle.sercos_ring.specs.Arrivals.{content_in}
+use Rattle.sercos_ring.proofs.receiving.show_whole.Goals as goal
+
+pub returns : goal.returns
+unfolding content_in
+returns c =
+    let is : IsFrame c.args.said.now (frame_of c.args.said.now) = c.framing_law.ensures.frame c.args.said.now (search rules) c.requires (search rules) in
+    rw (c.frame_law.ensures.none c.args.said.now (frame_of c.args.said.now) is, sym (c.frame_law.ensures.only c.args.said.now (frame_of c.args.said.now) is)) refl
