@@ -17,25 +17,25 @@ use Rattle.sercos_app.proofs.HexPairs.{pair_bytes, pair_bytes-at, byte_of-least,
 use Rattle.sercos_app.proofs.SpareBits.{spare_zeros, last_below}
 
 -- how many bytes stand before the last one of so many bits
-abbrev bytes_before : ℕ → ℕ
+abbrev pub bytes_before : ℕ → ℕ
 bytes_before count = (count + 7) / 8 - 1
 
 has_spare-small : (count byte : ℕ) → has_spare count byte ≡ false → byte < 2 ^ (count - 8 * bytes_before count)
 unfolding has_spare
 has_spare-small count byte fails = grind (arith, nat_tests)
 
-small-has_spare : (count byte : ℕ) → byte < 2 ^ (count - 8 * bytes_before count) → has_spare count byte ≡ false
+pub small-has_spare : (count byte : ℕ) → byte < 2 ^ (count - 8 * bytes_before count) → has_spare count byte ≡ false
 unfolding has_spare
 small-has_spare count byte small = grind (arith, nat_tests)
 
 -- the digits of so many bits, without a fault
-record AreGoodDigits (count : ℕ) (text : List ℕ) : Type 0 where
-  long : length text ≡ wanted_digits count
-  all : prefix_len is_ascii_hexdigit text ≡ length text
-  least : has_spare count (byte_of (get_or text (wanted_digits count - 2) 0) 48) ≡ false
-  last : has_spare count (byte_of (get_or text (wanted_digits count - 2) 0) (get_or text (wanted_digits count - 2 + 1) 0)) ≡ false
+pub record AreGoodDigits (count : ℕ) (text : List ℕ) : Type 0 where
+  pub long : length text ≡ wanted_digits count
+  pub all : prefix_len is_ascii_hexdigit text ≡ length text
+  pub least : has_spare count (byte_of (get_or text (wanted_digits count - 2) 0) 48) ≡ false
+  pub last : has_spare count (byte_of (get_or text (wanted_digits count - 2) 0) (get_or text (wanted_digits count - 2 + 1) 0)) ≡ false
 
-AreGoodDigits-digits_fault : (count : ℕ) (text : List ℕ) → digits_fault count text ≡ None → AreGoodDigits count text
+pub AreGoodDigits-digits_fault : (count : ℕ) (text : List ℕ) → digits_fault count text ≡ None → AreGoodDigits count text
 unfolding digits_fault
 AreGoodDigits-digits_fault count text none =
     let wanted : ℕ = wanted_digits count in
@@ -58,7 +58,7 @@ AreGoodDigits-digits_fault count text none =
 nat_le-above : (a b : ℕ) → b < a → nat_le a b ≡ false
 nat_le-above a b above = grind (arith, nat_tests)
 
-digits_fault-AreGoodDigits : (count : ℕ) (text : List ℕ) → 2 ≤ wanted_digits count → AreGoodDigits count text → digits_fault count text ≡ None
+pub digits_fault-AreGoodDigits : (count : ℕ) (text : List ℕ) → 2 ≤ wanted_digits count → AreGoodDigits count text → digits_fault count text ≡ None
 unfolding digits_fault
 digits_fault-AreGoodDigits count text some good =
     let digits : ℕ = prefix_len is_ascii_hexdigit text in
@@ -120,7 +120,7 @@ good-AreDigitsOf text bits some spelled =
     )
 
 -- the HEX of no bits
-dash_fault-dash : (text : List ℕ) → dash_fault text ≡ None → text ≡ codes "-"
+pub dash_fault-dash : (text : List ℕ) → dash_fault text ≡ None → text ≡ codes "-"
 unfolding dash_fault
 dash_fault-dash [] none = cc
 dash_fault-dash (byte ∷ []) none =
@@ -139,7 +139,7 @@ unfolding IsHexOf
 IsHexOf-digits text [] some spelled = absurd (omega arith)
 IsHexOf-digits text (bit ∷ bits) some spelled = spelled
 
-hex_fault-some : (count : ℕ) (text : List ℕ) → 0 < count → hex_fault count text ≡ digits_fault count text
+pub hex_fault-some : (count : ℕ) (text : List ℕ) → 0 < count → hex_fault count text ≡ digits_fault count text
 unfolding hex_fault
 hex_fault-some count text some =
     let other : (count == 0) ≡ false = grind (arith, nat_tests) in

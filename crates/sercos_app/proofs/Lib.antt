@@ -5,6 +5,7 @@ pub mod HexPairs
 pub mod HexLines
 pub mod SpelledLines
 pub mod WrittenLines
+pub mod PlaceLemmas
 pub mod WordsRead
 pub mod FormLemmas
 pub mod ShowLemmas
@@ -18,3 +19,4 @@ pub mod PartLemmas
 pub mod JournalLemmas
 pub mod RunLemmas
 mod WorkedSummary
+mod WorkedLines

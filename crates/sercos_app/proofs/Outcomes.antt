@@ -423,8 +423,8 @@ done_whole : (carry : Carry) (restarts : Restarts) (form : Form) (bytes : List �
 done_whole carry restarts form bytes sink status ends e = elim (whole_or_short ends) [ inl w ↦ (w.status_is ∙ e, w.written) | inr w ↦ absurd (fault-done (IsGiven-answer _ _ form bytes) (w.status_is ∙ e)) ]
 
 no_whole : (carry : Carry) (restarts : Restarts) (form : Form) (bytes : List ℕ) (sink : SinkChange) (status : Status) → Writes (command_answer carry restarts form bytes).status (command_answer carry restarts form bytes).output sink status → status ≡ No
-    → (command_answer carry restarts form bytes).status ≡ No
-no_whole carry restarts form bytes sink status ends e = elim (whole_or_short ends) [ inl w ↦ w.status_is ∙ e | inr w ↦ absurd (fault-no (IsGiven-answer _ _ form bytes) (w.status_is ∙ e)) ]
+    → ((command_answer carry restarts form bytes).status ≡ No) × Appends sink.held sink.held' (command_answer carry restarts form bytes).output
+no_whole carry restarts form bytes sink status ends e = elim (whole_or_short ends) [ inl w ↦ (w.status_is ∙ e, w.written) | inr w ↦ absurd (fault-no (IsGiven-answer _ _ form bytes) (w.status_is ∙ e)) ]
 
 -- what a document says that isn't refused
 document_read : (document : Result DocumentView BadDocument) → (document_answer document).status ≢ Refused → (d : DocumentView) × (document ≡ Ok d)
@@ -433,12 +433,13 @@ document_read (Ok d) given = (d, refl)
 document_read (Err bad) given = absurd (given refl)
 
 -- what the answers of `plan` say
-none-plan : (carry : Carry) (restarts : Restarts) (bytes : List ℕ) (left left' : Option (List ℕ)) → PlansItsRing bytes → (command_answer carry restarts Plan bytes).status ≡ No → ReadsWhole left left' bytes
-    → NonePlanned left left'
+none-plan : (carry : Carry) (restarts : Restarts) (bytes : List ℕ) (left left' held held' : Option (List ℕ)) → PlansItsRing bytes → (command_answer carry restarts Plan bytes).status ≡ No → ReadsWhole left left' bytes
+    → Appends held held' (command_answer carry restarts Plan bytes).output → NonePlanned left left' held held'
 unfolding command_answer plan_answer
-none-plan carry restarts bytes left left' says at input =
+none-plan carry restarts bytes left left' held held' says at input written =
     let (d, read) = document_read (document_of bytes) (λ e. absurd (cc)) in
-    record { bytes = bytes; read = input; says = d; document = read; none = (says d read).no at }
+    let (chain, is, text) = (says d read).chain at in
+    record { bytes = bytes; read = input; says = d; document = read; none = (says d read).no at; chain = chain; is_chain = is; written = rw text at written }
 
 least-plan : (carry : Carry) (restarts : Restarts) (bytes : List ℕ) (left left' held held' : Option (List ℕ)) → PlansItsRing bytes → (command_answer carry restarts Plan bytes).status ≡ Done → ReadsWhole left left' bytes
     → Appends held held' (command_answer carry restarts Plan bytes).output → LeastPlanned left left' held held'
@@ -448,11 +449,12 @@ least-plan carry restarts bytes left left' held held' says at input written =
     let (plan, least, text) = (says d read).done at in
     record { bytes = bytes; read = input; says = d; document = read; plan = plan; least = least; written = rw text at written }
 
-pub at_none_fits : {carry : Carry} {restarts : Restarts} {words : List (List ℕ)} {source : SourceChange} {sink : SinkChange} {Unread Unwritten : Type 0} {status : Status} → Outcome carry restarts words source sink Unread Unwritten status → status ≡ No → form_of words ≡ Some Plan → NonePlanned source.left source.left'
+pub at_none_fits : {carry : Carry} {restarts : Restarts} {words : List (List ℕ)} {source : SourceChange} {sink : SinkChange} {Unread Unwritten : Type 0} {status : Status} → Outcome carry restarts words source sink Unread Unwritten status → status ≡ No → form_of words ≡ Some Plan → NonePlanned source.left source.left' sink.held sink.held'
 unfolding writes_nothing reads_input
 at_none_fits out e f =
     let a = answered_by out Plan f (ap writes_nothing e) in
-    none-plan _ _ a.bytes _ _ a.says (no_whole _ _ Plan a.bytes _ _ a.ends e) a.input
+    let whole = no_whole _ _ Plan a.bytes _ _ a.ends e in
+    none-plan _ _ a.bytes _ _ _ _ a.says whole.0 a.input whole.1
 
 pub at_least_plan : {carry : Carry} {restarts : Restarts} {words : List (List ℕ)} {source : SourceChange} {sink : SinkChange} {Unread Unwritten : Type 0} {status : Status} → Outcome carry restarts words source sink Unread Unwritten status → status ≡ Done → form_of words ≡ Some Plan → LeastPlanned source.left source.left' sink.held sink.held'
 unfolding writes_nothing reads_input
@@ -537,4 +539,4 @@ pub at_no_of : {carry : Carry} {restarts : Restarts} {words : List (List ℕ)} {
 unfolding writes_nothing
 at_no_of (stopped status why sink_same writes) e = absurd (not_stopped why refl e)
 at_no_of (answered form bytes status is says reads input ends) e =
-    elim (no_of _ _ form bytes (no_whole _ _ form bytes _ _ ends e)) [ inl plan ↦ inl (is ∙ ap Some plan) | inr check ↦ inr (is ∙ ap Some check) ]
+    elim (no_of _ _ form bytes (no_whole _ _ form bytes _ _ ends e).0) [ inl plan ↦ inl (is ∙ ap Some plan) | inr check ↦ inr (is ∙ ap Some check) ]

@@ -21,7 +21,7 @@ use Rattle.sercos_app.proofs.HexLines.{IsHexOf-hex_fault, hex_fault-IsHexOf}
 shared_step : (c byte shared wanted : ℕ) → suc wanted ≤ cond (nat_eq c byte) (1 + shared) 0 → (c ≡ byte) × (wanted ≤ shared)
 shared_step c byte shared wanted all = (grind (arith, nat_tests), grind (arith, nat_tests))
 
-shared_all : (line kind : List ℕ) → length kind ≤ common_prefix_len nat_eq line kind → line ≡ kind ++ drop (length kind) line
+pub shared_all : (line kind : List ℕ) → length kind ≤ common_prefix_len nat_eq line kind → line ≡ kind ++ drop (length kind) line
 shared_all line [] all = refl
 shared_all [] (byte ∷ kind) all = absurd (omega arith)
 shared_all (c ∷ line) (byte ∷ kind) all =
@@ -29,11 +29,11 @@ shared_all (c ∷ line) (byte ∷ kind) all =
     rw (step.0) (ap (λ rest. byte ∷ rest) (shared_all line kind step.1))
 
 -- COUNT and the space after it, without a fault
-record IsGoodCount (text : List ℕ) : Type 0 where
-  number : IsGood 19696 text
-  space : get_or text (number_len text) 0 ≡ 32
+pub record IsGoodCount (text : List ℕ) : Type 0 where
+  pub number : IsGood 19696 text
+  pub space : get_or text (number_len text) 0 ≡ 32
 
-IsGoodCount-count_fault : (text : List ℕ) → count_fault text ≡ None → IsGoodCount text
+pub IsGoodCount-count_fault : (text : List ℕ) → count_fault text ≡ None → IsGoodCount text
 unfolding count_fault
 IsGoodCount-count_fault text none =
     let digits : ℕ = number_len text in
@@ -47,25 +47,25 @@ count_fault-IsGoodCount : (text : List ℕ) → IsGoodCount text → count_fault
 unfolding count_fault
 count_fault-IsGoodCount text good = rw (number_fault-IsGood 19696 text good.number, good.space) refl
 
-inside_text : (text : List ℕ) (place : ℕ) → get_or text place 0 ≡ 32 → place < length text
+pub inside_text : (text : List ℕ) (place : ℕ) → get_or text place 0 ≡ 32 → place < length text
 inside_text text place space = elim (cases_lt place (length text)) [
   | inl inside ↦ inside
   | inr past ↦ absurd (omega (arith, get_or_past text place 0 past, space))
 ]
 
-text_of_count : (text : List ℕ) → IsGoodCount text → text ≡ decimal (number_of text) ++ codes " " ++ hex_text text
+pub text_of_count : (text : List ℕ) → IsGoodCount text → text ≡ decimal (number_of text) ++ codes " " ++ hex_text text
 text_of_count text good =
     let digits : ℕ = number_len text in
     let rest : drop digits text ≡ codes " " ++ hex_text text = drop_more text digits 0 (inside_text text digits good.space) ∙ ap (λ byte. byte ∷ hex_text text) good.space in
     number_spelled 19696 text (omega arith) good.number ∙ ap (λ more. decimal (number_of text) ++ more) rest ∙ sym (append_assoc (decimal (number_of text)) (codes " ") (hex_text text))
 
 -- what COUNT, a space and HEX are read as
-record ReadsCount (text : List ℕ) (count : ℕ) (hex : List ℕ) : Type 0 where
-  good : IsGoodCount text
-  number : number_of text ≡ count
-  rest : hex_text text ≡ hex
+pub record ReadsCount (text : List ℕ) (count : ℕ) (hex : List ℕ) : Type 0 where
+  pub good : IsGoodCount text
+  pub number : number_of text ≡ count
+  pub rest : hex_text text ≡ hex
 
-reads_count : (count : ℕ) (hex : List ℕ) → count ≤ 19696 → ReadsCount (decimal count ++ codes " " ++ hex) count hex
+pub reads_count : (count : ℕ) (hex : List ℕ) → count ≤ 19696 → ReadsCount (decimal count ++ codes " " ++ hex) count hex
 reads_count count hex most =
     let front : List ℕ = decimal count in
     let reads = reads_number count (32 ∷ hex) (omega arith) refl in
@@ -92,19 +92,19 @@ find_passes p [] x found = absurd (cc)
 find_passes p (y ∷ xs) x found = found_passes p y xs x (p y) refl found (λ rest. find_passes p xs x rest)
 
 -- the kind that a line is of
-kind_found : (line : List ℕ) (kind : LineKind) → kind_of line ≡ Some kind → length (kind_text kind) ≤ shared_with line kind
+pub kind_found : (line : List ℕ) (kind : LineKind) → kind_of line ≡ Some kind → length (kind_text kind) ≤ shared_with line kind
 unfolding kind_of
 kind_found line kind found = grind (arith, nat_tests, find_passes (λ kind. shared_with line kind == length (kind_text kind)) (Raw ∷ Mst ∷ Single ∷ At ∷ []) kind found)
 
 -- a line of a kind is of that kind
-kind_taken : (kind : LineKind) (text : List ℕ) → kind_of (kind_text kind ++ text) ≡ Some kind
+pub kind_taken : (kind : LineKind) (text : List ℕ) → kind_of (kind_text kind ++ text) ≡ Some kind
 unfolding kind_of
 kind_taken Raw text = rw (common_prefix_len-nil text) refl
 kind_taken Mst text = rw (common_prefix_len-nil text) refl
 kind_taken Single text = rw (common_prefix_len-nil text) refl
 kind_taken At text = rw (common_prefix_len-nil text) refl
 
-numbers_taken : (text : List ℕ) (count : ℕ) (hex : List ℕ) → ReadsCount text count hex → hex_fault count hex ≡ None → (numbers_fault text ≡ None) × (numbers_bits text ≡ hex_bits count hex)
+pub numbers_taken : (text : List ℕ) (count : ℕ) (hex : List ℕ) → ReadsCount text count hex → hex_fault count hex ≡ None → (numbers_fault text ≡ None) × (numbers_bits text ≡ hex_bits count hex)
 unfolding numbers_fault numbers_bits
 numbers_taken text count hex reads none =
     (rw (count_fault-IsGoodCount text reads.good, reads.number, reads.rest, none) refl, rw (reads.number, reads.rest) refl)

@@ -22,7 +22,7 @@ written_digits bits =
     let decoded = decode_of-encode_lower bytes (λ i. AreBytes-get_or bytes i (AreBytes-bytes_of padded)) in
     (encode_lower bytes, record { bytes = bytes; decoded = decoded; spare = spare; few = omega arith; filled = bits_of-bytes_of padded whole })
 
-written_hex : (bits : List Bool) → (text : List ℕ) × IsHexOf text bits
+pub written_hex : (bits : List Bool) → (text : List ℕ) × IsHexOf text bits
 unfolding IsHexOf
 written_hex [] = (codes "-", refl)
 written_hex (bit ∷ bits) = written_digits (bit ∷ bits)

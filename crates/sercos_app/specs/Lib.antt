@@ -1,5 +1,6 @@
 pub mod Line
 pub mod SpelledLine
+pub mod Places
 pub mod Show
 pub mod Checking
 pub mod Taken

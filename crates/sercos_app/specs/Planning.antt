@@ -7,6 +7,7 @@ use Rattle.sercos_timing.specs.Order.{wish}
 use Rattle.sercos_plan.specs.declared.chain.Link.{Link}
 use Rattle.sercos_plan.specs.Views.{ChainView}
 use Rattle.sercos_plan.specs.ChainOf.{planned}
+use Rattle.sercos_plan.specs.Chains.{IsChain}
 use Rattle.sercos_plan.specs.Least.{IsLeast, NoneFits}
 use Rattle.sercos_block.specs.Rings.{wishes_of}
 use Rattle.sercos_document.specs.declared.refusal.BadDocument.{BadDocument}
@@ -54,10 +55,11 @@ document_answer (Err bad) = record { status = Refused; output = line_of bad }
 unfoldable pub plan_answer : List ℕ → Answer
 plan_answer bytes = document_answer (document_of bytes)
 
--- An answer says what it should of wishes: no, only where no plan fits, whatever plan it is; done, only with the text of the
--- least plan.
+-- An answer says what it should of wishes: no, only where no plan fits, whatever plan it is, and with the text of a chain that
+-- proves it; done, only with the text of the least plan.
 pub record IsPlanned (w : WishesView) (answer : Answer) : Type 0 where
   pub no : answer.status ≡ No → NoneFits w
+  pub chain : answer.status ≡ No → (c : ChainView) × IsChain w c × (answer.output ≡ chain_text c)
   pub done : answer.status ≡ Done → (p : PlanView) × IsLeast w p × (answer.output ≡ plan_text w p)
 
 -- the answer to a document does so of what its ring asks

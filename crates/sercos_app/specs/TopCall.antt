@@ -8,9 +8,11 @@ use Rattle.sercos_script.specs.Links.{Carry, Restarts}
 use Rattle.sercos_app.specs.Form.{form_of, reads_input}
 use Rattle.sercos_app.specs.Answer.{answer_of}
 use Rattle.sercos_app.specs.Show.{Answer}
-use Rattle.sercos_app.specs.Planning.{plan_text}
+use Rattle.sercos_app.specs.Planning.{plan_text, chain_text}
 use Rattle.sercos_timing.specs.Views.{PlanView}
 use Rattle.sercos_plan.specs.Least.{IsLeast, NoneFits}
+use Rattle.sercos_plan.specs.Views.{ChainView}
+use Rattle.sercos_plan.specs.Chains.{IsChain}
 use Rattle.sercos_block.specs.Rings.{wishes_of}
 use Rattle.sercos_trace.specs.Views.{CycleView}
 use Rattle.sercos_trace.specs.Texts.{trace_of}
@@ -84,13 +86,17 @@ pub record IsAnswer (answer : Answer) (status : Status) (held held' : Option (Li
   pub status_is : status ≡ answer.status
   pub written : Appends held held' answer.output
 
--- the source was read to its end as the document of a ring for which no plan fits, whatever plan it is
-pub record NonePlanned (left left' : Option (List ℕ)) : Type 0 where
+-- The source was read to its end as the document of a ring for which no plan fits, whatever plan it is. What was appended is the
+-- text of a chain of what the ring asks, whose sum is above its bound.
+pub record NonePlanned (left left' held held' : Option (List ℕ)) : Type 0 where
   pub bytes : List ℕ
   pub read : ReadsWhole left left' bytes
   pub says : DocumentView
   pub document : document_of bytes ≡ Ok says
   pub none : NoneFits (wishes_of says.setup)
+  pub chain : ChainView
+  pub is_chain : IsChain (wishes_of says.setup) chain
+  pub written : Appends held held' (chain_text chain)
 
 -- the source was read to its end as the document of a ring, and the text of its least plan was appended
 pub record LeastPlanned (left left' held held' : Option (List ℕ)) : Type 0 where

@@ -13,7 +13,7 @@ use crate::lines::cut_line;
 use crate::verdict::{Verdict, verdict_line, verdict_on, verdict_status};
 use sercos_check::{Checker, shape_law, test_law};
 use sercos_io::{Sink, Status, write_all};
-use sercos_trace::{Line, read_line};
+use sercos_trace::{Line, Reader};
 
 // Takes a line as a check of the shape alone does. Returns whether it can follow those before it.
 fn follows(shape: &mut Checker, line: &Line) -> bool
@@ -30,22 +30,22 @@ fn follows(shape: &mut Checker, line: &Line) -> bool
 }
 
 // Takes the text of the next line. Returns the column at which it is refused.
-fn take(shape: &mut Checker, rules: &mut Checker, text: &[u8]) -> Option<usize>
+fn take(shape: &mut Checker, rules: &mut Checker, reader: &mut Reader, text: &[u8]) -> Option<usize>
     requires shape { shape.old.lines < 2 ^ 31 }
     requires rules { rules.old.lines < 2 ^ 31 }
     ensures column { (before : List Line) → HasTaken shape.old rules.old before → result ≡ column_of before text.now }
     ensures taken { (before : List Line) → HasTaken shape.old rules.old before → IfNone result (HasTaken shape.new rules.new (read_as text.now ∷ before)) }
 {
     test_law();
-    let line = match read_line(text) {
-        Ok(line) => line,
-        Err(bad) => return Some(bad.column),
-    };
-    if !follows(shape, &line) {
+    if let Err(bad) = reader.read(text) {
+        return Some(bad.column);
+    }
+    let line = reader.line();
+    if !follows(shape, line) {
         return Some(1);
     }
     // The checker keeps its first trouble.
-    let _trouble = rules.line(&line);
+    let _trouble = rules.line(line);
     None
 }
 
@@ -71,11 +71,12 @@ fn verdict(text: &[u8]) -> Verdict
 {
     let mut shape = Checker::new();
     let mut rules = Checker::new();
+    let mut reader = Reader::new();
     let mut rest = text;
     let mut number = 1u32;
     while !rest.is_empty() {
         let (line, others) = cut_line(rest);
-        if let Some(column) = take(&mut shape, &mut rules, line) {
+        if let Some(column) = take(&mut shape, &mut rules, &mut reader, line) {
             return Verdict::Refused {
                 line: number,
                 column,

@@ -1,7 +1,8 @@
-// What the rules on a line of `show` come to, seen from the bits.
+// What the rules on a line of `show` come to, seen from the bits, and where a line is refused.
 ghost use Rattle.std.specs.Prelude.{◌≡◌, ℕ, ◌≤◌, Bool, List, Option, Some, None, length};
 ghost use Rattle.sercos_app.specs.Line.{kind_of, line_fault, line_bits};
 ghost use Rattle.sercos_app.specs.SpelledLine.{IsLine};
+ghost use Rattle.sercos_app.specs.Places.{IsRefusedAt};
 ghost use Rattle.sercos_app.specs.declared.line.LineKind.{LineKind};
 
 /// A law and no code: a line of `show` has no fault exactly where it is the line `KIND COUNT HEX` of some bits, which
@@ -14,4 +15,12 @@ pub fn line_law()
         → (line_fault line ≡ None) × (kind_of line ≡ Some kind) × (line_bits line ≡ bits) }
     ensures written { (kind : LineKind) (bits : List Bool) → length bits ≤ 19696
         → (line : List ℕ) × IsLine kind line bits }
+{}
+
+/// A law and no code: where a line is refused at a place, the bytes before it begin a line of some bits, and with the byte at
+/// the place they begin none. Where the place is the end of the line, the line is none itself. There are two exceptions: a
+/// COUNT above 19696 is refused at its first digit, and a pair of digits at its first digit, if only its second one shows that
+/// a bit after the last one is 1.
+pub fn place_law()
+    ensures { (line : List ℕ) (place : ℕ) → line_fault line ≡ Some place → IsRefusedAt line place }
 {}

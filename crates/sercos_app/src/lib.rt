@@ -20,7 +20,7 @@ mod top_call;
 mod verdict;
 
 pub use gen_command::answer_gen;
-pub use law::line_law;
+pub use law::{line_law, place_law};
 pub use over_memory::answer_in_memory;
 pub use running::write_run;
 pub use sercos_script::Clean;

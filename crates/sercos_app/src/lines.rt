@@ -2,17 +2,14 @@
 ghost use Rattle.std.specs.Prelude.{◌≡◌, ◌==◌, ◌<◌, ◌≤◌, length};
 ghost use Rattle.std.specs.List.{before_first, after_first, position_or_len};
 
+use memchr::memchr;
+
 // How many bytes stand before the first line feed.
 fn line_len(text: &[u8]) -> usize
     ensures value { result ≡ position_or_len (λ byte. byte == 10) text.now }
     ensures bound { result ≤ length text.now }
 {
-    for (place, byte) in text.iter().enumerate() {
-        if *byte == b'\n' {
-            return place;
-        }
-    }
-    text.len()
+    memchr(b'\n', text).unwrap_or(text.len())
 }
 
 /// Cuts a text after its first line, which loses its line feed.

@@ -142,6 +142,7 @@ fn respond<S: Source, K: Sink, L: BitLink>(
 /// form are `BadWords`, and nothing is read. `ReadFault` is returned if a read failed, `TooLong` if the input is longer, and
 /// `Memory` if no memory was found; then nothing is written. A refused input is `Refused`, also if its line couldn't be written
 /// whole. After any other failed write the status is `WriteFault`, and the sink has taken a prefix of the output.
+#[tactic(auto, using(crate::proofs::Outcomes::at_bad_words, crate::proofs::Outcomes::at_no_form, crate::proofs::Outcomes::at_unread, crate::proofs::Outcomes::at_taken, crate::proofs::Outcomes::at_unwritten, crate::proofs::Outcomes::at_read_fault, crate::proofs::Outcomes::at_read_count, crate::proofs::Outcomes::at_read_well, crate::proofs::Outcomes::at_too_long, crate::proofs::Outcomes::at_none_fits, crate::proofs::Outcomes::at_least_plan, crate::proofs::Outcomes::at_traced, crate::proofs::Outcomes::at_no_of, crate::proofs::Outcomes::at_write_count, crate::proofs::Outcomes::at_write_well, crate::proofs::Outcomes::at_refuses, crate::proofs::Outcomes::at_exceeds, crate::proofs::Outcomes::at_room))]
 pub fn sercos<S: Source, K: Sink, L: BitLink>(
     alloc: Global,
     words: &Words,
@@ -177,10 +178,10 @@ pub fn sercos<S: Source, K: Sink, L: BitLink>(
         (S.left source.old) (S.left source.new) (K.held sink.old) (K.held sink.new) }
     ensures no_of { result ≡ Status.No → (form_of words.now ≡ Some Form.Plan) ⊎ (form_of words.now ≡ Some Form.Check) }
 
-    // No comes from `plan` only where no plan fits the ring that was read, whatever plan it is; and Done only with the text
-    // of the least plan.
-    ensures none_fits { result ≡ Status.No → form_of words.now ≡ Some Form.Plan →
-        NonePlanned (S.left source.old) (S.left source.new) }
+    // No comes from `plan` only where no plan fits the ring that was read, whatever plan it is, and with the text of a chain that
+    // proves it; and Done only with the text of the least plan.
+    ensures none_fits { result ≡ Status.No → form_of words.now ≡ Some Form.Plan → NonePlanned
+        (S.left source.old) (S.left source.new) (K.held sink.old) (K.held sink.new) }
     ensures least { result ≡ Status.Done → form_of words.now ≡ Some Form.Plan → LeastPlanned
         (S.left source.old) (S.left source.new) (K.held sink.old) (K.held sink.new) }
 

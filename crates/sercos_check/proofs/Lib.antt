@@ -1,9 +1,10 @@
 mod AtLemmas
 mod CheckerLemmas
+mod FoundLemmas
 mod FrameLemmas
 mod LawLemmas
+mod RoundLemmas
 mod ShapeLemmas
-mod SlotLemmas
 mod StandsLemmas
 mod TestLemmas
 mod WorkedCaptures

@@ -1,4 +1,6 @@
+pub mod Found
 pub mod Kept
+pub mod Rounds
 pub mod Rules
 pub mod Seen
 pub mod Shape

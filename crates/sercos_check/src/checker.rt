@@ -6,6 +6,7 @@ ghost use Rattle.sercos_check.specs.declared.trouble.Trouble.{Trouble};
 ghost use Rattle.sercos_check.specs.Shape.{CanFollow, HeadStandsFor, IsReady};
 ghost use Rattle.sercos_check.specs.Verdicts.{rule_broken, IsClean, IsFault, IsTrouble, IsWhole, IsRefused, IsNext, AreSeen, CheckerStandsFor};
 
+use crate::drives::found_for;
 use crate::seen::Seen;
 use crate::shape::Head;
 use crate::trouble::Trouble;
@@ -43,8 +44,10 @@ fn keep(head: &Head, seen: &mut Seen, line: &Line) -> Option<u8>
 {
     match line {
         Line::Telegram { cycle, sent } => {
-            let rule = seen.broken(head.wishes(), *cycle, sent);
-            seen.note(head.wishes(), *cycle, sent);
+            let wishes = head.wishes();
+            let found = found_for(wishes, sent);
+            let rule = seen.broken(wishes, *cycle, sent, &found);
+            seen.note(wishes, *cycle, sent, &found);
             rule
         }
         _ => None,

@@ -1,6 +1,7 @@
 // What drives ask of the plan, by their addresses.
-ghost use Rattle.std.specs.Prelude.{◌≡◌, ◌*◌, slice_index};
-ghost use Rattle.sercos_check.specs.Seen.{drive_with, wish_for, is_drive, address_of, sender_of, mark_of, note_of};
+ghost use Rattle.std.specs.Prelude.{◌≡◌, ◌*◌, if◌then◌else◌, Some, None, slice_index};
+ghost use Rattle.sercos_check.specs.Seen.{drive_with, is_at, address_of, mark_of};
+ghost use Rattle.sercos_check.specs.Found.{found_for};
 
 use crate::marks::{Mark, Note};
 use sercos_telegram::Kind;
@@ -33,30 +34,6 @@ fn drive_with(drives: &[Wish], address: u8) -> Option<Wish>
     None
 }
 
-// What the drive with an address asks of the plan; all zeros for another address.
-pub fn wish_for(w: &Wishes, address: u8) -> Wish
-    ensures { result ≡ wish_for w.now address }
-{
-    match drive_with(w.drives(), address) {
-        Some(drive) => drive,
-        None => Wish::default(),
-    }
-}
-
-// Whether a drive has the address.
-pub fn is_drive(w: &Wishes, address: u8) -> bool
-    ensures { result ≡ is_drive w.now address }
-{
-    w.drives().iter().any(|drive| drive.address == address)
-}
-
-// What the drive that is addressed asks of the plan.
-pub fn wish_of(w: &Wishes, sent: &Sent) -> Wish
-    ensures { result ≡ wish_for w.now (address_of sent.now) }
-{
-    wish_for(w, address_of(sent))
-}
-
 // Microseconds in bit times.
 pub fn bit_times(w: &Wishes, micros: u16) -> u32
     ensures { result ≡ w.now.rate * micros }
@@ -74,20 +51,39 @@ pub fn mark_of(sent: &Sent) -> Mark
 }
 
 // The slave that sends an AT.
-pub fn sender_of(w: &Wishes, sent: &Sent) -> Option<u8>
-    ensures { result ≡ sender_of w.now sent.now }
+fn sender_of(kind: Kind, slave: u8) -> Option<u8>
+    ensures { result ≡ (if is_at kind then Some slave else None) }
 {
-    match sent.kind {
-        Kind::At => Some(wish_of(w, sent).slave),
+    match kind {
+        Kind::At => Some(slave),
         _ => None,
     }
 }
 
-pub fn note_of(w: &Wishes, sent: &Sent) -> Note
-    ensures { result ≡ note_of w.now sent.now }
+/// What the rules ask of a telegram and of the drive that it addresses, looked up once.
+#[derive(Clone, Copy)]
+pub struct Found {
+    /// Whether there is such a drive.
+    pub is_drive: bool,
+    /// What it asks of the plan; all zeros for another address.
+    pub wish: Wish,
+    /// What the rules for the next telegram need.
+    pub note: Note,
+}
+
+/// Looks up what the rules ask of a telegram.
+#[tactic(auto, using(crate::proofs::FoundLemmas::is_found))]
+pub fn found_for(w: &Wishes, sent: &Sent) -> Found
+    ensures { result ≡ found_for w.now sent.now }
 {
-    Note {
-        mark: mark_of(sent),
-        sender: sender_of(w, sent),
+    let drive = drive_with(w.drives(), address_of(sent));
+    let wish = drive.unwrap_or_default();
+    Found {
+        is_drive: drive.is_some(),
+        wish,
+        note: Note {
+            mark: mark_of(sent),
+            sender: sender_of(sent.kind, wish.slave),
+        },
     }
 }

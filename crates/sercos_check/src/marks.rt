@@ -22,6 +22,15 @@ pub struct Mark {
     pub bits: u32,
 }
 
+/// The place of a telegram, and the round in which it was noted.
+#[derive(Clone, Copy)]
+pub struct Noted {
+    /// The round.
+    pub round: u8,
+    /// The place.
+    pub mark: Mark,
+}
+
 /// What the rules for the next telegram need of a telegram.
 #[derive(Clone, Copy, Debug, PartialEq, Eq)]
 pub struct Note {

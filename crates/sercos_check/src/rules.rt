@@ -2,11 +2,13 @@
 ghost use Rattle.std.specs.Prelude.{◌≡◌, ◌<◌, ◌≤◌, length, not, IfSome};
 ghost use Rattle.std.specs.List.{position};
 ghost use Rattle.sercos_timing.specs.Valid.{IsValid};
+ghost use Rattle.sercos_timing.specs.Views.{WishesView};
 ghost use Rattle.sercos_check.specs.Seen.{phase_of};
+ghost use Rattle.sercos_check.specs.Found.{found_for};
 ghost use Rattle.sercos_check.specs.Rules.{is_next_cycle, is_same_cycle, starts_later, goes_on, keeps_frame, is_single, is_whole_at, is_joint, keeps_layout, is_next_phase, keeps_phase, start_of, keeps_start, is_cyclic, is_cyclic_at, is_cyclic_mdt, is_same_sender, gap_between, is_after_gap, keeps_gap, has_turn, keeps_end, first_broken};
 ghost use Rattle.sercos_hdlc.specs.Stuffed.{frame_of};
 
-use crate::drives::{address_of, bit_times, byte_at, is_drive, mark_of, sender_of, wish_of};
+use crate::drives::{Found, address_of, bit_times, byte_at, mark_of};
 use crate::marks::{Command, Note};
 use sercos_bits::{Content, MAX_CONTENT};
 use sercos_hdlc::frame_len;
@@ -98,18 +100,17 @@ pub fn keeps_frame(sent: &Sent) -> bool
 }
 
 // An AT or MDT of phases 1 and 2.
-fn is_single(w: &Wishes, sent: &Sent) -> bool
-    ensures { result ≡ is_single w.now sent.now }
+fn is_single(sent: &Sent, found: &Found) -> bool
+    ensures { (w : WishesView) → found.now ≡ found_for w sent.now → result ≡ is_single w sent.now }
 {
-    sent.content.len() == SINGLE_LEN && is_drive(w, address_of(sent))
+    sent.content.len() == SINGLE_LEN && found.is_drive
 }
 
 // An AT of phases 3 and 4.
-fn is_whole_at(w: &Wishes, sent: &Sent) -> bool
-    ensures { result ≡ is_whole_at w.now sent.now }
+fn is_whole_at(sent: &Sent, found: &Found) -> bool
+    ensures { (w : WishesView) → found.now ≡ found_for w sent.now → result ≡ is_whole_at w sent.now }
 {
-    let len = usize::from(wish_of(w, sent).at_len) + 1;
-    sent.content.len() == len && is_drive(w, address_of(sent))
+    sent.content.len() == usize::from(found.wish.at_len) + 1 && found.is_drive
 }
 
 // An MDT of phases 3 and 4.
@@ -122,20 +123,21 @@ fn is_joint(w: &Wishes, sent: &Sent) -> bool
 }
 
 // Rule 3: the content has the layout of its kind in this phase.
-pub fn keeps_layout(w: &Wishes, phase: u8, sent: &Sent) -> bool
+pub fn keeps_layout(w: &Wishes, phase: u8, sent: &Sent, found: &Found) -> bool
+    requires { found.now ≡ found_for w.now sent.now }
     ensures { result ≡ keeps_layout w.now phase sent.now }
 {
     match sent.kind {
         Kind::Mst => read_mst(sent.content.as_slice()).is_ok(),
         Kind::At => 0 < phase
             && if phase < CYCLIC_PHASE {
-                is_single(w, sent)
+                is_single(sent, found)
             } else {
-                is_whole_at(w, sent)
+                is_whole_at(sent, found)
             },
         Kind::Mdt => 0 < phase
             && if phase < CYCLIC_PHASE {
-                is_single(w, sent)
+                is_single(sent, found)
             } else {
                 is_joint(w, sent)
             },
@@ -162,24 +164,26 @@ pub fn keeps_phase(command: Option<Command>, sent: &Sent) -> bool
 }
 
 // When an AT starts.
-fn starts_at(w: &Wishes, phase: u8, sent: &Sent) -> bool
-    requires { sent.now.kind ≡ Kind.At }
+fn starts_at(w: &Wishes, phase: u8, sent: &Sent, found: &Found) -> bool
+    requires kind { sent.now.kind ≡ Kind.At }
+    requires found { found.now ≡ found_for w.now sent.now }
     ensures { result ≡ start_of sent.now.kind w.now phase sent.now }
 {
     if phase < CYCLIC_PHASE {
         i64::from(sent.start) == i64::from(bit_times(w, EARLY_AT))
     } else {
-        i64::from(bit_times(w, wish_of(w, sent).times.t1min)) <= i64::from(sent.start)
+        i64::from(bit_times(w, found.wish.times.t1min)) <= i64::from(sent.start)
     }
 }
 
 // Rule 5: the telegram starts when its kind may in this phase.
-pub fn keeps_start(w: &Wishes, phase: u8, sent: &Sent) -> bool
+pub fn keeps_start(w: &Wishes, phase: u8, sent: &Sent, found: &Found) -> bool
+    requires { found.now ≡ found_for w.now sent.now }
     ensures { result ≡ keeps_start w.now phase sent.now }
 {
     match sent.kind {
         Kind::Mst => mark_of(sent).ends_at_zero(),
-        Kind::At => starts_at(w, phase, sent),
+        Kind::At => starts_at(w, phase, sent, found),
         Kind::Mdt => phase >= CYCLIC_PHASE
             || i64::from(sent.start) == i64::from(bit_times(w, EARLY_MDT)),
     }
@@ -224,12 +228,13 @@ fn gap_between(w: &Wishes, sender: Option<u8>, next: Option<u8>) -> u32
     }
 }
 
-fn is_after_gap(w: &Wishes, newest: Option<Note>, sent: &Sent) -> bool
+fn is_after_gap(w: &Wishes, newest: Option<Note>, sent: &Sent, found: &Found) -> bool
+    requires { found.now ≡ found_for w.now sent.now }
     ensures { result ≡ is_after_gap w.now newest sent.now }
 {
     match newest {
         Some(note) => note.mark.is_after(
-            gap_between(w, note.sender, sender_of(w, sent)),
+            gap_between(w, note.sender, found.note.sender),
             i64::from(sent.start),
         ),
         None => true,
@@ -237,10 +242,11 @@ fn is_after_gap(w: &Wishes, newest: Option<Note>, sent: &Sent) -> bool
 }
 
 // Rule 6: the gap is kept after the telegram before.
-pub fn keeps_gap(w: &Wishes, phase: u8, newest: Option<Note>, sent: &Sent) -> bool
+pub fn keeps_gap(w: &Wishes, phase: u8, newest: Option<Note>, sent: &Sent, found: &Found) -> bool
+    requires { found.now ≡ found_for w.now sent.now }
     ensures { result ≡ keeps_gap w.now phase newest sent.now }
 {
-    !is_cyclic(phase, sent.kind) || is_after_gap(w, newest, sent)
+    !is_cyclic(phase, sent.kind) || is_after_gap(w, newest, sent, found)
 }
 
 // Whether there is room for the gap, and for each drive's TMTSY, between an MDT and the next MST.

@@ -1,14 +1,17 @@
 // What is kept of the telegrams of a capture.
-ghost use Rattle.std.specs.Prelude.{◌≡◌, ℕ, ◌<◌, ◌&&◌, List, [], ◌∷◌, length, false, None, slice_index_or};
+ghost use Rattle.std.specs.Prelude.{◌≡◌, ℕ, ◌<◌, ◌&&◌, List, [], ◌∷◌, length, false, None};
+ghost use Rattle.std.specs.List.{All};
 ghost use Rattle.sercos_telegram.specs.declared.layout.Kind.TheVariants as telegram;
 ghost use Rattle.sercos_timing.specs.Valid.{IsValid};
 ghost use Rattle.sercos_timing.specs.Views.{WishesView};
 ghost use Rattle.sercos_check.specs.Seen.{Told, address_of, slave_of, phase_of};
 ghost use Rattle.sercos_check.specs.Rules.{first_broken, broken_rule};
-ghost use Rattle.sercos_check.specs.Kept.{is_from, SeenStandsFor, is_alone_by, goes_on_by, order_by, recovery_by, transition_by, kept_by, IsBegun, later, with_address, with_at, with_mdt};
+ghost use Rattle.sercos_check.specs.Kept.{is_from, heard_in, mark_in, SeenStandsFor, is_alone_by, goes_on_by, order_by, recovery_by, transition_by, kept_by, IsBegun, later, with_address, with_at, with_mdt};
+ghost use Rattle.sercos_check.specs.Rounds.{is_no_later, was_noted};
+ghost use Rattle.sercos_check.specs.Found.{found_for};
 
-use crate::drives::{address_of, bit_times, byte_at, mark_of, note_of, wish_of};
-use crate::marks::{Command, Mark, Note, is_after_mark};
+use crate::drives::{Found, address_of, bit_times, byte_at};
+use crate::marks::{Command, Mark, Note, Noted, is_after_mark};
 use crate::rules::{
     first_broken, goes_on, is_cyclic_at, is_cyclic_mdt, is_next_cycle, keeps_end, keeps_frame,
     keeps_gap, keeps_layout, keeps_phase, keeps_start, phase_of,
@@ -21,6 +24,12 @@ use std::marker::Model;
 // The number of different bytes.
 const BYTES: usize = 256;
 
+// What is noted before the first round.
+const NOTHING: Noted = Noted {
+    round: 0,
+    mark: Mark { start: 0, bits: 0 },
+};
+
 /// What the rules need of the telegrams of a capture so far. It stands for a list of telegrams, the newest first: those
 /// that [`note`](Seen::note) has taken. Each call speaks of every such list. No call takes memory.
 #[derive(Drop)]
@@ -30,23 +39,27 @@ pub struct Seen {
     // all else is of its cycle: the newest telegram, and whether there is an MDT
     newest: Option<Note>,
     mdt: bool,
-    // whether an AT came from each address byte
-    heard: [bool; BYTES],
-    // the newest AT of each slave
-    marks: [Option<Mark>; BYTES],
+    // the round, which rises at each MST: what was noted in an earlier one counts as nothing
+    round: u8,
+    // the last round in which an AT came from each address byte
+    heard: [u8; BYTES],
+    // the newest AT of each slave, and its round
+    marks: [Noted; BYTES],
     // the bit time at which the transition of each AT has passed
     free_at: Option<i64>,
 }
 
 impl Model for Seen {
-    ghost use Rattle.std.specs.Prelude.{◌≡◌, length};
+    ghost use Rattle.std.specs.Prelude.{◌≡◌, length, map};
+    ghost use Rattle.std.specs.List.{All};
     ghost use Rattle.sercos_check.specs.Kept.{SeenState};
+    ghost use Rattle.sercos_check.specs.Rounds.{is_round, mark_of_round, is_no_later, was_noted};
 
     ghost Value = { SeenState };
 
-    ghost view = { λ v. record { command = v.command; newest = v.newest; mdt = v.mdt; heard = v.heard; marks = v.marks; free_at = v.free_at } };
+    ghost view = { λ v. record { command = v.command; newest = v.newest; mdt = v.mdt; heard = map (is_round v.round) v.heard; marks = map (mark_of_round v.round) v.marks; free_at = v.free_at } };
 
-    ghost invariant = { λ v. (length v.heard ≡ 256) × (length v.marks ≡ 256) };
+    ghost invariant = { λ v. (length v.heard ≡ 256) × (length v.marks ≡ 256) × All (is_no_later v.round) v.heard × All (was_noted v.round) v.marks };
 }
 
 // The later one of two times, the first of which may be missing.
@@ -65,18 +78,18 @@ fn later(free_at: Option<i64>, time: i64) -> Option<i64>
     }
 }
 
-// No address byte sent an AT.
-fn none_heard() -> [bool; BYTES]
-    ensures { (address : ℕ) → slice_index_or result address false ≡ false }
+// Before the first round: no address byte sent an AT.
+fn none_heard() -> [u8; BYTES]
+    ensures { All (is_no_later 0) result }
 {
-    [false; BYTES]
+    [0; BYTES]
 }
 
-// No slave sent an AT.
-fn none_marked() -> [Option<Mark>; BYTES]
-    ensures { (slave : ℕ) → slice_index_or result slave None ≡ None }
+// Before the first round: no slave sent an AT.
+fn none_marked() -> [Noted; BYTES]
+    ensures { All (was_noted 0) result }
 {
-    [None; BYTES]
+    [NOTHING; BYTES]
 }
 
 impl Seen {
@@ -88,6 +101,7 @@ impl Seen {
             command: None,
             newest: None,
             mdt: false,
+            round: 1,
             heard: none_heard(),
             marks: none_marked(),
             free_at: None,
@@ -104,7 +118,7 @@ impl Seen {
     fn is_alone(&self, sent: &Sent) -> bool
         ensures { result ≡ is_alone_by self.now sent.now }
     {
-        sent.content.is_empty() || !self.heard[usize::from(address_of(sent))]
+        sent.content.is_empty() || self.heard[usize::from(address_of(sent))] != self.round
     }
 
     // Rule 1: the telegrams come in order.
@@ -118,13 +132,26 @@ impl Seen {
         }
     }
 
+    // The newest AT of a slave in this cycle.
+    fn mark_of(&self, slave: u8) -> Option<Mark>
+        ensures { result ≡ mark_in self.now slave }
+    {
+        let noted = self.marks[usize::from(slave)];
+        if noted.round == self.round {
+            Some(noted.mark)
+        } else {
+            None
+        }
+    }
+
     // Rule 7: an AT of phases 3 and 4 leaves its slave time to recover from the AT before.
-    fn keeps_recovery(&self, w: &Wishes, phase: u8, sent: &Sent) -> bool
-        requires { phase ≡ phase_of self.now.command }
+    fn keeps_recovery(&self, w: &Wishes, phase: u8, sent: &Sent, found: &Found) -> bool
+        requires phase { phase ≡ phase_of self.now.command }
+        requires found { found.now ≡ found_for w.now sent.now }
         ensures { result ≡ recovery_by self.now w.now sent.now }
     {
-        let wish = wish_of(w, sent);
-        let mark = self.marks[usize::from(wish.slave)];
+        let wish = &found.wish;
+        let mark = self.mark_of(wish.slave);
         !is_cyclic_at(phase, sent.kind)
             || is_after_mark(mark, bit_times(w, wish.times.tatat), i64::from(sent.start))
     }
@@ -148,19 +175,20 @@ impl Seen {
     }
 
     // The lowest rule that a telegram breaks, by what is kept.
-    fn broken_by(&self, w: &Wishes, cycle: u32, sent: &Sent) -> Option<u8>
-        requires { IsValid w.now }
+    fn broken_by(&self, w: &Wishes, cycle: u32, sent: &Sent, found: &Found) -> Option<u8>
+        requires valid { IsValid w.now }
+        requires found { found.now ≡ found_for w.now sent.now }
         ensures { result ≡ first_broken (kept_by self.now w.now cycle sent.now) }
     {
         let phase = phase_of(self.command);
         let kept = [
             self.keeps_order(cycle, sent),
             keeps_frame(sent),
-            keeps_layout(w, phase, sent),
+            keeps_layout(w, phase, sent, found),
             keeps_phase(self.command, sent),
-            keeps_start(w, phase, sent),
-            keeps_gap(w, phase, self.newest, sent),
-            self.keeps_recovery(w, phase, sent),
+            keeps_start(w, phase, sent, found),
+            keeps_gap(w, phase, self.newest, sent, found),
+            self.keeps_recovery(w, phase, sent, found),
             self.keeps_transition(phase, sent),
             keeps_end(w, phase, sent),
         ];
@@ -168,78 +196,100 @@ impl Seen {
     }
 
     // The address of a telegram is a byte, and so is its slave.
-    fn show_bytes(w: &Wishes, sent: &Sent)
+    fn show_bytes(sent: &Sent, found: &Found)
         ensures address { address_of sent.now < 256 }
-        ensures slave { slave_of w.now sent.now < 256 }
+        ensures slave { found.now.wish.slave < 256 }
     {
         let _address = address_of(sent);
-        let _slave = wish_of(w, sent).slave;
+        let _slave = found.wish.slave;
     }
 
     /// Returns the lowest rule, 1 to 9, that a telegram breaks after those so far; `None` if it keeps all. The rules are those
     /// of this profile on order, frame, layout, phase, start, gap, recovery, transition and end.
     #[tactic(auto, using(crate::proofs::StandsLemmas::broken_stands))]
-    pub fn broken(&self, w: &Wishes, cycle: u32, sent: &Sent) -> Option<u8>
-        requires { IsValid w.now }
+    pub fn broken(&self, w: &Wishes, cycle: u32, sent: &Sent, found: &Found) -> Option<u8>
+        requires valid { IsValid w.now }
+        requires found { found.now ≡ found_for w.now sent.now }
         ensures { (before : List Told) → SeenStandsFor self.now w.now before → result ≡ broken_rule w.now before (record { cycle = cycle; sent = sent.now }) }
     {
-        Seen::show_bytes(w, sent);
-        self.broken_by(w, cycle, sent)
+        Seen::show_bytes(sent, found);
+        self.broken_by(w, cycle, sent, found)
+    }
+
+    // Begins a round, so that nothing noted so far counts. It is cleared only where the numbers of rounds are used up.
+    fn forget(&mut self)
+        ensures heard { (address : ℕ) → heard_in self.new address ≡ false }
+        ensures marks { (slave : ℕ) → mark_in self.new slave ≡ None }
+        ensures same { self.new ≡ record self.old { heard = self.new.heard; marks = self.new.marks } }
+    {
+        if self.round < u8::MAX {
+            self.round += 1;
+        } else {
+            self.round = 1;
+            self.heard = none_heard();
+            self.marks = none_marked();
+        }
     }
 
     // A cycle begins with an MST.
-    fn begin(&mut self, w: &Wishes, cycle: u32, sent: &Sent)
-        ensures { IsBegun self.new w.now cycle sent.now }
+    fn begin(&mut self, cycle: u32, sent: &Sent, found: &Found)
+        ensures { (w : WishesView) → found.now ≡ found_for w sent.now → IsBegun self.new w cycle sent.now }
     {
         self.command = Some(Command {
             cycle,
             phase: byte_at(sent.content.as_slice(), 1),
         });
-        self.newest = Some(note_of(w, sent));
+        self.newest = Some(found.note);
         self.mdt = false;
-        self.heard = none_heard();
-        self.marks = none_marked();
+        self.forget();
         self.free_at = None;
     }
 
     // Notes the address byte of an AT.
+    #[tactic(auto, using(crate::proofs::RoundLemmas::heard_now))]
     fn hear(&mut self, sent: &Sent)
         ensures { self.new ≡ record self.old { heard = with_address self.old.heard sent.now } }
     {
         if !sent.content.is_empty() {
-            self.heard[usize::from(address_of(sent))] = true;
+            self.heard[usize::from(address_of(sent))] = self.round;
         }
     }
 
-    fn note_at(&mut self, w: &Wishes, sent: &Sent)
+    #[tactic(auto, using(crate::proofs::RoundLemmas::marked_now))]
+    fn note_at(&mut self, w: &Wishes, sent: &Sent, found: &Found)
+        requires { found.now ≡ found_for w.now sent.now }
         ensures view { self.new ≡ with_at self.old w.now sent.now }
         ensures heard { length self.old.heard ≡ 256 }
         ensures marks { length self.old.marks ≡ 256 }
     {
-        let wish = wish_of(w, sent);
-        let mark = mark_of(sent);
+        let wish = &found.wish;
+        let mark = found.note.mark;
         self.hear(sent);
-        self.newest = Some(note_of(w, sent));
-        self.marks[usize::from(wish.slave)] = Some(mark);
+        self.newest = Some(found.note);
+        self.marks[usize::from(wish.slave)] = Noted {
+            round: self.round,
+            mark,
+        };
         self.free_at = later(self.free_at, mark.after(bit_times(w, wish.times.tatmt)));
     }
 
-    fn note_mdt(&mut self, w: &Wishes, sent: &Sent)
-        ensures { self.new ≡ with_mdt self.old w.now sent.now }
+    fn note_mdt(&mut self, sent: &Sent, found: &Found)
+        ensures { (w : WishesView) → found.now ≡ found_for w sent.now → self.new ≡ with_mdt self.old w sent.now }
     {
-        self.newest = Some(note_of(w, sent));
+        self.newest = Some(found.note);
         self.mdt = true;
     }
 
     /// Takes a telegram as the newest one, also if it breaks a rule.
-    pub fn note(&mut self, w: &Wishes, cycle: u32, sent: &Sent)
+    pub fn note(&mut self, w: &Wishes, cycle: u32, sent: &Sent, found: &Found)
+        requires { found.now ≡ found_for w.now sent.now }
         ensures { (before : List Told) → SeenStandsFor self.old w.now before → SeenStandsFor self.new w.now (record { cycle = cycle; sent = sent.now } ∷ before) }
     {
-        Seen::show_bytes(w, sent);
+        Seen::show_bytes(sent, found);
         match sent.kind {
-            Kind::Mst => self.begin(w, cycle, sent),
-            Kind::At => self.note_at(w, sent),
-            Kind::Mdt => self.note_mdt(w, sent),
+            Kind::Mst => self.begin(cycle, sent, found),
+            Kind::At => self.note_at(w, sent, found),
+            Kind::Mdt => self.note_mdt(sent, found),
         }
     }
 }

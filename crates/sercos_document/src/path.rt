@@ -47,7 +47,7 @@ impl Path {
 
     /// The path of a key in the table at a place. The error is want of memory.
     #[tactic(auto, unfolding(crate::specs::Paths::path))]
-    pub fn to_key(alloc: Global, place: Place, key: &str) -> Result<Path, AllocError>
+    pub(crate) fn to_key(alloc: Global, place: Place, key: &str) -> Result<Path, AllocError>
         ensures { IfOk result (λ p. p ≡ path place key.now) }
     {
         let mut text = String::new(alloc);
@@ -58,7 +58,12 @@ impl Path {
 
     /// The path of an item in the list under a key. The error is want of memory.
     #[tactic(auto, unfolding(crate::specs::Paths::item_path))]
-    pub fn to_item(alloc: Global, place: Place, key: &str, item: usize) -> Result<Path, AllocError>
+    pub(crate) fn to_item(
+        alloc: Global,
+        place: Place,
+        key: &str,
+        item: usize,
+    ) -> Result<Path, AllocError>
         ensures { IfOk result (λ p. p ≡ item_path place key.now item) }
     {
         let mut text = String::new(alloc);

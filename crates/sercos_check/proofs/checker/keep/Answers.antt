@@ -2,10 +2,10 @@ use Rattle.sercos_check.proofs.CheckerLemmas.{telegram_rule, telegram_seen, othe
 use Rattle.sercos_check.proofs.checker.keep.Goals as goal
 
 pub returns-in-Telegram-clause-rule : goal.returns-in-Telegram-clause-rule
-returns-in-Telegram-clause-rule c = rw c.in-Telegram.is (λ lines stands can seen. telegram_rule lines _ _ _ _ _ (c.wishes.ensures.value _ stands) c.broken-rule.ensures seen)
+returns-in-Telegram-clause-rule c = rw c.in-Telegram.is (λ lines stands can seen. telegram_rule lines _ _ _ _ _ (c.wishes-wishes.ensures.value _ stands) c.broken-rule.ensures seen)
 
 pub returns-in-Telegram-clause-seen : goal.returns-in-Telegram-clause-seen
-returns-in-Telegram-clause-seen c = rw c.in-Telegram.is (λ lines stands can seen. telegram_seen lines _ _ _ _ _ (c.wishes-in-Telegram.ensures.value _ stands) c.note.ensures seen)
+returns-in-Telegram-clause-seen c = rw c.in-Telegram.is (λ lines stands can seen. telegram_seen lines _ _ _ _ _ (c.wishes-wishes.ensures.value _ stands) c.note.ensures seen)
 
 pub returns-in_default : goal.returns-in_default
 returns-in_default c = record {

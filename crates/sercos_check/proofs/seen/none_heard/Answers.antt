@@ -1,5 +1,7 @@
-use Rattle.sercos_check.proofs.SlotLemmas.{same_in_all}
+use Rattle.std.proofs.Common.{arith}
+use Rattle.std.proofs.lemmas.List.Elements.{All-replicate}
+use Rattle.sercos_check.specs.Rounds.{is_no_later}
 use Rattle.sercos_check.proofs.seen.none_heard.Goals as goal
 
 pub returns : goal.returns
-returns c = λ i. same_in_all 256 i _
+returns c = All-replicate (is_no_later 0) 256 0 (omega arith)
