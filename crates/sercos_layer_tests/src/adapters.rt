@@ -1,5 +1,5 @@
 // The adapters over std's readers and writers, over fakes that interrupt, fail and take nothing.
-use sercos_io::{Sink, Source, StdSink, StdSource};
+use sercos_io::{ReadFailed, Sink, Source, StdSink, StdSource, WriteFailed};
 use std::io;
 use std::io::{ErrorKind, Read, Write};
 
@@ -25,19 +25,56 @@ impl Read for Stuttering {
     }
 }
 
-// A writer whose first calls are interrupted, and which then takes no byte.
+// A reader that fails at its first call; each later call gives its own number as a byte.
 #[derive(Drop)]
-struct Stuck {
-    interrupted: u32,
+struct FailsFirst {
+    calls: u8,
 }
 
-impl Write for Stuck {
-    fn write(&mut self, _buf: &[u8]) -> io::Result<usize> {
+impl Read for FailsFirst {
+    fn read(&mut self, buf: &mut [u8]) -> io::Result<usize> {
+        self.calls = self.calls.saturating_add(1);
+        if self.calls == 1 || buf.is_empty() {
+            return Err(io::Error::from(ErrorKind::BrokenPipe));
+        }
+        buf[0] = self.calls;
+        Ok(1)
+    }
+}
+
+// A writer that counts its calls. The first `interrupted` calls are interrupted, the next `failing` fail, and each later one
+// takes `takes` bytes.
+#[derive(Drop)]
+struct Recovering {
+    interrupted: u32,
+    failing: u32,
+    takes: usize,
+    calls: u32,
+}
+
+impl Recovering {
+    fn new(interrupted: u32, failing: u32, takes: usize) -> Recovering {
+        Recovering {
+            interrupted,
+            failing,
+            takes,
+            calls: 0,
+        }
+    }
+}
+
+impl Write for Recovering {
+    fn write(&mut self, buf: &[u8]) -> io::Result<usize> {
+        self.calls = self.calls.saturating_add(1);
         if self.interrupted > 0 {
             self.interrupted -= 1;
             return Err(io::Error::from(ErrorKind::Interrupted));
         }
-        Ok(0)
+        if self.failing > 0 {
+            self.failing -= 1;
+            return Err(io::Error::from(ErrorKind::BrokenPipe));
+        }
+        Ok(self.takes.min(buf.len()))
     }
 
     fn flush(&mut self) -> io::Result<()> {
@@ -70,13 +107,55 @@ fn interrupted_reads(rt: HostRuntime) {
 }
 
 #[test]
-fn writes_of_nothing(rt: HostRuntime) {
-    for interrupted in [0, 5, 1000] {
-        let mut sink = StdSink::new(Stuck { interrupted });
-        assert!(rt; sink.write(b"a").is_err(), "after {interrupted}");
+fn interrupted_writes(rt: HostRuntime) {
+    // How often the first call is interrupted, and whether it then writes its byte.
+    for (interrupted, takes) in [(0, true), (5, true), (999, true), (1000, false)] {
+        let mut sink = StdSink::new(Recovering::new(interrupted, 0, 1));
+        assert_eq!(rt; sink.write(b"ab").is_ok(), takes, "after {interrupted}");
+        // The next call isn't interrupted.
+        assert_eq!(rt; sink.write(b"ab"), Ok(1), "after {interrupted}");
     }
-    let mut sink = StdSink::new(Stuck { interrupted: 0 });
-    assert!(rt; sink.write(b"").is_ok());
+}
+
+// A failed call isn't made again: the reader and the writer would succeed at their second call.
+#[test]
+fn failures(rt: HostRuntime) {
+    let mut source = StdSource::new(FailsFirst { calls: 0 });
+    let mut piece = [0u8; 4];
+    assert_eq!(rt; source.read(&mut piece), Err(ReadFailed));
+    assert_eq!(rt; source.read(&mut piece), Ok(1));
+    assert_eq!(rt; piece[0], 2);
+    // How often the call is interrupted before the writer fails.
+    for interrupted in [0, 5] {
+        let mut writer = Recovering::new(interrupted, 1, 1);
+        assert_eq!(rt;
+            StdSink::new(&mut writer).write(b"a"),
+            Err(WriteFailed),
+            "after {interrupted}"
+        );
+        assert_eq!(rt; writer.calls, interrupted + 1);
+        assert_eq!(rt;
+            StdSink::new(&mut writer).write(b"a"),
+            Ok(1),
+            "after {interrupted}"
+        );
+    }
+}
+
+#[test]
+fn writes_of_nothing(rt: HostRuntime) {
+    // How often the call is interrupted before the writer takes nothing, and how many calls it gets.
+    for (interrupted, calls) in [(0, 1), (5, 6), (1000, 1000)] {
+        let mut writer = Recovering::new(interrupted, 0, 0);
+        assert_eq!(rt;
+            StdSink::new(&mut writer).write(b"a"),
+            Err(WriteFailed),
+            "after {interrupted}"
+        );
+        assert_eq!(rt; writer.calls, calls);
+    }
+    let mut sink = StdSink::new(Recovering::new(0, 0, 0));
+    assert_eq!(rt; sink.write(b""), Ok(0));
 }
 
 #[test]
