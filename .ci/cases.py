@@ -1,8 +1,9 @@
 #!/usr/bin/env python3
 """Runs a program on each case of a folder: cases.py PROGRAM FOLDER
 
-A case is a folder with the files `words` (one a line; none: no words), `stdin` (none: empty), `stdout` (none: nothing)
-and `status` (none: 0). On standard error the program names a status other than 0.
+A case is a folder with the files `words` (one a line, of any bytes; none: no words), `stdin` (none: empty), `stdout` (none:
+nothing) and `status` (none: 0). On standard error the program names a status other than 0. Where there is a file `call`,
+it is a line for bash that starts the program and its words, "$@", with other streams or limits.
 
 Where only some lines of the output are known, `lines` stands in place of `stdout`. It has patterns of lines, with *, ?
 and [..], that are among the output in this order. Of the words r, plan, stop, fall and end, each that begins a pattern
@@ -21,7 +22,7 @@ import sys
 STATUS = ["Done", "No", "BadWords", "Refused", "ReadFault", "WriteFault", "Memory", "TooLong"]
 # The first words of lines that a case names all of, if it names one.
 WHOLE = {"r", "plan", "stop", "fall", "end"}
-READERS = ["plan", "run"]
+READERS = [b"plan", b"run"]
 VERDICTS = {"clean": 0, "violation": 1, "refused": 3}
 
 
@@ -62,12 +63,13 @@ def other_lines(wanted, only, none):
 
 
 def folder_case(case):
-    words = patterns(case / "words")
+    words = read(case / "words", b"").splitlines()
     if (case / "lines").exists():
         test = other_lines(patterns(case / "lines"), patterns(case / "only"), patterns(case / "none"))
     else:
         test = other_output(read(case / "stdout", b""))
-    return case.name, words, read(case / "stdin", b""), test, int(read(case / "status", b"0"))
+    call = read(case / "call", b"").strip()
+    return case.name, call, words, read(case / "stdin", b""), test, int(read(case / "status", b"0"))
 
 
 def parts(sheet):
@@ -81,14 +83,15 @@ def parts(sheet):
 def refusal_cases(sheet):
     for name, refusal, document in parts(sheet):
         for word in READERS:
-            yield f"{sheet.stem} {name} {word}", [word], document.encode(), other_output(refusal.encode() + b"\n"), 3
+            wanted = other_output(refusal.encode() + b"\n")
+            yield f"{sheet.stem} {name} {word.decode()}", b"", [word], document.encode(), wanted, 3
 
 
 def capture_cases(sheet):
     for name, answer, capture in parts(sheet):
         source = capture.rstrip("\n") + "\n" if capture else ""
         status = VERDICTS[answer.split(" ")[0]]
-        yield f"{sheet.stem} {name}", ["check"], source.encode(), other_output(answer.encode() + b"\n"), status
+        yield f"{sheet.stem} {name}", b"", [b"check"], source.encode(), other_output(answer.encode() + b"\n"), status
 
 
 SHEETS = {"refusals": refusal_cases, "captures": capture_cases}
@@ -103,17 +106,18 @@ def cases(folder):
             yield from cases_of(sheet)
 
 
-def faults(program, words, source, test, status):
+def faults(program, call, words, source, test, status):
     name = b"" if status == 0 else STATUS[status].encode() + b"\n"
-    run = subprocess.run([program] + words, input=source, capture_output=True, timeout=60)
+    start = ["bash", "-c", call, "bash"] if call else []
+    run = subprocess.run(start + [program] + words, input=source, capture_output=True, timeout=60)
     if run.returncode != status:
         yield f"status {run.returncode}, wanted {status}"
     yield from test(run.stdout)
     if run.stderr != name:
         yield f"standard error {run.stderr[:300]!r}, wanted {name!r}"
-    if words == ["run"] and status == 0:
+    if words == [b"run"] and status == 0:
         clean = other_output(b"clean %d\n" % run.stdout.count(b"\n"))
-        yield from faults(program, ["check"], run.stdout, clean, 0)
+        yield from faults(program, b"", [b"check"], run.stdout, clean, 0)
 
 
 def main():
