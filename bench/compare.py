@@ -1,14 +1,15 @@
 #!/usr/bin/env python3
-"""Compares two programs on random rings, or on random captures:
+"""Compares two programs on random rings, on random captures, or on random lines of `show`:
 
 compare.py ONE OTHER FIRST COUNT [JOBS]
 compare.py --captures RUN ONE OTHER FIRST COUNT [JOBS]
+compare.py --show ONE OTHER FIRST COUNT [JOBS]
 
 ONE and OTHER are commands that read a ring document, such as `crates/sercos/out/sercos run`. For each of the COUNT seeds
 from FIRST on, both are given the document of the seed. With `--captures` they read a capture, as `sercos check` does: both
-are given a capture made from the trace that the command RUN writes of the document. Of each input on which they differ, in
-output or status, the first line that differs is printed, and at the end what occurred in the outputs of ONE. Ends with 0
-where none differs.
+are given a capture made from the trace that the command RUN writes of the document. With `--show` they read lines as
+`sercos show` does: both are given those of the seed. Of each input on which they differ, in output or status, the first line
+that differs is printed, and at the end what occurred in the outputs of ONE. Ends with 0 where none differs.
 """
 import collections
 import concurrent.futures
@@ -16,6 +17,7 @@ import shlex
 import subprocess
 import sys
 
+import random_lines
 from random_captures import capture
 from random_rings import document
 
@@ -24,7 +26,7 @@ SECONDS = 600
 
 def answer(command, source):
     run = subprocess.run(shlex.split(command), input=source, capture_output=True, timeout=SECONDS)
-    return run.returncode, run.stdout.decode(errors="replace").splitlines()
+    return run.returncode, run.stdout.decode("latin-1").split("\n")
 
 
 def difference(one, other):
@@ -40,8 +42,8 @@ def difference(one, other):
 
 
 def occurs_in(status, lines):
-    """What a trace or a verdict shows, each named once."""
-    if status == 1 and len(lines) == 1:
+    """What a trace, a verdict or the answers of `show` have, each named once."""
+    if status == 1 and len(lines) == 2:
         return {" ".join(lines[0].split(" ")[3:])}
     if status:
         return {f"status {status}"}
@@ -58,44 +60,47 @@ def occurs_in(status, lines):
             found.add("request " + words[3])
         elif words[0] == "end" and words[-1] != "0":
             found.add("unseen")
-        elif words[0] == "clean":
-            found.add("clean")
+        elif words[0] in ("error", "layout"):
+            found.add(" ".join(words[:3]))
+        elif words[0] in ("clean", "ok", "mst", "single", "at"):
+            found.add(words[0])
     return found
 
 
-def source_of(run, seed):
-    """The document of a seed, or the capture made from its trace."""
-    source = document(seed)
-    if run is None:
-        return source
-    return capture(seed, "\n".join(answer(run, source.encode())[1]))
+def source_of(words, seed):
+    """What both are given for a seed: lines, a document, or a capture made from its trace."""
+    if words[0] == "--show":
+        return random_lines.source(seed)
+    source = document(seed).encode()
+    if words[0] == "--captures":
+        return capture(seed, "\n".join(answer(words[1], source)[1])).encode()
+    return source
 
 
-def compared(run, one, other, seed):
-    source = source_of(run, seed).encode()
-    answers = answer(one, source), answer(other, source)
+def compared(words, seed):
+    """Both answers to a seed. The words are those before FIRST."""
+    source = source_of(words, seed)
+    answers = [answer(command, source) for command in words[-2:]]
     return seed, difference(*answers), occurs_in(*answers[0])
 
 
 def main():
     words = sys.argv[1:]
-    run = None
-    if words[0] == "--captures":
-        run, words = words[1], words[2:]
-    one, other, first, count = words[:4]
-    jobs = int(words[4]) if len(words) > 4 else 2
-    seeds = range(int(first), int(first) + int(count))
+    commands = {"--captures": 4, "--show": 3}.get(words[0], 2)
+    words, numbers = words[:commands], [int(word) for word in words[commands:]]
+    first, count = numbers[:2]
+    jobs = numbers[2] if len(numbers) > 2 else 2
     counts = collections.Counter()
     differ = 0
     with concurrent.futures.ThreadPoolExecutor(jobs) as pool:
-        for seed, found, occurred in pool.map(lambda seed: compared(run, one, other, seed), seeds):
+        for seed, found, occurred in pool.map(lambda seed: compared(words, seed), range(first, first + count)):
             counts.update(occurred)
             if found:
                 differ += 1
                 print(f"seed {seed}: {found}", flush=True)
     for name in sorted(counts):
         print(f"{counts[name]:6} {name}")
-    print(f"{len(seeds)} compared, {differ} differ")
+    print(f"{count} compared, {differ} differ")
     return 1 if differ else 0
 
 

@@ -25,3 +25,11 @@ def frame_bits(content):
                 bits.append(0)
                 ones = 0
     return FLAG + bits + FLAG
+
+
+def bits_line(kind, bits):
+    """The line of `show` for some bits."""
+    spelled = bytearray((len(bits) + 7) // 8)
+    for place, bit in enumerate(bits):
+        spelled[place // 8] |= bit << place % 8
+    return b"%s %d %s" % (kind, len(bits), spelled.hex().encode() or b"-")
