@@ -20,9 +20,9 @@ use Rattle.sercos_master.specs.Annals.{Past, Call, past, outcomes, IsPlanned}
 use Rattle.sercos_master.specs.Reports.{plan_told, restart_told}
 use Rattle.sercos_telegram.specs.declared.layout.Kind.TheVariants as kinds
 use Rattle.sercos_script.specs.Links.{Carry, Restarts}
-use Rattle.sercos_ring.specs.Arrivals.{passage, sum_below, unseen_at}
-use Rattle.sercos_ring.specs.Records.{ats_in, is_at, mst_in, mdt_in}
-use Rattle.sercos_ring.specs.Runs.{IsNext, unseen_ats, unseen_mst, unseen_mdt, station_of, looks_back, middle, restart_events, no_events, master_calls}
+use Rattle.sercos_journal.specs.Arrivals.{passage, sum_below, unseen_at}
+use Rattle.sercos_journal.specs.Records.{ats_in, is_at, mst_in, mdt_in}
+use Rattle.sercos_journal.specs.Runs.{IsNext, unseen_ats, unseen_mst, unseen_mdt, station_of, looks_back, middle, restart_events, no_events, master_calls}
 
 -- Unseen arrivals: one at most for each passage.
 at_most_one : (b : Bool) → (if b then 1 else 0) ≤ 1

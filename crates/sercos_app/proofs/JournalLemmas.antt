@@ -19,7 +19,7 @@ use Rattle.sercos_trace.specs.Written.{Seen, HasTaken, HasFailed}
 use Rattle.sercos_trace.specs.declared.record.Totals.{Totals}
 use Rattle.sercos_app.proofs.PartLemmas.{taken_none, taken_then, failed_early, failed_later}
 use Rattle.sercos_script.specs.Links.{Carry, Restarts}
-use Rattle.sercos_ring.specs.Runs.{IsRun, run_of, next_record}
+use Rattle.sercos_journal.specs.Runs.{IsRun, run_of, next_record}
 use Rattle.sercos_app.specs.Totals.{totals_of, falls_in}
 use Rattle.sercos_app.specs.Counting.{HasRoom, IsFew, none_made, with_cycle}
 use Rattle.sercos_app.specs.Journals.{IsRingOf, OfRun, Journal, AreFew, HasCounted, HasWritten, HasStopped, WritesCycles, HasMade, cycles_text, journal_text}

@@ -18,5 +18,6 @@ pub mod TotalsLemmas
 pub mod PartLemmas
 pub mod JournalLemmas
 pub mod RunLemmas
+pub mod OpenedLemmas
 mod WorkedSummary
 mod WorkedLines

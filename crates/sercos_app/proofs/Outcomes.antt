@@ -25,7 +25,7 @@ use Rattle.sercos_plan.specs.ChainOf.{planned}
 use Rattle.sercos_step.specs.declared.request.Job.{Job}
 use Rattle.sercos_block.specs.Views.{RingView}
 use Rattle.sercos_block.specs.Rings.{wishes_of}
-use Rattle.sercos_ring.specs.Runs.{run_of}
+use Rattle.sercos_journal.specs.Runs.{run_of}
 use Rattle.sercos_document.specs.declared.refusal.BadDocument.{BadDocument}
 use Rattle.sercos_config.specs.Views.{DocumentView}
 use Rattle.sercos_config.specs.Document.{document_of}
@@ -486,7 +486,8 @@ traced-run carry restarts bytes left left' held held' says at input written =
       says = d;
       document = read;
       journal = document_run carry restarts d;
-      run = says d read;
+      run = (says d read).run;
+      keeps = (says d read).keeps;
       count = run_counts d.setup d.jobs (carry_under d carry) (restarts_under d restarts) d.setup.cycles;
       written = rw text at written;
     }
@@ -505,7 +506,8 @@ unfolding command_answer gen_answer
 summed-run carry restarts n bytes held held' says written =
     record {
       journal = document_run carry restarts (generated n);
-      run = says;
+      run = says.run;
+      keeps = says.keeps;
       count = run_counts (generated n).setup (generated n).jobs (carry_under (generated n) carry) (restarts_under (generated n) restarts) (generated n).setup.cycles;
       written = written;
     }

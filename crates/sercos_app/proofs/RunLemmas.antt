@@ -1,5 +1,5 @@
 -- From a run that is written to what `run` answers.
-use Rattle.std.proofs.Common.{◌≡◌, ◌≢◌, ◌⊎◌, inl, inr, ℕ, zero, suc, List, length, Ok, Err, refl, sym, subst}
+use Rattle.std.proofs.Common.{◌≡◌, ◌≢◌, ◌⊎◌, inl, inr, ℕ, zero, suc, List, [], ◌∷◌, ◌++◌, length, Result, Ok, Err, refl, sym, ◌∙◌, subst}
 use Rattle.sercos_io.specs.declared.status.Status.{Status}
 use Rattle.sercos_io.specs.declared.status.Status.TheVariants.{Refused, Memory}
 use Rattle.sercos_step.specs.declared.request.Job.{Job}
@@ -8,28 +8,46 @@ use Rattle.sercos_script.specs.declared.fault.Fault.{Fault}
 use Rattle.sercos_script.specs.Links.{Carry, Restarts, carried_by_both, restarts_in_either}
 use Rattle.sercos_script.specs.Scripts.{carried, restarts_at}
 use Rattle.sercos_trace.specs.Views.{CycleView}
-use Rattle.sercos_ring.specs.Runs.{IsNext, IsRun, next_record, run_of}
+use Rattle.sercos_held.specs.Opened.{IsOpened}
+use Rattle.sercos_headline.specs.Headline.{Headline}
+use Rattle.sercos_journal.specs.Runs.{IsNext, IsRun, next_record, run_of}
 use Rattle.sercos_document.specs.declared.refusal.BadDocument.{BadDocument}
 use Rattle.sercos_document.specs.declared.refusal.BadDocument.TheVariants as bads
 use Rattle.sercos_document.specs.Lines.{line_of}
 use Rattle.sercos_config.specs.Views.{DocumentView}
 use Rattle.sercos_config.specs.Document.{document_of}
 use Rattle.sercos_app.specs.Show.{Answer}
-use Rattle.sercos_app.specs.Running.{RunsItsRing, carry_under, restarts_under, run_answer, run_traced, traced_answer}
+use Rattle.sercos_app.specs.Running.{KeepsThroughout, IsDocumentRun, RunsItsRing, carry_under, restarts_under, run_answer, run_traced, traced_answer}
 use Rattle.sercos_config.specs.Generated.{generated}
 use Rattle.sercos_app.specs.Generating.{RunsGenerated, gen_answer, run_summed}
 use Rattle.sercos_app.specs.Outcome.{SinkChange, Writes, Replies}
 use Rattle.sercos_app.specs.Outcome.Replies.{none_found, replied}
 
 -- each cycle that the function gives is the next one
-run_is : ((r : RingView) (jobs : List Job) (carry : Carry) (restarts : Restarts) (j : List CycleView) → IsNext r jobs carry restarts (next_record r jobs carry restarts j) j)
+abbrev AreNext : Type 0
+AreNext = (r : RingView) (jobs : List Job) (carry : Carry) (restarts : Restarts) (j : List CycleView) → IsNext r jobs carry restarts (next_record r jobs carry restarts j) j
+
+run_is : AreNext
     → (r : RingView) (jobs : List Job) (carry : Carry) (restarts : Restarts) (n : ℕ) → IsRun r jobs carry restarts (run_of r jobs carry restarts n)
 run_is law r jobs carry restarts zero = tt
 run_is law r jobs carry restarts (suc n) = (run_is law r jobs carry restarts n, law r jobs carry restarts (run_of r jobs carry restarts n))
 
-document_runs : ((r : RingView) (jobs : List Job) (carry : Carry) (restarts : Restarts) (j : List CycleView) → IsNext r jobs carry restarts (next_record r jobs carry restarts j) j)
-    → (carry : Carry) (restarts : Restarts) (bytes : List ℕ) → RunsItsRing carry restarts bytes
-document_runs law carry restarts bytes d is = run_is law d.setup d.jobs (carry_under d carry) (restarts_under d restarts) d.setup.cycles
+-- the cycles up to one of a run are a run
+run_before : (r : RingView) (jobs : List Job) (carry : Carry) (restarts : Restarts) (later : List CycleView) (j : List CycleView) → IsRun r jobs carry restarts (later ++ j) → IsRun r jobs carry restarts j
+run_before r jobs carry restarts [] j run = run
+run_before r jobs carry restarts (t ∷ later) j run = run_before r jobs carry restarts later j run.0
+
+-- a run keeps all that is promised, if the ring may be opened with its requests
+pub run_keeps : AreNext → Headline → (r : RingView) (jobs : List Job) (carry : Carry) (restarts : Restarts) (n : ℕ) → IsOpened r jobs → KeepsThroughout r jobs carry restarts (run_of r jobs carry restarts n)
+run_keeps next law r jobs carry restarts n opened later t j is clear =
+    law r jobs carry restarts t j opened
+    (run_before r jobs carry restarts later (t ∷ j) (subst (λ (run : List CycleView). IsRun r jobs carry restarts run) is (run_is next r jobs carry restarts n))) clear
+
+document_runs : AreNext → Headline → (carry : Carry) (restarts : Restarts) (d : DocumentView) → IsOpened d.setup d.jobs → IsDocumentRun carry restarts d
+document_runs next law carry restarts d opened = record {
+  run = run_is next d.setup d.jobs (carry_under d carry) (restarts_under d restarts) d.setup.cycles;
+  keeps = run_keeps next law d.setup d.jobs (carry_under d carry) (restarts_under d restarts) d.setup.cycles opened;
+}
 
 run_answer_of : (carry : Carry) (restarts : Restarts) (bytes : List ℕ) (d : DocumentView) → document_of bytes ≡ Ok d
     → run_answer carry restarts bytes ≡ run_traced d.setup d.jobs (carry_under d carry) (restarts_under d restarts)
@@ -40,24 +58,32 @@ run_refusal_of : (carry : Carry) (restarts : Restarts) (bytes : List ℕ) (bad :
 unfolding run_answer traced_answer
 run_refusal_of carry restarts bytes bad is = rw is refl
 
-pub run_replies : ((r : RingView) (jobs : List Job) (carry : Carry) (restarts : Restarts) (j : List CycleView) → IsNext r jobs carry restarts (next_record r jobs carry restarts j) j)
-    → (carry : Carry) (restarts : Restarts) (bytes : List ℕ) (d : DocumentView) (sink : SinkChange) (Unwritten : Type 0) (status : Status) → document_of bytes ≡ Ok d
+-- a text says one document, or is refused
+one_document : (read : Result DocumentView BadDocument) (d other : DocumentView) → read ≡ Ok d → read ≡ Ok other → d ≡ other
+one_document (Ok said) d other is too = let one : said ≡ d = cc in let same : said ≡ other = cc in sym one ∙ same
+one_document (Err bad) d other is too = absurd (cc)
+
+no_document : (read : Result DocumentView BadDocument) (bad : BadDocument) (d : DocumentView) → read ≡ Err bad → read ≡ Ok d → ⊥
+no_document (Ok said) bad d is too = cc
+no_document (Err other) bad d is too = cc
+
+pub run_replies : AreNext → Headline
+    → (carry : Carry) (restarts : Restarts) (bytes : List ℕ) (d : DocumentView) (sink : SinkChange) (Unwritten : Type 0) (status : Status) → document_of bytes ≡ Ok d → IsOpened d.setup d.jobs
     → Replies (run_traced d.setup d.jobs (carry_under d carry) (restarts_under d restarts)) (Unit {0}) sink Unwritten status
     → Replies (run_answer carry restarts bytes) (RunsItsRing carry restarts bytes) sink Unwritten status
-run_replies law carry restarts bytes d sink Unwritten status is (none_found unwritten) = none_found unwritten
-run_replies law carry restarts bytes d sink Unwritten status is (replied ended says written) =
-    replied ended (document_runs law carry restarts bytes)
+run_replies next law carry restarts bytes d sink Unwritten status is opened (none_found unwritten) = none_found unwritten
+run_replies next law carry restarts bytes d sink Unwritten status is opened (replied ended says written) =
+    replied ended (λ other too. subst (λ (x : DocumentView). IsDocumentRun carry restarts x) (one_document (document_of bytes) d other is too) (document_runs next law carry restarts d opened))
     (subst (λ (a : Answer). Writes a.status a.output sink ended) (sym (run_answer_of carry restarts bytes d is)) written)
 
-pub run_refuses : ((r : RingView) (jobs : List Job) (carry : Carry) (restarts : Restarts) (j : List CycleView) → IsNext r jobs carry restarts (next_record r jobs carry restarts j) j)
-    → (carry : Carry) (restarts : Restarts) (bytes : List ℕ) (bad : BadDocument) (sink : SinkChange) (Unwritten : Type 0) (status : Status) → (bad ≡ bads.Memory) ⊎ (document_of bytes ≡ Err bad)
+pub run_refuses : (carry : Carry) (restarts : Restarts) (bytes : List ℕ) (bad : BadDocument) (sink : SinkChange) (Unwritten : Type 0) (status : Status) → (bad ≡ bads.Memory) ⊎ (document_of bytes ≡ Err bad)
     → ((bad ≡ bads.Memory) × (status ≡ Memory) × Unwritten) ⊎ ((bad ≢ bads.Memory) × Writes Refused (line_of bad) sink status)
     → Replies (run_answer carry restarts bytes) (RunsItsRing carry restarts bytes) sink Unwritten status
-run_refuses law carry restarts bytes bad sink Unwritten status cause (inl ended) =
+run_refuses carry restarts bytes bad sink Unwritten status cause (inl ended) =
     subst (λ s. Replies (run_answer carry restarts bytes) (RunsItsRing carry restarts bytes) sink Unwritten s) (sym ended.1) (none_found ended.2)
-run_refuses law carry restarts bytes bad sink Unwritten status (inl wanting) (inr written) = absurd (written.0 wanting)
-run_refuses law carry restarts bytes bad sink Unwritten status (inr is) (inr written) =
-    replied status (document_runs law carry restarts bytes)
+run_refuses carry restarts bytes bad sink Unwritten status (inl wanting) (inr written) = absurd (written.0 wanting)
+run_refuses carry restarts bytes bad sink Unwritten status (inr is) (inr written) =
+    replied status (λ d too. absurd (no_document (document_of bytes) bad d is too))
     (subst (λ (a : Answer). Writes a.status a.output sink status) (sym (run_refusal_of carry restarts bytes bad is)) written.1)
 
 -- a run over the links of the document's script, and then the link handed in, whatever is answered of it
@@ -79,12 +105,12 @@ says_too answer Says sink Unwritten status told (none_found unwritten) = none_fo
 says_too answer Says sink Unwritten status told (replied ended is written) = replied ended told written
 
 -- the summary of the run of a generated document
-pub gen_replies : ((r : RingView) (jobs : List Job) (carry : Carry) (restarts : Restarts) (j : List CycleView) → IsNext r jobs carry restarts (next_record r jobs carry restarts j) j)
-    → (carry : Carry) (restarts : Restarts) (n : ℕ) (d : DocumentView) (sink : SinkChange) (Unwritten : Type 0) (status : Status) → d ≡ generated n
+pub gen_replies : AreNext → Headline
+    → (carry : Carry) (restarts : Restarts) (n : ℕ) (d : DocumentView) (sink : SinkChange) (Unwritten : Type 0) (status : Status) → d ≡ generated n → IsOpened d.setup d.jobs
     → Replies (run_summed n d.setup d.jobs (carry_under d carry) (restarts_under d restarts)) (Unit {0}) sink Unwritten status
     → Replies (gen_answer carry restarts n) (RunsGenerated carry restarts n) sink Unwritten status
 unfolding gen_answer
-gen_replies law carry restarts n d sink Unwritten status is replies =
+gen_replies next law carry restarts n d sink Unwritten status is opened replies =
     says_too (gen_answer carry restarts n) (RunsGenerated carry restarts n) sink Unwritten status
-    (run_is law (generated n).setup (generated n).jobs (carry_under (generated n) carry) (restarts_under (generated n) restarts) (generated n).setup.cycles)
+    (document_runs next law carry restarts (generated n) (subst (λ (x : DocumentView). IsOpened x.setup x.jobs) is opened))
     (subst (λ (x : DocumentView). Replies (run_summed n x.setup x.jobs (carry_under x carry) (restarts_under x restarts)) (Unit {0}) sink Unwritten status) is replies)

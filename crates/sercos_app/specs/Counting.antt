@@ -7,7 +7,7 @@ use Rattle.sercos_block.specs.Rings.{is_ring}
 use Rattle.sercos_script.specs.Links.{Carry, Restarts}
 use Rattle.sercos_trace.specs.Views.{CycleView}
 use Rattle.sercos_trace.specs.declared.record.Totals.{Totals}
-use Rattle.sercos_ring.specs.Runs.{IsNext}
+use Rattle.sercos_journal.specs.Runs.{IsNext}
 use Rattle.sercos_app.specs.Totals.{ended_in, falls_in, is_complete, is_refused, is_broken}
 
 -- there is room in the counts for a cycle more

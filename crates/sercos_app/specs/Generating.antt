@@ -7,12 +7,11 @@ use Rattle.sercos_script.specs.Links.{Carry, Restarts}
 use Rattle.sercos_text.specs.Templates.{line_text}
 use Rattle.sercos_text.specs.Templates.Value.{number}
 use Rattle.sercos_trace.specs.declared.record.Totals.{Totals}
-use Rattle.sercos_ring.specs.Runs.{IsRun, run_of}
-use Rattle.sercos_config.specs.Views.{DocumentView}
+use Rattle.sercos_journal.specs.Runs.{run_of}
 use Rattle.sercos_config.specs.Generated.{generated}
 use Rattle.sercos_app.specs.Show.{Answer, line_feed}
 use Rattle.sercos_app.specs.Totals.{totals_of}
-use Rattle.sercos_app.specs.Running.{carry_under, restarts_under, document_run}
+use Rattle.sercos_app.specs.Running.{carry_under, restarts_under, document_run, IsDocumentRun}
 
 -- The summary of the run of n drives. In the parts of the line a `D` stands for a number: how many drives and cycles; the first
 -- cycle commanded phase 4, if there is one; and the counts.
@@ -39,9 +38,6 @@ run_summed n r jobs carry restarts = record { status = Done; output = gen_line n
 unfoldable pub gen_answer : Carry → Restarts → ℕ → Answer
 gen_answer carry restarts n = record { status = Done; output = gen_line n (totals_of (reverse (document_run carry restarts (generated n)))) }
 
--- what is summed is a run of the document: each cycle is the next one after those before it
-abbrev pub IsDocumentRun : Carry → Restarts → DocumentView → Type 0
-IsDocumentRun carry restarts d = IsRun d.setup d.jobs (carry_under d carry) (restarts_under d restarts) (document_run carry restarts d)
-
+-- what is summed is a run of the document, which keeps all that is promised of its cycles
 abbrev pub RunsGenerated : Carry → Restarts → ℕ → Type 0
 RunsGenerated carry restarts n = IsDocumentRun carry restarts (generated n)

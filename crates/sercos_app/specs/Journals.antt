@@ -11,7 +11,7 @@ use Rattle.sercos_trace.specs.Texts.{cycle_text, trace_of}
 use Rattle.sercos_trace.specs.Written.{Seen, HasTaken, HasFailed}
 use Rattle.sercos_trace.specs.declared.record.Totals.{Totals}
 use Rattle.sercos_script.specs.Links.{Carry, Restarts}
-use Rattle.sercos_ring.specs.Runs.{run_of}
+use Rattle.sercos_journal.specs.Runs.{run_of}
 use Rattle.sercos_app.specs.Totals.{totals_of}
 
 -- the trace of a journal, whose newest cycle comes first

@@ -1,5 +1,5 @@
 -- What `run` answers to a ring document.
-use Rattle.std.specs.Prelude.{◌≡◌, ℕ, List, length, Result, Ok, Err}
+use Rattle.std.specs.Prelude.{◌≡◌, ℕ, List, ◌∷◌, ◌++◌, length, Result, Ok, Err}
 use Rattle.sercos_io.specs.declared.status.Status.TheVariants.{Done, Refused}
 use Rattle.sercos_step.specs.declared.request.Job.{Job}
 use Rattle.sercos_block.specs.Views.{RingView}
@@ -7,7 +7,8 @@ use Rattle.sercos_block.specs.Rings.{wishes_of}
 use Rattle.sercos_script.specs.Links.{Carry, Restarts, carried_by_both, restarts_in_either}
 use Rattle.sercos_script.specs.Scripts.{carried, restarts_at}
 use Rattle.sercos_trace.specs.Views.{CycleView}
-use Rattle.sercos_ring.specs.Runs.{IsRun, run_of}
+use Rattle.sercos_journal.specs.Runs.{IsRun, IsClear, run_of}
+use Rattle.sercos_headline.specs.Headline.{KeepsAll}
 use Rattle.sercos_document.specs.declared.refusal.BadDocument.{BadDocument}
 use Rattle.sercos_document.specs.Lines.{line_of}
 use Rattle.sercos_config.specs.Views.{DocumentView}
@@ -38,7 +39,16 @@ traced_answer carry restarts (Err bad) = record { status = Refused; output = lin
 unfoldable pub run_answer : Carry → Restarts → List ℕ → Answer
 run_answer carry restarts bytes = traced_answer carry restarts (document_of bytes)
 
--- what is written of a document is a run: each cycle is the next one after those before it
+-- In each cycle of a run, up to the first arrival that is unseen, all is kept that is promised of it: its telegrams are apart, no drive
+-- stands too late, and transfers are exact.
+abbrev pub KeepsThroughout : RingView → List Job → Carry → Restarts → List CycleView → Type 0
+KeepsThroughout r jobs carry restarts run = (later : List CycleView) (t : CycleView) (j : List CycleView) → run ≡ later ++ t ∷ j → IsClear (t ∷ j) → KeepsAll r jobs carry restarts t j
+
+-- The cycles of a document are a run, in which each is the next one after those before it, and they keep all this.
+pub record IsDocumentRun (carry : Carry) (restarts : Restarts) (d : DocumentView) : Type 0 where
+  pub run : IsRun d.setup d.jobs (carry_under d carry) (restarts_under d restarts) (document_run carry restarts d)
+  pub keeps : KeepsThroughout d.setup d.jobs (carry_under d carry) (restarts_under d restarts) (document_run carry restarts d)
+
+-- what is written of a document is such a run
 abbrev pub RunsItsRing : Carry → Restarts → List ℕ → Type 0
-RunsItsRing carry restarts bytes = (d : DocumentView) → document_of bytes ≡ Ok d
-    → IsRun d.setup d.jobs (carry_under d carry) (restarts_under d restarts) (document_run carry restarts d)
+RunsItsRing carry restarts bytes = (d : DocumentView) → document_of bytes ≡ Ok d → IsDocumentRun carry restarts d

@@ -16,9 +16,9 @@ use Rattle.sercos_plan.specs.Chains.{IsChain}
 use Rattle.sercos_block.specs.Rings.{wishes_of}
 use Rattle.sercos_trace.specs.Views.{CycleView}
 use Rattle.sercos_trace.specs.Texts.{trace_of}
-use Rattle.sercos_ring.specs.Runs.{IsRun}
+use Rattle.sercos_journal.specs.Runs.{IsRun}
 use Rattle.sercos_app.specs.Totals.{totals_of}
-use Rattle.sercos_app.specs.Running.{carry_under, restarts_under}
+use Rattle.sercos_app.specs.Running.{carry_under, restarts_under, KeepsThroughout}
 use Rattle.sercos_config.specs.Views.{DocumentView}
 use Rattle.sercos_config.specs.Document.{document_of}
 use Rattle.sercos_config.specs.Generated.{generated}
@@ -109,7 +109,8 @@ pub record LeastPlanned (left left' held held' : Option (List ℕ)) : Type 0 whe
   pub written : Appends held held' (plan_text (wishes_of says.setup) plan)
 
 -- The source was read to its end as the document of a ring, and what was appended is the trace of the one run of this ring, for its
--- number of cycles, under its script followed by the link handed in. The newest cycle of the journal comes first.
+-- number of cycles, under its script followed by the link handed in. Its cycles keep all that is promised of them. The newest cycle of
+-- the journal comes first.
 pub record RunTraced (carry : Carry) (restarts : Restarts) (left left' held held' : Option (List ℕ)) : Type 0 where
   pub bytes : List ℕ
   pub read : ReadsWhole left left' bytes
@@ -117,13 +118,15 @@ pub record RunTraced (carry : Carry) (restarts : Restarts) (left left' held held
   pub document : document_of bytes ≡ Ok says
   pub journal : List CycleView
   pub run : IsRun says.setup says.jobs (carry_under says carry) (restarts_under says restarts) journal
+  pub keeps : KeepsThroughout says.setup says.jobs (carry_under says carry) (restarts_under says restarts) journal
   pub count : length journal ≡ says.setup.cycles
   pub written : Appends held held' (trace_of (wishes_of says.setup) (reverse journal) (totals_of (reverse journal)))
 
 -- What was appended is the summary of the one run of the generated ring of n drives, for its number of cycles, under its script
--- followed by the link handed in. The newest cycle of the journal comes first.
+-- followed by the link handed in. Its cycles keep all that is promised of them. The newest cycle of the journal comes first.
 pub record RunSummed (carry : Carry) (restarts : Restarts) (n : ℕ) (held held' : Option (List ℕ)) : Type 0 where
   pub journal : List CycleView
   pub run : IsRun (generated n).setup (generated n).jobs (carry_under (generated n) carry) (restarts_under (generated n) restarts) journal
+  pub keeps : KeepsThroughout (generated n).setup (generated n).jobs (carry_under (generated n) carry) (restarts_under (generated n) restarts) journal
   pub count : length journal ≡ (generated n).setup.cycles
   pub written : Appends held held' (gen_line n (totals_of (reverse journal)))

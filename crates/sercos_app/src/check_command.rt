@@ -1,6 +1,7 @@
 // `check`: the verdict on a capture.
 ghost use Rattle.std.specs.Prelude.{◌≡◌, ◌<◌, ◌≤◌, ◌+◌, ◌^◌, List, ◌∷◌, length, map, IfNone};
 ghost use Rattle.sercos_trace.specs.declared.reading.Line.{Line};
+ghost use Rattle.sercos_trace.specs.declared.reading.Line.TheVariants.{Other};
 ghost use Rattle.sercos_check.specs.Shape.{HasShape};
 ghost use Rattle.sercos_check.specs.Tests.{can_follow};
 ghost use Rattle.sercos_check.specs.Verdicts.{plain, CheckerStandsFor};
@@ -15,24 +16,33 @@ use sercos_check::{Checker, shape_law, test_law};
 use sercos_io::{Sink, Status, write_all};
 use sercos_trace::{Line, Reader};
 
-// Takes a line as a check of the shape alone does. Returns whether it can follow those before it.
-fn follows(shape: &mut Checker, line: &Line) -> bool
-    requires { shape.old.lines < 2 ^ 31 }
+// Takes a line as a check of the shape alone does. Returns whether it can follow those before it. A telegram's line is taken as
+// the other line that is passed in, since a line is large and made slowly.
+fn follows(shape: &mut Checker, line: &Line, other: &Line) -> bool
+    requires lines { shape.old.lines < 2 ^ 31 }
+    requires other { other.now ≡ Other }
     ensures value { (before : List Line) → CheckerStandsFor shape.old (map plain before) → HasShape before → result ≡ can_follow before line.now }
     ensures stands { (before : List Line) → CheckerStandsFor shape.old (map plain before) → CheckerStandsFor shape.new (map plain (line.now ∷ before)) }
 {
     shape_law();
     test_law();
     match line {
-        Line::Telegram { .. } => shape.line(&Line::Other).is_ok(),
+        Line::Telegram { .. } => shape.line(other).is_ok(),
         _ => shape.line(line).is_ok(),
     }
 }
 
 // Takes the text of the next line. Returns the column at which it is refused.
-fn take(shape: &mut Checker, rules: &mut Checker, reader: &mut Reader, text: &[u8]) -> Option<usize>
+fn take(
+    shape: &mut Checker,
+    rules: &mut Checker,
+    reader: &mut Reader,
+    other: &Line,
+    text: &[u8],
+) -> Option<usize>
     requires shape { shape.old.lines < 2 ^ 31 }
     requires rules { rules.old.lines < 2 ^ 31 }
+    requires other { other.now ≡ Other }
     ensures column { (before : List Line) → HasTaken shape.old rules.old before → result ≡ column_of before text.now }
     ensures taken { (before : List Line) → HasTaken shape.old rules.old before → IfNone result (HasTaken shape.new rules.new (read_as text.now ∷ before)) }
 {
@@ -41,7 +51,7 @@ fn take(shape: &mut Checker, rules: &mut Checker, reader: &mut Reader, text: &[u
         return Some(bad.column);
     }
     let line = reader.line();
-    if !follows(shape, line) {
+    if !follows(shape, line, other) {
         return Some(1);
     }
     // The checker keeps its first trouble.
@@ -72,11 +82,12 @@ fn verdict(text: &[u8]) -> Verdict
     let mut shape = Checker::new();
     let mut rules = Checker::new();
     let mut reader = Reader::new();
+    let other = Line::Other;
     let mut rest = text;
     let mut number = 1u32;
     while !rest.is_empty() {
         let (line, others) = cut_line(rest);
-        if let Some(column) = take(&mut shape, &mut rules, &mut reader, line) {
+        if let Some(column) = take(&mut shape, &mut rules, &mut reader, &other, line) {
             return Verdict::Refused {
                 line: number,
                 column,

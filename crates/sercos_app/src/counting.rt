@@ -9,7 +9,8 @@ ghost use Rattle.sercos_app.specs.Counting.{HasRoom, IsFew, IsMade, none_made, w
 ghost use Rattle.sercos_app.specs.Journals.{IsRingOf, OfRun};
 
 use sercos_block::ring_law;
-use sercos_ring::{Ring, run_law, standing_law};
+use sercos_journal::run_law;
+use sercos_ring::{Ring, standing_law};
 use sercos_script::BitLink;
 use sercos_step::Outcome;
 use sercos_trace::{CycleRecord, Fall, Reported, Totals};

@@ -9,11 +9,14 @@ ghost use Rattle.sercos_app.specs.Generating.{RunsGenerated, counts_text, first_
 
 use crate::counting::count_cycles;
 use crate::given::fault_status;
+use crate::opened::show_opened;
 use crate::run_command::{cycles_of, drives_of};
 use sercos_block::RingSetup;
 use sercos_config::{Document, generate};
+use sercos_headline::headline_law;
 use sercos_io::{Sink, Status, write_all};
-use sercos_ring::{Ring, run_law};
+use sercos_journal::run_law;
+use sercos_ring::Ring;
 use sercos_script::{BitLink, Both, Scripted};
 use sercos_step::Job;
 use sercos_text::{Given, Line, push_line};
@@ -144,8 +147,12 @@ pub fn answer_gen<L: BitLink, K: Sink>(alloc: Global, n: u8, link: L, sink: &mut
         (changed K.held K.faults K.room sink.old sink.new) (sink.new ≡ sink.old) result }
 {
     run_law();
+    headline_law();
     match generate(alloc, n) {
-        Ok(document) => sum_document(alloc, n, document, link, sink),
+        Ok(document) => {
+            show_opened(&document);
+            sum_document(alloc, n, document, link, sink)
+        }
         Err(_) => Status::Memory,
     }
 }

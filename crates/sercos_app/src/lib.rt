@@ -9,6 +9,7 @@ mod given;
 mod law;
 mod line;
 mod lines;
+mod opened;
 mod over_memory;
 mod plan_text;
 mod planning;

@@ -10,11 +10,14 @@ ghost use Rattle.sercos_app.specs.Outcome.{Replies, Writes, changed};
 ghost use Rattle.sercos_app.specs.Running.{RunsItsRing, carry_under, restarts_under, run_answer, run_traced};
 
 use crate::given::{fault_status, refuse};
+use crate::opened::show_opened;
 use crate::running::write_run;
 use sercos_block::{RingSetup, ring_law};
 use sercos_config::{Document, read_ring};
+use sercos_headline::headline_law;
 use sercos_io::{Sink, Status};
-use sercos_ring::{Ring, run_law};
+use sercos_journal::run_law;
+use sercos_ring::Ring;
 use sercos_script::{BitLink, Both, Scripted};
 use sercos_step::Job;
 use sercos_timing::Wishes;
@@ -107,8 +110,12 @@ pub fn answer_run<L: BitLink, K: Sink>(alloc: Global, bytes: &[u8], link: L, sin
         (changed K.held K.faults K.room sink.old sink.new) (sink.new ≡ sink.old) result }
 {
     run_law();
+    headline_law();
     match read_ring(alloc, bytes) {
-        Ok(document) => run_document(alloc, document, link, sink),
+        Ok(document) => {
+            show_opened(&document);
+            run_document(alloc, document, link, sink)
+        }
         Err(bad) => refuse(&bad, sink),
     }
 }

@@ -3,20 +3,28 @@ ghost use Rattle.std.specs.Prelude.{◌≡◌, ℕ, ◌≤◌, ◌<◌, ◌^◌,
 ghost use Rattle.std.specs.Io.KnownBytes.{Appends};
 ghost use Rattle.sercos_model.specs.Streams.{HasCause};
 ghost use Rattle.std.specs.List.{All};
+ghost use Rattle.sercos_step.specs.declared.request.Job.{Job};
+ghost use Rattle.sercos_block.specs.Views.{RingView};
+ghost use Rattle.sercos_script.specs.Links.{Carry, Restarts};
 ghost use Rattle.sercos_trace.specs.Views.{CycleView};
 ghost use Rattle.sercos_trace.specs.Texts.{header_text, cycle_text, end_text};
 ghost use Rattle.sercos_trace.specs.Written.{seen, Writes};
+ghost use Rattle.sercos_journal.specs.Runs.{run_of};
+ghost use Rattle.sercos_held.specs.Opened.{IsOpened};
 ghost use Rattle.sercos_ring.specs.Kept.{AfterCycle, RingStandsFor, cycles_made, newest};
 ghost use Rattle.sercos_app.specs.Counting.{HasRoom, IsFew, with_cycle};
 ghost use Rattle.sercos_app.specs.Journals.{HasMade, IsRingOf, OfRun, WritesCycles, journal_text};
 ghost use Rattle.sercos_app.specs.Totals.{totals_of};
 ghost use Rattle.sercos_app.specs.RunWriting.{WritesRun};
+ghost use Rattle.sercos_app.specs.Running.{KeepsThroughout};
 
 use crate::counting::{count_made, no_totals};
 use sercos_block::ring_law;
+use sercos_headline::headline_law;
 use sercos_io::{Sink, WriteFailed};
+use sercos_journal::run_law;
 use sercos_master::master_law;
-use sercos_ring::{Ring, run_law, standing_law};
+use sercos_ring::{Ring, standing_law};
 use sercos_script::BitLink;
 use sercos_timing::Wishes;
 use sercos_trace::{CycleRecord, Totals, write_cycle, write_end, write_header};
@@ -114,7 +122,8 @@ fn write_whole<L: BitLink, K: Sink>(
 ///
 /// The ring has made no cycle, and the wishes are those of the setup with which it was opened; 1 to 50,000 cycles. After an error
 /// the sink has taken a prefix of the text, short of the whole, and its count of faults has risen. In both cases the ring stands
-/// for the cycles that it has made.
+/// for the cycles that it has made. If it was opened with what its types say, each cycle up to the first arrival that is unseen keeps
+/// all that `headline_law` says.
 pub fn write_run<L: BitLink, K: Sink>(
     ring: &mut Ring<L>,
     w: &Wishes,
@@ -130,9 +139,13 @@ pub fn write_run<L: BitLink, K: Sink>(
     ensures err { OnErr result (OfRun (RingStandsFor L.carry L.restart) ring.old cycles (λ run. (count : ℕ) × (count < length (journal_text w.now run))
         × Appends (K.held sink.old) (K.held sink.new) (take count (journal_text w.now run)))) }
     ensures cause { HasCause (K.faults sink.old) (K.faults sink.new) result }
+    ensures keeps { (r : RingView) (jobs : List Job) (carry : Carry) (restarts : Restarts) → RingStandsFor L.carry L.restart ring.old r jobs carry restarts []
+        → IsOpened r jobs → KeepsThroughout r jobs carry restarts (run_of r jobs carry restarts cycles) }
     ensures room { OfRun (RingStandsFor L.carry L.restart) ring.old cycles (λ run. length (journal_text w.now run) ≤ K.room sink.old → IsOk result) }
 {
     ring_law();
+    run_law();
+    headline_law();
     standing_law::<L>();
     write_whole(ring, w, cycles, sink)
 }

@@ -15,6 +15,8 @@ use Rattle.sercos_drive.specs.Heard.{DriveCall, Mst, Mdt, Restart, mst_got, mdt_
 use Rattle.sercos_drive.specs.Moments.{Moment, AtMst, AtRestart, phase_in, cycle_in, has_mst, has_missed, in_phase, with_record, write_in, taken_in, writes_in, blocks_in, commands_in, calls_in, blocks_after, commands_after, calls_after, with_reset, reset_in}
 use Rattle.sercos_drive.specs.Annals.{stands_in, takes, processed_in, ends_in, after_mdt, annals}
 use Rattle.sercos_drive.specs.Kept.{DriveState, counted, KeepsMoments}
+use Rattle.sercos_drive.specs.declared.slot.Slot.{Slot}
+use Rattle.sercos_drive.specs.Slots.{slot_of}
 use Rattle.sercos_drive.specs.Steps.{goes_to, processed_by, counted_with, ends_with, IsEntered, IsProcessed}
 
 newest-with_reset : (phase : ℕ) (calls : List Call) → newest (with_reset phase calls) ≡ newest calls
@@ -50,6 +52,7 @@ keeps-mst v w d rate cycle got past k later entered = by (rw (goes_to-stands_in 
       channel_is = e.channel d.busy (taken_in past) k.channel_is;
       commands_is = ap (λ (x : DriveState). x.commands) e.same ∙ ap (reset_in (stands_in d rate cycle got past)) k.commands_is;
       blocks_is = ap (λ (x : DriveState). x.blocks) e.same ∙ k.blocks_is;
+      slot_is = ap (λ (x : DriveState). x.slot) e.same ∙ k.slot_is ∙ sym (ap (λ (x : DriveState). slot_of x.blocks) e.same);
       calls_are = e.calls rate d.command (calls_in past) k.calls_are;
       in_order = let order = k.in_order in rw (newest-with_reset (stands_in d rate cycle got past) (calls_in past)) (omega (arith, order, later));
     }
@@ -68,6 +71,7 @@ keeps-restart v w d rate past k e = record {
   channel_is = e.channel d.busy (taken_in past) k.channel_is;
   commands_is = ap (λ (x : DriveState). x.commands) e.same ∙ ap (reset_in 0) k.commands_is;
   blocks_is = ap (λ (x : DriveState). x.blocks) e.same ∙ k.blocks_is;
+  slot_is = ap (λ (x : DriveState). x.slot) e.same ∙ k.slot_is ∙ sym (ap (λ (x : DriveState). slot_of x.blocks) e.same);
   calls_are = e.calls rate d.command (calls_in past) k.calls_are;
   in_order = k.in_order;
 }
@@ -94,28 +98,34 @@ newest-calls_with (Some w) blocks calls cycle le is = by (is_command blocks w.ra
     by false = is
 
 -- What a channel makes of a record.
-pub processed_one : (v : DriveState) (channel : ChannelView) (commands : CommandsView) (blocks : List Block) (added : Bool) (busy : ℕ) (t : Taken) (h : List Taken)
+pub processed_one : (v : DriveState) (channel : ChannelView) (commands : CommandsView) (blocks : List Block) (slot : Slot) (added : Bool) (busy : ℕ) (t : Taken) (h : List Taken)
     → t.blocks ≡ v.blocks → t.commands ≡ v.commands
     → added ≡ is_some (added_on t h)
     → blocks ≡ blocks_with (added_on t h) t.commands t.blocks
     → commands ≡ commands_with (added_on t h) t.blocks t.commands
     → ChannelStandsFor channel busy (t ∷ h)
     → ((rate time : ℕ) (c : List Call) → CommandsStandFor v.commands rate time c → newest c ≤ v.cycle → CommandsStandFor commands rate time (calls_with (added_on t h) t.blocks c))
-    → IsProcessed v (record v { channel = channel; commands = commands; blocks = blocks; writes = if added then counted (v.writes + 1) else v.writes }) busy (Some t) h
-processed_one v channel commands blocks added busy t h old_blocks old_commands added_is blocks_is commands_is stands calls = record {
+    → slot ≡ (if added then slot_of blocks else v.slot)
+    → IsProcessed v (record v { channel = channel; commands = commands; blocks = blocks; slot = slot; writes = if added then counted (v.writes + 1) else v.writes }) busy (Some t) h
+processed_one v channel commands blocks slot added busy t h old_blocks old_commands added_is blocks_is commands_is stands calls slot_is = record {
   same = rw (added_is, blocks_is, commands_is) (by (added_on t h));
+  slot = λ before. slots (added_on t h) added_is blocks_is before;
   channel = stands;
   calls = calls;
 }
   where
     by : (w : Option Write)
-        → record v { channel = channel; commands = commands_with w t.blocks t.commands; blocks = blocks_with w t.commands t.blocks; writes = if is_some w then counted (v.writes + 1) else v.writes }
-        ≡ record v { writes = counted_with w v.writes; channel = channel; commands = commands_with w t.blocks t.commands; blocks = blocks_with w t.commands t.blocks }
+        → record v { channel = channel; commands = commands_with w t.blocks t.commands; blocks = blocks_with w t.commands t.blocks; slot = slot; writes = if is_some w then counted (v.writes + 1) else v.writes }
+        ≡ record v { writes = counted_with w v.writes; channel = channel; commands = commands_with w t.blocks t.commands; blocks = blocks_with w t.commands t.blocks; slot = slot }
     by None = refl
     by (Some w) = refl
 
+    slots : (w : Option Write) → added ≡ is_some w → blocks ≡ blocks_with w t.commands t.blocks → v.slot ≡ slot_of v.blocks → slot ≡ slot_of blocks
+    slots None none same before = slot_is ∙ ap (λ (b : Bool). if b then slot_of blocks else v.slot) none ∙ before ∙ ap slot_of (sym (same ∙ old_blocks))
+    slots (Some w) some same before = slot_is ∙ ap (λ (b : Bool). if b then slot_of blocks else v.slot) some
+
 pub not_processed : (v : DriveState) (busy : ℕ) (h : List Taken) → ChannelStandsFor v.channel busy h → IsProcessed v v busy None h
-not_processed v busy h stands = record { same = refl; channel = stands; calls = λ rate time c stood le. stood }
+not_processed v busy h stands = record { same = refl; slot = λ before. before; channel = stands; calls = λ rate time c stood le. stood }
 
 -- The cycle of a write is that of its step.
 added-cycle : (t : Taken) (h : List Taken) → IfSome (added_on t h) (λ w. w.cycle ≤ t.cycle)
@@ -188,6 +198,7 @@ keeps-mdt v w x d rate told past k processed took took_is entered =
       channel_is = e.channel d.busy (with_record r (taken_in past)) p.channel;
       commands_is = ap (λ (y : DriveState). y.commands) e.same ∙ ap (reset_in end) (ap (λ (y : DriveState). y.commands) p.same ∙ ap (commands_after r (taken_in past)) k.commands_is);
       blocks_is = ap (λ (y : DriveState). y.blocks) e.same ∙ ap (λ (y : DriveState). y.blocks) p.same ∙ ap (blocks_after r (taken_in past)) k.blocks_is;
+      slot_is = ap (λ (y : DriveState). y.slot) e.same ∙ p.slot k.slot_is ∙ sym (ap (λ (y : DriveState). slot_of y.blocks) e.same);
       calls_are = e.calls rate d.command (calls_after r (taken_in past) (calls_in past)) (p.calls rate d.command (calls_in past) k.calls_are (rw k.cycle_is k.in_order));
       in_order = rw (newest-with_reset end (calls_after r (taken_in past) (calls_in past))) (rw r_is at (newest-after d rate told past k.in_order));
     })

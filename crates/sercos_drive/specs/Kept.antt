@@ -8,6 +8,8 @@ use Rattle.sercos_service_drive.specs.Kept.{ChannelView, ChannelStandsFor}
 use Rattle.sercos_drive.specs.Heard.{DriveCall}
 use Rattle.sercos_drive.specs.Moments.{Moment, phase_in, cycle_in, has_mst, has_taken, has_missed, taken_in, writes_in, blocks_in, commands_in, calls_in}
 use Rattle.sercos_drive.specs.Annals.{annals}
+use Rattle.sercos_drive.specs.declared.slot.Slot.{Slot}
+use Rattle.sercos_drive.specs.Slots.{slot_of}
 
 pub record DriveState : Type 0 where
   pub address : ℕ
@@ -20,6 +22,7 @@ pub record DriveState : Type 0 where
   pub channel : ChannelView
   pub commands : CommandsView
   pub blocks : List Block
+  pub slot : Slot
 
 -- a count of 32 bits stands still at its end
 abbrev pub counted : ℕ → ℕ
@@ -37,6 +40,8 @@ pub record KeepsMoments (v : DriveState) (d : DriveView) (rate : ℕ) (past : Li
   pub channel_is : ChannelStandsFor v.channel d.busy (taken_in past)
   pub commands_is : v.commands ≡ commands_in d rate past
   pub blocks_is : v.blocks ≡ blocks_in d past
+  -- what was read of the blocks is what they say
+  pub slot_is : v.slot ≡ slot_of v.blocks
   pub calls_are : CommandsStandFor v.commands rate d.command (calls_in past)
   -- no call on the procedure commands was for a later cycle
   pub in_order : newest (calls_in past) ≤ cycle_in past

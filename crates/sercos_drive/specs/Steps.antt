@@ -8,6 +8,7 @@ use Rattle.sercos_service_drive.specs.Kept.{ChannelStandsFor}
 use Rattle.sercos_drive.specs.declared.hearing.Told.{Told}
 use Rattle.sercos_drive.specs.Moments.{in_phase, with_record, write_in, blocks_after, commands_after, calls_after, reset_in, with_reset}
 use Rattle.sercos_drive.specs.Kept.{DriveState, counted}
+use Rattle.sercos_drive.specs.Slots.{slot_of}
 
 -- the phase after the MST's place
 abbrev pub goes_to : DriveState → ℕ → Option ℕ → ℕ
@@ -36,7 +37,8 @@ counted_with (Some w) n = counted (n + 1)
 
 -- A record was processed after these, if there was one.
 pub record IsProcessed (v w : DriveState) (busy : ℕ) (r : Option Taken) (h : List Taken) : Type 0 where
-  pub same : w ≡ record v { writes = counted_with (write_in r h) v.writes; channel = w.channel; commands = commands_after r h v.commands; blocks = blocks_after r h v.blocks }
+  pub same : w ≡ record v { writes = counted_with (write_in r h) v.writes; channel = w.channel; commands = commands_after r h v.commands; blocks = blocks_after r h v.blocks; slot = w.slot }
+  pub slot : v.slot ≡ slot_of v.blocks → w.slot ≡ slot_of w.blocks
   pub channel : ChannelStandsFor w.channel busy (with_record r h)
   pub calls : (rate time : ℕ) (c : List Call) → CommandsStandFor v.commands rate time c → newest c ≤ v.cycle → CommandsStandFor w.commands rate time (calls_after r h c)
 

@@ -13,14 +13,15 @@ ghost use Rattle.sercos_drive.specs.Moments.{in_phase, reset_in, with_reset};
 ghost use Rattle.sercos_drive.specs.Annals.{cycle_at, phase_at, writes_at, store_at};
 ghost use Rattle.sercos_drive.specs.Says.{Said, start_in, values_in, drive_says};
 ghost use Rattle.sercos_drive.specs.Kept.{counted, DriveStandsFor};
+ghost use Rattle.sercos_drive.specs.Slots.{slot_of};
 ghost use Rattle.sercos_drive.specs.Steps.{goes_to, record_by, processed_by, ends_with, IsEntered, IsProcessed};
 
-use crate::feedback::{Values, feedback};
+use crate::feedback::{Values, put_feedback};
 use crate::hearing::{Told, mdt_got, mst_got};
+use crate::slot::{Slot, renew, slot_of};
 use sercos_bits::Content;
-use sercos_block::numbers::T1;
 use sercos_block::{DriveSetup, Store};
-use sercos_command::{Commands, number_at};
+use sercos_command::Commands;
 use sercos_service_drive::{DriveChannel, writes_law};
 use sercos_telegram::{At, write_at};
 use std::alloc::{AllocError, Global};
@@ -49,6 +50,8 @@ pub struct Drive {
     channel: DriveChannel,
     commands: Commands,
     store: Store,
+    // what the telegrams of phases 3 and 4 follow in the store
+    slot: Slot,
 }
 
 impl Model for Drive {
@@ -69,9 +72,10 @@ impl Model for Drive {
       channel = d.channel;
       commands = d.commands;
       blocks = d.store;
+      slot = d.slot;
     } };
 
-    ghost invariant = { λ d. (d.phase ≤ 4) × (are_commands_of d.store d.commands ≡ true) };
+    ghost invariant = { λ d. (d.phase ≤ 4) × (are_commands_of d.store d.commands ≡ true) × (4 ≤ d.slot.record_len) };
 }
 
 impl Drive {
@@ -83,6 +87,7 @@ impl Drive {
         ensures { IfOk result (λ drive. DriveStandsFor drive setup.now rate []) }
     {
         let store = Store::open(alloc, setup)?;
+        let slot = slot_of(&store);
         Ok(Drive {
             address: setup.address,
             phase: 0,
@@ -94,6 +99,7 @@ impl Drive {
             channel: DriveChannel::new(setup.busy),
             commands: Commands::new(rate, setup.command),
             store,
+            slot,
         })
     }
 
@@ -165,24 +171,22 @@ impl Drive {
 
     // When the AT starts, in microseconds after the MST's end.
     fn start(&self) -> u16
-        ensures { result ≡ start_in self.now.phase self.now.blocks }
+        ensures { self.now.slot ≡ slot_of self.now.blocks → result ≡ start_in self.now.phase self.now.blocks }
     {
         if 3 <= self.phase {
-            number_at(&self.store, T1) as u16
+            self.slot.start
         } else {
             EARLY_START
         }
     }
 
-    // The feedback values of the AT.
-    fn values(&self) -> Values
-        ensures value { result ≡ values_in self.now.cycle self.now.phase self.now.blocks }
-        ensures bound { length result ≤ 64 }
+    // Puts the feedback values of the AT, in place, since they would be copied if they were returned.
+    fn put_values(&self, values: &mut Values)
+        requires { values.old ≡ [] }
+        ensures { self.now.slot ≡ slot_of self.now.blocks → values.new ≡ values_in self.now.cycle self.now.phase self.now.blocks }
     {
         if 3 <= self.phase {
-            feedback(&self.store, self.cycle)
-        } else {
-            Values::new()
+            put_feedback(&self.store, self.slot.at.as_slice(), self.cycle, values);
         }
     }
 
@@ -219,7 +223,8 @@ impl Drive {
             return None;
         }
         let (status, info) = self.channel.say(self.cycle, &self.commands);
-        let values = self.values();
+        let mut values = Values::new();
+        self.put_values(&mut values);
         let at = At {
             address: self.address,
             status,
@@ -232,9 +237,9 @@ impl Drive {
 
     // What the drive gets of the content that arrived at the MDT's place.
     fn told(&self, content: Option<&[u8]>) -> Option<Told>
-        ensures { result ≡ mdt_got self.now.address self.now.phase self.now.blocks (option_copied content.entry) }
+        ensures { self.now.slot ≡ slot_of self.now.blocks → result ≡ mdt_got self.now.address self.now.phase self.now.blocks (option_copied content.entry) }
     {
-        mdt_got(self.address, self.phase, &self.store, content)
+        mdt_got(self.address, self.phase, &self.slot, content)
     }
 
     // Whether an MDT is taken, if one was got.
@@ -267,6 +272,7 @@ impl Drive {
             &mut self.store,
             &mut self.commands,
         );
+        renew(added, &mut self.slot, &self.store);
         self.count(added);
     }
 

@@ -1,13 +1,10 @@
 // The feedback values of an AT.
 ghost use Rattle.std.specs.Prelude.{◌≡◌, ◌≤◌, ◌+◌, ◌*◌, ◌++◌, [], length};
 ghost use Rattle.std.specs.List.{flat_map};
-ghost use Rattle.sercos_command.specs.Checks.{idns_at};
 ghost use Rattle.sercos_drive.specs.Says.{value_in};
 
 use sercos_bits::ByteList;
-use sercos_block::numbers::AT_LIST;
 use sercos_block::{Store, number_len};
-use sercos_command::idns_at;
 use sercos_idn::Idn;
 use sercos_service_drive::push_data;
 
@@ -40,12 +37,11 @@ fn push_all(values: &mut Values, store: &Store, idns: &[Idn], cycle: u32)
     }
 }
 
-// The values that an AT of phases 3 and 4 carries in a cycle.
-pub(crate) fn feedback(store: &Store, cycle: u32) -> Values
-    ensures { result ≡ flat_map (value_in cycle store.now) (idns_at store.now 16) }
+// Puts the values of an AT of phases 3 and 4 that carries these identifier numbers.
+pub(crate) fn put_feedback(store: &Store, idns: &[Idn], cycle: u32, values: &mut Values)
+    requires few { length idns.now ≤ 16 }
+    requires none { values.old ≡ [] }
+    ensures { values.new ≡ flat_map (value_in cycle store.now) idns.now }
 {
-    let mut values = Values::new();
-    let idns = idns_at(store, AT_LIST);
-    push_all(&mut values, store, idns.as_slice(), cycle);
-    values
+    push_all(values, store, idns, cycle);
 }

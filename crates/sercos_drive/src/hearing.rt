@@ -1,11 +1,11 @@
 // What a drive gets of the contents that arrive.
-ghost use Rattle.std.specs.Prelude.{◌≡◌, ◌≤◌, IfSome};
+ghost use Rattle.std.specs.Prelude.{◌≡◌, ◌≤◌, IfSome, List};
 ghost use Rattle.std.specs.Option.{option_copied};
+ghost use Rattle.sercos_block.specs.declared.block.Block.{Block};
+ghost use Rattle.sercos_drive.specs.Slots.{slot_of};
 ghost use Rattle.sercos_drive.specs.Heard.{mst_in, mst_got, single_in, lies_within, record_in, joint_in, mdt_got};
 
-use sercos_block::Store;
-use sercos_block::numbers::{MDT_LENGTH, MDT_LIST, POSITION};
-use sercos_command::{carried_len, number_at};
+use crate::slot::Slot;
 use sercos_telegram::{Control, read_joint, read_mst, read_single};
 
 /// What an MDT tells the drive.
@@ -75,27 +75,23 @@ fn record_in(mdt_len: u16, position: u16, len: u16, content: &[u8]) -> Option<To
     }
 }
 
-// The record of an MDT to all drives that is the drive's own, by its data blocks.
-#[tactic(auto, unfolding(crate::specs::Heard::joint_in))]
-fn joint_in(store: &Store, content: &[u8]) -> Option<Told>
-    ensures { result ≡ joint_in store.now content.now }
+// The record of an MDT to all drives that is the drive's own, by its slot.
+fn joint_in(slot: &Slot, content: &[u8]) -> Option<Told>
+    requires { 4 ≤ slot.now.record_len }
+    ensures { (blocks : List Block) → slot.now ≡ slot_of blocks → result ≡ joint_in blocks content.now }
 {
-    record_in(
-        number_at(store, MDT_LENGTH) as u16,
-        number_at(store, POSITION) as u16,
-        carried_len(store, MDT_LIST) as u16,
-        content,
-    )
+    record_in(slot.mdt_len, slot.position, slot.record_len, content)
 }
 
 // What the drive gets at the MDT's place, in the phase in which it stands.
-pub(crate) fn mdt_got(address: u8, phase: u8, store: &Store, content: Option<&[u8]>) -> Option<Told>
-    ensures { result ≡ mdt_got address phase store.now (option_copied content.entry) }
+pub(crate) fn mdt_got(address: u8, phase: u8, slot: &Slot, content: Option<&[u8]>) -> Option<Told>
+    requires { 4 ≤ slot.now.record_len }
+    ensures { (blocks : List Block) → slot.now ≡ slot_of blocks → result ≡ mdt_got address phase blocks (option_copied content.entry) }
 {
     match content {
         Some(content) => {
             if 3 <= phase {
-                joint_in(store, content)
+                joint_in(slot, content)
             } else {
                 single_in(address, content)
             }

@@ -5,6 +5,7 @@ mod drive;
 mod feedback;
 mod hearing;
 mod law;
+mod slot;
 
 pub use drive::Drive;
 pub use law::drive_law;

@@ -201,7 +201,7 @@ module _ (blocks : List Block) where
           let is = epoch past run sound in
           parts_exact laws blocks small (epoch_begun past) (epoch_log past) (fall_into_parts (epoch_begun past) (epoch_log past) is.in_turn (in_step busy past run)) is.sound (answered_replies (accepted (epoch_taken past))) is.alike is.level.steady
 
-      cycle_exact : (v : View) (past : List View) → IsRun busy (v ∷ past) → AreSound blocks (v ∷ past) → AreExact blocks (begun_in v past) (log_in v past) (writes_of (log_in v past))
+      pub cycle_exact : (v : View) (past : List View) → IsRun busy (v ∷ past) → AreSound blocks (v ∷ past) → AreExact blocks (begun_in v past) (log_in v past) (writes_of (log_in v past))
       cycle_exact v past run sound =
           let is = in_cycle v past run sound (epoch past run.0 sound.0) in
           parts_exact laws blocks small (begun_in v past) (log_in v past) (fall_into_parts (begun_in v past) (log_in v past) is.in_turn (in_step_in busy v past run)) is.sound (answered_replies (accepted (taken_in v past))) is.alike is.level.steady

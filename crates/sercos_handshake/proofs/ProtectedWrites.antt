@@ -113,7 +113,7 @@ stays_quiet v past low = by (processes v past)
 abbrev pub AreAllowed : Type 0
 AreAllowed = (t : Taken) (h : List Taken) → AreThose t.blocks h → IfSome (added_on t h) (λ w. put_fault (find_block w.raw t.blocks) t.phase w.bytes ≡ None)
 
-those_moved : (blocks others : List Block) (h : List Taken) → AreAlike others blocks → AreThose blocks h → AreThose others h
+pub those_moved : (blocks others : List Block) (h : List Taken) → AreAlike others blocks → AreThose blocks h → AreThose others h
 those_moved blocks others [] same those = tt
 those_moved blocks others (t ∷ h) same those = (those.0 ∙ sym same, those_moved blocks others h same those.1)
 
@@ -146,10 +146,10 @@ those_unless : (blocks : List Block) (restarts : Bool) (h : List Taken) → AreT
 those_unless blocks true h those = tt
 those_unless blocks false h those = those
 
-those_kept : (blocks : List Block) (v : View) (past : List View) → AreThose blocks (since_reset past) → AreThose blocks (kept_in v past)
+pub those_kept : (blocks : List Block) (v : View) (past : List View) → AreThose blocks (since_reset past) → AreThose blocks (kept_in v past)
 those_kept blocks v past those = those_in_phase blocks (stood_in v (standing past)) (kept_unless v.drive_restarts (since_reset past)) (those_unless blocks v.drive_restarts (since_reset past) those)
 
-those_since : (blocks : List Block) (past : List View) → AreSound blocks past → AreThose blocks (since_reset past)
+pub those_since : (blocks : List Block) (past : List View) → AreSound blocks past → AreThose blocks (since_reset past)
 those_since blocks [] sound = tt
 those_since blocks (v ∷ past) sound = those_in_phase blocks (standing (v ∷ past)).ended (with_record (processed_in v past) (kept_in v past)) (by (those_kept blocks v past (those_since blocks past sound.0)) (processes v past))
   where

@@ -65,7 +65,7 @@ moved_on false f h ago none = refl
 
 module _ (busy : ℕ) where
   -- what a drive that processes a record keeps is what it took in this epoch
-  kept_same : (v : View) (past : List View) → IsRun busy (v ∷ past) → (t : Taken) → processed_in v past ≡ Some t → kept_in v past ≡ unless_restart v (epoch_taken past)
+  pub kept_same : (v : View) (past : List View) → IsRun busy (v ∷ past) → (t : Taken) → processed_in v past ≡ Some t → kept_in v past ≡ unless_restart v (epoch_taken past)
   kept_same v past run t is = by (processes v past)
     where
       by : Processes v past → kept_in v past ≡ unless_restart v (epoch_taken past)

@@ -162,7 +162,7 @@ settled_follows s p k all =
     rw (q.calls, q.tasks, q.waiting) (new_plan s k p.plan (settled s p).plan (p.waiting k) (begun_by (p.calls k)) (p.tasks k) q.plan all)
 
 -- where there is no stop then, no channel's newest outcome is a trouble
-no_stop_before : (s : Known) (p : Past) → (settled s p).stop ≡ None → first_trouble s p ≡ None
+pub no_stop_before : (s : Known) (p : Past) → (settled s p).stop ≡ None → first_trouble s p ≡ None
 no_stop_before s p none = by (first_trouble s p) refl
   where
     some≢none : {A : Type 0} {x : A} → Some x ≡ None → ⊥
@@ -202,7 +202,7 @@ no_stop_before s p none = by (first_trouble s p) refl
         stops None f e = some≢none e
         stops (Some y) f e = some≢none (sym f ∙ e)
 
-none_troubled : (s : Known) (p : Past) (k n j : ℕ) → first_trouble_from s p k n ≡ None → k ≤ j → j < k + n → trouble s p j ≡ None
+pub none_troubled : (s : Known) (p : Past) (k n j : ℕ) → first_trouble_from s p k n ≡ None → k ≤ j → j < k + n → trouble s p j ≡ None
 none_troubled s p k zero j e low high = absurd (omega (arith, low, high))
 none_troubled s p k (suc n) j e low high = by (trouble s p k) refl e (λ rest other. none_troubled s p (k + 1) n j rest (omega (arith, low, other)) (omega (arith, high)))
   where
@@ -359,7 +359,7 @@ found_at s k plan waiting (b ∷ one ∷ older) (t ∷ u ∷ tasks) j all less =
     deeper : FoundAt s k plan waiting (one ∷ older) j → FoundAt s k plan waiting (b ∷ one ∷ older) j
     deeper f = record { newer = b ∷ f.newer; one = f.one; older = f.older; task = f.task; tasks = f.tasks; split = ap (λ xs. b ∷ xs) f.split; place = f.place; follows = f.follows; well = f.well }
 
-not_longer : (begun : List Begun) → length (outcomes_in begun) ≤ length begun
+pub not_longer : (begun : List Begun) → length (outcomes_in begun) ≤ length begun
 not_longer [] = omega arith
 not_longer (b ∷ older) = by (outcome_of b.request b.answers) (not_longer older)
   where

@@ -68,13 +68,13 @@ tell_agenda s (Some p) waiting k all tells =
     (tell_checking 3 128 22 (slice_get all (reads_count (member s k) + 12)) waiting refl tells)))
 
 -- the requests of these jobs have numbers
-abbrev AreNumbered : List Task → Type 0
+abbrev pub AreNumbered : List Task → Type 0
 AreNumbered xs = (i : ℕ) (t : Task) → slice_get xs i ≡ Some t → (t.phase ≡ 4) × (is_some t.number ≡ true)
 
 numbered_tell : (xs : List Task) → AreNumbered xs → AllTell xs
 numbered_tell xs all i t e = let n = all i t e in rw (n.0, n.1) refl
 
-tasks_numbered : (address i : ℕ) (jobs : List Job) → AreNumbered (tasks_from address i jobs)
+pub tasks_numbered : (address i : ℕ) (jobs : List Job) → AreNumbered (tasks_from address i jobs)
 tasks_numbered address i [] = λ j t e. absurd (none≢some e)
 tasks_numbered address i (job ∷ jobs) = by (job.drive == address) (tasks_numbered address (i + 1) jobs)
   where

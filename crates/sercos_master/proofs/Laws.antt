@@ -76,7 +76,7 @@ one_waits false t tasks four all j x e = all j x e
 one_waits true t tasks four all zero x e = sym (ap phase_in e) ∙ four
 one_waits true t tasks four all (suc j) x e = all j x e
 
-tasks_wait : (address i : ℕ) (jobs : List Job) → AreWaiting (tasks_from address i jobs)
+pub tasks_wait : (address i : ℕ) (jobs : List Job) → AreWaiting (tasks_from address i jobs)
 tasks_wait address i [] j t e = absurd (none≢some e)
   where
     none≢some : {A : Type 0} {x : A} → None ≡ Some x → ⊥

@@ -37,7 +37,7 @@ words_long : (xs : List Outcome) → length (words_given xs) ≡ length xs
 words_long [] = refl
 words_long (x ∷ xs) = ap (λ n. suc n) (words_long xs)
 
-part_before : (all : List Outcome) (o : Outcome) (m n : ℕ) → n + m ≤ length all → take n (drop m (words_given (all ++ o ∷ []))) ≡ take n (drop m (words_given all))
+pub part_before : (all : List Outcome) (o : Outcome) (m n : ℕ) → n + m ≤ length all → take n (drop m (words_given (all ++ o ∷ []))) ≡ take n (drop m (words_given all))
 part_before all o m n less =
     let long = words_long all in
     let rest = length-drop m (words_given all) in
@@ -104,11 +104,11 @@ got_below (y ∷ xs) zero x got = omega arith
 got_below (y ∷ xs) (suc i) x got = let less = got_below xs i x got in omega arith
 
 -- OUTCOMES COME AT THE END of each channel's list, or none does.
-abbrev Adds : Past → Past → Type 0
+abbrev pub Adds : Past → Past → Type 0
 Adds p q = (j : ℕ) → (o : Option Outcome) × (outcomes q j ≡ with_outcome o (outcomes p j))
 
 -- where outcomes come after the reads alone, these stay, and what the ring asks
-asks_same : (s : Known) (p q : Past) → Adds p q → all_read s p ≡ true → (all_read s q ≡ true) × (wishes_given s (outcomes q) ≡ wishes_given s (outcomes p))
+pub asks_same : (s : Known) (p q : Past) → Adds p q → all_read s p ≡ true → (all_read s q ≡ true) × (wishes_given s (outcomes q) ≡ wishes_given s (outcomes p))
 asks_same s p q adds all = (
   from_passes_too (length s.drives) 0 (λ k. is_read (member s k) (outcomes p k)) (λ k. is_read (member s k) (outcomes q k)) (λ j on. ap (is_read (member s j)) (adds j).1 ∙ read_stays (member s j) (outcomes p j) (adds j).0 on) all,
   ap asked (wishes_same s.drives 0 (outcomes p) (outcomes q) (λ j d got. each j d got)),
@@ -136,7 +136,7 @@ stays_planned s p q adds same is plan has =
     }
 
 -- an AT adds one outcome at most to each channel
-at_adds : (i : ℕ) (content : List ℕ) (p : Past) → Adds p (after_taken i content p)
+pub at_adds : (i : ℕ) (content : List ℕ) (p : Past) → Adds p (after_taken i content p)
 at_adds i content p j = by (cases_eq j i)
   where
     one : (identifies : Bool) → (o : Option Outcome) × (outcomes_in (begun_by (if identifies then p.calls j else Hear (status_of (word_at content 1)) (word_at content 3) ∷ p.calls j)) ≡ with_outcome o (outcomes p j))

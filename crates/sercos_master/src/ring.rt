@@ -7,12 +7,12 @@ ghost use Rattle.sercos_timing.specs.Views.{PlanView};
 ghost use Rattle.sercos_telegram.specs.Words.{control_word};
 ghost use Rattle.sercos_master.specs.Says.{mdt_said, sent_as};
 ghost use Rattle.sercos_master.specs.Reports.{with_reports, with_broken, outcomes_told, stop_told, plan_told};
-ghost use Rattle.sercos_seat.specs.Ring.{known_of, IsKnown, Known, Task, member, tasks_for};
+ghost use Rattle.sercos_seat.specs.Ring.{known_of, IsKnown, Known, MemberView, Task, member, tasks_for};
 ghost use Rattle.sercos_seat.specs.Agenda.{wishes_given, wishes_from, last_long_stop};
 ghost use Rattle.sercos_master.specs.Annals.{IsPlanned, after_mdt, with_plan, planned_by, with_due_plan, settled, outcomes, Past, is_mst, after_mst, after_at, place_of, is_awaited, wanted_len, after_at_of, in_turn, begun, is_done, has_lost_mst, fall_of, with_stop, first_trouble, first_place, is_at_limit, goes_on, new_epoch, still_waiting, after_end, next_phase};
 ghost use Rattle.sercos_seat.specs.Channel.{is_place};
-ghost use Rattle.sercos_seat.specs.Seats.{broken_in, outcomes_seen, SeatView, has_read, cycles_kept, ended_in, forgotten, sent_in, with_begun, begun_task, Seen, AreWaiting, at_len_kept};
-ghost use Rattle.sercos_master.specs.Kept.{IsIn, sent_now, Fits, records_upto, is_same, waited_with, SeatsStandFor, CoreStandsFor};
+ghost use Rattle.sercos_seat.specs.Seats.{broken_in, outcomes_seen, SeatView, SeatStandsFor, has_read, cycles_kept, ended_in, forgotten, sent_in, with_begun, begun_task, Seen, AreWaiting, at_len_kept};
+ghost use Rattle.sercos_master.specs.Kept.{IsIn, sent_now, Fits, records_upto, is_same, waited_with, with_pair, SeatsStandFor, CoreStandsFor};
 
 use crate::lookup::Places;
 use crate::opening::{deal, open_seats};
@@ -838,6 +838,18 @@ fn reset_seats(seats: &mut Vec<Seat>, reports: &mut ArrayVec<Reported, 128>)
     }
 }
 
+// Ends a cycle of a phase at a seat, and reports the request that ended, if one did. A report is large, so it is moved only then.
+fn end_seat(phase: u8, seat: &mut Seat, reports: &mut ArrayVec<Reported, 128>)
+    ensures stand { (d : MemberView) (x : Seen) → SeatStandsFor seat.old d x → SeatStandsFor seat.new d (ended_in phase x) }
+    ensures told { length reports.old.items < 128 → reports.new.items ≡ with_pair seat.old.report reports.old.items }
+{
+    if seat.has_report() {
+        add(&mut seat.end_cycle(phase), reports);
+    } else {
+        seat.end_quiet_cycle(phase);
+    }
+}
+
 // Ends a cycle of a phase at each seat, and reports the requests that ended.
 fn end_seats(phase: u8, seats: &mut Vec<Seat>, reports: &mut ArrayVec<Reported, 128>)
     ensures count { length seats.new.items ≡ length seats.old.items }
@@ -847,7 +859,7 @@ fn end_seats(phase: u8, seats: &mut Vec<Seat>, reports: &mut ArrayVec<Reported, 
 {
     for place in 0..seats.len() {
         let seat = &mut seats[place];
-        add(&mut seat.end_cycle(phase), reports);
+        end_seat(phase, seat, reports);
     }
 }
 

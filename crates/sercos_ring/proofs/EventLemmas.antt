@@ -8,9 +8,9 @@ use Rattle.sercos_seat.specs.Channel.{Report}
 use Rattle.sercos_seat.specs.Ring.{Known, MemberView, known_of, member_of}
 use Rattle.sercos_master.specs.Annals.{Past, Call, HearMst, HearAt, Mdt, Restart}
 use Rattle.sercos_master.specs.Reports.{HasRestarted, AreOpen, inserted, with_report, with_reports, broken, with_broken}
-use Rattle.sercos_ring.specs.Arrivals.{heard, passage}
+use Rattle.sercos_journal.specs.Arrivals.{heard, passage}
 use Rattle.sercos_script.specs.Links.{Carry, Restarts}
-use Rattle.sercos_ring.specs.Runs.{at_calls, with_at, mid_calls, begin_calls, own_mst, restart_events, looks_back}
+use Rattle.sercos_journal.specs.Runs.{at_calls, with_at, mid_calls, begin_calls, own_mst, restart_events, looks_back}
 
 length-inserted : (i : ℕ) (o : Outcome) (l : List (ℕ × Outcome)) → length (inserted i o l) ≡ length l + 1
 length-inserted i o [] = refl

@@ -1,12 +1,9 @@
 mod AllDrives
 mod TurnLemmas
 mod MoveLemmas
-mod ClearLemmas
 mod SendLemmas
-mod StationLemmas
 mod TurnsSaid
 mod RunLemmas
 mod EventLemmas
 mod ListLemmas
 mod OpenLemmas
-mod Worked

@@ -9,7 +9,9 @@ use Rattle.sercos_master.specs.declared.master.AnyMaster.{AnyMaster}
 use Rattle.sercos_master.specs.Annals.{Call}
 use Rattle.sercos_master.specs.Any.{AnyStandsFor}
 use Rattle.sercos_script.specs.Links.{Carry, Restarts}
-use Rattle.sercos_ring.specs.Runs.{drive_at, master_calls, given_before, IsNext, IsRun}
+use Rattle.sercos_journal.specs.Runs.{drive_at, master_calls, given_before, IsNext, IsRun, IsClear}
+use Rattle.sercos_held.specs.Opened.{IsOpened}
+use Rattle.sercos_headline.specs.Headline.{KeepsAll}
 use Rattle.sercos_ring.specs.Stations.{AllStand, addresses_below}
 use Rattle.sercos_ring.specs.Parts.{PartsStandFor}
 use Rattle.sercos_ring.specs.declared.ring.Ring.{Ring}
@@ -74,3 +76,8 @@ pub record AfterCycle {L : Type 0} (carry_of : L → Carry) (restart_of : L → 
 pub record IsNextOf {L : Type 0} (carry_of : L → Carry) (restart_of : L → Restarts) (ring : Ring L) (made : CycleView) : Type 0 where
   pub next : (r : RingView) (jobs : List Job) (carry : Carry) (restarts : Restarts) (j : List CycleView)
       → RingStandsFor carry_of restart_of ring r jobs carry restarts j → IsNext r jobs carry restarts made j
+
+-- What holds of the record of the next cycle of a ring, if the ring was opened with typed values and nothing was unseen so far.
+pub record KeepsAllOf {L : Type 0} (carry_of : L → Carry) (restart_of : L → Restarts) (ring : Ring L) (made : CycleView) : Type 0 where
+  pub keeps : (r : RingView) (jobs : List Job) (carry : Carry) (restarts : Restarts) (j : List CycleView)
+      → RingStandsFor carry_of restart_of ring r jobs carry restarts j → IsOpened r jobs → IsClear (made ∷ j) → KeepsAll r jobs carry restarts made j

@@ -1,6 +1,4 @@
-pub mod Arrivals
-pub mod Records
-pub mod Runs
+pub mod Frames
 pub mod Stations
 pub mod Sendings
 pub mod Parts

@@ -10,9 +10,9 @@ use Rattle.sercos_seat.specs.Ring.{Known}
 use Rattle.sercos_master.specs.declared.master.AnyMaster.{AnyMaster}
 use Rattle.sercos_master.specs.Annals.{Call}
 use Rattle.sercos_master.specs.Any.{AnyStandsFor}
-use Rattle.sercos_ring.specs.Arrivals.{heard, passage, unseen_at}
+use Rattle.sercos_journal.specs.Arrivals.{heard, passage, unseen_at}
 use Rattle.sercos_script.specs.Links.{Carry}
-use Rattle.sercos_ring.specs.Runs.{with_at, sent_at, ats_said, at_calls, unseen_ats, contents, station_of}
+use Rattle.sercos_journal.specs.Runs.{with_at, sent_at, ats_said, at_calls, unseen_ats, contents, station_of}
 use Rattle.sercos_ring.specs.declared.turns.AtTurn.{AtTurn}
 
 -- what the drives at these turns say

@@ -6,11 +6,9 @@ mod moves;
 mod opening;
 mod receiving;
 mod ring;
-mod run;
 mod sending;
 mod stations;
 mod turns;
 
 pub use law::standing_law;
 pub use ring::Ring;
-pub use run::run_law;

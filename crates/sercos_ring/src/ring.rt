@@ -7,7 +7,7 @@ ghost use Rattle.sercos_step.specs.declared.request.Job.{Job};
 ghost use Rattle.sercos_block.specs.Views.{DriveView, RingView};
 ghost use Rattle.sercos_trace.specs.Views.{CycleView};
 ghost use Rattle.sercos_script.specs.Links.{Carry, Restarts};
-ghost use Rattle.sercos_ring.specs.Runs.{no_events, drive_at, given_before};
+ghost use Rattle.sercos_journal.specs.Runs.{no_events, drive_at, given_before};
 ghost use Rattle.sercos_ring.specs.Parts.{PartsStandFor};
 ghost use Rattle.sercos_drive.specs.Heard.{DriveCall};
 ghost use Rattle.sercos_drive.specs.Kept.{DriveStandsFor};
@@ -28,6 +28,7 @@ use arrayvec::ArrayVec;
 use sercos_bits::{BitBuf, Content};
 use sercos_block::RingSetup;
 use sercos_drive::Drive;
+use sercos_headline::headline_law;
 use sercos_master::AnyMaster;
 use sercos_script::BitLink;
 use sercos_step::Job;
@@ -210,7 +211,7 @@ impl<L: BitLink> Ring<L> {
     ghost use Rattle.std.specs.Borrow.{follows_so};
     ghost use mathlib.Core.Option.{none};
     ghost use Rattle.sercos_ring.specs.contracts.ring.Ring.{the_row};
-    ghost use Rattle.sercos_ring.specs.Kept.{AfterCycle, AfterTurn, IsNextOf, RingStandsFor, cycles_made, drives_in, newest};
+    ghost use Rattle.sercos_ring.specs.Kept.{AfterCycle, AfterTurn, IsNextOf, KeepsAllOf, RingStandsFor, cycles_made, drives_in, newest};
 
     /// Opens a ring of a valid setup that has made no cycle, over a link, with at most 4,096 requests, each of an element that a
     /// transfer takes. A request to an address that no drive of the setup has is never begun. `AllocError` is returned if memory
@@ -288,11 +289,17 @@ impl<L: BitLink> Ring<L> {
     /// Goes on by a cycle, and lends what happened in it: the telegrams, the moves of the drives, what the master reports, and how
     /// many arrivals were unseen. The ring has made fewer than 2^31 cycles. The order within a cycle is that of IEC 61491:1995,
     /// the rest this profile's.
+    ///
+    /// Whatever the link does, as long as nothing was unseen: if phase 3 or 4 is commanded, the telegrams are apart and keep the
+    /// times that the drives declare; no drive stands later than the later phase commanded in this cycle or the one before; and
+    /// all transfers so far are exact, and told once and in order.
     pub fn cycle(&mut self) -> &CycleRecord
         requires room { cycles_made self.old < 2 ^ 31 }
         ensures* after { sem 𝓛 (follows_so (the_row L.row) (the_row L.row) self.entry.ghost_name none (λ _ _. ⊤) (λ new. AfterCycle L.carry L.restart self.old new × (result.now ≡ newest new))) }
         ensures next { IsNextOf L.carry L.restart self.old result.now }
+        ensures headline { KeepsAllOf L.carry L.restart self.old result.now }
     {
+        headline_law();
         self.go();
         &self.record
     }

@@ -11,12 +11,13 @@ ghost use Rattle.sercos_seat.specs.Ring.{Known};
 ghost use Rattle.sercos_master.specs.Says.{sent_as};
 ghost use Rattle.sercos_master.specs.Any.{AnyStandsFor};
 ghost use Rattle.sercos_master.specs.Annals.{Call, HearMst};
-ghost use Rattle.sercos_ring.specs.Arrivals.{IsSent, heard, passage, sum_below, unseen_at};
-ghost use Rattle.sercos_ring.specs.Runs.{content_of, mdt_heard, own_mst, sent_at, sent_mdt, sent_mst, start_before, station_of, unseen_mdt, with_at};
+ghost use Rattle.sercos_journal.specs.Arrivals.{heard, passage, sum_below, unseen_at};
+ghost use Rattle.sercos_ring.specs.Frames.{IsSent};
+ghost use Rattle.sercos_journal.specs.Runs.{content_of, mdt_heard, own_mst, sent_at, sent_mdt, sent_mst, start_before, station_of, unseen_mdt, with_at};
 ghost use Rattle.sercos_ring.specs.Stations.{AllStand};
 ghost use Rattle.sercos_ring.specs.Sendings.{said_by, AreSent, AreTurns};
 
-use crate::receiving::{Framed, frame_said, receive};
+use crate::receiving::{Framed, content_of, frame_said, receive};
 use crate::stations::{hear_mdts, hear_no_mdts, one};
 use crate::turns::AtTurn;
 use arrayvec::ArrayVec;
@@ -64,7 +65,8 @@ pub(crate) fn pass_own<L: BitLink>(
         to: 0,
     };
     let receipt = receive(link, p, said, sent, bits, content);
-    hear_own(master, receipt.framed, content);
+    let came = content_of(receipt.unseen, said, content);
+    hear_own(master, receipt.framed, came);
     one(receipt.unseen)
 }
 
@@ -104,7 +106,8 @@ fn pass_at<L: BitLink>(
         to: 0,
     };
     let receipt = receive(link, p, said, sent, bits, content);
-    hear_at(master, receipt.framed, content);
+    let came = content_of(receipt.unseen, said, content);
+    hear_at(master, receipt.framed, came);
     one(receipt.unseen)
 }
 

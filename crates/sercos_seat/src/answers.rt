@@ -174,16 +174,15 @@ fn push_count(count: u32, len: u16, values: &mut ArrayVec<u8, 64>)
     push_value(count / 16777216, len, 4, values);
 }
 
-/// The command values of a record.
-pub fn command_values(count: u32, words: &[Words]) -> ArrayVec<u8, 64>
-    requires { length words.now ≤ 16 }
-    ensures { result.items ≡ values_said count (map long_of words.now) }
+/// Puts the command values of a record, in place, since they would be copied if they were returned.
+pub fn put_command_values(count: u32, words: &[Words], values: &mut ArrayVec<u8, 64>)
+    requires few { length words.now ≤ 16 }
+    requires none { values.old.items ≡ [] }
+    ensures { values.new.items ≡ values_said count (map long_of words.now) }
 {
-    let mut values = ArrayVec::new();
     for place in 0..words.len() {
-        push_count(count, len_of(&words[place]), &mut values);
+        push_count(count, len_of(&words[place]), values);
     }
-    values
 }
 
 /// The last of these numbers that was read as one of four bytes, with its word.

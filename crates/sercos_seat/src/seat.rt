@@ -17,8 +17,8 @@ ghost use Rattle.sercos_service_master.specs.Calls.{begun_by};
 ghost use Rattle.sercos_seat.specs.Seats.{pair_of, broken_in, record_seen, record_len_kept, mdt_words_kept, IsQueue, sent_in, forgotten, after_outcome, words_of, Seen, SeatStandsFor, heard_in, identified_in, taken_in, at_in, begun_in, with_begun, is_idle_in, has_read, cycles_kept, nothing_seen, ended_in, AreWaiting, outcomes_seen, next_write, next_in_2, next_in_3, at_len_kept, IsSeat, kept_given, kept_checked, kept_ready};
 
 use crate::answers::{
-    Asked, Words, asked_by, command_values, ended_well, last_long_stop, listed_len, low_at,
-    outcome_bytes, part, words_in,
+    Asked, Words, asked_by, ended_well, last_long_stop, listed_len, low_at, outcome_bytes, part,
+    put_command_values, words_in,
 };
 use crate::member::{Member, Numbers, command, number_at, read, write_list, write_word};
 use crate::queue::{Waiting, is_request};
@@ -396,7 +396,8 @@ impl Seat {
         ensures bytes { (d : MemberView) (x : Seen) → SeatStandsFor self.old d x → length out.old + length (record_seen count d x) ≤ 2048 → out.new ≡ out.old ++ record_seen count d x }
         ensures some { 0 < length out.old → 0 < length out.new }
     {
-        let values = command_values(count, self.mdt_words());
+        let mut values = ArrayVec::new();
+        put_command_values(count, self.mdt_words(), &mut values);
         let (control, info) = self.channel.send();
         let record = Record {
             control,
@@ -455,6 +456,23 @@ impl Seat {
             return None;
         }
         self.report.take()
+    }
+
+    /// Returns whether a request ended in this cycle.
+    pub fn has_report(&self) -> bool
+        ensures { result ≡ is_some self.now.report }
+    {
+        self.report.is_some()
+    }
+
+    /// Ends a cycle of this phase in which no request ended.
+    pub fn end_quiet_cycle(&mut self, phase: u8)
+        requires { self.old.report ≡ None }
+        ensures { (d : MemberView) (x : Seen) → SeatStandsFor self.old d x → SeatStandsFor self.new d (ended_in phase x) }
+    {
+        self.channel.end_cycle();
+        self.missed = phase >= 3 && !self.heard;
+        self.heard = false;
     }
 
     /// Begins an epoch: nothing was seen of the drive. Returns the request at work as broken, if there is one.

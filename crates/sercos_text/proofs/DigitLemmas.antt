@@ -1,8 +1,8 @@
 -- The table of digits, and the loop over pairs.
-use Rattle.std.proofs.Common.{◌≡◌, ℕ, zero, suc, ◌+◌, ◌-◌, ◌*◌, ◌/◌, ◌%◌, ◌<◌, ◌≤◌, Bool, true, false, ◌==◌, ◌&&◌, ◌||◌, nat_lt, nat_le, cond, List, [], ◌∷◌, ◌++◌, length, take, drop, get_or, refl, sym, ap, ◌∙◌, arith, append_assoc}
+use Rattle.std.proofs.Common.{◌≡◌, ℕ, zero, suc, ◌+◌, ◌-◌, ◌*◌, ◌/◌, ◌%◌, ◌<◌, ◌≤◌, Bool, true, false, ◌==◌, ◌&&◌, ◌||◌, nat_lt, nat_le, cond, List, [], ◌∷◌, ◌++◌, length, take, drop, get_or, refl, sym, ap, ◌∙◌, arith, append_assoc, length-drop}
 use Rattle.std.proofs.lemmas.Bool.{and_parts}
 use Rattle.std.proofs.lemmas.Bool.Decides.{nat_tests}
-use Rattle.std.proofs.lemmas.List.{append-nil, at_drop_all, drop_more, length-take-le}
+use Rattle.std.proofs.lemmas.List.{append-nil, at_drop_all, drop_more, drop-drop, length-take-le}
 use Rattle.sercos_text.specs.Fields.{is_hex, is_dash, digit_of, low_pairs, all_hex, hex_len, hex_of}
 use Rattle.std.specs.List.{prefix_len}
 use Rattle.sercos_text.specs.declared.digits.TheConstants.{VALUES}
@@ -78,3 +78,54 @@ no_dash text differ = fails (get_or text 0 0) differ
   where
     fails : (c : ℕ) → (c ≡ 45 → ⊥) → (c == 45) ≡ false
     fails c differ = grind (arith, nat_tests)
+
+-- Eight bytes are digits if the sum of their values is below that of a byte that is none.
+digit_by : (byte value : ℕ) → (is_hex byte ≡ false → value ≡ 255) → value < 255 → is_hex byte ≡ true
+digit_by byte value other below = by (is_hex byte) refl
+  where
+    by : (is : Bool) → is_hex byte ≡ is → is ≡ true
+    by true e = refl
+    by false e = let wrong = other e in absurd (omega (arith, wrong, below))
+
+all_by : (text : List ℕ) → ((i : ℕ) → i < length text → is_hex (get_or text i 0) ≡ true) → all_hex text ≡ true
+unfolding all_hex
+all_by [] all = refl
+all_by (c ∷ text) all = rw (all 0 (omega arith)) (all_by text (λ i below. all (suc i) (omega (arith, below))))
+
+pub eight_digits : (text : List ℕ) (a b c d e f g h : ℕ) → length text ≡ 8
+    → (is_hex (get_or text 0 0) ≡ false → a ≡ 255) → (is_hex (get_or text 1 0) ≡ false → b ≡ 255)
+    → (is_hex (get_or text 2 0) ≡ false → c ≡ 255) → (is_hex (get_or text 3 0) ≡ false → d ≡ 255)
+    → (is_hex (get_or text 4 0) ≡ false → e ≡ 255) → (is_hex (get_or text 5 0) ≡ false → f ≡ 255)
+    → (is_hex (get_or text 6 0) ≡ false → g ≡ 255) → (is_hex (get_or text 7 0) ≡ false → h ≡ 255)
+    → a + b + c + d + (e + f + g + h) < 255 → all_hex text ≡ true
+eight_digits text a b c d e f g h eight a_is b_is c_is d_is e_is f_is g_is h_is below = all_by text at
+  where
+    at : (i : ℕ) → i < length text → is_hex (get_or text i 0) ≡ true
+    at zero inside = digit_by (get_or text 0 0) a a_is (omega (arith, below))
+    at (suc zero) inside = digit_by (get_or text 1 0) b b_is (omega (arith, below))
+    at (suc (suc zero)) inside = digit_by (get_or text 2 0) c c_is (omega (arith, below))
+    at (suc (suc (suc zero))) inside = digit_by (get_or text 3 0) d d_is (omega (arith, below))
+    at (suc (suc (suc (suc zero)))) inside = digit_by (get_or text 4 0) e e_is (omega (arith, below))
+    at (suc (suc (suc (suc (suc zero))))) inside = digit_by (get_or text 5 0) f f_is (omega (arith, below))
+    at (suc (suc (suc (suc (suc (suc zero)))))) inside = digit_by (get_or text 6 0) g g_is (omega (arith, below))
+    at (suc (suc (suc (suc (suc (suc (suc zero))))))) inside = digit_by (get_or text 7 0) h h_is (omega (arith, below))
+    at (suc (suc (suc (suc (suc (suc (suc (suc i)))))))) inside = absurd (omega (arith, eight, inside))
+
+-- where digits come first, they count
+digits_first : (n : ℕ) (text : List ℕ) → n ≤ length text → all_hex (take n text) ≡ true → prefix_len is_hex text ≡ n + prefix_len is_hex (drop n text)
+unfolding all_hex
+digits_first zero text inside all = omega arith
+digits_first (suc n) [] inside all = absurd (omega arith)
+digits_first (suc n) (c ∷ text) inside all =
+    let parts = and_parts (is_hex c) (all_hex (take n text)) all in
+    let rest = digits_first n text (omega arith) parts.1 in
+    rw parts.0 (omega (arith, rest))
+
+pub eight_more : (text : List ℕ) (k : ℕ) (part : List ℕ) → 8 * k + 8 ≤ length text → part ≡ take 8 (drop (8 * k) text) → all_hex part ≡ true
+    → prefix_len is_hex text ≡ 8 * k + prefix_len is_hex (drop (8 * k) text) → prefix_len is_hex text ≡ 8 * (k + 1) + prefix_len is_hex (drop (8 * (k + 1)) text)
+eight_more text k part inside is all before =
+    let long : length (drop (8 * k) text) ≡ length text - 8 * k = length-drop (8 * k) text in
+    let more : prefix_len is_hex (drop (8 * k) text) ≡ 8 + prefix_len is_hex (drop 8 (drop (8 * k) text)) = digits_first 8 (drop (8 * k) text) (omega (arith, long, inside)) (rw is at all) in
+    let place : 8 * k + 8 ≡ 8 * (k + 1) = omega arith in
+    let next : drop 8 (drop (8 * k) text) ≡ drop (8 * (k + 1)) text = rw (drop-drop 8 (8 * k) text, place) refl in
+    before ∙ ap (λ (n : ℕ). 8 * k + n) (more ∙ ap (λ (rest : List ℕ). 8 + prefix_len is_hex rest) next) ∙ omega arith

@@ -1,10 +1,10 @@
 // Hexadecimal digits at the front of a text.
-ghost use Rattle.std.specs.Prelude.{◌<◌, ◌≡◌, ◌+◌, ◌*◌, ◌/◌, ◌%◌, ◌≤◌, true, false, [], ◌++◌, max, length, take, IfOk, IfErr, OnOk};
+ghost use Rattle.std.specs.Prelude.{◌<◌, ◌≡◌, ◌+◌, ◌*◌, ◌/◌, ◌%◌, ◌≤◌, true, false, [], ◌++◌, max, length, take, drop, IfOk, IfErr, OnOk};
 ghost use Rattle.std.specs.List.{prefix_len};
 ghost use Rattle.std.specs.Result.{result_err};
 ghost use Rattle.sercos_text.specs.Fields.{is_hex, hex_digits, pairs_fault, hex_fault, digits_fault, hex_len, hex_of, pairs_of, digit_of, low_pairs, all_hex, is_dash};
 
-use sercos_bits::Content;
+use crate::room::Room;
 
 // The value of each byte as a hexadecimal digit in lower case.
 const VALUES: [u8; 256] = [
@@ -40,8 +40,8 @@ fn is_hex(byte: u8) -> bool
     value_of(byte) < 16
 }
 
-// How many hexadecimal digits a text begins with.
-fn leading_digits(text: &[u8]) -> usize
+// How many hexadecimal digits a text begins with, found byte by byte.
+fn first_digits(text: &[u8]) -> usize
     ensures value { result ≡ hex_digits text.now }
     ensures bound { result ≤ length text.now }
 {
@@ -51,6 +51,53 @@ fn leading_digits(text: &[u8]) -> usize
         }
     }
     text.len()
+}
+
+// Whether eight bytes surely are hexadecimal digits. The value of another byte is above the sum of eight digits.
+fn are_eight(bytes: &[u8]) -> bool
+    requires { length bytes.now ≡ 8 }
+    ensures { result ≡ true → all_hex bytes.now ≡ true }
+{
+    let front = u16::from(value_of(bytes[0]))
+        + u16::from(value_of(bytes[1]))
+        + u16::from(value_of(bytes[2]))
+        + u16::from(value_of(bytes[3]));
+    let back = u16::from(value_of(bytes[4]))
+        + u16::from(value_of(bytes[5]))
+        + u16::from(value_of(bytes[6]))
+        + u16::from(value_of(bytes[7]));
+    front + back < 255
+}
+
+// Eight bytes of a text from a place on.
+fn eight_from(text: &[u8], place: usize) -> &[u8]
+    requires { place + 8 ≤ length text.now }
+    ensures value { result.now ≡ take 8 (drop place text.now) }
+    ensures len { length result.now ≡ 8 }
+{
+    &text[place..place + 8]
+}
+
+// The place after the eights of hexadecimal digits with which a text begins.
+fn after_eights(text: &[u8]) -> usize
+    ensures value { hex_digits text.now ≡ result + hex_digits (drop result text.now) }
+    ensures bound { result ≤ length text.now }
+{
+    for turn in 0..text.len() / 8 {
+        if !are_eight(eight_from(text, 8 * turn)) {
+            return 8 * turn;
+        }
+    }
+    text.len() / 8 * 8
+}
+
+// How many hexadecimal digits a text begins with.
+fn leading_digits(text: &[u8]) -> usize
+    ensures value { result ≡ hex_digits text.now }
+    ensures bound { result ≤ length text.now }
+{
+    let place = after_eights(text);
+    place + first_digits(&text[place..])
 }
 
 // The digits of at most `most` bytes at the front of a text: how many they are.
@@ -123,7 +170,7 @@ fn pair_of(high: u8, low: u8) -> u8
 }
 
 // Replaces the bytes by those that two digits each spell.
-fn set_pairs(digits: &[u8], bytes: &mut Content)
+fn set_pairs(digits: &[u8], bytes: &mut Room)
     requires few { length digits.now ≤ 4096 }
     requires even { length digits.now % 2 ≡ 0 }
     requires digits { all_hex digits.now ≡ true }
@@ -131,12 +178,12 @@ fn set_pairs(digits: &[u8], bytes: &mut Content)
 {
     bytes.clear();
     for place in 0..digits.len() / 2 {
-        bytes.push_within(pair_of(digits[2 * place], digits[2 * place + 1]));
+        bytes.put(place, pair_of(digits[2 * place], digits[2 * place + 1]));
     }
 }
 
 /// Replaces the bytes by those that the first `len` bytes of a text spell, which are digits.
-pub(crate) fn set_digits(text: &[u8], len: usize, bytes: &mut Content)
+pub(crate) fn set_digits(text: &[u8], len: usize, bytes: &mut Room)
     requires within { len ≤ length text.now }
     requires digits { len ≤ hex_digits text.now }
     requires most { len ≤ 4096 }
@@ -149,7 +196,7 @@ pub(crate) fn set_digits(text: &[u8], len: usize, bytes: &mut Content)
 /// Replaces the bytes by those at the front of a text, where [`read_hex`] finds no byte that can't stand and takes `len`
 /// bytes of the text.
 #[tactic(auto, unfolding(crate::specs::Fields::hex_of, crate::specs::Fields::hex_len))]
-pub(crate) fn set_bytes(text: &[u8], len: usize, bytes: &mut Content)
+pub(crate) fn set_bytes(text: &[u8], len: usize, bytes: &mut Room)
     requires len { len ≡ hex_len text.now }
     requires within { len ≤ length text.now }
     requires most { len ≤ 4096 }

@@ -8,9 +8,8 @@ ghost use Rattle.sercos_text.specs.Tails.{addresses_in};
 use crate::digits::{read_digits, read_hex, set_bytes, set_digits};
 use crate::list::{Addresses, read_ident};
 use crate::number::{read_number, read_signed};
+use crate::room::{Numbers, Room};
 use crate::tail::{Tail, read_tail};
-use arrayvec::ArrayVec;
-use sercos_bits::Content;
 
 /// A field of a line.
 #[derive(Clone, Copy, Debug, PartialEq, Eq)]
@@ -47,18 +46,15 @@ pub(crate) fn field_of(letter: u8) -> Option<Field>
     }
 }
 
-/// The most numbers that a line gives.
-pub const MOST_NUMBERS: usize = 64;
-
 /// What the fields of a line give.
-#[derive(Debug, Drop)]
+#[derive(Drop)]
 pub struct Told {
     /// Its numbers without a sign, in order.
-    pub numbers: ArrayVec<u32, MOST_NUMBERS>,
+    pub numbers: Numbers,
     /// Its number with a sign; 0 if it has none.
     pub signed: i32,
     /// Its bytes.
-    pub bytes: Content,
+    pub bytes: Room,
     /// The addresses of its list.
     pub addresses: Addresses,
 }
@@ -69,9 +65,9 @@ impl Told {
         ensures { (result.numbers.items ≡ []) × (result.signed ≡ pos 0) × (result.bytes ≡ []) × (result.addresses.items ≡ []) }
     {
         Told {
-            numbers: ArrayVec::new(),
+            numbers: Numbers::new(),
             signed: 0,
-            bytes: Content::new(),
+            bytes: Room::new(),
             addresses: Addresses::new(),
         }
     }

@@ -52,7 +52,7 @@ fn put_telegram(room: &mut Line, kind: Kind, told: &Told)
     match room {
         Line::Telegram { cycle, sent } => {
             *cycle = long(told, 0);
-            sent.fill(kind, told.signed, long(told, 1), &told.bytes);
+            sent.fill(kind, told.signed, long(told, 1), told.bytes.as_slice());
         }
         other => *other = telegram_line(kind, told),
     }

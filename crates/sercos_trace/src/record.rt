@@ -43,13 +43,14 @@ impl Default for Sent {
 
 impl Sent {
     // Replaces the telegram. Only as many bytes are copied as the content has.
-    pub(crate) fn fill(&mut self, kind: Kind, start: i32, bits: u32, content: &Content)
+    pub(crate) fn fill(&mut self, kind: Kind, start: i32, bits: u32, content: &[u8])
+        requires { length content.now ≤ 2048 }
         ensures { self.new ≡ record { kind = kind; start = start; bits = bits; content = content.now } }
     {
         self.kind = kind;
         self.start = start;
         self.bits = bits;
-        self.content.assign(content.as_slice());
+        self.content.assign(content);
     }
 }
 
@@ -104,7 +105,7 @@ pub fn push_sent(
 {
     sent.push(Sent::default());
     let place = sent.len() - 1;
-    sent[place].fill(kind, start, bits, content);
+    sent[place].fill(kind, start, bits, content.as_slice());
 }
 
 /// Puts a telegram behind the first `count` of a list and counts it, as [`push_sent`] appends it. If one stands there, it is
@@ -126,7 +127,7 @@ pub fn put_sent(
     if *count == sent.len() {
         push_sent(sent, kind, start, bits, content);
     } else {
-        sent[*count].fill(kind, start, bits, content);
+        sent[*count].fill(kind, start, bits, content.as_slice());
     }
     *count += 1;
 }

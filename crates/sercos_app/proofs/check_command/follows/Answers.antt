@@ -8,7 +8,10 @@ use Rattle.sercos_app.proofs.check_command.follows.Goals as goal
 pub returns-in-Telegram-clause-value : goal.returns-in-Telegram-clause-value
 returns-in-Telegram-clause-value c =
     rw c.in-Telegram.is (λ before stands shaped. c.is_ok.ensures.value
-    ∙ follow_test c.test_law.ensures.follows c.shape_law.ensures.clean before (line.Telegram c.in-Telegram.cycle c.in-Telegram.sent) _ shaped (c.line.ensures.ok (map plain before) stands))
+    ∙ follow_test c.test_law.ensures.follows c.shape_law.ensures.clean before (line.Telegram c.in-Telegram.cycle c.in-Telegram.sent) _ shaped (rw c.requires.other at (c.line.ensures.ok (map plain before) stands)))
+
+pub returns-in-Telegram-clause-stands : goal.returns-in-Telegram-clause-stands
+returns-in-Telegram-clause-stands c = rw c.in-Telegram.is (λ before stands. rw c.requires.other at (c.line.ensures.stands (map plain before) stands))
 
 pub returns-in_default : goal.returns-in_default
 returns-in_default c =

@@ -14,15 +14,15 @@ loop-place-preserved c =
     let within : c.loop-place.place < length c.loop-place.seats.items = search rules in
     let below : c.loop-place.place < length c.args.seats.now.items = rw (← c.loop-place.invariant.count) within in
     record {
-      count = length-set c.loop-place.seats.items c.loop-place.place c.end_cycle.new.self ∙ c.loop-place.invariant.count;
-      stand = λ s seen all. one_changed (λ k x. ended_in c.args.phase x) c.loop-place.seats.items s seen c.loop-place.place c.index_mut-seat.result.now c.end_cycle.new.self within c.index_mut-seat.ensures.value
-          (c.end_cycle.ensures.stands (member s c.loop-place.place) (seen c.loop-place.place)) (c.loop-place.invariant.stand s seen all);
+      count = length-set c.loop-place.seats.items c.loop-place.place c.end_seat.new.seat ∙ c.loop-place.invariant.count;
+      stand = λ s seen all. one_changed (λ k x. ended_in c.args.phase x) c.loop-place.seats.items s seen c.loop-place.place c.index_mut-seat.result.now c.end_seat.new.seat within c.index_mut-seat.ensures.value
+          (c.end_seat.ensures.stand (member s c.loop-place.place) (seen c.loop-place.place)) (c.loop-place.invariant.stand s seen all);
       told = λ s seen all room.
           let so = c.loop-place.invariant.told s seen all room in
           let here : SeatStandsFor c.index_mut-seat.result.now (member s c.loop-place.place) (seen c.loop-place.place) = not_yet (λ k x. ended_in c.args.phase x) c.loop-place.seats.items s seen c.loop-place.place c.index_mut-seat.result.now within c.index_mut-seat.ensures.value (c.loop-place.invariant.stand s seen all) in
-          told_next (λ k. (seen k).report) c.loop-place.place c.args.reports.now.items c.loop-place.reports.items c.add.new.reports.items c.end_cycle.result so
-          (c.end_cycle.ensures.report ∙ here.report_is)
-          (c.add.ensures (told_room (λ k. (seen k).report) c.loop-place.place (length c.args.seats.now.items) c.args.reports.now.items c.loop-place.reports.items so below room));
+          told_next (λ k. (seen k).report) c.loop-place.place c.args.reports.now.items c.loop-place.reports.items c.end_seat.new.reports.items c.index_mut-seat.result.now.report so
+          here.report_is
+          (c.end_seat.ensures.told (told_room (λ k. (seen k).report) c.loop-place.place (length c.args.seats.now.items) c.args.reports.now.items c.loop-place.reports.items so below room));
     }
 
 pub returns-clause-stand : goal.returns-clause-stand

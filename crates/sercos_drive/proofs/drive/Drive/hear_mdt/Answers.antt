@@ -9,7 +9,7 @@ use Rattle.sercos_drive.proofs.drive.Drive.hear_mdt.Goals as goal
 pub returns : goal.returns
 returns c = λ d rate h k.
     let told : c.told-told.result ≡ mdt_got d.address (phase_in (annals d rate h)) (blocks_in d (annals d rate h)) (option_copied c.args.content) =
-    c.told-told.ensures ∙ told_is c.args.self.now d rate (option_copied c.args.content) (annals d rate h) k in
+    c.told-told.ensures k.slot_is ∙ told_is c.args.self.now d rate (option_copied c.args.content) (annals d rate h) k in
     rw (← told) (keeps-mdt c.args.self.now c.process_if.new.self c.end.new.self d rate c.told-told.result (annals d rate h) k
     (c.process_if.ensures d.busy (taken_in (annals d rate h)) k.channel_is (rw k.blocks_is (those_at c.writes_law.ensures.alike d rate h)))
     c.takes-took.result c.takes-took.ensures c.end.ensures)

@@ -13,7 +13,7 @@ pub returns-clause-bytes : goal.returns-clause-bytes
 returns-clause-bytes c = λ d x stands room.
     let t : SeatStandsFor (the_view c.self.inside) d x = rw c.self.view_is stands in
     let v : c.as_slice.result.now ≡ values_said c.args.count (mdt_attributes d (outcomes_seen x)) =
-    c.as_slice.ensures.value ∙ (c.command_values-values.ensures ∙ ap (values_said c.args.count) (rw c.mdt_words.ensures.value (attributes_same c.args.self.now d x stands))) in
+    c.as_slice.ensures.value ∙ (c.put_command_values.ensures ∙ ap (values_said c.args.count) (rw c.mdt_words.ensures.value (attributes_same c.args.self.now d x stands))) in
     let said : said_by c.send-info.result.0 c.send-info.result.1 ≡ master_says (begun_by x.calls) = c.send-info.ensures.says x.calls t.channel_is in
     let record_is = same_record c.send-info.result.0 c.send-info.result.1 (master_says (begun_by x.calls)) (values_said c.args.count (mdt_attributes d (outcomes_seen x))) c.send-info.ensures.cyclic said in
     let long = record_length c.send-info.result.0 c.send-info.result.1 (master_says (begun_by x.calls)) (values_said c.args.count (mdt_attributes d (outcomes_seen x))) c.send-info.ensures.cyclic said in

@@ -1,0 +1,29 @@
+use Rattle.sercos_agenda.proofs.TaskRuns.{begun_tasks}
+use Rattle.sercos_agenda.proofs.OneTurn.{all_in_turn, none_early}
+use Rattle.sercos_agenda.proofs.ReadWell.{ends_tasks, are_read_well}
+use Rattle.sercos_agenda.proofs.WritesDone.{writes_data, configures_from_check, configures_at_rise}
+use Rattle.sercos_agenda.proofs.law.agenda_law.Goals as goal
+
+pub returns-clause-tasks : goal.returns-clause-tasks
+returns-clause-tasks c = λ s requests h k there. begun_tasks s k c.steps_law.ensures.next there requests h
+
+pub returns-clause-ended : goal.returns-clause-ended
+returns-clause-ended c = ends_tasks c.steps_law.ensures.next
+
+pub returns-clause-none : goal.returns-clause-none
+returns-clause-none c = λ s requests h k wait there low. none_early s c.steps_law.ensures.next requests wait h k there low
+
+pub returns-clause-turn : goal.returns-clause-turn
+returns-clause-turn c = λ s requests h k wait there. all_in_turn s c.steps_law.ensures.next requests wait h k there
+
+pub returns-clause-reads : goal.returns-clause-reads
+returns-clause-reads c = λ s requests h. are_read_well s c.steps_law.ensures.next requests h
+
+pub returns-clause-data : goal.returns-clause-data
+returns-clause-data c = writes_data
+
+pub returns-clause-check : goal.returns-clause-check
+returns-clause-check c = configures_from_check c.steps_law.ensures.next
+
+pub returns-clause-rise : goal.returns-clause-rise
+returns-clause-rise c = configures_at_rise c.steps_law.ensures.next

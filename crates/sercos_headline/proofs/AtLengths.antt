@@ -1,0 +1,78 @@
+-- An AT is as long as the list in its drive's store says.
+use Rattle.std.proofs.Common.{◌≡◌, ℕ, zero, suc, ◌+◌, ◌*◌, ◌%◌, ◌≤◌, Bool, true, false, not, ◌&&◌, ◌||◌, List, [], ◌∷◌, ◌++◌, length, Option, Some, None, refl, sym, ◌∙◌, ap, ap₂, subst, arith, if◌then◌else◌, cond, length-append}
+use Rattle.std.specs.Prelude.{◌==◌, nat_le, is_some, option_and_then, unwrap_or}
+use Rattle.std.specs.List.{sum_by, flat_map, list_all}
+use Rattle.std.specs.Int.{to_le_bytes, w16, w32}
+use Rattle.std.proofs.lemmas.Bool.{and_parts}
+use Rattle.std.proofs.lemmas.Bool.Decides.{nat_tests}
+use Rattle.std.proofs.lemmas.List.Concat.{flat_map-cons}
+use Rattle.std.proofs.lemmas.List.Sums.{sum_by-cons}
+use Rattle.sercos_idn.specs.declared.idn.Idn.{Idn}
+use Rattle.sercos_idn.specs.declared.kinds.Length.{Length}
+use Rattle.sercos_idn.specs.declared.kinds.Length.TheVariants.{Two, Four, List1, List2, List4}
+use Rattle.sercos_idn.specs.Codes.{is_list, item_len}
+use Rattle.sercos_block.specs.declared.block.Block.{Block}
+use Rattle.sercos_block.specs.Blocks.{is_number, width_of, bits_in, number_end, bytes_for}
+use Rattle.sercos_block.specs.Rings.{number_len}
+use Rattle.sercos_block.specs.Stores.{IsStore, find_block, is_sound, is_len}
+use Rattle.sercos_block.proofs.SoundLemmas.{SoundParts, SoundParts-is_sound}
+use Rattle.sercos_command.specs.Checks.{cyclic_len, carried_len, idns_at}
+use Rattle.sercos_service_drive.specs.Replies.{data_in}
+use Rattle.sercos_drive.specs.Says.{bytes_in_cycle, value_in, values_in}
+
+number_length : (l : Length) (n : ℕ) → is_list l ≡ false → length (to_le_bytes (width_of l) n) ≡ item_len l
+number_length Two n single = refl
+number_length Four n single = refl
+number_length List1 n single = cc
+number_length List2 n single = cc
+number_length List4 n single = cc
+
+value_len : (count most item : ℕ) (list : Bool) → list ≡ false → (if list then nat_le count most else count == item) ≡ true → count ≡ item
+value_len count most item true single is = cc
+value_len count most item false single is = grind (arith, nat_tests, is)
+
+data_length : (cycle : ℕ) (b : Block) → is_list b.attribute.length ≡ false → is_len b (length b.value) ≡ true → length (data_in cycle b) ≡ item_len b.attribute.length
+unfolding data_in
+data_length cycle b single is = by (b.step == 0)
+  where
+    by : (still : Bool) → length (if still then b.value else bytes_for b.attribute ((bits_in b.attribute b.value + b.step * cycle) % number_end b.attribute.length)) ≡ item_len b.attribute.length
+    by true = value_len (length b.value) b.max_len (item_len b.attribute.length) (is_list b.attribute.length) single is
+    by false = number_length b.attribute.length _ single
+
+found_sound : (raw : ℕ) (blocks : List Block) (b : Block) → list_all is_sound blocks ≡ true → find_block raw blocks ≡ Some b → is_sound b ≡ true
+found_sound raw [] b all found = cc
+found_sound raw (c ∷ blocks) b all found = by (c.idn.raw == raw) found (λ rest. found_sound raw blocks b (and_parts (is_sound c) _ all).1 rest)
+  where
+    by : (t : Bool) → cond t (Some c) (find_block raw blocks) ≡ Some b → (find_block raw blocks ≡ Some b → is_sound b ≡ true) → is_sound b ≡ true
+    by true is more = let same : c ≡ b = cc in subst (λ (x : Block). is_sound x ≡ true) same (and_parts (is_sound c) _ all).0
+    by false is more = more is
+
+not_list : (a b : Bool) → (not a && b) ≡ true → a ≡ false
+not_list false b is = refl
+not_list true b is = cc
+
+value_length : (cycle : ℕ) (blocks : List Block) (idn : Idn) → IsStore blocks → length (value_in cycle blocks idn) ≡ unwrap_or (cyclic_len blocks idn.raw) 0
+unfolding value_in
+value_length cycle blocks idn store = by (find_block idn.raw blocks) refl
+  where
+    number : (b : Block) → is_sound b ≡ true → (t : Bool) → is_number b.attribute ≡ t → length (unwrap_or (if t then Some (data_in cycle b) else None) []) ≡ unwrap_or (if t then Some (item_len b.attribute.length) else None) 0
+    number b sound true is = data_length cycle b (not_list (is_list b.attribute.length) _ is) (SoundParts-is_sound b sound).len
+    number b sound false is = refl
+
+    by : (o : Option Block) → find_block idn.raw blocks ≡ o → length (unwrap_or (option_and_then (bytes_in_cycle cycle) o) []) ≡ unwrap_or (option_and_then (λ (b : Block). number_len b.attribute) o) 0
+    by None is = refl
+    by (Some b) is = number b (found_sound idn.raw blocks b store.sound is) (is_number b.attribute) refl
+
+values_length : (cycle : ℕ) (blocks : List Block) (idns : List Idn) → IsStore blocks → length (flat_map (value_in cycle blocks) idns) ≡ sum_by (λ (idn : Idn). unwrap_or (cyclic_len blocks idn.raw) 0) idns
+values_length cycle blocks [] store = refl
+values_length cycle blocks (idn ∷ idns) store =
+    let one = value_length cycle blocks idn store in
+    let rest = values_length cycle blocks idns store in
+    let both = length-append (value_in cycle blocks idn) (flat_map (value_in cycle blocks) idns) in
+    let sum = sum_by-cons (λ (i : Idn). unwrap_or (cyclic_len blocks i.raw) 0) idn idns in
+    ap (λ (l : List ℕ). length l) (flat_map-cons (value_in cycle blocks) idn idns) ∙ omega (arith, one, rest, both, sum)
+
+-- in phases 3 and 4, with the two words before the values
+pub carried_length : (cycle phase : ℕ) (blocks : List Block) → IsStore blocks → nat_le 3 phase ≡ true → 4 + length (values_in cycle phase blocks) ≡ carried_len blocks 16
+unfolding carried_len
+carried_length cycle phase blocks store late = rw late (ap (λ (n : ℕ). 4 + n) (values_length cycle blocks (idns_at blocks 16) store))

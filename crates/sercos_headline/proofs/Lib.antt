@@ -1,0 +1,8 @@
+mod AtLengths
+mod Placed
+mod ApartRuns
+mod ApartCycles
+mod StopReads
+mod StopRuns
+mod WellRuns
+mod HeadlineRuns

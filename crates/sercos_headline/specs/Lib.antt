@@ -1,0 +1,4 @@
+pub mod Cycles
+pub mod Transfers
+pub mod Headline
+pub mod Stops

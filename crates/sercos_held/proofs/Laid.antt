@@ -1,0 +1,44 @@
+-- How the master lays the data records of an MDT.
+use Rattle.std.proofs.Common.{◌≡◌, ℕ, zero, suc, ◌+◌, ◌<◌, ◌≤◌, List, [], ◌∷◌, ◌++◌, map, length, take, refl, sym, ap, ap₂, ◌∙◌, subst, arith}
+use Rattle.std.specs.Prelude.{slice_index, slice_index_or}
+use Rattle.std.specs.List.{concat}
+use Rattle.sercos_timing.specs.Views.{WishesView, PlanView}
+use Rattle.sercos_timing.specs.Order.{record_bytes}
+use Rattle.sercos_timing.specs.declared.wishes.Wish.{Wish}
+use Rattle.sercos_seat.specs.Agenda.{record_len, wishes_from, wishes_given}
+use Rattle.sercos_seat.specs.Ring.{Known, MemberView, member, no_member}
+use Rattle.sercos_seat.proofs.Sends.{seen_length}
+use Rattle.sercos_master.specs.Annals.{Past, outcomes}
+use Rattle.sercos_master.specs.Kept.{seen_at}
+use Rattle.sercos_master.specs.Says.{record_to, records_from}
+
+-- the records of the n drives from place k on
+abbrev pub records_of : Known → Past → ℕ → ℕ → List (List ℕ)
+records_of s p k zero = []
+records_of s p k (suc n) = record_to s p k ∷ records_of s p (k + 1) n
+
+pub records_concat : (s : Known) (p : Past) (k n : ℕ) → concat (records_of s p k n) ≡ records_from s p k n
+records_concat s p k zero = refl
+records_concat s p k (suc n) = ap (λ (l : List ℕ). record_to s p k ++ l) (records_concat s p (k + 1) n)
+
+pub records_take : (s : Known) (p : Past) (k i n : ℕ) → i ≤ n → take i (records_of s p k n) ≡ records_of s p k i
+records_take s p k zero n below = refl
+records_take s p k (suc i) zero below = absurd (omega (arith, below))
+records_take s p k (suc i) (suc n) below = ap (λ (l : List (List ℕ)). record_to s p k ∷ l) (records_take s p (k + 1) i n (omega (arith, below)))
+
+record_length : (s : Known) (p : Past) (k : ℕ) → length (record_to s p k) ≡ record_len (member s k) (outcomes p k)
+record_length s p k = seen_length p.cycle (member s k) (seen_at p k)
+
+-- each has the length that the drive asks for, by what was read
+lengths_from : (s : Known) (p : Past) (k : ℕ) (drives : List MemberView) → ((i : ℕ) → i < length drives → member s (k + i) ≡ slice_index_or drives i no_member)
+    → map length (records_of s p k (length drives)) ≡ map (λ (w : Wish). w.record_len) (wishes_from drives k (outcomes p))
+lengths_from s p k [] each = refl
+lengths_from s p k (d ∷ drives) each =
+    let zero_more : k ≡ k + 0 = omega arith in
+    let here : member s k ≡ d = ap (member s) zero_more ∙ each 0 (omega arith) in
+    let first : length (record_to s p k) ≡ record_len d (outcomes p k) = record_length s p k ∙ ap (λ (m : MemberView). record_len m (outcomes p k)) here in
+    ap₂ (λ (n : ℕ) (l : List ℕ). n ∷ l) first
+    (lengths_from s p (k + 1) drives (λ i below. let e : k + 1 + i ≡ k + suc i = omega arith in ap (member s) e ∙ each (suc i) (omega (arith, below))))
+
+pub records_lengths : (s : Known) (p : Past) → map length (records_of s p 0 (length s.drives)) ≡ map (λ (w : Wish). w.record_len) (wishes_given s (outcomes p)).drives
+records_lengths s p = lengths_from s p 0 s.drives (λ i below. let e : 0 + i ≡ i = omega arith in ap (member s) e)

@@ -1,0 +1,11 @@
+pub mod PlanStays
+pub mod HoldsRuns
+pub mod AnsweredRuns
+pub mod Rests
+pub mod Planned
+pub mod Sound
+pub mod Laid
+pub mod Agreed
+pub mod Extended
+pub mod StoreOf
+pub mod Runs

@@ -1,0 +1,28 @@
+-- What a plan of the master is, whatever its drives answered.
+use Rattle.std.proofs.Common.{◌≡◌, List, Option, Some, Result, Ok, Err, refl, subst}
+use Rattle.std.specs.Prelude.{IfOk}
+use Rattle.sercos_timing.specs.Views.{WishesView, PlanView}
+use Rattle.sercos_timing.specs.Valid.{IsValid}
+use Rattle.sercos_plan.specs.Views.{ChainView}
+use Rattle.sercos_plan.specs.ChainOf.{planned}
+use Rattle.sercos_plan.specs.Least.{IsLeast}
+use Rattle.sercos_plan.proofs.AnswerLemmas.{planned_least}
+use Rattle.sercos_seat.specs.Agenda.{wishes_given}
+use Rattle.sercos_seat.specs.Ring.{Known, IsKnown}
+use Rattle.sercos_master.specs.Annals.{Past, IsPlanned, outcomes}
+use Rattle.sercos_master.proofs.Wishes.{is_valid}
+
+-- a plan is the least that fits what was read
+pub record IsPlanOf (w : WishesView) (plan : PlanView) : Type 0 where
+  pub valid : IsValid w
+  pub least : IsLeast w plan
+
+pub plan_of : (s : Known) (p : Past) (plan : PlanView) → IsKnown s → IsPlanned s p → p.plan ≡ Some plan → IsPlanOf (wishes_given s (outcomes p)) plan
+plan_of s p plan is_known planned_so has =
+    let made = planned_so plan has in
+    let valid : IsValid (wishes_given s (outcomes p)) = is_valid s (outcomes p) is_known made.fits in
+    record { valid = valid; least = by (planned (wishes_given s (outcomes p))) made.planned_is (planned_least (wishes_given s (outcomes p)) valid (planned (wishes_given s (outcomes p))) refl) }
+  where
+    by : (o : Result PlanView ChainView) → o ≡ Ok plan → IfOk o (IsLeast (wishes_given s (outcomes p))) → IsLeast (wishes_given s (outcomes p)) plan
+    by (Ok x) is least = let same : x ≡ plan = cc in subst (λ q. IsLeast (wishes_given s (outcomes p)) q) same least
+    by (Err c) is least = cc

@@ -1,0 +1,4 @@
+pub mod ClearLemmas
+pub mod StationLemmas
+pub mod RunLemmas
+mod Worked

@@ -1,0 +1,3 @@
+pub mod Arrivals
+pub mod Records
+pub mod Runs

@@ -1,0 +1,15 @@
+pub mod WellRuns
+pub mod SetRuns
+pub mod SetKept
+pub mod SetInEpoch
+pub mod SetAtPoll
+pub mod CheckGives3
+pub mod CheckRuns
+pub mod RateStays
+pub mod SettingsRuns
+pub mod Givers
+pub mod SetInTwo
+pub mod HoldsStart
+pub mod SetsWell
+pub mod WellSets
+pub mod NoCheck127

@@ -1,0 +1,3 @@
+pub mod SetByWrites
+pub mod WellSet
+pub mod Checks

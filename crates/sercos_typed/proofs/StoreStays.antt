@@ -1,0 +1,100 @@
+-- A drive's store stays one, whatever is written to it.
+use Rattle.std.proofs.Common.{◌≡◌, ◌⊎◌, inl, inr, ℕ, suc, ◌*◌, ◌<◌, ◌≤◌, ◌==◌, nat_lt, Bool, true, false, cond, not, ◌&&◌, List, [], ◌∷◌, length, map, Option, Some, None, IfSome, is_none, slice_get, refl, sym, subst, arith, if◌then◌else◌}
+use Rattle.std.specs.List.{list_all, position, filter}
+use Rattle.std.proofs.lemmas.Bool.{and_parts}
+use Rattle.std.proofs.lemmas.Bool.Decides.{nat_tests}
+use Rattle.sercos_model.specs.Bits.{AreBytes}
+use Rattle.sercos_idn.specs.declared.idn.Idn.{Idn}
+use Rattle.sercos_block.specs.declared.block.Block.{Block}
+use Rattle.sercos_block.specs.Stores.{find_block, with_data, put_fault, is_typed, is_len, IsStore}
+use Rattle.sercos_block.proofs.PutLemmas.{IsWritten-at, fits-put_fault, find_block-at, find_block-nowhere, with_data-nowhere, fits-given}
+use Rattle.sercos_block.proofs.TypeLemmas.{bytes_from}
+use Rattle.sercos_command.specs.Checks.{named, unfit_for_phase_3, unfit_for_phase_4, is_outside, list_bytes}
+use Rattle.sercos_command.specs.Settings.{CommandsView, find_set, with_lists, is_command}
+use Rattle.sercos_service_drive.specs.Writes.{Write, setting_in, blocks_with}
+
+-- A WRITE
+put_at : (raw : ℕ) (bytes : List ℕ) (blocks : List Block) (place : Option ℕ) → IsStore blocks → position (λ b. b.idn.raw == raw) blocks ≡ place →
+    (find_block raw blocks ≡ None → IsStore (with_data raw bytes blocks)) → ((i : ℕ) → position (λ b. b.idn.raw == raw) blocks ≡ Some i → IsStore (with_data raw bytes blocks)) → IsStore (with_data raw bytes blocks)
+put_at raw bytes blocks None is at none some = none (find_block-nowhere blocks raw at)
+put_at raw bytes blocks (Some i) is at none some = some i at
+
+-- at the place of the identifier number, or nowhere
+written : (raw : ℕ) (bytes : List ℕ) (blocks : List Block) → IsStore blocks → AreBytes bytes → ((i : ℕ) → position (λ b. b.idn.raw == raw) blocks ≡ Some i → IfSome (slice_get blocks i) (λ b. is_len b (length bytes) ≡ true)) → IsStore (with_data raw bytes blocks)
+written raw bytes [] is are fits = is
+written raw bytes (d ∷ blocks) is are fits = put_at raw bytes (d ∷ blocks) (position (λ b. b.idn.raw == raw) (d ∷ blocks)) is refl
+    (λ none. subst IsStore (sym (with_data-nowhere (d ∷ blocks) raw bytes none)) is)
+    (λ i at. let w = IsWritten-at raw bytes (d ∷ blocks) i d is at (fits i at) (bytes_from bytes are) in subst IsStore w.same w.store)
+
+-- bytes that have no fault
+put_stays : (raw phase : ℕ) (bytes : List ℕ) (blocks : List Block) → IsStore blocks → AreBytes bytes → put_fault (find_block raw blocks) phase bytes ≡ None → IsStore (with_data raw bytes blocks)
+put_stays raw phase bytes blocks is are none =
+    written raw bytes blocks is are (λ i at. subst (λ (o : Option Block). IfSome o (λ b. is_len b (length bytes) ≡ true)) (find_block-at blocks raw i at) (fits-put_fault (find_block raw blocks) phase bytes none))
+
+-- THE LISTS OF THE CHECKS
+record FitsList (idns : List Idn) (n : ℕ) : Type 0 where
+  short : length (list_bytes idns) ≤ 2 * n
+  bytes : AreBytes (list_bytes idns)
+
+none_listed : FitsList [] 0
+unfolding AreBytes
+none_listed = record { short = omega arith; bytes = tt }
+
+one_listed : (i : Idn) (idns : List Idn) (n : ℕ) → i.raw < 65536 → FitsList idns n → FitsList (i ∷ idns) (suc n)
+unfolding AreBytes
+one_listed i idns n low f = let short = f.short in record { short = omega (arith, short); bytes = (omega arith, (omega (arith, low), f.bytes)) }
+
+more_room : (idns : List Idn) (n m : ℕ) → n ≤ m → FitsList idns n → FitsList idns m
+more_room idns n m room f = let short = f.short in record { short = omega (arith, short, room); bytes = f.bytes }
+
+named_listed : (raw n : ℕ) (broken : Bool) (rest : List Idn) → raw < 65536 → FitsList rest n → FitsList (named raw broken rest) (suc n)
+named_listed raw n true rest low f = one_listed (record { raw = raw }) rest n low f
+named_listed raw n false rest low f = more_room rest n (suc n) (omega arith) f
+
+listed_3 : (rate : ℕ) (blocks : List Block) → FitsList (unfit_for_phase_3 rate blocks) 11
+unfolding unfit_for_phase_3
+listed_3 rate blocks =
+    named_listed 1 10 _ _ (omega arith) (named_listed 2 9 _ _ (omega arith) (named_listed 6 8 _ _ (omega arith) (named_listed 7 7 _ _ (omega arith) (named_listed 8 6 _ _ (omega arith)
+    (named_listed 9 5 _ _ (omega arith) (named_listed 10 4 _ _ (omega arith) (named_listed 15 3 _ _ (omega arith) (named_listed 16 2 _ _ (omega arith) (named_listed 24 1 _ _ (omega arith)
+    (named_listed 89 0 _ _ (omega arith) none_listed))))))))))
+
+pub raw_typed : (b : Block) → is_typed b ≡ true → b.idn.raw < 65536
+unfolding is_typed
+raw_typed b typed = let low = (and_parts (nat_lt b.idn.raw 65536) _ typed).0 in grind (arith, nat_tests, low)
+
+listed_4 : (blocks : List Block) → list_all is_typed blocks ≡ true → FitsList (unfit_for_phase_4 blocks) (length blocks)
+unfolding unfit_for_phase_4
+listed_4 [] typed = none_listed
+listed_4 (b ∷ blocks) typed = let parts = and_parts (is_typed b) (list_all is_typed blocks) typed in by (is_outside b) (raw_typed b parts.0) (listed_4 blocks parts.1)
+  where
+    by : (outside : Bool) → b.idn.raw < 65536 → FitsList (map (λ (c : Block). c.idn) (filter is_outside blocks)) (length blocks) → FitsList (map (λ (c : Block). c.idn) (cond outside (b ∷ filter is_outside blocks) (filter is_outside blocks))) (suc (length blocks))
+    by true low f = one_listed b.idn _ (length blocks) low f
+    by false low f = more_room _ (length blocks) (suc (length blocks)) (omega arith) f
+
+given_stays : (raw n : ℕ) (idns : List Idn) (blocks : List Block) → IsStore blocks → ((raw ≡ 21) ⊎ (raw ≡ 22)) → n ≤ 64 → FitsList idns n → IsStore (with_data raw (list_bytes idns) blocks)
+given_stays raw n idns blocks is given few f =
+    let short = f.short in
+    written raw (list_bytes idns) blocks is f.bytes (λ i at. fits-given raw (length (list_bytes idns)) blocks i is at given (omega (arith, short, few)))
+
+lists_stay : (c : CommandsView) (raw value : ℕ) (blocks : List Block) → IsStore blocks → IsStore (with_lists c raw value blocks)
+unfolding with_lists
+lists_stay c raw value blocks is = by (not (value == 0) && is_none (find_set raw c.set)) (raw == 127) (raw == 128)
+  where
+    by : (sets first second : Bool) → IsStore (if sets then (if first then with_data 21 (list_bytes (unfit_for_phase_3 c.rate blocks)) blocks
+        else (if second then with_data 22 (list_bytes (unfit_for_phase_4 blocks)) blocks else blocks)) else blocks)
+    by true true second = given_stays 21 11 (unfit_for_phase_3 c.rate blocks) blocks is (inl refl) (omega arith) (listed_3 c.rate blocks)
+    by true false true = let few = is.few in given_stays 22 (length blocks) (unfit_for_phase_4 blocks) blocks is (inr refl) (omega (arith, few)) (listed_4 blocks is.typed)
+    by true false false = is
+    by false first second = is
+
+-- WHAT A RECORD WRITES, if it writes something
+pub blocks_stay : (w : Option Write) (c : CommandsView) (phase : ℕ) (blocks : List Block) → IsStore blocks → IfSome w (λ x. put_fault (find_block x.raw blocks) phase x.bytes ≡ None) → IfSome w (λ x. AreBytes x.bytes) → IsStore (blocks_with w c blocks)
+blocks_stay None c phase blocks is allowed are = is
+blocks_stay (Some w) c phase blocks is allowed are = by (is_command blocks w.raw)
+  where
+    put : IsStore (with_data w.raw w.bytes blocks)
+    put = put_stays w.raw phase w.bytes blocks is are allowed
+
+    by : (command : Bool) → IsStore (if command then with_lists c w.raw (setting_in w) (with_data w.raw w.bytes blocks) else with_data w.raw w.bytes blocks)
+    by true = lists_stay c w.raw (setting_in w) (with_data w.raw w.bytes blocks) put
+    by false = put

@@ -1,0 +1,59 @@
+-- Bytes and words.
+use Rattle.std.proofs.Common.{ℕ, zero, suc, ◌+◌, ◌<◌, List, [], ◌∷◌, ◌++◌, get_or, arith}
+use Rattle.std.specs.Prelude.{slice_index}
+use Rattle.std.specs.Int.{w16, w32, to_le_bytes}
+use Rattle.sercos_model.specs.Bits.{AreBytes}
+use Rattle.sercos_model.proofs.BitLemmas.{AreBytes-by_index, AreBytes-get_or}
+use Rattle.sercos_step.specs.Words.{words_of, bytes_in}
+use Rattle.sercos_telegram.specs.Spells.{word_at}
+
+-- each number fits into sixteen bits
+abbrev pub AreWords : List ℕ → Type 0
+AreWords [] = Unit {0}
+AreWords (word ∷ words) = (word < 65536) × AreWords words
+
+pub word_of : (words : List ℕ) (i : ℕ) → AreWords words → slice_index words i < 65536
+word_of [] i are = omega arith
+word_of (word ∷ words) zero are = are.0
+word_of (word ∷ words) (suc i) are = word_of words i are.1
+
+pub words_append : (xs ys : List ℕ) → AreWords xs → AreWords ys → AreWords (xs ++ ys)
+words_append [] ys left right = right
+words_append (x ∷ xs) ys left right = (left.0, words_append xs ys left.1 right)
+
+pub words_of_bytes : (bytes : List ℕ) → AreBytes bytes → AreWords (words_of bytes)
+unfolding AreBytes
+words_of_bytes [] are = tt
+words_of_bytes (low ∷ []) are = let a : low < 256 = are.0 in (omega (arith, a), tt)
+words_of_bytes (low ∷ high ∷ bytes) are = let a : low < 256 = are.0 in let b : high < 256 = are.1.0 in (omega (arith, a, b), words_of_bytes bytes are.1.1)
+
+pub bytes_of_words : (words : List ℕ) → AreWords words → AreBytes (bytes_in words)
+unfolding AreBytes
+bytes_of_words [] are = tt
+bytes_of_words (word ∷ words) are = let a : word < 65536 = are.0 in (omega arith, (omega (arith, a), bytes_of_words words are.1))
+
+pub two_bytes : (n : ℕ) → AreBytes (to_le_bytes w16 n)
+two_bytes n = AreBytes-by_index (to_le_bytes w16 n) each
+  where
+    each : (i : ℕ) → get_or (to_le_bytes w16 n) i 0 < 256
+    each zero = omega arith
+    each (suc zero) = omega arith
+    each (suc (suc i)) = omega arith
+
+pub four_bytes : (n : ℕ) → AreBytes (to_le_bytes w32 n)
+four_bytes n = AreBytes-by_index (to_le_bytes w32 n) each
+  where
+    each : (i : ℕ) → get_or (to_le_bytes w32 n) i 0 < 256
+    each zero = omega arith
+    each (suc zero) = omega arith
+    each (suc (suc zero)) = omega arith
+    each (suc (suc (suc zero))) = omega arith
+    each (suc (suc (suc (suc i)))) = omega arith
+
+-- a word that is read from bytes
+pub read_word : (content : List ℕ) (place : ℕ) → AreBytes content → word_at content place < 65536
+unfolding word_at
+read_word content place are =
+    let a : slice_index content place < 256 = AreBytes-get_or content place are in
+    let b : slice_index content (place + 1) < 256 = AreBytes-get_or content (place + 1) are in
+    omega (arith, a, b)
