@@ -1,0 +1,3 @@
+pub mod EasierLemmas
+pub mod MarginLemmas
+mod Worked

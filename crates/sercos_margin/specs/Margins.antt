@@ -1,0 +1,88 @@
+-- Wishes with another time of one drive or another cycle time, and how far each can go while a plan still fits.
+use Rattle.std.specs.Prelude.{◌≡◌, ℕ, ◌<◌, ◌≤◌, ◌%◌, ◌⊎◌, Option, Some, None, slice_set}
+use Rattle.sercos_timing.specs.Views.{WishesView, PlanView}
+use Rattle.sercos_timing.specs.Order.{wish, times}
+use Rattle.sercos_timing.specs.Inequalities.{Fits}
+use Rattle.sercos_timing.specs.declared.wishes.Times.{Times}
+use Rattle.sercos_timing.specs.declared.wishes.Wish.{Wish}
+use Rattle.sercos_plan.specs.Least.{NoneFits}
+use Rattle.sercos_margin.specs.declared.changes.Time.{Time}
+use Rattle.sercos_margin.specs.declared.changes.Time.TheVariants.{T1min, Tatmt, T4min, Tatat, Tmtsy, Tmtsg}
+
+-- one of the six times that a drive declares
+abbrev pub time_in : Time → Times → ℕ
+time_in T1min ts = ts.t1min
+time_in Tatmt ts = ts.tatmt
+time_in T4min ts = ts.t4min
+time_in Tatat ts = ts.tatat
+time_in Tmtsy ts = ts.tmtsy
+time_in Tmtsg ts = ts.tmtsg
+
+-- the greatest that a drive may declare, in microseconds
+abbrev pub greatest : Time → ℕ
+greatest T1min = 300
+greatest Tatmt = 300
+greatest T4min = 64000
+greatest Tatat = 64000
+greatest Tmtsy = 250
+greatest Tmtsg = 64000
+
+-- the time t that the drive k declares
+abbrev pub declared : WishesView → ℕ → Time → ℕ
+declared w k t = time_in t (times w k)
+
+-- the times with v in place of the time t
+abbrev pub changed : Time → ℕ → Times → Times
+changed T1min v ts = record ts { t1min = v }
+changed Tatmt v ts = record ts { tatmt = v }
+changed T4min v ts = record ts { t4min = v }
+changed Tatat v ts = record ts { tatat = v }
+changed Tmtsy v ts = record ts { tmtsy = v }
+changed Tmtsg v ts = record ts { tmtsg = v }
+
+-- a drive's wish with v in place of its time t
+abbrev pub changed_wish : Time → ℕ → Wish → Wish
+changed_wish t v d = record d { times = changed t v d.times }
+
+-- the wishes with the time t of the drive k replaced by v
+abbrev pub with_time : WishesView → ℕ → Time → ℕ → WishesView
+with_time w k t v = record w { drives = slice_set w.drives k (changed_wish t v (wish w k)) }
+
+-- the wishes with both the cycle time and the control unit cycle time replaced by c
+abbrev pub with_cycle : WishesView → ℕ → WishesView
+with_cycle w c = record w { cycle = c; control = c }
+
+-- some plan fits
+abbrev pub HasPlan : WishesView → Type 0
+HasPlan w = (p : PlanView) × Fits w p
+
+-- n is how far the time t of the drive k can go: from the declared value up to n a plan fits, and for each value above n, up
+-- to the greatest that a drive may declare, none does
+pub record IsMargin (w : WishesView) (k : ℕ) (t : Time) (n : ℕ) : Type 0 where
+  pub least : declared w k t ≤ n
+  pub most : n ≤ greatest t
+  pub fits : (v : ℕ) → declared w k t ≤ v → v ≤ n → HasPlan (with_time w k t v)
+  pub none : (v : ℕ) → n < v → v ≤ greatest t → NoneFits (with_time w k t v)
+
+-- a plan fits with the time `low`, and none with a time above `high`, up to the greatest that a drive may declare
+pub record IsBetween (w : WishesView) (k : ℕ) (t : Time) (low high : ℕ) : Type 0 where
+  pub least : declared w k t ≤ low
+  pub ordered : low ≤ high
+  pub most : high ≤ greatest t
+  pub fits : HasPlan (with_time w k t low)
+  pub none : (v : ℕ) → high < v → v ≤ greatest t → NoneFits (with_time w k t v)
+
+-- a ring can have this cycle time: 125 microseconds, or a multiple of 250 up to 64,000
+abbrev pub IsCycle : ℕ → Type 0
+IsCycle c = (c ≡ 125) ⊎ ((250 ≤ c) × (c ≤ 64000) × (c % 250 ≡ 0))
+
+-- from the cycle time n on a plan fits with each that a ring can have, and below it none does
+pub record IsLeastOf (w : WishesView) (n : ℕ) : Type 0 where
+  pub cycle : IsCycle n
+  pub fits : (c : ℕ) → IsCycle c → n ≤ c → HasPlan (with_cycle w c)
+  pub none : (c : ℕ) → IsCycle c → c < n → NoneFits (with_cycle w c)
+
+-- the least cycle time with which a plan fits; None where no plan fits with any that a ring can have
+abbrev pub IsLeastCycle : WishesView → Option ℕ → Type 0
+IsLeastCycle w None = (c : ℕ) → IsCycle c → NoneFits (with_cycle w c)
+IsLeastCycle w (Some n) = IsLeastOf w n
