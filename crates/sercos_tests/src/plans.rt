@@ -63,7 +63,7 @@ slot 2 t1 46 position 9
 ";
 
 // The document with a cycle time.
-fn document(alloc: Global, cycle: &str) -> Result<Vec<u8>, AllocError> {
+pub fn document(alloc: Global, cycle: &str) -> Result<Vec<u8>, AllocError> {
     let mut text = Vec::from_slice(alloc, HEAD.as_bytes())?;
     text.extend_from_slice(b"cycle = ")?;
     text.extend_from_slice(cycle.as_bytes())?;

@@ -47,7 +47,7 @@ from = 1
 link = 1
 ";
 
-const READ: &str = "
+pub const READ: &str = "
 [[request]]
 drive = 1
 kind = \"read\"
@@ -56,7 +56,7 @@ idn = \"S-0-0051\"
 
 // The trace of its first thirteen cycles. The drive is identified in cycle 10, and its AT shows that in 11; in 12 the master opens
 // the first identifier number.
-const SHORT: &str = "sercos 1
+pub const SHORT: &str = "sercos 1
 ring 4 250 250 5 1
 drive 1 1 10 6 20 5 10 20 8 8
 order 1
@@ -82,7 +82,7 @@ end 13 phase 2 complete 0 refused 0 broken 0 falls 0 unseen 0
 ";
 
 // A ring document: the number of its cycles, and what comes after the drive.
-fn document(alloc: Global, cycles: &str, more: &str) -> Result<Vec<u8>, AllocError> {
+pub fn document(alloc: Global, cycles: &str, more: &str) -> Result<Vec<u8>, AllocError> {
     let mut text = Vec::from_slice(alloc, b"[ring]\ncycles = ")?;
     text.extend_from_slice(cycles.as_bytes())?;
     text.extend_from_slice(DRIVE.as_bytes())?;
