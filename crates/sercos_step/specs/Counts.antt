@@ -23,11 +23,11 @@ count_of (request.Read idn e) words = steps_before e + words_in (shape_of e (att
 count_of (request.Write idn e bytes) words = if e == 7 then 3 + length (words_told (shape_of 7 (attribute_read 7 words)) bytes) else 1 + length (words_told (shape_of e 0) bytes)
 count_of (request.Command idn) words = 3 + polls (drop 2 words)
 
--- A complete transfer has exactly so many answers.
+-- A complete transfer has exactly as many answers as are counted.
 abbrev pub CountsAnswers : Type 0
 CountsAnswers = (r : Request) (h : List Answer) (bytes : List ℕ) → AreAnswers r h → outcome_of r h ≡ Some (outcome.Complete bytes) → length h ≡ count_of r (answer_words h)
 
--- Any transfer has at most so many.
+-- Any transfer has at most that many.
 abbrev pub HasAtMost : Type 0
 HasAtMost = (r : Request) (h : List Answer) → AreAnswers r h → length h ≤ count_of r (answer_words h)
 

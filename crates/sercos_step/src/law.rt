@@ -27,8 +27,8 @@ pub fn steps_law()
 
 /// Laws and no code. A complete transfer has exactly the number of answers that its request, the attribute and the words read
 /// give, and any other transfer has at most that many: three for an attribute, four for a value of one word that is read or
-/// written, 5 + k for a list of k words that is read or written, and for a command four and one for each whole period of its
-/// time.
+/// written, and 5 + k for a list of k words that is read or written. A command whose status isn't 7 at the end of its time or
+/// later has at most four answers, and one more for each whole period of the time.
 pub fn counts_law()
     ensures complete { CountsAnswers }
     ensures most { HasAtMost }
