@@ -3,7 +3,7 @@ use Rattle.std.specs.Prelude.{◌≡◌, ℕ, ◌==◌, ◌<◌, Bool, true, fal
 use Rattle.std.specs.List.{All, filter, position_or_len}
 use Rattle.sercos_telegram.specs.Kinds.{is_mst, is_at, is_mdt}
 use Rattle.sercos_telegram.specs.declared.layout.Kind.{Kind}
-use Rattle.sercos_telegram.specs.declared.layout.Kind.TheVariants.{Mst}
+use Rattle.sercos_telegram.specs.declared.layout.Kind.TheVariants.{Mst, At, Mdt}
 use Rattle.sercos_timing.specs.Views.{WishesView}
 use Rattle.sercos_timing.specs.Order.{wish}
 use Rattle.sercos_timing.specs.Valid.{IsValid}
