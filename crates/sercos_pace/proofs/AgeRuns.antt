@@ -15,6 +15,7 @@ use Rattle.sercos_handshake.specs.Epochs.{unless_restart, epoch_begun, begun_in,
 use Rattle.sercos_handshake.specs.Runs.{IsRun}
 use Rattle.sercos_pace.specs.Times.{one_more, open_cycles, AreUndisturbed, IsOnTime, Rests, Waits}
 use Rattle.sercos_pace.specs.Stretches.{IsClean, AreClean, open_since, IsInTime, RestsNow, WaitsNow}
+use Rattle.sercos_pace.specs.Passages.{BeginsEpoch}
 use Rattle.sercos_pace.specs.Ages.{age_by, age_in, AgesInTime, AgesWhereDead, OpensAlways, KeepsTime}
 use Rattle.sercos_handshake.proofs.PhaseMoves.{Processes, Nothing, Record, processes}
 use Rattle.sercos_pace.proofs.OnTimeRuns.{on_time, time_of}
@@ -41,6 +42,11 @@ log_grows v past on = by (processes v past)
         which : (b : Bool) → log_in v past ≡ (if b then log else (record { taken = t; answer = reply_of t log }) ∷ log) → (log_in v past ≡ epoch_log past) ⊎ ((x : Entry) × (log_in v past ≡ x ∷ epoch_log past) × (x.taken.cycle ≡ length past))
         which true is = inl (is ∙ same)
         which false is = inr (record { taken = t; answer = reply_of t log }, is ∙ ap (λ (l : List Entry). (record { taken = t; answer = reply_of t log }) ∷ l) same, refl)
+
+-- at the start of an epoch no step is open
+pub nothing_old : (past : List View) → BeginsEpoch past → age_in past ≡ 0
+nothing_old [] begins = refl
+nothing_old (u ∷ past) begins = cond-true u.falls 0 _ begins
 
 module _ (busy : ℕ) where
   -- an open step is no older than its entry, but for its age before the stretch

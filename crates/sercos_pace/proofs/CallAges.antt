@@ -14,7 +14,7 @@ use Rattle.sercos_pace.specs.Passages.{AreWhole, BeginsEpoch}
 use Rattle.sercos_pace.specs.Ages.{age_by, age_in}
 use Rattle.sercos_pace.specs.ChannelCalls.{staying, StaysARun, calls_heard, calls_begun, calls_sent, calls_in, channel_calls, IsSent, AreSent, CallsBegin, age_if_open, AgesAreThose, AgesBeforeEnd, NoneLate}
 use Rattle.sercos_pace.proofs.WholeCycles.{stays_clean, hears_throughout}
-use Rattle.sercos_pace.proofs.AgeRuns.{ages_in_time}
+use Rattle.sercos_pace.proofs.AgeRuns.{nothing_old, ages_in_time}
 
 -- without its fall a cycle continues the row of MSTs that came back whole
 row_more : (whole here falls restart : Bool) (n : ℕ) → (if whole && (here && not falls) then (if restart then 0 else n) + 1 else 0) ≤ (if whole && (here && not false) then (if restart then 0 else n) + 1 else 0)
@@ -218,10 +218,6 @@ module _ (busy : ℕ) where
   sent_in [] [] begins whole = tt
   sent_in [] (u ∷ past) begins whole = λ on. let bad : true ≡ false = sym begins ∙ on in absurd (cc)
   sent_in (v ∷ cycles) past begins whole = λ on. (sent_in cycles past begins whole.0, whole.1.sends)
-
-  nothing_old : (past : List View) → BeginsEpoch past → age_in past ≡ 0
-  nothing_old [] begins = refl
-  nothing_old (u ∷ past) begins = cond-true u.falls 0 _ begins
 
   counted : (o : Option ℕ) (is_open : Bool) (age : ℕ) → age ≤ busy + 1 → option_map (λ (n : ℕ). n + 1) o ≡ age_if_open is_open age → min (unwrap_or o 0) 64 ≤ busy
   counted None is_open age le is = omega arith

@@ -9,5 +9,8 @@ pub mod CallAges
 pub mod PassedChecks
 pub mod SpacedSteps
 pub mod TimedCommands
+pub mod TransferCosts
+pub mod CostRuns
+pub mod StartCosts
 pub mod JobCosts
 pub mod WorkedTimes

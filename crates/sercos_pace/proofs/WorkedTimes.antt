@@ -1,7 +1,8 @@
 -- A start-up worked out from the definitions: every telegram comes, and the channel never idles in phase 2.
-use Rattle.std.proofs.Common.{◌≡◌, ℕ, ◌<◌, ◌≤◌, Bool, true, false, not, ◌&&◌, ◌||◌, List, [], ◌∷◌, ◌++◌, replicate, length, refl, arith}
-use Rattle.std.specs.Prelude.{◌==◌, Some, None, is_some}
+use Rattle.std.proofs.Common.{◌≡◌, inr, ℕ, zero, suc, ◌^◌, ◌<◌, ◌≤◌, Bool, true, false, not, ◌&&◌, ◌||◌, List, [], ◌∷◌, ◌++◌, replicate, length, refl, ap, arith, if◌then◌else◌}
+use Rattle.std.specs.Prelude.{◌==◌, Some, None, IfSome, is_some}
 use Rattle.std.proofs.lemmas.Bool.{and_parts, eqb-true}
+use Rattle.sercos_model.specs.Bits.{AreBytes}
 use Rattle.sercos_telegram.specs.declared.words.Status.{Status}
 use Rattle.sercos_idn.specs.declared.attribute.Attribute.{Attribute}
 use Rattle.sercos_idn.specs.declared.kinds.Length.TheVariants.{Two}
@@ -12,16 +13,21 @@ use Rattle.sercos_step.specs.declared.request.Request.{Request}
 use Rattle.sercos_step.specs.declared.request.Request.TheVariants as request
 use Rattle.sercos_block.specs.declared.block.Block.{Block}
 use Rattle.sercos_block.specs.Blocks.{element_of}
-use Rattle.sercos_command.specs.Settings.{CommandsView}
+use Rattle.sercos_command.specs.Settings.{CommandsView, find_set}
 use Rattle.sercos_service_drive.specs.Replies.{element_words, bytes_written, write_cause}
+use Rattle.sercos_service_drive.specs.Writes.{AreAlike}
 use Rattle.sercos_service_master.specs.Begun.{answers_in}
 use Rattle.sercos_handshake.specs.Views.{View, standing, stood_in}
 use Rattle.sercos_handshake.specs.Epochs.{epoch_begun}
-use Rattle.sercos_handshake.specs.Choices.{Choice, run_by}
+use Rattle.sercos_handshake.specs.Runs.{IsRun}
+use Rattle.sercos_handshake.specs.Choices.{Choice, run_by, AreSoundChoices}
+use Rattle.sercos_handshake.specs.WholeRun.{IsSound, AreSound, AreSmall}
+use Rattle.sercos_handshake.proofs.RunsMade.{is_run, is_sound}
 use Rattle.sercos_pace.specs.Stretches.{open_since}
 use Rattle.sercos_pace.specs.Passages.{IsWhole, AreWhole, ArePassed}
-use Rattle.sercos_pace.specs.Costs.{cost_of, cost_in}
+use Rattle.sercos_pace.specs.Costs.{AreCarried, AreTimed, AreListed, cost_of, cost_in}
 use Rattle.sercos_pace.specs.Ages.{age_in}
+use Rattle.sercos_pace.proofs.TimedCommands.{comes_timed}
 
 -- a number of two bytes that is written in every phase
 abbrev number : Attribute
@@ -143,10 +149,52 @@ are_whole (v ∷ cycles) past is =
 abbrev working : ℕ → List View
 working n = run_by 2 (replicate n wanting ++ start)
 
--- The premises of the laws can be met.
+-- The premises of the laws can be met by it.
 works_whole : AreWhole (working 13) [] × ArePassed (working 13) []
 unfolding element_words element_of attribute_fault attribute_of write_cause bytes_written
 works_whole = are_whole (working 13) [] refl
+
+works_run : IsRun 2 (working 13)
+works_run = is_run 2 (replicate 13 wanting ++ start)
+
+works_sound : AreSound (block ∷ []) (working 13)
+unfolding AreBytes
+works_sound = is_sound 2 (block ∷ []) (replicate 13 wanting ++ start) (sound wanting 13 start (refl, sound_wish) (sound rising 11 [] (refl, tt) tt))
+  where
+    sound_wish : IsSound (block ∷ []) asked
+    sound_wish = (omega arith, (omega arith, (omega arith, tt)))
+
+    sound : (c : Choice) (n : ℕ) (more : List Choice) → AreAlike c.blocks (block ∷ []) × IfSome c.wants (λ r. IsSound (block ∷ []) r) → AreSoundChoices (block ∷ []) more → AreSoundChoices (block ∷ []) (replicate n c ++ more)
+    sound c zero more is are = are
+    sound c (suc n) more is are = (sound c n more is are, is)
+
+works_small : AreSmall (block ∷ [])
+works_small raw b found = by (1 == raw) found
+  where
+    by : (here : Bool) → (if here then Some block else None) ≡ Some b → b.attribute.factor < 2 ^ 16
+    by true is = let same : block ≡ b = cc in let factor : 1 ≡ b.attribute.factor = ap (λ (x : Block). x.attribute.factor) same in omega (arith, factor)
+    by false is = absurd (cc)
+
+-- no procedure command is ever set, and a list may have as many words as any
+works_timed : AreTimed 3 (working 13)
+works_timed = comes_timed 3 (working 13) (carried wanting 13 start refl (carried rising 11 [] refl tt))
+  where
+    carried : (c : Choice) (n : ℕ) (more : List Choice) → c.commands ≡ commands → AreCarried 3 (run_by 2 more) → AreCarried 3 (run_by 2 (replicate n c ++ more))
+    carried c zero more is are = are
+    carried c (suc n) more is are = (
+      carried c n more is are,
+      record {
+        takes = ap (λ (k : CommandsView). k.time) is;
+        carried = λ raw s found. let none : find_set raw c.commands.set ≡ None = ap (λ (k : CommandsView). find_set raw k.set) is in absurd (cc);
+      },
+    )
+
+works_listed : AreListed (λ raw. 512) (working 13)
+works_listed = listed (working 13)
+  where
+    listed : (past : List View) → AreListed (λ raw. 512) past
+    listed [] = tt
+    listed (v ∷ past) = (listed past, λ raw b found list. inr (omega arith))
 
 -- Each answer takes three cycles: the fourth, which ends the first write, comes in cycle 23, in which the next one begins.
 opens : open_since (working 12) [] ≡ 12

@@ -4,5 +4,6 @@ pub mod Passages
 pub mod Costs
 pub mod Jobs
 pub mod Ages
+pub mod StartCosts
 pub mod ChannelCalls
 pub mod Passes

@@ -32,7 +32,7 @@ abbrev pub AreWhole : List View → List View → Type 0
 AreWhole [] past = Unit {0}
 AreWhole (v ∷ cycles) past = AreWhole cycles past × IsWhole v (cycles ++ past)
 
--- in the cycle in which phase 3 or 4 is commanded first, the drive's check for it counts as passed
+-- If phase 3 or 4 is commanded and the drive is still in the phase below, its check for the new phase counts as passed.
 abbrev pub IsPassed : View → List View → Type 0
 IsPassed v past = 3 ≤ v.phase → (standing past).ended + 1 ≡ v.phase → v.checked ≡ true
 

@@ -3,11 +3,14 @@ ghost use Rattle.std.specs.Prelude.{ℕ};
 ghost use Rattle.sercos_pace.specs.Times.{AreOnTime, AnswersOnTime, TakesTime};
 ghost use Rattle.sercos_pace.specs.Stretches.{ComesInTime, TakesTimeSince};
 ghost use Rattle.sercos_pace.specs.Passages.{StandsThroughout, StaysClean, HearsThroughout, IsCleanOrDown, RecoversInTime, StaysDead};
-ghost use Rattle.sercos_pace.specs.Costs.{SpacesSteps, ComesTimed};
+ghost use Rattle.sercos_pace.specs.Costs.{SpacesSteps, ComesTimed, StaysInCost, OpensInCost};
 ghost use Rattle.sercos_pace.specs.Jobs.{CostsRequests, WordReadCosts, AttributeCosts, ListReadCosts, WordWriteCosts, ListWriteCosts, ReadsCost, WritesCost, RequestCosts};
 ghost use Rattle.sercos_pace.specs.Ages.{AgesInTime, AgesWhereDead, AnswersAtAge, OpensAlways, KeepsTime};
+ghost use Rattle.sercos_pace.specs.StartCosts.{StartsInCost, RecoversInCost, RecoversSince};
 ghost use Rattle.sercos_pace.specs.ChannelCalls.{StaysARun, CallsBegin, AgesAreThose, AgesBeforeEnd, NoneLate};
 ghost use Rattle.sercos_pace.specs.Passes.{PassesBySetting, PassesLast, StaysPassed, StaysPassedLast};
+
+use sercos_idn::attribute_law;
 
 /// A law and no code, over an epoch in which nothing is lost. An answer comes busy time and one cycle after the cycle in
 /// which the drive accepted its step. So the cycles in which a step was open are so many for each answer, and those since
@@ -46,13 +49,23 @@ pub fn passage_law()
     ensures ages { (busy : ℕ) → AgesWhereDead busy }
 {}
 
-/// A law and no code: the steps that a drive accepts in an epoch are busy time and one apart, in every run. A procedure
-/// command that runs was set by the newest write to it, no longer ago than a command takes, if what is set when an MDT comes
-/// was set at the end of the cycle before.
+/// A law: the steps that a drive accepts in an epoch are busy time and one apart, in every run. A procedure command that
+/// runs was set by the newest write to it, if what is set when an MDT comes was set at the end of the cycle before. So it is
+/// asked for its status only so often, and the steps of an epoch cost no more than its requests. The same is so of the
+/// cycles with an open step: in a stretch in which nothing is lost, in a whole start-up in which every telegram comes, and
+/// after whatever was lost, if the drive isn't in phase 0.
 pub fn cost_law()
     ensures spaced { (busy : ℕ) → SpacesSteps busy }
     ensures timed { ComesTimed }
-{}
+    ensures in_cost { (busy : ℕ) → StaysInCost busy }
+    ensures opens { (busy : ℕ) → OpensInCost busy }
+    ensures starts { (busy : ℕ) → StartsInCost busy }
+    ensures recovers { (busy : ℕ) → RecoversInCost busy }
+    ensures since { (busy : ℕ) → RecoversSince busy }
+{
+    // what the master takes for the attribute is that of the block
+    attribute_law();
+}
 
 /// A law and no code: what the requests of a start-up cost, one by one and together, and each request after it.
 pub fn jobs_law()
