@@ -95,8 +95,8 @@ pub fn count_bytes(bytes: &[u8], ones: usize, len: &mut u32) -> usize
     run
 }
 
-/// Counts what is sent for bytes after no one, as [`count_bytes`] does, and has the register take each byte on the way: both
-/// wait for a table, and so take hardly longer than one of them.
+/// Counts what is sent for bytes at the beginning of a body, as [`count_bytes`] does after zero ones, and lets the register take
+/// each byte on the way. Both wait for a table at each byte, so that one loop takes hardly longer than either.
 pub fn count_taken(bytes: &[u8], register: &mut Register, len: &mut u32) -> usize
     requires { len.old + 16 * length bytes.now < 2 ^ 32 }
     ensures len { len.new ≡ len.old + length (stuffed 0 (bits_of bytes.now)) }
