@@ -55,7 +55,7 @@ abbrev pub IsStarted : Type 0
 IsStarted = (ring : List Station) (two three four : ℕ) → two ≤ 12 + 2 * length ring → three ≤ two + sum_by read_cycles ring + sum_by write_cycles ring + 4 →
     four ≤ three + greatest command_cycles ring + 4 → four ≤ startup_bound ring
 
--- A stop in phase 2, for want of a plan or for a check that fails, comes within that bound too.
+-- A stop in phase 2, because no plan fits or a drive refuses a value, comes within that bound too.
 abbrev pub IsRefusedEarly : Type 0
 IsRefusedEarly = (ring : List Station) (two stop : ℕ) → two ≤ 12 + 2 * length ring → stop ≤ two + sum_by read_cycles ring + sum_by write_cycles ring + 4 → stop ≤ startup_bound ring
 

@@ -1,11 +1,11 @@
 -- The calls of the master's channel in a run.
 use Rattle.std.proofs.Common.{◌≡◌, ℕ, suc, ◌+◌, ◌≤◌, Bool, true, false, not, ◌&&◌, List, [], ◌∷◌, ◌++◌, length, refl, min, sym, ap, ◌∙◌, subst, arith, if◌then◌else◌}
-use Rattle.std.specs.Prelude.{◌==◌, Option, Some, None, IsSome, IfSome, is_some, option_map, unwrap_or}
-use Rattle.std.proofs.lemmas.Bool.{cond-true, cond-false, eq-eqb, ne_eqb}
+use Rattle.std.specs.Prelude.{nat_le, ◌==◌, Option, Some, None, IsSome, IfSome, is_some, option_map, unwrap_or}
+use Rattle.std.proofs.lemmas.Bool.{cond-true, cond-false, and_from, le-leb, eq-eqb, ne_eqb}
 use Rattle.sercos_step.specs.declared.step.Step.{Step}
 use Rattle.sercos_step.specs.declared.step.Answer.{Answer}
 use Rattle.sercos_step.specs.declared.request.Request.{Request}
-use Rattle.sercos_service_master.specs.Begun.{Begun, Said, step_at, with_step, steps_begun, open_in, steps_in, answers_it, answer_in, with_answer}
+use Rattle.sercos_service_master.specs.Begun.{Begun, step_at, with_step, steps_begun, open_in, steps_in, answers_it, answer_in, with_answer}
 use Rattle.sercos_service_master.specs.Calls.{Call, EndCycle, begun_by, age_of, AreCalls}
 use Rattle.sercos_handshake.specs.Views.{Heard, View}
 use Rattle.sercos_handshake.specs.Epochs.{whole_row, with_heard, with_begun, unless_restart, epoch_begun, begun_in}
@@ -13,7 +13,7 @@ use Rattle.sercos_handshake.specs.Runs.{IsShown, IsRun}
 use Rattle.sercos_pace.specs.Passages.{AreWhole, BeginsEpoch}
 use Rattle.sercos_pace.specs.Ages.{age_by, age_in}
 use Rattle.sercos_pace.specs.ChannelCalls.{staying, StaysARun, calls_heard, calls_begun, calls_sent, calls_in, channel_calls, IsSent, AreSent, CallsBegin, age_if_open, AgesAreThose, AgesBeforeEnd, NoneLate}
-use Rattle.sercos_pace.proofs.WholeCycles.{stays_clean, hears_throughout}
+use Rattle.sercos_pace.proofs.WholeCycles.{open_late, stays_clean, hears_throughout}
 use Rattle.sercos_pace.proofs.AgeRuns.{nothing_old, ages_in_time}
 
 -- without its fall a cycle continues the row of MSTs that came back whole
@@ -51,9 +51,9 @@ begun_so : (o : Option Request) (h : List Call) → begun_by (calls_begun o h) �
 begun_so None h = refl
 begun_so (Some r) h = refl
 
-sent_so : (o : Option Said) (h : List Call) → begun_by (calls_sent o h) ≡ begun_by h
-sent_so None h = refl
-sent_so (Some s) h = refl
+sent_so : (sends : Bool) (h : List Call) → begun_by (calls_sent sends h) ≡ begun_by h
+sent_so true h = refl
+sent_so false h = refl
 
 restart_so : (r : Bool) (h : List Call) → begun_by (if r then [] else h) ≡ (if r then [] else begun_by h)
 restart_so true h = refl
@@ -61,7 +61,7 @@ restart_so false h = refl
 
 calls_by : (v : View) (h : List Call) (begun : List Begun) → begun_by h ≡ begun → begun_by (calls_in v h) ≡ with_begun v.begins (with_heard v.heard (unless_restart v begun))
 calls_by v h begun is =
-    sent_so v.sent (calls_begun v.begins (calls_heard v.heard (unless_restart v h)))
+    sent_so (nat_le 2 v.phase && is_some v.sent) (calls_begun v.begins (calls_heard v.heard (unless_restart v h)))
     ∙ begun_so v.begins (calls_heard v.heard (unless_restart v h))
     ∙ ap (with_begun v.begins) (heard_by v.heard (unless_restart v h) ∙ ap (with_heard v.heard) (restart_so v.master_restarts h ∙ ap (unless_restart v) is))
 
@@ -73,9 +73,9 @@ allowed_begun : (o : Option Request) (h : List Call) → AreCalls h → (IsSome 
 allowed_begun None h are shut = are
 allowed_begun (Some r) h are shut = (are, shut refl)
 
-allowed_sent : (o : Option Said) (h : List Call) → AreCalls h → AreCalls (calls_sent o h)
-allowed_sent None h are = are
-allowed_sent (Some s) h are = are
+allowed_sent : (sends : Bool) (h : List Call) → AreCalls h → AreCalls (calls_sent sends h)
+allowed_sent true h are = are
+allowed_sent false h are = are
 
 allowed_restart : (r : Bool) (h : List Call) → AreCalls h → AreCalls (if r then [] else h)
 allowed_restart true h are = tt
@@ -91,7 +91,7 @@ calls_begin busy (v ∷ past) run = by v.falls (calls_begin busy past run.0)
     by false before =
         let start = unless_restart v (channel_calls past) in
         let heard : begun_by (calls_heard v.heard start) ≡ with_heard v.heard (unless_restart v (epoch_begun past)) = heard_by v.heard start ∙ ap (with_heard v.heard) (restart_so v.master_restarts (channel_calls past) ∙ ap (unless_restart v) before.1) in (
-          allowed_sent v.sent (calls_begun v.begins (calls_heard v.heard start)) (allowed_begun v.begins (calls_heard v.heard start) (allowed_heard v.heard start (allowed_restart v.master_restarts (channel_calls past) before.0)) (λ some. ap open_in heard ∙ run.1.begins some)),
+          allowed_sent (nat_le 2 v.phase && is_some v.sent) (calls_begun v.begins (calls_heard v.heard start)) (allowed_begun v.begins (calls_heard v.heard start) (allowed_heard v.heard start (allowed_restart v.master_restarts (channel_calls past) before.0)) (λ some. ap open_in heard ∙ run.1.begins some)),
           calls_by v (channel_calls past) (epoch_begun past) before.1,
         )
 
@@ -152,9 +152,9 @@ begun_comes start old (Some r) h shut c = by c
     by c = Fresh refl (λ some. let one = begun_steps r (begun_by h) some in let two = count c in omega (arith, one, two)) (λ off. shut_steps (step_at r []) off ∙ count c)
 
 -- after the sending, and the end of the cycle
-ended : (start begun : List Begun) (age : ℕ) (found : Option ℕ) (sent : Option Said) (h : List Call) → begun_by h ≡ begun → age_of h ≡ found → (is_some (open_in begun) ≡ true → is_some sent ≡ true) → Comes start begun (age_if_open (is_some (open_in start)) age) found →
+ended : (start begun : List Begun) (age : ℕ) (found : Option ℕ) (sent : Bool) (h : List Call) → begun_by h ≡ begun → age_of h ≡ found → (is_some (open_in begun) ≡ true → sent ≡ true) → Comes start begun (age_if_open (is_some (open_in start)) age) found →
     option_map (λ (n : ℕ). n + 1) (age_of (calls_sent sent h)) ≡ age_if_open (is_some (open_in begun)) (age_by (is_some (open_in begun)) (length (steps_in begun) == length (steps_in start)) age)
-ended start begun age found None h is aged sends c = by (is_some (open_in begun)) refl sends
+ended start begun age found false h is aged sends c = by (is_some (open_in begun)) refl sends
   where
     none_old : is_some (open_in begun) ≡ false → Comes start begun (age_if_open (is_some (open_in start)) age) found → found ≡ None
     none_old off (Same same old) = old ∙ ap (λ (b : Bool). age_if_open b age) (ap (λ (l : List Begun). is_some (open_in l)) (sym same) ∙ off)
@@ -163,7 +163,7 @@ ended start begun age found None h is aged sends c = by (is_some (open_in begun)
     by : (v : Bool) → is_some (open_in begun) ≡ v → (v ≡ true → false ≡ true) → option_map (λ (n : ℕ). n + 1) (age_of h) ≡ age_if_open v (age_by v (length (steps_in begun) == length (steps_in start)) age)
     by true on sends = let bad = sends refl in absurd (cc)
     by false off sends = ap (option_map (λ (n : ℕ). n + 1)) (aged ∙ none_old off c)
-ended start begun age found (Some s) h is aged sends c =
+ended start begun age found true h is aged sends c =
     ap (λ (l : List Begun). option_map (λ (n : ℕ). n + 1) (if is_some (open_in l) then Some (unwrap_or (age_of h) 0) else None)) is
     ∙ by (is_some (open_in begun)) refl
   where
@@ -198,7 +198,8 @@ module _ (busy : ℕ) where
       subst (λ (o : Option ℕ). Comes (unless_restart v (epoch_begun past)) (begun_in v past) o (age_of (calls_begun v.begins (calls_heard v.heard start)))) (started v.master_restarts past before)
       (subst (λ (l : List Begun). Comes (unless_restart v (epoch_begun past)) l (age_of start) (age_of (calls_begun v.begins (calls_heard v.heard start)))) both
       (subst (λ (l : List Begun). Comes l (begun_by (calls_begun v.begins (calls_heard v.heard start))) (age_of start) (age_of (calls_begun v.begins (calls_heard v.heard start)))) begun0 comes)) in
-      ended (unless_restart v (epoch_begun past)) (begun_in v past) (age_in past) (age_of (calls_begun v.begins (calls_heard v.heard start))) v.sent (calls_begun v.begins (calls_heard v.heard start)) both refl sent same
+      ended (unless_restart v (epoch_begun past)) (begun_in v past) (age_in past) (age_of (calls_begun v.begins (calls_heard v.heard start))) (nat_le 2 v.phase && is_some v.sent) (calls_begun v.begins (calls_heard v.heard start)) both refl
+      (λ some. let late = open_late busy v past run some in and_from (nat_le 2 v.phase) (is_some v.sent) (le-leb 2 v.phase late) (sent some)) same
 
   pub ages_are_those : AgesAreThose busy
   ages_are_those [] run sent = refl

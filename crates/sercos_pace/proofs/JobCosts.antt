@@ -1,5 +1,5 @@
 -- What the requests of a start-up cost, and those after it.
-use Rattle.std.proofs.Common.{◌≡◌, ℕ, suc, ◌+◌, ◌*◌, ◌≤◌, Bool, true, false, List, [], ◌∷◌, length, map, refl, sym, ap, ◌∙◌, subst, arith, if◌then◌else◌}
+use Rattle.std.proofs.Common.{◌≡◌, ℕ, suc, ◌+◌, ◌*◌, ◌≤◌, Bool, true, false, List, [], ◌∷◌, ◌++◌, length, map, refl, ap, ◌∙◌, arith, if◌then◌else◌}
 use Rattle.std.specs.Prelude.{◌==◌, Option, Some, None}
 use Rattle.std.specs.List.{sum_by}
 use Rattle.std.proofs.lemmas.List.Sums.{sum_by-cons, sum_by-append}
@@ -16,7 +16,7 @@ use Rattle.sercos_step.proofs.WrittenWords.{few_told, length-words_of, length-at
 use Rattle.sercos_block.specs.declared.block.Block.{Block}
 use Rattle.sercos_block.specs.Stores.{find_block}
 use Rattle.sercos_pace.specs.Costs.{value_steps, read_steps, write_steps, cost_of}
-use Rattle.sercos_pace.specs.Jobs.{request_of, CostsRequests, AreWords, WordReadCosts, AttributeCosts, ListReadCosts, WordWriteCosts, ListWriteCosts, ReadsCost, WritesCost, RequestCosts}
+use Rattle.sercos_pace.specs.Jobs.{request_of, CostsRequests, AreWords, AreWordWrites, WordReadCosts, AttributeCosts, ListReadCosts, WordWriteCosts, ListWriteCosts, ReadsCost, WritesCost, RequestCosts}
 
 pub costs_requests : CostsRequests
 costs_requests cost [] = refl
@@ -67,6 +67,9 @@ module _ (busy : ℕ) where
       let words = length-words_of bytes in
       write_by bytes (find_block idn.raw blocks) b shape.List (5 + k) found (list_shape b.attribute.length list) (omega (arith, words, short))
 
+  suc_times : (c n : ℕ) → (busy + 1) * (c * suc n) ≡ (busy + 1) * c + (busy + 1) * (c * n)
+  suc_times c n = grind arith
+
   times_sum : (n k : ℕ) → (busy + 1) * (n + k) ≡ (busy + 1) * n + (busy + 1) * k
   times_sum n k = grind arith
 
@@ -78,9 +81,6 @@ module _ (busy : ℕ) where
       let count : (busy + 1) * (4 * length values) ≡ (busy + 1) * 24 = ap (λ (n : ℕ). (busy + 1) * (4 * n)) six in
       let sum = times_sum 24 (3 * length idns) in omega (arith, parts, first, second, count, sum)
     where
-      suc_times : (c n : ℕ) → (busy + 1) * (c * suc n) ≡ (busy + 1) * c + (busy + 1) * (c * n)
-      suc_times c n = grind arith
-
       of_values : (values : List Idn) → AreWords blocks values → sum_by (cost_of busy time longest blocks) (map (λ (idn : Idn). request.Read idn 7) values) ≤ (busy + 1) * (4 * length values)
       of_values [] are = omega arith
       of_values (idn ∷ values) are =
@@ -97,15 +97,39 @@ module _ (busy : ℕ) where
           let first = sum_by-cons (cost_of busy time longest blocks) (request.Read idn 3) (map (λ (x : Idn). request.Read x 3) idns) in
           let next = suc_times 3 (length idns) in omega (arith, one, more, first, next)
 
+  words_cost : (time : ℕ) (longest : ℕ → ℕ) (blocks : List Block) (rs : List Request) → AreWordWrites blocks rs → sum_by (cost_of busy time longest blocks) rs ≤ (busy + 1) * (4 * length rs)
+  words_cost time longest blocks [] are = omega arith
+  words_cost time longest blocks (r ∷ rs) are =
+      let w = are.1 in
+      let cost : cost_of busy time longest blocks r ≡ cost_of busy time longest blocks (request.Write w.idn 7 w.bytes) = ap (cost_of busy time longest blocks) w.writes in
+      let one = word_write_costs time longest blocks w.idn w.bytes w.word w.short in
+      let more = words_cost time longest blocks rs are.0 in
+      let first = sum_by-cons (cost_of busy time longest blocks) r rs in
+      let next = suc_times 4 (length rs) in omega (arith, cost, one, more, first, next)
+
+  -- over any cost, of which only the parts matter
+  sum_parts : (cost : Request → ℕ) (before after : List Request) (a b c : Request) → sum_by cost (before ++ a ∷ b ∷ (after ++ c ∷ [])) ≡ sum_by cost before + cost a + cost b + sum_by cost after + cost c
+  sum_parts cost before after a b c =
+      let all = sum_by-append cost before (a ∷ b ∷ (after ++ c ∷ [])) in
+      let first = sum_by-cons cost a (b ∷ (after ++ c ∷ [])) in
+      let second = sum_by-cons cost b (after ++ c ∷ []) in
+      let rest = sum_by-append cost after (c ∷ []) in
+      let last = sum_by-cons cost c [] in omega (arith, all, first, second, rest, last)
+
   pub writes_cost : WritesCost busy
-  writes_cost time longest blocks cost values ats mdts at mdt k m command is nine ats_list mdts_list short_at short_mdt =
-      let parts = sum_by-append cost values (request.Write ats 7 at ∷ request.Write mdts 7 mdt ∷ request.Command command ∷ []) in
-      let one : cost (request.Write ats 7 at) ≤ (busy + 1) * (5 + k) = subst (λ (f : Request → ℕ). f (request.Write ats 7 at) ≤ (busy + 1) * (5 + k)) (sym is) (list_write_costs time longest blocks ats at k ats_list short_at) in
-      let two : cost (request.Write mdts 7 mdt) ≤ (busy + 1) * (5 + m) = subst (λ (f : Request → ℕ). f (request.Write mdts 7 mdt) ≤ (busy + 1) * (5 + m)) (sym is) (list_write_costs time longest blocks mdts mdt m mdts_list short_mdt) in
-      let three : cost (request.Command command) ≡ time + 4 * (busy + 1) = ap (λ (f : Request → ℕ). f (request.Command command)) is in
-      let all = sums k m in omega (arith, parts, one, two, three, nine, all)
+  writes_cost time longest blocks before after ats mdts at mdt k m command some others nine ats_list mdts_list short_at short_mdt =
+      let parts = sum_parts (cost_of busy time longest blocks) before after (request.Write ats 7 at) (request.Write mdts 7 mdt) (request.Command command) in
+      let early = words_cost time longest blocks before some in
+      let late = words_cost time longest blocks after others in
+      let one = list_write_costs time longest blocks ats at k ats_list short_at in
+      let two = list_write_costs time longest blocks mdts mdt m mdts_list short_mdt in
+      let words : (busy + 1) * (4 * length before) + (busy + 1) * (4 * length after) ≡ (busy + 1) * (4 * 9) = sum_four (length before) (length after) ∙ ap (λ (n : ℕ). (busy + 1) * (4 * n)) nine in
+      let all = sums k m in omega (arith, parts, early, late, one, two, words, all)
     where
-      sums : (k m : ℕ) → 9 * ((busy + 1) * 4) + (busy + 1) * (5 + k) + (busy + 1) * (5 + m) + 4 * (busy + 1) ≡ (busy + 1) * (50 + (k + m))
+      sum_four : (x y : ℕ) → (busy + 1) * (4 * x) + (busy + 1) * (4 * y) ≡ (busy + 1) * (4 * (x + y))
+      sum_four x y = grind arith
+
+      sums : (k m : ℕ) → (busy + 1) * (4 * 9) + (busy + 1) * (5 + k) + (busy + 1) * (5 + m) + 4 * (busy + 1) ≡ (busy + 1) * (50 + (k + m))
       sums k m = grind arith
 
   most : (time n : ℕ) → n ≤ 517 → (busy + 1) * n ≤ (busy + 2) * (520 + time)

@@ -45,7 +45,7 @@ module _ (busy : ℕ) where
   no_restart v xs on = cond-false v.master_restarts [] xs on
 
   -- while a step is open, phase 2 or later is commanded
-  open_late : (v : View) (past : List View) → IsRun busy (v ∷ past) → is_some (open_in (begun_in v past)) ≡ true → 2 ≤ v.phase
+  pub open_late : (v : View) (past : List View) → IsRun busy (v ∷ past) → is_some (open_in (begun_in v past)) ≡ true → 2 ≤ v.phase
   open_late v past run some = elim (two_ways v.phase) [
     | inl low ↦ let none : open_in (begun_in v past) ≡ None = ap open_in (start_begun busy v past run.1 low (start busy v past run low).0) in absurd (cc)
     | inr two ↦ two
@@ -57,14 +57,15 @@ module _ (busy : ℕ) where
     | inr two ↦ two
   ]
 
-  -- a step that is open at the end of a whole cycle was sent in it
-  addressed : (u : View) (past : List View) → IsWhole u past → is_some (open_in (epoch_begun (u ∷ past))) ≡ true → was_addressed (u ∷ past) ≡ true
-  addressed u past whole some =
+  -- a step that is open at the end of a whole cycle was sent in it, and came to the drive
+  addressed : (u : View) (past : List View) → IsRun busy (u ∷ past) → IsWhole u past → (2 ≤ u.phase → 1 ≤ stood_in u (standing past)) → is_some (open_in (epoch_begun (u ∷ past))) ≡ true → was_addressed (u ∷ past) ≡ true
+  addressed u past run whole up some =
       let at : is_some (open_in (begun_in u past)) ≡ true = ap (λ (l : List Begun). is_some (open_in l)) (sym (cond-false u.falls [] (begun_in u past) whole.stays)) ∙ some in
-      and_from u.mst_comes (is_some (got_in u)) whole.mst (got_some u whole.mdt (whole.sends at))
+      let sent = whole.sends at in
+      and_from u.mst_comes (is_some (got_in u)) whole.mst (got_some u (whole.mdt sent (up (open_late u past run at))) sent)
 
-  -- a whole cycle in which the drive stands in the commanded phase is clean, if an open step was sent in the cycle before
-  clean_so : (v : View) (past : List View) → IsRun busy (v ∷ past) → IsWhole v past → (is_some (open_in (epoch_begun past)) ≡ true → was_addressed past ≡ true) → (2 ≤ v.phase → stood_in v (standing past) ≡ v.phase) → IsClean v past
+  -- a whole cycle in which the drive stands in the commanded phase is clean, if an open step came to it in the cycle before
+  clean_so : (v : View) (past : List View) → IsRun busy (v ∷ past) → IsWhole v past → (2 ≤ v.phase → is_some (open_in (epoch_begun past)) ≡ true → was_addressed past ≡ true) → (2 ≤ v.phase → stood_in v (standing past) ≡ v.phase) → IsClean v past
   clean_so v past run whole addressed up = record {
     stays = whole.stays;
     goes_on = whole.master;
@@ -73,13 +74,38 @@ module _ (busy : ℕ) where
           let two = open_later v past run some in
           let at : is_some (open_in (epoch_begun past)) ≡ true = ap (λ (l : List Begun). is_some (open_in l)) (sym (no_restart v (epoch_begun past) whole.master)) ∙ some in
           let same = up two in
-          whole.hears at (addressed at) (omega arith);
+          whole.hears at (addressed two at) (omega arith);
       takes = λ some.
           let two = open_late v past run some in
           let same = up two in
-          processed_some v (length past) (stood_in v (standing past)) (got_in v) whole.mst (omega arith) (got_some v whole.mdt (whole.sends some));
+          let sent = whole.sends some in
+          let comes = whole.mdt sent (omega arith) in
+          processed_some v (length past) (stood_in v (standing past)) (got_in v) whole.mst (omega arith) (got_some v comes sent);
     };
   }
+
+  -- while 2 to 4 is commanded, a drive in phase 0 stands there
+  stands_down : (v : View) (past : List View) → (standing past).ended ≡ 0 → 2 ≤ v.phase → stood_in v (standing past) ≡ 0
+  stands_down v past zero two = by (stands v (standing past))
+    where
+      low : (before_mst v (standing past)).ended ≡ 0
+      low = which v.drive_restarts
+        where
+          which : (r : Bool) → (let f : Standing = if r then afresh else standing past in f.ended) ≡ 0
+          which true = refl
+          which false = zero
+
+      by : Stands v (standing past) → stood_in v (standing past) ≡ 0
+      by (Down z) = z
+      by (Moves m is down up) = absurd (omega (arith, low))
+      by (Stays missed got_mst still is) = is ∙ zero
+
+  -- so one that stands later was up in the cycle before
+  was_up : (v u : View) (past : List View) → 2 ≤ v.phase → stood_in v (standing (u ∷ past)) ≡ v.phase → 1 ≤ stood_in u (standing past)
+  was_up v u past two up = elim (cases_eq (standing (u ∷ past)).ended 0) [
+    | inl z ↦ let down = stands_down v (u ∷ past) z two in absurd (omega arith)
+    | inr nz ↦ elim (ends u past) [ inl z ↦ absurd (nz z) | inr same ↦ omega (arith, same, nz) ]
+  ]
 
   -- From the start of an epoch on.
 
@@ -100,7 +126,8 @@ module _ (busy : ℕ) where
         where
           took : 3 ≤ stood_in v (standing past) → takes_in v (stood_in v (standing past)) ≡ true
           took three =
-              let got = got_some v whole.mdt (whole.joint (omega (arith, stood))) in
+              let sent = whole.joint (omega (arith, stood)) in
+              let got = got_some v (whole.mdt sent (omega arith)) sent in
               and_from v.mst_comes _ whole.mst (and_from (nat_le 1 (stood_in v (standing past))) (is_some (got_in v)) (le-leb 1 (stood_in v (standing past)) (omega arith)) got)
 
           by : (late : Bool) → nat_le 3 (stood_in v (standing past)) ≡ late → (standing (v ∷ past)).ended ≡ v.phase
@@ -147,8 +174,8 @@ module _ (busy : ℕ) where
     where
       by : (cycles : List View) → IsRun busy (cycles ++ past) → AreWhole cycles past → AreUp cycles past → AreClean cycles past
       by [] run whole up = tt
-      by (v ∷ []) run whole up = (tt, clean_so v past run whole.1 (λ some. let none : open_in (epoch_begun past) ≡ None = ap open_in (none_begun past begins) in absurd (cc)) (λ two. up.1.0))
-      by (v ∷ u ∷ cycles) run whole up = (by (u ∷ cycles) run.0 whole.0 up.0, clean_so v (u ∷ (cycles ++ past)) run whole.1 (addressed u (cycles ++ past) whole.0.1) (λ two. up.1.0))
+      by (v ∷ []) run whole up = (tt, clean_so v past run whole.1 (λ two some. let none : open_in (epoch_begun past) ≡ None = ap open_in (none_begun past begins) in absurd (cc)) (λ two. up.1.0))
+      by (v ∷ u ∷ cycles) run whole up = (by (u ∷ cycles) run.0 whole.0 up.0, clean_so v (u ∷ (cycles ++ past)) run whole.1 (λ two. addressed u (cycles ++ past) run.0 whole.0.1 (λ late. let same = up.0.1.0 in omega (arith, same, late))) (λ two. up.1.0))
 
   -- so the master hears it
   pub hears_throughout : HearsThroughout busy
@@ -194,28 +221,13 @@ module _ (busy : ℕ) where
     where
       by : (cycles : List View) → IsRun busy (cycles ++ first ∷ past) → AreWhole cycles (first ∷ past) → StandsUp cycles (first ∷ past) → AreClean cycles (first ∷ past)
       by [] run whole up = tt
-      by (v ∷ []) run whole up = (tt, clean_so v (first ∷ past) run whole.1 (addressed first past one) up.1)
-      by (v ∷ u ∷ cycles) run whole up = (by (u ∷ cycles) run.0 whole.0 up.0, clean_so v (u ∷ (cycles ++ first ∷ past)) run whole.1 (addressed u (cycles ++ first ∷ past) whole.0.1) up.1)
+      by (v ∷ []) run whole up = (tt, clean_so v (first ∷ past) run whole.1 (λ two. addressed first past run.0 one (λ late. was_up v first past two (up.1 two))) up.1)
+      by (v ∷ u ∷ cycles) run whole up = (by (u ∷ cycles) run.0 whole.0 up.0, clean_so v (u ∷ (cycles ++ first ∷ past)) run whole.1 (λ two. addressed u (cycles ++ first ∷ past) run.0 whole.0.1 (λ late. was_up v u (cycles ++ first ∷ past) two (up.1 two))) up.1)
 
   pub recovers_in_time : RecoversInTime busy
   recovers_in_time cycles first past run one whole = elim (is_clean_or_down cycles first past run one whole) [ inl down ↦ inl down | inr clean ↦ inr (takes_time_since busy cycles (first ∷ past) run clean) ]
 
   -- A drive in phase 0.
-
-  stands_down : (v : View) (past : List View) → (standing past).ended ≡ 0 → 2 ≤ v.phase → stood_in v (standing past) ≡ 0
-  stands_down v past zero two = by (stands v (standing past))
-    where
-      low : (before_mst v (standing past)).ended ≡ 0
-      low = which v.drive_restarts
-        where
-          which : (r : Bool) → (let f : Standing = if r then afresh else standing past in f.ended) ≡ 0
-          which true = refl
-          which false = zero
-
-      by : Stands v (standing past) → stood_in v (standing past) ≡ 0
-      by (Down z) = z
-      by (Moves m is down up) = absurd (omega (arith, low))
-      by (Stays missed got_mst still is) = is ∙ zero
 
   pub stays_dead : StaysDead busy
   stays_dead v past run zero two = record {

@@ -122,12 +122,12 @@ whole_by v past is =
     let g = and_parts v.checked _ f.1 in (
       record {
         mst = a.0;
-        mdt = b.0;
         drive = off v.drive_restarts c.0;
         master = off v.master_restarts d.0;
         stays = off v.falls e.0;
         sends = λ some. f.0;
         joint = λ late. f.0;
+        mdt = λ sent up. b.0;
         hears = λ some was up. heard_up (is_some v.heard) (stood_in v (standing past)) g.1 up;
         listens = λ late up. heard_up (is_some v.heard) (stood_in v (standing past)) g.1 up;
       },

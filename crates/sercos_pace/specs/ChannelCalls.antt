@@ -1,7 +1,7 @@
 -- The calls of the master's channel in a run, and what it counts. Each list has its newest item first.
-use Rattle.std.specs.Prelude.{◌≡◌, ℕ, ◌+◌, ◌≤◌, Bool, true, false, if◌then◌else◌, List, [], ◌∷◌, ◌++◌, Option, Some, None, is_some, option_map}
+use Rattle.std.specs.Prelude.{◌≡◌, ℕ, ◌+◌, ◌≤◌, nat_le, ◌&&◌, Bool, true, false, if◌then◌else◌, List, [], ◌∷◌, ◌++◌, Option, Some, None, is_some, option_map}
 use Rattle.sercos_step.specs.declared.request.Request.{Request}
-use Rattle.sercos_service_master.specs.Begun.{Said, open_in}
+use Rattle.sercos_service_master.specs.Begun.{open_in}
 use Rattle.sercos_service_master.specs.Calls.{Call, Begin, Send, Hear, EndCycle, begun_by, age_of, cycles_open, AreCalls}
 use Rattle.sercos_handshake.specs.Views.{Heard, View}
 use Rattle.sercos_handshake.specs.Epochs.{unless_restart, epoch_begun, begun_in}
@@ -18,7 +18,7 @@ staying v = record v { falls = false }
 abbrev pub StaysARun : ℕ → Type 0
 StaysARun busy = (v : View) (past : List View) → IsRun busy (v ∷ past) → IsRun busy (staying v ∷ past)
 
--- The calls with what is heard, begun and sent in a cycle.
+-- The calls with what is heard, begun and sent in a cycle. A record that is sent in phase 1 is no call of the channel.
 abbrev pub calls_heard : Option Heard → List Call → List Call
 calls_heard None h = h
 calls_heard (Some a) h = Hear a.status a.word ∷ h
@@ -27,13 +27,12 @@ abbrev pub calls_begun : Option Request → List Call → List Call
 calls_begun None h = h
 calls_begun (Some r) h = Begin r ∷ h
 
-abbrev pub calls_sent : Option Said → List Call → List Call
-calls_sent None h = h
-calls_sent (Some s) h = Send ∷ h
+abbrev pub calls_sent : Bool → List Call → List Call
+calls_sent sends h = if sends then Send ∷ h else h
 
 -- the calls up to the end of a cycle, and all of the epoch
 abbrev pub calls_in : View → List Call → List Call
-calls_in v h = calls_sent v.sent (calls_begun v.begins (calls_heard v.heard (unless_restart v h)))
+calls_in v h = calls_sent (nat_le 2 v.phase && is_some v.sent) (calls_begun v.begins (calls_heard v.heard (unless_restart v h)))
 
 abbrev pub channel_calls : List View → List Call
 channel_calls [] = []

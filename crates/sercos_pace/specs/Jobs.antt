@@ -55,11 +55,23 @@ abbrev pub ReadsCost : ℕ → Type 0
 ReadsCost busy = (time : ℕ) (longest : ℕ → ℕ) (blocks : List Block) (values idns : List Idn) → AreWords blocks values → length values ≡ 6 →
     sum_by (cost_of busy time longest blocks) (reads_of values idns) ≤ (busy + 1) * (24 + 3 * length idns)
 
--- The writes of phase 2: nine values that cost no more than a word each, the two lists with k and m words, and the command.
+-- Writes of one word each: at most two bytes to operation data of one word.
+pub record IsWordWrite (blocks : List Block) (r : Request) : Type 0 where
+  pub idn : Idn
+  pub bytes : List ℕ
+  pub writes : r ≡ request.Write idn 7 bytes
+  pub word : IsWord blocks idn
+  pub short : length bytes ≤ 2
+
+abbrev pub AreWordWrites : List Block → List Request → Type 0
+AreWordWrites blocks [] = Unit {0}
+AreWordWrites blocks (r ∷ rs) = AreWordWrites blocks rs × IsWordWrite blocks r
+
+-- The writes of phase 2 and its command: nine of a word, some before and the others after the two lists, which have k and m words.
 abbrev pub WritesCost : ℕ → Type 0
-WritesCost busy = (time : ℕ) (longest : ℕ → ℕ) (blocks : List Block) (cost : Request → ℕ) (values : List Request) (ats mdts : Idn) (at mdt : List ℕ) (k m : ℕ) (command : Idn) → cost ≡ cost_of busy time longest blocks →
-    sum_by cost values ≤ 9 * ((busy + 1) * 4) → IsListBlock blocks ats → IsListBlock blocks mdts → length at ≤ 2 * k → length mdt ≤ 2 * m →
-    sum_by cost (values ++ request.Write ats 7 at ∷ request.Write mdts 7 mdt ∷ request.Command command ∷ []) ≤ (busy + 1) * (50 + (k + m)) + time
+WritesCost busy = (time : ℕ) (longest : ℕ → ℕ) (blocks : List Block) (before after : List Request) (ats mdts : Idn) (at mdt : List ℕ) (k m : ℕ) (command : Idn) →
+    AreWordWrites blocks before → AreWordWrites blocks after → length before + length after ≡ 9 → IsListBlock blocks ats → IsListBlock blocks mdts → length at ≤ 2 * k → length mdt ≤ 2 * m →
+    sum_by (cost_of busy time longest blocks) (before ++ request.Write ats 7 at ∷ request.Write mdts 7 mdt ∷ (after ++ request.Command command ∷ [])) ≤ (busy + 1) * (50 + (k + m)) + time
 
 -- Any request with at most 1,024 bytes costs no more than this profile gives a request.
 abbrev pub IsShort : Request → Type 0

@@ -15,13 +15,14 @@ was_addressed (v ∷ past) = v.mst_comes && is_some (got_in v)
 -- A cycle is whole: every telegram that is sent comes, nothing restarts, and the master doesn't fall at its end.
 pub record IsWhole (v : View) (past : List View) : Type 0 where
   pub mst : v.mst_comes ≡ true
-  pub mdt : v.mdt_comes ≡ true
   pub drive : v.drive_restarts ≡ false
   pub master : v.master_restarts ≡ false
   pub stays : v.falls ≡ false
   -- the master sends the drive a record if a step of its channel is open, and in phases 3 and 4 always
   pub sends : is_some (open_in (begun_in v past)) ≡ true → is_some v.sent ≡ true
   pub joint : 3 ≤ v.phase → is_some v.sent ≡ true
+  -- a record that is sent comes to a drive that isn't in phase 0
+  pub mdt : is_some v.sent ≡ true → 1 ≤ stood_in v (standing past) → v.mdt_comes ≡ true
   -- a drive that isn't in phase 0 is heard in phases 3 and 4 always, and before that if a step is open and a record came to it in
   -- the cycle before
   pub hears : is_some (open_in (epoch_begun past)) ≡ true → was_addressed past ≡ true → 1 ≤ stood_in v (standing past) → is_some v.heard ≡ true
