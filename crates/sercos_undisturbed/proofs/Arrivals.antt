@@ -1,0 +1,1 @@
+-- In an undisturbed cycle each telegram arrives as it was sent.
