@@ -12,3 +12,4 @@ pub mod RightRuns
 pub mod ToldOnce
 pub mod ToldEvents
 mod WorkedRuns
+pub mod AtWork

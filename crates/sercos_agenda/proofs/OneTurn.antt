@@ -77,7 +77,7 @@ hears_so status word begun = record {
     closes false off some = absurd (cc)
 
 -- The first of the places is the same where the outcomes are.
-from_same : (n k : ℕ) (f g : ℕ → Bool) → ((j : ℕ) → f j ≡ g j) → first_from k n f ≡ first_from k n g
+pub from_same : (n k : ℕ) (f g : ℕ → Bool) → ((j : ℕ) → f j ≡ g j) → first_from k n f ≡ first_from k n g
 from_same zero k f g same = refl
 from_same (suc n) k f g same = ap₂ (λ (v : Bool) (o : Option ℕ). if v then Some k else o) (same k) (from_same n (k + 1) f g same)
 

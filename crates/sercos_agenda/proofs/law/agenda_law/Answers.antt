@@ -2,6 +2,7 @@ use Rattle.sercos_agenda.proofs.TaskRuns.{begun_tasks}
 use Rattle.sercos_agenda.proofs.OneTurn.{all_in_turn, none_early}
 use Rattle.sercos_agenda.proofs.ReadWell.{ends_tasks, are_read_well}
 use Rattle.sercos_agenda.proofs.WritesDone.{writes_data, configures_from_check, configures_at_rise}
+use Rattle.sercos_agenda.proofs.AtWork.{works_in_two, works_in_three}
 use Rattle.sercos_agenda.proofs.law.agenda_law.Goals as goal
 
 pub returns-clause-tasks : goal.returns-clause-tasks
@@ -27,3 +28,9 @@ returns-clause-check c = configures_from_check c.steps_law.ensures.next
 
 pub returns-clause-rise : goal.returns-clause-rise
 returns-clause-rise c = configures_at_rise c.steps_law.ensures.next
+
+pub returns-clause-two : goal.returns-clause-two
+returns-clause-two c = λ s requests h wait lists two free planned fails. works_in_two c.steps_law.ensures.next s requests h wait lists two free planned fails
+
+pub returns-clause-three : goal.returns-clause-three
+returns-clause-three c = λ s requests h k wait lists there three free planned fails. works_in_three c.steps_law.ensures.next s requests h wait lists k there three free planned fails
