@@ -20,6 +20,8 @@ pub enum Form {
     Run,
     /// `check`: a capture is answered by whether its telegrams keep the rules of a ring.
     Check,
+    /// `margin`: a ring document is answered by how far the times of its drives can go, and by its least cycle time.
+    Margin,
     /// `gen`: the summary of the run of a generated ring of 1 to 64 drives.
     Gen(u8),
 }
@@ -38,6 +40,8 @@ fn word_form(word: &str) -> Option<Form>
         Some(Form::Run)
     } else if word == "check" {
         Some(Form::Check)
+    } else if word == "margin" {
+        Some(Form::Margin)
     } else {
         None
     }

@@ -1,3 +1,4 @@
 pub mod EasierLemmas
 pub mod MarginLemmas
+pub mod FoundLemmas
 mod Worked

@@ -1,11 +1,13 @@
 -- Wishes with another time of one drive or another cycle time, and how far each can go while a plan still fits.
-use Rattle.std.specs.Prelude.{◌≡◌, ℕ, ◌<◌, ◌≤◌, ◌%◌, ◌⊎◌, Option, Some, None, slice_set}
+use Rattle.std.specs.Prelude.{◌≡◌, ℕ, zero, suc, ◌+◌, ◌-◌, ◌*◌, ◌<◌, ◌≤◌, ◌%◌, ◌⊎◌, Bool, if◌then◌else◌, List, ◌∷◌, map, Option, Some, None, slice_set}
+use Rattle.std.specs.List.{find, range_with_len}
 use Rattle.sercos_timing.specs.Views.{WishesView, PlanView}
 use Rattle.sercos_timing.specs.Order.{wish, times}
 use Rattle.sercos_timing.specs.Inequalities.{Fits}
 use Rattle.sercos_timing.specs.declared.wishes.Times.{Times}
 use Rattle.sercos_timing.specs.declared.wishes.Wish.{Wish}
 use Rattle.sercos_plan.specs.Least.{NoneFits}
+use Rattle.sercos_plan.specs.LeastTimes.{is_roomy}
 use Rattle.sercos_margin.specs.declared.changes.Time.{Time}
 use Rattle.sercos_margin.specs.declared.changes.Time.TheVariants.{T1min, Tatmt, T4min, Tatat, Tmtsy, Tmtsg}
 
@@ -86,3 +88,20 @@ pub record IsLeastOf (w : WishesView) (n : ℕ) : Type 0 where
 abbrev pub IsLeastCycle : WishesView → Option ℕ → Type 0
 IsLeastCycle w None = (c : ℕ) → IsCycle c → NoneFits (with_cycle w c)
 IsLeastCycle w (Some n) = IsLeastOf w n
+
+-- the greatest of low, low + 1, .., low + n that passes a test; low, where none above it does
+unfoldable pub highest : (ℕ → Bool) → ℕ → ℕ → ℕ
+highest f low zero = low
+highest f low (suc n) = if f (low + suc n) then low + suc n else highest f low n
+
+-- how far the time t of the drive k can go, found value by value: a plan fits exactly where the least times keep their bounds
+unfoldable pub margin_of : WishesView → ℕ → Time → ℕ
+margin_of w k t = highest (λ v. is_roomy (with_time w k t v)) (declared w k t) (greatest t - declared w k t)
+
+-- all cycle times that a ring can have, ascending
+unfoldable pub all_cycles : List ℕ
+all_cycles = 125 ∷ map (λ m. 250 * m) (range_with_len 1 256)
+
+-- the least cycle time with which a plan fits, found one by one
+unfoldable pub least_cycle_of : WishesView → Option ℕ
+least_cycle_of w = find (λ c. is_roomy (with_cycle w c)) all_cycles

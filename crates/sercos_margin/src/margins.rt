@@ -2,7 +2,7 @@
 ghost use Rattle.std.specs.Prelude.{◌≡◌, ◌<◌, ◌≤◌, length, true, false};
 ghost use Rattle.sercos_timing.specs.Valid.{IsValid};
 ghost use Rattle.sercos_plan.specs.Least.{NoneFits};
-ghost use Rattle.sercos_margin.specs.Margins.{greatest, declared, with_time, with_cycle, HasPlan, IsMargin, IsBetween, IsCycle, IsLeastOf, IsLeastCycle};
+ghost use Rattle.sercos_margin.specs.Margins.{greatest, declared, with_time, with_cycle, HasPlan, IsMargin, IsBetween, IsCycle, IsLeastOf, IsLeastCycle, margin_of, least_cycle_of};
 
 use crate::changes::{Time, declared, greatest, with_cycle, with_time};
 use sercos_plan::plan;
@@ -73,7 +73,8 @@ pub fn margin(w: &Wishes, index: usize, t: Time) -> u16
     requires within { index < length w.now.drives }
     requires limit { declared w.now index t ≤ greatest t }
     requires fits { HasPlan w.now }
-    ensures { IsMargin w.now index t result }
+    ensures margin { IsMargin w.now index t result }
+    ensures value { result ≡ margin_of w.now index t }
 {
     bound(w, index, t, declared(w, index, t), greatest(t))
 }
@@ -103,7 +104,8 @@ fn least_multiple(w: &Wishes) -> u16
 /// plan fits with any of them.
 pub fn least_cycle(w: &Wishes) -> Option<u16>
     requires { IsValid w.now }
-    ensures { IsLeastCycle w.now result }
+    ensures cycle { IsLeastCycle w.now result }
+    ensures value { result ≡ least_cycle_of w.now }
 {
     if has_with_cycle(w, 125) {
         return Some(125);
