@@ -100,10 +100,10 @@ class Rings:
         return keys
 
     def own_idns(self, count):
-        idns = set()
+        idns = {}
         while len(idns) < count:
             number = self.pick([99, 126, 129, 4095, self.between(30, 80)])
-            idns.add("%s-%d-%04d" % (self.pick("SP"), self.pick([0, 0, 0, 1, 7]), number))
+            idns["%s-%d-%04d" % (self.pick("SP"), self.pick([0, 0, 0, 1, 7]), number)] = True
         return sorted(idns, key=lambda _: self.random.random())
 
     def drive(self, address, calm):
