@@ -17,18 +17,18 @@ use Rattle.sercos_script.specs.Links.{Carry, Restarts}
 unfoldable pub command_answer : Carry → Restarts → Form → List ℕ → Answer
 command_answer carry restarts forms.Show bytes = show_answer bytes
 command_answer carry restarts forms.Plan bytes = plan_answer bytes
+command_answer carry restarts forms.Margin bytes = margin_answer bytes
 command_answer carry restarts forms.Run bytes = run_answer carry restarts bytes
 command_answer carry restarts forms.Check bytes = check_answer bytes
-command_answer carry restarts forms.Margin bytes = margin_answer bytes
 command_answer carry restarts (forms.Gen drives) bytes = gen_answer carry restarts drives
 
 -- what the answer of each command says beside its text
 abbrev pub SaysWell : Carry → Restarts → Form → List ℕ → Type 0
 SaysWell carry restarts forms.Show bytes = Unit {0}
 SaysWell carry restarts forms.Plan bytes = PlansItsRing bytes
+SaysWell carry restarts forms.Margin bytes = MeasuresItsRing bytes
 SaysWell carry restarts forms.Run bytes = RunsItsRing carry restarts bytes
 SaysWell carry restarts forms.Check bytes = Unit {0}
-SaysWell carry restarts forms.Margin bytes = MeasuresItsRing bytes
 SaysWell carry restarts (forms.Gen drives) bytes = RunsGenerated carry restarts drives
 
 unfoldable pub form_answer : Carry → Restarts → Option Form → List ℕ → Answer

@@ -16,12 +16,12 @@ pub enum Form {
     Show,
     /// `plan`: a ring document is answered by the least plan of its time slots.
     Plan,
+    /// `margin`: a ring document is answered by how far the times of its drives can go, and by its least cycle time.
+    Margin,
     /// `run`: a ring document is answered by the trace of its run.
     Run,
     /// `check`: a capture is answered by whether its telegrams keep the rules of a ring.
     Check,
-    /// `margin`: a ring document is answered by how far the times of its drives can go, and by its least cycle time.
-    Margin,
     /// `gen`: the summary of the run of a generated ring of 1 to 64 drives.
     Gen(u8),
 }
@@ -36,12 +36,12 @@ fn word_form(word: &str) -> Option<Form>
         Some(Form::Show)
     } else if word == "plan" {
         Some(Form::Plan)
+    } else if word == "margin" {
+        Some(Form::Margin)
     } else if word == "run" {
         Some(Form::Run)
     } else if word == "check" {
         Some(Form::Check)
-    } else if word == "margin" {
-        Some(Form::Margin)
     } else {
         None
     }

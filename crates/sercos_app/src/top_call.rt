@@ -111,9 +111,9 @@ fn answer<K: Sink, L: BitLink>(
     match form {
         Form::Show => answer_show(alloc, bytes, sink),
         Form::Plan => answer_plan(alloc, bytes, sink),
+        Form::Margin => answer_margin(alloc, bytes, sink),
         Form::Run => answer_run(alloc, bytes, link, sink),
         Form::Check => answer_check(bytes, sink),
-        Form::Margin => answer_margin(alloc, bytes, sink),
         Form::Gen(drives) => answer_gen(alloc, drives, link, sink),
     }
 }
@@ -159,7 +159,7 @@ fn respond<S: Source, K: Sink, L: BitLink>(
 /// reads nothing. `run` writes the lines of each cycle as the cycle is made; each other command writes its output once it is
 /// whole. The clauses on the bytes of source and sink hold where these tell them, as those in memory do.
 ///
-/// The forms of words are `show`, `plan`, `run`, `check`, `margin`, and `gen N` for 1 to 64 drives, with at most one word `--` anywhere.
+/// The forms of words are `show`, `plan`, `margin`, `run`, `check`, and `gen N` for 1 to 64 drives, with at most one word `--` anywhere.
 /// `run` and `gen` run their ring over the script of the document, followed by `link`; no other command uses `link`. Words in no
 /// form are `BadWords`, and nothing is read. `ReadFault` is returned if a read failed, `TooLong` if the input is longer, and
 /// `Memory` if no memory was found; then nothing is written. A refused input is `Refused`, also if its line couldn't be written
