@@ -21,7 +21,8 @@ use Rattle.sercos_master.specs.Reports.{plan_told, restart_told}
 use Rattle.sercos_telegram.specs.declared.layout.Kind.TheVariants as kinds
 use Rattle.sercos_script.specs.Links.{Carry, Restarts}
 use Rattle.sercos_journal.specs.Arrivals.{passage, sum_below, unseen_at}
-use Rattle.sercos_journal.specs.Records.{ats_in, is_at, mst_in, mdt_in}
+use Rattle.sercos_telegram.specs.Kinds.{is_at}
+use Rattle.sercos_journal.specs.Records.{ats_in, mst_in, mdt_in}
 use Rattle.sercos_journal.specs.Runs.{IsNext, unseen_ats, unseen_mst, unseen_mdt, station_of, looks_back, middle, restart_events, no_events, master_calls}
 
 -- Unseen arrivals: one at most for each passage.

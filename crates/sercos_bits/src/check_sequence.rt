@@ -4,7 +4,7 @@ ghost use Rattle.sercos_model.specs.CheckSequence.{fcs_of, remainder, dividend, 
 ghost use Rattle.sercos_bits.specs.Register.{fed};
 
 /// The register before the first bit: all ones.
-const START: u16 = 0xffff;
+pub const START: u16 = 0xffff;
 
 /// For each byte, what the register holds after its eight bits, if it was zero before: the remainder by the generator
 /// x^16 + x^12 + x^5 + 1. Bit 0 is the coefficient of x^15.
@@ -41,7 +41,7 @@ fn remainder_of(byte: u8) -> u16
 }
 
 /// The register after the eight bits of a byte, the least significant first.
-fn with_byte(register: u16, byte: u8) -> u16
+pub fn with_byte(register: u16, byte: u8) -> u16
     ensures { low_bits 16 result ≡ fold fed (low_bits 16 register) (low_bits 8 byte) }
 {
     let low = (register % 256) as u8;

@@ -22,8 +22,8 @@ pub fn store_law()
         (b.attribute.factor < 2 ^ 16) × AreBytes b.value }
 {}
 
-/// A ring that keeps the rules has 1 to 64 drives with addresses of their own, an order that lists each of them once, and
-/// numbers of this profile.
+/// A ring that keeps the rules has 1 to 64 drives with addresses of their own, which declare times within their limits, an order
+/// that lists each of them once, and numbers of this profile.
 pub fn ring_law()
     ensures { (r : RingView) → is_ring r ≡ true → IsRing r }
 {}

@@ -42,7 +42,7 @@ abbrev pub shape_read : ℕ → Block → Shape
 shape_read e b = shape_asked e (asks_attribute e) b
 
 -- The words of the element stand behind the word that answered the opening, and behind the two of the attribute where it is read.
-data Behind (b : Block) (asks : Bool) (words own : List ℕ) : Type 0 where
+pub data Behind (b : Block) (asks : Bool) (words own : List ℕ) : Type 0 where
   Short : (asks ≡ false) → (w : ℕ) → (words ≡ w ∷ own) → Behind b asks words own
   Long : (asks ≡ true) → (w : ℕ) → (words ≡ w ∷ low_of b ∷ high_of b ∷ own) → Behind b asks words own
 
@@ -110,18 +110,18 @@ module _ (idn : Idn) (e : ℕ) (b : Block) (blocks : List Block) (found : find_b
   asked = request.Read idn e
 
   -- the selection of the run that a further entry goes on, and the words that it copied so far
-  record Chosen (own : List ℕ) (taken : List Taken) (entries : List Entry) (x : Entry) : Type 0 where
-    entry : Entry
-    at : entry_behind (steps_before e) (x ∷ entries) ≡ Some entry
-    is : entry.taken ≡ selection x.taken taken
-    copied : own ≡ row (length taken) (copy idn.raw entry.taken)
-    reads : x.taken.step.write ≡ false → entry.taken.step.write ≡ false
-    element : x.taken.step.element ≡ e → entry.taken.step.element ≡ e
-    alike : AreAlike x.taken.blocks blocks → AreAlike entry.taken.blocks blocks
+  pub record Chosen (own : List ℕ) (taken : List Taken) (entries : List Entry) (x : Entry) : Type 0 where
+    pub entry : Entry
+    pub at : entry_behind (steps_before e) (x ∷ entries) ≡ Some entry
+    pub is : entry.taken ≡ selection x.taken taken
+    pub copied : own ≡ row (length taken) (copy idn.raw entry.taken)
+    pub reads : x.taken.step.write ≡ false → entry.taken.step.write ≡ false
+    pub element : x.taken.step.element ≡ e → entry.taken.step.element ≡ e
+    pub alike : AreAlike x.taken.blocks blocks → AreAlike entry.taken.blocks blocks
 
   -- Behind these entries, with these words answered: the next step is the opening, one of the two that read the attribute, or
   -- the one that reads a word.
-  data Stage (words : List ℕ) (entries log : List Entry) : Type 0 where
+  pub data Stage (words : List ℕ) (entries log : List Entry) : Type 0 where
     AtOpening : (words ≡ []) → Stage words entries log
     AtLow : (asks_attribute e ≡ true) → (w : ℕ) → (words ≡ w ∷ []) → (open_idn (entries ++ log) ≡ Some idn.raw) → (run_before false 3 (entries ++ log) ≡ []) → Stage words entries log
     AtHigh : (asks_attribute e ≡ true) → (w : ℕ) (t : Taken) → (words ≡ w ∷ low_of b ∷ []) → (open_idn (entries ++ log) ≡ Some idn.raw) → (run_before false 3 (entries ++ log) ≡ t ∷ []) →
@@ -142,7 +142,7 @@ module _ (idn : Idn) (e : ℕ) (b : Block) (blocks : List Block) (found : find_b
   next_high : (words : List ℕ) (s : Step) (w x : ℕ) → asks_attribute e ≡ true → words ≡ w ∷ x ∷ [] → slice_get (steps_of asked words) (length words) ≡ Some s → s ≡ a_step false true 3 0
   next_high words s w x asks is next = some_same (a_step false true 3 0) s (rw is at (by_asked true words s asks next))
 
-  next_word : (words own : List ℕ) (s : Step) (x : ℕ) → Behind b (asks_attribute e) words own → slice_get (steps_of asked words) (length words) ≡ Some s → s ≡ a_step false (is_whole asked (words ++ x ∷ [])) e 0
+  pub next_word : (words own : List ℕ) (s : Step) (x : ℕ) → Behind b (asks_attribute e) words own → slice_get (steps_of asked words) (length words) ≡ Some s → s ≡ a_step false (is_whole asked (words ++ x ∷ [])) e 0
   next_word words own s x behind next =
       reading_next (shape_read e b) e own s x (sym (placed idn e b (asks_attribute e) words own behind).next ∙ next)
       ∙ ap (λ (v : Bool). a_step false v e 0) (sym (placed idn e b (asks_attribute e) (words ++ x ∷ []) (own ++ x ∷ []) (behind_more b (asks_attribute e) words own x behind)).whole)
@@ -233,7 +233,7 @@ module _ (idn : Idn) (e : ℕ) (b : Block) (blocks : List Block) (found : find_b
       same n = grind (arith, nat_tests)
 
   -- the entries before the newest
-  stage_before : (d : Entry) (entries log : List Entry) → IsTransfer asked blocks d entries log → Stage (answer_words (replies_of entries)) entries log
+  pub stage_before : (d : Entry) (entries log : List Entry) → IsTransfer asked blocks d entries log → Stage (answer_words (replies_of entries)) entries log
   stage_before d [] log is = AtOpening refl
   stage_before d (c ∷ entries) log is =
       let was = without_newest asked blocks log d c entries is in

@@ -33,7 +33,7 @@ none_alike raw others blocks alike none =
     by (Some b) is = absurd (cc)
 
 -- an opening is refused there
-refused_opening : (idn : Idn) (t : Taken) (all : List Entry) (blocks : List Block) → t.step ≡ opening idn → AreAlike t.blocks blocks → find_block idn.raw blocks ≡ None → reply_of t all ≡ refused 0x1001
+pub refused_opening : (idn : Idn) (t : Taken) (all : List Entry) (blocks : List Block) → t.step ≡ opening idn → AreAlike t.blocks blocks → find_block idn.raw blocks ≡ None → reply_of t all ≡ refused 0x1001
 refused_opening idn t all blocks is alike none =
     let opened : opens t.step ≡ true = ap opens is in
     let no_block : is_some (find_block t.step.word t.blocks) ≡ false = ap (λ (s : Step). is_some (find_block s.word t.blocks)) is ∙ none_alike idn.raw t.blocks blocks alike none in

@@ -24,14 +24,14 @@ use Rattle.sercos_handshake.proofs.StoredBytes.{bytes_written-told}
 use Rattle.sercos_handshake.proofs.AttributeReplies.{attribute_words, IsRead, IsRead-alike, reply_low, reply_high}
 use Rattle.sercos_handshake.proofs.WriteRuns.{length-run, length-in_order, run_next, run_grows, run_starts, open_by, last_word}
 
-abbrev low_of : Block → ℕ
+abbrev pub low_of : Block → ℕ
 low_of b = slice_index (attribute_words b.attribute) 0
 
-abbrev high_of : Block → ℕ
+abbrev pub high_of : Block → ℕ
 high_of b = slice_index (attribute_words b.attribute) 1
 
 -- the words that write bytes to a block
-abbrev told : Block → List ℕ → List ℕ
+abbrev pub told : Block → List ℕ → List ℕ
 told b bytes = words_told (shape_by b.attribute.length) bytes
 
 parts : (words : List ℕ) → slice_index (at_least_one words) 0 ∷ drop 1 (at_least_one words) ≡ at_least_one words
@@ -45,7 +45,7 @@ told_parts shape.List bytes = refl
 
 -- Behind these entries, with these words answered: the next step is the opening, one of the two that read the attribute, or
 -- the one that writes a word, with others behind it.
-data Stage (idn : Idn) (bytes : List ℕ) (b : Block) (words : List ℕ) (all : List Entry) : Type 0 where
+pub data Stage (idn : Idn) (bytes : List ℕ) (b : Block) (words : List ℕ) (all : List Entry) : Type 0 where
   AtOpening : words ≡ [] → Stage idn bytes b words all
   AtLow : (w : ℕ) → words ≡ w ∷ [] → open_idn all ≡ Some idn.raw → run_before false 3 all ≡ [] → Stage idn bytes b words all
   AtHigh : (w : ℕ) (t : Taken) → words ≡ w ∷ low_of b ∷ [] → open_idn all ≡ Some idn.raw → run_before false 3 all ≡ t ∷ [] → IsRead idn.raw t b.attribute → Stage idn bytes b words all
@@ -202,7 +202,7 @@ module _ (idn : Idn) (bytes : List ℕ) (b : Block) (said : shape_of 7 (low_of b
         adds_word words e all taken word rest opened before ordered (next_word words e.taken.step w more taken word rest is count ordered next) alike (whole_word words w more taken word rest e.answer.word is count ordered)
 
     -- the entries before the newest
-    stage_before : (e : Entry) (entries log : List Entry) → IsTransfer asked blocks e entries log → Stage idn bytes b (answer_words (replies_of entries)) (entries ++ log) × (writes_of (entries ++ log) ≡ writes_of log)
+    pub stage_before : (e : Entry) (entries log : List Entry) → IsTransfer asked blocks e entries log → Stage idn bytes b (answer_words (replies_of entries)) (entries ++ log) × (writes_of (entries ++ log) ≡ writes_of log)
     stage_before e [] log is = (AtOpening refl, refl)
     stage_before e (d ∷ entries) log is =
         let was = without_newest asked blocks log e d entries is in

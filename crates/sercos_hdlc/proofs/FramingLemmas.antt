@@ -10,6 +10,7 @@ use Rattle.sercos_model.specs.Frames.{flag, IsStuffed, IsFrame, plain_of, wire_b
 use Rattle.sercos_model.specs.Frames.IsStuffed.{both_end, zero_kept, one_kept, zero_inserted}
 use Rattle.sercos_model.proofs.BitLemmas.{bits_of-next, bits_of-none}
 use Rattle.sercos_model.proofs.FrameLemmas.{length-plain_of}
+use Rattle.sercos_bits.specs.Register.{fed}
 use Rattle.sercos_hdlc.specs.Reason.{six_place, plain, content_of}
 use Rattle.sercos_hdlc.specs.Stuffed.{sent_for, ones_behind, stuffed}
 use Rattle.sercos_hdlc.proofs.StuffLemmas.{six_place-IsStuffed}
@@ -113,6 +114,13 @@ stuffed_no_byte ones bytes i past = ap (stuffed ones) (bits_of-none bytes i past
 
 pub ones_no_byte : (ones : ℕ) (bytes : List ℕ) (i : ℕ) → length bytes ≤ i → fold ones_behind ones (bits_of (drop i bytes)) ≡ ones
 ones_no_byte ones bytes i past = ap (fold ones_behind ones) (bits_of-none bytes i past)
+
+pub fed_next_byte : (register : List Bool) (bytes : List ℕ) (i : ℕ) → i < length bytes → fold fed register (bits_of (drop i bytes)) ≡ fold fed (fold fed register (low_bits 8 (get_or bytes i 0))) (bits_of (drop (i + 1) bytes))
+fed_next_byte register bytes i inside =
+    ap (fold fed register) (bits_of-next bytes i inside) ∙ fold-append fed register (low_bits 8 (get_or bytes i 0)) (bits_of (drop (i + 1) bytes))
+
+pub fed_no_byte : (register : List Bool) (bytes : List ℕ) (i : ℕ) → length bytes ≤ i → fold fed register (bits_of (drop i bytes)) ≡ register
+fed_no_byte register bytes i past = ap (fold fed register) (bits_of-none bytes i past)
 
 -- nothing is left
 pub sent_all : (out all : List Bool) {whole : List Bool} → whole ≡ [] → out ++ whole ≡ all → out ≡ all

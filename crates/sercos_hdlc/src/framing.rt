@@ -1,11 +1,12 @@
-ghost use Rattle.std.specs.Prelude.{◌≡◌, ℕ, ◌+◌, ◌*◌, ◌<◌, ◌≤◌, ◌↔◌, Bool, List, [], ◌++◌, length, IsErr, OnOk, OnErr};
+ghost use Rattle.std.specs.Prelude.{◌≡◌, ℕ, ◌+◌, ◌*◌, ◌<◌, ◌≤◌, ◌↔◌, Bool, List, [], ◌++◌, length, IsErr, OnOk, OnErr, fold};
 ghost use Rattle.sercos_model.specs.Bits.{low_bits, bits_of, AreBytes};
-ghost use Rattle.sercos_model.specs.CheckSequence.{fcs_of};
+ghost use Rattle.sercos_model.specs.CheckSequence.{fcs_of, sixteen_ones};
 ghost use Rattle.sercos_model.specs.Frames.{flag, plain_of, wire_bits, IsFrame};
+ghost use Rattle.sercos_bits.specs.Register.{fed};
 ghost use Rattle.sercos_hdlc.specs.Stuffed.{stuffed, frame_of};
 
-use crate::stuffing::{count_bytes, push_bytes};
-use sercos_bits::{BitBuf, MAX_CONTENT, bits_of, fcs};
+use crate::stuffing::{count_bytes, count_taken, push_bytes};
+use sercos_bits::{BitBuf, MAX_CONTENT, Register, bits_of, fcs};
 
 /// A content has more than 2048 bytes.
 #[derive(Clone, Copy, Debug, PartialEq, Eq)]
@@ -75,6 +76,14 @@ pub fn frame(content: &[u8], out: &mut BitBuf) -> Result<(), TooLong>
     Ok(())
 }
 
+// The check sequence of the bytes that a register has taken, as it is sent.
+#[tactic(auto, using(crate::proofs::FramingLemmas::bits_of_two))]
+fn bytes_of_check(register: &Register) -> [u8; 2]
+    ensures { (bytes : List ℕ) → register.now ≡ fold fed sixteen_ones (bits_of bytes) → bits_of result ≡ low_bits 16 (fcs_of bytes) }
+{
+    register.fcs().to_le_bytes()
+}
+
 /// How many bits the frame of a content of 1 to 2048 bytes has, flags and inserted zeros with it.
 pub fn frame_len(content: &[u8]) -> u32
     requires some { 0 < length content.now }
@@ -84,8 +93,9 @@ pub fn frame_len(content: &[u8]) -> u32
     ensures frame { result ≡ length (frame_of content.now) }
 {
     let mut len = FLAGS_BITS;
-    let ones = count_bytes(content, 0, &mut len);
-    count_bytes(&check_bytes(content), ones, &mut len);
+    let mut register = Register::new();
+    let ones = count_taken(content, &mut register, &mut len);
+    count_bytes(&bytes_of_check(&register), ones, &mut len);
     len
 }
 

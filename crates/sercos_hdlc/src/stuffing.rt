@@ -1,10 +1,11 @@
 ghost use Rattle.std.specs.Prelude.{◌≡◌, ◌+◌, ◌*◌, ◌^◌, ◌<◌, ◌≤◌, ◌++◌, length, fold};
 ghost use Rattle.sercos_model.specs.Bits.{low_bits, bits_of};
+ghost use Rattle.sercos_bits.specs.Register.{fed};
 ghost use Rattle.sercos_hdlc.specs.Reason.{plain_for, unstuffed};
 ghost use Rattle.sercos_hdlc.specs.Stuffed.{ones_behind, stuffed};
 
 use crate::tables::{counts_of, sent_for};
-use sercos_bits::{BitBuf, push_number};
+use sercos_bits::{BitBuf, Register, push_number};
 
 // Behind so many ones in a row a zero is inserted.
 const INSERTED_BEHIND: usize = 5;
@@ -89,6 +90,24 @@ pub fn count_bytes(bytes: &[u8], ones: usize, len: &mut u32) -> usize
 {
     let mut run = ones;
     for byte in bytes {
+        run = count_byte(*byte, run, len);
+    }
+    run
+}
+
+/// Counts what is sent for bytes at the beginning of a body, as [`count_bytes`] does after zero ones, and lets the register take
+/// each byte on the way. Both wait for a table at each byte, so that one loop takes hardly longer than either.
+pub fn count_taken(bytes: &[u8], register: &mut Register, len: &mut u32) -> usize
+    requires { len.old + 16 * length bytes.now < 2 ^ 32 }
+    ensures len { len.new ≡ len.old + length (stuffed 0 (bits_of bytes.now)) }
+    ensures ones { result ≡ fold ones_behind 0 (bits_of bytes.now) }
+    ensures few { result < 5 }
+    ensures room { len.new ≤ len.old + 16 * length bytes.now }
+    ensures register { register.new ≡ fold fed register.old (bits_of bytes.now) }
+{
+    let mut run = 0;
+    for byte in bytes {
+        register.take(*byte);
         run = count_byte(*byte, run, len);
     }
     run

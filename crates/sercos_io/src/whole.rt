@@ -13,7 +13,7 @@ use thiserror::Error;
 const MOST_BYTES: usize = 1_048_576;
 
 /// The number of bytes that are asked for at once.
-const PIECE_BYTES: usize = 4096;
+const PIECE_BYTES: usize = 8192;
 
 /// Why an input could not be read to its end.
 #[derive(Clone, Copy, Debug, PartialEq, Eq, Error)]

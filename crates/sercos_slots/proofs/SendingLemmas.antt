@@ -11,7 +11,8 @@ use Rattle.sercos_timing.specs.Order.{no_wish}
 use Rattle.sercos_timing.specs.Valid.{AreDistinct, addresses, IsValid}
 use Rattle.sercos_slots.specs.Slots.{AtSlot, MdtSlot}
 use Rattle.sercos_trace.specs.Views.{SentView}
-use Rattle.sercos_slots.specs.Sending.{is_mst, is_mdt, bit_time, place_of, at_slot, ats_in, mdt_slot, IsInCycleBy, IsInCycle, IsAtOf, AreAtsOf, SendsSlots}
+use Rattle.sercos_telegram.specs.Kinds.{is_mst, is_mdt}
+use Rattle.sercos_slots.specs.Sending.{bit_time, place_of, at_slot, ats_in, mdt_slot, IsInCycleBy, IsInCycle, IsAtOf, AreAtsOf, SendsSlots}
 
 -- the place of an address is that of its drive
 address_at : (ds : List Wish) (k : ℕ) → k < length ds → slice_index (addresses ds) k ≡ (slice_index_or ds k no_wish).address

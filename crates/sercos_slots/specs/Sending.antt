@@ -1,6 +1,7 @@
 -- The telegrams of a cycle as its record has them, and that they are apart.
 use Rattle.std.specs.Prelude.{◌≡◌, ℕ, ◌==◌, ◌<◌, Bool, true, false, List, [], ◌∷◌, ◌++◌, length, map, Option, slice_index, ℤ, pos, ◌+ℤ◌}
 use Rattle.std.specs.List.{All, filter, position_or_len}
+use Rattle.sercos_telegram.specs.Kinds.{is_mst, is_at, is_mdt}
 use Rattle.sercos_telegram.specs.declared.layout.Kind.{Kind}
 use Rattle.sercos_telegram.specs.declared.layout.Kind.TheVariants.{Mst, At, Mdt}
 use Rattle.sercos_timing.specs.Views.{WishesView}
@@ -8,18 +9,6 @@ use Rattle.sercos_timing.specs.Order.{wish}
 use Rattle.sercos_timing.specs.Valid.{IsValid}
 use Rattle.sercos_trace.specs.Views.{SentView}
 use Rattle.sercos_slots.specs.Slots.{AtSlot, MdtSlot, Held, mdt_content, AreApart}
-
-abbrev pub is_mst : Kind → Bool
-is_mst Mst = true
-is_mst _ = false
-
-abbrev pub is_at : Kind → Bool
-is_at At = true
-is_at _ = false
-
-abbrev pub is_mdt : Kind → Bool
-is_mdt Mdt = true
-is_mdt _ = false
 
 -- the bit time of a start that isn't before 0
 abbrev pub bit_time : ℤ → ℕ

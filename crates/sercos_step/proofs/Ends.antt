@@ -18,19 +18,19 @@ use Rattle.sercos_step.proofs.Answered.{not_whole}
 less : (a b : ℕ) → nat_le a b ≡ false → b < a
 less a b h = grind (arith, nat_tests)
 
-slice_get-some : (steps : List Step) (k : ℕ) → k < length steps → is_some (slice_get steps k) ≡ true
+pub slice_get-some : (steps : List Step) (k : ℕ) → k < length steps → is_some (slice_get steps k) ≡ true
 slice_get-some [] k h = absurd (omega arith)
 slice_get-some (x ∷ steps) zero h = refl
 slice_get-some (x ∷ steps) (suc k) h = slice_get-some steps k (omega arith)
 
 -- a transfer that goes on has more steps than answers
-more_steps : (r : Request) (h : List Answer) → is_some (outcome_of r h) ≡ false → length (answer_words h) < length (steps_of r (answer_words h))
+pub more_steps : (r : Request) (h : List Answer) → is_some (outcome_of r h) ≡ false → length (answer_words h) < length (steps_of r (answer_words h))
 more_steps r h e = less _ _ (not_whole r h e)
 
 pub has_next : (r : Request) (h : List Answer) → is_some (outcome_of r h) ≡ false → is_some (next_step r h) ≡ true
 has_next r h e = slice_get-some (steps_of r (answer_words h)) (length (answer_words h)) (more_steps r h e)
 
-length-answer_words : (h : List Answer) → length (answer_words h) ≡ length h
+pub length-answer_words : (h : List Answer) → length (answer_words h) ≡ length h
 length-answer_words [] = refl
 length-answer_words (a ∷ h) = let i = length-answer_words h in rw length-append (omega (arith, i))
 
@@ -49,7 +49,7 @@ few_by_write true e bytes (a ∷ []) fits = omega arith
 few_by_write true e bytes (a ∷ b ∷ words) fits =
     let f = few_told (shape_of 7 (a + 65536 * b)) bytes fits in rw (length-run true 7 (words_told (shape_of 7 (a + 65536 * b)) bytes)) (omega (arith, f))
 
-none_is : (o : Option Outcome) → o ≡ None → is_some o ≡ false
+pub none_is : (o : Option Outcome) → o ≡ None → is_some o ≡ false
 none_is o e = rw e refl
 
 -- one answer more than those after which the transfer went on

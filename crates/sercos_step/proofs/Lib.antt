@@ -10,3 +10,4 @@ pub mod Answered
 pub mod KnownSteps
 pub mod Ends
 pub mod ReadBack
+pub mod AnswerCounts

@@ -11,7 +11,7 @@ use Rattle.sercos_step.specs.Kept.{is_last_read, most_kept, kept_with, IsAfterWo
 use Rattle.sercos_step.proofs.Flags.{last_by-behind}
 use Rattle.sercos_step.proofs.Runs.{length-run, zeros, length-zeros, zeros_at}
 
-length-reading : (s : Shape) (e first : ℕ) (words : List ℕ) → length (reading s e (first ∷ words)) ≡ words_in s first
+pub length-reading : (s : Shape) (e first : ℕ) (words : List ℕ) → length (reading s e (first ∷ words)) ≡ words_in s first
 length-reading shape.One e first words = refl
 length-reading shape.Two e first words = refl
 length-reading shape.List e first words = unfold zeros in rw (length-run false e (zeros (words_in_list first)), length-zeros) refl

@@ -1,5 +1,5 @@
 -- Transfers worked out from the definitions.
-use Rattle.std.proofs.Common.{◌≡◌, ℕ, [], ◌∷◌, true, false, refl}
+use Rattle.std.proofs.Common.{◌≡◌, ℕ, zero, suc, [], ◌∷◌, true, false, refl, arith}
 use Rattle.std.specs.Prelude.{Some, None}
 use Rattle.sercos_idn.specs.declared.idn.Idn.{Idn}
 use Rattle.sercos_idn.specs.Codes.{attribute_fault}
@@ -8,6 +8,7 @@ use Rattle.sercos_step.specs.declared.step.Answer.{Answer}
 use Rattle.sercos_step.specs.declared.request.Request.TheVariants as request
 use Rattle.sercos_step.specs.declared.request.Outcome.TheVariants as outcome
 use Rattle.sercos_step.specs.Steps.{a_step, steps_of, outcome_of, next_step}
+use Rattle.sercos_step.specs.Counts.{count_of, EndsInTime}
 
 abbrev good : ℕ → Answer
 good word = record { error = false; word = word }
@@ -45,3 +46,29 @@ command = refl
 -- a unit that is missing
 refused : outcome_of (request.Read idn 4) (record { error = true; word = 0x4001 } ∷ good 0 ∷ []) ≡ Some (outcome.Refused (record { raw = 0x4001 }))
 refused = refl
+
+-- How many answers they have: the value of four bytes, the name of three bytes, the list of one byte, and the command that runs for
+-- a while. A command that still runs has one status more and then the cancel.
+value_count : count_of (request.Read idn 7) (0 ∷ 1 ∷ 34 ∷ 65530 ∷ 0 ∷ []) ≡ 5
+unfolding attribute_fault attribute_of
+value_count = refl
+
+name_count : count_of (request.Read idn 2) (0 ∷ 3 ∷ 60 ∷ 16961 ∷ 67 ∷ []) ≡ 5
+name_count = refl
+
+list_count : count_of (request.Write idn 7 (9 ∷ [])) (0 ∷ 1 ∷ 20 ∷ 0 ∷ 0 ∷ 0 ∷ []) ≡ 6
+unfolding attribute_fault attribute_of
+list_count = refl
+
+command_count : count_of (request.Command idn) (0 ∷ 0 ∷ 7 ∷ 7 ∷ 3 ∷ 0 ∷ []) ≡ 6
+command_count = refl
+
+running_count : count_of (request.Command idn) (0 ∷ 0 ∷ 7 ∷ 7 ∷ []) ≡ 6
+running_count = refl
+
+-- That command takes 5 where its statuses are read 2 apart: at 2 and at 4 it still runs.
+command_in_time : EndsInTime 2 5 (good 0 ∷ good 3 ∷ good 7 ∷ good 7 ∷ good 0 ∷ good 0 ∷ [])
+command_in_time zero low seven = omega arith
+command_in_time (suc zero) low seven = omega arith
+command_in_time (suc (suc zero)) low seven = absurd (cc)
+command_in_time (suc (suc (suc k))) low seven = absurd (omega (arith, low))

@@ -20,12 +20,12 @@ words_of-at (x ∷ y ∷ bytes) (suc k) =
     let e : 2 * suc k ≡ suc (suc (2 * k)) = omega arith in
     let f : 2 * suc k + 1 ≡ suc (suc (2 * k + 1)) = omega arith in rw (f, e) (words_of-at bytes k)
 
-length-words_of : (bytes : List ℕ) → (length bytes + 1) / 2 ≡ length (words_of bytes)
+pub length-words_of : (bytes : List ℕ) → (length bytes + 1) / 2 ≡ length (words_of bytes)
 length-words_of [] = refl
 length-words_of (x ∷ []) = refl
 length-words_of (x ∷ y ∷ bytes) = let i = length-words_of bytes in omega (arith, i)
 
-length-at_least_one : (words : List ℕ) → max (length words) 1 ≡ length (at_least_one words)
+pub length-at_least_one : (words : List ℕ) → max (length words) 1 ≡ length (at_least_one words)
 length-at_least_one [] = refl
 length-at_least_one (w ∷ words) = omega arith
 

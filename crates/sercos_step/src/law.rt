@@ -8,6 +8,7 @@ ghost use Rattle.sercos_step.specs.declared.request.Request.{Request};
 ghost use Rattle.sercos_step.specs.declared.request.Request.TheVariants as request;
 ghost use Rattle.sercos_step.specs.Words.{words_told, bytes_read};
 ghost use Rattle.sercos_step.specs.Steps.{steps_of, next_step, outcome_of, AreAnswers};
+ghost use Rattle.sercos_step.specs.Counts.{CountsAnswers, HasAtMost, AttributeTakes, ValueTakes, ListTakes, ValueWriteTakes, ListWriteTakes, CommandTakes, CommandTakesSteps, RequestTakes};
 
 /// Laws and no code. A step that was known stays as it was, whatever word comes after it. A transfer that goes on has a next
 /// step. A read and a write end with their 517th answer at the latest. What is written reads back: a list of at most 1024
@@ -22,4 +23,21 @@ pub fn steps_law()
     ensures list { (bytes : List ℕ) → AreBytes bytes → length bytes ≤ 1024 → bytes_read shape.List (words_told shape.List bytes) ≡ bytes }
     ensures value { (s : Shape) (bytes : List ℕ) → (s ≡ shape.List → ⊥) → AreBytes bytes → length bytes % 2 ≡ 0 → 0 < length bytes →
         bytes_read s (words_told s bytes) ≡ bytes }
+{}
+
+/// Laws and no code. A complete transfer has exactly the number of answers that its request, the attribute and the words read
+/// give, and any other transfer has at most that many: three for an attribute, four for a value of one word that is read or
+/// written, and 5 + k for a list of k words that is read or written. A command whose status isn't 7 at the end of its time or
+/// later has at most four answers, and one more for each whole period of the time.
+pub fn counts_law()
+    ensures complete { CountsAnswers }
+    ensures most { HasAtMost }
+    ensures attribute { AttributeTakes }
+    ensures value { ValueTakes }
+    ensures list { ListTakes }
+    ensures value_write { ValueWriteTakes }
+    ensures list_write { ListWriteTakes }
+    ensures command { CommandTakes }
+    ensures command_steps { CommandTakesSteps }
+    ensures request { RequestTakes }
 {}

@@ -10,7 +10,7 @@ mod step;
 mod transfer;
 mod writing;
 
-pub use law::steps_law;
+pub use law::{counts_law, steps_law};
 pub use request::{Job, Outcome, Request};
 pub use shape::Shape;
 pub use step::{Answer, Step};

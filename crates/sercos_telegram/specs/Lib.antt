@@ -1,3 +1,4 @@
 pub mod Words
 pub mod Spells
 pub mod Faults
+pub mod Kinds

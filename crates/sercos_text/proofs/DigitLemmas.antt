@@ -129,3 +129,33 @@ eight_more text k part inside is all before =
     let place : 8 * k + 8 ≡ 8 * (k + 1) = omega arith in
     let next : drop 8 (drop (8 * k) text) ≡ drop (8 * (k + 1)) text = rw (drop-drop 8 (8 * k) text, place) refl in
     before ∙ ap (λ (n : ℕ). 8 * k + n) (more ∙ ap (λ (rest : List ℕ). 8 + prefix_len is_hex rest) next) ∙ omega arith
+
+pub sixteen_more : (text : List ℕ) (k : ℕ) (part : List ℕ) → 16 * k + 16 ≤ length text → part ≡ take 16 (drop (16 * k) text) → all_hex part ≡ true
+    → prefix_len is_hex text ≡ 16 * k + prefix_len is_hex (drop (16 * k) text) → prefix_len is_hex text ≡ 16 * (k + 1) + prefix_len is_hex (drop (16 * (k + 1)) text)
+sixteen_more text k part inside is all before =
+    let long : length (drop (16 * k) text) ≡ length text - 16 * k = length-drop (16 * k) text in
+    let more : prefix_len is_hex (drop (16 * k) text) ≡ 16 + prefix_len is_hex (drop 16 (drop (16 * k) text)) = digits_first 16 (drop (16 * k) text) (omega (arith, long, inside)) (rw is at all) in
+    let place : 16 * k + 16 ≡ 16 * (k + 1) = omega arith in
+    let next : drop 16 (drop (16 * k) text) ≡ drop (16 * (k + 1)) text = rw (drop-drop 16 (16 * k) text, place) refl in
+    before ∙ ap (λ (n : ℕ). 16 * k + n) (more ∙ ap (λ (rest : List ℕ). 16 + prefix_len is_hex rest) next) ∙ omega arith
+
+-- all so far are digits, and so are those that are left; one byte more
+and_assoc : (a b c : Bool) → (a && (b && c)) ≡ ((a && b) && c)
+and_assoc true b c = refl
+and_assoc false b c = refl
+
+and_true : (a : Bool) → (a && true) ≡ a
+and_true true = refl
+and_true false = refl
+
+pub digit_more : (text : List ℕ) (i : ℕ) (all more whole : Bool) → i < length text → more ≡ (all && is_hex (get_or text i 0)) → (all && all_hex (drop i text)) ≡ whole → (more && all_hex (drop (i + 1) text)) ≡ whole
+unfolding all_hex
+digit_more text i all more whole inside is before =
+    let first = drop_more text i 0 inside in
+    rw is (sym (and_assoc all (is_hex (get_or text i 0)) (all_hex (drop (i + 1) text))) ∙ (rw first at before))
+
+pub digits_end : (text : List ℕ) (i : ℕ) (all whole : Bool) → length text ≤ i → (all && all_hex (drop i text)) ≡ whole → all ≡ whole
+unfolding all_hex
+digits_end text i all whole ended before =
+    let none : all_hex (drop i text) ≡ true = at_drop_all all_hex text i ended in
+    sym (and_true all) ∙ (rw none at before)

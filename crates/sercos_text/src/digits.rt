@@ -53,6 +53,46 @@ fn first_digits(text: &[u8]) -> usize
     text.len()
 }
 
+// Whether a byte is a hexadecimal digit in lower case, found without the table, so that the compiler can look at many bytes at
+// once.
+fn is_digit(byte: u8) -> bool
+    ensures { result ≡ is_hex byte }
+{
+    (b'0' <= byte) & (byte <= b'9') | (b'a' <= byte) & (byte <= b'f')
+}
+
+// Whether all bytes are hexadecimal digits.
+fn are_digits(bytes: &[u8]) -> bool
+    ensures { result ≡ all_hex bytes.now }
+{
+    let mut all = true;
+    for byte in bytes {
+        all &= is_digit(*byte);
+    }
+    all
+}
+
+// Sixteen bytes of a text from a place on.
+fn sixteen_from(text: &[u8], place: usize) -> &[u8]
+    requires { place + 16 ≤ length text.now }
+    ensures { result.now ≡ take 16 (drop place text.now) }
+{
+    &text[place..place + 16]
+}
+
+// The place after the sixteens of hexadecimal digits with which a text begins.
+fn after_sixteens(text: &[u8]) -> usize
+    ensures value { hex_digits text.now ≡ result + hex_digits (drop result text.now) }
+    ensures bound { result ≤ length text.now }
+{
+    for turn in 0..text.len() / 16 {
+        if !are_digits(sixteen_from(text, 16 * turn)) {
+            return 16 * turn;
+        }
+    }
+    text.len() / 16 * 16
+}
+
 // Whether eight bytes surely are hexadecimal digits. The value of another byte is above the sum of eight digits.
 fn are_eight(bytes: &[u8]) -> bool
     requires { length bytes.now ≡ 8 }
@@ -91,13 +131,22 @@ fn after_eights(text: &[u8]) -> usize
     text.len() / 8 * 8
 }
 
-// How many hexadecimal digits a text begins with.
-fn leading_digits(text: &[u8]) -> usize
+// How many hexadecimal digits a text begins with, found by eights at first.
+fn by_eights(text: &[u8]) -> usize
     ensures value { result ≡ hex_digits text.now }
     ensures bound { result ≤ length text.now }
 {
     let place = after_eights(text);
     place + first_digits(&text[place..])
+}
+
+// How many hexadecimal digits a text begins with.
+fn leading_digits(text: &[u8]) -> usize
+    ensures value { result ≡ hex_digits text.now }
+    ensures bound { result ≤ length text.now }
+{
+    let place = after_sixteens(text);
+    place + by_eights(&text[place..])
 }
 
 // The digits of at most `most` bytes at the front of a text: how many they are.

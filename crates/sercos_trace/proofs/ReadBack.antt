@@ -77,8 +77,8 @@ first_after (k ∷ before) kind rest text are none =
 
 first_of : (kind : LineKind) (text : List ℕ) → line_fault (tail_for kind) (template_of kind) text ≡ None → first_kind all_kinds text ≡ Some kind
 unfolding are_apart template_of field_of
-first_of kind.Mst text none = first_after (take 0 all_kinds) kind.Mst (drop 1 all_kinds) text refl none
-first_of kind.At text none = first_after (take 1 all_kinds) kind.At (drop 2 all_kinds) text refl none
+first_of kind.At text none = first_after (take 0 all_kinds) kind.At (drop 1 all_kinds) text refl none
+first_of kind.Mst text none = first_after (take 1 all_kinds) kind.Mst (drop 2 all_kinds) text refl none
 first_of kind.Mdt text none = first_after (take 2 all_kinds) kind.Mdt (drop 3 all_kinds) text refl none
 first_of kind.Version text none = first_after (take 3 all_kinds) kind.Version (drop 4 all_kinds) text refl none
 first_of kind.Ring text none = first_after (take 4 all_kinds) kind.Ring (drop 5 all_kinds) text refl none

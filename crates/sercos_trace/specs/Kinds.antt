@@ -52,7 +52,7 @@ line_with kind values items = line_text (template_of kind) values ++ tail_text (
 -- all kinds, those first that most lines have
 abbrev pub all_kinds : List LineKind
 all_kinds =
-    kind.Mst ∷ kind.At ∷ kind.Mdt ∷ kind.Version ∷ kind.Ring ∷ kind.Drive ∷ kind.Order ∷ kind.Phase ∷ kind.Complete ∷ kind.Refused ∷ kind.Broken ∷ kind.Plan ∷ kind.Slot ∷ kind.NoFit ∷ kind.RuleAt ∷ kind.RuleSum ∷ kind.StopRefused ∷ kind.StopConfig ∷ kind.Check127 ∷ kind.Check128 ∷ kind.FallMst ∷ kind.FallAt ∷ kind.FallStep ∷ kind.FallRestart ∷ kind.End ∷ []
+    kind.At ∷ kind.Mst ∷ kind.Mdt ∷ kind.Version ∷ kind.Ring ∷ kind.Drive ∷ kind.Order ∷ kind.Phase ∷ kind.Complete ∷ kind.Refused ∷ kind.Broken ∷ kind.Plan ∷ kind.Slot ∷ kind.NoFit ∷ kind.RuleAt ∷ kind.RuleSum ∷ kind.StopRefused ∷ kind.StopConfig ∷ kind.Check127 ∷ kind.Check128 ∷ kind.FallMst ∷ kind.FallAt ∷ kind.FallStep ∷ kind.FallRestart ∷ kind.End ∷ []
 
 -- The faults of two kinds: none if one of them has none, else the later place, which is that of the first byte with which
 -- neither goes on.

@@ -64,8 +64,8 @@ pub enum LineKind {
 
 // All kinds, those first that most lines have.
 const KINDS: [LineKind; 25] = [
-    LineKind::Mst,
     LineKind::At,
+    LineKind::Mst,
     LineKind::Mdt,
     LineKind::Version,
     LineKind::Ring,

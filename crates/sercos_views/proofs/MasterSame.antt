@@ -104,7 +104,7 @@ ats_next s k such p q content is a = place (place_of s (slice_index content 0)) 
     place None found = a
     place (Some i) found = taken i found (is_taken s q i content) refl
 
--- what the channel has begun behind the ATs
+-- what the channel has begun after the ATs
 pub heard_so : (s : Known) (k : ℕ) (such : List ℕ → Type 0) (p q : Past) → AfterAts s k such p q → heard_last (p.calls k) ≡ None
     → begun_by (q.calls k) ≡ with_heard (heard_last (q.calls k)) (begun_by (p.calls k))
 heard_so s k such p q a quiet = by a.has
@@ -196,7 +196,7 @@ may_begin s p k = by (is_none q.stop) (is_idle q k) (has_turn s q k) refl refl
     by true false turn idle what some = absurd (false≢true some)
     by false idle turn rests what some = absurd (false≢true some)
 
--- THE CYCLE. What the master looks back on before its MST, behind it, behind the ATs and behind the MDT gives a view of the channel.
+-- THE CYCLE. What the master looks back on before its MST, after it, after the ATs and after the MDT gives a view of the channel.
 pub record IsLed (s : Known) (k : ℕ) (such : List ℕ → Type 0) (v : View) (p1 p2 p3 p4 : Past) : Type 0 where
   pub phase : v.phase ≡ p1.now.phase
   pub whole : v.whole ≡ p2.now.whole
@@ -209,7 +209,7 @@ pub record IsLed (s : Known) (k : ℕ) (such : List ℕ → Type 0) (v : View) (
   pub falls : v.falls ≡ is_some (fall_of s p4)
   pub rises : v.rises ≡ (not (is_some (fall_of s p4)) && is_done s p4)
 
--- what it has begun behind the ATs, and all that it has begun
+-- what it has begun after the ATs, and all that it has begun
 pub record IsBehind (k : ℕ) (v : View) (p1 p3 p4 : Past) (b : List Begun) : Type 0 where
   pub heard_are : begun_by (p3.calls k) ≡ with_heard v.heard b
   pub phase_behind : p3.now.phase ≡ v.phase

@@ -21,7 +21,7 @@ use Rattle.sercos_journal.specs.Arrivals.{heard, passage}
 use Rattle.sercos_journal.specs.Records.{mst_in, ats_in, mdt_in}
 use Rattle.sercos_journal.specs.Runs.{drive_at, with_restart, mdt_heard, at_calls, own_mst, begins as begin_of, middle, given_before, given_mst, looks_back}
 
--- what the master looks back on within a cycle: before its MST, behind it, behind the ATs, and when the MDT is sent
+-- what the master looks back on within a cycle: before its MST, after it, after the ATs, and when the MDT is sent
 abbrev pub at_start : RingView → List Job → Carry → Restarts → List CycleView → Past
 at_start r jobs carry restarts j = looks_back r jobs (begin_of r carry restarts j)
 

@@ -1,4 +1,8 @@
 use Rattle.std.proofs.Common.{◌≡◌, ◌++◌, ap, arith, length, refl, sym, ◌∙◌}
+use Rattle.std.specs.Prelude.{fold}
+use Rattle.sercos_model.specs.Bits.{bits_of}
+use Rattle.sercos_model.specs.CheckSequence.{sixteen_ones}
+use Rattle.sercos_bits.specs.Register.{fed}
 use Rattle.sercos_model.specs.Frames.{flag, plain_of, IsFrame}
 use Rattle.sercos_model.proofs.BitLemmas.{AreBytes-by_index}
 use Rattle.sercos_hdlc.specs.Stuffed.{stuffed, frame_of}
@@ -11,7 +15,9 @@ framed c =
 
 counted : (c : goal.After-count_bytes) → c.count_bytes.new.len ≡ length (flag ++ stuffed 0 (plain_of c.args.content.now) ++ flag)
 counted c =
-    rw (c.count_bytes.ensures.len, c.check_bytes.ensures, c.count_bytes-ones.ensures.ones, c.count_bytes-ones.ensures.len) (sym (length_framed c.args.content.now))
+    let taken : c.count_taken-ones.new.register ≡ fold fed sixteen_ones (bits_of c.args.content.now) = rw c.new-register.ensures at c.count_taken-ones.ensures.register in
+    let check = c.bytes_of_check.ensures c.args.content.now taken in
+    rw (c.count_bytes.ensures.len, check, c.count_taken-ones.ensures.ones, c.count_taken-ones.ensures.len) (sym (length_framed c.args.content.now))
 
 pub returns-clause-bits : goal.returns-clause-bits
 returns-clause-bits c = (_, framed c, counted c)

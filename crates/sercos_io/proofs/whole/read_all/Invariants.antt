@@ -8,7 +8,7 @@ invariant-pieces g l = record {
   within : vec_len l.bytes ≤ 1048576;
   taken : Consumes (g.S.Source.left l.initial.source) (g.S.Source.left l.source) l.bytes.items;
   faultless : g.S.Source.faults l.source ≡ g.S.Source.faults l.initial.source;
-  whole_piece : length l.piece ≡ 4096;
+  whole_piece : length l.piece ≡ 8192;
 }
 
 abbrev pub decreases-pieces : goal.decreases-pieces

@@ -1,0 +1,46 @@
+ghost use Rattle.std.specs.Prelude.{◌≡◌, ℕ, List, fold};
+ghost use Rattle.sercos_model.specs.Bits.{low_bits, bits_of};
+ghost use Rattle.sercos_model.specs.CheckSequence.{fcs_of, sixteen_ones};
+ghost use Rattle.sercos_bits.specs.Register.{fed};
+
+use crate::check_sequence::{START, with_byte};
+use std::marker::Model;
+
+/// The register in which a frame check sequence is computed, for a caller that goes over the bytes itself.
+#[derive(Debug, Drop)]
+pub struct Register {
+    register: u16,
+}
+
+// Clauses see the sixteen coefficients, that of x^15 first.
+impl Model for Register {
+    ghost use Rattle.std.specs.Prelude.{List, Bool};
+    ghost use Rattle.sercos_model.specs.Bits.{low_bits};
+
+    ghost Value = { List Bool };
+
+    ghost view = { λ r. low_bits 16 r.register };
+}
+
+impl Register {
+    /// The register before the first byte.
+    pub fn new() -> Self
+        ensures { result ≡ sixteen_ones }
+    {
+        Register { register: START }
+    }
+
+    /// Takes the next byte, its least significant bit first.
+    pub fn take(&mut self, byte: u8)
+        ensures { self.new ≡ fold fed self.old (low_bits 8 byte) }
+    {
+        self.register = with_byte(self.register, byte);
+    }
+
+    /// The frame check sequence of the bytes that the register has taken: that of [`fcs`](crate::fcs).
+    pub fn fcs(&self) -> u16
+        ensures { (bytes : List ℕ) → self.now ≡ fold fed sixteen_ones (bits_of bytes) → result ≡ fcs_of bytes }
+    {
+        !self.register
+    }
+}

@@ -1,0 +1,38 @@
+use Rattle.sercos_bound.proofs.BoundSums.{few_writes, few_statuses, is_started, is_refused_early, is_refused_late, is_reported, is_back_at_once, is_back_later, are_sections, one_by_one, is_below_total, is_below_greatest}
+use Rattle.sercos_bound.proofs.law.bound_law.Goals as goal
+
+pub returns-clause-writes : goal.returns-clause-writes
+returns-clause-writes c = few_writes
+
+pub returns-clause-statuses : goal.returns-clause-statuses
+returns-clause-statuses c = few_statuses
+
+pub returns-clause-started : goal.returns-clause-started
+returns-clause-started c = is_started
+
+pub returns-clause-refused_early : goal.returns-clause-refused_early
+returns-clause-refused_early c = is_refused_early
+
+pub returns-clause-refused_late : goal.returns-clause-refused_late
+returns-clause-refused_late c = is_refused_late
+
+pub returns-clause-reported : goal.returns-clause-reported
+returns-clause-reported c = is_reported
+
+pub returns-clause-at_once : goal.returns-clause-at_once
+returns-clause-at_once c = is_back_at_once
+
+pub returns-clause-later : goal.returns-clause-later
+returns-clause-later c = is_back_later
+
+pub returns-clause-sections : goal.returns-clause-sections
+returns-clause-sections c = are_sections
+
+pub returns-clause-one_by_one : goal.returns-clause-one_by_one
+returns-clause-one_by_one c = one_by_one
+
+pub returns-clause-total : goal.returns-clause-total
+returns-clause-total c = is_below_total
+
+pub returns-clause-greatest : goal.returns-clause-greatest
+returns-clause-greatest c = is_below_greatest

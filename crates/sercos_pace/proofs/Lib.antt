@@ -1,0 +1,16 @@
+pub mod OnTime
+pub mod OnTimeRuns
+pub mod LateMoves
+pub mod LateRuns
+pub mod WholeCycles
+pub mod AgeRuns
+pub mod ExactAges
+pub mod CallAges
+pub mod PassedChecks
+pub mod SpacedSteps
+pub mod TimedCommands
+pub mod TransferCosts
+pub mod CostRuns
+pub mod StartCosts
+pub mod JobCosts
+pub mod WorkedTimes

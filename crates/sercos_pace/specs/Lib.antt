@@ -1,0 +1,9 @@
+pub mod Times
+pub mod Stretches
+pub mod Passages
+pub mod Costs
+pub mod Jobs
+pub mod Ages
+pub mod StartCosts
+pub mod ChannelCalls
+pub mod Passes
