@@ -22,7 +22,7 @@ import sys
 STATUS = ["Done", "No", "BadWords", "Refused", "ReadFault", "WriteFault", "Memory", "TooLong"]
 # The first words of lines that a case names all of, if it names one.
 WHOLE = {"r", "plan", "stop", "fall", "end"}
-READERS = [b"plan", b"run"]
+READERS = [b"plan", b"margin", b"run"]
 VERDICTS = {"clean": 0, "violation": 1, "refused": 3}
 
 

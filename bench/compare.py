@@ -2,14 +2,17 @@
 """Compares two programs on random rings, on random captures, or on random lines of `show`:
 
 compare.py ONE OTHER FIRST COUNT [JOBS]
+compare.py --tight ONE OTHER FIRST COUNT [JOBS]
 compare.py --captures RUN ONE OTHER FIRST COUNT [JOBS]
 compare.py --show ONE OTHER FIRST COUNT [JOBS]
 
-ONE and OTHER are commands that read a ring document, such as `crates/sercos/out/sercos run`. For each of the COUNT seeds
-from FIRST on, both are given the document of the seed. With `--captures` they read a capture, as `sercos check` does: both
-are given a capture made from the trace that the command RUN writes of the document. With `--show` they read lines as
-`sercos show` does: both are given those of the seed. Of each input on which they differ, in output or status, the first line
-that differs is printed, and at the end what occurred in the outputs of ONE. Ends with 0 where none differs.
+ONE and OTHER are commands that read a ring document, such as `crates/sercos/out/sercos run`, or with `plan` or `margin` in
+place of `run`. For each of the COUNT seeds from FIRST on, both are given the document of the seed, and with `--tight` its
+tight document: one in two of these has no plan, and one in ten has none in any cycle. With `--captures` they read a capture,
+as `sercos check` does: both are given a capture made from the trace that the command RUN writes of the document. With
+`--show` they read lines as `sercos show` does: both are given those of the seed. Of each input on which they differ, in
+output or status, the first line that differs is printed, and at the end what occurred in the outputs of ONE. Ends with 0
+where none differs.
 """
 import collections
 import concurrent.futures
@@ -19,7 +22,7 @@ import sys
 
 import random_lines
 from random_captures import capture
-from random_rings import document
+from random_rings import LONGEST_TIMES, document, tight_document
 
 SECONDS = 600
 
@@ -42,10 +45,10 @@ def difference(one, other):
 
 
 def occurs_in(status, lines):
-    """What a trace, a verdict or the answers of `show` have, each named once."""
+    """What a trace, a verdict, or an answer of `show`, `plan` or `margin` has, each named once."""
     if status == 1 and len(lines) == 2:
         return {" ".join(lines[0].split(" ")[3:])}
-    if status:
+    if status and "no plan" not in lines:
         return {f"status {status}"}
     found = set()
     for line in lines:
@@ -62,8 +65,16 @@ def occurs_in(status, lines):
             found.add("unseen")
         elif words[0] in ("error", "layout"):
             found.add(" ".join(words[:3]))
-        elif words[0] in ("clean", "ok", "mst", "single", "at"):
+        elif words[0] in ("clean", "ok", "mst", "single", "at", "plan"):
             found.add(words[0])
+        elif line in ("cycle none", "no plan"):
+            found.add(line)
+        elif words[0] == "rule" and words[2] == "drive" and words[4] == "sum":
+            found.add(f"bound {words[1]}")
+        elif words[0] == "margin":
+            found.add("margins")
+            found.update(f"{name} below its limit" for name, time in zip(words[2::2], words[3::2])
+                         if int(time) < LONGEST_TIMES[name])
     return found
 
 
@@ -71,7 +82,7 @@ def source_of(words, seed):
     """What both are given for a seed: lines, a document, or a capture made from its trace."""
     if words[0] == "--show":
         return random_lines.source(seed)
-    source = document(seed).encode()
+    source = (tight_document if words[0] == "--tight" else document)(seed).encode()
     if words[0] == "--captures":
         return capture(seed, "\n".join(answer(words[1], source)[1])).encode()
     return source
@@ -86,7 +97,7 @@ def compared(words, seed):
 
 def main():
     words = sys.argv[1:]
-    commands = {"--captures": 4, "--show": 3}.get(words[0], 2)
+    commands = {"--captures": 4, "--show": 3, "--tight": 3}.get(words[0], 2)
     words, numbers = words[:commands], [int(word) for word in words[commands:]]
     first, count = numbers[:2]
     jobs = numbers[2] if len(numbers) > 2 else 2

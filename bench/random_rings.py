@@ -1,9 +1,12 @@
 #!/usr/bin/env python3
-"""Random ring documents, each made from a seed: random_rings.py SEED, or random_rings.py FIRST COUNT FOLDER
+"""Random ring documents, each made from a seed: random_rings.py [--tight] SEED, or .. [--tight] FIRST COUNT FOLDER
 
 The first prints the document of the seed, the second writes COUNT of them from seed FIRST on. A document has 1 to 6
 drives, now and then up to 64, with blocks, lists, limits and busy times of all kinds; requests, also ones that a drive
 refuses; and a script with every kind of damage, among it damage that leaves a frame. Most rings come to phase 4.
+
+The tight ones are for `plan` and `margin`: a plan fits in about half of them, and in some it fits in no cycle. Their times
+and gaps are of all sizes, up to the largest; they have no requests and no script.
 """
 import pathlib
 import random
@@ -15,6 +18,8 @@ BUILT_IN = ["S-0-%04d" % n for n in (1, 2, 3, 4, 5, 6, 7, 8, 9, 10, 15, 87, 88, 
 BUILT_IN_LISTS = ["S-0-0016", "S-0-0021", "S-0-0022", "S-0-0024"]
 CHECKS = ["S-0-0127", "S-0-0128"]
 TIMES = {"t1min": 60, "tatmt": 25, "t4min": 90, "tatat": 60, "tmtsy": 40, "tmtsg": 80}
+# The longest that a document allows.
+LONGEST_TIMES = {"t1min": 300, "tatmt": 300, "t4min": 64000, "tatat": 64000, "tmtsy": 250, "tmtsg": 64000}
 # The distances of the four bits of x^16 + x^12 + x^5 + 1 on the link: flipped together they leave the check sequence
 # right, if no zero is inserted or missing then.
 DIVISOR = [0, 4, 11, 16]
@@ -100,11 +105,14 @@ class Rings:
         return keys
 
     def own_idns(self, count):
-        idns = set()
+        idns = {}
         while len(idns) < count:
             number = self.pick([99, 126, 129, 4095, self.between(30, 80)])
-            idns.add("%s-%d-%04d" % (self.pick("SP"), self.pick([0, 0, 0, 1, 7]), number))
+            idns["%s-%d-%04d" % (self.pick("SP"), self.pick([0, 0, 0, 1, 7]), number)] = True
         return sorted(idns, key=lambda _: self.random.random())
+
+    def time(self, name):
+        return self.between(0, TIMES[name])
 
     def drive(self, address, calm):
         keys = {"address": address}
@@ -114,7 +122,7 @@ class Rings:
             keys["slave"] = self.between(1, 254)
         keys["busy"] = 0 if calm else self.pick([0, 0, 0, 1, 1, 2, 3, self.between(0, 8)])
         keys["command"] = self.pick([0, 0, 1, 2, 5, 0 if calm else self.between(0, 40)])
-        keys.update((name, self.between(0, most)) for name, most in TIMES.items())
+        keys.update((name, self.time(name)) for name in TIMES)
         if self.few(0.04):
             keys["cycle_min" if self.few(0.5) else "cycle_max"] = self.pick([500, 1000, 2000])
         blocks = [self.block(idn) for idn in self.own_idns(self.pick([0, 1, 2, 3, 4, 8, 36 if self.few(0.05) else 2]))]
@@ -153,14 +161,20 @@ class Rings:
         mdt = wire(1 + sum(4 + 4 * len(k["mdt"]) for k in keys))
         return ats + mdt + 60 + max(k["tatmt"] + k["tmtsg"] + k["tmtsy"] + k["t4min"] for k in keys)
 
-    def ring(self):
-        rate = self.pick([2, 4, 8, 16])
-        gap = self.pick([5, 5, 0, 1, 10, self.between(0, 40)])
-        wanted = self.wanted_cycle(rate, gap)
+    def gap(self):
+        return self.pick([5, 5, 0, 1, 10, self.between(0, 40)])
+
+    def cycle_time(self, wanted):
+        """A cycle time in which a plan fits, for most rings."""
         if self.few(0.1):
             wanted /= 2
         cycle = 125 if wanted < 125 else 250 * (int(wanted) // 250 + self.pick([1, 1, 1, 2, 4]))
-        cycle = min(cycle, 64000)
+        return min(cycle, 64000)
+
+    def ring(self):
+        rate = self.pick([2, 4, 8, 16])
+        gap = self.gap()
+        cycle = self.cycle_time(self.wanted_cycle(rate, gap))
         self.cycles = self.between(100, 1500)
         if self.few(0.85):
             self.cycles = max(100, min(1500, self.start_up() + self.between(40, 500)))
@@ -285,13 +299,16 @@ class Rings:
                 for _ in range(self.pick([1, 1, 2, 3, self.between(1, 12)])):
                     make()
 
+    def requests_and_script(self):
+        for _ in range(self.pick([0, 1, 2, 4, 8, 12, 16, 60 if self.few(0.2) else 5])):
+            self.requests.append(self.request())
+        self.script()
+
     def document(self):
         count = self.between(1, 6) if self.few(0.97) else self.between(7, 64)
         self.drives_of(count)
         head = table("ring", self.ring()).replace("[[ring]]", "[ring]")
-        for _ in range(self.pick([0, 1, 2, 4, 8, 12, 16, 60 if self.few(0.2) else 5])):
-            self.requests.append(self.request())
-        self.script()
+        self.requests_and_script()
         parts = [head]
         for drive in self.drives:
             parts.append(table("drive", drive["keys"]))
@@ -301,19 +318,51 @@ class Rings:
         return "".join(parts).lstrip()
 
 
+class TightRings(Rings):
+    """What a tight document is made of."""
+
+    def time(self, name):
+        most = LONGEST_TIMES[name]
+        if self.few(0.03):
+            return self.pick([most, most - 1, self.between(0, most)])
+        return self.pick([0, super().time(name), super().time(name), self.between(0, min(most, 400))])
+
+    def gap(self):
+        return self.between(41, 1000) if self.few(0.1) else super().gap()
+
+    def cycle_time(self, wanted):
+        """Mostly one that may be the shortest in which a plan fits."""
+        near = int(wanted * self.random.uniform(0.4, 1.4)) // 250
+        if self.few(0.1):
+            near = self.between(1, 256)
+        return 250 * min(near, 256) or 125
+
+    def requests_and_script(self):
+        pass
+
+
 def document(seed):
     """The text of the document of a seed."""
     return Rings(seed).document()
 
 
+def tight_document(seed):
+    """The text of the tight document of a seed."""
+    return TightRings(seed).document()
+
+
 def main():
-    if len(sys.argv) == 2:
-        sys.stdout.write(document(int(sys.argv[1])))
+    words = sys.argv[1:]
+    make = document
+    if words[0] == "--tight":
+        make, words = tight_document, words[1:]
+    if len(words) == 1:
+        sys.stdout.write(make(int(words[0])))
         return
-    first, count, folder = int(sys.argv[1]), int(sys.argv[2]), pathlib.Path(sys.argv[3])
+    first, count, folder = int(words[0]), int(words[1]), pathlib.Path(words[2])
     folder.mkdir(parents=True, exist_ok=True)
     for seed in range(first, first + count):
-        (folder / f"{seed}.toml").write_text(document(seed))
+        (folder / f"{seed}.toml").write_text(make(seed))
 
 
 if __name__ == "__main__":

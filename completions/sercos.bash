@@ -12,7 +12,7 @@ _sercos() {
         [[ $word == -- ]] || words+=("$word")
     done
     case "${words[*]}" in
-        "") COMPREPLY=($(compgen -W "show plan run check gen" -- "$current")) ;;
+        "") COMPREPLY=($(compgen -W "show plan margin run check gen" -- "$current")) ;;
         gen) COMPREPLY=($(compgen -W "$(echo {1..64})" -- "$current")) ;;
         *) COMPREPLY=() ;;
     esac

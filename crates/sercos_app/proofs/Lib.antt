@@ -19,5 +19,6 @@ pub mod PartLemmas
 pub mod JournalLemmas
 pub mod RunLemmas
 pub mod OpenedLemmas
+pub mod MarginLemmas
 mod WorkedSummary
 mod WorkedLines

@@ -6,17 +6,18 @@ use Rattle.sercos_model.specs.Streams.{Rose}
 use Rattle.sercos_io.specs.declared.status.Status.{Status}
 use Rattle.sercos_io.specs.declared.status.Status.TheVariants.{Done, No, BadWords, Refused, ReadFault, WriteFault, Memory, TooLong}
 use Rattle.sercos_app.specs.declared.form.Form.{Form}
-use Rattle.sercos_app.specs.declared.form.Form.TheVariants.{Show, Plan, Run, Check, Gen}
+use Rattle.sercos_app.specs.declared.form.Form.TheVariants.{Show, Plan, Margin, Run, Check, Gen}
 use Rattle.sercos_script.specs.Links.{Carry, Restarts}
 use Rattle.sercos_app.specs.Answer.{command_answer, form_answer, answer_of, SaysWell}
 use Rattle.sercos_app.specs.Form.{form_of, reads_input}
 use Rattle.sercos_app.specs.Show.{show_answer, show_status, first_fault, lines_of}
 use Rattle.sercos_app.specs.Planning.{wishes_answer, document_answer, plan_answer, PlansItsRing}
+use Rattle.sercos_app.specs.Margins.{wishes_margins, document_margins, margin_answer, MeasuresItsRing}
 use Rattle.sercos_app.specs.Journals.{journal_text}
 use Rattle.sercos_app.specs.Running.{carry_under, restarts_under, document_run, traced_answer, run_answer, RunsItsRing}
 use Rattle.sercos_app.specs.declared.verdict.Verdict.{Verdict}
 use Rattle.sercos_app.specs.declared.verdict.Verdict.TheVariants as verdict
-use Rattle.sercos_app.specs.Checking.{verdict_of, verdict_status, check_answer}
+use Rattle.sercos_app.specs.Checking.{capture_fault, first_violation, verdict_by, verdict_of, verdict_status, verdict_text, check_answer}
 use Rattle.sercos_config.specs.Generated.{generated}
 use Rattle.sercos_app.specs.Generating.{gen_answer, RunsGenerated}
 use Rattle.sercos_timing.specs.Views.{WishesView, PlanView}
@@ -33,7 +34,7 @@ use Rattle.sercos_app.specs.Outcome.{SourceChange, SinkChange, Writes, Stops, Ta
 use Rattle.sercos_app.specs.Outcome.Writes.{whole, short}
 use Rattle.sercos_app.specs.Outcome.Stops.{no_form, unreadable, too_many, no_memory}
 use Rattle.sercos_app.specs.Outcome.Outcome.{stopped, answered}
-use Rattle.sercos_app.specs.TopCall.{writes_nothing, fault_status, ReadsWhole, IsInput, HasInput, TakesAtMost, TakesTooMany, IsAnswered, IsCutShort, IsAnswer, NonePlanned, LeastPlanned, RunTraced, RunSummed}
+use Rattle.sercos_app.specs.TopCall.{writes_nothing, fault_status, ReadsWhole, IsInput, HasInput, TakesAtMost, TakesTooMany, IsAnswered, IsCutShort, IsAnswer, NonePlanned, LeastPlanned, MarginsTold, ChainTold, ViolationTold, CleanTold, RunTraced, RunSummed}
 
 -- the statuses of answers
 data IsGiven : Status → Type 0 where
@@ -56,6 +57,16 @@ unfolding document_answer
 IsGiven-document (Ok d) = IsGiven-wishes (wishes_of d.setup) (planned (wishes_of d.setup))
 IsGiven-document (Err bad) = refused
 
+IsGiven-wishes_margins : (w : WishesView) (made : Result PlanView ChainView) → IsGiven (wishes_margins w made).status
+unfolding wishes_margins
+IsGiven-wishes_margins w (Ok p) = done
+IsGiven-wishes_margins w (Err c) = declined
+
+IsGiven-margins : (document : Result DocumentView BadDocument) → IsGiven (document_margins document).status
+unfolding document_margins
+IsGiven-margins (Ok d) = IsGiven-wishes_margins (wishes_of d.setup) (planned (wishes_of d.setup))
+IsGiven-margins (Err bad) = refused
+
 IsGiven-traced : (carry : Carry) (restarts : Restarts) (document : Result DocumentView BadDocument) → IsGiven (traced_answer carry restarts document).status
 unfolding traced_answer
 IsGiven-traced carry restarts (Ok d) = done
@@ -68,11 +79,12 @@ IsGiven-verdict (verdict.Violation line rule) = declined
 IsGiven-verdict (verdict.Clean lines) = done
 
 IsGiven-answer : (carry : Carry) (restarts : Restarts) (form : Form) (bytes : List ℕ) → IsGiven (command_answer carry restarts form bytes).status
-unfolding command_answer show_answer plan_answer run_answer check_answer gen_answer
+unfolding command_answer show_answer plan_answer margin_answer run_answer check_answer gen_answer
 IsGiven-answer carry restarts Show bytes = IsGiven-fault (first_fault 1 (lines_of bytes))
 IsGiven-answer carry restarts Plan bytes = IsGiven-document (document_of bytes)
 IsGiven-answer carry restarts Run bytes = IsGiven-traced carry restarts (document_of bytes)
 IsGiven-answer carry restarts Check bytes = IsGiven-verdict (verdict_of bytes)
+IsGiven-answer carry restarts Margin bytes = IsGiven-margins (document_of bytes)
 IsGiven-answer carry restarts (Gen n) bytes = done
 
 answer_of-form : (carry : Carry) (restarts : Restarts) (words : List (List ℕ)) (bytes : List ℕ) (form : Form) → form_of words ≡ Some form → answer_of carry restarts words bytes ≡ command_answer carry restarts form bytes
@@ -221,6 +233,12 @@ stops-taken (unreadable is falls rose takes) = takes_more (omega arith) takes
 stops-taken (too_many is reads takes) = record { taken = takes.taken; few = omega (arith, takes.many); consumed = takes.consumed }
 stops-taken (no_memory reads takes unread) = takes_more (omega arith) takes
 
+stops-taken_few : {words : List (List ℕ)} {source : SourceChange} {Unread : Type 0} {status : Status} → Stops words source Unread status → status ≢ TooLong → TakesAtMost 1048576 source.left source.left'
+stops-taken_few (no_form nothing unread same reads) other = takes_none _ _ _ same
+stops-taken_few (unreadable is falls rose takes) other = takes
+stops-taken_few (too_many is reads takes) other = absurd (other refl)
+stops-taken_few (no_memory reads takes unread) other = takes
+
 stops-too_long : {words : List (List ℕ)} {source : SourceChange} {Unread : Type 0} {status : Status} → Stops words source Unread status → status ≡ TooLong → TakesTooMany source.left source.left'
 stops-too_long (no_form nothing unread same reads) e = absurd (cc)
 stops-too_long (unreadable is falls rose takes) e = absurd (cc)
@@ -273,6 +291,10 @@ at_read_well (answered form bytes status is says reads input ends) e = reads
 pub at_taken : {carry : Carry} {restarts : Restarts} {words : List (List ℕ)} {source : SourceChange} {sink : SinkChange} {Unread Unwritten : Type 0} {status : Status} → Outcome carry restarts words source sink Unread Unwritten status → TakesAtMost 1048577 source.left source.left'
 at_taken (stopped status why sink_same writes) = stops-taken why
 at_taken (answered form bytes status is says reads input ends) = takes_more (omega arith) (takes_input _ _ _ _ input)
+
+pub at_taken_few : {carry : Carry} {restarts : Restarts} {words : List (List ℕ)} {source : SourceChange} {sink : SinkChange} {Unread Unwritten : Type 0} {status : Status} → Outcome carry restarts words source sink Unread Unwritten status → status ≢ TooLong → TakesAtMost 1048576 source.left source.left'
+at_taken_few (stopped status why sink_same writes) other = stops-taken_few why other
+at_taken_few (answered form bytes status is says reads input ends) other = takes_input _ _ _ _ input
 
 pub at_too_long : {carry : Carry} {restarts : Restarts} {words : List (List ℕ)} {source : SourceChange} {sink : SinkChange} {Unread Unwritten : Type 0} {status : Status} → Outcome carry restarts words source sink Unread Unwritten status → status ≡ TooLong → TakesTooMany source.left source.left'
 unfolding writes_nothing
@@ -377,6 +399,7 @@ same_answer carry restarts Show all bytes source Unread told input = ap show_ans
 same_answer carry restarts Plan all bytes source Unread told input = ap plan_answer (told_whole all bytes source.left source.left' told input)
 same_answer carry restarts Run all bytes source Unread told input = ap (run_answer carry restarts) (told_whole all bytes source.left source.left' told input)
 same_answer carry restarts Check all bytes source Unread told input = ap check_answer (told_whole all bytes source.left source.left' told input)
+same_answer carry restarts Margin all bytes source Unread told input = ap margin_answer (told_whole all bytes source.left source.left' told input)
 same_answer carry restarts (Gen n) all bytes source Unread told input = refl
 
 told_answer : (carry : Carry) (restarts : Restarts) (words : List (List ℕ)) (form : Form) (all bytes : List ℕ) (source : SourceChange) (Unread : Type 0) → form_of words ≡ Some form → HasInput (reads_input (form_of words)) source.left all → TakesInput (reads_input (Some form)) source Unread bytes
@@ -463,6 +486,83 @@ at_least_plan out e f =
     let whole = done_whole _ _ Plan a.bytes _ _ a.ends e in
     least-plan _ _ a.bytes _ _ _ _ a.says whole.0 a.input whole.1
 
+-- what the answers of `margin` say
+margins_read : (document : Result DocumentView BadDocument) → (document_margins document).status ≢ Refused → (d : DocumentView) × (document ≡ Ok d)
+unfolding document_margins
+margins_read (Ok d) given = (d, refl)
+margins_read (Err bad) given = absurd (given refl)
+
+told-margins : (carry : Carry) (restarts : Restarts) (bytes : List ℕ) (left left' held held' : Option (List ℕ)) → MeasuresItsRing bytes → (command_answer carry restarts Margin bytes).status ≡ Done → ReadsWhole left left' bytes
+    → Appends held held' (command_answer carry restarts Margin bytes).output → MarginsTold left left' held held'
+unfolding command_answer margin_answer
+told-margins carry restarts bytes left left' held held' says at input written =
+    let (d, read) = margins_read (document_of bytes) (λ e. absurd (cc)) in
+    record { bytes = bytes; read = input; says = d; document = read; text = (document_margins (document_of bytes)).output; tells = (says d read).done at; written = written }
+
+told-chain : (carry : Carry) (restarts : Restarts) (bytes : List ℕ) (left left' held held' : Option (List ℕ)) → MeasuresItsRing bytes → (command_answer carry restarts Margin bytes).status ≡ No → ReadsWhole left left' bytes
+    → Appends held held' (command_answer carry restarts Margin bytes).output → ChainTold left left' held held'
+unfolding command_answer margin_answer
+told-chain carry restarts bytes left left' held held' says at input written =
+    let (d, read) = margins_read (document_of bytes) (λ e. absurd (cc)) in
+    record { bytes = bytes; read = input; says = d; document = read; text = (document_margins (document_of bytes)).output; tells = (says d read).no at; written = written }
+
+pub at_margins : {carry : Carry} {restarts : Restarts} {words : List (List ℕ)} {source : SourceChange} {sink : SinkChange} {Unread Unwritten : Type 0} {status : Status} → Outcome carry restarts words source sink Unread Unwritten status → status ≡ Done → form_of words ≡ Some Margin → MarginsTold source.left source.left' sink.held sink.held'
+unfolding writes_nothing reads_input
+at_margins out e f =
+    let a = answered_by out Margin f (ap writes_nothing e) in
+    let whole = done_whole _ _ Margin a.bytes _ _ a.ends e in
+    told-margins _ _ a.bytes _ _ _ _ a.says whole.0 a.input whole.1
+
+pub at_chain : {carry : Carry} {restarts : Restarts} {words : List (List ℕ)} {source : SourceChange} {sink : SinkChange} {Unread Unwritten : Type 0} {status : Status} → Outcome carry restarts words source sink Unread Unwritten status → status ≡ No → form_of words ≡ Some Margin → ChainTold source.left source.left' sink.held sink.held'
+unfolding writes_nothing reads_input
+at_chain out e f =
+    let a = answered_by out Margin f (ap writes_nothing e) in
+    let whole = no_whole _ _ Margin a.bytes _ _ a.ends e in
+    told-chain _ _ a.bytes _ _ _ _ a.says whole.0 a.input whole.1
+
+-- what the answers of `check` say
+verdict_violation : (fault broken : Option (ℕ × ℕ)) (lines : ℕ) → verdict_status (verdict_by fault broken lines) ≡ No
+    → (fault ≡ None) × (first : ℕ × ℕ) × (broken ≡ Some first) × (verdict_by fault broken lines ≡ verdict.Violation first.0 first.1)
+unfolding verdict_by verdict_status
+verdict_violation (Some fault) broken lines e = absurd (cc)
+verdict_violation None (Some first) lines e = (refl, first, refl, refl)
+verdict_violation None None lines e = absurd (cc)
+
+verdict_clean : (fault broken : Option (ℕ × ℕ)) (lines : ℕ) → verdict_status (verdict_by fault broken lines) ≡ Done
+    → (fault ≡ None) × (broken ≡ None) × (verdict_by fault broken lines ≡ verdict.Clean lines)
+unfolding verdict_by verdict_status
+verdict_clean (Some fault) broken lines e = absurd (cc)
+verdict_clean None (Some first) lines e = absurd (cc)
+verdict_clean None None lines e = (refl, refl, refl)
+
+told-violation : (carry : Carry) (restarts : Restarts) (bytes : List ℕ) (left left' held held' : Option (List ℕ)) → (command_answer carry restarts Check bytes).status ≡ No → ReadsWhole left left' bytes
+    → Appends held held' (command_answer carry restarts Check bytes).output → ViolationTold left left' held held'
+unfolding command_answer check_answer verdict_of verdict_text
+told-violation carry restarts bytes left left' held held' at input written =
+    let (shaped, first, is, verdict_is) = verdict_violation (capture_fault [] (lines_of bytes)) (first_violation [] (lines_of bytes)) (length (lines_of bytes)) at in
+    record { bytes = bytes; read = input; shaped = shaped; line = first.0; rule = first.1; first = is; written = subst (Appends held held') (ap verdict_text verdict_is) written }
+
+told-clean : (carry : Carry) (restarts : Restarts) (bytes : List ℕ) (left left' held held' : Option (List ℕ)) → (command_answer carry restarts Check bytes).status ≡ Done → ReadsWhole left left' bytes
+    → Appends held held' (command_answer carry restarts Check bytes).output → CleanTold left left' held held'
+unfolding command_answer check_answer verdict_of verdict_text
+told-clean carry restarts bytes left left' held held' at input written =
+    let (shaped, none, verdict_is) = verdict_clean (capture_fault [] (lines_of bytes)) (first_violation [] (lines_of bytes)) (length (lines_of bytes)) at in
+    record { bytes = bytes; read = input; shaped = shaped; none = none; written = subst (Appends held held') (ap verdict_text verdict_is) written }
+
+pub at_violation : {carry : Carry} {restarts : Restarts} {words : List (List ℕ)} {source : SourceChange} {sink : SinkChange} {Unread Unwritten : Type 0} {status : Status} → Outcome carry restarts words source sink Unread Unwritten status → status ≡ No → form_of words ≡ Some Check → ViolationTold source.left source.left' sink.held sink.held'
+unfolding writes_nothing reads_input
+at_violation out e f =
+    let a = answered_by out Check f (ap writes_nothing e) in
+    let whole = no_whole _ _ Check a.bytes _ _ a.ends e in
+    told-violation _ _ a.bytes _ _ _ _ whole.0 a.input whole.1
+
+pub at_clean : {carry : Carry} {restarts : Restarts} {words : List (List ℕ)} {source : SourceChange} {sink : SinkChange} {Unread Unwritten : Type 0} {status : Status} → Outcome carry restarts words source sink Unread Unwritten status → status ≡ Done → form_of words ≡ Some Check → CleanTold source.left source.left' sink.held sink.held'
+unfolding writes_nothing reads_input
+at_clean out e f =
+    let a = answered_by out Check f (ap writes_nothing e) in
+    let whole = done_whole _ _ Check a.bytes _ _ a.ends e in
+    told-clean _ _ a.bytes _ _ _ _ whole.0 a.input whole.1
+
 -- what the answers of `run` say
 run_counts : (r : RingView) (jobs : List Job) (carry : Carry) (restarts : Restarts) (n : ℕ) → length (run_of r jobs carry restarts n) ≡ n
 run_counts r jobs carry restarts zero = refl
@@ -529,16 +629,17 @@ unfolding show_status
 shown-done None e = cc
 shown-done (Some place) e = cc
 
-no_of : (carry : Carry) (restarts : Restarts) (form : Form) (bytes : List ℕ) → (command_answer carry restarts form bytes).status ≡ No → (form ≡ Plan) ⊎ (form ≡ Check)
+no_of : (carry : Carry) (restarts : Restarts) (form : Form) (bytes : List ℕ) → (command_answer carry restarts form bytes).status ≡ No → (form ≡ Plan) ⊎ (form ≡ Margin) ⊎ (form ≡ Check)
 unfolding command_answer show_answer run_answer gen_answer
 no_of carry restarts Show bytes e = absurd (shown-done (first_fault 1 (lines_of bytes)) e)
 no_of carry restarts Plan bytes e = inl refl
 no_of carry restarts Run bytes e = absurd (traced-done carry restarts (document_of bytes) e)
-no_of carry restarts Check bytes e = inr refl
+no_of carry restarts Margin bytes e = inr (inl refl)
+no_of carry restarts Check bytes e = inr (inr refl)
 no_of carry restarts (Gen n) bytes e = absurd (cc)
 
-pub at_no_of : {carry : Carry} {restarts : Restarts} {words : List (List ℕ)} {source : SourceChange} {sink : SinkChange} {Unread Unwritten : Type 0} {status : Status} → Outcome carry restarts words source sink Unread Unwritten status → status ≡ No → (form_of words ≡ Some Plan) ⊎ (form_of words ≡ Some Check)
+pub at_no_of : {carry : Carry} {restarts : Restarts} {words : List (List ℕ)} {source : SourceChange} {sink : SinkChange} {Unread Unwritten : Type 0} {status : Status} → Outcome carry restarts words source sink Unread Unwritten status → status ≡ No → (form_of words ≡ Some Plan) ⊎ (form_of words ≡ Some Margin) ⊎ (form_of words ≡ Some Check)
 unfolding writes_nothing
 at_no_of (stopped status why sink_same writes) e = absurd (not_stopped why refl e)
 at_no_of (answered form bytes status is says reads input ends) e =
-    elim (no_of _ _ form bytes (no_whole _ _ form bytes _ _ ends e).0) [ inl plan ↦ inl (is ∙ ap Some plan) | inr check ↦ inr (is ∙ ap Some check) ]
+    elim (no_of _ _ form bytes (no_whole _ _ form bytes _ _ ends e).0) [ inl plan ↦ inl (is ∙ ap Some plan) | inr (inl margin) ↦ inr (inl (is ∙ ap Some margin)) | inr (inr check) ↦ inr (inr (is ∙ ap Some check)) ]

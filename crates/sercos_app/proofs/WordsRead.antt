@@ -296,7 +296,8 @@ no_command word begins =
     let plan = other_word word (codes "plan") begins (λ is. absurd (omega (arith, is))) in
     let run = other_word word (codes "run") begins (λ is. absurd (omega (arith, is))) in
     let check = other_word word (codes "check") begins (λ is. absurd (omega (arith, is))) in
-    rw (show, plan, run, check) refl
+    let margin = other_word word (codes "margin") begins (λ is. absurd (omega (arith, is))) in
+    rw (show, plan, margin, run, check) refl
 
 flag_first : (word : Text) (rest : List Text) → get_or word 0 0 ≡ 45 → plain_form (word ∷ rest) ≡ None
 unfolding plain_form

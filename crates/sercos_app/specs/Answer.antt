@@ -7,6 +7,7 @@ use Rattle.sercos_app.specs.declared.form.Form.TheVariants as forms
 use Rattle.sercos_app.specs.Form.{form_of}
 use Rattle.sercos_app.specs.Show.{Answer, show_answer}
 use Rattle.sercos_app.specs.Planning.{plan_answer, PlansItsRing}
+use Rattle.sercos_app.specs.Margins.{margin_answer, MeasuresItsRing}
 use Rattle.sercos_app.specs.Running.{run_answer, RunsItsRing}
 use Rattle.sercos_app.specs.Checking.{check_answer}
 use Rattle.sercos_app.specs.Generating.{gen_answer, RunsGenerated}
@@ -16,6 +17,7 @@ use Rattle.sercos_script.specs.Links.{Carry, Restarts}
 unfoldable pub command_answer : Carry → Restarts → Form → List ℕ → Answer
 command_answer carry restarts forms.Show bytes = show_answer bytes
 command_answer carry restarts forms.Plan bytes = plan_answer bytes
+command_answer carry restarts forms.Margin bytes = margin_answer bytes
 command_answer carry restarts forms.Run bytes = run_answer carry restarts bytes
 command_answer carry restarts forms.Check bytes = check_answer bytes
 command_answer carry restarts (forms.Gen drives) bytes = gen_answer carry restarts drives
@@ -24,6 +26,7 @@ command_answer carry restarts (forms.Gen drives) bytes = gen_answer carry restar
 abbrev pub SaysWell : Carry → Restarts → Form → List ℕ → Type 0
 SaysWell carry restarts forms.Show bytes = Unit {0}
 SaysWell carry restarts forms.Plan bytes = PlansItsRing bytes
+SaysWell carry restarts forms.Margin bytes = MeasuresItsRing bytes
 SaysWell carry restarts forms.Run bytes = RunsItsRing carry restarts bytes
 SaysWell carry restarts forms.Check bytes = Unit {0}
 SaysWell carry restarts (forms.Gen drives) bytes = RunsGenerated carry restarts drives

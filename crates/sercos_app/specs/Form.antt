@@ -3,7 +3,7 @@ use Rattle.std.specs.Prelude.{ℕ, ◌≤◌, cond, Bool, true, false, List, [],
 use Rattle.std.specs.List.{find, range_with_len}
 use Rattle.std.specs.Str.{bytes_eq}
 use Rattle.sercos_app.specs.declared.form.Form.{Form}
-use Rattle.sercos_app.specs.declared.form.Form.TheVariants.{Show, Plan, Run, Check, Gen}
+use Rattle.sercos_app.specs.declared.form.Form.TheVariants.{Show, Plan, Margin, Run, Check, Gen}
 
 -- the words without the first `--`, wherever it stands
 unfoldable pub without_dashes : List (List ℕ) → List (List ℕ)
@@ -15,8 +15,9 @@ unfoldable pub word_form : List ℕ → Option Form
 word_form word =
     cond (bytes_eq word (codes "show")) (Some Show)
     (cond (bytes_eq word (codes "plan")) (Some Plan)
+    (cond (bytes_eq word (codes "margin")) (Some Margin)
     (cond (bytes_eq word (codes "run")) (Some Run)
-    (cond (bytes_eq word (codes "check")) (Some Check) None)))
+    (cond (bytes_eq word (codes "check")) (Some Check) None))))
 
 -- the number of drives that a word names: 1 to 64, in decimal digits
 unfoldable pub drives_named : List ℕ → Option ℕ

@@ -7,6 +7,7 @@ pub mod Taken
 pub mod Form
 pub mod CommandLine
 pub mod Planning
+pub mod Margins
 pub mod Totals
 pub mod Counting
 pub mod Journals

@@ -1,14 +1,16 @@
 -- What the top call does with its source and its sink. The bytes that a source has left and those that a sink holds are
 -- known where it tells them.
-use Rattle.std.specs.Prelude.{◌≡◌, ℕ, ◌<◌, ◌≤◌, Bool, true, false, List, [], length, reverse, take, Option, Some, Ok}
+use Rattle.std.specs.Prelude.{◌≡◌, ℕ, ◌<◌, ◌≤◌, Bool, true, false, List, [], length, reverse, take, Option, Some, None, Ok}
 use Rattle.std.specs.Io.KnownBytes.{Appends, Consumes, IsAtEnd}
 use Rattle.sercos_io.specs.declared.status.Status.{Status}
 use Rattle.sercos_io.specs.declared.status.Status.TheVariants.{BadWords, Refused, ReadFault, WriteFault, Memory, TooLong}
 use Rattle.sercos_script.specs.Links.{Carry, Restarts}
 use Rattle.sercos_app.specs.Form.{form_of, reads_input}
 use Rattle.sercos_app.specs.Answer.{answer_of}
-use Rattle.sercos_app.specs.Show.{Answer}
+use Rattle.sercos_app.specs.Show.{Answer, lines_of}
 use Rattle.sercos_app.specs.Planning.{plan_text, chain_text}
+use Rattle.sercos_app.specs.Margins.{TellsMargins, TellsChain}
+use Rattle.sercos_app.specs.Checking.{capture_fault, first_violation, violation_text, clean_text}
 use Rattle.sercos_timing.specs.Views.{PlanView}
 use Rattle.sercos_plan.specs.Least.{IsLeast, NoneFits}
 use Rattle.sercos_plan.specs.Views.{ChainView}
@@ -107,6 +109,44 @@ pub record LeastPlanned (left left' held held' : Option (List ℕ)) : Type 0 whe
   pub plan : PlanView
   pub least : IsLeast (wishes_of says.setup) plan
   pub written : Appends held held' (plan_text (wishes_of says.setup) plan)
+
+-- The source was read to its end as the document of a ring. What was appended says how far each time of its drives can go, and which
+-- cycle time is the least; or, where no plan fits it, the least cycle time and a chain that proves it.
+pub record MarginsTold (left left' held held' : Option (List ℕ)) : Type 0 where
+  pub bytes : List ℕ
+  pub read : ReadsWhole left left' bytes
+  pub says : DocumentView
+  pub document : document_of bytes ≡ Ok says
+  pub text : List ℕ
+  pub tells : TellsMargins (wishes_of says.setup) text
+  pub written : Appends held held' text
+
+pub record ChainTold (left left' held held' : Option (List ℕ)) : Type 0 where
+  pub bytes : List ℕ
+  pub read : ReadsWhole left left' bytes
+  pub says : DocumentView
+  pub document : document_of bytes ≡ Ok says
+  pub text : List ℕ
+  pub tells : TellsChain (wishes_of says.setup) text
+  pub written : Appends held held' text
+
+-- The source was read to its end as a capture without a fault of grammar or shape. What was appended names the first line that breaks
+-- a rule, and the lowest rule that it breaks; or, where none does, the number of lines.
+pub record ViolationTold (left left' held held' : Option (List ℕ)) : Type 0 where
+  pub bytes : List ℕ
+  pub read : ReadsWhole left left' bytes
+  pub shaped : capture_fault [] (lines_of bytes) ≡ None
+  pub line : ℕ
+  pub rule : ℕ
+  pub first : first_violation [] (lines_of bytes) ≡ Some (line, rule)
+  pub written : Appends held held' (violation_text line rule)
+
+pub record CleanTold (left left' held held' : Option (List ℕ)) : Type 0 where
+  pub bytes : List ℕ
+  pub read : ReadsWhole left left' bytes
+  pub shaped : capture_fault [] (lines_of bytes) ≡ None
+  pub none : first_violation [] (lines_of bytes) ≡ None
+  pub written : Appends held held' (clean_text (length (lines_of bytes)))
 
 -- The source was read to its end as the document of a ring, and what was appended is the trace of the one run of this ring, for its
 -- number of cycles, under its script followed by the link handed in. Its cycles keep all that is promised of them. The newest cycle of

@@ -16,6 +16,8 @@ pub enum Form {
     Show,
     /// `plan`: a ring document is answered by the least plan of its time slots.
     Plan,
+    /// `margin`: a ring document is answered by how far the times of its drives can go, and by its least cycle time.
+    Margin,
     /// `run`: a ring document is answered by the trace of its run.
     Run,
     /// `check`: a capture is answered by whether its telegrams keep the rules of a ring.
@@ -34,6 +36,8 @@ fn word_form(word: &str) -> Option<Form>
         Some(Form::Show)
     } else if word == "plan" {
         Some(Form::Plan)
+    } else if word == "margin" {
+        Some(Form::Margin)
     } else if word == "run" {
         Some(Form::Run)
     } else if word == "check" {

@@ -9,6 +9,7 @@ mod given;
 mod law;
 mod line;
 mod lines;
+mod margin_command;
 mod opened;
 mod over_memory;
 mod plan_text;

@@ -9,8 +9,8 @@ use sercos_plan::{Chain, Link};
 use sercos_timing::{Plan, Wishes};
 use std::alloc::AllocError;
 
-// Appends a number behind its name, and a line feed.
-fn push_last(name: &str, number: u64, out: &mut Vec<u8>) -> Result<(), AllocError>
+/// Appends a number after its name, and a line feed.
+pub fn push_last(name: &str, number: u64, out: &mut Vec<u8>) -> Result<(), AllocError>
     ensures { OnOk result (out.new.items ≡ out.old.items ++ (name.now ++ decimal number ++ line_feed)) }
 {
     push_text(name, out)?;
@@ -18,7 +18,7 @@ fn push_last(name: &str, number: u64, out: &mut Vec<u8>) -> Result<(), AllocErro
     push_text("\n", out)
 }
 
-// Appends two numbers, each behind its name, and a line feed.
+// Appends two numbers, each after its name, and a line feed.
 fn push_last_two(
     first: &str,
     a: u64,

@@ -5,14 +5,16 @@ ghost use Rattle.sercos_app.specs.Answer.{answer_of, command_answer, SaysWell};
 ghost use Rattle.sercos_app.specs.Form.{form_of, reads_input, HasDrives};
 ghost use Rattle.sercos_app.specs.Given.{Gives, IsWritable};
 ghost use Rattle.sercos_app.specs.Outcome.{Outcome, Replies, GivesMade, changed};
+ghost use Rattle.sercos_app.specs.Margins.{MeasuresItsRing, margin_answer};
 ghost use Rattle.sercos_app.specs.Planning.{PlansItsRing, plan_answer};
 ghost use Rattle.sercos_app.specs.Show.{show_answer};
-ghost use Rattle.sercos_app.specs.TopCall.{writes_nothing, HasInput, TakesAtMost, TakesTooMany, IsAnswered, IsCutShort, IsAnswer, NonePlanned, LeastPlanned, RunTraced, RunSummed};
+ghost use Rattle.sercos_app.specs.TopCall.{writes_nothing, HasInput, TakesAtMost, TakesTooMany, IsAnswered, IsCutShort, IsAnswer, NonePlanned, LeastPlanned, MarginsTold, ChainTold, ViolationTold, CleanTold, RunTraced, RunSummed};
 
 use crate::check_command::answer_check;
 use crate::form::{Form, form_of};
 use crate::gen_command::answer_gen;
 use crate::given::{Given, give, refused};
+use crate::margin_command::margins;
 use crate::planning::plan;
 use crate::run_command::answer_run;
 use crate::show::show;
@@ -33,6 +35,17 @@ fn planned(alloc: Global, bytes: &[u8]) -> Result<Given, AllocError>
     ensures says { IfOk result (λ _. PlansItsRing bytes.now) }
 {
     match plan(alloc, bytes) {
+        Ok(reply) => Ok(Given::Reply(reply)),
+        Err(bad) => refused(bad),
+    }
+}
+
+// What `margin` gives for an input.
+fn measured(alloc: Global, bytes: &[u8]) -> Result<Given, AllocError>
+    ensures given { IfOk result (λ given. Gives given (margin_answer bytes.now)) }
+    ensures says { IfOk result (λ _. MeasuresItsRing bytes.now) }
+{
+    match margins(alloc, bytes) {
         Ok(reply) => Ok(Given::Reply(reply)),
         Err(bad) => refused(bad),
     }
@@ -65,6 +78,14 @@ fn answer_plan<K: Sink>(alloc: Global, bytes: &[u8], sink: &mut K) -> Status
     give_made(&planned(alloc, bytes), sink)
 }
 
+// Answers an input by `margin`.
+fn answer_margin<K: Sink>(alloc: Global, bytes: &[u8], sink: &mut K) -> Status
+    ensures { Replies (margin_answer bytes.now) (MeasuresItsRing bytes.now)
+        (changed K.held K.faults K.room sink.old sink.new) (sink.new ≡ sink.old) result }
+{
+    give_made(&measured(alloc, bytes), sink)
+}
+
 // Whether a command reads its source.
 #[tactic(auto, unfolding(crate::specs::Form::reads_input))]
 fn reads_input(form: Form) -> bool
@@ -90,6 +111,7 @@ fn answer<K: Sink, L: BitLink>(
     match form {
         Form::Show => answer_show(alloc, bytes, sink),
         Form::Plan => answer_plan(alloc, bytes, sink),
+        Form::Margin => answer_margin(alloc, bytes, sink),
         Form::Run => answer_run(alloc, bytes, link, sink),
         Form::Check => answer_check(bytes, sink),
         Form::Gen(drives) => answer_gen(alloc, drives, link, sink),
@@ -137,12 +159,12 @@ fn respond<S: Source, K: Sink, L: BitLink>(
 /// reads nothing. `run` writes the lines of each cycle as the cycle is made; each other command writes its output once it is
 /// whole. The clauses on the bytes of source and sink hold where these tell them, as those in memory do.
 ///
-/// The forms of words are `show`, `plan`, `run`, `check`, and `gen N` for 1 to 64 drives, with at most one word `--` anywhere.
+/// The forms of words are `show`, `plan`, `margin`, `run`, `check`, and `gen N` for 1 to 64 drives, with at most one word `--` anywhere.
 /// `run` and `gen` run their ring over the script of the document, followed by `link`; no other command uses `link`. Words in no
 /// form are `BadWords`, and nothing is read. `ReadFault` is returned if a read failed, `TooLong` if the input is longer, and
 /// `Memory` if no memory was found; then nothing is written. A refused input is `Refused`, also if its line couldn't be written
 /// whole. After any other failed write the status is `WriteFault`, and the sink has taken a prefix of the output.
-#[tactic(auto, using(crate::proofs::Outcomes::at_bad_words, crate::proofs::Outcomes::at_no_form, crate::proofs::Outcomes::at_unread, crate::proofs::Outcomes::at_taken, crate::proofs::Outcomes::at_unwritten, crate::proofs::Outcomes::at_read_fault, crate::proofs::Outcomes::at_read_count, crate::proofs::Outcomes::at_read_well, crate::proofs::Outcomes::at_too_long, crate::proofs::Outcomes::at_none_fits, crate::proofs::Outcomes::at_least_plan, crate::proofs::Outcomes::at_traced, crate::proofs::Outcomes::at_no_of, crate::proofs::Outcomes::at_write_count, crate::proofs::Outcomes::at_write_well, crate::proofs::Outcomes::at_refuses, crate::proofs::Outcomes::at_exceeds, crate::proofs::Outcomes::at_room))]
+#[tactic(auto, using(crate::proofs::Outcomes::at_bad_words, crate::proofs::Outcomes::at_no_form, crate::proofs::Outcomes::at_unread, crate::proofs::Outcomes::at_taken, crate::proofs::Outcomes::at_taken_few, crate::proofs::Outcomes::at_unwritten, crate::proofs::Outcomes::at_read_fault, crate::proofs::Outcomes::at_read_count, crate::proofs::Outcomes::at_read_well, crate::proofs::Outcomes::at_too_long, crate::proofs::Outcomes::at_none_fits, crate::proofs::Outcomes::at_least_plan, crate::proofs::Outcomes::at_margins, crate::proofs::Outcomes::at_chain, crate::proofs::Outcomes::at_violation, crate::proofs::Outcomes::at_clean, crate::proofs::Outcomes::at_traced, crate::proofs::Outcomes::at_no_of, crate::proofs::Outcomes::at_write_count, crate::proofs::Outcomes::at_write_well, crate::proofs::Outcomes::at_refuses, crate::proofs::Outcomes::at_exceeds, crate::proofs::Outcomes::at_room))]
 pub fn sercos<S: Source, K: Sink, L: BitLink>(
     alloc: Global,
     words: &Words,
@@ -156,8 +178,9 @@ pub fn sercos<S: Source, K: Sink, L: BitLink>(
     ensures no_form { form_of words.now ≡ None → (result ≡ Status.Memory) ⊎ (result ≡ Status.BadWords) }
     ensures unread { reads_input (form_of words.now) ≡ false → source.new ≡ source.old }
 
-    // What is taken from the source is lost: at most 1,048,577 bytes, whatever the answer is.
+    // What is taken from the source is lost: at most 1,048,577 bytes, and so many only where the answer is TooLong.
     ensures taken { TakesAtMost 1048577 (S.left source.old) (S.left source.new) }
+    ensures taken_few { result ≢ Status.TooLong → TakesAtMost 1048576 (S.left source.old) (S.left source.new) }
 
     // BadWords, ReadFault, TooLong and Memory come before anything is written.
     ensures unwritten { IsTrue (writes_nothing result) → sink.new ≡ sink.old }
@@ -171,18 +194,32 @@ pub fn sercos<S: Source, K: Sink, L: BitLink>(
     ensures too_long { result ≡ Status.TooLong → TakesTooMany (S.left source.old) (S.left source.new) }
 
     // Done and No come only where the input was read to its end, its answer has this status, and the whole output was
-    // appended; No comes from `plan` and `check` alone.
+    // appended; No comes from `plan`, `margin` and `check` alone.
     ensures done { result ≡ Status.Done → IsAnswered (L.carry link) (L.restart link) words.now Status.Done
         (S.left source.old) (S.left source.new) (K.held sink.old) (K.held sink.new) }
     ensures no { result ≡ Status.No → IsAnswered (L.carry link) (L.restart link) words.now Status.No
         (S.left source.old) (S.left source.new) (K.held sink.old) (K.held sink.new) }
-    ensures no_of { result ≡ Status.No → (form_of words.now ≡ Some Form.Plan) ⊎ (form_of words.now ≡ Some Form.Check) }
+    ensures no_of { result ≡ Status.No → (form_of words.now ≡ Some Form.Plan) ⊎ (form_of words.now ≡ Some Form.Margin) ⊎ (form_of words.now ≡ Some Form.Check) }
 
     // No comes from `plan` only where no plan fits the ring that was read, whatever plan it is, and with the text of a chain that
     // proves it; and Done only with the text of the least plan.
     ensures none_fits { result ≡ Status.No → form_of words.now ≡ Some Form.Plan → NonePlanned
         (S.left source.old) (S.left source.new) (K.held sink.old) (K.held sink.new) }
     ensures least { result ≡ Status.Done → form_of words.now ≡ Some Form.Plan → LeastPlanned
+        (S.left source.old) (S.left source.new) (K.held sink.old) (K.held sink.new) }
+
+    // Done comes from `margin` only with how far each time of each drive can go, and the least cycle time; No, only where no plan fits,
+    // with that cycle time and the text of a chain that proves it.
+    ensures margins { result ≡ Status.Done → form_of words.now ≡ Some Form.Margin → MarginsTold
+        (S.left source.old) (S.left source.new) (K.held sink.old) (K.held sink.new) }
+    ensures chain { result ≡ Status.No → form_of words.now ≡ Some Form.Margin → ChainTold
+        (S.left source.old) (S.left source.new) (K.held sink.old) (K.held sink.new) }
+
+    // No comes from `check` only with the first line that breaks a rule and the lowest rule that it breaks, and Done only where none
+    // does; each only where no line has a fault of grammar or shape.
+    ensures violation { result ≡ Status.No → form_of words.now ≡ Some Form.Check → ViolationTold
+        (S.left source.old) (S.left source.new) (K.held sink.old) (K.held sink.new) }
+    ensures clean { result ≡ Status.Done → form_of words.now ≡ Some Form.Check → CleanTold
         (S.left source.old) (S.left source.new) (K.held sink.old) (K.held sink.new) }
 
     // Done comes from `run` only with the trace of the one run of the ring that was read, and from `gen` only with the summary of

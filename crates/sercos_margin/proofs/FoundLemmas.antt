@@ -142,7 +142,7 @@ found_some w n valid least = by least.cycle
     multiple i is some few =
         sym (cond-false (is_roomy (with_cycle w 125)) _ _ (fails 125 (inl refl) (omega arith))
         ∙ first_multiple (λ c. is_roomy (with_cycle w c)) 1 256 i some few (ap (λ c. is_roomy (with_cycle w c)) (sym is) ∙ passes)
-            (λ j one below. fails (250 * j) (multiple_cycle j one (omega (arith, below, few))) (omega (arith, below, is)))
+        (λ j one below. fails (250 * j) (multiple_cycle j one (omega (arith, below, few))) (omega (arith, below, is)))
         ∙ ap Some (sym is))
 
     by : IsCycle n → Some n ≡ find (λ c. is_roomy (with_cycle w c)) (125 ∷ map (λ m. 250 * m) (range_with_len 1 256))
