@@ -69,14 +69,14 @@ fresh has_next r older = by (next_step r []) (has_next r [] refl)
     by (Some y) some = refl
 
 -- AN OUTCOME of a request that is complete or refused, where nothing else can be.
-has_outcome : HasNext → (b : Begun) (older : List Begun) → is_none (open_in (b ∷ older)) ≡ true → (o : Outcome) × (outcome_of b.request b.answers ≡ Some o) × ((bytes : List ℕ) × (o ≡ outcome.Complete bytes) ⊎ ((t : Task) (tasks : List Task) (address : ℕ) → t.number ≡ None → is_none (trouble_by address (t ∷ tasks) (Some o)) ≡ false))
+has_outcome : HasNext → (b : Begun) (older : List Begun) → is_none (open_in (b ∷ older)) ≡ true → (o : Outcome) × (outcome_of b.request b.answers ≡ Some o) × (((bytes : List ℕ) × (o ≡ outcome.Complete bytes)) ⊎ ((t : Task) (tasks : List Task) (address : ℕ) → t.number ≡ None → is_none (trouble_by address (t ∷ tasks) (Some o)) ≡ false))
 has_outcome has_next b older idle = by (ends_so b.request b.answers)
   where
     both : (x : Option Step) → is_some x ≡ true → is_none x ≡ true → ⊥
     both None some none = false≢true some
     both (Some y) some none = false≢true none
 
-    by : TransferEnds b.request b.answers → (o : Outcome) × (outcome_of b.request b.answers ≡ Some o) × ((bytes : List ℕ) × (o ≡ outcome.Complete bytes) ⊎ ((t : Task) (tasks : List Task) (address : ℕ) → t.number ≡ None → is_none (trouble_by address (t ∷ tasks) (Some o)) ≡ false))
+    by : TransferEnds b.request b.answers → (o : Outcome) × (outcome_of b.request b.answers ≡ Some o) × (((bytes : List ℕ) × (o ≡ outcome.Complete bytes)) ⊎ ((t : Task) (tasks : List Task) (address : ℕ) → t.number ≡ None → is_none (trouble_by address (t ∷ tasks) (Some o)) ≡ false))
     by (IsWhole bytes is) = (outcome.Complete bytes, is, inl (bytes, refl))
     by (IsRefused code is) = (outcome.Refused code, is, inr (λ t tasks address number. rw number refl))
     by (GoesOn on) =
@@ -243,7 +243,7 @@ waiting_same s p = due (with_stop (first_trouble s p) p) ∙ waiting_stop (first
 
 -- WHAT THE MDT'S TURN LEAVES of a channel
 module _ (has_next : HasNext) (s : Known) (p : Past) (k : ℕ) where
-  q : Past
+  abbrev q : Past
   q = settled s p
 
   sent_same : (on : Bool) (calls : List channel.Call) → begun_by (if on then channel.Send ∷ calls else calls) ≡ begun_by calls
@@ -275,16 +275,16 @@ module _ (has_next : HasNext) (s : Known) (p : Past) (k : ℕ) where
   begins_so phase r free idle turn is next = rw (free, idle, turn, is) next
 
 few_reads : (s : Known) (k : ℕ) → k < length s.drives → All HasLists s.drives → reads_count (member s k) ≤ 38
-few_reads s k below all = by (all k (member s k) (get_some s.drives k no_member below))
+few_reads s k below all = by (all k no_member below)
   where
     by : HasLists (member s k) → reads_count (member s k) ≤ 38
     by (at, mdt) = omega (arith, at, mdt)
 
 module _ (has_next : HasNext) (s : Known) (requests : ℕ → List Task) (h : List Call) (wait : (j : ℕ) → AreWaiting (requests j)) (lists : All HasLists s.drives) where
-  p0 : Past
+  abbrev pub p0 : Past
   p0 = past s requests h
 
-  settled_p : Past
+  abbrev settled_p : Past
   settled_p = settled s p0
 
   same_outcomes : (k : ℕ) → outcomes settled_p k ≡ outcomes p0 k
@@ -298,6 +298,9 @@ module _ (has_next : HasNext) (s : Known) (requests : ℕ → List Task) (h : Li
 
   waits : (k : ℕ) → AreWaiting (p0.waiting k)
   waits k = all_waiting s requests h wait k
+
+  same_first : (f g : ℕ → Bool) → ((k : ℕ) → f k ≡ g k) → first_place s f ≡ first_place s g
+  same_first f g same = from_same (length s.drives) 0 f g same
 
   -- PHASE 2
   turn_works : settled_p.now.phase ≡ 2 → settled_p.stop ≡ None → (k : ℕ) → k < length s.drives → in_turn s settled_p ≡ Some k → is_checked (member s k) (outcomes settled_p k) ≡ false →
@@ -353,18 +356,15 @@ module _ (has_next : HasNext) (s : Known) (requests : ℕ → List Task) (h : Li
       first (inl none) = second (none_or_some (first_place s (λ k. not (is_checked (member s k) (outcomes settled_p k)))))
         where
           read : all_read s (after_mdt s p0) ≡ true
-          read = ap (λ (o : Option ℕ). is_none o) (same_first (λ k. ap (λ (l : List Outcome). not (is_read (member s k) l)) (after_same k)) ∙ none)
+          read = ap (λ (o : Option ℕ). is_none o) (same_first (λ k. not (is_read (member s k) (outcomes (after_mdt s p0) k))) (λ k. not (is_read (member s k) (outcomes settled_p k))) (λ k. ap (λ (l : List Outcome). not (is_read (member s k) l)) (after_same k)) ∙ none)
 
           second : (first_place s (λ k. not (is_checked (member s k) (outcomes settled_p k))) ≡ None) ⊎ (is_none (first_place s (λ k. not (is_checked (member s k) (outcomes settled_p k)))) ≡ false) → (k : ℕ) × (k < length s.drives) × (is_idle (after_mdt s p0) k ≡ false)
-          second (inl all) = absurd (false≢true (sym fails ∙ ap (λ (o : Option ℕ). is_none o) (same_first (λ k. ap (λ (l : List Outcome). not (is_checked (member s k) l)) (after_same k)) ∙ all)))
+          second (inl all) = absurd (false≢true (sym fails ∙ ap (λ (o : Option ℕ). is_none o) (same_first (λ k. not (is_checked (member s k) (outcomes (after_mdt s p0) k))) (λ k. not (is_checked (member s k) (outcomes settled_p k))) (λ k. ap (λ (l : List Outcome). not (is_checked (member s k) l)) (after_same k)) ∙ all)))
           second (inr some) =
               let f = found_some 0 (length s.drives) (λ k. not (is_checked (member s k) (outcomes settled_p k))) some in
               let low = f.below in
               let there : f.place < length s.drives = omega (arith, low) in
               (f.place, there, turn_works two free f.place there (rw (none, f.found) refl) (not_so _ f.passes) (λ many. planned read))
-
-      same_first : {f g : ℕ → Bool} → ((k : ℕ) → f k ≡ g k) → first_place s f ≡ first_place s g
-      same_first {f = f} {g = g} same = from_same (length s.drives) 0 f g same
 
   -- PHASE 3
   pub works_in_three : (k : ℕ) → k < length s.drives → (after_mdt s p0).now.phase ≡ 3 → (after_mdt s p0).stop ≡ None → is_some (after_mdt s p0).plan ≡ true → is_ready (member s k) (outcomes (after_mdt s p0) k) ≡ false →
