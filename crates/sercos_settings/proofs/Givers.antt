@@ -32,7 +32,7 @@ all_at p (y ∷ xs) (suc i) x all got = all_at p xs i x (and_parts (p y) (list_a
 abbrev pub are_away : ℕ → List Given → Bool
 are_away raw given = list_all (λ (g : Given). not (g.raw == raw)) given
 
-drop_away : (raw n : ℕ) (given : List Given) → are_away raw given ≡ true → are_away raw (drop n given) ≡ true
+pub drop_away : (raw n : ℕ) (given : List Given) → are_away raw given ≡ true → are_away raw (drop n given) ≡ true
 drop_away raw zero given all = all
 drop_away raw (suc n) [] all = refl
 drop_away raw (suc n) (g ∷ given) all = drop_away raw n given (and_parts (not (g.raw == raw)) _ all).1
@@ -87,16 +87,16 @@ given_heard blocks (Some a) begun raw is = by (answers_it begun a.status) is
     by false is = is
 
 -- THE CHECK FOR PHASE 3. The first tasks are reads.
-abbrev is_reading : Request → Bool
+abbrev pub is_reading : Request → Bool
 is_reading (request.Read i e) = true
 is_reading (request.Write i e bytes) = false
 is_reading (request.Command i) = false
 
-attributes_read : (idns : List Idn) → list_all is_reading (map (λ i. request.Read i 3) idns) ≡ true
+pub attributes_read : (idns : List Idn) → list_all is_reading (map (λ i. request.Read i 3) idns) ≡ true
 attributes_read [] = refl
 attributes_read (i ∷ idns) = attributes_read idns
 
-reading_away : (blocks : List Block) (raw : ℕ) (r : Request) → is_reading r ≡ true → are_away raw (given_by blocks r) ≡ true
+pub reading_away : (blocks : List Block) (raw : ℕ) (r : Request) → is_reading r ≡ true → are_away raw (given_by blocks r) ≡ true
 reading_away blocks raw (request.Read i e) is = refl
 reading_away blocks raw (request.Write i e bytes) is = absurd (cc)
 reading_away blocks raw (request.Command i) is = absurd (cc)

@@ -61,7 +61,7 @@ set_restarted d rate true calls set is = refl
 set_restarted d rate false calls set is = is
 
 -- a record that was processed was processed on the blocks and with the commands of the cycle
-commands_same : (v : View) (cycle stood : ℕ) (o : Option Said) (h : List Taken) → commands_after (processed_of v cycle stood o) h v.commands ≡ commands_with (write_of (processed_of v cycle stood o) h) v.blocks v.commands
+pub commands_same : (v : View) (cycle stood : ℕ) (o : Option Said) (h : List Taken) → commands_after (processed_of v cycle stood o) h v.commands ≡ commands_with (write_of (processed_of v cycle stood o) h) v.blocks v.commands
 commands_same v cycle stood None h = refl
 commands_same v cycle stood (Some s) h = by (v.mst_comes && nat_le 2 stood)
   where

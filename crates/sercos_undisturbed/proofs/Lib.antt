@@ -1,1 +1,9 @@
 pub mod Arrivals
+pub mod LogLeaves
+pub mod CheckLogs
+pub mod CheckTasks
+pub mod CheckedViews
+pub mod CommandCalls
+pub mod CommandRuns
+pub mod PassedRuns
+pub mod PassedCycles

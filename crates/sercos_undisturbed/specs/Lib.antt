@@ -1,1 +1,3 @@
 pub mod Undisturbed
+pub mod CommandsFollow
+pub mod ViewsSince
