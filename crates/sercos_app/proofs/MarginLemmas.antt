@@ -1,6 +1,7 @@
 -- A ring's drives declare times within their limits, and what is said of them is right.
-use Rattle.std.proofs.Common.{◌≡◌, ℕ, ◌<◌, ◌≤◌, List, length, map, Option, Result, Ok, Err, IfOk, OnErr, IfErr, refl, sym, ap, subst, ◌∙◌, arith}
+use Rattle.std.proofs.Common.{◌≡◌, ℕ, zero, suc, ◌<◌, ◌≤◌, true, List, [], ◌∷◌, length, map, get_or, Option, Result, Ok, Err, IfOk, OnErr, IfErr, refl, sym, subst, arith}
 use Rattle.std.specs.List.{All}
+use Rattle.std.proofs.lemmas.List.{length-map}
 use Rattle.sercos_timing.specs.Views.{WishesView, PlanView}
 use Rattle.sercos_timing.specs.Order.{no_wish, wish, times}
 use Rattle.sercos_timing.specs.declared.wishes.Times.{Times}
@@ -27,14 +28,17 @@ within ts Tmtsg are = are.tmtsg
 -- the times that the drive at a place declares
 times_at : (drives : List DriveView) (k : ℕ) → k < length drives → All (λ d. AreWithinLimits d.times) drives → AreWithinLimits (get_or (map wish_of drives) k no_wish).times
 times_at [] k below are = absurd (omega arith)
-times_at (d ∷ drives) zero below are = are zero d refl
-times_at (d ∷ drives) (suc k) below are = times_at drives k (omega (arith, below)) (λ i x at. are (suc i) x at)
+times_at (d ∷ drives) zero below are = are 0 d (omega arith)
+times_at (d ∷ drives) (suc k) below are = times_at drives k (omega (arith, below)) (λ i x within. are (suc i) x (omega (arith, within)))
 
 pub are_limited : (r : RingView) → IsRing r → AreLimited (wishes_of r)
 unfolding wishes_of
 are_limited r ring k t below =
-    let long : length (map wish_of r.drives) ≡ length r.drives = length-map wish_of r.drives in
+    let long : length (map wish_of r.drives) ≡ length r.drives = length-map r.drives wish_of in
     within (times (wishes_of r) k) t (times_at r.drives k (omega (arith, long, below)) ring.times)
+
+pub limited_wishes : (r : RingView) (w : WishesView) → w ≡ wishes_of r → ((r : RingView) → is_ring r ≡ true → IsRing r) → is_ring r ≡ true → AreLimited w
+limited_wishes r w is law ring = subst AreLimited (sym is) (are_limited r (law r ring))
 
 -- what the answer says
 pub are_margins : (w : WishesView) (cycle : Option ℕ) (made : Result PlanView ChainView) → IsLeastCycle w cycle → cycle ≡ least_cycle_of w
