@@ -1,1 +1,5 @@
 pub mod Arrivals
+pub mod Comes
+pub mod NoFalls
+pub mod AtsTaken
+pub mod SendsNext
