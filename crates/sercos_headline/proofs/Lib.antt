@@ -5,4 +5,4 @@ mod ApartCycles
 mod StopReads
 mod StopRuns
 mod WellRuns
-mod HeadlineRuns
+pub mod HeadlineRuns
