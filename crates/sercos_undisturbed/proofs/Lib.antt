@@ -3,3 +3,4 @@ pub mod Comes
 pub mod NoFalls
 pub mod AtsTaken
 pub mod SendsNext
+pub mod ChannelsKept
