@@ -4,3 +4,4 @@ pub mod NoFalls
 pub mod AtsTaken
 pub mod SendsNext
 pub mod ChannelsKept
+pub mod Identified
