@@ -5,3 +5,4 @@ pub mod AtsTaken
 pub mod SendsNext
 pub mod ChannelsKept
 pub mod Identified
+pub mod StaysUp
