@@ -6,3 +6,5 @@ pub mod SendsNext
 pub mod ChannelsKept
 pub mod Identified
 pub mod StaysUp
+pub mod PhaseCounts
+pub mod PhaseRuns
