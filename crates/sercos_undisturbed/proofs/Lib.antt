@@ -8,3 +8,4 @@ pub mod Identified
 pub mod StaysUp
 pub mod PhaseCounts
 pub mod PhaseRuns
+pub mod NeverFalls

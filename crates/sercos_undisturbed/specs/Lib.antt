@@ -1,2 +1,3 @@
 pub mod Undisturbed
 pub mod EpochStarts
+pub mod ViewsSince
