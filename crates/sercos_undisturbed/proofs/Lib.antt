@@ -9,3 +9,4 @@ pub mod StaysUp
 pub mod PhaseCounts
 pub mod PhaseRuns
 pub mod NeverFalls
+pub mod PhasesRise

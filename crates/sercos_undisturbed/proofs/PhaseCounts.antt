@@ -36,7 +36,7 @@ first_waits p start = record {
 }
 
 -- the end of a cycle at which the ring doesn't fall
-end_kept : (s : Known) (p : Past) → fall_of s p ≡ None → after_end s p ≡ goes_on (next_phase s p) p
+pub end_kept : (s : Known) (p : Past) → fall_of s p ≡ None → after_end s p ≡ goes_on (next_phase s p) p
 end_kept s p none = ap (λ o. if is_some o then new_epoch (p.cycle + 1) (still_waiting p) else goes_on (next_phase s p) p) none
 
 -- PHASE 0
