@@ -11,7 +11,7 @@ use Rattle.sercos_block.specs.Rings.{is_ring}
 use Rattle.sercos_block.specs.Views.{RingView}
 use Rattle.sercos_service_master.specs.Begun.{Said}
 use Rattle.sercos_drive.specs.declared.hearing.Told.{Told}
-use Rattle.sercos_drive.specs.Heard.{Mst, Mdt, mst_got, mdt_got}
+use Rattle.sercos_drive.specs.Heard.{Mst, mst_got, mdt_got}
 use Rattle.sercos_drive.specs.Moments.{phase_in, has_mst, blocks_in}
 use Rattle.sercos_drive.specs.Annals.{annals}
 use Rattle.sercos_trace.specs.Views.{CycleView}
