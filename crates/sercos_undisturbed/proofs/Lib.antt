@@ -1,4 +1,3 @@
-pub mod Arrivals
 pub mod LogLeaves
 pub mod CheckLogs
 pub mod CheckTasks
@@ -7,3 +6,14 @@ pub mod CommandCalls
 pub mod CommandRuns
 pub mod PassedRuns
 pub mod PassedCycles
+pub mod Comes
+pub mod NoFalls
+pub mod AtsTaken
+pub mod SendsNext
+pub mod ChannelsKept
+pub mod Identified
+pub mod StaysUp
+pub mod PhaseCounts
+pub mod PhaseRuns
+pub mod NeverFalls
+pub mod PhasesRise

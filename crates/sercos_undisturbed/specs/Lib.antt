@@ -1,3 +1,4 @@
 pub mod Undisturbed
 pub mod CommandsFollow
+pub mod EpochStarts
 pub mod ViewsSince

@@ -7,6 +7,7 @@ use Rattle.sercos_script.specs.Links.{Carry, Restarts}
 use Rattle.sercos_handshake.specs.Views.{View}
 use Rattle.sercos_views.specs.RingViews.{view_of}
 
+-- what these cycles are for the drive at a place
 abbrev pub views_since : RingView → List Job → Carry → Restarts → ℕ → List CycleView → List CycleView → List View
 views_since r jobs carry restarts k [] before = []
 views_since r jobs carry restarts k (t ∷ cycles) before = view_of r jobs carry restarts k t (cycles ++ before) ∷ views_since r jobs carry restarts k cycles before

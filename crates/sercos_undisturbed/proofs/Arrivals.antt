@@ -1,1 +1,0 @@
--- In an undisturbed cycle each telegram arrives as it was sent.

@@ -1,0 +1,79 @@
+-- A drive that is addressed in a cycle of phase 1 sends its AT in the next.
+use Rattle.std.proofs.Common.{◌≡◌, ℕ, ◌||◌, Bool, true, not, ◌&&◌, List, ◌∷◌, length, Option, Some, None, refl, ◌∙◌, ap, arith, if◌then◌else◌}
+use Rattle.std.specs.Prelude.{◌==◌, nat_le, is_some, is_none, slice_index}
+use Rattle.sercos_telegram.specs.Faults.{at_fault}
+use Rattle.sercos_telegram.proofs.Spellings.{head_fault-none}
+use Rattle.sercos_block.specs.Views.{DriveView}
+use Rattle.sercos_service_drive.specs.Says.{Shown, drive_says as channel_says}
+use Rattle.sercos_drive.specs.declared.hearing.Told.{Told}
+use Rattle.sercos_drive.specs.Heard.{DriveCall, Mst, Mdt, mst_got, mdt_got}
+use Rattle.sercos_drive.specs.Moments.{Moment, phase_in, cycle_in, has_mst, has_taken, has_missed, taken_in, blocks_in, commands_in}
+use Rattle.sercos_drive.specs.Annals.{annals, stands_in, takes}
+use Rattle.sercos_drive.specs.Says.{Said, said, said_in, sends, shown_word, values_in}
+use Rattle.sercos_seat.proofs.Sends.{fields_length}
+
+ends_one : (n : ℕ) (b : Bool) → n ≡ 1 → (if nat_le 3 n && b then 0 else n) ≡ 1
+ends_one n b one = rw one refl
+
+stands_one : (n other : ℕ) → n ≡ 1 → (if 1 == n then 1 else other) ≡ 1
+stands_one n other one = rw one refl
+
+took_one : (got : Bool) (n : ℕ) (some : Bool) → got ≡ true → n ≡ 1 → some ≡ true → (got && (nat_le 1 n && some)) ≡ true
+took_one got n some a b c = rw (a, b, c) refl
+
+sends_one : (got : Bool) (n : ℕ) (took : Bool) → got ≡ true → n ≡ 1 → took ≡ true → (got && (nat_le 3 n || (nat_le 1 n && took))) ≡ true
+sends_one got n took a b c = rw (a, b, c) refl
+
+-- what it sends
+pub record SaysOne (d : DriveView) (rate : ℕ) (past : List Moment) : Type 0 where
+  pub says : Said
+  pub said_is : said_in d rate past ≡ Some says
+  pub head : slice_index says.content 0 ≡ d.address
+  pub reads : is_none (at_fault d.address 4 says.content) ≡ true
+
+no_values : (cycle : ℕ) (n : ℕ) (d : DriveView) (past : List Moment) → n ≡ 1 → length (values_in cycle n (blocks_in d past)) ≡ 0
+no_values cycle n d past one = rw one refl
+
+says_one : (d : DriveView) (rate : ℕ) (past : List Moment) → sends past ≡ true → phase_in past ≡ 1 → SaysOne d rate past
+says_one d rate past sending one = record {
+  says = what;
+  said_is = ap (λ (b : Bool). if b then Some what else None) sending;
+  head = refl;
+  reads = ap (λ o. is_none o) (head_fault-none 5 d.address what.content long refl);
+}
+  where
+    shows : Shown
+    shows = channel_says d.busy (cycle_in past) (commands_in d rate past) (taken_in past)
+
+    what : Said
+    what = said d.address (cycle_in past) (phase_in past) (blocks_in d past) (channel_says d.busy (cycle_in past) (commands_in d rate past) (taken_in past))
+
+    long : length what.content ≡ 5
+    long =
+        let a = fields_length (shown_word shows) shows.word (values_in (cycle_in past) (phase_in past) (blocks_in d past)) in
+        let b = no_values (cycle_in past) (phase_in past) d past one in
+        omega (arith, a, b)
+
+pub sends_next : (d : DriveView) (rate cycle : ℕ) (h : List DriveCall) (mdt mst : Option (List ℕ)) → has_mst (annals d rate h) ≡ true → phase_in (annals d rate h) ≡ 1
+    → is_some (mdt_got d.address (phase_in (annals d rate h)) (blocks_in d (annals d rate h)) mdt) ≡ true → mst_got mst ≡ Some 1
+    → SaysOne d rate (annals d rate (Mst cycle mst ∷ Mdt mdt ∷ h))
+sends_next d rate cycle h mdt mst got one told comes = says_one d rate (annals d rate (Mst cycle mst ∷ Mdt mdt ∷ h)) sending stood
+  where
+    past : List Moment
+    past = annals d rate h
+
+    what : Option Told
+    what = mdt_got d.address (phase_in past) (blocks_in d past) mdt
+
+    ended : phase_in (annals d rate (Mdt mdt ∷ h)) ≡ 1
+    ended = ends_one (phase_in past) (not (takes what past) && has_missed past) one
+
+    stood : phase_in (annals d rate (Mst cycle mst ∷ Mdt mdt ∷ h)) ≡ 1
+    stood = ap (λ (o : Option ℕ). stands_in d rate cycle o (annals d rate (Mdt mdt ∷ h))) comes
+        ∙ stands_one (phase_in (annals d rate (Mdt mdt ∷ h))) _ ended
+
+    took : has_taken (annals d rate (Mdt mdt ∷ h)) ≡ true
+    took = took_one (has_mst past) (phase_in past) (is_some what) got one told
+
+    sending : sends (annals d rate (Mst cycle mst ∷ Mdt mdt ∷ h)) ≡ true
+    sending = sends_one (is_some (mst_got mst)) (phase_in (annals d rate (Mst cycle mst ∷ Mdt mdt ∷ h))) (has_taken (annals d rate (Mdt mdt ∷ h))) (ap (λ (o : Option ℕ). is_some o) comes) stood took
