@@ -1,4 +1,4 @@
--- In an undisturbed epoch the ring never falls, if every cycle of it is whole for each drive up to its end, and the checks are passed.
+-- In an undisturbed epoch the ring never falls, if every cycle of it is whole for each drive up to its end.
 use Rattle.std.proofs.Common.{◌≡◌, ℕ, zero, suc, ◌<◌, ◌≤◌, true, false, List, [], ◌∷◌, ◌++◌, length, Option, None, refl, sym, ap, subst, arith}
 use Rattle.std.specs.Prelude.{nat_le, is_some, slice_index_or}
 use Rattle.std.proofs.lemmas.Bool.{and_parts}
@@ -26,13 +26,8 @@ use Rattle.sercos_headline.proofs.HeadlineRuns.{MoreLaws, all_stand}
 use Rattle.sercos_undisturbed.specs.Undisturbed.{IsUndisturbed, AreUndisturbed}
 use Rattle.sercos_undisturbed.specs.EpochStarts.{StartsEpoch}
 use Rattle.sercos_undisturbed.specs.ViewsSince.{views_since}
+use Rattle.sercos_undisturbed.proofs.PassedCycles.{views_split, passed_undisturbed}
 use Rattle.sercos_undisturbed.proofs.StaysUp.{stays_up}
-
--- the views of a journal are those of its newest cycles and of the others
-pub views_split : (r : RingView) (jobs : List Job) (carry : Carry) (restarts : Restarts) (k : ℕ) (cycles before : List CycleView)
-    → views_of r jobs carry restarts k (cycles ++ before) ≡ views_since r jobs carry restarts k cycles before ++ views_of r jobs carry restarts k before
-views_split r jobs carry restarts k [] before = refl
-views_split r jobs carry restarts k (t ∷ cycles) before = ap (λ (l : List View). view_of r jobs carry restarts k t (cycles ++ before) ∷ l) (views_split r jobs carry restarts k cycles before)
 
 -- an epoch of the ring is one of each channel
 pub begins_so : (r : RingView) (jobs : List Job) (carry : Carry) (restarts : Restarts) (k : ℕ) (before : List CycleView) → StartsEpoch r jobs carry restarts before → BeginsEpoch (views_of r jobs carry restarts k before)
@@ -76,8 +71,7 @@ pub record AllWhole (r : RingView) (jobs : List Job) (carry : Carry) (restarts :
 
 module _ (laws : Laws) (more : MoreLaws) (comes_up : (busy : ℕ) → ComesUp busy) (late : (busy : ℕ) → NoneLate busy) (r : RingView) (jobs : List Job) (carry : Carry) (restarts : Restarts) (opened : IsOpened r jobs)
     (whole_in : (t : CycleView) (j : List CycleView) → IsRun r jobs carry restarts (t ∷ j) → IsClear (t ∷ j) → IsUndisturbed r carry restarts t j → (k : ℕ) → k < length r.drives
-    → IsWhole (staying (view_of r jobs carry restarts k t j)) (views_of r jobs carry restarts k j))
-    (passed_in : (t : CycleView) (j : List CycleView) → IsRun r jobs carry restarts (t ∷ j) → IsClear (t ∷ j) → (k : ℕ) → k < length r.drives → IsPassed (view_of r jobs carry restarts k t j) (views_of r jobs carry restarts k j)) where
+    → IsWhole (staying (view_of r jobs carry restarts k t j)) (views_of r jobs carry restarts k j)) where
   -- the next cycle
   whole_next : (t : CycleView) (cycles before : List CycleView) → IsRun r jobs carry restarts (t ∷ (cycles ++ before)) → IsClear (t ∷ (cycles ++ before)) → StartsEpoch r jobs carry restarts before
       → AreUndisturbed r carry restarts (t ∷ cycles) before → AllWhole r jobs carry restarts cycles before → AllWhole r jobs carry restarts (t ∷ cycles) before
@@ -91,7 +85,7 @@ module _ (laws : Laws) (more : MoreLaws) (comes_up : (busy : ℕ) → ComesUp bu
       whole_up k below = subst (λ (l : List View). IsWhole (staying (view_of r jobs carry restarts k t (cycles ++ before))) l) (views_split r jobs carry restarts k cycles before) (whole_in t (cycles ++ before) run clear calm.1 k below)
 
       passes : (k : ℕ) → k < length r.drives → IsPassed (view_of r jobs carry restarts k t (cycles ++ before)) (views_since r jobs carry restarts k cycles before ++ views_of r jobs carry restarts k before)
-      passes k below = subst (λ (l : List View). IsPassed (view_of r jobs carry restarts k t (cycles ++ before)) l) (views_split r jobs carry restarts k cycles before) (passed_in t (cycles ++ before) run clear k below)
+      passes k below = subst (λ (l : List View). IsPassed (view_of r jobs carry restarts k t (cycles ++ before)) l) (views_split r jobs carry restarts k cycles before) (passed_undisturbed laws more r jobs carry restarts opened t (cycles ++ before) run clear k below calm.1)
 
       in_time : (k : ℕ) → k < length r.drives → (cycles_open (calls_in (view_of r jobs carry restarts k t (cycles ++ before)) (channel_calls (views_of r jobs carry restarts k (cycles ++ before)))) ≤ (drive_at r k).busy)
           × (3 ≤ t.phase → is_some (view_of r jobs carry restarts k t (cycles ++ before)).heard ≡ true)
