@@ -141,19 +141,19 @@ real_bits : (rate : ℕ) (mst : List ℕ) (ats : List Said) (m : Option Sent) �
 real_bits rate mst ats m = All-cons (λ (s : SentView). s.bits ≡ length (frame_of s.content)) (sent_mst mst) (ats_said rate ats ++ sent_mdt rate m) refl (real_ats rate ats m)
 
 module _ (laws : Laws) (more : MoreLaws) (r : RingView) (jobs : List Job) (carry : Carry) (restarts : Restarts) (opened : IsOpened r jobs) where
-  first_store : (k : ℕ) → k < length r.drives → IsStore (store_of (drive_at r k))
+  pub first_store : (k : ℕ) → k < length r.drives → IsStore (store_of (drive_at r k))
   first_store k below = (more.always r carry restarts [] k opened.valid opened.typed below).store
 
-  stored_in : (t : CycleView) (j : List CycleView) (k : ℕ) → k < length r.drives → IsStored (drive_at r k) (blocks_in (drive_at r k) (after_mst r carry restarts t.sent j k))
+  pub stored_in : (t : CycleView) (j : List CycleView) (k : ℕ) → k < length r.drives → IsStored (drive_at r k) (blocks_in (drive_at r k) (after_mst r carry restarts t.sent j k))
   stored_in t j k below = (
     (more.within r carry restarts t.sent j k opened.valid opened.typed below).store,
     (store_of_so more.keep more.allows more.those (drive_at r k) r.rate (given_mst carry restarts t.sent j k) (first_store k below).ascending).0,
   )
 
-  spelled_in : (t : CycleView) (j : List CycleView) → IsNext r jobs carry restarts t j → IsSpelled r jobs carry restarts t j
+  pub spelled_in : (t : CycleView) (j : List CycleView) → IsNext r jobs carry restarts t j → IsSpelled r jobs carry restarts t j
   spelled_in t j next = more.spelled r jobs carry restarts t j opened.valid opened.typed opened.jobs_typed next
 
-  all_stand : (j : List CycleView) → IsRun r jobs carry restarts j → IsClear j → AllStand r jobs carry restarts j
+  pub all_stand : (j : List CycleView) → IsRun r jobs carry restarts j → IsClear j → AllStand r jobs carry restarts j
   all_stand [] run clear = all_first r jobs carry restarts
   all_stand (t ∷ j) (run, next) (before, clear) =
       all_next laws r jobs carry restarts opened first_store t j next clear (spelled_in t j next) (stored_in t j) (all_stand j run before)

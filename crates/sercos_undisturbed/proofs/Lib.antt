@@ -1,2 +1,4 @@
 pub mod Arrivals
 pub mod Taken
+pub mod Addressed
+pub mod Speaking
