@@ -60,7 +60,7 @@ is_place_some : (k : ℕ) (o : Option ℕ) → is_place k o ≡ true → o ≡ S
 is_place_some k None is = cc
 is_place_some k (Some i) is = ap (λ (n : ℕ). Some n) (sym (eqb-true k i is))
 
-place_some : (k : ℕ) (o : Option ℕ) → o ≡ Some k → is_place k o ≡ true
+pub place_some : (k : ℕ) (o : Option ℕ) → o ≡ Some k → is_place k o ≡ true
 place_some k o is = let same : (k == k) ≡ true = grind (arith, nat_tests) in ap (is_place k) is ∙ same
 
 not_true : (a : Bool) → not a ≡ true → a ≡ false

@@ -2,3 +2,5 @@ pub mod Arrivals
 pub mod Taken
 pub mod Addressed
 pub mod Speaking
+pub mod Phases
+pub mod Sending
