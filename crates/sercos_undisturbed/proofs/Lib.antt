@@ -4,3 +4,4 @@ pub mod Addressed
 pub mod Speaking
 pub mod Phases
 pub mod Sending
+pub mod MdtComes

@@ -1,61 +1,31 @@
 -- What the master sends in a cycle of a clear run.
-use Rattle.std.proofs.Common.{◌≡◌, ◌⊎◌, inl, inr, ℕ, zero, suc, ◌+◌, ◌<◌, ◌≤◌, Bool, true, false, not, ◌&&◌, List, [], ◌∷◌, length, Option, Some, None, refl, sym, ◌∙◌, ap, ap₂, subst, arith, if◌then◌else◌}
-use Rattle.std.specs.Prelude.{◌==◌, nat_le, slice_index, is_some, is_none}
-use Rattle.std.proofs.lemmas.Bool.{cases_eq, and_from, and_parts, cond-false, false≢true, leb-true, le-leb}
-use Rattle.std.proofs.lemmas.Bool.Decides.{nat_tests}
-use Rattle.sercos_telegram.specs.declared.layout.Kind.TheVariants as kinds
-use Rattle.sercos_telegram.specs.Faults.{at_fault}
-use Rattle.sercos_telegram.specs.Spells.{mst_content}
+use Rattle.std.proofs.Common.{◌≡◌, ℕ, ◌<◌, ◌≤◌, Bool, true, false, List, ◌∷◌, length, Option, Some, None, refl, sym, ◌∙◌, ap, subst}
+use Rattle.std.specs.Prelude.{nat_le, is_some, is_none}
 use Rattle.sercos_step.specs.declared.request.Job.{Job}
-use Rattle.sercos_step.specs.declared.step.Step.{Step}
-use Rattle.sercos_timing.specs.Views.{PlanView}
-use Rattle.sercos_block.specs.Rings.{wishes_of}
 use Rattle.sercos_block.specs.Stores.{IsStore, store_of}
-use Rattle.sercos_block.specs.Views.{DriveView, RingView}
-use Rattle.sercos_service_master.specs.Begun.{Begun, Said, open_in}
+use Rattle.sercos_block.specs.Views.{RingView}
+use Rattle.sercos_service_master.specs.Begun.{Begun, open_in}
 use Rattle.sercos_service_master.specs.Calls.{begun_by}
-use Rattle.sercos_drive.specs.Heard.{mst_got, mdt_got}
-use Rattle.sercos_drive.specs.Moments.{Moment, phase_in, cycle_in, has_mst, has_taken, blocks_in}
-use Rattle.sercos_drive.specs.Annals.{annals}
-use Rattle.sercos_drive.specs.Says.{sends, values_in}
+use Rattle.sercos_drive.specs.Moments.{phase_in, has_mst, blocks_in}
 use Rattle.sercos_trace.specs.Views.{CycleView}
-use Rattle.sercos_seat.specs.Agenda.{reads, wishes_given}
-use Rattle.sercos_seat.specs.Agenda as seat
-use Rattle.sercos_seat.specs.Channel.{is_place}
-use Rattle.sercos_seat.specs.Ring.{Known, MemberView, member, member_of, known_of, tasks_for}
-use Rattle.sercos_startup.specs.Answers.{AreAnswers}
-use Rattle.sercos_master.specs.Annals.{Past, outcomes, place_of, is_idle, is_awaited, wanted_len, addressed_before, fall_of, next_phase, new_epoch, still_waiting, goes_on}
-use Rattle.sercos_master.specs.Says.{Sent, mdt_said}
+use Rattle.sercos_seat.specs.Ring.{member, known_of, tasks_for}
+use Rattle.sercos_master.specs.Annals.{is_idle}
 use Rattle.sercos_master.proofs.Laws.{tasks_wait}
 use Rattle.sercos_script.specs.Links.{Carry, Restarts}
-use Rattle.sercos_handshake.specs.Views.{View, standing, stood_in, before_mst, moved, got_in, afresh, Standing}
-use Rattle.sercos_handshake.specs.Epochs.{command, epoch_begun, begun_in}
-use Rattle.sercos_handshake.proofs.PhaseMoves.{ends}
-use Rattle.sercos_handshake.proofs.RunFacts.{comes_to}
-use Rattle.sercos_journal.specs.Arrivals.{heard, passage}
-use Rattle.sercos_journal.specs.Records.{mst_in, ats_in, mdt_in}
-use Rattle.sercos_journal.specs.Runs.{drive_at, with_restart, own_mst, begins, given_before, given_mst, master_calls, looks_back, middle, mdt_heard, said_below, contents, content_of, disturbs_mdt, disturbs_ats, IsRun, IsClear}
-use Rattle.sercos_journal.proofs.RunLemmas.{ats_in-said, mdt_in-said}
+use Rattle.sercos_handshake.specs.Views.{standing, stood_in}
+use Rattle.sercos_handshake.specs.Epochs.{begun_in}
+use Rattle.sercos_journal.specs.Runs.{drive_at, middle, IsRun, IsClear}
 use Rattle.sercos_agenda.specs.Turns.{HasTurn, WorkInTurn}
-use Rattle.sercos_views.specs.RingViews.{at_start, behind_mst, behind_ats, behind_mdt, heard_last, told_to, is_told, gets_record, phase_got, after_mst, view_of, views_of}
-use Rattle.sercos_views.proofs.MasterSame.{begun_cycle}
-use Rattle.sercos_views.proofs.Members.{all_said, member_is, members_count, IsWhole as IsWholeContent}
-use Rattle.sercos_views.proofs.Codecs.{mst_clear}
-use Rattle.sercos_views.proofs.Received.{Agrees}
-use Rattle.sercos_views.proofs.ViewRuns.{IsSpelled, command_below, started}
+use Rattle.sercos_views.specs.RingViews.{at_start, behind_ats, behind_mdt, told_to, after_mst, view_of, views_of}
+use Rattle.sercos_views.proofs.Members.{members_count}
+use Rattle.sercos_views.proofs.ViewRuns.{IsSpelled}
 use Rattle.sercos_held.specs.Opened.{IsOpened}
 use Rattle.sercos_held.specs.Stored.{IsStored}
-use Rattle.sercos_held.proofs.Runs.{Laws, AllStand, IsPlannedIn, wishes_so, answers_at, phase_same, rules, holding, agrees, kept_at_mst, begun_then}
+use Rattle.sercos_held.proofs.Runs.{Laws, AllStand, phase_same, holding, kept_at_mst, begun_then}
 use Rattle.sercos_headline.proofs.HeadlineRuns.{MoreLaws, first_store, stored_in, spelled_in, all_stand}
-use Rattle.sercos_pace.specs.Passages.{was_addressed, IsWhole}
-use Rattle.sercos_pace.specs.ChannelCalls.{staying}
 use Rattle.sercos_pace.proofs.WholeCycles.{open_late}
-use Rattle.sercos_undisturbed.specs.Undisturbed.{IsUndisturbed}
-use Rattle.sercos_undisturbed.proofs.Arrivals.{heard_sent, AllArrive, all_arrive, AllHeard, all_heard}
-use Rattle.sercos_undisturbed.proofs.Taken.{Waits, Took, IsAmong, own_taken, among_said}
-use Rattle.sercos_undisturbed.proofs.Addressed.{place_found, place_some, addressed_open, told_if, told_then, told_late, told_one, told_early, IsTold, told_got}
-use Rattle.sercos_undisturbed.proofs.Speaking.{Speaks, speaks, sends_late, sends_early, at_sound, no_values, asked_len, carried_so}
-use Rattle.sercos_undisturbed.proofs.Phases.{late_so, early_so, two_so, is_late, not_late, is_up, two_late, one_two, not_up, later_so, same_two, next_station, first_station, up_at, was_two}
+use Rattle.sercos_undisturbed.proofs.Addressed.{addressed_open, told_if, told_late, told_one}
+use Rattle.sercos_undisturbed.proofs.Phases.{late_so, two_so}
 
 not_none : {A : Type 0} (o : Option A) → is_some o ≡ true → is_none o ≡ false
 not_none None some = cc
@@ -116,4 +86,3 @@ module _ (laws : Laws) (more : MoreLaws) (turn : WorkInTurn) (r : RingView) (job
         by false is two =
             told_if (behind_mdt r jobs carry restarts t.sent j) k (told_one (behind_mdt r jobs carry restarts t.sent j) k
             (addressed_open (known_of r) (behind_ats r jobs carry restarts t.sent j) k (subst (λ (n : ℕ). k < n) (sym (members_count r)) below) turns (phase_then ∙ two_so t.phase is two) not_idle))
-
