@@ -5,3 +5,4 @@ pub mod Speaking
 pub mod Phases
 pub mod Sending
 pub mod MdtComes
+pub mod AtsCome
