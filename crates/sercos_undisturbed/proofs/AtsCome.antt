@@ -94,9 +94,9 @@ module _ (laws : Laws) (more : MoreLaws) (turn : WorkInTurn) (r : RingView) (job
     -- in phases 3 and 4 each is
     pub listens_in : (k : ℕ) → k < length r.drives → 3 ≤ t.phase → 1 ≤ stood_in (view_of r jobs carry restarts k t j) (standing (views_of r jobs carry restarts k j)) → is_some (view_of r jobs carry restarts k t j).heard ≡ true
     listens_in k below late up =
-        let stands = (stands_in laws more turn r jobs carry restarts opened t j run clear undisturbed) k below up in
+        let stands = stands_in laws more turn r jobs carry restarts opened t j run clear undisturbed k below up in
         let first : t.phase ≡ (behind_mst r jobs carry restarts t.sent j).now.phase = run.1.phase in
         let three : nat_le 3 (behind_mst r jobs carry restarts t.sent j).now.phase ≡ true = ap (nat_le 3) (sym first) ∙ is_late t.phase late in
         (taken_if k below stands
         (ap (λ (b : Bool). if b then true else (nat_le 1 (behind_mst r jobs carry restarts t.sent j).now.phase && is_place k (addressed_before (behind_mst r jobs carry restarts t.sent j).turns))) three)
-        (sends_late (after_mst r carry restarts t.sent j k) ((mst_is laws more turn r jobs carry restarts opened t j run clear) k below ∙ (mst_came laws more turn r jobs carry restarts opened t j run clear undisturbed) k below) (subst (λ (n : ℕ). 3 ≤ n) (sym stands) late))).last (subst (λ (n : ℕ). 2 ≤ n) first (two_late t.phase late))
+        (sends_late (after_mst r carry restarts t.sent j k) (mst_is laws more turn r jobs carry restarts opened t j run clear k below ∙ mst_came laws more turn r jobs carry restarts opened t j run clear undisturbed k below) (subst (λ (n : ℕ). 3 ≤ n) (sym stands) late))).last (subst (λ (n : ℕ). 2 ≤ n) first (two_late t.phase late))

@@ -6,3 +6,4 @@ pub mod Phases
 pub mod Sending
 pub mod MdtComes
 pub mod AtsCome
+pub mod Hears

@@ -70,7 +70,7 @@ module _ (laws : Laws) (more : MoreLaws) (turn : WorkInTurn) (r : RingView) (job
         ∙ mst_clear (at_start r jobs carry restarts j).now.phase (Some (mst_content (at_start r jobs carry restarts j).now.phase)) low (inr refl))
 
     pub stands_in : (k : ℕ) → k < length r.drives → 1 ≤ stood_in (view_of r jobs carry restarts k t j) (standing (views_of r jobs carry restarts k j)) → phase_in (after_mst r carry restarts t.sent j k) ≡ t.phase
-    stands_in k below up = (stood_is laws more turn r jobs carry restarts opened t j run clear) k below ∙ by (more.commanded (view_of r jobs carry restarts k t j) (views_of r jobs carry restarts k j) (mst_came k below)) up
+    stands_in k below up = stood_is laws more turn r jobs carry restarts opened t j run clear k below ∙ by (more.commanded (view_of r jobs carry restarts k t j) (views_of r jobs carry restarts k j) (mst_came k below)) up
       where
         by : (stood_in (view_of r jobs carry restarts k t j) (standing (views_of r jobs carry restarts k j)) ≡ 0) ⊎ (stood_in (view_of r jobs carry restarts k t j) (standing (views_of r jobs carry restarts k j)) ≡ t.phase)
             → 1 ≤ stood_in (view_of r jobs carry restarts k t j) (standing (views_of r jobs carry restarts k j)) → stood_in (view_of r jobs carry restarts k t j) (standing (views_of r jobs carry restarts k j)) ≡ t.phase
@@ -82,7 +82,7 @@ module _ (laws : Laws) (more : MoreLaws) (turn : WorkInTurn) (r : RingView) (job
         → gets_record r carry restarts t.sent j k ≡ true
     mdt_came k below some up =
         let stands = stands_in k below up in
-        let one : 1 ≤ (behind_mdt r jobs carry restarts t.sent j).now.phase = subst (λ (n : ℕ). 1 ≤ n) (sym ((stood_is laws more turn r jobs carry restarts opened t j run clear) k below) ∙ stands ∙ sym (phase_then laws more turn r jobs carry restarts opened t j run clear)) up in
+        let one : 1 ≤ (behind_mdt r jobs carry restarts t.sent j).now.phase = subst (λ (n : ℕ). 1 ≤ n) (sym (stood_is laws more turn r jobs carry restarts opened t j run clear k below) ∙ stands ∙ sym (phase_then laws more turn r jobs carry restarts opened t j run clear)) up in
         let told : IsTold r (behind_mdt r jobs carry restarts t.sent j) k (blocks_in (drive_at r k) (after_mst r carry restarts t.sent j k)) =
         told_got r (behind_mdt r jobs carry restarts t.sent j) k (blocks_in (drive_at r k) (after_mst r carry restarts t.sent j k)) opened.valid below one (told_then (behind_mdt r jobs carry restarts t.sent j) k some) (spelled laws more turn r jobs carry restarts opened t j run clear).said
         (λ late. planned late (stands ∙ sym (phase_then laws more turn r jobs carry restarts opened t j run clear))) in
