@@ -7,6 +7,7 @@ use Rattle.sercos_block.specs.Views.{RingView}
 use Rattle.sercos_service_master.specs.Begun.{Begun, open_in}
 use Rattle.sercos_drive.specs.Moments.{phase_in, has_mst, has_taken}
 use Rattle.sercos_drive.specs.Annals.{annals}
+use Rattle.sercos_drive.specs.Says.{sends}
 use Rattle.sercos_trace.specs.Views.{CycleView}
 use Rattle.sercos_seat.specs.Channel.{is_place}
 use Rattle.sercos_seat.specs.Ring.{known_of}
@@ -16,6 +17,7 @@ use Rattle.sercos_handshake.specs.Views.{View, standing, stood_in, before_mst, m
 use Rattle.sercos_handshake.specs.Epochs.{command, epoch_begun, begun_in}
 use Rattle.sercos_handshake.proofs.PhaseMoves.{ends}
 use Rattle.sercos_handshake.proofs.RunFacts.{comes_to}
+use Rattle.sercos_journal.specs.Arrivals.{heard}
 use Rattle.sercos_journal.specs.Runs.{drive_at, with_restart, given_before, IsRun, IsClear}
 use Rattle.sercos_agenda.specs.Turns.{WorkInTurn}
 use Rattle.sercos_views.specs.RingViews.{behind_mst, behind_mdt, after_mst, view_of, views_of}
@@ -25,9 +27,11 @@ use Rattle.sercos_headline.proofs.HeadlineRuns.{MoreLaws}
 use Rattle.sercos_pace.specs.Passages.{was_addressed}
 use Rattle.sercos_undisturbed.specs.Undisturbed.{IsUndisturbed}
 use Rattle.sercos_undisturbed.proofs.Addressed.{place_some, told_then, told_early}
+use Rattle.sercos_undisturbed.proofs.Speaking.{sends_early}
 use Rattle.sercos_undisturbed.proofs.Phases.{not_late, is_up, one_two, not_up, later_so, same_two, up_at, was_two}
 use Rattle.sercos_undisturbed.proofs.Sending.{stand, stood_is, mst_is, phase_then}
-use Rattle.sercos_undisturbed.proofs.MdtComes.{drive_in, start_is, commanded_in, mst_came}
+use Rattle.sercos_undisturbed.proofs.MdtComes.{drive_in, start_is, commanded_in, mst_came, stands_in}
+use Rattle.sercos_undisturbed.proofs.AtsCome.{taken_if}
 
 -- the parts of a record that came
 got_parts : (v : View) → is_some (got_in v) ≡ true → (v.mdt_comes ≡ true) × (is_some v.sent ≡ true)
@@ -114,3 +118,12 @@ module _ (laws : Laws) (more : MoreLaws) (turn : WorkInTurn) (r : RingView) (job
         ∙ and_from (nat_le 1 (behind_mst r jobs carry restarts t.sent (u ∷ j)).now.phase) _ one
         (ap (is_place k) before_is ∙ place_some k (behind_mdt r jobs carry restarts u.sent j).now.addressed
         (told_early (behind_mdt r jobs carry restarts u.sent j) k at_mdt (told_then (behind_mdt r jobs carry restarts u.sent j) k got.1)))
+
+    -- so the master hears it
+    pub hears_early : t.phase ≤ 2 → is_some (view_of r jobs carry restarts k t (u ∷ j)).heard ≡ true
+    hears_early early =
+        let stands : phase_in (after_mst r carry restarts t.sent (u ∷ j) k) ≡ t.phase = stands_in laws more turn r jobs carry restarts opened t (u ∷ j) run clear undisturbed k below up in
+        let first : t.phase ≡ (behind_mst r jobs carry restarts t.sent (u ∷ j)).now.phase = run.1.phase in
+        let here : 1 ≤ phase_in (after_mst r carry restarts t.sent (u ∷ j) k) = subst (λ (n : ℕ). 1 ≤ n) (sym stands) (one_two t.phase two) in
+        let sent : sends (after_mst r carry restarts t.sent (u ∷ j) k) ≡ true = sends_early (after_mst r carry restarts t.sent (u ∷ j) k) (mst_is laws more turn r jobs carry restarts opened t (u ∷ j) run clear k below ∙ mst_came laws more turn r jobs carry restarts opened t (u ∷ j) run clear undisturbed k below) here (took early) in
+        (taken_if laws more turn r jobs carry restarts opened t (u ∷ j) run clear undisturbed k below stands (awaited early) sent).last (subst (λ (n : ℕ). 2 ≤ n) first two)

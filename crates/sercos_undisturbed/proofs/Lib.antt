@@ -7,3 +7,4 @@ pub mod Sending
 pub mod MdtComes
 pub mod AtsCome
 pub mod Hears
+pub mod WholeIn
