@@ -17,7 +17,7 @@ use Rattle.sercos_command.specs.Checks.{number_at}
 use Rattle.sercos_seat.specs.Agenda.{mdt_attributes}
 use Rattle.sercos_seat.specs.Channel.{is_place}
 use Rattle.sercos_seat.specs.Records.{record_said, values_said}
-use Rattle.sercos_seat.specs.Ring.{Known, MemberView, member, member_of, known_of}
+use Rattle.sercos_seat.specs.Ring.{Known, MemberView, member, known_of}
 use Rattle.sercos_master.specs.Annals.{Past, outcomes, first_from, first_place, place_of, is_idle, is_identified, in_turn, ready_to_send, is_sent_to, addressed_in, after_mdt}
 use Rattle.sercos_master.specs.Says.{Sent, idle, said_to, record_to, records_from, single, joint, mdt_said}
 use Rattle.sercos_agenda.specs.Turns.{HasTurn}
@@ -54,7 +54,10 @@ place_found r k valid below =
     let same : ((drive_at r k).address == (drive_at r k).address) ≡ true = grind (arith, nat_tests) in
     let mine : ((member (known_of r) k).address == (drive_at r k).address) ≡ true = ap (λ (m : MemberView). m.address == (drive_at r k).address) (member_is r k) ∙ same in
     let one = finds 0 (length (known_of r).drives) k (λ i. (member (known_of r) i).address == (drive_at r k).address) (omega arith) (omega (arith, below, count)) mine in
-    one.found ∙ ap (λ (i : ℕ). Some i) (sym (place_is r k one.place valid below one.found))
+    by one.place one.found
+  where
+    by : (m : ℕ) → place_of (known_of r) (drive_at r k).address ≡ Some m → place_of (known_of r) (drive_at r k).address ≡ Some k
+    by m found = found ∙ ap (λ (i : ℕ). Some i) (sym (place_is r k m valid below found))
 
 is_place_some : (k : ℕ) (o : Option ℕ) → is_place k o ≡ true → o ≡ Some k
 is_place_some k None is = cc

@@ -16,7 +16,6 @@ use Rattle.sercos_master.specs.Annals.{Past, outcomes, place_of, is_awaited, wan
 use Rattle.sercos_master.specs.Says.{mdt_said}
 use Rattle.sercos_script.specs.Links.{Carry, Restarts}
 use Rattle.sercos_handshake.specs.Views.{standing, stood_in}
-use Rattle.sercos_journal.specs.Arrivals.{heard}
 use Rattle.sercos_journal.specs.Records.{mst_in, ats_in}
 use Rattle.sercos_journal.specs.Runs.{drive_at, own_mst, begins, given_mst, said_below, contents, disturbs_ats, IsRun, IsClear}
 use Rattle.sercos_journal.proofs.RunLemmas.{ats_in-said}

@@ -17,7 +17,6 @@ use Rattle.sercos_handshake.specs.Views.{View, standing, stood_in, before_mst, m
 use Rattle.sercos_handshake.specs.Epochs.{command, epoch_begun, begun_in}
 use Rattle.sercos_handshake.proofs.PhaseMoves.{ends}
 use Rattle.sercos_handshake.proofs.RunFacts.{comes_to}
-use Rattle.sercos_journal.specs.Arrivals.{heard}
 use Rattle.sercos_journal.specs.Runs.{drive_at, with_restart, given_before, IsRun, IsClear}
 use Rattle.sercos_agenda.specs.Turns.{WorkInTurn}
 use Rattle.sercos_views.specs.RingViews.{behind_mst, behind_mdt, after_mst, view_of, views_of}
@@ -106,7 +105,7 @@ module _ (laws : Laws) (more : MoreLaws) (turn : WorkInTurn) (r : RingView) (job
     before_is =
         ap (λ (p : Past). addressed_before p.turns) (start_is laws more turn r jobs carry restarts opened t (u ∷ j) run clear undisturbed)
         ∙ ap (λ (b : Bool). addressed_before (if b then new_epoch ((behind_mdt r jobs carry restarts u.sent j).cycle + 1) (still_waiting (behind_mdt r jobs carry restarts u.sent j))
-            else goes_on (next_phase (known_of r) (behind_mdt r jobs carry restarts u.sent j)) (behind_mdt r jobs carry restarts u.sent j)).turns) stays
+        else goes_on (next_phase (known_of r) (behind_mdt r jobs carry restarts u.sent j)) (behind_mdt r jobs carry restarts u.sent j)).turns) stays
 
     awaited : t.phase ≤ 2 → is_awaited (behind_mst r jobs carry restarts t.sent (u ∷ j)) k ≡ true
     awaited early =

@@ -11,12 +11,11 @@ use Rattle.sercos_drive.specs.Heard.{mst_got, mdt_got}
 use Rattle.sercos_drive.specs.Moments.{phase_in, blocks_in}
 use Rattle.sercos_trace.specs.Views.{CycleView}
 use Rattle.sercos_seat.specs.Ring.{known_of}
-use Rattle.sercos_master.specs.Annals.{goes_on}
 use Rattle.sercos_master.specs.Says.{mdt_said}
 use Rattle.sercos_script.specs.Links.{Carry, Restarts}
 use Rattle.sercos_handshake.specs.Views.{standing, stood_in}
 use Rattle.sercos_handshake.specs.Epochs.{command}
-use Rattle.sercos_journal.specs.Arrivals.{heard, passage}
+use Rattle.sercos_journal.specs.Arrivals.{passage}
 use Rattle.sercos_journal.specs.Records.{mst_in, mdt_in}
 use Rattle.sercos_journal.specs.Runs.{drive_at, given_mst, master_calls, looks_back, mdt_heard, said_below, content_of, disturbs_mdt, IsRun, IsClear}
 use Rattle.sercos_journal.proofs.RunLemmas.{mdt_in-said}

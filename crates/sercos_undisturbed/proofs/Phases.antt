@@ -1,7 +1,7 @@
 -- Phases, by the test whether they are 3 or 4.
-use Rattle.std.proofs.Common.{◌≡◌, ◌⊎◌, inl, inr, ℕ, zero, suc, ◌+◌, ◌<◌, ◌≤◌, Bool, true, false, not, ◌&&◌, List, [], ◌∷◌, length, Option, Some, None, refl, sym, ◌∙◌, ap, ap₂, subst, arith, if◌then◌else◌}
-use Rattle.std.specs.Prelude.{◌==◌, nat_le, slice_index, is_some, is_none}
-use Rattle.std.proofs.lemmas.Bool.{cases_eq, and_from, and_parts, cond-false, false≢true, leb-true, le-leb}
+use Rattle.std.proofs.Common.{◌≡◌, ℕ, ◌+◌, ◌<◌, ◌≤◌, Bool, true, false, arith, if◌then◌else◌}
+use Rattle.std.specs.Prelude.{nat_le}
+use Rattle.std.proofs.lemmas.Bool.{leb-true, le-leb}
 use Rattle.std.proofs.lemmas.Bool.Decides.{nat_tests}
 
 pub late_so : (n : ℕ) → nat_le 3 n ≡ true → 3 ≤ n
@@ -49,4 +49,3 @@ up_at n m some same = omega (arith, some, same)
 pub was_two : (rises : Bool) (n m : ℕ) → (if rises then n + 1 else n) ≡ m → m ≤ 2 → n ≤ 2
 was_two true n m is early = omega (arith, is, early)
 was_two false n m is early = omega (arith, is, early)
-

@@ -1,5 +1,5 @@
 -- The AT that a drive sends has its address and the bytes that the master wants of it.
-use Rattle.std.proofs.Common.{◌≡◌, inl, inr, ℕ, zero, suc, ◌+◌, ◌<◌, ◌≤◌, Bool, true, false, ◌&&◌, ◌||◌, List, [], ◌∷◌, length, Option, Some, None, refl, sym, ◌∙◌, ap, arith, if◌then◌else◌}
+use Rattle.std.proofs.Common.{◌≡◌, ℕ, zero, suc, ◌+◌, ◌<◌, ◌≤◌, Bool, true, false, ◌&&◌, ◌||◌, List, [], ◌∷◌, length, Some, None, refl, sym, ◌∙◌, ap, arith}
 use Rattle.std.specs.Prelude.{nat_le, slice_index, slice_index_or}
 use Rattle.std.proofs.lemmas.Bool.{cond-true}
 use Rattle.std.proofs.lemmas.Bool.Decides.{nat_tests}
@@ -28,7 +28,6 @@ use Rattle.sercos_journal.specs.Runs.{drive_at}
 use Rattle.sercos_views.proofs.Members.{members_count}
 use Rattle.sercos_held.proofs.Runs.{drive_got}
 use Rattle.sercos_headline.proofs.AtLengths.{carried_length}
-use Rattle.sercos_command.specs.Checks.{carried_len}
 
 -- what it sends
 pub record Speaks (d : DriveView) (rate : ℕ) (past : List Moment) : Type 0 where

@@ -4,12 +4,10 @@ use Rattle.std.specs.Prelude.{nat_le, is_some}
 use Rattle.sercos_step.specs.declared.request.Job.{Job}
 use Rattle.sercos_block.specs.Views.{RingView}
 use Rattle.sercos_service_master.specs.Begun.{open_in}
-use Rattle.sercos_drive.specs.Says.{sends}
 use Rattle.sercos_trace.specs.Views.{CycleView}
 use Rattle.sercos_script.specs.Links.{Carry, Restarts}
 use Rattle.sercos_handshake.specs.Views.{standing, stood_in}
 use Rattle.sercos_handshake.specs.Epochs.{epoch_begun}
-use Rattle.sercos_journal.specs.Arrivals.{heard}
 use Rattle.sercos_journal.specs.Runs.{IsRun, IsClear}
 use Rattle.sercos_agenda.specs.Turns.{WorkInTurn}
 use Rattle.sercos_views.specs.RingViews.{view_of, views_of}
