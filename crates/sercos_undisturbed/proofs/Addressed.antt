@@ -1,9 +1,8 @@
 -- To which drive an MDT is, and that the drive gets of it what it is told.
-use Rattle.std.proofs.Common.{◌≡◌, inl, inr, ℕ, zero, suc, ◌+◌, ◌<◌, ◌≤◌, Bool, true, false, not, ◌&&◌, ◌||◌, List, [], ◌∷◌, ◌++◌, length, Option, Some, None, refl, sym, ◌∙◌, ap, arith, if◌then◌else◌, append_assoc}
+use Rattle.std.proofs.Common.{◌≡◌, inl, inr, ℕ, zero, suc, ◌+◌, ◌<◌, ◌≤◌, Bool, true, false, not, ◌&&◌, ◌||◌, List, [], ◌∷◌, length, Option, Some, None, refl, sym, ◌∙◌, ap, arith, if◌then◌else◌}
 use Rattle.std.specs.Prelude.{◌==◌, nat_le, is_some, is_none, option_map}
 use Rattle.std.proofs.lemmas.Bool.{cases_eq, and_from, eqb-true, false≢true, cond-true, cond-false}
 use Rattle.std.proofs.lemmas.Bool.Decides.{nat_tests}
-use Rattle.sercos_telegram.specs.Spells.{all_drives}
 use Rattle.sercos_timing.specs.Views.{PlanView}
 use Rattle.sercos_block.specs.declared.block.Block.{Block}
 use Rattle.sercos_block.specs.Rings.{is_ring}
@@ -13,20 +12,18 @@ use Rattle.sercos_service_master.specs.Calls.{Send, begun_by}
 use Rattle.sercos_service_master.specs.Calls as channel
 use Rattle.sercos_drive.specs.declared.hearing.Told.{Told}
 use Rattle.sercos_drive.specs.Heard.{mdt_got}
-use Rattle.sercos_command.specs.Checks.{number_at}
-use Rattle.sercos_seat.specs.Agenda.{mdt_attributes}
 use Rattle.sercos_seat.specs.Channel.{is_place}
-use Rattle.sercos_seat.specs.Records.{record_said, values_said}
+use Rattle.sercos_seat.specs.Records.{record_said}
 use Rattle.sercos_seat.specs.Ring.{Known, MemberView, member, known_of}
-use Rattle.sercos_master.specs.Annals.{Past, outcomes, first_from, first_place, place_of, is_idle, is_identified, in_turn, ready_to_send, is_sent_to, addressed_in, after_mdt}
-use Rattle.sercos_master.specs.Says.{Sent, idle, said_to, record_to, records_from, single, joint, mdt_said}
+use Rattle.sercos_master.specs.Annals.{Past, first_from, first_place, place_of, is_idle, is_identified, in_turn, ready_to_send, is_sent_to, addressed_in, after_mdt}
+use Rattle.sercos_master.specs.Says.{Sent, idle, said_to, single, joint, mdt_said}
 use Rattle.sercos_agenda.specs.Turns.{HasTurn}
 use Rattle.sercos_journal.specs.Runs.{drive_at}
 use Rattle.sercos_views.specs.RingViews.{is_told, told_to}
 use Rattle.sercos_views.proofs.DriveSame.{said_to as said_by_told}
 use Rattle.sercos_views.proofs.Members.{member_is, members_count, place_is}
-use Rattle.sercos_views.proofs.Codecs.{single_clear, joint_clear}
-use Rattle.sercos_views.proofs.Received.{Agrees, IsSayable}
+use Rattle.sercos_views.proofs.Codecs.{single_clear}
+use Rattle.sercos_views.proofs.Received.{Agrees, IsSayable, joint_got}
 use Rattle.sercos_headline.proofs.ApartCycles.{joint_said}
 
 -- if some place passes the test, one is found
@@ -121,31 +118,6 @@ told_early p k early told =
     let late : nat_le 3 p.now.phase ≡ false = grind (arith, nat_tests, early) in
     is_place_some k p.now.addressed (sym (ap (λ (b : Bool). (b && is_some p.plan) || is_place k p.now.addressed) late) ∙ told)
 
--- The record of a place stands after those of the places before it, so the drive gets it.
-record_among : (s : Known) (p : Past) (base i n : ℕ) → i < n → (rest : List ℕ) × (records_from s p base n ≡ records_from s p base i ++ (record_to s p (base + i) ++ rest))
-record_among s p base i zero below = absurd (omega (arith, below))
-record_among s p base zero (suc n) below = (records_from s p (base + 1) n, let e : base ≡ base + 0 = omega arith in ap (λ (j : ℕ). record_to s p j ++ records_from s p (base + 1) n) e)
-record_among s p base (suc i) (suc n) below =
-    let (rest, split) = record_among s p (base + 1) i n (omega (arith, below)) in
-    let e : base + 1 + i ≡ base + suc i = omega arith in (
-      rest,
-      ap (λ (l : List ℕ). record_to s p base ++ l) (split ∙ ap (λ (j : ℕ). records_from s p (base + 1) i ++ (record_to s p j ++ rest)) e)
-          ∙ sym (append_assoc (record_to s p base) (records_from s p (base + 1) i) (record_to s p (base + suc i) ++ rest)),
-    )
-
-record_got : (s : Known) (p : Past) (k address phase : ℕ) (blocks : List Block) → k < length s.drives → 3 ≤ phase → IsSayable (said_to p k) → Agrees s p k blocks
-    → option_map said_by_told (mdt_got address phase blocks (Some (all_drives ∷ records_from s p 0 (length s.drives)))) ≡ Some (said_to p k)
-record_got s p k address phase blocks below late (low, small) a =
-    let (rest, split) = record_among s p 0 k (length s.drives) below in
-    let none : 0 + k ≡ k = omega arith in
-    let all : records_from s p 0 (length s.drives) ≡ (records_from s p 0 k ++ record_to s p k) ++ rest =
-    split ∙ ap (λ (j : ℕ). records_from s p 0 k ++ (record_to s p j ++ rest)) none ∙ sym (append_assoc (records_from s p 0 k) (record_to s p k) rest) in
-    let place = a.place in
-    let long : length ((records_from s p 0 k ++ record_said (said_to p k) (values_said p.cycle (mdt_attributes (member s k) (outcomes p k)))) ++ rest) ≡ number_at blocks 10 = ap (λ (l : List ℕ). length l) (sym all) ∙ sym a.long in
-    ap (λ (l : List ℕ). option_map said_by_told (mdt_got address phase blocks (Some (all_drives ∷ l)))) all
-    ∙ joint_clear (said_to p k) address phase blocks (all_drives ∷ records_from s p 0 k) (values_said p.cycle (mdt_attributes (member s k) (outcomes p k))) rest late low small refl
-    (omega (arith, place)) (omega (arith, place)) a.within (omega (arith, long))
-
 -- THE MDT THAT A DRIVE IS TOLD IN. A drive in the commanded phase gets its record of it.
 pub record IsTold (r : RingView) (p : Past) (k : ℕ) (blocks : List Block) : Type 0 where
   pub sent : Sent
@@ -188,7 +160,7 @@ told_got r p k blocks valid below some told small planned = third (nat_le 3 p.no
           sent = joint s p plan;
           said = joint_said s p plan late has;
           got = some_got (mdt_got (drive_at r k).address p.now.phase blocks (Some (joint s p plan).content)) (said_to p k)
-              (record_got s p k (drive_at r k).address p.now.phase blocks (omega (arith, below, count)) late (small k) agrees);
+              (joint_got s p k (drive_at r k).address p.now.phase blocks (omega (arith, below, count)) late (small k) agrees);
         }
     third false is =
         let early : p.now.phase ≤ 2 = grind (arith, nat_tests, is) in
