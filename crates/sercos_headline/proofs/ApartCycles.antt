@@ -69,7 +69,7 @@ pub record AreFramed (r : RingView) (jobs : List Job) (carry : Carry) (restarts 
   pub mdt : (m : Sent) → mdt_said (known_of r) (behind_mdt r jobs carry restarts t.sent j) ≡ Some m → length (frame_of m.content) ≤ wire_bits (length m.content)
 
 -- the MDT to all
-joint_said : (s : Known) (p : Past) (plan : PlanView) → 3 ≤ p.now.phase → p.plan ≡ Some plan → mdt_said s p ≡ Some (joint s p plan)
+pub joint_said : (s : Known) (p : Past) (plan : PlanView) → 3 ≤ p.now.phase → p.plan ≡ Some plan → mdt_said s p ≡ Some (joint s p plan)
 joint_said s p plan late has =
     let one : (p.now.phase == 1) ≡ false = grind (arith, nat_tests, late) in
     let two : (p.now.phase == 2) ≡ false = grind (arith, nat_tests, late) in

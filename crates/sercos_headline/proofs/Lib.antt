@@ -1,8 +1,8 @@
-mod AtLengths
+pub mod AtLengths
 mod Placed
 mod ApartRuns
-mod ApartCycles
+pub mod ApartCycles
 mod StopReads
 mod StopRuns
-mod WellRuns
+pub mod WellRuns
 pub mod HeadlineRuns

@@ -6,6 +6,16 @@ pub mod CommandCalls
 pub mod CommandRuns
 pub mod PassedRuns
 pub mod PassedCycles
+pub mod Arrivals
+pub mod Taken
+pub mod Addressed
+pub mod Speaking
+pub mod Phases
+pub mod Sending
+pub mod MdtComes
+pub mod AtsCome
+pub mod Hears
+pub mod WholeIn
 pub mod Comes
 pub mod NoFalls
 pub mod AtsTaken

@@ -1,4 +1,4 @@
--- In an undisturbed epoch the ring never falls, if every cycle of it is whole for each drive up to its end.
+-- In an undisturbed epoch the ring never falls, and each drive stands in the commanded phase.
 use Rattle.std.proofs.Common.{◌≡◌, ℕ, zero, suc, ◌<◌, ◌≤◌, true, false, List, [], ◌∷◌, ◌++◌, length, Option, None, refl, sym, ap, subst, arith}
 use Rattle.std.specs.Prelude.{nat_le, is_some, slice_index_or}
 use Rattle.std.proofs.lemmas.Bool.{and_parts}
@@ -15,9 +15,10 @@ use Rattle.sercos_script.specs.Links.{Carry, Restarts}
 use Rattle.sercos_handshake.specs.Views.{View}
 use Rattle.sercos_handshake.specs.Runs.{IsRun as IsViewRun}
 use Rattle.sercos_handshake.specs.RunLaws.{ComesUp}
-use Rattle.sercos_pace.specs.Passages.{IsWhole, AreWhole, IsPassed, ArePassed, BeginsEpoch}
+use Rattle.sercos_pace.specs.Passages.{IsWhole, AreWhole, IsPassed, ArePassed, BeginsEpoch, StandsThroughout, HearsThroughout}
 use Rattle.sercos_pace.specs.ChannelCalls.{staying, calls_in, channel_calls, NoneLate}
 use Rattle.sercos_journal.specs.Runs.{no_drive, drive_at, IsRun, IsClear}
+use Rattle.sercos_agenda.specs.Turns.{WorkInTurn}
 use Rattle.sercos_journal.proofs.StationLemmas.{drives_so}
 use Rattle.sercos_views.specs.RingViews.{behind_mdt, view_of, views_of}
 use Rattle.sercos_held.specs.Opened.{IsOpened}
@@ -26,6 +27,8 @@ use Rattle.sercos_headline.proofs.HeadlineRuns.{MoreLaws, all_stand}
 use Rattle.sercos_undisturbed.specs.Undisturbed.{IsUndisturbed, AreUndisturbed}
 use Rattle.sercos_undisturbed.specs.EpochStarts.{StartsEpoch}
 use Rattle.sercos_undisturbed.specs.ViewsSince.{views_since}
+use Rattle.sercos_undisturbed.specs.StartUps.{NoneFalls, StaysUp}
+use Rattle.sercos_undisturbed.proofs.WholeIn.{whole_in}
 use Rattle.sercos_undisturbed.proofs.PassedCycles.{views_split, passed_undisturbed}
 use Rattle.sercos_undisturbed.proofs.StaysUp.{stays_up}
 
@@ -58,20 +61,13 @@ whole_then v past w none = record {
   listens = w.listens;
 }
 
--- at the end of none of these cycles does the ring fall
-abbrev pub NoneFalls : RingView → List Job → Carry → Restarts → List CycleView → List CycleView → Type 0
-NoneFalls r jobs carry restarts [] before = Unit {0}
-NoneFalls r jobs carry restarts (t ∷ cycles) before = NoneFalls r jobs carry restarts cycles before × (fall_of (known_of r) (behind_mdt r jobs carry restarts t.sent (cycles ++ before)) ≡ None)
-
--- and each is whole for each drive, with its checks passed
+-- at the end of none of these cycles does the ring fall, and each is whole for each drive, with its checks passed
 pub record AllWhole (r : RingView) (jobs : List Job) (carry : Carry) (restarts : Restarts) (cycles before : List CycleView) : Type 0 where
   pub stays : NoneFalls r jobs carry restarts cycles before
   pub whole : (k : ℕ) → k < length r.drives → AreWhole (views_since r jobs carry restarts k cycles before) (views_of r jobs carry restarts k before)
   pub passed : (k : ℕ) → k < length r.drives → ArePassed (views_since r jobs carry restarts k cycles before) (views_of r jobs carry restarts k before)
 
-module _ (laws : Laws) (more : MoreLaws) (comes_up : (busy : ℕ) → ComesUp busy) (late : (busy : ℕ) → NoneLate busy) (r : RingView) (jobs : List Job) (carry : Carry) (restarts : Restarts) (opened : IsOpened r jobs)
-    (whole_in : (t : CycleView) (j : List CycleView) → IsRun r jobs carry restarts (t ∷ j) → IsClear (t ∷ j) → IsUndisturbed r carry restarts t j → (k : ℕ) → k < length r.drives
-    → IsWhole (staying (view_of r jobs carry restarts k t j)) (views_of r jobs carry restarts k j)) where
+module _ (laws : Laws) (more : MoreLaws) (turn : WorkInTurn) (comes_up : (busy : ℕ) → ComesUp busy) (late : (busy : ℕ) → NoneLate busy) (r : RingView) (jobs : List Job) (carry : Carry) (restarts : Restarts) (opened : IsOpened r jobs) where
   -- the next cycle
   whole_next : (t : CycleView) (cycles before : List CycleView) → IsRun r jobs carry restarts (t ∷ (cycles ++ before)) → IsClear (t ∷ (cycles ++ before)) → StartsEpoch r jobs carry restarts before
       → AreUndisturbed r carry restarts (t ∷ cycles) before → AllWhole r jobs carry restarts cycles before → AllWhole r jobs carry restarts (t ∷ cycles) before
@@ -82,7 +78,7 @@ module _ (laws : Laws) (more : MoreLaws) (comes_up : (busy : ℕ) → ComesUp bu
   }
     where
       whole_up : (k : ℕ) → k < length r.drives → IsWhole (staying (view_of r jobs carry restarts k t (cycles ++ before))) (views_since r jobs carry restarts k cycles before ++ views_of r jobs carry restarts k before)
-      whole_up k below = subst (λ (l : List View). IsWhole (staying (view_of r jobs carry restarts k t (cycles ++ before))) l) (views_split r jobs carry restarts k cycles before) (whole_in t (cycles ++ before) run clear calm.1 k below)
+      whole_up k below = subst (λ (l : List View). IsWhole (staying (view_of r jobs carry restarts k t (cycles ++ before))) l) (views_split r jobs carry restarts k cycles before) (whole_in laws more turn r jobs carry restarts opened t (cycles ++ before) run clear calm.1 k below)
 
       passes : (k : ℕ) → k < length r.drives → IsPassed (view_of r jobs carry restarts k t (cycles ++ before)) (views_since r jobs carry restarts k cycles before ++ views_of r jobs carry restarts k before)
       passes k below = subst (λ (l : List View). IsPassed (view_of r jobs carry restarts k t (cycles ++ before)) l) (views_split r jobs carry restarts k cycles before) (passed_undisturbed laws more r jobs carry restarts opened t (cycles ++ before) run clear k below calm.1)
@@ -107,3 +103,18 @@ module _ (laws : Laws) (more : MoreLaws) (comes_up : (busy : ℕ) → ComesUp bu
       → AllWhole r jobs carry restarts cycles before
   never_falls [] before run clear starts calm = record { stays = tt; whole = λ k below. tt; passed = λ k below. tt }
   never_falls (t ∷ cycles) before run clear starts calm = whole_next t cycles before run clear starts calm (never_falls cycles before run.0 clear.0 starts calm.0)
+
+  -- So each drive stands in the commanded phase, and the master hears it in phases 3 and 4.
+  pub stays_throughout : ((busy : ℕ) → StandsThroughout busy) → ((busy : ℕ) → HearsThroughout busy) → (cycles before : List CycleView) → IsRun r jobs carry restarts (cycles ++ before) → IsClear (cycles ++ before)
+      → StartsEpoch r jobs carry restarts before → AreUndisturbed r carry restarts cycles before → StaysUp r jobs carry restarts cycles before
+  stays_throughout stand hear cycles before run clear starts calm = record {
+    stays = all.stays;
+    stands = λ k below. stand (drive_at r k).busy (views_since r jobs carry restarts k cycles before) (views_of r jobs carry restarts k before) (is_run k below) (begins_so r jobs carry restarts k before starts) (all.whole k below) (all.passed k below);
+    heard = λ k below. hear (drive_at r k).busy (views_since r jobs carry restarts k cycles before) (views_of r jobs carry restarts k before) (is_run k below) (begins_so r jobs carry restarts k before starts) (all.whole k below) (all.passed k below);
+  }
+    where
+      all : AllWhole r jobs carry restarts cycles before
+      all = never_falls cycles before run clear starts calm
+
+      is_run : (k : ℕ) → k < length r.drives → IsViewRun (drive_at r k).busy (views_since r jobs carry restarts k cycles before ++ views_of r jobs carry restarts k before)
+      is_run k below = subst (λ (l : List View). IsViewRun (drive_at r k).busy l) (views_split r jobs carry restarts k cycles before) (all_stand laws more r jobs carry restarts opened (cycles ++ before) run clear k below).sees.run

@@ -18,7 +18,7 @@ use Rattle.sercos_undisturbed.specs.EpochStarts.{StartsEpoch}
 use Rattle.sercos_undisturbed.proofs.StaysUp.{phase_now}
 use Rattle.sercos_undisturbed.proofs.PhaseCounts.{end_kept}
 use Rattle.sercos_undisturbed.proofs.PhaseRuns.{next_phase_is, second_in}
-use Rattle.sercos_undisturbed.proofs.NeverFalls.{NoneFalls}
+use Rattle.sercos_undisturbed.specs.StartUps.{NoneFalls}
 
 goes_up : (s : Known) (p : Past) → fall_of s p ≡ None → (after_end s p).now.phase ≡ (if is_done s p then p.now.phase + 1 else p.now.phase)
 goes_up s p none = ap (λ (q : Past). q.now.phase) (end_kept s p none)

@@ -2,3 +2,4 @@ pub mod Undisturbed
 pub mod CommandsFollow
 pub mod EpochStarts
 pub mod ViewsSince
+pub mod StartUps

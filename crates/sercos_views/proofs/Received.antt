@@ -141,7 +141,7 @@ pub record Agrees (s : Known) (p : Past) (k : ℕ) (blocks : List Block) : Type 
 abbrev pub IsSayable : Said → Type 0
 IsSayable said = (said.step.element < 8) × (said.step.word < 65536)
 
-joint_got : (s : Known) (p : Past) (k address phase : ℕ) (blocks : List Block) → k < length s.drives → 3 ≤ phase → IsSayable (said_to p k) → Agrees s p k blocks
+pub joint_got : (s : Known) (p : Past) (k address phase : ℕ) (blocks : List Block) → k < length s.drives → 3 ≤ phase → IsSayable (said_to p k) → Agrees s p k blocks
     → option_map said_by_told (mdt_got address phase blocks (Some (all_drives ∷ records_from s p 0 (length s.drives)))) ≡ Some (said_to p k)
 joint_got s p k address phase blocks below late (low, small) a =
     let (rest, split) = record_among s p 0 k (length s.drives) below in

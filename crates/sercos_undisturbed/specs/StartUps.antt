@@ -1,0 +1,38 @@
+-- An epoch of the ring in which nothing is disturbed. The newest cycle of a journal comes first.
+use Rattle.std.specs.Prelude.{◌≡◌, ℕ, ◌+◌, ◌<◌, ◌≤◌, List, [], ◌∷◌, ◌++◌, length, None}
+use Rattle.sercos_step.specs.declared.request.Job.{Job}
+use Rattle.sercos_block.specs.Views.{RingView}
+use Rattle.sercos_trace.specs.Views.{CycleView}
+use Rattle.sercos_seat.specs.Ring.{known_of}
+use Rattle.sercos_master.specs.Annals.{fall_of}
+use Rattle.sercos_script.specs.Links.{Carry, Restarts}
+use Rattle.sercos_pace.specs.Passages.{AreUp, AreHeard}
+use Rattle.sercos_journal.specs.Runs.{IsRun, IsClear}
+use Rattle.sercos_views.specs.RingViews.{behind_mdt, views_of}
+use Rattle.sercos_held.specs.Opened.{IsOpened}
+use Rattle.sercos_undisturbed.specs.Undisturbed.{AreUndisturbed}
+use Rattle.sercos_undisturbed.specs.EpochStarts.{StartsEpoch}
+use Rattle.sercos_undisturbed.specs.ViewsSince.{views_since}
+
+-- at the end of none of these cycles, which come after the others, does the ring fall
+abbrev pub NoneFalls : RingView → List Job → Carry → Restarts → List CycleView → List CycleView → Type 0
+NoneFalls r jobs carry restarts [] before = Unit {0}
+NoneFalls r jobs carry restarts (t ∷ cycles) before = NoneFalls r jobs carry restarts cycles before × (fall_of (known_of r) (behind_mdt r jobs carry restarts t.sent (cycles ++ before)) ≡ None)
+
+-- The ring stays up: it falls at the end of none of these cycles; in each of them each drive stands in the commanded phase, after the MST's
+-- place and at the end; and in each commanded phase 3 or 4 the master hears each drive.
+pub record StaysUp (r : RingView) (jobs : List Job) (carry : Carry) (restarts : Restarts) (cycles before : List CycleView) : Type 0 where
+  pub stays : NoneFalls r jobs carry restarts cycles before
+  pub stands : (k : ℕ) → k < length r.drives → AreUp (views_since r jobs carry restarts k cycles before) (views_of r jobs carry restarts k before)
+  pub heard : (k : ℕ) → k < length r.drives → AreHeard (views_since r jobs carry restarts k cycles before) (views_of r jobs carry restarts k before)
+
+-- So it is from the start of an epoch on as long as nothing is disturbed, whatever was lost before, if nothing was unseen.
+abbrev pub StaysUpUndisturbed : Type 0
+StaysUpUndisturbed = (r : RingView) (jobs : List Job) (carry : Carry) (restarts : Restarts) (cycles before : List CycleView) → IsOpened r jobs → IsRun r jobs carry restarts (cycles ++ before) → IsClear (cycles ++ before) →
+    StartsEpoch r jobs carry restarts before → AreUndisturbed r carry restarts cycles before → StaysUp r jobs carry restarts cycles before
+
+-- In such an epoch phase 0 is commanded in the first ten cycles, then phase 1 in one cycle more than there are drives, and then phase 2.
+abbrev pub ComesToPhaseTwo : Type 0
+ComesToPhaseTwo = (r : RingView) (jobs : List Job) (carry : Carry) (restarts : Restarts) (t : CycleView) (cycles before : List CycleView) → IsOpened r jobs → IsRun r jobs carry restarts (t ∷ (cycles ++ before)) →
+    IsClear (t ∷ (cycles ++ before)) → StartsEpoch r jobs carry restarts before → AreUndisturbed r carry restarts (t ∷ cycles) before →
+    (length cycles ≤ 9 → t.phase ≡ 0) × ((m : ℕ) → m ≤ length r.drives → length cycles ≡ 10 + m → t.phase ≡ 1) × (length cycles ≡ 11 + length r.drives → t.phase ≡ 2)
