@@ -26,4 +26,5 @@ pub mod StaysUp
 pub mod PhaseCounts
 pub mod PhaseRuns
 pub mod NeverFalls
+pub mod Answered
 pub mod PhasesRise

@@ -1,5 +1,5 @@
 -- In an undisturbed epoch the ring never falls, and each drive stands in the commanded phase.
-use Rattle.std.proofs.Common.{◌≡◌, ℕ, zero, suc, ◌<◌, ◌≤◌, true, false, List, [], ◌∷◌, ◌++◌, length, Option, None, refl, sym, ap, subst, arith}
+use Rattle.std.proofs.Common.{◌≡◌, ℕ, zero, suc, ◌<◌, ◌≤◌, true, false, List, [], ◌∷◌, ◌++◌, length, Option, None, sym, ap, subst, arith}
 use Rattle.std.specs.Prelude.{nat_le, is_some, slice_index_or}
 use Rattle.std.proofs.lemmas.Bool.{and_parts}
 use Rattle.std.proofs.lemmas.Bool.Decides.{nat_tests}
@@ -24,7 +24,7 @@ use Rattle.sercos_views.specs.RingViews.{behind_mdt, view_of, views_of}
 use Rattle.sercos_held.specs.Opened.{IsOpened}
 use Rattle.sercos_held.proofs.Runs.{Laws}
 use Rattle.sercos_headline.proofs.HeadlineRuns.{MoreLaws, all_stand}
-use Rattle.sercos_undisturbed.specs.Undisturbed.{IsUndisturbed, AreUndisturbed}
+use Rattle.sercos_undisturbed.specs.Undisturbed.{AreUndisturbed}
 use Rattle.sercos_undisturbed.specs.EpochStarts.{StartsEpoch}
 use Rattle.sercos_undisturbed.specs.ViewsSince.{views_since}
 use Rattle.sercos_undisturbed.specs.StartUps.{NoneFalls, StaysUp}
@@ -66,6 +66,12 @@ pub record AllWhole (r : RingView) (jobs : List Job) (carry : Carry) (restarts :
   pub stays : NoneFalls r jobs carry restarts cycles before
   pub whole : (k : ℕ) → k < length r.drives → AreWhole (views_since r jobs carry restarts k cycles before) (views_of r jobs carry restarts k before)
   pub passed : (k : ℕ) → k < length r.drives → ArePassed (views_since r jobs carry restarts k cycles before) (views_of r jobs carry restarts k before)
+
+module _ (laws : Laws) (more : MoreLaws) (r : RingView) (jobs : List Job) (carry : Carry) (restarts : Restarts) (opened : IsOpened r jobs) where
+  -- each drive with its channel makes a run
+  pub runs_split : (cycles before : List CycleView) → IsRun r jobs carry restarts (cycles ++ before) → IsClear (cycles ++ before) → (k : ℕ) → k < length r.drives
+      → IsViewRun (drive_at r k).busy (views_since r jobs carry restarts k cycles before ++ views_of r jobs carry restarts k before)
+  runs_split cycles before run clear k below = subst (λ (l : List View). IsViewRun (drive_at r k).busy l) (views_split r jobs carry restarts k cycles before) (all_stand laws more r jobs carry restarts opened (cycles ++ before) run clear k below).sees.run
 
 module _ (laws : Laws) (more : MoreLaws) (turn : WorkInTurn) (comes_up : (busy : ℕ) → ComesUp busy) (late : (busy : ℕ) → NoneLate busy) (r : RingView) (jobs : List Job) (carry : Carry) (restarts : Restarts) (opened : IsOpened r jobs) where
   -- the next cycle
@@ -109,12 +115,10 @@ module _ (laws : Laws) (more : MoreLaws) (turn : WorkInTurn) (comes_up : (busy :
       → StartsEpoch r jobs carry restarts before → AreUndisturbed r carry restarts cycles before → StaysUp r jobs carry restarts cycles before
   stays_throughout stand hear cycles before run clear starts calm = record {
     stays = all.stays;
-    stands = λ k below. stand (drive_at r k).busy (views_since r jobs carry restarts k cycles before) (views_of r jobs carry restarts k before) (is_run k below) (begins_so r jobs carry restarts k before starts) (all.whole k below) (all.passed k below);
-    heard = λ k below. hear (drive_at r k).busy (views_since r jobs carry restarts k cycles before) (views_of r jobs carry restarts k before) (is_run k below) (begins_so r jobs carry restarts k before starts) (all.whole k below) (all.passed k below);
+    whole = all.whole;
+    stands = λ k below. stand (drive_at r k).busy (views_since r jobs carry restarts k cycles before) (views_of r jobs carry restarts k before) (runs_split laws more r jobs carry restarts opened cycles before run clear k below) (begins_so r jobs carry restarts k before starts) (all.whole k below) (all.passed k below);
+    heard = λ k below. hear (drive_at r k).busy (views_since r jobs carry restarts k cycles before) (views_of r jobs carry restarts k before) (runs_split laws more r jobs carry restarts opened cycles before run clear k below) (begins_so r jobs carry restarts k before starts) (all.whole k below) (all.passed k below);
   }
     where
       all : AllWhole r jobs carry restarts cycles before
       all = never_falls cycles before run clear starts calm
-
-      is_run : (k : ℕ) → k < length r.drives → IsViewRun (drive_at r k).busy (views_since r jobs carry restarts k cycles before ++ views_of r jobs carry restarts k before)
-      is_run k below = subst (λ (l : List View). IsViewRun (drive_at r k).busy l) (views_split r jobs carry restarts k cycles before) (all_stand laws more r jobs carry restarts opened (cycles ++ before) run clear k below).sees.run

@@ -17,7 +17,7 @@ use Rattle.sercos_undisturbed.specs.Undisturbed.{IsUndisturbed, AreUndisturbed}
 use Rattle.sercos_undisturbed.specs.ViewsSince.{views_since}
 use Rattle.sercos_undisturbed.proofs.PassedRuns.{passed_in}
 
-or_first : (a b : Bool) → (a || b) ≡ false → a ≡ false
+pub or_first : (a b : Bool) → (a || b) ≡ false → a ≡ false
 or_first false b none = refl
 or_first true b none = absurd (cc)
 
@@ -26,7 +26,7 @@ or_second false b none = none
 or_second true b none = absurd (cc)
 
 -- no station restarts
-none_below : (n : ℕ) (f : ℕ → Bool) → any_below n f ≡ false → (i : ℕ) → i < n → f i ≡ false
+pub none_below : (n : ℕ) (f : ℕ → Bool) → any_below n f ≡ false → (i : ℕ) → i < n → f i ≡ false
 none_below zero f none i low = absurd (omega (arith, low))
 none_below (suc n) f none i low = elim (cases_eq i n) [
   | inl same ↦ ap f same ∙ or_second (any_below n f) (f n) none

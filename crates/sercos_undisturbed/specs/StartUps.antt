@@ -1,14 +1,20 @@
 -- An epoch of the ring in which nothing is disturbed. The newest cycle of a journal comes first.
-use Rattle.std.specs.Prelude.{◌≡◌, ℕ, ◌+◌, ◌<◌, ◌≤◌, List, [], ◌∷◌, ◌++◌, length, None}
+use Rattle.std.specs.Prelude.{◌≡◌, ℕ, ◌+◌, ◌<◌, ◌≤◌, true, List, [], ◌∷◌, ◌++◌, length, Some, None}
 use Rattle.sercos_step.specs.declared.request.Job.{Job}
+use Rattle.sercos_step.specs.declared.request.Outcome.TheVariants as outcome
 use Rattle.sercos_block.specs.Views.{RingView}
 use Rattle.sercos_trace.specs.Views.{CycleView}
 use Rattle.sercos_seat.specs.Ring.{known_of}
 use Rattle.sercos_master.specs.Annals.{fall_of}
 use Rattle.sercos_script.specs.Links.{Carry, Restarts}
-use Rattle.sercos_pace.specs.Passages.{AreUp, AreHeard}
-use Rattle.sercos_journal.specs.Runs.{IsRun, IsClear}
-use Rattle.sercos_views.specs.RingViews.{behind_mdt, views_of}
+use Rattle.sercos_service_master.specs.Begun.{answers_it}
+use Rattle.sercos_handshake.specs.Views.{Heard}
+use Rattle.sercos_handshake.specs.Epochs.{epoch_begun}
+use Rattle.sercos_pace.specs.Passages.{AreWhole, AreUp, AreHeard}
+use Rattle.sercos_pace.specs.Ages.{age_in}
+use Rattle.sercos_journal.specs.Runs.{drive_at, IsRun, IsClear}
+use Rattle.sercos_agenda.specs.Events.{HasOutcome}
+use Rattle.sercos_views.specs.RingViews.{behind_mdt, view_of, views_of}
 use Rattle.sercos_held.specs.Opened.{IsOpened}
 use Rattle.sercos_undisturbed.specs.Undisturbed.{AreUndisturbed}
 use Rattle.sercos_undisturbed.specs.EpochStarts.{StartsEpoch}
@@ -19,10 +25,11 @@ abbrev pub NoneFalls : RingView → List Job → Carry → Restarts → List Cyc
 NoneFalls r jobs carry restarts [] before = Unit {0}
 NoneFalls r jobs carry restarts (t ∷ cycles) before = NoneFalls r jobs carry restarts cycles before × (fall_of (known_of r) (behind_mdt r jobs carry restarts t.sent (cycles ++ before)) ≡ None)
 
--- The ring stays up: it falls at the end of none of these cycles; in each of them each drive stands in the commanded phase, after the MST's
--- place and at the end; and in each commanded phase 3 or 4 the master hears each drive.
+-- The ring stays up: it falls at the end of none of these cycles; each of them is whole for each drive; in each of them each drive stands
+-- in the commanded phase, after the MST's place and at the end; and in each commanded phase 3 or 4 the master hears each drive.
 pub record StaysUp (r : RingView) (jobs : List Job) (carry : Carry) (restarts : Restarts) (cycles before : List CycleView) : Type 0 where
   pub stays : NoneFalls r jobs carry restarts cycles before
+  pub whole : (k : ℕ) → k < length r.drives → AreWhole (views_since r jobs carry restarts k cycles before) (views_of r jobs carry restarts k before)
   pub stands : (k : ℕ) → k < length r.drives → AreUp (views_since r jobs carry restarts k cycles before) (views_of r jobs carry restarts k before)
   pub heard : (k : ℕ) → k < length r.drives → AreHeard (views_since r jobs carry restarts k cycles before) (views_of r jobs carry restarts k before)
 
@@ -36,3 +43,25 @@ abbrev pub ComesToPhaseTwo : Type 0
 ComesToPhaseTwo = (r : RingView) (jobs : List Job) (carry : Carry) (restarts : Restarts) (t : CycleView) (cycles before : List CycleView) → IsOpened r jobs → IsRun r jobs carry restarts (t ∷ (cycles ++ before)) →
     IsClear (t ∷ (cycles ++ before)) → StartsEpoch r jobs carry restarts before → AreUndisturbed r carry restarts (t ∷ cycles) before →
     (length cycles ≤ 9 → t.phase ≡ 0) × ((m : ℕ) → m ≤ length r.drives → length cycles ≡ 10 + m → t.phase ≡ 1) × (length cycles ≡ 11 + length r.drives → t.phase ≡ 2)
+
+-- The record of a cycle has no fall, and tells no request as broken.
+pub record TellsNoFall (t : CycleView) : Type 0 where
+  pub fall : t.events.fall ≡ None
+  pub unbroken : (number : ℕ) → HasOutcome t.events.outcomes number outcome.Broken → ⊥
+
+-- So it is in such an epoch.
+abbrev pub TellsNoFallUndisturbed : Type 0
+TellsNoFallUndisturbed = (r : RingView) (jobs : List Job) (carry : Carry) (restarts : Restarts) (t : CycleView) (cycles before : List CycleView) → IsOpened r jobs → IsRun r jobs carry restarts (t ∷ (cycles ++ before)) →
+    IsClear (t ∷ (cycles ++ before)) → StartsEpoch r jobs carry restarts before → AreUndisturbed r carry restarts (t ∷ cycles) before → TellsNoFall t
+
+-- In such an epoch no step is open for longer than the busy time of its drive and one cycle ..
+abbrev pub AgesUndisturbed : Type 0
+AgesUndisturbed = (r : RingView) (jobs : List Job) (carry : Carry) (restarts : Restarts) (cycles before : List CycleView) → IsOpened r jobs → IsRun r jobs carry restarts (cycles ++ before) → IsClear (cycles ++ before) →
+    StartsEpoch r jobs carry restarts before → AreUndisturbed r carry restarts cycles before → (k : ℕ) → k < length r.drives → age_in (views_of r jobs carry restarts k (cycles ++ before)) ≤ (drive_at r k).busy + 1
+
+-- .. and an answer comes exactly then: busy time and one cycle after the cycle in which its step was begun, and first sent.
+abbrev pub AnswersUndisturbed : Type 0
+AnswersUndisturbed = (r : RingView) (jobs : List Job) (carry : Carry) (restarts : Restarts) (t : CycleView) (cycles before : List CycleView) → IsOpened r jobs → IsRun r jobs carry restarts (t ∷ (cycles ++ before)) →
+    IsClear (t ∷ (cycles ++ before)) → StartsEpoch r jobs carry restarts before → AreUndisturbed r carry restarts (t ∷ cycles) before → (k : ℕ) (a : Heard) → k < length r.drives →
+    (view_of r jobs carry restarts k t (cycles ++ before)).heard ≡ Some a → answers_it (epoch_begun (views_of r jobs carry restarts k (cycles ++ before))) a.status ≡ true →
+    age_in (views_of r jobs carry restarts k (cycles ++ before)) ≡ (drive_at r k).busy + 1

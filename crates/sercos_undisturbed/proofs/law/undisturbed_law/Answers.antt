@@ -1,6 +1,7 @@
 use Rattle.sercos_headline.proofs.HeadlineRuns.{MoreLaws}
 use Rattle.sercos_headline.proofs.WellRuns.{StopLaws}
 use Rattle.sercos_held.proofs.Runs.{Laws}
+use Rattle.sercos_undisturbed.proofs.Answered.{ages_undisturbed, answers_undisturbed, tells_no_fall}
 use Rattle.sercos_undisturbed.proofs.NeverFalls.{stays_throughout}
 use Rattle.sercos_undisturbed.proofs.PhaseRuns.{phases_in}
 use Rattle.sercos_undisturbed.proofs.law.undisturbed_law.Goals as goal
@@ -78,5 +79,10 @@ returns c =
     record {
       stays = λ r jobs carry restarts cycles before opened run clear starts calm.
           stays_throughout laws more c.agenda_law.ensures.turn c.run_law.ensures.up c.calls_law.ensures.late r jobs carry restarts opened c.passage_law.ensures.throughout c.passage_law.ensures.hears cycles before run clear starts calm;
+      tells = λ r jobs carry restarts t cycles before opened run clear starts calm. tells_no_fall laws more c.agenda_law.ensures.turn c.run_law.ensures.up c.calls_law.ensures.late r jobs carry restarts opened t cycles before run clear starts calm;
+      ages = λ r jobs carry restarts cycles before opened run clear starts calm k below.
+          ages_undisturbed laws more c.agenda_law.ensures.turn c.run_law.ensures.up c.calls_law.ensures.late r jobs carry restarts opened c.passage_law.ensures.clean c.stretch_law.ensures.ages cycles before run clear starts calm k below;
+      answers = λ r jobs carry restarts t cycles before opened run clear starts calm k a below hears fits.
+          answers_undisturbed laws more c.agenda_law.ensures.turn c.run_law.ensures.up c.calls_law.ensures.late r jobs carry restarts opened c.passage_law.ensures.clean c.stretch_law.ensures.answers t cycles before run clear starts calm k a below hears fits;
       phases = λ r jobs carry restarts t cycles before opened run clear starts calm. phases_in laws more c.run_law.ensures.up r jobs carry restarts opened t cycles before run clear starts calm;
     }
