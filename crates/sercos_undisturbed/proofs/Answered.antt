@@ -1,5 +1,5 @@
--- In an undisturbed epoch answers come in time, and no request is broken.
-use Rattle.std.proofs.Common.{◌≡◌, ◌⊎◌, inl, inr, ℕ, ◌+◌, ◌<◌, ◌≤◌, Bool, true, false, if◌then◌else◌, List, [], ◌∷◌, ◌++◌, length, Option, Some, None, refl, ap, ◌∙◌, subst, arith}
+-- In an undisturbed epoch answers come in time, no request is broken, and requests take no more cycles than they cost.
+use Rattle.std.proofs.Common.{◌≡◌, ◌⊎◌, inl, inr, ℕ, ◌+◌, ◌<◌, ◌≤◌, Bool, true, false, if◌then◌else◌, List, [], ◌∷◌, ◌++◌, length, Option, Some, None, refl, sym, ap, ◌∙◌, subst, arith}
 use Rattle.std.specs.Prelude.{is_some}
 use Rattle.sercos_step.specs.declared.request.Job.{Job}
 use Rattle.sercos_idn.specs.declared.code.Code.{Code}
@@ -8,6 +8,7 @@ use Rattle.sercos_step.specs.declared.request.Outcome.{Outcome}
 use Rattle.sercos_step.specs.declared.request.Outcome.TheVariants as outcome
 use Rattle.sercos_step.specs.declared.step.Answer.{Answer}
 use Rattle.sercos_step.specs.Steps.{answer_words, is_whole, outcome_of}
+use Rattle.sercos_block.specs.Stores.{store_of}
 use Rattle.sercos_block.specs.Views.{RingView}
 use Rattle.sercos_service_master.specs.Begun.{Begun, answers_it}
 use Rattle.sercos_service_master.specs.Calls.{begun_by}
@@ -21,10 +22,13 @@ use Rattle.sercos_script.specs.Links.{Carry, Restarts}
 use Rattle.sercos_handshake.specs.Views.{Heard, View}
 use Rattle.sercos_handshake.specs.Epochs.{epoch_begun}
 use Rattle.sercos_handshake.specs.RunLaws.{ComesUp}
-use Rattle.sercos_pace.specs.Stretches.{AreClean}
+use Rattle.sercos_handshake.specs.WholeRun.{AreSound}
+use Rattle.sercos_pace.specs.Stretches.{AreClean, open_since}
 use Rattle.sercos_pace.specs.Passages.{BeginsEpoch, StaysClean}
 use Rattle.sercos_pace.specs.Ages.{age_in, AgesInTime, AnswersAtAge}
 use Rattle.sercos_pace.specs.ChannelCalls.{NoneLate}
+use Rattle.sercos_pace.specs.Costs.{AreListed, AreTimed, ComesTimed, cost_of, cost_in}
+use Rattle.sercos_pace.specs.StartCosts.{StartsInCost}
 use Rattle.sercos_journal.specs.Runs.{drive_at, no_events, master_calls, restart_events, IsRun, IsClear}
 use Rattle.sercos_agenda.specs.Turns.{WorkInTurn}
 use Rattle.sercos_agenda.specs.Reported.{IsReportOf, with_told, told_at_end}
@@ -32,13 +36,16 @@ use Rattle.sercos_agenda.specs.Events.{HasOutcome, HasReport}
 use Rattle.sercos_views.specs.RingViews.{behind_mdt, view_of, views_of}
 use Rattle.sercos_views.proofs.Members.{members_count}
 use Rattle.sercos_held.specs.Opened.{IsOpened}
-use Rattle.sercos_held.proofs.Runs.{Laws}
+use Rattle.sercos_held.proofs.Runs.{Laws, small}
 use Rattle.sercos_headline.specs.Headline.{KeepsAll}
-use Rattle.sercos_headline.proofs.HeadlineRuns.{MoreLaws, keeps_all}
+use Rattle.sercos_headline.proofs.HeadlineRuns.{MoreLaws, all_stand, first_store, keeps_all}
 use Rattle.sercos_undisturbed.specs.Undisturbed.{AreUndisturbed}
 use Rattle.sercos_undisturbed.specs.EpochStarts.{StartsEpoch}
 use Rattle.sercos_undisturbed.specs.ViewsSince.{views_since}
 use Rattle.sercos_undisturbed.specs.StartUps.{TellsNoFall}
+use Rattle.sercos_undisturbed.proofs.CommandRuns.{first_commands}
+use Rattle.sercos_undisturbed.proofs.PassedRuns.{commands_so}
+use Rattle.sercos_undisturbed.proofs.Carried.{are_carried}
 use Rattle.sercos_undisturbed.proofs.PassedCycles.{or_first, none_below, views_split}
 use Rattle.sercos_undisturbed.proofs.NeverFalls.{begins_so, runs_split, never_falls}
 
@@ -136,3 +143,21 @@ module _ (laws : Laws) (more : MoreLaws) (turn : WorkInTurn) (comes_up : (busy :
       unbroken number (inl told) = subst (λ (e : EventsView). HasOutcome e.outcomes number outcome.Broken) quiet told
       unbroken number (inr (k, below, told)) = ended_so k number _ (let count = members_count r in omega (arith, below, count)) refl (subst (λ (o : Option Fall). HasReport (told_at_end (is_some o) ((behind_mdt r jobs carry restarts t.sent (cycles ++ before)).now.report k)
           (broken (behind_mdt r jobs carry restarts t.sent (cycles ++ before)) k) []) number outcome.Broken) none told)
+
+  -- The cycles with an open step are at most the cost of the requests.
+  pub costs_undisturbed : ((busy : ℕ) → StartsInCost busy) → ComesTimed → (cycles before : List CycleView) → IsRun r jobs carry restarts (cycles ++ before) → IsClear (cycles ++ before)
+      → StartsEpoch r jobs carry restarts before → AreUndisturbed r carry restarts cycles before → (k : ℕ) (longest : ℕ → ℕ) → k < length r.drives → AreListed longest (views_of r jobs carry restarts k (cycles ++ before))
+      → open_since (views_since r jobs carry restarts k cycles before) (views_of r jobs carry restarts k before)
+      ≤ cost_in (cost_of (drive_at r k).busy (drive_at r k).command longest (store_of (drive_at r k))) (epoch_begun (views_of r jobs carry restarts k (cycles ++ before)))
+  costs_undisturbed starts_in timed cycles before run clear starts calm k longest below listed =
+      let split = views_split r jobs carry restarts k cycles before in
+      let all = never_falls laws more turn comes_up late r jobs carry restarts opened cycles before run clear starts calm in
+      let stands = all_stand laws more r jobs carry restarts opened (cycles ++ before) run clear k below in
+      let follow = (commands_so laws more r jobs carry restarts opened (cycles ++ before) run clear k below).follow in
+      let in_time = timed (drive_at r k).command (views_of r jobs carry restarts k (cycles ++ before)) (are_carried (drive_at r k).command (first_commands r k) refl refl (views_of r jobs carry restarts k (cycles ++ before)) follow) in
+      subst (λ (l : List View). open_since (views_since r jobs carry restarts k cycles before) (views_of r jobs carry restarts k before)
+      ≤ cost_in (cost_of (drive_at r k).busy (drive_at r k).command longest (store_of (drive_at r k))) (epoch_begun l)) (sym split)
+      (starts_in (drive_at r k).busy (drive_at r k).command longest (store_of (drive_at r k)) (views_since r jobs carry restarts k cycles before) (views_of r jobs carry restarts k before)
+      (small laws r jobs carry restarts opened (first_store laws more r jobs carry restarts opened) k below) (runs_split laws more r jobs carry restarts opened cycles before run clear k below)
+      (subst (λ (l : List View). AreSound (store_of (drive_at r k)) l) split stands.sound) (subst (λ (l : List View). AreTimed (drive_at r k).command l) split in_time)
+      (subst (λ (l : List View). AreListed longest l) split listed) (begins_so r jobs carry restarts k before starts) (all.whole k below) (all.passed k below)).0

@@ -26,5 +26,6 @@ pub mod StaysUp
 pub mod PhaseCounts
 pub mod PhaseRuns
 pub mod NeverFalls
+pub mod Carried
 pub mod Answered
 pub mod PhasesRise

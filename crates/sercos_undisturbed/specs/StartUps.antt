@@ -2,6 +2,7 @@
 use Rattle.std.specs.Prelude.{◌≡◌, ℕ, ◌+◌, ◌<◌, ◌≤◌, true, List, [], ◌∷◌, ◌++◌, length, Some, None}
 use Rattle.sercos_step.specs.declared.request.Job.{Job}
 use Rattle.sercos_step.specs.declared.request.Outcome.TheVariants as outcome
+use Rattle.sercos_block.specs.Stores.{store_of}
 use Rattle.sercos_block.specs.Views.{RingView}
 use Rattle.sercos_trace.specs.Views.{CycleView}
 use Rattle.sercos_seat.specs.Ring.{known_of}
@@ -11,7 +12,9 @@ use Rattle.sercos_service_master.specs.Begun.{answers_it}
 use Rattle.sercos_handshake.specs.Views.{Heard}
 use Rattle.sercos_handshake.specs.Epochs.{epoch_begun}
 use Rattle.sercos_pace.specs.Passages.{AreWhole, AreUp, AreHeard}
+use Rattle.sercos_pace.specs.Stretches.{open_since}
 use Rattle.sercos_pace.specs.Ages.{age_in}
+use Rattle.sercos_pace.specs.Costs.{AreListed, cost_of, cost_in}
 use Rattle.sercos_journal.specs.Runs.{drive_at, IsRun, IsClear}
 use Rattle.sercos_agenda.specs.Events.{HasOutcome}
 use Rattle.sercos_views.specs.RingViews.{behind_mdt, view_of, views_of}
@@ -65,3 +68,11 @@ AnswersUndisturbed = (r : RingView) (jobs : List Job) (carry : Carry) (restarts 
     IsClear (t ∷ (cycles ++ before)) → StartsEpoch r jobs carry restarts before → AreUndisturbed r carry restarts (t ∷ cycles) before → (k : ℕ) (a : Heard) → k < length r.drives →
     (view_of r jobs carry restarts k t (cycles ++ before)).heard ≡ Some a → answers_it (epoch_begun (views_of r jobs carry restarts k (cycles ++ before))) a.status ≡ true →
     age_in (views_of r jobs carry restarts k (cycles ++ before)) ≡ (drive_at r k).busy + 1
+
+-- The cycles of such an epoch in which a step to a drive is open are at most the cost of the requests to it that were begun, if each of its
+-- lists is at most so long in them as `longest` says.
+abbrev pub CostsUndisturbed : Type 0
+CostsUndisturbed = (r : RingView) (jobs : List Job) (carry : Carry) (restarts : Restarts) (cycles before : List CycleView) → IsOpened r jobs → IsRun r jobs carry restarts (cycles ++ before) → IsClear (cycles ++ before) →
+    StartsEpoch r jobs carry restarts before → AreUndisturbed r carry restarts cycles before → (k : ℕ) (longest : ℕ → ℕ) → k < length r.drives → AreListed longest (views_of r jobs carry restarts k (cycles ++ before)) →
+    open_since (views_since r jobs carry restarts k cycles before) (views_of r jobs carry restarts k before)
+    ≤ cost_in (cost_of (drive_at r k).busy (drive_at r k).command longest (store_of (drive_at r k))) (epoch_begun (views_of r jobs carry restarts k (cycles ++ before)))

@@ -1,5 +1,5 @@
 // The laws of an epoch in which nothing is disturbed.
-ghost use Rattle.sercos_undisturbed.specs.StartUps.{AgesUndisturbed, AnswersUndisturbed, ComesToPhaseTwo, StaysUpUndisturbed, TellsNoFallUndisturbed};
+ghost use Rattle.sercos_undisturbed.specs.StartUps.{AgesUndisturbed, AnswersUndisturbed, ComesToPhaseTwo, CostsUndisturbed, StaysUpUndisturbed, TellsNoFallUndisturbed};
 
 use sercos_agenda::{agenda_law, report_law, stop_law};
 use sercos_block::{ring_law, store_law};
@@ -7,7 +7,7 @@ use sercos_drive::drive_law;
 use sercos_handshake::{exact_law, run_law, transfer_law, values_law};
 use sercos_hdlc::framing_law;
 use sercos_master::master_law;
-use sercos_pace::{calls_law, passage_law, stretch_law};
+use sercos_pace::{calls_law, cost_law, passage_law, stretch_law};
 use sercos_service_drive::writes_law;
 use sercos_startup::{
     answer_law, cause_law, held_values_law, ring_slot_law, start_up_law, store_of_law,
@@ -18,12 +18,14 @@ use sercos_typed::typed_law;
 /// whatever was lost before, and as long as every telegram that is sent arrives as it was sent and no station restarts: the ring doesn't
 /// fall; each drive stands in the commanded phase in every cycle, and the master hears it in phases 3 and 4. No record has a fall or
 /// tells a request as broken. No step is open for longer than the busy time of its drive and one cycle, and an answer comes exactly
-/// then. Phase 0 is commanded in ten cycles, then phase 1 in one cycle more than there are drives, and then phase 2.
+/// then; so the cycles in which a step to a drive is open are at most the cost of its requests. Phase 0 is commanded in ten cycles,
+/// then phase 1 in one cycle more than there are drives, and then phase 2.
 pub fn undisturbed_law()
     ensures stays { StaysUpUndisturbed }
     ensures tells { TellsNoFallUndisturbed }
     ensures ages { AgesUndisturbed }
     ensures answers { AnswersUndisturbed }
+    ensures costs { CostsUndisturbed }
     ensures phases { ComesToPhaseTwo }
 {
     agenda_law();
@@ -49,4 +51,5 @@ pub fn undisturbed_law()
     calls_law();
     passage_law();
     stretch_law();
+    cost_law();
 }

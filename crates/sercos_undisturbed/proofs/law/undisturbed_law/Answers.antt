@@ -1,7 +1,7 @@
 use Rattle.sercos_headline.proofs.HeadlineRuns.{MoreLaws}
 use Rattle.sercos_headline.proofs.WellRuns.{StopLaws}
 use Rattle.sercos_held.proofs.Runs.{Laws}
-use Rattle.sercos_undisturbed.proofs.Answered.{ages_undisturbed, answers_undisturbed, tells_no_fall}
+use Rattle.sercos_undisturbed.proofs.Answered.{ages_undisturbed, answers_undisturbed, costs_undisturbed, tells_no_fall}
 use Rattle.sercos_undisturbed.proofs.NeverFalls.{stays_throughout}
 use Rattle.sercos_undisturbed.proofs.PhaseRuns.{phases_in}
 use Rattle.sercos_undisturbed.proofs.law.undisturbed_law.Goals as goal
@@ -84,5 +84,7 @@ returns c =
           ages_undisturbed laws more c.agenda_law.ensures.turn c.run_law.ensures.up c.calls_law.ensures.late r jobs carry restarts opened c.passage_law.ensures.clean c.stretch_law.ensures.ages cycles before run clear starts calm k below;
       answers = λ r jobs carry restarts t cycles before opened run clear starts calm k a below hears fits.
           answers_undisturbed laws more c.agenda_law.ensures.turn c.run_law.ensures.up c.calls_law.ensures.late r jobs carry restarts opened c.passage_law.ensures.clean c.stretch_law.ensures.answers t cycles before run clear starts calm k a below hears fits;
+      costs = λ r jobs carry restarts cycles before opened run clear starts calm k longest below listed.
+          costs_undisturbed laws more c.agenda_law.ensures.turn c.run_law.ensures.up c.calls_law.ensures.late r jobs carry restarts opened c.cost_law.ensures.starts c.cost_law.ensures.timed cycles before run clear starts calm k longest below listed;
       phases = λ r jobs carry restarts t cycles before opened run clear starts calm. phases_in laws more c.run_law.ensures.up r jobs carry restarts opened t cycles before run clear starts calm;
     }
