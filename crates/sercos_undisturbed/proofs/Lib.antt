@@ -29,3 +29,4 @@ pub mod NeverFalls
 pub mod Carried
 pub mod Answered
 pub mod PhasesRise
+pub mod Sections

@@ -3,3 +3,4 @@ pub mod CommandsFollow
 pub mod EpochStarts
 pub mod ViewsSince
 pub mod StartUps
+pub mod Sections

@@ -1,4 +1,5 @@
 // The laws of an epoch in which nothing is disturbed.
+ghost use Rattle.sercos_undisturbed.specs.Sections.{NoneIdleInThree, NoneIdleInTwo};
 ghost use Rattle.sercos_undisturbed.specs.StartUps.{AgesUndisturbed, AnswersUndisturbed, ComesToPhaseTwo, CostsUndisturbed, StaysUpUndisturbed, TellsNoFallUndisturbed};
 
 use sercos_agenda::{agenda_law, report_law, stop_law};
@@ -19,13 +20,17 @@ use sercos_typed::typed_law;
 /// fall; each drive stands in the commanded phase in every cycle, and the master hears it in phases 3 and 4. No record has a fall or
 /// tells a request as broken. No step is open for longer than the busy time of its drive and one cycle, and an answer comes exactly
 /// then; so the cycles in which a step to a drive is open are at most the cost of its requests. Phase 0 is commanded in ten cycles,
-/// then phase 1 in one cycle more than there are drives, and then phase 2.
+/// then phase 1 in one cycle more than there are drives, and then phase 2. In every run in which nothing was unseen: as long as the
+/// master goes on with phase 2, a step to some drive is open in each cycle, so the cycles are at most the sum of those of the drives;
+/// and in phase 3 a step is open to each drive until its check has ended.
 pub fn undisturbed_law()
     ensures stays { StaysUpUndisturbed }
     ensures tells { TellsNoFallUndisturbed }
     ensures ages { AgesUndisturbed }
     ensures answers { AnswersUndisturbed }
     ensures costs { CostsUndisturbed }
+    ensures two { NoneIdleInTwo }
+    ensures three { NoneIdleInThree }
     ensures phases { ComesToPhaseTwo }
 {
     agenda_law();

@@ -4,6 +4,7 @@ use Rattle.sercos_held.proofs.Runs.{Laws}
 use Rattle.sercos_undisturbed.proofs.Answered.{ages_undisturbed, answers_undisturbed, costs_undisturbed, tells_no_fall}
 use Rattle.sercos_undisturbed.proofs.NeverFalls.{stays_throughout}
 use Rattle.sercos_undisturbed.proofs.PhaseRuns.{phases_in}
+use Rattle.sercos_undisturbed.proofs.Sections.{never_idle, none_idle}
 use Rattle.sercos_undisturbed.proofs.law.undisturbed_law.Goals as goal
 
 pub returns : goal.returns
@@ -86,5 +87,7 @@ returns c =
           answers_undisturbed laws more c.agenda_law.ensures.turn c.run_law.ensures.up c.calls_law.ensures.late r jobs carry restarts opened c.passage_law.ensures.clean c.stretch_law.ensures.answers t cycles before run clear starts calm k a below hears fits;
       costs = λ r jobs carry restarts cycles before opened run clear starts calm k longest below listed.
           costs_undisturbed laws more c.agenda_law.ensures.turn c.run_law.ensures.up c.calls_law.ensures.late r jobs carry restarts opened c.cost_law.ensures.starts c.cost_law.ensures.timed cycles before run clear starts calm k longest below listed;
+      two = λ r jobs carry restarts cycles before opened run clear goes. none_idle laws more c.agenda_law.ensures.two r jobs carry restarts opened cycles before run clear goes;
+      three = λ r jobs carry restarts k cycles before opened run clear below goes. never_idle laws more c.agenda_law.ensures.three r jobs carry restarts opened k below cycles before run clear goes;
       phases = λ r jobs carry restarts t cycles before opened run clear starts calm. phases_in laws more c.run_law.ensures.up r jobs carry restarts opened t cycles before run clear starts calm;
     }
