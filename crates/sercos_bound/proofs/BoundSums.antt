@@ -1,9 +1,11 @@
 -- The bounds, from sums over the drives.
-use Rattle.std.proofs.Common.{◌≡◌, ◌⊎◌, inl, inr, ℕ, zero, suc, ◌+◌, ◌*◌, ◌≤◌, List, [], ◌∷◌, ◌++◌, length, refl, ap, arith, max}
+use Rattle.std.proofs.Common.{◌≡◌, ◌⊎◌, inl, inr, ℕ, zero, suc, ◌+◌, ◌*◌, ◌≤◌, List, [], ◌∷◌, ◌++◌, length, refl, ap, arith, max, ◌∙◌}
 use Rattle.std.specs.List.{sum_by, sum}
 use Rattle.std.proofs.lemmas.Bool.{cases_eq}
 use Rattle.std.proofs.lemmas.List.Sums.{sum_by-cons}
-use Rattle.sercos_bound.specs.Bounds.{Station, greatest, slowest, startup_of, read_cycles, write_cycles, command_cycles, refusal_cycles, section_cycles, FewWrites, FewStatuses, IsStarted, IsRefusedEarly, IsRefusedLate, AreShort, IsReported, IsBackAtOnce, IsBackLater, AreSections, sum_from, over, OneByOne, AreBelow, IsBelowTotal, IsBelowGreatest}
+use Rattle.sercos_block.specs.Views.{DriveView}
+use Rattle.sercos_block.specs.Startup.{startup_of}
+use Rattle.sercos_bound.specs.Bounds.{listed, greatest, slowest, read_cycles, write_cycles, command_cycles, refusal_cycles, section_cycles, FewWrites, FewStatuses, IsStarted, IsRefusedEarly, IsRefusedLate, AreShort, IsReported, IsBackAtOnce, IsBackLater, AreSections, IsBelowGreatest}
 
 -- Products over plain numbers, each by itself, so that everything else is linear.
 times_le : (p n k : ℕ) → n ≤ k → p * n ≤ p * k
@@ -31,40 +33,40 @@ writes_of b m t polls le =
     let two : (b + 1) * (50 + m) ≡ (b + 1) * (49 + m) + (b + 1) = grind arith in omega arith
 
 pub few_writes : FewWrites
-few_writes d polls le = writes_of d.busy d.listed d.time polls le
+few_writes d polls le = writes_of d.busy (listed d) d.command polls le
 
 statuses_of : (b t polls : ℕ) → (b + 1) * polls ≤ t + (b + 1) → (b + 1) * (3 + polls) ≤ (b + 1) * 4 + t
 statuses_of b t polls le =
     let one : (b + 1) * (3 + polls) ≡ (b + 1) * 3 + (b + 1) * polls = grind arith in omega arith
 
 pub few_statuses : FewStatuses
-few_statuses d polls le = statuses_of d.busy d.time polls le
+few_statuses d polls le = statuses_of d.busy d.command polls le
 
 -- A start-up: what a drive needs in phases 2 and 3 is within its part of the bound.
-startup_parts : (d : Station) → read_cycles d + write_cycles d + command_cycles d ≤ startup_of d
+startup_parts : (d : DriveView) → read_cycles d + write_cycles d + command_cycles d ≤ startup_of d
 startup_parts d =
-    let s = opened_startup d.busy d.listed d.time in
-    let r = opened_reads d.busy d.listed in
-    let w = opened_writes d.busy d.listed in omega (arith, s, r, w)
+    let s = opened_startup d.busy (listed d) d.command in
+    let r = opened_reads d.busy (listed d) in
+    let w = opened_writes d.busy (listed d) in omega (arith, s, r, w)
 
-early_total : (ring : List Station) → sum_by read_cycles ring + sum_by write_cycles ring + greatest command_cycles ring ≤ sum_by startup_of ring
+early_total : (ring : List DriveView) → sum_by read_cycles ring + sum_by write_cycles ring + greatest command_cycles ring ≤ sum_by startup_of ring
 early_total [] = omega arith
 early_total (d ∷ ring) =
     let one = startup_parts d in
     let more = early_total ring in omega (arith, one, more, sum_by-cons read_cycles d ring, sum_by-cons write_cycles d ring, sum_by-cons startup_of d ring)
 
 pub is_started : IsStarted
-is_started ring two three four a b c = let sum = early_total ring in omega (arith, sum)
+is_started r two three four a b c = let sum = early_total r.drives in omega (arith, sum)
 
 pub is_refused_early : IsRefusedEarly
-is_refused_early ring two stop a b = let sum = early_total ring in omega (arith, sum)
+is_refused_early r two stop a b = let sum = early_total r.drives in omega (arith, sum)
 
-late_greatest : (ring : List Station) → greatest refusal_cycles ring ≤ greatest command_cycles ring + 41 * (slowest ring + 1)
+late_greatest : (ring : List DriveView) → greatest refusal_cycles ring ≤ greatest command_cycles ring + 41 * (slowest ring + 1)
 late_greatest [] = omega arith
 late_greatest (d ∷ ring) = let more = late_greatest ring in omega (arith, more)
 
 pub is_refused_late : IsRefusedLate
-is_refused_late ring two three stop a b c = let sum = early_total ring in let late = late_greatest ring in omega (arith, sum, late)
+is_refused_late r two three stop a b c = let sum = early_total r.drives in let late = late_greatest r.drives in omega (arith, sum, late)
 
 -- Requests.
 short_one : (b t n : ℕ) → (n ≤ 517) ⊎ ((b + 1) * n ≤ t + 4 * (b + 1)) → (b + 1) * n ≤ (b + 2) * (520 + t)
@@ -74,36 +76,36 @@ short_one b t n (inl few) =
 short_one b t n (inr few) =
     let all : (b + 2) * (520 + t) ≡ 520 * b + b * t + 1040 + 2 * t = grind arith in omega (arith, all)
 
-short_sum : (d : Station) (counts : List ℕ) → AreShort d counts → (d.busy + 1) * sum counts ≤ length counts * ((d.busy + 2) * (520 + d.time))
+short_sum : (d : DriveView) (counts : List ℕ) → AreShort d counts → (d.busy + 1) * sum counts ≤ length counts * ((d.busy + 2) * (520 + d.command))
 short_sum d [] are = omega arith
 short_sum d (n ∷ counts) are =
-    let one = short_one d.busy d.time n are.1 in
+    let one = short_one d.busy d.command n are.1 in
     let more = short_sum d counts are.0 in
     let first : (d.busy + 1) * sum (n ∷ counts) ≡ (d.busy + 1) * (n + sum counts) = ap (λ (x : ℕ). (d.busy + 1) * x) (sum_by-cons (λ x. x) n counts) in
     let left = times_sum d.busy n (sum counts) in
-    let right = times_suc (length counts) ((d.busy + 2) * (520 + d.time)) in omega (arith, one, more, first, left, right)
+    let right = times_suc (length counts) ((d.busy + 2) * (520 + d.command)) in omega (arith, one, more, first, left, right)
 
 pub is_reported : IsReported
 is_reported d counts limit four cycle are le at = let sum = short_sum d counts are in omega (arith, sum)
 
 -- Recovery without a fall.
-slow_startup : (ring : List Station) → 1 ≤ length ring → 82 * (slowest ring + 2) ≤ sum_by startup_of ring
+slow_startup : (ring : List DriveView) → 1 ≤ length ring → 82 * (slowest ring + 2) ≤ sum_by startup_of ring
 slow_startup [] some = absurd (omega arith)
-slow_startup (d ∷ []) some = let s = opened_startup d.busy d.listed d.time in omega (arith, s)
+slow_startup (d ∷ []) some = let s = opened_startup d.busy (listed d) d.command in omega (arith, s)
 slow_startup (d ∷ e ∷ ring) some =
-    let s = opened_startup d.busy d.listed d.time in
+    let s = opened_startup d.busy (listed d) d.command in
     let more = slow_startup (e ∷ ring) (omega arith) in omega (arith, s, more, sum_by-cons startup_of d (e ∷ ring))
 
 pub is_back_at_once : IsBackAtOnce
-is_back_at_once ring lost cycle at some = let sum = slow_startup ring some in omega (arith, sum)
+is_back_at_once r lost cycle at some = let sum = slow_startup r.drives some in omega (arith, sum)
 
 -- The drive that was in phase 0, among the others.
-sum_by-middle : (f : Station → ℕ) (before after : List Station) (d : Station) → sum_by f (before ++ d ∷ after) ≡ f d + sum_by f (before ++ after)
+sum_by-middle : (f : DriveView → ℕ) (before after : List DriveView) (d : DriveView) → sum_by f (before ++ d ∷ after) ≡ f d + sum_by f (before ++ after)
 sum_by-middle f [] after d = sum_by-cons f d after
 sum_by-middle f (e ∷ before) after d =
     let more = sum_by-middle f before after d in omega (arith, more, sum_by-cons f e (before ++ d ∷ after), sum_by-cons f e (before ++ after))
 
-greatest-middle : (f : Station → ℕ) (before after : List Station) (d : Station) → greatest f (before ++ d ∷ after) ≡ max (f d) (greatest f (before ++ after))
+greatest-middle : (f : DriveView → ℕ) (before after : List DriveView) (d : DriveView) → greatest f (before ++ d ∷ after) ≡ max (f d) (greatest f (before ++ after))
 greatest-middle f [] after d = refl
 greatest-middle f (e ∷ before) after d = let more = greatest-middle f before after d in omega (arith, more)
 
@@ -120,44 +122,25 @@ section_of b m t =
     cases_max : (x y : ℕ) → (max x y ≡ x) ⊎ (max x y ≡ y)
     cases_max x y = elim (cases_eq (max x y) x) [ inl e ↦ inl e | inr ne ↦ inr (omega (arith, ne)) ]
 
-spared : (ring : List Station) → sum_by section_cycles ring + 32 * slowest ring ≤ sum_by startup_of ring
+spared : (ring : List DriveView) → sum_by section_cycles ring + 32 * slowest ring ≤ sum_by startup_of ring
 spared [] = omega arith
 spared (d ∷ ring) =
-    let one = section_of d.busy d.listed d.time in
+    let one = section_of d.busy (listed d) d.command in
     let more = spared ring in omega (arith, one, more, sum_by-cons section_cycles d ring, sum_by-cons startup_of d ring)
 
 pub is_back_later : IsBackLater
-is_back_later before after d lost fall cycle slow at late =
+is_back_later r before after d lost fall cycle same slow at late =
     let sum = spared (before ++ after) in
-    let shares = sum_by-middle startup_of before after d in
-    let slowest_of = greatest-middle (λ x. x.busy) before after d in
-    let own = opened_startup d.busy d.listed d.time in omega (arith, sum, shares, slowest_of, own)
+    let shares = ap (sum_by startup_of) same ∙ sum_by-middle startup_of before after d in
+    let slowest_of = ap (greatest (λ x. x.busy)) same ∙ greatest-middle (λ x. x.busy) before after d in
+    let own = opened_startup d.busy (listed d) d.command in omega (arith, sum, shares, slowest_of, own, slow, at, late)
 
 pub are_sections : AreSections
 are_sections d =
-    let r = times_le (d.busy + 1) (24 + 3 * d.listed) (max (24 + 3 * d.listed) (50 + d.listed)) (omega arith) in
-    let w = times_le (d.busy + 1) (50 + d.listed) (max (24 + 3 * d.listed) (50 + d.listed)) (omega arith) in (omega (arith, r), omega (arith, w))
-
--- Cycles counted by drives.
-sum-plus : (f g : ℕ → ℕ) (k n : ℕ) → sum_from (λ i. f i + g i) k n ≡ sum_from f k n + sum_from g k n
-sum-plus f g k zero = refl
-sum-plus f g k (suc n) = let more = sum-plus f g (suc k) n in omega (arith, more)
-
-pub one_by_one : OneByOne
-one_by_one opens n zero some = omega arith
-one_by_one opens n (suc c) some =
-    let before = one_by_one opens n c (λ i less. some i (omega (arith, less))) in
-    let last = some c (omega arith) in
-    let sum = sum-plus (over opens c) (opens c) 0 n in omega (arith, before, last, sum)
-
-below_by : (f : ℕ → ℕ) (bound : Station → ℕ) (k : ℕ) (ring : List Station) → AreBelow f bound k ring → sum_from f k (length ring) ≤ sum_by bound ring
-below_by f bound k [] are = omega arith
-below_by f bound k (d ∷ ring) are =
-    let one = are.0 in
-    let more = below_by f bound (suc k) ring are.1 in omega (arith, one, more, sum_by-cons bound d ring)
-
-pub is_below_total : IsBelowTotal
-is_below_total f bound ring are = below_by f bound 0 ring are
+    let r = times_le (d.busy + 1) (24 + 3 * (listed d)) (max (24 + 3 * (listed d)) (50 + (listed d))) (omega arith) in
+    let w = times_le (d.busy + 1) (50 + (listed d)) (max (24 + 3 * (listed d)) (50 + (listed d))) (omega arith) in (omega (arith, r), omega (arith, w))
 
 pub is_below_greatest : IsBelowGreatest
-is_below_greatest bound before after d cycles le = let top = greatest-middle bound before after d in omega (arith, le, top)
+is_below_greatest bound [] k d cycles got le = absurd (cc)
+is_below_greatest bound (e ∷ drives) zero d cycles got le = let same : e ≡ d = cc in let here = ap bound same in omega (arith, here, le)
+is_below_greatest bound (e ∷ drives) (suc k) d cycles got le = let more = is_below_greatest bound drives k d cycles got le in omega (arith, more)

@@ -105,7 +105,7 @@ commands_there raw blocks [] is have = tt
 commands_there raw blocks (e ∷ log) is have = (commands_there raw blocks log is have.0, command_alike raw blocks e.taken.blocks have.1 is)
 
 -- the status that a check has ended well with
-status_3 : (n : ℕ) (bytes : List ℕ) → bytes ≡ n ∷ 0 ∷ [] → ended_well bytes ≡ true → n ≡ 3
+pub status_3 : (n : ℕ) (bytes : List ℕ) → bytes ≡ n ∷ 0 ∷ [] → ended_well bytes ≡ true → n ≡ 3
 status_3 n bytes is well = let same : n + 256 * 0 ≡ 3 = eqb-true (n + 256 * 0) 3 (ap (λ (l : List ℕ). ended_well l) (sym is) ∙ well) in omega (arith, same)
 
 module _ (raw : ℕ) (passed : CommandsView → Option ℕ) (sets : PassesIfSet raw passed) (stays : StaysIfCancelled raw passed) (laws : Laws) (busy : ℕ) (blocks : List Block) (small : AreSmall blocks) (command : is_command blocks raw ≡ true)

@@ -23,7 +23,7 @@ use Rattle.sercos_views.proofs.Members.{members_count}
 use Rattle.sercos_held.specs.Opened.{IsOpened}
 use Rattle.sercos_held.proofs.Runs.{Laws, s_known}
 use Rattle.sercos_headline.proofs.HeadlineRuns.{MoreLaws, first_store, keeps_all}
-use Rattle.sercos_undisturbed.specs.Sections.{AreInTwo, AreInThree}
+use Rattle.sercos_undisturbed.specs.Sections.{GoesOnInTwo, AreInTwo, AreInThree}
 use Rattle.sercos_undisturbed.specs.ViewsSince.{views_since}
 use Rattle.sercos_undisturbed.proofs.PassedCycles.{views_split}
 
@@ -59,15 +59,15 @@ module _ (laws : Laws) (more : MoreLaws) (two : WorksInTwo) (r : RingView) (jobs
   abbrev was : List CycleView → List CycleView → ℕ → ℕ
   was cycles before k = open_since (views_since r jobs carry restarts k cycles before) (views_of r jobs carry restarts k before)
 
-  -- In each cycle of phase 2 some drive has an open step.
-  pub none_idle : (cycles before : List CycleView) → IsRun r jobs carry restarts (cycles ++ before) → IsClear (cycles ++ before) → AreInTwo r jobs carry restarts cycles before
-      → length cycles ≤ sum_below (length r.drives) (λ k. open_since (views_since r jobs carry restarts k cycles before) (views_of r jobs carry restarts k before))
-  none_idle [] before run clear goes = omega arith
-  none_idle (t ∷ cycles) before run clear goes = grown (none_idle cycles before run.0 clear.0 goes.0)
+  -- In a cycle of phase 2 some drive has an open step.
+  pub one_works : (t : CycleView) (cycles before : List CycleView) → IsRun r jobs carry restarts (t ∷ (cycles ++ before)) → IsClear (t ∷ (cycles ++ before)) → GoesOnInTwo r (behind_mdt r jobs carry restarts t.sent (cycles ++ before))
+      → sum_below (length r.drives) (was cycles before) + 1 ≤ sum_below (length r.drives) (was (t ∷ cycles) before)
+  one_works t cycles before run clear goes =
+      sum_grows (length r.drives) (was cycles before) (λ k. one_more (opens t cycles before k) (was cycles before k)) at_work.0 low (λ k. more_or_same (opens t cycles before k) (was cycles before k)) (one_more_is (opens t cycles before at_work.0) (was cycles before at_work.0) is_open)
     where
       at_work : (k : ℕ) × (k < length (known_of r).drives) × (is_idle (behind_mdt r jobs carry restarts t.sent (cycles ++ before)) k ≡ false)
       at_work = two (known_of r) (tasks_for (known_of r) jobs) (at_calls r carry (length (cycles ++ before)) (ats_in t.sent) (own_mst carry (length (cycles ++ before)) (mst_in t.sent) (begin_calls restarts (length (cycles ++ before)) (master_calls r carry restarts (cycles ++ before)))))
-          (λ k. (more.requests (known_of r) jobs k).0) (s_known laws r jobs carry restarts opened (first_store laws more r jobs carry restarts opened)).lists goes.1.phase goes.1.goes_on goes.1.planned goes.1.unchecked
+          (λ k. (more.requests (known_of r) jobs k).0) (s_known laws r jobs carry restarts opened (first_store laws more r jobs carry restarts opened)).lists goes.phase goes.goes_on goes.planned goes.unchecked
 
       low : at_work.0 < length r.drives
       low = let count = members_count r in let inside = at_work.1 in omega (arith, count, inside)
@@ -76,10 +76,12 @@ module _ (laws : Laws) (more : MoreLaws) (two : WorksInTwo) (r : RingView) (jobs
       is_open = subst (λ (l : List View). is_some (open_in (begun_in (view_of r jobs carry restarts at_work.0 t (cycles ++ before)) l)) ≡ true) (views_split r jobs carry restarts at_work.0 cycles before)
           (some_open _ (ap (λ (l : List Begun). is_none (open_in l)) ((keeps_all laws more r jobs carry restarts opened t (cycles ++ before) run clear).exact at_work.0 low).begun_now ∙ at_work.2))
 
-      grown : length cycles ≤ sum_below (length r.drives) (was cycles before) → suc (length cycles) ≤ sum_below (length r.drives) (λ k. one_more (opens t cycles before k) (was cycles before k))
-      grown before_it =
-          let grows = sum_grows (length r.drives) (was cycles before) (λ k. one_more (opens t cycles before k) (was cycles before k)) at_work.0 low (λ k. more_or_same (opens t cycles before k) (was cycles before k)) (one_more_is (opens t cycles before at_work.0) (was cycles before at_work.0) is_open) in
-          omega (arith, before_it, grows)
+  pub none_idle : (cycles before : List CycleView) → IsRun r jobs carry restarts (cycles ++ before) → IsClear (cycles ++ before) → AreInTwo r jobs carry restarts cycles before
+      → length cycles ≤ sum_below (length r.drives) (λ k. open_since (views_since r jobs carry restarts k cycles before) (views_of r jobs carry restarts k before))
+  none_idle [] before run clear goes = omega arith
+  none_idle (t ∷ cycles) before run clear goes =
+      let earlier = none_idle cycles before run.0 clear.0 goes.0 in
+      let grows = one_works t cycles before run clear goes.1 in omega (arith, earlier, grows)
 
 module _ (laws : Laws) (more : MoreLaws) (three : WorksInThree) (r : RingView) (jobs : List Job) (carry : Carry) (restarts : Restarts) (opened : IsOpened r jobs) (k : ℕ) (below : k < length r.drives) where
   -- In each cycle of phase 3 a drive whose check hasn't ended has one.

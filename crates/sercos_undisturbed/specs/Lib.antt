@@ -4,3 +4,6 @@ pub mod EpochStarts
 pub mod ViewsSince
 pub mod StartUps
 pub mod Sections
+pub mod Jobs
+pub mod Ends
+pub mod Fit

@@ -1,14 +1,17 @@
 // The laws of an epoch in which nothing is disturbed.
+ghost use Rattle.sercos_undisturbed.specs.Ends.{ComesToAnEnd, ComesToPhaseFour, StaysAtItsEnd};
+ghost use Rattle.sercos_undisturbed.specs.Fit.{FitsInThree, OwnFitsInFour};
 ghost use Rattle.sercos_undisturbed.specs.Sections.{NoneIdleInThree, NoneIdleInTwo};
 ghost use Rattle.sercos_undisturbed.specs.StartUps.{AgesUndisturbed, AnswersUndisturbed, ComesToPhaseTwo, CostsUndisturbed, StaysUpUndisturbed, TellsNoFallUndisturbed};
 
 use sercos_agenda::{agenda_law, report_law, stop_law};
 use sercos_block::{ring_law, store_law};
+use sercos_bound::bound_law;
 use sercos_drive::drive_law;
 use sercos_handshake::{exact_law, run_law, transfer_law, values_law};
 use sercos_hdlc::framing_law;
 use sercos_master::master_law;
-use sercos_pace::{calls_law, cost_law, passage_law, stretch_law};
+use sercos_pace::{calls_law, cost_law, jobs_law, passage_law, stretch_law};
 use sercos_service_drive::writes_law;
 use sercos_startup::{
     answer_law, cause_law, held_values_law, ring_slot_law, start_up_law, store_of_law,
@@ -22,7 +25,10 @@ use sercos_typed::typed_law;
 /// then; so the cycles in which a step to a drive is open are at most the cost of its requests. Phase 0 is commanded in ten cycles,
 /// then phase 1 in one cycle more than there are drives, and then phase 2. In every run in which nothing was unseen: as long as the
 /// master goes on with phase 2, a step to some drive is open in each cycle, so the cycles are at most the sum of those of the drives;
-/// and in phase 3 a step is open to each drive until its check has ended.
+/// and in phase 3 a step is open to each drive until its check has ended. So after the cycles of a start-up phase 4 is commanded, or
+/// there is a stop, or one is to come, since a check for phase 4 hasn't ended well; and after 41 steps more one of the first two is so,
+/// and stays. Phases 3 and 4 are commanded only if a plan fits what the ring asks, and the cycle time lies within each drive's limits;
+/// phase 4 only if no own block of a drive was outside its limits at opening.
 pub fn undisturbed_law()
     ensures stays { StaysUpUndisturbed }
     ensures tells { TellsNoFallUndisturbed }
@@ -32,6 +38,11 @@ pub fn undisturbed_law()
     ensures two { NoneIdleInTwo }
     ensures three { NoneIdleInThree }
     ensures phases { ComesToPhaseTwo }
+    ensures four { ComesToPhaseFour }
+    ensures ends { ComesToAnEnd }
+    ensures at_end { StaysAtItsEnd }
+    ensures fit { FitsInThree }
+    ensures own { OwnFitsInFour }
 {
     agenda_law();
     report_law();
@@ -57,4 +68,6 @@ pub fn undisturbed_law()
     passage_law();
     stretch_law();
     cost_law();
+    jobs_law();
+    bound_law();
 }

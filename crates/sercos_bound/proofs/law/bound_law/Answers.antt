@@ -1,4 +1,4 @@
-use Rattle.sercos_bound.proofs.BoundSums.{few_writes, few_statuses, is_started, is_refused_early, is_refused_late, is_reported, is_back_at_once, is_back_later, are_sections, one_by_one, is_below_total, is_below_greatest}
+use Rattle.sercos_bound.proofs.BoundSums.{few_writes, few_statuses, is_started, is_refused_early, is_refused_late, is_reported, is_back_at_once, is_back_later, are_sections, is_below_greatest}
 use Rattle.sercos_bound.proofs.law.bound_law.Goals as goal
 
 pub returns-clause-writes : goal.returns-clause-writes
@@ -27,12 +27,6 @@ returns-clause-later c = is_back_later
 
 pub returns-clause-sections : goal.returns-clause-sections
 returns-clause-sections c = are_sections
-
-pub returns-clause-one_by_one : goal.returns-clause-one_by_one
-returns-clause-one_by_one c = one_by_one
-
-pub returns-clause-total : goal.returns-clause-total
-returns-clause-total c = is_below_total
 
 pub returns-clause-greatest : goal.returns-clause-greatest
 returns-clause-greatest c = is_below_greatest

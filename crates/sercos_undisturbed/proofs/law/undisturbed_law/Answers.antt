@@ -2,6 +2,9 @@ use Rattle.sercos_headline.proofs.HeadlineRuns.{MoreLaws}
 use Rattle.sercos_headline.proofs.WellRuns.{StopLaws}
 use Rattle.sercos_held.proofs.Runs.{Laws}
 use Rattle.sercos_undisturbed.proofs.Answered.{ages_undisturbed, answers_undisturbed, costs_undisturbed, tells_no_fall}
+use Rattle.sercos_undisturbed.proofs.CycleHeld.{fits_in}
+use Rattle.sercos_undisturbed.proofs.InTime.{comes_to_end, comes_to_four, stays_at_end}
+use Rattle.sercos_undisturbed.proofs.OwnFit.{own_fits}
 use Rattle.sercos_undisturbed.proofs.NeverFalls.{stays_throughout}
 use Rattle.sercos_undisturbed.proofs.PhaseRuns.{phases_in}
 use Rattle.sercos_undisturbed.proofs.Sections.{never_idle, none_idle}
@@ -90,4 +93,15 @@ returns c =
       two = λ r jobs carry restarts cycles before opened run clear goes. none_idle laws more c.agenda_law.ensures.two r jobs carry restarts opened cycles before run clear goes;
       three = λ r jobs carry restarts k cycles before opened run clear below goes. never_idle laws more c.agenda_law.ensures.three r jobs carry restarts opened k below cycles before run clear goes;
       phases = λ r jobs carry restarts t cycles before opened run clear starts calm. phases_in laws more c.run_law.ensures.up r jobs carry restarts opened t cycles before run clear starts calm;
+      four = λ r jobs carry restarts t cycles before opened run clear starts calm long.
+          comes_to_four laws more c.agenda_law.ensures.turn c.run_law.ensures.up c.calls_law.ensures.late c.agenda_law.ensures.two c.agenda_law.ensures.three c.bound_law.ensures.started c.bound_law.ensures.greatest r jobs carry restarts opened
+          c.passage_law.ensures.throughout c.passage_law.ensures.hears c.cost_law.ensures.starts c.cost_law.ensures.timed c.jobs_law.ensures.reads c.jobs_law.ensures.writes c.jobs_law.ensures.list_read c.cost_law.ensures.since t cycles before run clear starts calm long;
+      ends = λ r jobs carry restarts t cycles before opened run clear starts calm long.
+          comes_to_end laws more c.agenda_law.ensures.turn c.run_law.ensures.up c.calls_law.ensures.late c.agenda_law.ensures.two c.agenda_law.ensures.three c.bound_law.ensures.started c.bound_law.ensures.greatest r jobs carry restarts opened
+          c.passage_law.ensures.throughout c.passage_law.ensures.hears c.cost_law.ensures.starts c.cost_law.ensures.timed c.jobs_law.ensures.reads c.jobs_law.ensures.writes c.jobs_law.ensures.list_read c.cost_law.ensures.since t cycles before run clear starts calm long;
+      at_end = λ r jobs carry restarts t u cycles before opened run clear starts calm.
+          stays_at_end laws more c.agenda_law.ensures.turn c.run_law.ensures.up c.calls_law.ensures.late c.agenda_law.ensures.two c.agenda_law.ensures.three c.bound_law.ensures.started c.bound_law.ensures.greatest r jobs carry restarts opened
+          c.passage_law.ensures.throughout c.passage_law.ensures.hears c.cost_law.ensures.starts c.cost_law.ensures.timed c.jobs_law.ensures.reads c.jobs_law.ensures.writes c.jobs_law.ensures.list_read c.cost_law.ensures.since t u cycles before run clear starts calm;
+      fit = λ r jobs carry restarts t j opened run clear late. fits_in laws more r jobs carry restarts opened t j run clear late;
+      own = λ r jobs carry restarts t j k opened run clear below four. own_fits laws more c.run_law.ensures.up r jobs carry restarts opened k below t j run clear four;
     }
