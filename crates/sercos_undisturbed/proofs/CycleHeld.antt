@@ -103,7 +103,7 @@ held_within d blocks cycle rules stored some small is holds = by (find_block 2 b
         which (inr none) = within_limits (is_fixed b) (is_protected b.attribute 2) (nat_lt cycle d.cycle_min) (nat_lt d.cycle_max cycle)
             (ap (λ (o : Option ℕ). option_or (write_fault (Some b) 2) o) (sym (ap (data_fault b) (sym value) ∙ none)) ∙ sym (ap (λ (o : Option Block). put_fault o 2 (to_le_bytes w16 cycle)) found) ∙ refuses_cycle d blocks cycle rules stored small)
 
-cycle_some : (c : ℕ) → (c ≡ 125) ⊎ ((250 ≤ c) × (c ≤ 64000) × (c % 250 ≡ 0)) → (1 ≤ c) × (c < 65536)
+pub cycle_some : (c : ℕ) → (c ≡ 125) ⊎ ((250 ≤ c) × (c ≤ 64000) × (c % 250 ≡ 0)) → (1 ≤ c) × (c < 65536)
 cycle_some c (inl is) = (omega (arith, is), omega (arith, is))
 cycle_some c (inr (low, high, whole)) = (omega (arith, low), omega (arith, high))
 

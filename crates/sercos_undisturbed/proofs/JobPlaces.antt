@@ -40,7 +40,7 @@ module _ (s : Known) (k : ℕ) where
   reading None n low = refl
   reading (Some p) n low = let long = reads_length (member s k) in get_left (reads (member s k)) (writes s p k ++ request.Command (idn 127) ∷ request.Command (idn 128) ∷ request.Read (idn 22) 7 ∷ []) n (omega (arith, low, long))
 
-  later : (p : PlanView) (n i : ℕ) → n ≡ reads_count (member s k) + i → slice_get (jobs_of s (Some p) k) n ≡ slice_get (writes s p k ++ request.Command (idn 127) ∷ request.Command (idn 128) ∷ request.Read (idn 22) 7 ∷ []) i
+  pub later : (p : PlanView) (n i : ℕ) → n ≡ reads_count (member s k) + i → slice_get (jobs_of s (Some p) k) n ≡ slice_get (writes s p k ++ request.Command (idn 127) ∷ request.Command (idn 128) ∷ request.Read (idn 22) 7 ∷ []) i
   later p n i at = let long = reads_length (member s k) in get_right (reads (member s k)) (writes s p k ++ request.Command (idn 127) ∷ request.Command (idn 128) ∷ request.Read (idn 22) 7 ∷ []) n i (omega (arith, at, long))
 
   pub is_check : (p : PlanView) (n : ℕ) → n ≡ reads_count (member s k) + 11 → slice_get (jobs_of s (Some p) k) n ≡ Some (request.Command (idn 127))

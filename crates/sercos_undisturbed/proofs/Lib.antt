@@ -45,3 +45,8 @@ pub mod CycleHeld
 pub mod OwnSet
 pub mod BuiltInWrites
 pub mod OwnFit
+pub mod RefusedSteps
+pub mod RefusedCauses
+pub mod RefusedRuns
+pub mod RefusedJobs
+pub mod RefusedStops

@@ -1,6 +1,7 @@
 // The laws of an epoch in which nothing is disturbed.
 ghost use Rattle.sercos_undisturbed.specs.Ends.{ComesToAnEnd, ComesToPhaseFour, StaysAtItsEnd};
 ghost use Rattle.sercos_undisturbed.specs.Fit.{FitsInThree, OwnFitsInFour};
+ghost use Rattle.sercos_undisturbed.specs.Refusals.{RefusesTheCycleTime};
 ghost use Rattle.sercos_undisturbed.specs.Sections.{NoneIdleInThree, NoneIdleInTwo};
 ghost use Rattle.sercos_undisturbed.specs.StartUps.{AgesUndisturbed, AnswersUndisturbed, ComesToPhaseTwo, CostsUndisturbed, StaysUpUndisturbed, TellsNoFallUndisturbed};
 
@@ -8,8 +9,9 @@ use sercos_agenda::{agenda_law, report_law, stop_law};
 use sercos_block::{ring_law, store_law};
 use sercos_bound::bound_law;
 use sercos_drive::drive_law;
-use sercos_handshake::{exact_law, run_law, transfer_law, values_law};
+use sercos_handshake::{exact_law, parts_law, run_law, transfer_law, values_law};
 use sercos_hdlc::framing_law;
+use sercos_idn::attribute_law;
 use sercos_master::master_law;
 use sercos_pace::{calls_law, cost_law, jobs_law, passage_law, stretch_law};
 use sercos_service_drive::writes_law;
@@ -28,7 +30,8 @@ use sercos_typed::typed_law;
 /// and in phase 3 a step is open to each drive until its check has ended. So after the cycles of a start-up phase 4 is commanded, or
 /// there is a stop, or one is to come, since a check for phase 4 hasn't ended well; and after 41 steps more one of the first two is so,
 /// and stays. Phases 3 and 4 are commanded only if a plan fits what the ring asks, and the cycle time lies within each drive's limits;
-/// phase 4 only if no own block of a drive was outside its limits at opening.
+/// phase 4 only if no own block of a drive was outside its limits at opening. What a drive refuses in phase 2 is the cycle time, if it is
+/// outside the drive's limits.
 pub fn undisturbed_law()
     ensures stays { StaysUpUndisturbed }
     ensures tells { TellsNoFallUndisturbed }
@@ -43,6 +46,7 @@ pub fn undisturbed_law()
     ensures at_end { StaysAtItsEnd }
     ensures fit { FitsInThree }
     ensures own { OwnFitsInFour }
+    ensures refused { RefusesTheCycleTime }
 {
     agenda_law();
     report_law();
@@ -51,10 +55,12 @@ pub fn undisturbed_law()
     store_law();
     drive_law();
     exact_law();
+    parts_law();
     run_law();
     transfer_law();
     values_law();
     framing_law();
+    attribute_law();
     master_law();
     writes_law();
     answer_law();

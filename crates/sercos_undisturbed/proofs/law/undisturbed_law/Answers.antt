@@ -1,3 +1,4 @@
+use Rattle.sercos_handshake.proofs.AttributeReplies.{shape-attribute}
 use Rattle.sercos_headline.proofs.HeadlineRuns.{MoreLaws}
 use Rattle.sercos_headline.proofs.WellRuns.{StopLaws}
 use Rattle.sercos_held.proofs.Runs.{Laws}
@@ -7,6 +8,7 @@ use Rattle.sercos_undisturbed.proofs.InTime.{comes_to_end, comes_to_four, stays_
 use Rattle.sercos_undisturbed.proofs.OwnFit.{own_fits}
 use Rattle.sercos_undisturbed.proofs.NeverFalls.{stays_throughout}
 use Rattle.sercos_undisturbed.proofs.PhaseRuns.{phases_in}
+use Rattle.sercos_undisturbed.proofs.RefusedStops.{refused_stop}
 use Rattle.sercos_undisturbed.proofs.Sections.{never_idle, none_idle}
 use Rattle.sercos_undisturbed.proofs.law.undisturbed_law.Goals as goal
 
@@ -104,4 +106,8 @@ returns c =
           c.passage_law.ensures.throughout c.passage_law.ensures.hears c.cost_law.ensures.starts c.cost_law.ensures.timed c.jobs_law.ensures.reads c.jobs_law.ensures.writes c.jobs_law.ensures.list_read c.cost_law.ensures.since t u cycles before run clear starts calm;
       fit = λ r jobs carry restarts t j opened run clear late. fits_in laws more r jobs carry restarts opened t j run clear late;
       own = λ r jobs carry restarts t j k opened run clear below four. own_fits laws more c.run_law.ensures.up r jobs carry restarts opened k below t j run clear four;
+      refused = λ r jobs carry restarts t j address i code opened run clear stays two is.
+          let law = c.attribute_law.ensures in
+          refused_stop laws more c.run_law.ensures.up c.parts_law.ensures.replies c.parts_law.ensures.transfers c.run_law.ensures.in_phase (λ b fits. shape-attribute b.attribute (law.small b.attribute fits) (law.sound b.attribute fits) (law.back b.attribute fits))
+          c.stop_law.ensures.refused r jobs carry restarts opened t j run clear stays two address i code is;
     }

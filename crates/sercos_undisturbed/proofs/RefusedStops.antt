@@ -1,0 +1,85 @@
+-- A stop in phase 2 that comes of a refusal comes of the cycle time.
+use Rattle.std.proofs.Common.{◌≡◌, ℕ, ◌<◌, List, ◌∷◌, length, Option, Some, None, sym, ap, ◌∙◌, subst, arith}
+use Rattle.std.specs.Prelude.{is_some}
+use Rattle.sercos_idn.specs.declared.code.Code.{Code}
+use Rattle.sercos_idn.specs.declared.idn.Idn.{Idn}
+use Rattle.sercos_step.specs.declared.request.Job.{Job}
+use Rattle.sercos_step.specs.declared.request.Request.{Request}
+use Rattle.sercos_block.specs.Views.{RingView}
+use Rattle.sercos_service_master.specs.Begun.{Begun}
+use Rattle.sercos_trace.specs.Views.{CycleView}
+use Rattle.sercos_trace.specs.declared.events.Fall.{Fall}
+use Rattle.sercos_trace.specs.declared.events.Stop.TheVariants as stop
+use Rattle.sercos_seat.specs.Agenda.{asked_by}
+use Rattle.sercos_seat.specs.Ring.{MemberView, known_of, tasks_for}
+use Rattle.sercos_master.specs.Annals.{Past, fall_of}
+use Rattle.sercos_script.specs.Links.{Carry, Restarts}
+use Rattle.sercos_handshake.specs.Epochs.{epoch_begun}
+use Rattle.sercos_handshake.specs.Parts.{HaveReplies, MakeTransfers}
+use Rattle.sercos_handshake.specs.RunLaws.{ComesUp, ProcessesInPhase}
+use Rattle.sercos_startup.proofs.CheckPasses.{KeepsRules, ring_drive}
+use Rattle.sercos_journal.specs.Runs.{drive_at, middle, IsRun, IsClear}
+use Rattle.sercos_agenda.specs.Stops.{RefusedHasCause, HasRefused}
+use Rattle.sercos_views.specs.RingViews.{behind_mdt, view_of, views_of}
+use Rattle.sercos_views.proofs.Members.{members_count, member_is}
+use Rattle.sercos_held.specs.Opened.{IsOpened}
+use Rattle.sercos_held.proofs.Runs.{drive_got, small, s_known}
+use Rattle.sercos_held.proofs.Runs as held
+use Rattle.sercos_headline.proofs.HeadlineRuns.{MoreLaws, all_stand, first_store}
+use Rattle.sercos_undisturbed.specs.Jobs.{jobs_of, AreAt}
+use Rattle.sercos_undisturbed.specs.Refusals.{RefusesCycleTime}
+use Rattle.sercos_undisturbed.proofs.StaysUp.{phase_now}
+use Rattle.sercos_undisturbed.proofs.JobsBegun.{begun_end, begun_now, places_now, few_now}
+use Rattle.sercos_undisturbed.proofs.CycleHeld.{cycle_some}
+use Rattle.sercos_undisturbed.proofs.RefusedRuns.{IsRefused, IsCycle, SaysShape, newest_refused}
+use Rattle.sercos_undisturbed.proofs.RefusedJobs.{refused_job}
+
+module _ (laws : held.Laws) (more : MoreLaws) (comes_up : (busy : ℕ) → ComesUp busy) (replies : HaveReplies) (transfers : MakeTransfers) (in_phase : ProcessesInPhase) (says : SaysShape) (cause : RefusedHasCause)
+    (r : RingView) (jobs : List Job) (carry : Carry) (restarts : Restarts) (opened : IsOpened r jobs) (t : CycleView) (j : List CycleView) (run : IsRun r jobs carry restarts (t ∷ j)) (clear : IsClear (t ∷ j))
+    (stays : fall_of (known_of r) (behind_mdt r jobs carry restarts t.sent j) ≡ None) (two : t.phase ≡ 2) where
+  abbrev now : Past
+  now = behind_mdt r jobs carry restarts t.sent j
+
+  now_two : (behind_mdt r jobs carry restarts t.sent j).now.phase ≡ 2
+  now_two = phase_now laws more comes_up r jobs carry restarts opened t j run.1 ∙ two
+
+  -- THE NEWEST REQUEST of a channel, refused
+  pub refused_here : (k : ℕ) → k < length r.drives → (one : Begun) (older : List Begun) (code : Code) → epoch_begun (views_of r jobs carry restarts k (t ∷ j)) ≡ one ∷ older → (ref : IsRefused (drive_at r k) one.request code 2) → IsCycle (drive_at r k) r.cycle one.request code
+  refused_here k below one older code split ref =
+      let keeps : KeepsRules (drive_at r k) = ring_drive r k (drive_at r k) opened.valid (drive_got r k below) in
+      let few = few_now laws more r jobs carry restarts opened t j run clear stays k below (let n = now_two in omega (arith, n)) in
+      let place = subst (AreAt (jobs_of (known_of r) now.plan k)) split (places_now laws more r jobs carry restarts opened t j run clear stays k below (let n = now_two in omega (arith, n))) in
+      let long = ap (λ (l : List Begun). length l) split in
+      let phases = ref.between in
+      refused_job says (drive_at r k) keeps.blocks (small laws r jobs carry restarts opened (first_store laws more r jobs carry restarts opened) k below) keeps.at keeps.mdt (opened.typed k below).at (opened.typed k below).mdt
+      (known_of r) k (member_is r k) (cycle_some r.cycle (s_known laws r jobs carry restarts opened (first_store laws more r jobs carry restarts opened)).cycles.cycle).1 code now.plan (length older) one.request (omega (arith, few, long)) place.1 ref
+      (omega (arith, phases))
+
+  pub refused_stop : (address : ℕ) (i : Idn) (code : Code) → now.stop ≡ Some (stop.Refused address i code) → RefusesCycleTime r address i code
+  refused_stop address i code is = by (cause (known_of r) (tasks_for (known_of r) jobs) (middle r carry restarts t.sent j) address i code is)
+    where
+      by : HasRefused (known_of r) (behind_mdt r jobs carry restarts t.sent j) address i code → RefusesCycleTime r address i code
+      by has = record {
+        place = has.ended.place;
+        there = low;
+        address_is = ap (λ (m : MemberView). m.address) (sym (member_is r has.ended.place)) ∙ has.ended.address_is;
+        number = sym (ap (λ (x : Idn). x.raw) (sym (ap (λ (q : Request). (asked_by q).idn) (sym has.ended.asks ∙ cycle.asks)) ∙ has.names));
+        outside = cycle.limit;
+      }
+        where
+          low : has.ended.place < length r.drives
+          low = let count = members_count r in let there = has.ended.there in omega (arith, count, there)
+
+          split : epoch_begun (views_of r jobs carry restarts has.ended.place (t ∷ j)) ≡ has.ended.one ∷ has.ended.older
+          split = sym (begun_now laws more r jobs carry restarts opened t j run clear stays has.ended.place low) ∙ has.ended.begun
+
+          stands : held.Stands r jobs carry restarts (t ∷ j) has.ended.place
+          stands = all_stand laws more r jobs carry restarts opened (t ∷ j) run clear has.ended.place low
+
+          ref : IsRefused (drive_at r has.ended.place) has.ended.one.request code t.phase
+          ref = newest_refused more.stop_laws.lower.transfers replies transfers in_phase (drive_at r has.ended.place).busy (drive_at r has.ended.place) (small laws r jobs carry restarts opened (first_store laws more r jobs carry restarts opened) has.ended.place low)
+              (view_of r jobs carry restarts has.ended.place t j) (views_of r jobs carry restarts has.ended.place j) stands.sees.run stands.sound stands.stored (ap (λ (o : Option Fall). is_some o) stays) has.ended.one has.ended.older code
+              (sym (begun_end laws more r jobs carry restarts opened t j run clear stays has.ended.place) ∙ split) has.ended.ended
+
+          cycle : IsCycle (drive_at r has.ended.place) r.cycle has.ended.one.request code
+          cycle = refused_here has.ended.place low has.ended.one has.ended.older code split (subst (λ (n : ℕ). IsRefused (drive_at r has.ended.place) has.ended.one.request code n) two ref)

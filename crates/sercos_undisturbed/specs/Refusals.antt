@@ -1,0 +1,32 @@
+-- Why a drive refuses a request of the start-up in phase 2. The newest cycle of a journal comes first.
+use Rattle.std.specs.Prelude.{◌≡◌, ◌⊎◌, ℕ, ◌<◌, List, ◌∷◌, length, Some, None}
+use Rattle.sercos_idn.specs.declared.code.Code.{Code}
+use Rattle.sercos_idn.specs.declared.idn.Idn.{Idn}
+use Rattle.sercos_step.specs.declared.request.Job.{Job}
+use Rattle.sercos_block.specs.Views.{RingView, DriveView}
+use Rattle.sercos_trace.specs.Views.{CycleView}
+use Rattle.sercos_trace.specs.declared.events.Stop.TheVariants as stop
+use Rattle.sercos_seat.specs.Ring.{known_of}
+use Rattle.sercos_master.specs.Annals.{fall_of}
+use Rattle.sercos_script.specs.Links.{Carry, Restarts}
+use Rattle.sercos_journal.specs.Runs.{drive_at, IsRun, IsClear}
+use Rattle.sercos_views.specs.RingViews.{behind_mdt}
+use Rattle.sercos_held.specs.Opened.{IsOpened}
+
+-- the cycle time lies below the least that the drive can, and the code says so; or above the greatest
+abbrev pub IsOutside : DriveView → ℕ → Code → Type 0
+IsOutside d cycle code = ((cycle < d.cycle_min) × (code.raw ≡ 0x7006)) ⊎ ((d.cycle_max < cycle) × (code.raw ≡ 0x7007))
+
+-- The drive with this address refused the cycle time, S-0-0002, since it is outside the drive's limits.
+pub record RefusesCycleTime (r : RingView) (address : ℕ) (i : Idn) (code : Code) : Type 0 where
+  pub place : ℕ
+  pub there : place < length r.drives
+  pub address_is : (drive_at r place).address ≡ address
+  pub number : i.raw ≡ 2
+  pub outside : IsOutside (drive_at r place) r.cycle code
+
+-- So it is wherever the master has stopped in phase 2 since a drive refused something, in every run in which nothing was unseen, if the ring
+-- doesn't fall at the end of the cycle.
+abbrev pub RefusesTheCycleTime : Type 0
+RefusesTheCycleTime = (r : RingView) (jobs : List Job) (carry : Carry) (restarts : Restarts) (t : CycleView) (j : List CycleView) (address : ℕ) (i : Idn) (code : Code) → IsOpened r jobs → IsRun r jobs carry restarts (t ∷ j) → IsClear (t ∷ j) →
+    fall_of (known_of r) (behind_mdt r jobs carry restarts t.sent j) ≡ None → t.phase ≡ 2 → (behind_mdt r jobs carry restarts t.sent j).stop ≡ Some (stop.Refused address i code) → RefusesCycleTime r address i code
