@@ -1,11 +1,24 @@
 -- In phases 3 and 4 the cycle time lies within the limits of each drive, and a plan fits what the ring asks.
-use Rattle.std.proofs.Common.{◌≡◌, ◌⊎◌, inl, inr, ℕ, ◌/◌, ◌%◌, ◌<◌, ◌≤◌, Bool, true, false, List, [], ◌∷◌, length, Option, Some, None, refl, sym, ap, ◌∙◌, subst, arith, if◌then◌else◌}
+use Rattle.std.proofs.Common.{◌≡◌, ◌⊎◌, inl, inr, ℕ, ◌+◌, ◌*◌, ◌/◌, ◌%◌, ◌<◌, ◌≤◌, Bool, true, false, List, [], ◌∷◌, length, Option, Some, None, refl, sym, ap, ◌∙◌, subst, arith, if◌then◌else◌}
 use Rattle.std.specs.Prelude.{nat_lt, unwrap_or, option_map}
 use Rattle.std.specs.Bool.{then_some}
 use Rattle.std.specs.Int.{w16, to_le_bytes}
 use Rattle.std.specs.Option.{option_or}
 use Rattle.std.proofs.lemmas.Bool.Decides.{nat_tests}
 use Rattle.sercos_step.specs.declared.request.Job.{Job}
+use Rattle.sercos_idn.specs.Attributes.{attribute_of}
+use Rattle.sercos_step.specs.Words.{bytes_in}
+use Rattle.sercos_service_master.specs.Calls.{begun_by}
+use Rattle.sercos_seat.specs.Agenda.{idn, is_checked}
+use Rattle.sercos_seat.specs.Ring.{known_of, member, tasks_for}
+use Rattle.sercos_master.specs.Annals.{Past, outcomes, fall_of}
+use Rattle.sercos_handshake.specs.Transfers.{stored}
+use Rattle.sercos_handshake.specs.Values.{newest_to}
+use Rattle.sercos_handshake.specs.WholeRun.{all_writes}
+use Rattle.sercos_agenda.specs.Writes.{IsConfigured, IsWrittenLast}
+use Rattle.sercos_held.proofs.StoreOf.{store_of_so}
+use Rattle.sercos_undisturbed.specs.Refusals.{IsWithin}
+use Rattle.sercos_undisturbed.proofs.JobsBegun.{begun_now}
 use Rattle.sercos_timing.specs.Views.{PlanView}
 use Rattle.sercos_block.specs.Blocks.{is_fixed, is_protected}
 use Rattle.sercos_block.specs.BuiltIns.{built_in, built_in_block, row}
@@ -15,6 +28,7 @@ use Rattle.sercos_block.specs.Stores.{find_block, store_of, write_fault, data_fa
 use Rattle.sercos_block.specs.Views.{DriveView, RingView}
 use Rattle.sercos_block.specs.declared.block.Block.{Block}
 use Rattle.sercos_command.specs.Checks.{data_at}
+use Rattle.sercos_drive.specs.Annals.{annals}
 use Rattle.sercos_drive.specs.Moments.{blocks_in}
 use Rattle.sercos_trace.specs.Views.{CycleView}
 use Rattle.sercos_script.specs.Links.{Carry, Restarts}
@@ -22,11 +36,11 @@ use Rattle.sercos_startup.specs.StartUp.{IsStoreOf, Holds, start_up}
 use Rattle.sercos_startup.proofs.BlockFinds.{find_store_of}
 use Rattle.sercos_startup.proofs.LimitLemmas.{refuses_cycle}
 use Rattle.sercos_startup.proofs.CheckPasses.{ring_drive}
-use Rattle.sercos_journal.specs.Runs.{drive_at, given_mst, IsRun, IsClear}
-use Rattle.sercos_views.specs.RingViews.{at_start, after_mst}
+use Rattle.sercos_journal.specs.Runs.{drive_at, given_mst, given_before, middle, IsRun, IsClear}
+use Rattle.sercos_views.specs.RingViews.{at_start, after_mst, behind_mdt, views_of}
 use Rattle.sercos_views.proofs.Members.{members_count}
 use Rattle.sercos_held.specs.Opened.{IsOpened}
-use Rattle.sercos_held.proofs.Runs.{Laws, IsPlannedIn, drive_got, holding, s_known}
+use Rattle.sercos_held.proofs.Runs.{Laws, Stands, IsPlannedIn, drive_got, holding, s_known, small}
 use Rattle.sercos_headline.proofs.HeadlineRuns.{MoreLaws, all_stand, first_store, spelled_in, stored_in}
 use Rattle.sercos_undisturbed.specs.Fit.{IsFit}
 use Rattle.sercos_undisturbed.proofs.BlockStays.{IsAt, Stays, stays_at}
@@ -107,6 +121,17 @@ pub cycle_some : (c : ℕ) → (c ≡ 125) ⊎ ((250 ≤ c) × (c ≤ 64000) × 
 cycle_some c (inl is) = (omega (arith, is), omega (arith, is))
 cycle_some c (inr (low, high, whole)) = (omega (arith, low), omega (arith, high))
 
+-- what the write of the cycle time leaves
+found_cycle : (d : DriveView) → blocks_fault [] d.blocks ≡ None → find_block 2 (store_of d) ≡ Some (built_in_block d (row 2 0x60110001 false CycleTime))
+unfolding built_in
+found_cycle d rules = find_store_of 2 d rules
+
+stored_cycle : (d : DriveView) (cycle : ℕ) → cycle < 65536 → stored (built_in_block d (row 2 0x60110001 false CycleTime)) (bytes_in (cycle ∷ [])) ≡ to_le_bytes w16 cycle
+unfolding attribute_of
+stored_cycle d cycle small =
+    let back : cycle % 256 + 256 * (cycle / 256) ≡ cycle = omega arith in
+    ap (λ (n : ℕ). bytes_in (n ∷ [])) back ∙ ap (λ (n : ℕ). (cycle % 256) ∷ n ∷ []) (let high : cycle / 256 ≡ cycle / 256 % 256 = omega (arith, small) in high)
+
 module _ (laws : Laws) (more : MoreLaws) (r : RingView) (jobs : List Job) (carry : Carry) (restarts : Restarts) (opened : IsOpened r jobs) where
   pub fits_in : (t : CycleView) (j : List CycleView) → IsRun r jobs carry restarts (t ∷ j) → IsClear (t ∷ j) → 3 ≤ t.phase → IsFit r
   fits_in t j (run, next) (before, clear) late = record {
@@ -135,3 +160,46 @@ module _ (laws : Laws) (more : MoreLaws) (r : RingView) (jobs : List Job) (carry
           held_within (drive_at r k) (blocks_in (drive_at r k) (after_mst r carry restarts t.sent j k)) r.cycle rules (stored_in laws more r jobs carry restarts opened t j k below).1 cycle_is.0 cycle_is.1
           (stays_at more.keep more.allows more.those (drive_at r k) 2 IsWritable (writable_stays (drive_at r k) rules) r.rate (given_mst carry restarts t.sent j k) (first_store laws more r jobs carry restarts opened k below).ascending)
           (held k below).2.1.0
+
+  -- A DRIVE WHOSE CHECK FOR PHASE 3 has ended well has taken the cycle time.
+  pub checked_within : (t : CycleView) (j : List CycleView) → IsRun r jobs carry restarts (t ∷ j) → IsClear (t ∷ j) → fall_of (known_of r) (behind_mdt r jobs carry restarts t.sent j) ≡ None → (behind_mdt r jobs carry restarts t.sent j).now.phase ≤ 3
+      → (k : ℕ) → k < length r.drives → is_checked (member (known_of r) k) (outcomes (behind_mdt r jobs carry restarts t.sent j) k) ≡ true → IsWithin (drive_at r k) r.cycle
+  checked_within t j run clear stays low k below well = let is = limits in ((let a = is.0 in grind (arith, nat_tests, a)), (let b = is.1 in grind (arith, nat_tests, b)))
+    where
+      p : Past
+      p = behind_mdt r jobs carry restarts t.sent j
+
+      rules : blocks_fault [] (drive_at r k).blocks ≡ None
+      rules = (ring_drive r k (drive_at r k) opened.valid (drive_got r k below)).blocks
+
+      stands : Stands r jobs carry restarts (t ∷ j) k
+      stands = all_stand laws more r jobs carry restarts opened (t ∷ j) run clear k below
+
+      configured : IsConfigured (known_of r) k (store_of (drive_at r k)) p.plan (begun_by (p.calls k))
+      configured = let count = members_count r in laws.configures (known_of r) (tasks_for (known_of r) jobs) (middle r carry restarts t.sent j) k (store_of (drive_at r k)) (λ i. (more.requests (known_of r) jobs i).0) (omega (arith, count, below)) low well
+
+      last : IsWrittenLast (store_of (drive_at r k)) (begun_by (p.calls k)) (idn 2) (bytes_in (r.cycle ∷ []))
+      last = configured.each 1 (idn 2) (bytes_in (r.cycle ∷ [])) refl
+
+      block : Block
+      block = built_in_block (drive_at r k) (row 2 0x60110001 false CycleTime)
+
+      found : find_block 2 (store_of (drive_at r k)) ≡ Some block
+      found = found_cycle (drive_at r k) rules
+
+      newest : newest_to 2 (all_writes (views_of r jobs carry restarts k (t ∷ j))) ≡ Some (stored block (bytes_in (r.cycle ∷ [])))
+      newest = laws.written (drive_at r k).busy (store_of (drive_at r k)) (views_of r jobs carry restarts k (t ∷ j)) last.newer last.older last.one (idn 2) (bytes_in (r.cycle ∷ [])) last.whole block
+          (small laws r jobs carry restarts opened (first_store laws more r jobs carry restarts opened) k below) stands.sees.run stands.sound (sym (begun_now laws more r jobs carry restarts opened t j run clear stays k below) ∙ last.split) last.asks last.complete found last.away
+
+      cycle_small : (1 ≤ r.cycle) × (r.cycle < 65536)
+      cycle_small = cycle_some r.cycle (s_known laws r jobs carry restarts opened (first_store laws more r jobs carry restarts opened)).cycles.cycle
+
+      holds : data_at (blocks_in (drive_at r k) (annals (drive_at r k) r.rate (given_before carry restarts (t ∷ j) k))) 2 ≡ to_le_bytes w16 r.cycle
+      holds =
+          ap (λ (l : List Block). data_at l 2) stands.sees.drive.blocks ∙ laws.newest (store_of (drive_at r k)) (views_of r jobs carry restarts k (t ∷ j)) 2 block refl found
+          ∙ ap (λ (o : Option (List ℕ)). unwrap_or o block.value) newest ∙ stored_cycle (drive_at r k) r.cycle cycle_small.1
+
+      limits : (nat_lt r.cycle (drive_at r k).cycle_min ≡ false) × (nat_lt (drive_at r k).cycle_max r.cycle ≡ false)
+      limits = held_within (drive_at r k) (blocks_in (drive_at r k) (annals (drive_at r k) r.rate (given_before carry restarts (t ∷ j) k))) r.cycle rules
+          (store_of_so more.keep more.allows more.those (drive_at r k) r.rate (given_before carry restarts (t ∷ j) k) (first_store laws more r jobs carry restarts opened k below).ascending).0 cycle_small.0 cycle_small.1
+          (stays_at more.keep more.allows more.those (drive_at r k) 2 IsWritable (writable_stays (drive_at r k) rules) r.rate (given_before carry restarts (t ∷ j) k) (first_store laws more r jobs carry restarts opened k below).ascending) holds

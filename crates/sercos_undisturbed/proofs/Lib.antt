@@ -50,3 +50,4 @@ pub mod RefusedCauses
 pub mod RefusedRuns
 pub mod RefusedJobs
 pub mod RefusedStops
+pub mod InOrder

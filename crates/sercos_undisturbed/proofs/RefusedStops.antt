@@ -1,17 +1,21 @@
 -- A stop in phase 2 that comes of a refusal comes of the cycle time.
-use Rattle.std.proofs.Common.{◌≡◌, ℕ, ◌<◌, List, ◌∷◌, length, Option, Some, None, sym, ap, ◌∙◌, subst, arith}
+use Rattle.std.proofs.Common.{◌≡◌, inl, inr, ℕ, ◌<◌, List, [], ◌∷◌, length, Option, Some, None, sym, ap, ◌∙◌, subst, arith}
 use Rattle.std.specs.Prelude.{is_some}
+use Rattle.std.proofs.lemmas.Bool.{cases_lt}
 use Rattle.sercos_idn.specs.declared.code.Code.{Code}
 use Rattle.sercos_idn.specs.declared.idn.Idn.{Idn}
 use Rattle.sercos_step.specs.declared.request.Job.{Job}
 use Rattle.sercos_step.specs.declared.request.Request.{Request}
+use Rattle.sercos_step.specs.declared.request.Request.TheVariants as request
+use Rattle.sercos_step.specs.Words.{bytes_in}
 use Rattle.sercos_block.specs.Views.{RingView}
 use Rattle.sercos_service_master.specs.Begun.{Begun}
+use Rattle.sercos_service_master.specs.Calls.{begun_by}
 use Rattle.sercos_trace.specs.Views.{CycleView}
 use Rattle.sercos_trace.specs.declared.events.Fall.{Fall}
 use Rattle.sercos_trace.specs.declared.events.Stop.TheVariants as stop
-use Rattle.sercos_seat.specs.Agenda.{asked_by}
-use Rattle.sercos_seat.specs.Ring.{MemberView, known_of, tasks_for}
+use Rattle.sercos_seat.specs.Agenda.{asked_by, idn, reads_count}
+use Rattle.sercos_seat.specs.Ring.{MemberView, known_of, member, tasks_for}
 use Rattle.sercos_master.specs.Annals.{Past, fall_of}
 use Rattle.sercos_script.specs.Links.{Carry, Restarts}
 use Rattle.sercos_handshake.specs.Epochs.{epoch_begun}
@@ -20,9 +24,11 @@ use Rattle.sercos_handshake.specs.RunLaws.{ComesUp, ProcessesInPhase}
 use Rattle.sercos_startup.proofs.CheckPasses.{KeepsRules, ring_drive}
 use Rattle.sercos_journal.specs.Runs.{drive_at, middle, IsRun, IsClear}
 use Rattle.sercos_agenda.specs.Stops.{RefusedHasCause, HasRefused}
+use Rattle.sercos_agenda.specs.Tasks.{BeginsNoneEarly}
 use Rattle.sercos_views.specs.RingViews.{behind_mdt, view_of, views_of}
 use Rattle.sercos_views.proofs.Members.{members_count, member_is}
 use Rattle.sercos_held.specs.Opened.{IsOpened}
+use Rattle.sercos_held.proofs.AnsweredRuns.{IsRead, Time, Attribute, is_read_request}
 use Rattle.sercos_held.proofs.Runs.{drive_got, small, s_known}
 use Rattle.sercos_held.proofs.Runs as held
 use Rattle.sercos_headline.proofs.HeadlineRuns.{MoreLaws, all_stand, first_store}
@@ -30,11 +36,13 @@ use Rattle.sercos_undisturbed.specs.Jobs.{jobs_of, AreAt}
 use Rattle.sercos_undisturbed.specs.Refusals.{RefusesCycleTime}
 use Rattle.sercos_undisturbed.proofs.StaysUp.{phase_now}
 use Rattle.sercos_undisturbed.proofs.JobsBegun.{begun_end, begun_now, places_now, few_now}
-use Rattle.sercos_undisturbed.proofs.CycleHeld.{cycle_some}
+use Rattle.sercos_undisturbed.proofs.CycleHeld.{cycle_some, checked_within}
+use Rattle.sercos_undisturbed.proofs.JobPlaces.{reading}
+use Rattle.sercos_undisturbed.proofs.InOrder.{in_order}
 use Rattle.sercos_undisturbed.proofs.RefusedRuns.{IsRefused, IsCycle, SaysShape, newest_refused}
 use Rattle.sercos_undisturbed.proofs.RefusedJobs.{refused_job}
 
-module _ (laws : held.Laws) (more : MoreLaws) (comes_up : (busy : ℕ) → ComesUp busy) (replies : HaveReplies) (transfers : MakeTransfers) (in_phase : ProcessesInPhase) (says : SaysShape) (cause : RefusedHasCause)
+module _ (laws : held.Laws) (more : MoreLaws) (comes_up : (busy : ℕ) → ComesUp busy) (replies : HaveReplies) (transfers : MakeTransfers) (in_phase : ProcessesInPhase) (says : SaysShape) (cause : RefusedHasCause) (early : BeginsNoneEarly)
     (r : RingView) (jobs : List Job) (carry : Carry) (restarts : Restarts) (opened : IsOpened r jobs) (t : CycleView) (j : List CycleView) (run : IsRun r jobs carry restarts (t ∷ j)) (clear : IsClear (t ∷ j))
     (stays : fall_of (known_of r) (behind_mdt r jobs carry restarts t.sent j) ≡ None) (two : t.phase ≡ 2) where
   abbrev now : Past
@@ -65,6 +73,10 @@ module _ (laws : held.Laws) (more : MoreLaws) (comes_up : (busy : ℕ) → Comes
         address_is = ap (λ (m : MemberView). m.address) (sym (member_is r has.ended.place)) ∙ has.ended.address_is;
         number = sym (ap (λ (x : Idn). x.raw) (sym (ap (λ (q : Request). (asked_by q).idn) (sym has.ended.asks ∙ cycle.asks)) ∙ has.names));
         outside = cycle.limit;
+        first = λ k earlier.
+            let count = members_count r in
+            let well = in_order laws.tasks early (known_of r) (tasks_for (known_of r) jobs) (λ i. (more.requests (known_of r) jobs i).0) (middle r carry restarts t.sent j) now_two has.ended.place has.ended.there written k earlier in
+            checked_within laws more r jobs carry restarts opened t j run clear stays (let n = now_two in omega (arith, n)) k (omega (arith, earlier, low)) well;
       }
         where
           low : has.ended.place < length r.drives
@@ -83,3 +95,20 @@ module _ (laws : held.Laws) (more : MoreLaws) (comes_up : (busy : ℕ) → Comes
 
           cycle : IsCycle (drive_at r has.ended.place) r.cycle has.ended.one.request code
           cycle = refused_here has.ended.place low has.ended.one has.ended.older code split (subst (λ (n : ℕ). IsRefused (drive_at r has.ended.place) has.ended.one.request code n) two ref)
+
+          written : reads_count (member (known_of r) has.ended.place) < length (begun_by ((behind_mdt r jobs carry restarts t.sent j).calls has.ended.place))
+          written = elim (cases_lt (length has.ended.older) (reads_count (member (known_of r) has.ended.place))) [
+            | inl reading_still ↦ absurd (reads_first reading_still)
+            | inr past_reads ↦ let long = ap (λ (l : List Begun). length l) has.ended.begun in omega (arith, past_reads, long)
+          ]
+            where
+              place : AreAt (jobs_of (known_of r) (behind_mdt r jobs carry restarts t.sent j).plan has.ended.place) (has.ended.one ∷ has.ended.older)
+              place = subst (AreAt (jobs_of (known_of r) (behind_mdt r jobs carry restarts t.sent j).plan has.ended.place)) split (places_now laws more r jobs carry restarts opened t j run clear stays has.ended.place low (let n = now_two in omega (arith, n)))
+
+              reads_first : length has.ended.older < reads_count (member (known_of r) has.ended.place) → ⊥
+              reads_first less = no_write (is_read_request (member (known_of r) has.ended.place) (length has.ended.older) has.ended.one.request
+                  (sym (reading (known_of r) has.ended.place (behind_mdt r jobs carry restarts t.sent j).plan (length has.ended.older) less) ∙ place.1))
+                where
+                  no_write : IsRead has.ended.one.request → ⊥
+                  no_write (Time raw built same) = let wrong : request.Read (idn raw) 7 ≡ request.Write (idn 2) 7 (bytes_in (r.cycle ∷ [])) = sym same ∙ cycle.asks in cc
+                  no_write (Attribute x same) = let wrong : request.Read x 3 ≡ request.Write (idn 2) 7 (bytes_in (r.cycle ∷ [])) = sym same ∙ cycle.asks in cc

@@ -90,7 +90,7 @@ pub place_so : (k : ℕ) (o : Option ℕ) → is_place k o ≡ true → o ≡ So
 place_so k None is = absurd (false≢true is)
 place_so k (Some i) is = let same : k ≡ i = grind (arith, nat_tests, is) in ap (λ (n : ℕ). Some n) (sym same)
 
-found_passes : (k n i : ℕ) (test : ℕ → Bool) → first_from k n test ≡ Some i → test i ≡ true
+pub found_passes : (k n i : ℕ) (test : ℕ → Bool) → first_from k n test ≡ Some i → test i ≡ true
 found_passes k zero i test found = cc
 found_passes k (suc n) i test found = by (test k) refl found (λ rest. found_passes (k + 1) n i test rest)
   where

@@ -1,5 +1,5 @@
 -- Why a drive refuses a request of the start-up in phase 2. The newest cycle of a journal comes first.
-use Rattle.std.specs.Prelude.{◌≡◌, ◌⊎◌, ℕ, ◌<◌, List, ◌∷◌, length, Some, None}
+use Rattle.std.specs.Prelude.{◌≡◌, ◌⊎◌, ℕ, ◌<◌, ◌≤◌, List, ◌∷◌, length, Some, None}
 use Rattle.sercos_idn.specs.declared.code.Code.{Code}
 use Rattle.sercos_idn.specs.declared.idn.Idn.{Idn}
 use Rattle.sercos_step.specs.declared.request.Job.{Job}
@@ -17,13 +17,19 @@ use Rattle.sercos_held.specs.Opened.{IsOpened}
 abbrev pub IsOutside : DriveView → ℕ → Code → Type 0
 IsOutside d cycle code = ((cycle < d.cycle_min) × (code.raw ≡ 0x7006)) ⊎ ((d.cycle_max < cycle) × (code.raw ≡ 0x7007))
 
--- The drive with this address refused the cycle time, S-0-0002, since it is outside the drive's limits.
+-- the cycle time lies within the limits of the drive
+abbrev pub IsWithin : DriveView → ℕ → Type 0
+IsWithin d cycle = (d.cycle_min ≤ cycle) × (cycle ≤ d.cycle_max)
+
+-- The drive with this address refused the cycle time, S-0-0002, since it is outside the drive's limits. It is the first of these drives, in
+-- the order of the ring.
 pub record RefusesCycleTime (r : RingView) (address : ℕ) (i : Idn) (code : Code) : Type 0 where
   pub place : ℕ
   pub there : place < length r.drives
   pub address_is : (drive_at r place).address ≡ address
   pub number : i.raw ≡ 2
   pub outside : IsOutside (drive_at r place) r.cycle code
+  pub first : (k : ℕ) → k < place → IsWithin (drive_at r k) r.cycle
 
 -- So it is wherever the master has stopped in phase 2 since a drive refused something, in every run in which nothing was unseen, if the ring
 -- doesn't fall at the end of the cycle.

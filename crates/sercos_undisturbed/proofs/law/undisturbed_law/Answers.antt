@@ -109,5 +109,5 @@ returns c =
       refused = λ r jobs carry restarts t j address i code opened run clear stays two is.
           let law = c.attribute_law.ensures in
           refused_stop laws more c.run_law.ensures.up c.parts_law.ensures.replies c.parts_law.ensures.transfers c.run_law.ensures.in_phase (λ b fits. shape-attribute b.attribute (law.small b.attribute fits) (law.sound b.attribute fits) (law.back b.attribute fits))
-          c.stop_law.ensures.refused r jobs carry restarts opened t j run clear stays two address i code is;
+          c.stop_law.ensures.refused c.agenda_law.ensures.none r jobs carry restarts opened t j run clear stays two address i code is;
     }
