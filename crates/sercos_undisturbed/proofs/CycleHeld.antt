@@ -17,7 +17,7 @@ use Rattle.sercos_handshake.specs.Values.{newest_to}
 use Rattle.sercos_handshake.specs.WholeRun.{all_writes}
 use Rattle.sercos_agenda.specs.Writes.{IsConfigured, IsWrittenLast}
 use Rattle.sercos_held.proofs.StoreOf.{store_of_so}
-use Rattle.sercos_undisturbed.specs.Refusals.{IsWithin}
+use Rattle.sercos_undisturbed.specs.StopsInTwo.{IsWithin}
 use Rattle.sercos_undisturbed.proofs.JobsBegun.{begun_now}
 use Rattle.sercos_timing.specs.Views.{PlanView}
 use Rattle.sercos_block.specs.Blocks.{is_fixed, is_protected}

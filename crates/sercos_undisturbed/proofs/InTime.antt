@@ -44,7 +44,7 @@ both_sections [] = refl
 both_sections (d ∷ drives) = let more = both_sections drives in omega (arith, more, sum_by-cons section_two d drives, sum_by-cons read_cycles d drives, sum_by-cons write_cycles d drives)
 
 -- phases 2 and 3 are over within the bound
-within_bound : IsStarted → (r : RingView) → 20 + 2 * length r.drives + sum_by section_two r.drives + greatest command_cycles r.drives ≤ startup_bound r
+pub within_bound : IsStarted → (r : RingView) → 20 + 2 * length r.drives + sum_by section_two r.drives + greatest command_cycles r.drives ≤ startup_bound r
 within_bound started r =
     let bound = started r (12 + 2 * length r.drives) (12 + 2 * length r.drives + sum_by read_cycles r.drives + sum_by write_cycles r.drives + 4)
     (12 + 2 * length r.drives + sum_by read_cycles r.drives + sum_by write_cycles r.drives + 4 + greatest command_cycles r.drives + 4) (omega arith) (omega arith) (omega arith) in

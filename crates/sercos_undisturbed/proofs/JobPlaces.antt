@@ -50,6 +50,11 @@ module _ (s : Known) (k : ℕ) where
   none_later : (n i : ℕ) → n ≡ reads_count (member s k) + i → n ≤ length (jobs_of s None k) → 1 ≤ i → ⊥
   none_later n i at few some = let long = reads_length (member s k) in omega (arith, at, few, some, long)
 
+  -- so there is a plan if something else was begun
+  pub some_plan : (plan : Option PlanView) (begun : List Begun) → AreAt (jobs_of s plan k) begun → reads_count (member s k) < length begun → (p : PlanView) × (plan ≡ Some p)
+  some_plan None begun are more = let most = at_most (jobs_of s None k) begun are in let long = reads_length (member s k) in absurd (omega (arith, most, long, more))
+  some_plan (Some p) begun are more = (p, refl)
+
   -- A TASK, behind n others that have ended
   task_at : (plan : Option PlanView) (waiting : List Task) (by_then : Option PlanView) (outs : List Outcome) (n : ℕ) (t : Task) → AreWaiting waiting → length outs ≡ n → t.phase ≤ 3 → (by_then ≡ None) ⊎ (by_then ≡ plan)
       → (n ≡ reads_count (member s k) + 12 → is_checked (member s k) outs ≡ true) → n ≤ length (jobs_of s plan k) → IsTask s k by_then waiting outs t → slice_get (jobs_of s plan k) n ≡ Some t.request

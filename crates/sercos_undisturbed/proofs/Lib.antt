@@ -51,3 +51,6 @@ pub mod RefusedRuns
 pub mod RefusedJobs
 pub mod RefusedStops
 pub mod InOrder
+pub mod StopsTold
+pub mod TwoStops
+pub mod TwoEnds

@@ -8,6 +8,7 @@ use Rattle.sercos_step.specs.declared.request.Job.{Job}
 use Rattle.sercos_step.specs.declared.request.Request.{Request}
 use Rattle.sercos_step.specs.declared.request.Request.TheVariants as request
 use Rattle.sercos_step.specs.Words.{bytes_in}
+use Rattle.sercos_timing.specs.Views.{PlanView}
 use Rattle.sercos_block.specs.Views.{RingView}
 use Rattle.sercos_service_master.specs.Begun.{Begun}
 use Rattle.sercos_service_master.specs.Calls.{begun_by}
@@ -33,11 +34,11 @@ use Rattle.sercos_held.proofs.Runs.{drive_got, small, s_known}
 use Rattle.sercos_held.proofs.Runs as held
 use Rattle.sercos_headline.proofs.HeadlineRuns.{MoreLaws, all_stand, first_store}
 use Rattle.sercos_undisturbed.specs.Jobs.{jobs_of, AreAt}
-use Rattle.sercos_undisturbed.specs.Refusals.{RefusesCycleTime}
+use Rattle.sercos_undisturbed.specs.StopsInTwo.{RefusesCycleTime}
 use Rattle.sercos_undisturbed.proofs.StaysUp.{phase_now}
 use Rattle.sercos_undisturbed.proofs.JobsBegun.{begun_end, begun_now, places_now, few_now}
 use Rattle.sercos_undisturbed.proofs.CycleHeld.{cycle_some, checked_within}
-use Rattle.sercos_undisturbed.proofs.JobPlaces.{reading}
+use Rattle.sercos_undisturbed.proofs.JobPlaces.{reading, some_plan}
 use Rattle.sercos_undisturbed.proofs.InOrder.{in_order}
 use Rattle.sercos_undisturbed.proofs.RefusedRuns.{IsRefused, IsCycle, SaysShape, newest_refused}
 use Rattle.sercos_undisturbed.proofs.RefusedJobs.{refused_job}
@@ -63,21 +64,11 @@ module _ (laws : held.Laws) (more : MoreLaws) (comes_up : (busy : ℕ) → Comes
       (known_of r) k (member_is r k) (cycle_some r.cycle (s_known laws r jobs carry restarts opened (first_store laws more r jobs carry restarts opened)).cycles.cycle).1 code now.plan (length older) one.request (omega (arith, few, long)) place.1 ref
       (omega (arith, phases))
 
-  pub refused_stop : (address : ℕ) (i : Idn) (code : Code) → now.stop ≡ Some (stop.Refused address i code) → RefusesCycleTime r address i code
+  pub refused_stop : (address : ℕ) (i : Idn) (code : Code) → now.stop ≡ Some (stop.Refused address i code) → RefusesCycleTime r address i code × (plan : PlanView) × (now.plan ≡ Some plan)
   refused_stop address i code is = by (cause (known_of r) (tasks_for (known_of r) jobs) (middle r carry restarts t.sent j) address i code is)
     where
-      by : HasRefused (known_of r) (behind_mdt r jobs carry restarts t.sent j) address i code → RefusesCycleTime r address i code
-      by has = record {
-        place = has.ended.place;
-        there = low;
-        address_is = ap (λ (m : MemberView). m.address) (sym (member_is r has.ended.place)) ∙ has.ended.address_is;
-        number = sym (ap (λ (x : Idn). x.raw) (sym (ap (λ (q : Request). (asked_by q).idn) (sym has.ended.asks ∙ cycle.asks)) ∙ has.names));
-        outside = cycle.limit;
-        first = λ k earlier.
-            let count = members_count r in
-            let well = in_order laws.tasks early (known_of r) (tasks_for (known_of r) jobs) (λ i. (more.requests (known_of r) jobs i).0) (middle r carry restarts t.sent j) now_two has.ended.place has.ended.there written k earlier in
-            checked_within laws more r jobs carry restarts opened t j run clear stays (let n = now_two in omega (arith, n)) k (omega (arith, earlier, low)) well;
-      }
+      by : HasRefused (known_of r) (behind_mdt r jobs carry restarts t.sent j) address i code → RefusesCycleTime r address i code × (plan : PlanView) × ((behind_mdt r jobs carry restarts t.sent j).plan ≡ Some plan)
+      by has = (refuses, made.0, made.1)
         where
           low : has.ended.place < length r.drives
           low = let count = members_count r in let there = has.ended.there in omega (arith, count, there)
@@ -112,3 +103,21 @@ module _ (laws : held.Laws) (more : MoreLaws) (comes_up : (busy : ℕ) → Comes
                   no_write : IsRead has.ended.one.request → ⊥
                   no_write (Time raw built same) = let wrong : request.Read (idn raw) 7 ≡ request.Write (idn 2) 7 (bytes_in (r.cycle ∷ [])) = sym same ∙ cycle.asks in cc
                   no_write (Attribute x same) = let wrong : request.Read x 3 ≡ request.Write (idn 2) 7 (bytes_in (r.cycle ∷ [])) = sym same ∙ cycle.asks in cc
+
+          made : (plan : PlanView) × ((behind_mdt r jobs carry restarts t.sent j).plan ≡ Some plan)
+          made = some_plan (known_of r) has.ended.place (behind_mdt r jobs carry restarts t.sent j).plan (epoch_begun (views_of r jobs carry restarts has.ended.place (t ∷ j)))
+              (places_now laws more r jobs carry restarts opened t j run clear stays has.ended.place low (let n = now_two in omega (arith, n)))
+              (let same = ap (λ (l : List Begun). length l) (begun_now laws more r jobs carry restarts opened t j run clear stays has.ended.place low) in let many = written in omega (arith, same, many))
+
+          refuses : RefusesCycleTime r address i code
+          refuses = record {
+            place = has.ended.place;
+            there = low;
+            address_is = ap (λ (m : MemberView). m.address) (sym (member_is r has.ended.place)) ∙ has.ended.address_is;
+            number = sym (ap (λ (x : Idn). x.raw) (sym (ap (λ (q : Request). (asked_by q).idn) (sym has.ended.asks ∙ cycle.asks)) ∙ has.names));
+            outside = cycle.limit;
+            first = λ k earlier.
+                let count = members_count r in
+                let well = in_order laws.tasks early (known_of r) (tasks_for (known_of r) jobs) (λ i. (more.requests (known_of r) jobs i).0) (middle r carry restarts t.sent j) now_two has.ended.place has.ended.there written k earlier in
+                checked_within laws more r jobs carry restarts opened t j run clear stays (let n = now_two in omega (arith, n)) k (omega (arith, earlier, low)) well;
+          }

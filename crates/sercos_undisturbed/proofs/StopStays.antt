@@ -27,7 +27,7 @@ at_stop s content p = by (place_of s (slice_index content 0))
     by None = refl
     by (Some k) = taken k (is_taken s p k content)
 
-ats_stop : (r : RingView) (jobs : List Job) (carry : Carry) (cycle : ℕ) (ats : List (List ℕ)) (h : List Call) → (looks_back r jobs (at_calls r carry cycle ats h)).stop ≡ (looks_back r jobs h).stop
+pub ats_stop : (r : RingView) (jobs : List Job) (carry : Carry) (cycle : ℕ) (ats : List (List ℕ)) (h : List Call) → (looks_back r jobs (at_calls r carry cycle ats h)).stop ≡ (looks_back r jobs h).stop
 ats_stop r jobs carry cycle [] h = refl
 ats_stop r jobs carry cycle (at ∷ ats) h = ats_stop r jobs carry cycle ats _ ∙ by (heard carry (passage cycle kinds.At (station_of r (slice_index at 0)) 0) at)
   where
@@ -35,7 +35,7 @@ ats_stop r jobs carry cycle (at ∷ ats) h = ats_stop r jobs carry cycle ats _ �
     by None = refl
     by (Some content) = at_stop (known_of r) content (looks_back r jobs h)
 
-mdt_stop : (s : Known) (p : Past) → is_some p.stop ≡ true → (after_mdt s p).stop ≡ p.stop
+pub mdt_stop : (s : Known) (p : Past) → is_some p.stop ≡ true → (after_mdt s p).stop ≡ p.stop
 mdt_stop s p some = ap (λ (q : Past). (with_due_plan s q).stop) (stop_stays (first_trouble s p) p some) ∙ ap (λ (q : Past). q.stop) (due_stopped s p some)
 
 module _ (r : RingView) (jobs : List Job) (carry : Carry) (restarts : Restarts) where

@@ -7,4 +7,4 @@ pub mod Sections
 pub mod Jobs
 pub mod Ends
 pub mod Fit
-pub mod Refusals
+pub mod StopsInTwo

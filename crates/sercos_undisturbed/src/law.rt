@@ -1,9 +1,9 @@
 // The laws of an epoch in which nothing is disturbed.
 ghost use Rattle.sercos_undisturbed.specs.Ends.{ComesToAnEnd, ComesToPhaseFour, StaysAtItsEnd};
 ghost use Rattle.sercos_undisturbed.specs.Fit.{FitsInThree, OwnFitsInFour};
-ghost use Rattle.sercos_undisturbed.specs.Refusals.{RefusesTheCycleTime};
 ghost use Rattle.sercos_undisturbed.specs.Sections.{NoneIdleInThree, NoneIdleInTwo};
 ghost use Rattle.sercos_undisturbed.specs.StartUps.{AgesUndisturbed, AnswersUndisturbed, ComesToPhaseTwo, CostsUndisturbed, StaysUpUndisturbed, TellsNoFallUndisturbed};
+ghost use Rattle.sercos_undisturbed.specs.StopsInTwo.{EndsPhaseTwo, StopsInTwo};
 
 use sercos_agenda::{agenda_law, report_law, stop_law};
 use sercos_block::{ring_law, store_law};
@@ -30,8 +30,8 @@ use sercos_typed::typed_law;
 /// and in phase 3 a step is open to each drive until its check has ended. So after the cycles of a start-up phase 4 is commanded, or
 /// there is a stop, or one is to come, since a check for phase 4 hasn't ended well; and after 41 steps more one of the first two is so,
 /// and stays. Phases 3 and 4 are commanded only if a plan fits what the ring asks, and the cycle time lies within each drive's limits;
-/// phase 4 only if no own block of a drive was outside its limits at opening. What a drive refuses in phase 2 is the cycle time, if it is
-/// outside the drive's limits.
+/// phase 4 only if no own block of a drive was outside its limits at opening. A stop in phase 2 comes since no plan fits; or a plan fits,
+/// and it names the first drive of the ring whose limits the cycle time is outside of. So phase 2 of an undisturbed epoch ends.
 pub fn undisturbed_law()
     ensures stays { StaysUpUndisturbed }
     ensures tells { TellsNoFallUndisturbed }
@@ -46,7 +46,8 @@ pub fn undisturbed_law()
     ensures at_end { StaysAtItsEnd }
     ensures fit { FitsInThree }
     ensures own { OwnFitsInFour }
-    ensures refused { RefusesTheCycleTime }
+    ensures stops_two { StopsInTwo }
+    ensures ends_two { EndsPhaseTwo }
 {
     agenda_law();
     report_law();

@@ -2,6 +2,8 @@ use Rattle.sercos_handshake.proofs.AttributeReplies.{shape-attribute}
 use Rattle.sercos_headline.proofs.HeadlineRuns.{MoreLaws}
 use Rattle.sercos_headline.proofs.WellRuns.{StopLaws}
 use Rattle.sercos_held.proofs.Runs.{Laws}
+use Rattle.sercos_undisturbed.specs.Ends.{ComesToAnEnd}
+use Rattle.sercos_undisturbed.specs.StopsInTwo.{StopsInTwo}
 use Rattle.sercos_undisturbed.proofs.Answered.{ages_undisturbed, answers_undisturbed, costs_undisturbed, tells_no_fall}
 use Rattle.sercos_undisturbed.proofs.CycleHeld.{fits_in}
 use Rattle.sercos_undisturbed.proofs.InTime.{comes_to_end, comes_to_four, stays_at_end}
@@ -9,6 +11,8 @@ use Rattle.sercos_undisturbed.proofs.OwnFit.{own_fits}
 use Rattle.sercos_undisturbed.proofs.NeverFalls.{stays_throughout}
 use Rattle.sercos_undisturbed.proofs.PhaseRuns.{phases_in}
 use Rattle.sercos_undisturbed.proofs.RefusedStops.{refused_stop}
+use Rattle.sercos_undisturbed.proofs.TwoStops.{stop_in_two}
+use Rattle.sercos_undisturbed.proofs.TwoEnds.{two_ends}
 use Rattle.sercos_undisturbed.proofs.Sections.{never_idle, none_idle}
 use Rattle.sercos_undisturbed.proofs.law.undisturbed_law.Goals as goal
 
@@ -82,6 +86,14 @@ returns c =
       frame = c.framing_law.ensures.frame;
       wire = c.framing_law.ensures.wire;
     } in
+    let law = c.attribute_law.ensures in
+    let in_two : StopsInTwo = λ r jobs carry restarts t j x opened run clear stays two is.
+    stop_in_two laws more c.run_law.ensures.up c.stop_law.ensures.check128 r jobs carry restarts opened t j run clear stays two
+    (refused_stop laws more c.run_law.ensures.up c.parts_law.ensures.replies c.parts_law.ensures.transfers c.run_law.ensures.in_phase (λ b fits. shape-attribute b.attribute (law.small b.attribute fits) (law.sound b.attribute fits) (law.back b.attribute fits))
+    c.stop_law.ensures.refused c.agenda_law.ensures.none r jobs carry restarts opened t j run clear stays two) x is in
+    let ends : ComesToAnEnd = λ r jobs carry restarts t cycles before opened run clear starts calm long.
+    comes_to_end laws more c.agenda_law.ensures.turn c.run_law.ensures.up c.calls_law.ensures.late c.agenda_law.ensures.two c.agenda_law.ensures.three c.bound_law.ensures.started c.bound_law.ensures.greatest r jobs carry restarts opened
+    c.passage_law.ensures.throughout c.passage_law.ensures.hears c.cost_law.ensures.starts c.cost_law.ensures.timed c.jobs_law.ensures.reads c.jobs_law.ensures.writes c.jobs_law.ensures.list_read c.cost_law.ensures.since t cycles before run clear starts calm long in
     record {
       stays = λ r jobs carry restarts cycles before opened run clear starts calm.
           stays_throughout laws more c.agenda_law.ensures.turn c.run_law.ensures.up c.calls_law.ensures.late r jobs carry restarts opened c.passage_law.ensures.throughout c.passage_law.ensures.hears cycles before run clear starts calm;
@@ -98,16 +110,13 @@ returns c =
       four = λ r jobs carry restarts t cycles before opened run clear starts calm long.
           comes_to_four laws more c.agenda_law.ensures.turn c.run_law.ensures.up c.calls_law.ensures.late c.agenda_law.ensures.two c.agenda_law.ensures.three c.bound_law.ensures.started c.bound_law.ensures.greatest r jobs carry restarts opened
           c.passage_law.ensures.throughout c.passage_law.ensures.hears c.cost_law.ensures.starts c.cost_law.ensures.timed c.jobs_law.ensures.reads c.jobs_law.ensures.writes c.jobs_law.ensures.list_read c.cost_law.ensures.since t cycles before run clear starts calm long;
-      ends = λ r jobs carry restarts t cycles before opened run clear starts calm long.
-          comes_to_end laws more c.agenda_law.ensures.turn c.run_law.ensures.up c.calls_law.ensures.late c.agenda_law.ensures.two c.agenda_law.ensures.three c.bound_law.ensures.started c.bound_law.ensures.greatest r jobs carry restarts opened
-          c.passage_law.ensures.throughout c.passage_law.ensures.hears c.cost_law.ensures.starts c.cost_law.ensures.timed c.jobs_law.ensures.reads c.jobs_law.ensures.writes c.jobs_law.ensures.list_read c.cost_law.ensures.since t cycles before run clear starts calm long;
+      ends = ends;
       at_end = λ r jobs carry restarts t u cycles before opened run clear starts calm.
           stays_at_end laws more c.agenda_law.ensures.turn c.run_law.ensures.up c.calls_law.ensures.late c.agenda_law.ensures.two c.agenda_law.ensures.three c.bound_law.ensures.started c.bound_law.ensures.greatest r jobs carry restarts opened
           c.passage_law.ensures.throughout c.passage_law.ensures.hears c.cost_law.ensures.starts c.cost_law.ensures.timed c.jobs_law.ensures.reads c.jobs_law.ensures.writes c.jobs_law.ensures.list_read c.cost_law.ensures.since t u cycles before run clear starts calm;
       fit = λ r jobs carry restarts t j opened run clear late. fits_in laws more r jobs carry restarts opened t j run clear late;
       own = λ r jobs carry restarts t j k opened run clear below four. own_fits laws more c.run_law.ensures.up r jobs carry restarts opened k below t j run clear four;
-      refused = λ r jobs carry restarts t j address i code opened run clear stays two is.
-          let law = c.attribute_law.ensures in
-          refused_stop laws more c.run_law.ensures.up c.parts_law.ensures.replies c.parts_law.ensures.transfers c.run_law.ensures.in_phase (λ b fits. shape-attribute b.attribute (law.small b.attribute fits) (law.sound b.attribute fits) (law.back b.attribute fits))
-          c.stop_law.ensures.refused c.agenda_law.ensures.none r jobs carry restarts opened t j run clear stays two address i code is;
+      stops_two = in_two;
+      ends_two = λ r jobs carry restarts t cycles before opened run clear starts calm long. two_ends laws more c.agenda_law.ensures.turn c.run_law.ensures.up c.calls_law.ensures.late c.bound_law.ensures.started in_two r jobs carry restarts opened
+          t cycles before run clear starts calm long (ends r jobs carry restarts t cycles before opened run clear starts calm long);
     }
