@@ -27,7 +27,7 @@ use Rattle.sercos_undisturbed.proofs.StaysUp.{found_passes, place_so}
 use Rattle.sercos_views.proofs.MasterSame.{begun_so, turn_mdt}
 
 -- a check that has ended well stays so
-checked_stays : (m : MemberView) (outs : List Outcome) (o : Option Outcome) → is_checked m outs ≡ true → is_checked m (with_outcome o outs) ≡ true
+pub checked_stays : (m : MemberView) (outs : List Outcome) (o : Option Outcome) → is_checked m outs ≡ true → is_checked m (with_outcome o outs) ≡ true
 checked_stays m outs None well = well
 checked_stays m outs (Some o) well = let there = ended_there outs (reads_count m + 11) well in ap ended_well (before_end outs o (reads_count m + 11) (λ e. omega (arith, e, there))) ∙ well
 

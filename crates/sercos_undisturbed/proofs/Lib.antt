@@ -53,4 +53,7 @@ pub mod RefusedStops
 pub mod InOrder
 pub mod StopsTold
 pub mod TwoStops
-pub mod TwoEnds
+pub mod Reached
+pub mod LateSteps
+pub mod LaterStops
+pub mod StartUpEnds

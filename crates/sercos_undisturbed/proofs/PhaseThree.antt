@@ -72,7 +72,7 @@ use Rattle.sercos_undisturbed.proofs.PhaseTwo.{section_two, listed_all, two_last
 given_stays : (outs : List Outcome) (o : Outcome) (i : ℕ) → ended_well (given outs i) ≡ true → ended_well (given (outs ++ o ∷ []) i) ≡ true
 given_stays outs o i well = let there = ended_there outs i well in ap ended_well (before_end outs o i (λ e. omega (arith, e, there))) ∙ well
 
-ready_stays : (m : MemberView) (outs : List Outcome) (o : Option Outcome) → is_ready m outs ≡ true → is_ready m (with_outcome o outs) ≡ true
+pub ready_stays : (m : MemberView) (outs : List Outcome) (o : Option Outcome) → is_ready m outs ≡ true → is_ready m (with_outcome o outs) ≡ true
 ready_stays m outs None ready = ready
 ready_stays m outs (Some o) ready =
     let both = and_parts (is_checked m outs) (ended_well (given outs (reads_count m + 12))) ready in

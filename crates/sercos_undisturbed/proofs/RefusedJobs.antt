@@ -68,7 +68,7 @@ cyclic_append blocks (x ∷ xs) ys first second = let parts = and_parts (is_some
 module _ (says : SaysShape) (d : DriveView) (rules : blocks_fault [] d.blocks ≡ None) (small : AreSmall (store_of d)) (at : are_cyclic d.blocks d.at ≡ true) (mdt : are_cyclic d.blocks d.mdt ≡ true) (few_at : length d.at ≤ 16) (few_mdt : length d.mdt ≤ 16)
     (s : Known) (k : ℕ) (member_so : member s k ≡ member_of d) (cycle_small : s.cycle < 65536) (code : Code) where
   -- A READ is never refused.
-  found_time : (raw : ℕ) → option_map (λ (b : Block). b.step) (find_block raw (built_in d)) ≡ Some 0 → (b : Block) × (find_block raw (store_of d) ≡ Some b)
+  pub found_time : (raw : ℕ) → option_map (λ (b : Block). b.step) (find_block raw (built_in d)) ≡ Some 0 → (b : Block) × (find_block raw (store_of d) ≡ Some b)
   found_time raw built = by (find_block raw (built_in d)) refl built
     where
       by : (o : Option Block) → find_block raw (built_in d) ≡ o → option_map (λ (b : Block). b.step) o ≡ Some 0 → (b : Block) × (find_block raw (store_of d) ≡ Some b)

@@ -116,30 +116,32 @@ module _ (laws : Laws) (replies : HaveReplies) (transfers : MakeTransfers) (in_p
   have_first [] rest are = tt
   have_first (e ∷ part) rest are = (have_first part rest are.0, are.1)
 
-  pub newest_refused : (one : Begun) (older : List Begun) (code : Code) → begun_in v past ≡ one ∷ older → outcome_of one.request one.answers ≡ Some (outcome.Refused code) → IsRefused d one.request code v.phase
+  pub newest_refused : (one : Begun) (older : List Begun) (code : Code) → begun_in v past ≡ one ∷ older → outcome_of one.request one.answers ≡ Some (outcome.Refused code) → (ref : IsRefused d one.request code v.phase) × (log_in v past ≡ ref.e ∷ (ref.entries ++ ref.log))
   newest_refused one older code split refused = by (subst (λ (l : List Begun). AreExact (store_of d) l (log_in v past) (writes_of (log_in v past))) split (cycle_exact (store_of d) busy laws small v past run sound))
     where
-      by : AreExact (store_of d) (one ∷ older) (log_in v past) (writes_of (log_in v past)) → IsRefused d one.request code v.phase
+      by : AreExact (store_of d) (one ∷ older) (log_in v past) (writes_of (log_in v past)) → (ref : IsRefused d one.request code v.phase) × (log_in v past ≡ ref.e ∷ (ref.entries ++ ref.log))
       by (part, rest, own, others, of_entries, of_writes, is, behind) = which is.part_of
         where
-          which : IsPart one part → IsRefused d one.request code v.phase
+          which : IsPart one part → (ref : IsRefused d one.request code v.phase) × (log_in v past ≡ ref.e ∷ (ref.entries ++ ref.log))
           which (Unsent none no_answers) = let nothing : None ≡ Some (outcome.Refused code) = sym (ap (outcome_of one.request) no_answers) ∙ refused in absurd (cc)
           which (Unheard e entries of_part row answers) = let nothing : None ≡ Some (outcome.Refused code) = sym (ap (outcome_of one.request) answers ∙ row.goes_on) ∙ refused in absurd (cc)
           which (Heard e entries of_part row answers) =
               let log_so : log_in v past ≡ (e ∷ entries) ++ rest = of_entries ∙ ap (λ (l : List Entry). l ++ rest) of_part in
               let ends = refused_is one.request e.answer (replies_of entries) code (sym (ap (outcome_of one.request) answers) ∙ refused) in
               let all : all_entries (v ∷ past) ≡ ((e ∷ entries) ++ rest) ++ entries_ago (v ∷ past) =
-              entries_in_epochs busy (v ∷ past) run ∙ ap (λ (h : List Taken). log_of h ++ entries_ago (v ∷ past)) log_now ∙ ap (λ (l : List Entry). l ++ entries_ago (v ∷ past)) log_so in
-              record {
-                e = e;
-                entries = entries;
-                log = rest;
-                transfer = transfers one (store_of d) e entries rest row (replies (accepted (taken_in v past)) (e ∷ entries) rest log_so) (have_first (e ∷ entries) rest (subst (HaveBlocks (store_of d)) log_so have));
-                error = ends.0;
-                code_is = ends.1;
-                between = newest_between v.phase (accepted (taken_in v past)) e entries rest log_so (between_accepted v.phase (taken_in v past) (cycle_between in_phase v past run.1.commanded (epoch_between in_phase busy past run.0)));
-                stored = (subst (EntriesStored d) all (entries_stored d (v ∷ past) stored)).1.1;
-              }
+              entries_in_epochs busy (v ∷ past) run ∙ ap (λ (h : List Taken). log_of h ++ entries_ago (v ∷ past)) log_now ∙ ap (λ (l : List Entry). l ++ entries_ago (v ∷ past)) log_so in (
+                record {
+                  e = e;
+                  entries = entries;
+                  log = rest;
+                  transfer = transfers one (store_of d) e entries rest row (replies (accepted (taken_in v past)) (e ∷ entries) rest log_so) (have_first (e ∷ entries) rest (subst (HaveBlocks (store_of d)) log_so have));
+                  error = ends.0;
+                  code_is = ends.1;
+                  between = newest_between v.phase (accepted (taken_in v past)) e entries rest log_so (between_accepted v.phase (taken_in v past) (cycle_between in_phase v past run.1.commanded (epoch_between in_phase busy past run.0)));
+                  stored = (subst (EntriesStored d) all (entries_stored d (v ∷ past) stored)).1.1;
+                },
+                log_so,
+              )
 
 -- THE REQUEST
 pub record IsCycle (d : DriveView) (cycle : ℕ) (q : Request) (code : Code) : Type 0 where

@@ -80,9 +80,9 @@ module _ (laws : held.Laws) (more : MoreLaws) (comes_up : (busy : ℕ) → Comes
           stands = all_stand laws more r jobs carry restarts opened (t ∷ j) run clear has.ended.place low
 
           ref : IsRefused (drive_at r has.ended.place) has.ended.one.request code t.phase
-          ref = newest_refused more.stop_laws.lower.transfers replies transfers in_phase (drive_at r has.ended.place).busy (drive_at r has.ended.place) (small laws r jobs carry restarts opened (first_store laws more r jobs carry restarts opened) has.ended.place low)
+          ref = (newest_refused more.stop_laws.lower.transfers replies transfers in_phase (drive_at r has.ended.place).busy (drive_at r has.ended.place) (small laws r jobs carry restarts opened (first_store laws more r jobs carry restarts opened) has.ended.place low)
               (view_of r jobs carry restarts has.ended.place t j) (views_of r jobs carry restarts has.ended.place j) stands.sees.run stands.sound stands.stored (ap (λ (o : Option Fall). is_some o) stays) has.ended.one has.ended.older code
-              (sym (begun_end laws more r jobs carry restarts opened t j run clear stays has.ended.place) ∙ split) has.ended.ended
+              (sym (begun_end laws more r jobs carry restarts opened t j run clear stays has.ended.place) ∙ split) has.ended.ended).0
 
           cycle : IsCycle (drive_at r has.ended.place) r.cycle has.ended.one.request code
           cycle = refused_here has.ended.place low has.ended.one has.ended.older code split (subst (λ (n : ℕ). IsRefused (drive_at r has.ended.place) has.ended.one.request code n) two ref)

@@ -8,3 +8,4 @@ pub mod Jobs
 pub mod Ends
 pub mod Fit
 pub mod StopsInTwo
+pub mod StopsLater

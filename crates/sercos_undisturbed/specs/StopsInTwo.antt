@@ -1,5 +1,5 @@
 -- Which stops come of phase 2, and of what. The newest cycle of a journal comes first.
-use Rattle.std.specs.Prelude.{◌≡◌, ◌⊎◌, ℕ, ◌+◌, ◌*◌, ◌<◌, ◌≤◌, List, ◌∷◌, ◌++◌, length, Some, None}
+use Rattle.std.specs.Prelude.{◌≡◌, ◌⊎◌, ℕ, ◌<◌, ◌≤◌, List, ◌∷◌, length, Some, None}
 use Rattle.sercos_idn.specs.declared.code.Code.{Code}
 use Rattle.sercos_idn.specs.declared.idn.Idn.{Idn}
 use Rattle.sercos_step.specs.declared.request.Job.{Job}
@@ -8,9 +8,7 @@ use Rattle.sercos_timing.specs.Views.{PlanView}
 use Rattle.sercos_plan.specs.Least.{NoneFits}
 use Rattle.sercos_plan.specs.Views.{ChainView}
 use Rattle.sercos_block.specs.Rings.{wishes_of}
-use Rattle.sercos_block.specs.Startup.{startup_bound}
 use Rattle.sercos_block.specs.Views.{RingView, DriveView}
-use Rattle.sercos_bound.specs.Bounds.{slowest}
 use Rattle.sercos_trace.specs.Views.{CycleView}
 use Rattle.sercos_trace.specs.declared.events.Stop.{Stop}
 use Rattle.sercos_trace.specs.declared.events.Stop.TheVariants as stop
@@ -20,9 +18,6 @@ use Rattle.sercos_script.specs.Links.{Carry, Restarts}
 use Rattle.sercos_journal.specs.Runs.{drive_at, IsRun, IsClear}
 use Rattle.sercos_views.specs.RingViews.{behind_mdt}
 use Rattle.sercos_held.specs.Opened.{IsOpened}
-use Rattle.sercos_undisturbed.specs.Undisturbed.{AreUndisturbed}
-use Rattle.sercos_undisturbed.specs.EpochStarts.{StartsEpoch}
-use Rattle.sercos_undisturbed.specs.Fit.{IsFit}
 
 -- the cycle time lies below the least that the drive can, and the code says so; or above the greatest
 abbrev pub IsOutside : DriveView → ℕ → Code → Type 0
@@ -63,10 +58,3 @@ pub record StopsForTheCycleTime (r : RingView) (x : Stop) : Type 0 where
 abbrev pub StopsInTwo : Type 0
 StopsInTwo = (r : RingView) (jobs : List Job) (carry : Carry) (restarts : Restarts) (t : CycleView) (j : List CycleView) (x : Stop) → IsOpened r jobs → IsRun r jobs carry restarts (t ∷ j) → IsClear (t ∷ j) →
     fall_of (known_of r) (behind_mdt r jobs carry restarts t.sent j) ≡ None → t.phase ≡ 2 → (behind_mdt r jobs carry restarts t.sent j).stop ≡ Some x → StopsForThePlan r x ⊎ StopsForTheCycleTime r x
-
--- HOW PHASE 2 ENDS in an undisturbed epoch. After as many cycles as phase 4 or a stop comes in, phase 3 or 4 is commanded, a plan fits, and
--- the cycle time lies within each drive's limits; or there is a stop for the plan or for the cycle time.
-abbrev pub EndsPhaseTwo : Type 0
-EndsPhaseTwo = (r : RingView) (jobs : List Job) (carry : Carry) (restarts : Restarts) (t : CycleView) (cycles before : List CycleView) → IsOpened r jobs → IsRun r jobs carry restarts (t ∷ (cycles ++ before)) →
-    IsClear (t ∷ (cycles ++ before)) → StartsEpoch r jobs carry restarts before → AreUndisturbed r carry restarts (t ∷ cycles) before → startup_bound r + 41 * (slowest r.drives + 2) ≤ length cycles →
-    ((3 ≤ t.phase) × IsFit r) ⊎ ((x : Stop) × ((behind_mdt r jobs carry restarts t.sent (cycles ++ before)).stop ≡ Some x) × (StopsForThePlan r x ⊎ StopsForTheCycleTime r x))

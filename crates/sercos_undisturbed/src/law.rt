@@ -3,7 +3,8 @@ ghost use Rattle.sercos_undisturbed.specs.Ends.{ComesToAnEnd, ComesToPhaseFour, 
 ghost use Rattle.sercos_undisturbed.specs.Fit.{FitsInThree, OwnFitsInFour};
 ghost use Rattle.sercos_undisturbed.specs.Sections.{NoneIdleInThree, NoneIdleInTwo};
 ghost use Rattle.sercos_undisturbed.specs.StartUps.{AgesUndisturbed, AnswersUndisturbed, ComesToPhaseTwo, CostsUndisturbed, StaysUpUndisturbed, TellsNoFallUndisturbed};
-ghost use Rattle.sercos_undisturbed.specs.StopsInTwo.{EndsPhaseTwo, StopsInTwo};
+ghost use Rattle.sercos_undisturbed.specs.StopsInTwo.{StopsInTwo};
+ghost use Rattle.sercos_undisturbed.specs.StopsLater.{EndsStartUp, NoStopInFour, StopsInThree};
 
 use sercos_agenda::{agenda_law, report_law, stop_law};
 use sercos_block::{ring_law, store_law};
@@ -31,7 +32,8 @@ use sercos_typed::typed_law;
 /// there is a stop, or one is to come, since a check for phase 4 hasn't ended well; and after 41 steps more one of the first two is so,
 /// and stays. Phases 3 and 4 are commanded only if a plan fits what the ring asks, and the cycle time lies within each drive's limits;
 /// phase 4 only if no own block of a drive was outside its limits at opening. A stop in phase 2 comes since no plan fits; or a plan fits,
-/// and it names the first drive of the ring whose limits the cycle time is outside of. So phase 2 of an undisturbed epoch ends.
+/// and it names the first drive of the ring whose limits the cycle time is outside of. A stop in phase 3 comes of a drive's check for
+/// phase 4, and has its list; in phase 4 there is none. So that is how a start-up ends: in phase 4, or with one of these stops.
 pub fn undisturbed_law()
     ensures stays { StaysUpUndisturbed }
     ensures tells { TellsNoFallUndisturbed }
@@ -47,7 +49,9 @@ pub fn undisturbed_law()
     ensures fit { FitsInThree }
     ensures own { OwnFitsInFour }
     ensures stops_two { StopsInTwo }
-    ensures ends_two { EndsPhaseTwo }
+    ensures stops_three { StopsInThree }
+    ensures none_four { NoStopInFour }
+    ensures outcome { EndsStartUp }
 {
     agenda_law();
     report_law();

@@ -4,6 +4,7 @@ use Rattle.sercos_headline.proofs.WellRuns.{StopLaws}
 use Rattle.sercos_held.proofs.Runs.{Laws}
 use Rattle.sercos_undisturbed.specs.Ends.{ComesToAnEnd}
 use Rattle.sercos_undisturbed.specs.StopsInTwo.{StopsInTwo}
+use Rattle.sercos_undisturbed.specs.StopsLater.{NoStopInFour, StopsInThree}
 use Rattle.sercos_undisturbed.proofs.Answered.{ages_undisturbed, answers_undisturbed, costs_undisturbed, tells_no_fall}
 use Rattle.sercos_undisturbed.proofs.CycleHeld.{fits_in}
 use Rattle.sercos_undisturbed.proofs.InTime.{comes_to_end, comes_to_four, stays_at_end}
@@ -12,7 +13,8 @@ use Rattle.sercos_undisturbed.proofs.NeverFalls.{stays_throughout}
 use Rattle.sercos_undisturbed.proofs.PhaseRuns.{phases_in}
 use Rattle.sercos_undisturbed.proofs.RefusedStops.{refused_stop}
 use Rattle.sercos_undisturbed.proofs.TwoStops.{stop_in_two}
-use Rattle.sercos_undisturbed.proofs.TwoEnds.{two_ends}
+use Rattle.sercos_undisturbed.proofs.LaterStops.{no_stop_in_four, stop_in_three}
+use Rattle.sercos_undisturbed.proofs.StartUpEnds.{start_up_ends}
 use Rattle.sercos_undisturbed.proofs.Sections.{never_idle, none_idle}
 use Rattle.sercos_undisturbed.proofs.law.undisturbed_law.Goals as goal
 
@@ -91,6 +93,12 @@ returns c =
     stop_in_two laws more c.run_law.ensures.up c.stop_law.ensures.check128 r jobs carry restarts opened t j run clear stays two
     (refused_stop laws more c.run_law.ensures.up c.parts_law.ensures.replies c.parts_law.ensures.transfers c.run_law.ensures.in_phase (λ b fits. shape-attribute b.attribute (law.small b.attribute fits) (law.sound b.attribute fits) (law.back b.attribute fits))
     c.stop_law.ensures.refused c.agenda_law.ensures.none r jobs carry restarts opened t j run clear stays two) x is in
+    let in_three : StopsInThree = λ r jobs carry restarts t j x opened run clear stays three is.
+    stop_in_three laws more c.run_law.ensures.up c.parts_law.ensures.replies c.parts_law.ensures.transfers c.run_law.ensures.in_phase c.run_law.ensures.epoch c.run_law.ensures.cycle c.stop_law.ensures.refused c.stop_law.ensures.check128
+    r jobs carry restarts opened t j run clear stays three x is in
+    let none_four : NoStopInFour = λ r jobs carry restarts t j opened run clear stays four.
+    no_stop_in_four laws more c.run_law.ensures.up c.parts_law.ensures.replies c.parts_law.ensures.transfers c.run_law.ensures.in_phase c.run_law.ensures.epoch c.run_law.ensures.cycle c.stop_law.ensures.refused c.stop_law.ensures.check128
+    r jobs carry restarts opened t j run clear stays four in
     let ends : ComesToAnEnd = λ r jobs carry restarts t cycles before opened run clear starts calm long.
     comes_to_end laws more c.agenda_law.ensures.turn c.run_law.ensures.up c.calls_law.ensures.late c.agenda_law.ensures.two c.agenda_law.ensures.three c.bound_law.ensures.started c.bound_law.ensures.greatest r jobs carry restarts opened
     c.passage_law.ensures.throughout c.passage_law.ensures.hears c.cost_law.ensures.starts c.cost_law.ensures.timed c.jobs_law.ensures.reads c.jobs_law.ensures.writes c.jobs_law.ensures.list_read c.cost_law.ensures.since t cycles before run clear starts calm long in
@@ -117,6 +125,8 @@ returns c =
       fit = λ r jobs carry restarts t j opened run clear late. fits_in laws more r jobs carry restarts opened t j run clear late;
       own = λ r jobs carry restarts t j k opened run clear below four. own_fits laws more c.run_law.ensures.up r jobs carry restarts opened k below t j run clear four;
       stops_two = in_two;
-      ends_two = λ r jobs carry restarts t cycles before opened run clear starts calm long. two_ends laws more c.agenda_law.ensures.turn c.run_law.ensures.up c.calls_law.ensures.late c.bound_law.ensures.started in_two r jobs carry restarts opened
-          t cycles before run clear starts calm long (ends r jobs carry restarts t cycles before opened run clear starts calm long);
+      stops_three = in_three;
+      none_four = none_four;
+      outcome = λ r jobs carry restarts t cycles before opened run clear starts calm long. start_up_ends laws more c.agenda_law.ensures.turn c.run_law.ensures.up c.calls_law.ensures.late c.bound_law.ensures.started in_two in_three none_four
+          r jobs carry restarts opened t cycles before run clear starts calm long (ends r jobs carry restarts t cycles before opened run clear starts calm long);
     }
