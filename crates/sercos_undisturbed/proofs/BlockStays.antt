@@ -24,7 +24,7 @@ abbrev pub IsAt : ℕ → (Block → Type 0) → List Block → Type 0
 IsAt n such blocks = (b : Block) → find_block n blocks ≡ Some b → such b
 
 -- a write to another block leaves it, and one to it makes it what it writes
-written_at : (n raw : ℕ) (bytes : List ℕ) (such : Block → Type 0) (blocks : List Block) → (raw ≡ n → (b : Block) → find_block n blocks ≡ Some b → such (record b { value = bytes })) → IsAt n such blocks → IsAt n such (with_data raw bytes blocks)
+pub written_at : (n raw : ℕ) (bytes : List ℕ) (such : Block → Type 0) (blocks : List Block) → (raw ≡ n → (b : Block) → find_block n blocks ≡ Some b → such (record b { value = bytes })) → IsAt n such blocks → IsAt n such (with_data raw bytes blocks)
 written_at n raw bytes such [] to_it is c found = absurd (cc)
 written_at n raw bytes such (b ∷ blocks) to_it is c found =
     by (b.idn.raw == raw) (b.idn.raw == n) refl refl (λ other. written_at n raw bytes such blocks (λ same c found. to_it same c (found_first false other ∙ found)) (λ c found. is c (found_first false other ∙ found))) c found

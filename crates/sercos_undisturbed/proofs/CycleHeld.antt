@@ -56,7 +56,7 @@ first_2 d rules c found = subst IsWritable (is_it (sym (find_store_of 2 d rules)
     is_it : Some (built_in_block d (row 2 0x60110001 false CycleTime)) ≡ Some c → built_in_block d (row 2 0x60110001 false CycleTime) ≡ c
     is_it e = cc
 
-second_none : (o p : Option ℕ) → option_or o p ≡ None → p ≡ None
+pub second_none : (o p : Option ℕ) → option_or o p ≡ None → p ≡ None
 second_none None p none = none
 second_none (Some x) p none = absurd (cc)
 
@@ -160,6 +160,14 @@ module _ (laws : Laws) (more : MoreLaws) (r : RingView) (jobs : List Job) (carry
           held_within (drive_at r k) (blocks_in (drive_at r k) (after_mst r carry restarts t.sent j k)) r.cycle rules (stored_in laws more r jobs carry restarts opened t j k below).1 cycle_is.0 cycle_is.1
           (stays_at more.keep more.allows more.those (drive_at r k) 2 IsWritable (writable_stays (drive_at r k) rules) r.rate (given_mst carry restarts t.sent j k) (first_store laws more r jobs carry restarts opened k below).ascending)
           (held k below).2.1.0
+
+  -- in phase 3 and later each drive's store holds the cycle time
+  pub holds_cycle : (t : CycleView) (j : List CycleView) → IsRun r jobs carry restarts (t ∷ j) → IsClear (t ∷ j) → 3 ≤ t.phase → (k : ℕ) → k < length r.drives
+      → (plan : PlanView) × Holds (blocks_in (drive_at r k) (after_mst r carry restarts t.sent j k)) (start_up r.control r.cycle plan k (drive_at r k).at (drive_at r k).mdt)
+  holds_cycle t j (run, next) (before, clear) late k below =
+      let held = holding laws r jobs carry restarts opened (first_store laws more r jobs carry restarts opened) t j next clear (spelled_in laws more r jobs carry restarts opened t j next) (stored_in laws more r jobs carry restarts opened t j)
+      (all_stand laws more r jobs carry restarts opened j run before) (subst (λ (n : ℕ). 3 ≤ n) next.phase late) k below in
+      (held.0, held.2)
 
   -- A DRIVE WHOSE CHECK FOR PHASE 3 has ended well has taken the cycle time.
   pub checked_within : (t : CycleView) (j : List CycleView) → IsRun r jobs carry restarts (t ∷ j) → IsClear (t ∷ j) → fall_of (known_of r) (behind_mdt r jobs carry restarts t.sent j) ≡ None → (behind_mdt r jobs carry restarts t.sent j).now.phase ≤ 3

@@ -57,3 +57,5 @@ pub mod Reached
 pub mod LateSteps
 pub mod LaterStops
 pub mod StartUpEnds
+pub mod OwnInside
+pub mod SetsFour

@@ -64,7 +64,7 @@ well_status time cycle (Some s) is = by (has_ended time cycle s) s.well refl is
     by true false well is = absurd (omega (arith, is))
     by false y well is = absurd (omega (arith, is))
 
-none_any : (p : Block → Bool) (blocks : List Block) → filter p blocks ≡ [] → list_any p blocks ≡ false
+pub none_any : (p : Block → Bool) (blocks : List Block) → filter p blocks ≡ [] → list_any p blocks ≡ false
 none_any p [] none = refl
 none_any p (b ∷ blocks) none = by (p b) refl none (λ rest. none_any p blocks rest)
   where

@@ -34,10 +34,10 @@ pub record IsOwn (d : DriveView) (blocks : List Block) (c : CommandsView) : Type
   pub says : SaysOwn d c
 
 -- operation data by itself
-abbrev set_already : ℕ → CommandsView
+abbrev pub set_already : ℕ → CommandsView
 set_already raw = record { rate = 0; time = 0; set = (record { idn = record { raw = raw }; cycle = 0; well = true }) ∷ []; passed_127 = None; passed_128 = None }
 
-nothing_listed : (raw value : ℕ) (blocks : List Block) → with_lists (set_already raw) raw value blocks ≡ blocks
+pub nothing_listed : (raw value : ℕ) (blocks : List Block) → with_lists (set_already raw) raw value blocks ≡ blocks
 unfolding with_lists
 nothing_listed raw value blocks = let off = by (raw == raw) (let same : (raw == raw) ≡ true = grind (arith, nat_tests) in same) (not (value == 0)) in rw off refl
   where
