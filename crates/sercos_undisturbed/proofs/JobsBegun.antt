@@ -50,7 +50,7 @@ use Rattle.sercos_undisturbed.proofs.JobPlaces.{Give3, begun_at, few_in_two, rea
 use Rattle.sercos_undisturbed.proofs.PlanMade.{looked_adds, no_stop_looked, plan_made, read_same}
 
 -- what stands in the middle of what was begun
-place_of : (all : List Request) (newer older : List Begun) (b : Begun) → AreAt all (newer ++ b ∷ older) → slice_get all (length older) ≡ Some b.request
+pub place_of : (all : List Request) (newer older : List Begun) (b : Begun) → AreAt all (newer ++ b ∷ older) → slice_get all (length older) ≡ Some b.request
 place_of all [] older b at = at.1
 place_of all (x ∷ newer) older b at = place_of all newer older b at.0
 
@@ -62,7 +62,7 @@ module _ (laws : Laws) (more : MoreLaws) (r : RingView) (jobs : List Job) (carry
   inside k below = let count = members_count r in omega (arith, count, below)
 
   -- THE CHECKS FOR PHASE 3 end well.
-  wells : (j : List CycleView) → IsRun r jobs carry restarts j → IsClear j → AllWell laws more.stop_laws r jobs carry restarts opened (first_store laws more r jobs carry restarts opened) j
+  pub wells : (j : List CycleView) → IsRun r jobs carry restarts j → IsClear j → AllWell laws more.stop_laws r jobs carry restarts opened (first_store laws more r jobs carry restarts opened) j
   wells [] run clear = λ k below. well_first r jobs carry restarts k
   wells (t ∷ j) (run, next) (before, clear) =
       all_well laws more.stop_laws r jobs carry restarts opened (first_store laws more r jobs carry restarts opened) t j next clear (spelled_in laws more r jobs carry restarts opened t j next) (stored_in laws more r jobs carry restarts opened t j)

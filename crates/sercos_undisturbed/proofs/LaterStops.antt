@@ -18,6 +18,8 @@ use Rattle.sercos_block.specs.declared.built_in.Opening.TheVariants.{Empty}
 use Rattle.sercos_block.specs.Rules.{blocks_fault}
 use Rattle.sercos_block.specs.Stores.{find_block, store_of}
 use Rattle.sercos_block.specs.Views.{DriveView, RingView}
+use Rattle.sercos_command.specs.Checks.{is_outside}
+use Rattle.std.specs.List.{list_any}
 use Rattle.sercos_service_drive.specs.Replies.{write_cause_in}
 use Rattle.sercos_service_master.specs.Begun.{Begun, step_at, steps_begun, steps_in}
 use Rattle.sercos_service_master.specs.Calls.{begun_by}
@@ -43,7 +45,7 @@ use Rattle.sercos_startup.proofs.CheckPasses.{ring_drive}
 use Rattle.sercos_journal.specs.Runs.{drive_at, middle, IsRun, IsClear}
 use Rattle.sercos_agenda.specs.Reported.{AreNumbered}
 use Rattle.sercos_agenda.specs.Stops.{RefusedHasCause, HasRefused, Check128HasCause, HasFailedCheck}
-use Rattle.sercos_agenda.specs.Tasks.{IsTask, OfReads, OfWrites, Checks3, Lists3, Checks4, Lists4, OfWaiting, AreBegunTasks}
+use Rattle.sercos_agenda.specs.Tasks.{HasEndedAt, IsTask, OfReads, OfWrites, Checks3, Lists3, Checks4, Lists4, OfWaiting, AreBegunTasks}
 use Rattle.sercos_agenda.proofs.ReadWell.{last_is}
 use Rattle.sercos_agenda.proofs.Requests.{numbered_drop, are_requests}
 use Rattle.sercos_views.specs.RingViews.{behind_mdt, view_of, views_of}
@@ -56,7 +58,8 @@ use Rattle.sercos_undisturbed.specs.Jobs.{jobs_of, AreAt}
 use Rattle.sercos_undisturbed.specs.StopsLater.{StopsForTheCheck}
 use Rattle.sercos_undisturbed.proofs.CycleHeld.{fits_in}
 use Rattle.sercos_undisturbed.proofs.JobPlaces.{at_most, later, some_plan}
-use Rattle.sercos_undisturbed.proofs.JobsBegun.{begun_end, begun_now, places_now, tasks_now}
+use Rattle.sercos_undisturbed.proofs.JobsBegun.{begun_end, begun_now, place_of, places_now, tasks_now}
+use Rattle.sercos_undisturbed.proofs.WellGiven.{check_gives_3}
 use Rattle.sercos_undisturbed.proofs.LateSteps.{first_step, late_now, older_fewer}
 use Rattle.sercos_undisturbed.proofs.Reached.{all_checked_in, all_ready_in}
 use Rattle.sercos_undisturbed.proofs.RefusedCauses.{allows_4, check_4, check_free_4, found_4}
@@ -82,7 +85,7 @@ found_list : (d : DriveView) → blocks_fault [] d.blocks ≡ None → find_bloc
 unfolding built_in
 found_list d rules = find_store_of 22 d rules
 
-check_is_command : (d : DriveView) → (check_4 d).attribute.command ≡ true
+pub check_is_command : (d : DriveView) → (check_4 d).attribute.command ≡ true
 unfolding attribute_of
 check_is_command d = refl
 
@@ -248,6 +251,38 @@ module _ (laws : held.Laws) (more : MoreLaws) (comes_up : (busy : ℕ) → Comes
       by (inl three) has = never_three has.ended.place (low has) has.ended.there has.ended.one has.ended.older code has.ended.begun has.ended.task has.ended.tasks has.ended.tasks_are has.ended.startup has.ended.ended three
       by (inr four) has = never_four has.ended.place (low has) has.ended.there has.ended.one has.ended.older code has.ended.begun has.ended.task has.ended.tasks has.ended.tasks_are has.ended.startup has.ended.ended four
 
+  -- A CHECK THAT HAS FAILED found an own block
+  own_outside : t.phase ≡ 3 → (address : ℕ) (list : List Idn) (failed : HasFailedCheck (known_of r) (behind_mdt r jobs carry restarts t.sent j) 12 address list) → failed.place < length r.drives → list_any is_outside (drive_at r failed.place).blocks ≡ true
+  own_outside three address list failed low = by (list_any is_outside (drive_at r failed.place).blocks) refl
+    where
+      at : HasEndedAt (known_of r) failed.place (behind_mdt r jobs carry restarts t.sent j).plan ((behind_mdt r jobs carry restarts t.sent j).waiting failed.place) (behind_mdt r jobs carry restarts t.sent j).now.phase
+          (begun_by ((behind_mdt r jobs carry restarts t.sent j).calls failed.place)) (reads_count (member (known_of r) failed.place) + 12) (outcome.Complete failed.status)
+      at = laws.ends (known_of r) (tasks_for (known_of r) jobs) (middle r carry restarts t.sent j) failed.place (reads_count (member (known_of r) failed.place) + 12) (outcome.Complete failed.status) failed.there failed.complete
+
+      split : epoch_begun (views_of r jobs carry restarts failed.place (t ∷ j)) ≡ at.newer ++ at.one ∷ at.older
+      split = sym (begun_now laws more r jobs carry restarts opened t j run clear stays failed.place low) ∙ at.split
+
+      places : AreAt (jobs_of (known_of r) (behind_mdt r jobs carry restarts t.sent j).plan failed.place) (at.newer ++ at.one ∷ at.older)
+      places = subst (AreAt (jobs_of (known_of r) (behind_mdt r jobs carry restarts t.sent j).plan failed.place)) split
+          (places_now laws more r jobs carry restarts opened t j run clear stays failed.place low (let same = phase_is in omega (arith, same, three)))
+
+      long : reads_count (member (known_of r) failed.place) < length (at.newer ++ at.one ∷ at.older)
+      long = let parts = length-append at.newer (at.one ∷ at.older) in let place = at.place in omega (arith, parts, place)
+
+      made : (p : PlanView) × ((behind_mdt r jobs carry restarts t.sent j).plan ≡ Some p)
+      made = some_plan (known_of r) failed.place (behind_mdt r jobs carry restarts t.sent j).plan (at.newer ++ at.one ∷ at.older) places long
+
+      asks : at.one.request ≡ request.Command (idn 128)
+      asks = one_request at.one.request (request.Command (idn 128))
+          (sym (place_of (jobs_of (known_of r) (Some made.0) failed.place) at.newer at.older at.one (subst (λ (o : Option PlanView). AreAt (jobs_of (known_of r) o failed.place) (at.newer ++ at.one ∷ at.older)) made.1 places))
+          ∙ later (known_of r) failed.place made.0 (length at.older) 12 at.place)
+
+      by : (b : Bool) → list_any is_outside (drive_at r failed.place).blocks ≡ b → list_any is_outside (drive_at r failed.place).blocks ≡ true
+      by true is = is
+      by false none =
+          let gives = check_gives_3 laws more r jobs carry restarts opened failed.place low none (t ∷ j) run clear at.newer at.older at.one failed.status split asks at.ended in
+          absurd (false≢true (sym failed.badly ∙ ap ended_well gives))
+
   -- THE STOP OF PHASE 3
   pub stop_in_three : t.phase ≡ 3 → (x : Stop) → (behind_mdt r jobs carry restarts t.sent j).stop ≡ Some x → StopsForTheCheck r (behind_mdt r jobs carry restarts t.sent j) x
   stop_in_three three (stop.NoFit chain) is =
@@ -256,13 +291,20 @@ module _ (laws : held.Laws) (more : MoreLaws) (comes_up : (busy : ℕ) → Comes
   stop_in_three three (stop.Refused address i code) is = absurd (no_refusal (inl three) address i code is)
   stop_in_three three (stop.BadConfig address i word) is = absurd ((stops_right laws more r jobs carry restarts opened t j (stop.BadConfig address i word) run clear is).no_bad_config address i word refl)
   stop_in_three three (stop.Check127 address list) is = absurd ((stops_right laws more r jobs carry restarts opened t j (stop.Check127 address list) run clear is).no_check127 address list.items refl)
-  stop_in_three three (stop.Check128 address list) is = record {
-    address = address;
-    list = list.items;
-    is = refl;
-    failed = cause128 (known_of r) (tasks_for (known_of r) jobs) (middle r carry restarts t.sent j) address list.items (λ i. (more.requests (known_of r) jobs i).1) is;
-    fits = fits_in laws more r jobs carry restarts opened t j run clear (omega (arith, three));
-  }
+  stop_in_three three (stop.Check128 address list) is =
+      let failed = cause128 (known_of r) (tasks_for (known_of r) jobs) (middle r carry restarts t.sent j) address list.items (λ i. (more.requests (known_of r) jobs i).1) is in
+      let count = members_count r in
+      let there = failed.there in
+      let low : failed.place < length r.drives = omega (arith, count, there) in
+      record {
+        address = address;
+        list = list.items;
+        is = refl;
+        failed = failed;
+        there = low;
+        outside = own_outside three address list.items failed low;
+        fits = fits_in laws more r jobs carry restarts opened t j run clear (omega (arith, three));
+      }
 
   -- AND OF PHASE 4
   no_failed_check : t.phase ≡ 4 → (address : ℕ) (list : List Idn) → HasFailedCheck (known_of r) (behind_mdt r jobs carry restarts t.sent j) 12 address list → ⊥

@@ -59,3 +59,5 @@ pub mod LaterStops
 pub mod StartUpEnds
 pub mod OwnInside
 pub mod SetsFour
+pub mod EntriesSay
+pub mod WellGiven

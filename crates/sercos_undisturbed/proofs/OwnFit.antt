@@ -6,12 +6,12 @@ use Rattle.std.proofs.lemmas.Bool.{cases_lt}
 use Rattle.sercos_step.specs.declared.request.Job.{Job}
 use Rattle.sercos_block.specs.Rules.{blocks_fault}
 use Rattle.sercos_block.specs.Stores.{store_of}
-use Rattle.sercos_block.specs.Views.{DriveView, RingView}
+use Rattle.sercos_block.specs.Views.{RingView}
 use Rattle.sercos_block.specs.declared.block.Block.{Block}
 use Rattle.sercos_command.specs.Checks.{is_outside}
 use Rattle.sercos_command.specs.Settings.{find_set, has_ended, status_by, status_in}
 use Rattle.sercos_command.specs.declared.commands.SetCommand.{SetCommand}
-use Rattle.sercos_service_drive.specs.Log.{Taken, Entry}
+use Rattle.sercos_service_drive.specs.Log.{Entry}
 use Rattle.sercos_service_master.specs.Begun.{Begun}
 use Rattle.sercos_service_master.specs.Calls.{begun_by}
 use Rattle.sercos_trace.specs.Views.{CycleView}
@@ -25,9 +25,7 @@ use Rattle.sercos_script.specs.Links.{Carry, Restarts}
 use Rattle.sercos_handshake.specs.CommandTransfers.{GivesStatus}
 use Rattle.sercos_handshake.specs.Exact.{AreExact}
 use Rattle.sercos_handshake.specs.RunLaws.{ComesUp}
-use Rattle.sercos_handshake.specs.Views.{View, standing, stood_in, record_in, kept_in}
-use Rattle.sercos_handshake.specs.WholeRun.{accepted_of, all_begun, begun_ago, all_entries, all_writes}
-use Rattle.sercos_handshake.proofs.PhaseMoves.{Processes, Nothing, Record, processes}
+use Rattle.sercos_handshake.specs.WholeRun.{all_begun, begun_ago, all_entries, all_writes}
 use Rattle.sercos_startup.specs.Kept.{is_own_outside}
 use Rattle.sercos_startup.proofs.CheckPasses.{ring_drive}
 use Rattle.sercos_startup.proofs.OwnLemmas.{own_at_opening}
@@ -44,13 +42,9 @@ use Rattle.sercos_undisturbed.proofs.CheckedViews.{status_3}
 use Rattle.sercos_undisturbed.proofs.Identified.{phase_low}
 use Rattle.sercos_undisturbed.proofs.StaysUp.{phase_now}
 use Rattle.sercos_undisturbed.proofs.JobsBegun.{begun_now}
+use Rattle.sercos_undisturbed.proofs.EntriesSay.{EntriesSay, ViewsSay, entries_say}
 use Rattle.sercos_undisturbed.proofs.OwnSet.{AreBuiltIn, SaysOwn, own_so}
 use Rattle.sercos_undisturbed.proofs.BuiltInWrites.{NeverFour, writes_built}
-
--- what a check says that ended well, and at which step it says so
-abbrev EntriesSay : DriveView → List Entry → Type 0
-EntriesSay d [] = Unit {0}
-EntriesSay d (e ∷ entries) = EntriesSay d entries × SaysOwn d e.taken.commands
 
 abbrev status_of : Bool → Bool → ℕ
 status_of x y = if x then (if y then 3 else 15) else 7
@@ -95,25 +89,9 @@ module _ (laws : Laws) (more : MoreLaws) (comes_up : (busy : ℕ) → ComesUp bu
       (own_so (drive_at r k) r.rate (given_mst carry restarts t.sent j k) (subst AreBuiltIn (sym (kept_at_mst laws r jobs carry restarts opened (first_store laws more r jobs carry restarts opened) t j next clear (spelled_in laws more r jobs carry restarts opened t j next)
       (stored_in laws more r jobs carry restarts opened t j) (all_stand laws more r jobs carry restarts opened j run before) k below).writes) (writes_built laws more comes_up r jobs carry restarts opened k below j run before never))).says
 
-  entries_say : (j : List CycleView) → IsRun r jobs carry restarts j → IsClear j → NeverFour j → EntriesSay (drive_at r k) (all_entries (views_of r jobs carry restarts k j))
-  entries_say [] run clear never = tt
-  entries_say (t ∷ j) run clear never = by (processes v past) (entries_say j run.0 clear.0 never.0)
-    where
-      v : View
-      v = view_of r jobs carry restarts k t j
-
-      past : List View
-      past = views_of r jobs carry restarts k j
-
-      dropped : (u : Taken) (same : Bool) (entry : Entry) → entry.taken ≡ u → SaysOwn (drive_at r k) u.commands → EntriesSay (drive_at r k) (all_entries past) → EntriesSay (drive_at r k) (if same then all_entries past else entry ∷ all_entries past)
-      dropped u true entry is says before = before
-      dropped u false entry is says before = (before, subst (λ (x : Taken). SaysOwn (drive_at r k) x.commands) (sym is) says)
-
-      by : Processes v past → EntriesSay (drive_at r k) (all_entries past) → EntriesSay (drive_at r k) (all_entries (v ∷ past))
-      by (Nothing none) before = subst (λ (o : Option Taken). EntriesSay (drive_at r k) (accepted_of o (kept_in v past) (all_entries past))) (sym none) before
-      by (Record s got came two some) before =
-          subst (λ (o : Option Taken). EntriesSay (drive_at r k) (accepted_of o (kept_in v past) (all_entries past))) (sym some)
-          (dropped (record_in v (length past) (stood_in v (standing past)) s) _ _ refl (says_in t j run clear never.0) before)
+  views_say : (j : List CycleView) → IsRun r jobs carry restarts j → IsClear j → NeverFour j → ViewsSay (SaysOwn (drive_at r k)) (views_of r jobs carry restarts k j)
+  views_say [] run clear never = tt
+  views_say (t ∷ j) run clear never = (views_say j run.0 clear.0 never.0, says_in t j run clear never.0)
 
   -- THE CYCLE IN WHICH IT RISES to phase 4
   rise_own : (u : CycleView) (j : List CycleView) → IsRun r jobs carry restarts (u ∷ j) → IsClear (u ∷ j) → NeverFour (u ∷ j) → (looks_back r jobs (master_calls r carry restarts (u ∷ j))).now.phase ≡ 4 → FitsOwn
@@ -152,7 +130,7 @@ module _ (laws : Laws) (more : MoreLaws) (comes_up : (busy : ℕ) → ComesUp bu
           with_status : GivesStatus 128 newest.bytes part → filter is_own_outside (store_of (drive_at r k)) ≡ []
           with_status (cancel, poll, earlier, of_part, reads, element, given) =
               let log_so : all_entries (views_of r jobs carry restarts k (u ∷ j)) ≡ cancel ∷ poll ∷ (earlier ++ rest) = of_entries ∙ ap (λ (l : List Entry). l ++ rest) of_part in
-              let says = subst (EntriesSay (drive_at r k)) log_so (entries_say (u ∷ j) run clear never) in
+              let says = subst (EntriesSay (SaysOwn (drive_at r k))) log_so (entries_say (SaysOwn (drive_at r k)) (views_of r jobs carry restarts k (u ∷ j)) (views_say (u ∷ j) run clear never)) in
               let status = status_3 (status_in poll.taken.commands 128 poll.taken.cycle) newest.bytes given newest.well in
               let set = well_status poll.taken.commands.time poll.taken.cycle (find_set 128 poll.taken.commands.set) status in
               says.0.1 set.0 set.1 set.2

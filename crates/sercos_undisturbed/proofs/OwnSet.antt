@@ -1,6 +1,6 @@
 -- As long as built-in blocks alone are written to a drive, those of its own that are outside their limits are the same as at opening; so
 -- if a check for phase 4 is set that ends well, there are none.
-use Rattle.std.proofs.Common.{◌≡◌, ℕ, suc, arith, Bool, true, false, not, ◌&&◌, List, [], ◌∷◌, ◌++◌, length, map, filter, Option, Some, None, refl, sym, ap, ◌∙◌, if◌then◌else◌}
+use Rattle.std.proofs.Common.{◌≡◌, ℕ, suc, arith, Bool, true, false, not, ◌&&◌, List, [], ◌∷◌, ◌++◌, length, map, filter, Option, Some, None, refl, sym, ap, ◌∙◌, if◌then◌else◌, subst}
 use Rattle.std.specs.Prelude.{◌==◌, nat_le, is_none, is_some, cond}
 use Rattle.std.proofs.lemmas.Bool.{false≢true, eqb-true}
 use Rattle.std.proofs.lemmas.Bool.Decides.{nat_tests}
@@ -24,6 +24,10 @@ use Rattle.sercos_startup.proofs.OwnLemmas.{own_stay}
 abbrev pub AreBuiltIn : List Write → Type 0
 AreBuiltIn [] = Unit {0}
 AreBuiltIn (w ∷ writes) = AreBuiltIn writes × (is_built_in w.raw ≡ true)
+
+-- a check for phase 4 that is set is such a one
+abbrev pub Say : (SetCommand → Type 0) → CommandsView → Type 0
+Say such c = (s : SetCommand) → find_set 128 c.set ≡ Some s → such s
 
 -- what a check for phase 4 says that is set, and ends well
 abbrev pub SaysOwn : DriveView → CommandsView → Type 0
@@ -79,6 +83,9 @@ same_without n raw (s ∷ set) other = by (s.idn.raw == raw) refl (same_without 
         more ∙ sym (ap (λ (x : Bool). cond x (Some s) (find_set n set)) apart)
     by false is more = ap (λ (o : Option SetCommand). cond (s.idn.raw == n) (Some s) o) more
 
+none_some : (s : SetCommand) → None ≡ Some s → ⊥
+none_some s e = cc
+
 found_append : (n : ℕ) (set : List SetCommand) (new s : SetCommand) → find_set n (set ++ new ∷ []) ≡ Some s → find_set n set ≡ None → ((new.idn.raw == n) ≡ true) × (new ≡ s)
 found_append n [] new s found none = by (new.idn.raw == n) refl found
   where
@@ -118,35 +125,36 @@ unfolding unfit_for_phase_4
 well_own rate blocks well = none_own blocks (sym (ap (λ (n : ℕ). n == 0) (same_length (λ (b : Block). b.idn) (filter is_outside blocks))) ∙ well)
 
 -- ONE WRITE
-says_written : (d : DriveView) (raw value cycle : ℕ) (blocks : List Block) (c : CommandsView) → filter is_own_outside blocks ≡ filter is_own_outside (store_of d) → SaysOwn d c → SaysOwn d (with_write raw value cycle blocks c)
+pub say_written : (such : SetCommand → Type 0) (raw value cycle : ℕ) (blocks : List Block) (c : CommandsView) → (raw ≡ 128 → such (record { idn = record { raw = raw }; cycle = cycle; well = ends_well c.rate raw blocks })) → Say such c
+    → Say such (with_write raw value cycle blocks c)
 unfolding with_write
-says_written d raw value cycle blocks c same says s found well = by (value == 0) found
+say_written such raw value cycle blocks c sets say s found = by (value == 0) found
   where
     new : SetCommand
     new = record { idn = record { raw = raw }; cycle = cycle; well = ends_well c.rate raw blocks }
 
-    cancelled : find_set 128 (without raw c.set) ≡ Some s → filter is_own_outside (store_of d) ≡ []
+    cancelled : find_set 128 (without raw c.set) ≡ Some s → such s
     cancelled found = which (raw == 128) refl
       where
-        which : (x : Bool) → (raw == 128) ≡ x → filter is_own_outside (store_of d) ≡ []
-        which true is = let none : find_set 128 (without raw c.set) ≡ None = ap (λ (n : ℕ). find_set 128 (without n c.set)) (eqb-true raw 128 is) ∙ none_without 128 c.set in let both : None ≡ Some s = sym none ∙ found in absurd (cc)
-        which false other = says s (sym (same_without 128 raw c.set other) ∙ found) well
+        which : (x : Bool) → (raw == 128) ≡ x → such s
+        which true is = let none : find_set 128 (without raw c.set) ≡ None = ap (λ (n : ℕ). find_set 128 (without n c.set)) (eqb-true raw 128 is) ∙ none_without 128 c.set in absurd (none_some s (sym none ∙ found))
+        which false other = say s (sym (same_without 128 raw c.set other) ∙ found)
 
-    added : (o : Option SetCommand) → find_set 128 c.set ≡ o → find_set 128 (c.set ++ (record { idn = record { raw = raw }; cycle = cycle; well = ends_well c.rate raw blocks }) ∷ []) ≡ Some s → filter is_own_outside (store_of d) ≡ []
-    added (Some x) before found = says s (found_before 128 c.set new s x before found) well
-    added None none found =
-        let is = found_append 128 c.set new s found none in
-        let number : raw ≡ 128 = eqb-true raw 128 is.0 in
-        let good : ends_well c.rate 128 blocks ≡ true = ap (λ (n : ℕ). ends_well c.rate n blocks) (sym number) ∙ ap (λ (y : SetCommand). y.well) is.1 ∙ well in
-        sym same ∙ well_own c.rate blocks good
+    added : (o : Option SetCommand) → find_set 128 c.set ≡ o → find_set 128 (c.set ++ (record { idn = record { raw = raw }; cycle = cycle; well = ends_well c.rate raw blocks }) ∷ []) ≡ Some s → such s
+    added (Some x) before found = say s (found_before 128 c.set new s x before found)
+    added None none found = let is = found_append 128 c.set new s found none in subst such is.1 (sets (eqb-true raw 128 is.0))
 
-    set_so : (x : Bool) → find_set 128 (if x then c.set else c.set ++ (record { idn = record { raw = raw }; cycle = cycle; well = ends_well c.rate raw blocks }) ∷ []) ≡ Some s → filter is_own_outside (store_of d) ≡ []
-    set_so true found = says s found well
+    set_so : (x : Bool) → find_set 128 (if x then c.set else c.set ++ (record { idn = record { raw = raw }; cycle = cycle; well = ends_well c.rate raw blocks }) ∷ []) ≡ Some s → such s
+    set_so true found = say s found
     set_so false found = added (find_set 128 c.set) refl found
 
-    by : (x : Bool) → find_set 128 (if x then without raw c.set else with_set (record { idn = record { raw = raw }; cycle = cycle; well = ends_well c.rate raw blocks }) c.set) ≡ Some s → filter is_own_outside (store_of d) ≡ []
+    by : (x : Bool) → find_set 128 (if x then without raw c.set else with_set (record { idn = record { raw = raw }; cycle = cycle; well = ends_well c.rate raw blocks }) c.set) ≡ Some s → such s
     by true found = cancelled found
     by false found = set_so (is_some (find_set raw c.set)) found
+
+says_written : (d : DriveView) (raw value cycle : ℕ) (blocks : List Block) (c : CommandsView) → filter is_own_outside blocks ≡ filter is_own_outside (store_of d) → SaysOwn d c → SaysOwn d (with_write raw value cycle blocks c)
+says_written d raw value cycle blocks c same says =
+    say_written (λ s. s.well ≡ true → filter is_own_outside (store_of d) ≡ []) raw value cycle blocks c (λ number well. sym same ∙ well_own c.rate blocks (ap (λ (n : ℕ). ends_well c.rate n blocks) (sym number) ∙ well)) says
 
 own_written : (d : DriveView) (w : Write) (blocks : List Block) (c : CommandsView) → is_built_in w.raw ≡ true → IsOwn d blocks c → IsOwn d (blocks_with (Some w) c blocks) (commands_with (Some w) blocks c)
 own_written d w blocks c built own = record { same = own_stay w c blocks built ∙ own.same; says = by (is_command blocks w.raw) }

@@ -1,26 +1,23 @@
 -- A check for phase 4 that is set ends well, if no own block of the drive was outside its limits at opening.
 use Rattle.std.proofs.Common.{◌≡◌, ℕ, ◌<◌, ◌≤◌, Bool, true, false, List, [], ◌∷◌, length, map, Option, Some, None, refl, sym, ap, ◌∙◌, subst, arith, if◌then◌else◌}
-use Rattle.std.specs.Prelude.{◌==◌, nat_le, IfSome, option_map}
+use Rattle.std.specs.Prelude.{◌==◌, IfSome, option_map}
 use Rattle.std.specs.Bool.{then_some}
 use Rattle.std.specs.List.{filter, list_any}
-use Rattle.std.specs.Int.{w16, to_le_bytes}
 use Rattle.std.proofs.lemmas.Bool.{eqb-true, false≢true}
-use Rattle.std.proofs.lemmas.List.{length-map}
 use Rattle.sercos_model.proofs.FaultLemmas.{none_of-or, none_of-then}
 use Rattle.sercos_idn.specs.Attributes.{attribute_of}
 use Rattle.sercos_idn.specs.declared.attribute.Attribute.{Attribute}
-use Rattle.sercos_idn.specs.declared.idn.Idn.{Idn}
 use Rattle.sercos_step.specs.declared.request.Job.{Job}
 use Rattle.sercos_timing.specs.Views.{PlanView}
 use Rattle.sercos_block.specs.Blocks.{is_fixed, is_protected}
 use Rattle.sercos_block.specs.Rules.{blocks_fault}
-use Rattle.sercos_block.specs.Stores.{find_block, with_data, store_of, write_fault, data_fault, put_fault, are_ascending, IsStore}
+use Rattle.sercos_block.specs.Stores.{find_block, with_data, store_of, write_fault, data_fault, put_fault, are_ascending}
 use Rattle.sercos_block.specs.Views.{DriveView, RingView}
 use Rattle.sercos_block.specs.declared.block.Block.{Block}
-use Rattle.sercos_command.specs.Checks.{data_at, is_outside, unfit_for_phase_4}
-use Rattle.sercos_command.specs.Settings.{CommandsView, ends_well, is_command, with_lists}
+use Rattle.sercos_command.specs.Checks.{is_outside, unfit_for_phase_4}
+use Rattle.sercos_command.specs.Settings.{ends_well, is_command, with_lists}
 use Rattle.sercos_service_drive.specs.Log.{Taken}
-use Rattle.sercos_service_drive.specs.Writes.{Write, added_on, blocks_with, setting_in}
+use Rattle.sercos_service_drive.specs.Writes.{Write, added_on, setting_in}
 use Rattle.sercos_drive.specs.Heard.{DriveCall}
 use Rattle.sercos_drive.specs.Moments.{blocks_in}
 use Rattle.sercos_drive.specs.Annals.{annals}
@@ -37,7 +34,7 @@ use Rattle.sercos_handshake.proofs.AttributeReplies.{find-alike}
 use Rattle.sercos_handshake.proofs.PhaseMoves.{Processes, Nothing, Record, processes, processed_phase}
 use Rattle.sercos_handshake.proofs.ProtectedWrites.{those_moved, those_kept, those_since}
 use Rattle.sercos_journal.specs.Runs.{drive_at, given_mst, IsRun, IsClear}
-use Rattle.sercos_views.specs.RingViews.{after_mst, view_of, views_of}
+use Rattle.sercos_views.specs.RingViews.{view_of, views_of}
 use Rattle.sercos_held.specs.Opened.{IsOpened}
 use Rattle.sercos_held.specs.Stored.{IsStored}
 use Rattle.sercos_held.proofs.Runs.{Laws, Stands, alike_so, drive_got, s_known}

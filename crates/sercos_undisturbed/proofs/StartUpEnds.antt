@@ -1,5 +1,5 @@
 -- How an undisturbed start-up ends.
-use Rattle.std.proofs.Common.{◌≡◌, ◌⊎◌, inl, inr, ℕ, ◌+◌, ◌*◌, ◌≤◌, true, List, ◌∷◌, ◌++◌, length, Option, Some, None, refl, arith}
+use Rattle.std.proofs.Common.{◌≡◌, ◌⊎◌, inl, inr, ℕ, ◌+◌, ◌*◌, ◌≤◌, true, List, ◌∷◌, ◌++◌, length, Option, Some, None, refl, sym, ◌∙◌, arith}
 use Rattle.std.specs.Prelude.{is_some}
 use Rattle.std.proofs.lemmas.Bool.{cases_eq, false≢true}
 use Rattle.sercos_step.specs.declared.request.Job.{Job}
@@ -77,3 +77,13 @@ module _ (laws : Laws) (more : MoreLaws) (turn : WorkInTurn) (comes_up : (busy :
           | inr not_three ↦ let (low, high) = within long in in_phase_four (omega (arith, low, high, not_two, not_three))
         ]
       ]
+
+  -- A RING THAT IS RIGHT has none of the stops
+  pub rises_if_right : IsEnded → IsRight r → t.phase ≡ 4
+  rises_if_right (inl ended) right = ended.0
+  rises_if_right (inr (x, is, inl plan)) right = absurd (plan.none right.0.plan right.0.fits)
+  rises_if_right (inr (x, is, inr (inl cycle))) right = absurd (elim cycle.refuses.outside [
+    | inl low ↦ let less = low.0 in let within_low = right.0.low cycle.refuses.place cycle.refuses.there in omega (arith, less, within_low)
+    | inr high ↦ let more_than = high.0 in let within_high = right.0.high cycle.refuses.place cycle.refuses.there in omega (arith, more_than, within_high)
+  ])
+  rises_if_right (inr (x, is, inr (inr check))) right = absurd (false≢true (sym (right.1 check.failed.place check.there) ∙ check.outside))

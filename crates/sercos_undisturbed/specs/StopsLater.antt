@@ -1,5 +1,5 @@
 -- Which stops come of phases 3 and 4, and how a start-up ends. The newest cycle of a journal comes first.
-use Rattle.std.specs.Prelude.{◌≡◌, ◌⊎◌, ℕ, ◌+◌, ◌*◌, ◌<◌, ◌≤◌, false, List, ◌∷◌, ◌++◌, length, Some, None}
+use Rattle.std.specs.Prelude.{◌≡◌, ◌⊎◌, ℕ, ◌+◌, ◌*◌, ◌<◌, ◌≤◌, true, false, List, ◌∷◌, ◌++◌, length, Some, None}
 use Rattle.std.specs.List.{list_any}
 use Rattle.sercos_idn.specs.declared.idn.Idn.{Idn}
 use Rattle.sercos_step.specs.declared.request.Job.{Job}
@@ -23,12 +23,15 @@ use Rattle.sercos_undisturbed.specs.Fit.{IsFit}
 use Rattle.sercos_undisturbed.specs.StopsInTwo.{StopsForThePlan, StopsForTheCycleTime}
 
 -- A plan fits, and the cycle time lies within each drive's limits; but the check for phase 4 of the drive with this address, which comes 12
--- requests after the reads, has ended badly. The stop has the list that the drive then gave.
+-- requests after the reads, has ended badly, since an own block of the drive was outside its limits at opening. The stop has the list that
+-- the drive then gave.
 pub record StopsForTheCheck (r : RingView) (p : Past) (x : Stop) : Type 0 where
   pub address : ℕ
   pub list : List Idn
   pub is : x ≡ stop.Check128 address (record { items = list })
   pub failed : HasFailedCheck (known_of r) p 12 address list
+  pub there : failed.place < length r.drives
+  pub outside : list_any is_outside (drive_at r failed.place).blocks ≡ true
   pub fits : IsFit r
 
 -- So each stop in phase 3 is, in every run in which nothing was unseen, if the ring doesn't fall at the end of the cycle.
@@ -53,3 +56,8 @@ EndsStartUp = (r : RingView) (jobs : List Job) (carry : Carry) (restarts : Resta
     ((t.phase ≡ 4) × ((behind_mdt r jobs carry restarts t.sent (cycles ++ before)).stop ≡ None) × IsRight r)
     ⊎ ((x : Stop) × ((behind_mdt r jobs carry restarts t.sent (cycles ++ before)).stop ≡ Some x)
     × (StopsForThePlan r x ⊎ (StopsForTheCycleTime r x ⊎ StopsForTheCheck r (behind_mdt r jobs carry restarts t.sent (cycles ++ before)) x)))
+
+-- So phase 4 is commanded then if the ring is right.
+abbrev pub RisesIfRight : Type 0
+RisesIfRight = (r : RingView) (jobs : List Job) (carry : Carry) (restarts : Restarts) (t : CycleView) (cycles before : List CycleView) → IsOpened r jobs → IsRun r jobs carry restarts (t ∷ (cycles ++ before)) →
+    IsClear (t ∷ (cycles ++ before)) → StartsEpoch r jobs carry restarts before → AreUndisturbed r carry restarts (t ∷ cycles) before → startup_bound r + 41 * (slowest r.drives + 2) ≤ length cycles → IsRight r → t.phase ≡ 4

@@ -4,7 +4,7 @@ ghost use Rattle.sercos_undisturbed.specs.Fit.{FitsInThree, OwnFitsInFour};
 ghost use Rattle.sercos_undisturbed.specs.Sections.{NoneIdleInThree, NoneIdleInTwo};
 ghost use Rattle.sercos_undisturbed.specs.StartUps.{AgesUndisturbed, AnswersUndisturbed, ComesToPhaseTwo, CostsUndisturbed, StaysUpUndisturbed, TellsNoFallUndisturbed};
 ghost use Rattle.sercos_undisturbed.specs.StopsInTwo.{StopsInTwo};
-ghost use Rattle.sercos_undisturbed.specs.StopsLater.{EndsStartUp, NoStopInFour, StopsInThree};
+ghost use Rattle.sercos_undisturbed.specs.StopsLater.{EndsStartUp, NoStopInFour, RisesIfRight, StopsInThree};
 
 use sercos_agenda::{agenda_law, report_law, stop_law};
 use sercos_block::{ring_law, store_law};
@@ -33,7 +33,8 @@ use sercos_typed::typed_law;
 /// and stays. Phases 3 and 4 are commanded only if a plan fits what the ring asks, and the cycle time lies within each drive's limits;
 /// phase 4 only if no own block of a drive was outside its limits at opening. A stop in phase 2 comes since no plan fits; or a plan fits,
 /// and it names the first drive of the ring whose limits the cycle time is outside of. A stop in phase 3 comes of a drive's check for
-/// phase 4, and has its list; in phase 4 there is none. So that is how a start-up ends: in phase 4, or with one of these stops.
+/// phase 4, since an own block of it was outside its limits at opening, and has the list that it gave; in phase 4 there is none. So that is
+/// how a start-up ends: in phase 4, exactly if nothing of this is in its way, or with one of these stops.
 pub fn undisturbed_law()
     ensures stays { StaysUpUndisturbed }
     ensures tells { TellsNoFallUndisturbed }
@@ -52,6 +53,7 @@ pub fn undisturbed_law()
     ensures stops_three { StopsInThree }
     ensures none_four { NoStopInFour }
     ensures outcome { EndsStartUp }
+    ensures rises { RisesIfRight }
 {
     agenda_law();
     report_law();

@@ -4,7 +4,7 @@ use Rattle.sercos_headline.proofs.WellRuns.{StopLaws}
 use Rattle.sercos_held.proofs.Runs.{Laws}
 use Rattle.sercos_undisturbed.specs.Ends.{ComesToAnEnd}
 use Rattle.sercos_undisturbed.specs.StopsInTwo.{StopsInTwo}
-use Rattle.sercos_undisturbed.specs.StopsLater.{NoStopInFour, StopsInThree}
+use Rattle.sercos_undisturbed.specs.StopsLater.{EndsStartUp, NoStopInFour, StopsInThree}
 use Rattle.sercos_undisturbed.proofs.Answered.{ages_undisturbed, answers_undisturbed, costs_undisturbed, tells_no_fall}
 use Rattle.sercos_undisturbed.proofs.CycleHeld.{fits_in}
 use Rattle.sercos_undisturbed.proofs.InTime.{comes_to_end, comes_to_four, stays_at_end}
@@ -14,7 +14,7 @@ use Rattle.sercos_undisturbed.proofs.PhaseRuns.{phases_in}
 use Rattle.sercos_undisturbed.proofs.RefusedStops.{refused_stop}
 use Rattle.sercos_undisturbed.proofs.TwoStops.{stop_in_two}
 use Rattle.sercos_undisturbed.proofs.LaterStops.{no_stop_in_four, stop_in_three}
-use Rattle.sercos_undisturbed.proofs.StartUpEnds.{start_up_ends}
+use Rattle.sercos_undisturbed.proofs.StartUpEnds.{rises_if_right, start_up_ends}
 use Rattle.sercos_undisturbed.proofs.Sections.{never_idle, none_idle}
 use Rattle.sercos_undisturbed.proofs.law.undisturbed_law.Goals as goal
 
@@ -102,6 +102,8 @@ returns c =
     let ends : ComesToAnEnd = λ r jobs carry restarts t cycles before opened run clear starts calm long.
     comes_to_end laws more c.agenda_law.ensures.turn c.run_law.ensures.up c.calls_law.ensures.late c.agenda_law.ensures.two c.agenda_law.ensures.three c.bound_law.ensures.started c.bound_law.ensures.greatest r jobs carry restarts opened
     c.passage_law.ensures.throughout c.passage_law.ensures.hears c.cost_law.ensures.starts c.cost_law.ensures.timed c.jobs_law.ensures.reads c.jobs_law.ensures.writes c.jobs_law.ensures.list_read c.cost_law.ensures.since t cycles before run clear starts calm long in
+    let outcome : EndsStartUp = λ r jobs carry restarts t cycles before opened run clear starts calm long. start_up_ends laws more c.agenda_law.ensures.turn c.run_law.ensures.up c.calls_law.ensures.late c.bound_law.ensures.started in_two in_three none_four
+    r jobs carry restarts opened t cycles before run clear starts calm long (ends r jobs carry restarts t cycles before opened run clear starts calm long) in
     record {
       stays = λ r jobs carry restarts cycles before opened run clear starts calm.
           stays_throughout laws more c.agenda_law.ensures.turn c.run_law.ensures.up c.calls_law.ensures.late r jobs carry restarts opened c.passage_law.ensures.throughout c.passage_law.ensures.hears cycles before run clear starts calm;
@@ -127,6 +129,8 @@ returns c =
       stops_two = in_two;
       stops_three = in_three;
       none_four = none_four;
-      outcome = λ r jobs carry restarts t cycles before opened run clear starts calm long. start_up_ends laws more c.agenda_law.ensures.turn c.run_law.ensures.up c.calls_law.ensures.late c.bound_law.ensures.started in_two in_three none_four
-          r jobs carry restarts opened t cycles before run clear starts calm long (ends r jobs carry restarts t cycles before opened run clear starts calm long);
+      outcome = outcome;
+      rises = λ r jobs carry restarts t cycles before opened run clear starts calm long right.
+          rises_if_right laws more c.agenda_law.ensures.turn c.run_law.ensures.up c.calls_law.ensures.late c.bound_law.ensures.started in_two in_three none_four r jobs carry restarts opened t cycles before run clear starts calm
+          (outcome r jobs carry restarts t cycles before opened run clear starts calm long) right;
     }
