@@ -1,7 +1,7 @@
 -- In phase 3 the master stops for a check for phase 4 alone, and in phase 4 for nothing.
-use Rattle.std.proofs.Common.{◌≡◌, ◌⊎◌, inl, inr, ℕ, ◌+◌, ◌<◌, ◌≤◌, Bool, true, false, ◌&&◌, List, [], ◌∷◌, ◌++◌, length, Option, Some, None, refl, sym, ap, ap₂, ◌∙◌, subst, arith, if◌then◌else◌, length-append}
-use Rattle.std.specs.Prelude.{is_some, unwrap_or, option_map}
-use Rattle.std.proofs.lemmas.Bool.{and_parts, cases_eq, false≢true}
+use Rattle.std.proofs.Common.{◌≡◌, ◌⊎◌, inl, inr, ℕ, zero, suc, ◌+◌, ◌<◌, ◌≤◌, Bool, true, false, ◌&&◌, List, [], ◌∷◌, ◌++◌, length, Option, Some, None, refl, sym, ap, ap₂, ◌∙◌, subst, arith, if◌then◌else◌, length-append}
+use Rattle.std.specs.Prelude.{slice_get, is_some, unwrap_or, option_map}
+use Rattle.std.proofs.lemmas.Bool.{cases_lt, and_parts, cases_eq, false≢true}
 use Rattle.sercos_idn.specs.Attributes.{attribute_of}
 use Rattle.sercos_idn.specs.declared.code.Code.{Code}
 use Rattle.sercos_idn.specs.declared.idn.Idn.{Idn}
@@ -10,7 +10,8 @@ use Rattle.sercos_step.specs.declared.request.Outcome.{Outcome}
 use Rattle.sercos_step.specs.declared.request.Outcome.TheVariants as outcome
 use Rattle.sercos_step.specs.declared.request.Request.{Request}
 use Rattle.sercos_step.specs.declared.request.Request.TheVariants as request
-use Rattle.sercos_step.specs.Steps.{next_step, outcome_of}
+use Rattle.sercos_step.specs.Steps.{answer_words, is_whole, next_step, outcome_of, result_of}
+use Rattle.sercos_step.specs.declared.step.Answer.{Answer}
 use Rattle.sercos_timing.specs.Views.{PlanView}
 use Rattle.sercos_block.specs.BuiltIns.{built_in, built_in_block, row}
 use Rattle.sercos_block.specs.declared.block.Block.{Block}
@@ -29,7 +30,7 @@ use Rattle.sercos_trace.specs.declared.events.Stop.{Stop}
 use Rattle.sercos_trace.specs.declared.events.Stop.TheVariants as stop
 use Rattle.sercos_seat.specs.Agenda.{idn, reads, reads_count, writes, is_checked, is_ready, ended_well, given, bytes_of}
 use Rattle.sercos_seat.specs.Channel.{outcomes_in, with_outcome}
-use Rattle.sercos_seat.specs.Ring.{Task, known_of, member, tasks_for}
+use Rattle.sercos_seat.specs.Ring.{Known, Task, known_of, member, tasks_for}
 use Rattle.sercos_seat.proofs.Agendas.{ended_there, reads_length}
 use Rattle.sercos_seat.proofs.Seats.{before_end}
 use Rattle.sercos_master.specs.Annals.{Past, outcomes, fall_of}
@@ -58,7 +59,8 @@ use Rattle.sercos_undisturbed.specs.Jobs.{jobs_of, AreAt}
 use Rattle.sercos_undisturbed.specs.StopsLater.{StopsForTheCheck}
 use Rattle.sercos_undisturbed.proofs.CycleHeld.{fits_in}
 use Rattle.sercos_undisturbed.proofs.JobPlaces.{at_most, later, some_plan}
-use Rattle.sercos_undisturbed.proofs.JobsBegun.{begun_end, begun_now, place_of, places_now, tasks_now}
+use Rattle.sercos_undisturbed.proofs.JobsBegun.{begun_end, begun_now, few_now, place_of, places_now, tasks_now}
+use Rattle.sercos_undisturbed.proofs.PhaseThree.{few_outcomes}
 use Rattle.sercos_undisturbed.proofs.WellGiven.{check_gives_3}
 use Rattle.sercos_undisturbed.proofs.LateSteps.{first_step, late_now, older_fewer}
 use Rattle.sercos_undisturbed.proofs.Reached.{all_checked_in, all_ready_in}
@@ -94,6 +96,40 @@ one_request x y e = cc
 
 never_both : (b : Bool) → b ≡ true → b ≡ false → ⊥
 never_both b on off = false≢true (sym off ∙ on)
+
+-- what stands at a place of a list
+got_there : {A : Type 0} (xs : List A) (n : ℕ) → n < length xs → (x : A) × (slice_get xs n ≡ Some x)
+got_there [] n low = absurd (omega (arith, low))
+got_there (x ∷ xs) zero low = (x, refl)
+got_there (x ∷ xs) (suc n) low = got_there xs n (omega (arith, low))
+
+-- no request ends as broken by its answers
+never_broken : (r : Request) (h : List Answer) → outcome_of r h ≡ Some outcome.Broken → ⊥
+never_broken r [] e = let both : None ≡ Some outcome.Broken = e in cc
+never_broken r (a ∷ h) e = by a.error (is_whole r (answer_words h ++ a.word ∷ [])) e
+  where
+    by : (error whole : Bool) → (if error then Some (outcome.Refused (record { raw = a.word })) else (if whole then Some (outcome.Complete (result_of r (answer_words h ++ a.word ∷ []))) else None)) ≡ Some outcome.Broken → ⊥
+    by true whole e = cc
+    by false true e = cc
+    by false false e = cc
+
+-- The task 12 places after the reads has no number, and is complete if another one was begun after it.
+unnumbered : (s : Known) (k : ℕ) (by_then : Option PlanView) (waiting : List Task) (outs : List Outcome) (t : Task) → length outs ≡ reads_count (member s k) + 12 → IsTask s k by_then waiting outs t → t.number ≡ None
+unnumbered s k by_then waiting outs t long (OfReads r less got is) = absurd (omega (arith, long, less))
+unnumbered s k by_then waiting outs t long (OfWrites p i r has less at got is) = absurd (omega (arith, long, less, at))
+unnumbered s k by_then waiting outs t long (Checks3 p has at is) = absurd (omega (arith, long, at))
+unnumbered s k by_then waiting outs t long (Lists3 at failed is) = ap (λ (x : Task). x.number) is
+unnumbered s k by_then waiting outs t long (Checks4 at well is) = ap (λ (x : Task). x.number) is
+unnumbered s k by_then waiting outs t long (Lists4 at failed is) = absurd (omega (arith, long, at))
+unnumbered s k by_then waiting outs t long (OfWaiting j at ready got) = absurd (omega (arith, long, at))
+
+complete_before : (s : Known) (k : ℕ) (plan : Option PlanView) (waiting : List Task) (phase : ℕ) (x : Begun) (newer : List Begun) (one : Begun) (older : List Begun) (tasks : List Task) → AreBegunTasks s k plan waiting phase (x ∷ (newer ++ one ∷ older)) tasks
+    → length older ≡ reads_count (member s k) + 12 → (bytes : List ℕ) × (outcome_of one.request one.answers ≡ Some (outcome.Complete bytes))
+complete_before s k plan waiting phase x newer one older [] are long = absurd are
+complete_before s k plan waiting phase x [] one older (t ∷ []) are long = absurd are.0
+complete_before s k plan waiting phase x [] one older (t ∷ u ∷ tasks) are long =
+    let ended = are.0.1.ended in are.1.well (unnumbered s k are.0.1.by_then waiting (outcomes_in older) u (omega (arith, ended, long)) are.0.1.task)
+complete_before s k plan waiting phase x (y ∷ newer) one older (t ∷ tasks) are long = complete_before s k plan waiting phase y newer one older tasks are.0 long
 
 module _ (laws : held.Laws) (more : MoreLaws) (comes_up : (busy : ℕ) → ComesUp busy) (replies : HaveReplies) (transfers : MakeTransfers) (in_phase : ProcessesInPhase) (in_step : (busy : ℕ) → AreInStepInEpoch busy) (in_cycle : (busy : ℕ) → AreInStepInCycle busy)
     (cause : RefusedHasCause) (cause128 : Check128HasCause) (r : RingView) (jobs : List Job) (carry : Carry) (restarts : Restarts) (opened : IsOpened r jobs) (t : CycleView) (j : List CycleView) (run : IsRun r jobs carry restarts (t ∷ j))
@@ -251,6 +287,28 @@ module _ (laws : held.Laws) (more : MoreLaws) (comes_up : (busy : ℕ) → Comes
       by (inl three) has = never_three has.ended.place (low has) has.ended.there has.ended.one has.ended.older code has.ended.begun has.ended.task has.ended.tasks has.ended.tasks_are has.ended.startup has.ended.ended three
       by (inr four) has = never_four has.ended.place (low has) has.ended.there has.ended.one has.ended.older code has.ended.begun has.ended.task has.ended.tasks has.ended.tasks_are has.ended.startup has.ended.ended four
 
+  -- THE OUTCOME 12 places after the reads is that of the check.
+  abbrev EndedAt : ℕ → Outcome → Type 0
+  EndedAt k o = HasEndedAt (known_of r) k now.plan (now.waiting k) now.now.phase (begun_by (now.calls k)) (reads_count (member (known_of r) k) + 12) o
+
+  split_at : (k : ℕ) → k < length r.drives → (o : Outcome) (at : EndedAt k o) → epoch_begun (views_of r jobs carry restarts k (t ∷ j)) ≡ at.newer ++ at.one ∷ at.older
+  split_at k below o at = sym (begun_now laws more r jobs carry restarts opened t j run clear stays k below) ∙ at.split
+
+  asks_check : t.phase ≡ 3 → (k : ℕ) → k < length r.drives → (o : Outcome) (at : EndedAt k o) → at.one.request ≡ request.Command (idn 128)
+  asks_check three k below o at = one_request at.one.request (request.Command (idn 128))
+      (sym (place_of (jobs_of (known_of r) (Some made.0) k) at.newer at.older at.one (subst (λ (o : Option PlanView). AreAt (jobs_of (known_of r) o k) (at.newer ++ at.one ∷ at.older)) made.1 places))
+      ∙ later (known_of r) k made.0 (length at.older) 12 at.place)
+    where
+      places : AreAt (jobs_of (known_of r) (behind_mdt r jobs carry restarts t.sent j).plan k) (at.newer ++ at.one ∷ at.older)
+      places = subst (AreAt (jobs_of (known_of r) (behind_mdt r jobs carry restarts t.sent j).plan k)) (split_at k below o at)
+          (places_now laws more r jobs carry restarts opened t j run clear stays k below (let same = phase_is in omega (arith, same, three)))
+
+      long : reads_count (member (known_of r) k) < length (at.newer ++ at.one ∷ at.older)
+      long = let parts = length-append at.newer (at.one ∷ at.older) in let place = at.place in omega (arith, parts, place)
+
+      made : (p : PlanView) × ((behind_mdt r jobs carry restarts t.sent j).plan ≡ Some p)
+      made = some_plan (known_of r) k (behind_mdt r jobs carry restarts t.sent j).plan (at.newer ++ at.one ∷ at.older) places long
+
   -- A CHECK THAT HAS FAILED found an own block
   own_outside : t.phase ≡ 3 → (address : ℕ) (list : List Idn) (failed : HasFailedCheck (known_of r) (behind_mdt r jobs carry restarts t.sent j) 12 address list) → failed.place < length r.drives → list_any is_outside (drive_at r failed.place).blocks ≡ true
   own_outside three address list failed low = by (list_any is_outside (drive_at r failed.place).blocks) refl
@@ -259,29 +317,62 @@ module _ (laws : held.Laws) (more : MoreLaws) (comes_up : (busy : ℕ) → Comes
           (begun_by ((behind_mdt r jobs carry restarts t.sent j).calls failed.place)) (reads_count (member (known_of r) failed.place) + 12) (outcome.Complete failed.status)
       at = laws.ends (known_of r) (tasks_for (known_of r) jobs) (middle r carry restarts t.sent j) failed.place (reads_count (member (known_of r) failed.place) + 12) (outcome.Complete failed.status) failed.there failed.complete
 
-      split : epoch_begun (views_of r jobs carry restarts failed.place (t ∷ j)) ≡ at.newer ++ at.one ∷ at.older
-      split = sym (begun_now laws more r jobs carry restarts opened t j run clear stays failed.place low) ∙ at.split
-
-      places : AreAt (jobs_of (known_of r) (behind_mdt r jobs carry restarts t.sent j).plan failed.place) (at.newer ++ at.one ∷ at.older)
-      places = subst (AreAt (jobs_of (known_of r) (behind_mdt r jobs carry restarts t.sent j).plan failed.place)) split
-          (places_now laws more r jobs carry restarts opened t j run clear stays failed.place low (let same = phase_is in omega (arith, same, three)))
-
-      long : reads_count (member (known_of r) failed.place) < length (at.newer ++ at.one ∷ at.older)
-      long = let parts = length-append at.newer (at.one ∷ at.older) in let place = at.place in omega (arith, parts, place)
-
-      made : (p : PlanView) × ((behind_mdt r jobs carry restarts t.sent j).plan ≡ Some p)
-      made = some_plan (known_of r) failed.place (behind_mdt r jobs carry restarts t.sent j).plan (at.newer ++ at.one ∷ at.older) places long
-
-      asks : at.one.request ≡ request.Command (idn 128)
-      asks = one_request at.one.request (request.Command (idn 128))
-          (sym (place_of (jobs_of (known_of r) (Some made.0) failed.place) at.newer at.older at.one (subst (λ (o : Option PlanView). AreAt (jobs_of (known_of r) o failed.place) (at.newer ++ at.one ∷ at.older)) made.1 places))
-          ∙ later (known_of r) failed.place made.0 (length at.older) 12 at.place)
-
       by : (b : Bool) → list_any is_outside (drive_at r failed.place).blocks ≡ b → list_any is_outside (drive_at r failed.place).blocks ≡ true
       by true is = is
       by false none =
-          let gives = check_gives_3 laws more r jobs carry restarts opened failed.place low none (t ∷ j) run clear at.newer at.older at.one failed.status split asks at.ended in
+          let gives = check_gives_3 laws more r jobs carry restarts opened failed.place low none (t ∷ j) run clear at.newer at.older at.one failed.status (split_at failed.place low (outcome.Complete failed.status) at) (asks_check three failed.place low (outcome.Complete failed.status) at) at.ended in
           absurd (false≢true (sym failed.badly ∙ ap ended_well gives))
+
+  -- A CHECK THAT HAS ENDED has ended well, if no own block was outside.
+  never_refused : t.phase ≡ 3 → (k : ℕ) → k < length r.drives → k < length (known_of r).drives → (code : Code) (at : EndedAt k (outcome.Refused code)) → ⊥
+  never_refused three k below there code at = by at.newer refl
+    where
+      all : AreBegunTasks (known_of r) k (behind_mdt r jobs carry restarts t.sent j).plan ((behind_mdt r jobs carry restarts t.sent j).waiting k) (behind_mdt r jobs carry restarts t.sent j).now.phase (at.newer ++ at.one ∷ at.older) ((behind_mdt r jobs carry restarts t.sent j).tasks k)
+      all = subst (λ (l : List Begun). AreBegunTasks (known_of r) k (behind_mdt r jobs carry restarts t.sent j).plan ((behind_mdt r jobs carry restarts t.sent j).waiting k) (behind_mdt r jobs carry restarts t.sent j).now.phase l ((behind_mdt r jobs carry restarts t.sent j).tasks k))
+          (split_at k below (outcome.Refused code) at) (tasks_now laws more r jobs carry restarts opened t j run clear stays k below)
+
+      newest : (tasks : List Task) → (behind_mdt r jobs carry restarts t.sent j).tasks k ≡ tasks → begun_by ((behind_mdt r jobs carry restarts t.sent j).calls k) ≡ at.one ∷ at.older
+          → AreBegunTasks (known_of r) k (behind_mdt r jobs carry restarts t.sent j).plan ((behind_mdt r jobs carry restarts t.sent j).waiting k) (behind_mdt r jobs carry restarts t.sent j).now.phase (at.one ∷ at.older) tasks → ⊥
+      newest [] same split are = are
+      newest (u ∷ tasks) same split are =
+          let ended = are.1.ended in
+          let place = at.place in
+          never_three k below there at.one at.older code split u tasks same (unnumbered (known_of r) k are.1.by_then ((behind_mdt r jobs carry restarts t.sent j).waiting k) (outcomes_in at.older) u (omega (arith, ended, place)) are.1.task) at.ended three
+
+      by : (newer : List Begun) → at.newer ≡ newer → ⊥
+      by [] same = newest ((behind_mdt r jobs carry restarts t.sent j).tasks k) refl (at.split ∙ ap (λ (l : List Begun). l ++ at.one ∷ at.older) same)
+          (subst (λ (n : List Begun). AreBegunTasks (known_of r) k (behind_mdt r jobs carry restarts t.sent j).plan ((behind_mdt r jobs carry restarts t.sent j).waiting k) (behind_mdt r jobs carry restarts t.sent j).now.phase (n ++ at.one ∷ at.older) ((behind_mdt r jobs carry restarts t.sent j).tasks k)) same all)
+      by (x ∷ newer) same =
+          let whole = complete_before (known_of r) k (behind_mdt r jobs carry restarts t.sent j).plan ((behind_mdt r jobs carry restarts t.sent j).waiting k) (behind_mdt r jobs carry restarts t.sent j).now.phase x newer at.one at.older ((behind_mdt r jobs carry restarts t.sent j).tasks k)
+          (subst (λ (n : List Begun). AreBegunTasks (known_of r) k (behind_mdt r jobs carry restarts t.sent j).plan ((behind_mdt r jobs carry restarts t.sent j).waiting k) (behind_mdt r jobs carry restarts t.sent j).now.phase (n ++ at.one ∷ at.older) ((behind_mdt r jobs carry restarts t.sent j).tasks k)) same all) at.place in
+          let both : Some (outcome.Refused code) ≡ Some (outcome.Complete whole.0) = sym at.ended ∙ whole.1 in cc
+
+  well_at : t.phase ≡ 3 → (k : ℕ) → k < length r.drives → k < length (known_of r).drives → list_any is_outside (drive_at r k).blocks ≡ false → (o : Outcome) → slice_get (outcomes now k) (reads_count (member (known_of r) k) + 12) ≡ Some o → ended_well (bytes_of o) ≡ true
+  well_at three k below there none o got = by o (laws.ends (known_of r) (tasks_for (known_of r) jobs) (middle r carry restarts t.sent j) k (reads_count (member (known_of r) k) + 12) o there got)
+    where
+      by : (o : Outcome) → EndedAt k o → ended_well (bytes_of o) ≡ true
+      by (outcome.Complete bytes) at =
+          ap ended_well (check_gives_3 laws more r jobs carry restarts opened k below none (t ∷ j) run clear at.newer at.older at.one bytes (split_at k below (outcome.Complete bytes) at) (asks_check three k below (outcome.Complete bytes) at) at.ended)
+      by (outcome.Refused code) at = absurd (never_refused three k below there code at)
+      by outcome.Broken at = absurd (never_broken at.one.request at.one.answers at.ended)
+
+  pub ready_if_ended : (k : ℕ) → k < length r.drives → k < length (known_of r).drives → list_any is_outside (drive_at r k).blocks ≡ false → reads_count (member (known_of r) k) + 12 < length (outcomes now k)
+      → is_ready (member (known_of r) k) (outcomes now k) ≡ true
+  ready_if_ended k below there none ended = elim (cases_lt t.phase 3) [
+    | inl early ↦
+        let same = phase_is in
+        let few = few_now laws more r jobs carry restarts opened t j run clear stays k below (omega (arith, same, early)) in
+        let begun = ap (λ (l : List Begun). length l) (begun_now laws more r jobs carry restarts opened t j run clear stays k below) in
+        let outs = few_outcomes (begun_by ((behind_mdt r jobs carry restarts t.sent j).calls k)) in absurd (omega (arith, few, begun, outs, ended))
+    | inr late ↦ elim (cases_eq t.phase 3) [
+      | inl three ↦
+          let same = phase_is in
+          let got = got_there (outcomes (behind_mdt r jobs carry restarts t.sent j) k) (reads_count (member (known_of r) k) + 12) ended in
+          ap₂ (λ (a b : Bool). a && b) (all_checked_in (known_of r) (tasks_for (known_of r) jobs) (middle r carry restarts t.sent j) (omega (arith, same, three)) k there)
+          (ap (λ (o : Option Outcome). ended_well (unwrap_or (option_map bytes_of o) [])) got.1 ∙ well_at three k below there none got.0 got.1)
+      | inr other ↦ let same = phase_is in all_ready_in (known_of r) (tasks_for (known_of r) jobs) (middle r carry restarts t.sent j) (omega (arith, same, late, other)) k there
+    ]
+  ]
 
   -- THE STOP OF PHASE 3
   pub stop_in_three : t.phase ≡ 3 → (x : Stop) → (behind_mdt r jobs carry restarts t.sent j).stop ≡ Some x → StopsForTheCheck r (behind_mdt r jobs carry restarts t.sent j) x

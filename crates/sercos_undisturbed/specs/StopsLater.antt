@@ -57,7 +57,7 @@ EndsStartUp = (r : RingView) (jobs : List Job) (carry : Carry) (restarts : Resta
     ⊎ ((x : Stop) × ((behind_mdt r jobs carry restarts t.sent (cycles ++ before)).stop ≡ Some x)
     × (StopsForThePlan r x ⊎ (StopsForTheCycleTime r x ⊎ StopsForTheCheck r (behind_mdt r jobs carry restarts t.sent (cycles ++ before)) x)))
 
--- So phase 4 is commanded then if the ring is right.
+-- IF THE RING IS RIGHT, phase 4 is commanded after so many cycles of the epoch as the bound of a start-up says.
 abbrev pub RisesIfRight : Type 0
 RisesIfRight = (r : RingView) (jobs : List Job) (carry : Carry) (restarts : Restarts) (t : CycleView) (cycles before : List CycleView) → IsOpened r jobs → IsRun r jobs carry restarts (t ∷ (cycles ++ before)) →
-    IsClear (t ∷ (cycles ++ before)) → StartsEpoch r jobs carry restarts before → AreUndisturbed r carry restarts (t ∷ cycles) before → startup_bound r + 41 * (slowest r.drives + 2) ≤ length cycles → IsRight r → t.phase ≡ 4
+    IsClear (t ∷ (cycles ++ before)) → StartsEpoch r jobs carry restarts before → AreUndisturbed r carry restarts (t ∷ cycles) before → startup_bound r ≤ length cycles → IsRight r → t.phase ≡ 4

@@ -2,9 +2,9 @@ use Rattle.sercos_handshake.proofs.AttributeReplies.{shape-attribute}
 use Rattle.sercos_headline.proofs.HeadlineRuns.{MoreLaws}
 use Rattle.sercos_headline.proofs.WellRuns.{StopLaws}
 use Rattle.sercos_held.proofs.Runs.{Laws}
-use Rattle.sercos_undisturbed.specs.Ends.{ComesToAnEnd}
+use Rattle.sercos_undisturbed.specs.Ends.{ComesToAnEnd, ComesToPhaseFour}
 use Rattle.sercos_undisturbed.specs.StopsInTwo.{StopsInTwo}
-use Rattle.sercos_undisturbed.specs.StopsLater.{EndsStartUp, NoStopInFour, StopsInThree}
+use Rattle.sercos_undisturbed.specs.StopsLater.{NoStopInFour, StopsInThree}
 use Rattle.sercos_undisturbed.proofs.Answered.{ages_undisturbed, answers_undisturbed, costs_undisturbed, tells_no_fall}
 use Rattle.sercos_undisturbed.proofs.CycleHeld.{fits_in}
 use Rattle.sercos_undisturbed.proofs.InTime.{comes_to_end, comes_to_four, stays_at_end}
@@ -13,8 +13,8 @@ use Rattle.sercos_undisturbed.proofs.NeverFalls.{stays_throughout}
 use Rattle.sercos_undisturbed.proofs.PhaseRuns.{phases_in}
 use Rattle.sercos_undisturbed.proofs.RefusedStops.{refused_stop}
 use Rattle.sercos_undisturbed.proofs.TwoStops.{stop_in_two}
-use Rattle.sercos_undisturbed.proofs.LaterStops.{no_stop_in_four, stop_in_three}
-use Rattle.sercos_undisturbed.proofs.StartUpEnds.{rises_if_right, start_up_ends}
+use Rattle.sercos_undisturbed.proofs.LaterStops.{no_stop_in_four, ready_if_ended, stop_in_three}
+use Rattle.sercos_undisturbed.proofs.StartUpEnds.{ReadyIfEnded, ends_in_time, inside, rises_if_right}
 use Rattle.sercos_undisturbed.proofs.Sections.{never_idle, none_idle}
 use Rattle.sercos_undisturbed.proofs.law.undisturbed_law.Goals as goal
 
@@ -102,8 +102,12 @@ returns c =
     let ends : ComesToAnEnd = λ r jobs carry restarts t cycles before opened run clear starts calm long.
     comes_to_end laws more c.agenda_law.ensures.turn c.run_law.ensures.up c.calls_law.ensures.late c.agenda_law.ensures.two c.agenda_law.ensures.three c.bound_law.ensures.started c.bound_law.ensures.greatest r jobs carry restarts opened
     c.passage_law.ensures.throughout c.passage_law.ensures.hears c.cost_law.ensures.starts c.cost_law.ensures.timed c.jobs_law.ensures.reads c.jobs_law.ensures.writes c.jobs_law.ensures.list_read c.cost_law.ensures.since t cycles before run clear starts calm long in
-    let outcome : EndsStartUp = λ r jobs carry restarts t cycles before opened run clear starts calm long. start_up_ends laws more c.agenda_law.ensures.turn c.run_law.ensures.up c.calls_law.ensures.late c.bound_law.ensures.started in_two in_three none_four
-    r jobs carry restarts opened t cycles before run clear starts calm long (ends r jobs carry restarts t cycles before opened run clear starts calm long) in
+    let four : ComesToPhaseFour = λ r jobs carry restarts t cycles before opened run clear starts calm long.
+    comes_to_four laws more c.agenda_law.ensures.turn c.run_law.ensures.up c.calls_law.ensures.late c.agenda_law.ensures.two c.agenda_law.ensures.three c.bound_law.ensures.started c.bound_law.ensures.greatest r jobs carry restarts opened
+    c.passage_law.ensures.throughout c.passage_law.ensures.hears c.cost_law.ensures.starts c.cost_law.ensures.timed c.jobs_law.ensures.reads c.jobs_law.ensures.writes c.jobs_law.ensures.list_read c.cost_law.ensures.since t cycles before run clear starts calm long in
+    let ready : ReadyIfEnded = λ r jobs carry restarts opened t j run clear stays k below none ended.
+    ready_if_ended laws more c.run_law.ensures.up c.parts_law.ensures.replies c.parts_law.ensures.transfers c.run_law.ensures.in_phase c.run_law.ensures.epoch c.run_law.ensures.cycle c.stop_law.ensures.refused c.stop_law.ensures.check128
+    r jobs carry restarts opened t j run clear stays k below (inside r k below) none ended in
     record {
       stays = λ r jobs carry restarts cycles before opened run clear starts calm.
           stays_throughout laws more c.agenda_law.ensures.turn c.run_law.ensures.up c.calls_law.ensures.late r jobs carry restarts opened c.passage_law.ensures.throughout c.passage_law.ensures.hears cycles before run clear starts calm;
@@ -117,9 +121,7 @@ returns c =
       two = λ r jobs carry restarts cycles before opened run clear goes. none_idle laws more c.agenda_law.ensures.two r jobs carry restarts opened cycles before run clear goes;
       three = λ r jobs carry restarts k cycles before opened run clear below goes. never_idle laws more c.agenda_law.ensures.three r jobs carry restarts opened k below cycles before run clear goes;
       phases = λ r jobs carry restarts t cycles before opened run clear starts calm. phases_in laws more c.run_law.ensures.up r jobs carry restarts opened t cycles before run clear starts calm;
-      four = λ r jobs carry restarts t cycles before opened run clear starts calm long.
-          comes_to_four laws more c.agenda_law.ensures.turn c.run_law.ensures.up c.calls_law.ensures.late c.agenda_law.ensures.two c.agenda_law.ensures.three c.bound_law.ensures.started c.bound_law.ensures.greatest r jobs carry restarts opened
-          c.passage_law.ensures.throughout c.passage_law.ensures.hears c.cost_law.ensures.starts c.cost_law.ensures.timed c.jobs_law.ensures.reads c.jobs_law.ensures.writes c.jobs_law.ensures.list_read c.cost_law.ensures.since t cycles before run clear starts calm long;
+      four = four;
       ends = ends;
       at_end = λ r jobs carry restarts t u cycles before opened run clear starts calm.
           stays_at_end laws more c.agenda_law.ensures.turn c.run_law.ensures.up c.calls_law.ensures.late c.agenda_law.ensures.two c.agenda_law.ensures.three c.bound_law.ensures.started c.bound_law.ensures.greatest r jobs carry restarts opened
@@ -129,8 +131,9 @@ returns c =
       stops_two = in_two;
       stops_three = in_three;
       none_four = none_four;
-      outcome = outcome;
+      outcome = λ r jobs carry restarts t cycles before opened run clear starts calm long. ends_in_time laws more c.agenda_law.ensures.turn c.run_law.ensures.up c.calls_law.ensures.late c.bound_law.ensures.started in_two in_three none_four ready
+          r jobs carry restarts opened t cycles before run clear starts calm long (ends r jobs carry restarts t cycles before opened run clear starts calm long);
       rises = λ r jobs carry restarts t cycles before opened run clear starts calm long right.
-          rises_if_right laws more c.agenda_law.ensures.turn c.run_law.ensures.up c.calls_law.ensures.late c.bound_law.ensures.started in_two in_three none_four r jobs carry restarts opened t cycles before run clear starts calm
-          (outcome r jobs carry restarts t cycles before opened run clear starts calm long) right;
+          rises_if_right laws more c.agenda_law.ensures.turn c.run_law.ensures.up c.calls_law.ensures.late c.bound_law.ensures.started in_two in_three none_four ready r jobs carry restarts opened t cycles before run clear starts calm
+          long right (four r jobs carry restarts t cycles before opened run clear starts calm long);
     }
