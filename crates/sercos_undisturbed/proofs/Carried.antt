@@ -12,8 +12,8 @@ use Rattle.sercos_pace.specs.Costs.{set_after, AreCarried}
 use Rattle.sercos_settings.specs.SetByWrites.{commands_left}
 use Rattle.sercos_undisturbed.specs.CommandsFollow.{commands_ended, commands_before, CommandsFollow}
 
-none_some : {A : Type 0} (none : Option A) (x : A) → none ≡ None → none ≡ Some x → ⊥
-none_some none x is some = cc
+none_some : {A : Type 0} (o : Option A) (x : A) → o ≡ None → o ≡ Some x → ⊥
+none_some o x is some = cc
 
 -- no write, and no reset, changes how long a command runs
 time_written : (o : Option Write) (blocks : List Block) (c : CommandsView) → (commands_with o blocks c).time ≡ c.time

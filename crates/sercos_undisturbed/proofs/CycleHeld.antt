@@ -44,6 +44,7 @@ use Rattle.sercos_held.proofs.Runs.{Laws, Stands, IsPlannedIn, drive_got, holdin
 use Rattle.sercos_headline.proofs.HeadlineRuns.{MoreLaws, all_stand, first_store, spelled_in, stored_in}
 use Rattle.sercos_undisturbed.specs.Fit.{IsFit}
 use Rattle.sercos_undisturbed.proofs.BlockStays.{IsAt, Stays, stays_at}
+use Rattle.sercos_undisturbed.proofs.Small.{first_is}
 
 -- THE CYCLE TIME of a drive's store is that of the opening, or it could be written
 abbrev IsWritable : Block → Type 0
@@ -87,12 +88,6 @@ within_limits false false true high is = absurd (cc)
 within_limits false false false true is = absurd (cc)
 within_limits fixed protected false false is = (refl, refl)
 
-first_is : (x y : ℕ) (xs ys : List ℕ) → x ∷ xs ≡ y ∷ ys → x ≡ y
-first_is x y xs ys e = cc
-
-rest_is : (x y : ℕ) (xs ys : List ℕ) → x ∷ xs ≡ y ∷ ys → xs ≡ ys
-rest_is x y xs ys e = cc
-
 none_held : (n : ℕ) → [] ≡ to_le_bytes w16 n → ⊥
 none_held n e = cc
 
@@ -111,8 +106,8 @@ held_within d blocks cycle rules stored some small is holds = by (find_block 2 b
         which : (b.value ≡ 0 ∷ 0 ∷ []) ⊎ (data_fault b b.value ≡ None) → (nat_lt cycle d.cycle_min ≡ false) × (nat_lt d.cycle_max cycle ≡ false)
         which (inl zeros) =
             let bytes : to_le_bytes w16 cycle ≡ 0 ∷ 0 ∷ [] = sym value ∙ zeros in
-            let low : cycle % 256 ≡ 0 = first_is _ _ _ _ bytes in
-            let high : cycle / 256 % 256 ≡ 0 = first_is _ _ _ _ (rest_is _ _ _ _ bytes) in
+            let low : cycle % 256 ≡ 0 = (first_is _ _ _ _ bytes).0 in
+            let high : cycle / 256 % 256 ≡ 0 = (first_is _ _ _ _ (first_is _ _ _ _ bytes).1).0 in
             absurd (omega (arith, low, high, some, small))
         which (inr none) = within_limits (is_fixed b) (is_protected b.attribute 2) (nat_lt cycle d.cycle_min) (nat_lt d.cycle_max cycle)
             (ap (λ (o : Option ℕ). option_or (write_fault (Some b) 2) o) (sym (ap (data_fault b) (sym value) ∙ none)) ∙ sym (ap (λ (o : Option Block). put_fault o 2 (to_le_bytes w16 cycle)) found) ∙ refuses_cycle d blocks cycle rules stored small)

@@ -19,6 +19,7 @@ use Rattle.sercos_seat.proofs.Gets.{get_left, get_right}
 use Rattle.sercos_agenda.specs.Tasks.{IsTask, OfReads, OfWrites, Checks3, Lists3, Checks4, Lists4, OfWaiting, AreBegunTasks, HasEndedWell}
 use Rattle.sercos_agenda.proofs.ReadWell.{last_is}
 use Rattle.sercos_undisturbed.specs.Jobs.{jobs_of, AreAt}
+use Rattle.sercos_undisturbed.proofs.Small.{some_is}
 
 -- each complete check for phase 3 among these has ended well
 abbrev pub Give3 : List Begun → Type 0
@@ -26,9 +27,6 @@ Give3 begun = (newer older : List Begun) (b : Begun) (bytes : List ℕ) → begu
 
 older_gives : (b : Begun) (older : List Begun) → Give3 (b ∷ older) → Give3 older
 older_gives b older gives newer rest c bytes split asks complete = gives (b ∷ newer) rest c bytes (ap (λ (l : List Begun). b ∷ l) split) asks complete
-
-request_at : (x y : Request) → Some x ≡ Some y → x ≡ y
-request_at x y e = cc
 
 pub at_most : (all : List Request) (begun : List Begun) → AreAt all begun → length begun ≤ length all
 at_most all [] are = omega arith
@@ -118,7 +116,7 @@ module _ (s : Known) (k : ℕ) where
       complete = whole.1
 
       asks : c.request ≡ request.Command (idn 127)
-      asks = request_at c.request (request.Command (idn 127)) (sym at.1 ∙ is_check p (length older) eleven)
+      asks = some_is c.request (request.Command (idn 127)) (sym at.1 ∙ is_check p (length older) eleven)
 
   -- SO EACH REQUEST THAT WAS BEGUN has its place.
   pub begun_at : (plan : Option PlanView) (waiting : List Task) (phase : ℕ) (begun : List Begun) (tasks : List Task) → AreWaiting waiting → phase ≤ 3 → AreBegunTasks s k plan waiting phase begun tasks → Give3 begun → AreAt (jobs_of s plan k) begun

@@ -48,14 +48,12 @@ use Rattle.sercos_headline.proofs.WellRuns.{AllWell, all_well}
 use Rattle.sercos_undisturbed.specs.Jobs.{jobs_of, AreAt}
 use Rattle.sercos_undisturbed.proofs.JobPlaces.{Give3, begun_at, few_in_two, reading}
 use Rattle.sercos_undisturbed.proofs.PlanMade.{looked_adds, no_stop_looked, plan_made, read_same}
+use Rattle.sercos_undisturbed.proofs.Small.{some_is}
 
 -- what stands in the middle of what was begun
 pub place_of : (all : List Request) (newer older : List Begun) (b : Begun) → AreAt all (newer ++ b ∷ older) → slice_get all (length older) ≡ Some b.request
 place_of all [] older b at = at.1
 place_of all (x ∷ newer) older b at = place_of all newer older b at.0
-
-same_request : (x y : Request) → Some x ≡ Some y → x ≡ y
-same_request x y e = cc
 
 module _ (laws : Laws) (more : MoreLaws) (r : RingView) (jobs : List Job) (carry : Carry) (restarts : Restarts) (opened : IsOpened r jobs) where
   inside : (k : ℕ) → k < length r.drives → k < length (known_of r).drives
@@ -120,7 +118,7 @@ module _ (laws : Laws) (more : MoreLaws) (r : RingView) (jobs : List Job) (carry
             split = sym (begun_now k below) ∙ at.split
 
             asked_is : at.one.request ≡ x
-            asked_is = same_request at.one.request x (sym (place_of (jobs_of (known_of r) now.plan k) at.newer at.older at.one (subst (AreAt (jobs_of (known_of r) now.plan k)) split (places_now k below low)))
+            asked_is = some_is at.one.request x (sym (place_of (jobs_of (known_of r) now.plan k) at.newer at.older at.one (subst (AreAt (jobs_of (known_of r) now.plan k)) split (places_now k below low)))
                 ∙ ap (slice_get (jobs_of (known_of r) now.plan k)) at.place ∙ reading (known_of r) k now.plan n early ∙ got)
 
             is : IsRead x

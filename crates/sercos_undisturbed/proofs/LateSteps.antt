@@ -31,12 +31,7 @@ use Rattle.sercos_journal.specs.Runs.{drive_at}
 use Rattle.sercos_headline.proofs.HeadlineRuns.{MoreLaws, all_stand}
 use Rattle.sercos_undisturbed.proofs.StaysUp.{phase_now}
 use Rattle.sercos_undisturbed.proofs.JobsBegun.{begun_end, few_now}
-
-nothing_there : {A : Type 0} (x : A) (xs : List A) → [] ≡ x ∷ xs → ⊥
-nothing_there x xs e = cc
-
-same_head : {A : Type 0} (x y : A) (xs ys : List A) → x ∷ xs ≡ y ∷ ys → (x ≡ y) × (xs ≡ ys)
-same_head x y xs ys e = (cc, cc)
+use Rattle.sercos_undisturbed.proofs.Small.{first_is, nothing_there}
 
 -- STEPS: an answer leaves those that were begun
 more_steps : (r : Request) (a : Answer) (h : List Answer) → length (steps_begun r h) ≤ length (steps_begun r (a ∷ h))
@@ -70,7 +65,7 @@ heard_head (Some a) begun one older is = by (answers_it begun a.status) begun is
     by : (on : Bool) (l : List Begun) → (if on then with_answer (answer_in a.status a.word) l else l) ≡ one ∷ older → HasHead l older
     by false l is = record { first = one; split = is }
     by true [] is = absurd (nothing_there one older is)
-    by true (b ∷ rest) is = record { first = b; split = ap (λ (l : List Begun). b ∷ l) (same_head _ one rest older is).1 }
+    by true (b ∷ rest) is = record { first = b; split = ap (λ (l : List Begun). b ∷ l) (first_is _ one rest older is).1 }
 
 none_open : (s : Step) → None ≡ Some s → ⊥
 none_open s e = cc
@@ -121,7 +116,7 @@ cycle_late in_phase n phase v past in_step is_late late one older e rest begun m
         which : (o : Option Request) → with_begun o (with_heard v.heard (epoch_begun past)) ≡ one ∷ older → phase ≤ e.taken.phase
         which None is = let head = heard_head v.heard (epoch_begun past) one older is in late head.first older e rest head.split many same steps
         which (Some r) is =
-            let behind = ap (λ (l : List Begun). length (steps_in l)) (same_head _ one (with_heard v.heard (epoch_begun past)) older is).1 in
+            let behind = ap (λ (l : List Begun). length (steps_in l)) (first_is _ one (with_heard v.heard (epoch_begun past)) older is).1 in
             let few = few_accepted (epoch_begun past) (epoch_log past) in_step in
             let more = heard_steps v.heard (epoch_begun past) in
             let long = ap (λ (l : List Entry). length l) same in absurd (omega (arith, behind, few, more, long, steps))
@@ -136,7 +131,7 @@ cycle_late in_phase n phase v past in_step is_late late one older e rest begun m
         which : (again : Bool) → answered (if again then accepted (unless_restart v (epoch_taken past)) else t ∷ accepted (unless_restart v (epoch_taken past))) ≡ e ∷ rest → phase ≤ e.taken.phase
         which true is = dropped is
         which false is =
-            let this : t ≡ e.taken = ap (λ (x : Entry). x.taken) (same_head _ e (answered (accepted (unless_restart v (epoch_taken past)))) rest is).0 in
+            let this : t ≡ e.taken = ap (λ (x : Entry). x.taken) (first_is _ e (answered (accepted (unless_restart v (epoch_taken past)))) rest is).0 in
             let now = (in_phase v past t some).0 in
             subst (λ (x : Taken). phase ≤ x.phase) this (let is_high = high in omega (arith, is_high, now))
 

@@ -69,6 +69,7 @@ use Rattle.sercos_undisturbed.proofs.RefusedRuns.{IsRefused, newest_refused}
 use Rattle.sercos_undisturbed.proofs.RefusedSteps.{command_well, data_reads_well}
 use Rattle.sercos_undisturbed.proofs.StaysUp.{phase_now}
 use Rattle.sercos_undisturbed.proofs.StopsTold.{stops_right}
+use Rattle.sercos_undisturbed.proofs.Small.{never_both, some_is}
 
 -- A request that was refused is no check that ended well.
 refused_badly : (outs : List Outcome) (code : Code) (i : ℕ) → ended_well (given (outs ++ outcome.Refused code ∷ []) i) ≡ true → i < length outs
@@ -90,12 +91,6 @@ found_list d rules = find_store_of 22 d rules
 pub check_is_command : (d : DriveView) → (check_4 d).attribute.command ≡ true
 unfolding attribute_of
 check_is_command d = refl
-
-one_request : (x y : Request) → Some x ≡ Some y → x ≡ y
-one_request x y e = cc
-
-never_both : (b : Bool) → b ≡ true → b ≡ false → ⊥
-never_both b on off = false≢true (sym off ∙ on)
 
 -- what stands at a place of a list
 got_there : {A : Type 0} (xs : List A) (n : ℕ) → n < length xs → (x : A) × (slice_get xs n ≡ Some x)
@@ -206,7 +201,7 @@ module _ (laws : held.Laws) (more : MoreLaws) (comes_up : (busy : ℕ) → Comes
         -- a read isn't refused
         at_list : length older ≡ reads_count (member (known_of r) k) + 13 → ⊥
         at_list at =
-            let asks : one.request ≡ request.Read (idn 22) 7 = one_request one.request (request.Read (idn 22) 7) (sym placed.1 ∙ later (known_of r) k made.0 (length older) 13 at) in
+            let asks : one.request ≡ request.Read (idn 22) 7 = some_is one.request (request.Read (idn 22) 7) (sym placed.1 ∙ later (known_of r) k made.0 (length older) 13 at) in
             never_both ref.e.answer.error ref.error
             (data_reads_well (idn 22) (list_4 (drive_at r k)) (store_of (drive_at r k)) (found_list (drive_at r k) rules) ref.e ref.entries ref.log
             (subst (λ (x : Request). IsTransfer x (store_of (drive_at r k)) ref.e ref.entries ref.log) asks ref.transfer))
@@ -221,7 +216,7 @@ module _ (laws : held.Laws) (more : MoreLaws) (comes_up : (busy : ℕ) → Comes
             (ap (λ (n : ℕ). write_cause_in (find_block 128 ref.e.taken.blocks) n true (3 ∷ [])) in_three ∙ check_free_4 (drive_at r k) rules ref.e ref.stored))
           where
             asks : one.request ≡ request.Command (idn 128)
-            asks = one_request one.request (request.Command (idn 128)) (sym placed.1 ∙ later (known_of r) k made.0 (length older) 12 at)
+            asks = some_is one.request (request.Command (idn 128)) (sym placed.1 ∙ later (known_of r) k made.0 (length older) 12 at)
 
             step : AreInStep (one ∷ older) (log_in (view_of r jobs carry restarts k t j) (views_of r jobs carry restarts k j))
             step = subst (λ (l : List Begun). AreInStep l (log_in (view_of r jobs carry restarts k t j) (views_of r jobs carry restarts k j))) begun_is
@@ -295,7 +290,7 @@ module _ (laws : held.Laws) (more : MoreLaws) (comes_up : (busy : ℕ) → Comes
   split_at k below o at = sym (begun_now laws more r jobs carry restarts opened t j run clear stays k below) ∙ at.split
 
   asks_check : t.phase ≡ 3 → (k : ℕ) → k < length r.drives → (o : Outcome) (at : EndedAt k o) → at.one.request ≡ request.Command (idn 128)
-  asks_check three k below o at = one_request at.one.request (request.Command (idn 128))
+  asks_check three k below o at = some_is at.one.request (request.Command (idn 128))
       (sym (place_of (jobs_of (known_of r) (Some made.0) k) at.newer at.older at.one (subst (λ (o : Option PlanView). AreAt (jobs_of (known_of r) o k) (at.newer ++ at.one ∷ at.older)) made.1 places))
       ∙ later (known_of r) k made.0 (length at.older) 12 at.place)
     where

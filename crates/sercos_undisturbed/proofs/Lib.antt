@@ -61,3 +61,4 @@ pub mod OwnInside
 pub mod SetsFour
 pub mod EntriesSay
 pub mod WellGiven
+pub mod Small

@@ -16,9 +16,7 @@ use Rattle.sercos_startup.specs.Kept.{is_own_outside}
 use Rattle.sercos_startup.proofs.OwnLemmas.{own_at_opening}
 use Rattle.sercos_undisturbed.proofs.BlockStays.{IsAt, Stays}
 use Rattle.sercos_undisturbed.proofs.CycleHeld.{second_none}
-
-some_is : (b c : Block) → Some b ≡ Some c → b ≡ c
-some_is b c e = cc
+use Rattle.sercos_undisturbed.proofs.Small.{some_is}
 
 or_none : (x y : Bool) → (x || y) ≡ false → (x ≡ false) × (y ≡ false)
 or_none true y off = absurd (false≢true (sym off))

@@ -19,6 +19,7 @@ use Rattle.sercos_drive.specs.Moments.{phase_in, cycle_in, has_mst, taken_in, wr
 use Rattle.sercos_drive.specs.Annals.{annals, stands_in, processed_in, ends_in}
 use Rattle.sercos_startup.specs.Kept.{is_own_outside}
 use Rattle.sercos_startup.proofs.OwnLemmas.{own_stay}
+use Rattle.sercos_undisturbed.proofs.Small.{none_some}
 
 -- each of these writes is to a built-in block
 abbrev pub AreBuiltIn : List Write → Type 0
@@ -82,9 +83,6 @@ same_without n raw (s ∷ set) other = by (s.idn.raw == raw) refl (same_without 
         let apart : (s.idn.raw == n) ≡ false = ap (λ (m : ℕ). m == n) (eqb-true s.idn.raw raw is) ∙ other in
         more ∙ sym (ap (λ (x : Bool). cond x (Some s) (find_set n set)) apart)
     by false is more = ap (λ (o : Option SetCommand). cond (s.idn.raw == n) (Some s) o) more
-
-none_some : (s : SetCommand) → None ≡ Some s → ⊥
-none_some s e = cc
 
 found_append : (n : ℕ) (set : List SetCommand) (new s : SetCommand) → find_set n (set ++ new ∷ []) ≡ Some s → find_set n set ≡ None → ((new.idn.raw == n) ≡ true) × (new ≡ s)
 found_append n [] new s found none = by (new.idn.raw == n) refl found

@@ -28,6 +28,7 @@ use Rattle.sercos_handshake.proofs.SettingReplies.{Allows}
 use Rattle.sercos_handshake.proofs.WriteRuns.{length-in_order}
 use Rattle.sercos_handshake.proofs.WriteStages.{told}
 use Rattle.sercos_undisturbed.proofs.RefusedSteps.{is_nil, IsCaused}
+use Rattle.sercos_undisturbed.proofs.Small.{none_some, some_is}
 
 -- WORDS
 order_append : (taken : List Taken) (xs ys : List ℕ) → in_order taken (xs ++ ys) ≡ in_order taken xs ++ ys
@@ -63,12 +64,6 @@ list_shape len.Four is = absurd (cc)
 list_shape len.List1 is = refl
 list_shape len.List2 is = refl
 list_shape len.List4 is = refl
-
-none_some : (n : ℕ) → None ≡ Some n → ⊥
-none_some n e = cc
-
-some_is : (a b : ℕ) → Some a ≡ Some b → a ≡ b
-some_is a b e = cc
 
 -- so this is the cause of a number's word
 abbrev word_of : ℕ → ℕ

@@ -1,5 +1,5 @@
 -- Of the requests of phase 2 a drive can refuse the write of the cycle time alone.
-use Rattle.std.proofs.Common.{◌≡◌, ◌⊎◌, inl, inr, ℕ, zero, suc, ◌+◌, ◌<◌, ◌≤◌, Bool, true, false, List, [], ◌∷◌, ◌++◌, ◌-◌, length, map, Option, Some, None, refl, sym, ap, ◌∙◌, subst, arith}
+use Rattle.std.proofs.Common.{◌≡◌, ◌⊎◌, inl, inr, ℕ, zero, suc, ◌+◌, ◌<◌, ◌≤◌, true, false, List, [], ◌∷◌, ◌++◌, ◌-◌, length, map, Option, Some, None, refl, sym, ap, ◌∙◌, subst, arith}
 use Rattle.std.specs.Prelude.{◌==◌, is_some, option_map, option_and_then, slice_get, slice_index}
 use Rattle.std.specs.Option.{option_or}
 use Rattle.std.proofs.lemmas.Bool.{and_parts, cases_lt, false≢true}
@@ -32,12 +32,7 @@ use Rattle.sercos_undisturbed.proofs.JobPlaces.{reading, later}
 use Rattle.sercos_undisturbed.proofs.RefusedSteps.{IsCaused, write_caused, attribute_reads_well, data_reads_well, command_well}
 use Rattle.sercos_undisturbed.proofs.RefusedCauses.{number_free, cycle_refused, list_free, check_free_3, check_3, allows_3, found_3}
 use Rattle.sercos_undisturbed.proofs.RefusedRuns.{IsRefused, IsCycle, SaysShape}
-
-never_both : (b : Bool) → b ≡ true → b ≡ false → ⊥
-never_both b on off = false≢true (sym off ∙ on)
-
-same_request : (x y : Request) → Some x ≡ Some y → x ≡ y
-same_request x y e = cc
+use Rattle.sercos_undisturbed.proofs.Small.{never_both, some_is}
 
 abbrev element_asked : Request → ℕ
 element_asked (request.Read i e) = e
@@ -135,17 +130,17 @@ module _ (says : SaysShape) (d : DriveView) (rules : blocks_fault [] d.blocks �
 
   write_is : (p : PlanView) (i : ℕ) (q : Request) → slice_get (writes s p k) i ≡ Some q → (ref : IsRefused d q code 2) → ref.e.taken.phase ≡ 2 → IsCycle d s.cycle q code
   unfolding built_in
-  write_is p zero q got ref two = number_never 1 s.control q (find_store_of 1 d rules) refl (sym (same_request _ q got)) ref two
-  write_is p (suc zero) q got ref two = cycle_is q (find_store_of 2 d rules) (sym (same_request _ q got)) ref two
-  write_is p (suc (suc zero)) q got ref two = number_never 6 (slice_index p.t1 k) q (find_store_of 6 d rules) refl (sym (same_request _ q got)) ref two
-  write_is p (suc (suc (suc zero))) q got ref two = number_never 7 p.t4 q (find_store_of 7 d rules) refl (sym (same_request _ q got)) ref two
-  write_is p (suc (suc (suc (suc zero)))) q got ref two = number_never 8 p.t3 q (find_store_of 8 d rules) refl (sym (same_request _ q got)) ref two
-  write_is p (suc (suc (suc (suc (suc zero))))) q got ref two = number_never 9 (slice_index p.position k) q (find_store_of 9 d rules) refl (sym (same_request _ q got)) ref two
-  write_is p (suc (suc (suc (suc (suc (suc zero)))))) q got ref two = number_never 10 p.mdt_len q (find_store_of 10 d rules) refl (sym (same_request _ q got)) ref two
-  write_is p (suc (suc (suc (suc (suc (suc (suc zero))))))) q got ref two = number_never 15 7 q (find_store_of 15 d rules) refl (sym (same_request _ q got)) ref two
-  write_is p (suc (suc (suc (suc (suc (suc (suc (suc zero)))))))) q got ref two = list_never 16 (member s k).at q (find_store_of 16 d rules) (inl refl) few_of_at (sym (same_request _ q got)) ref two
-  write_is p (suc (suc (suc (suc (suc (suc (suc (suc (suc zero))))))))) q got ref two = list_never 24 (member s k).mdt q (find_store_of 24 d rules) (inr refl) few_of_mdt (sym (same_request _ q got)) ref two
-  write_is p (suc (suc (suc (suc (suc (suc (suc (suc (suc (suc zero)))))))))) q got ref two = number_never 89 p.t2 q (find_store_of 89 d rules) refl (sym (same_request _ q got)) ref two
+  write_is p zero q got ref two = number_never 1 s.control q (find_store_of 1 d rules) refl (sym (some_is _ q got)) ref two
+  write_is p (suc zero) q got ref two = cycle_is q (find_store_of 2 d rules) (sym (some_is _ q got)) ref two
+  write_is p (suc (suc zero)) q got ref two = number_never 6 (slice_index p.t1 k) q (find_store_of 6 d rules) refl (sym (some_is _ q got)) ref two
+  write_is p (suc (suc (suc zero))) q got ref two = number_never 7 p.t4 q (find_store_of 7 d rules) refl (sym (some_is _ q got)) ref two
+  write_is p (suc (suc (suc (suc zero)))) q got ref two = number_never 8 p.t3 q (find_store_of 8 d rules) refl (sym (some_is _ q got)) ref two
+  write_is p (suc (suc (suc (suc (suc zero))))) q got ref two = number_never 9 (slice_index p.position k) q (find_store_of 9 d rules) refl (sym (some_is _ q got)) ref two
+  write_is p (suc (suc (suc (suc (suc (suc zero)))))) q got ref two = number_never 10 p.mdt_len q (find_store_of 10 d rules) refl (sym (some_is _ q got)) ref two
+  write_is p (suc (suc (suc (suc (suc (suc (suc zero))))))) q got ref two = number_never 15 7 q (find_store_of 15 d rules) refl (sym (some_is _ q got)) ref two
+  write_is p (suc (suc (suc (suc (suc (suc (suc (suc zero)))))))) q got ref two = list_never 16 (member s k).at q (find_store_of 16 d rules) (inl refl) few_of_at (sym (some_is _ q got)) ref two
+  write_is p (suc (suc (suc (suc (suc (suc (suc (suc (suc zero))))))))) q got ref two = list_never 24 (member s k).mdt q (find_store_of 24 d rules) (inr refl) few_of_mdt (sym (some_is _ q got)) ref two
+  write_is p (suc (suc (suc (suc (suc (suc (suc (suc (suc (suc zero)))))))))) q got ref two = number_never 89 p.t2 q (find_store_of 89 d rules) refl (sym (some_is _ q got)) ref two
   write_is p (suc (suc (suc (suc (suc (suc (suc (suc (suc (suc (suc i))))))))))) q got ref two = absurd (cc)
 
   -- THE CHECK is never refused.
@@ -176,5 +171,5 @@ module _ (says : SaysShape) (d : DriveView) (rules : blocks_fault [] d.blocks �
 
           which : IsIn (writes s p k) (request.Command (idn 127) ∷ request.Command (idn 128) ∷ request.Read (idn 22) 7 ∷ []) (n - reads_count (member s k)) q → IsCycle d s.cycle q code
           which (First low is) = write_is p (n - reads_count (member s k)) q is ref two
-          which (After zero place is) = absurd (check_never q (sym (same_request (request.Command (idn 127)) q is)) ref two)
+          which (After zero place is) = absurd (check_never q (sym (some_is (request.Command (idn 127)) q is)) ref two)
           which (After (suc j) place is) = let far = late_place in absurd (omega (arith, place, less, far))

@@ -1,6 +1,6 @@
 -- A request of the start-up that a drive refuses in phase 2 is the write of the cycle time, outside the drive's limits.
 use Rattle.std.proofs.Common.{◌≡◌, ◌⊎◌, ℕ, ◌+◌, ◌*◌, ◌<◌, ◌≤◌, ◌^◌, Bool, true, false, List, [], ◌∷◌, ◌++◌, Option, Some, None, refl, sym, ap, ◌∙◌, subst, arith, if◌then◌else◌}
-use Rattle.std.proofs.lemmas.Bool.{cond-false, false≢true}
+use Rattle.std.proofs.lemmas.Bool.{cond-false}
 use mathlib.Core.Bool.{beq}
 use Rattle.sercos_idn.specs.declared.code.Code.{Code}
 use Rattle.sercos_step.specs.declared.request.Request.{Request}
@@ -151,9 +151,3 @@ pub record IsCycle (d : DriveView) (cycle : ℕ) (q : Request) (code : Code) : T
 -- what the words of an attribute say of its length
 abbrev pub SaysShape : Type 0
 SaysShape = (b : Block) → b.attribute.factor < 2 ^ 16 → shape_of 7 (low_of b + 65536 * high_of b) ≡ shape_by b.attribute.length
-
-never_both : (b : Bool) → b ≡ true → b ≡ false → ⊥
-never_both b on off = false≢true (sym off ∙ on)
-
-same_request : (x y : Request) → Some x ≡ Some y → x ≡ y
-same_request x y e = cc

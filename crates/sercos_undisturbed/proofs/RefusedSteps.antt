@@ -4,7 +4,7 @@ use Rattle.std.proofs.Common.{◌≡◌, ℕ, suc, ◌+◌, ◌*◌, Bool, true,
 use Rattle.std.specs.Prelude.{◌==◌, is_some, is_none, option_map, slice_get, slice_index}
 use Rattle.std.specs.Bool.{then_some}
 use mathlib.Core.Bool.{beq}
-use Rattle.std.proofs.lemmas.Bool.{cond-true, cond-false, false≢true}
+use Rattle.std.proofs.lemmas.Bool.{cond-true, cond-false}
 use Rattle.sercos_idn.specs.declared.idn.Idn.{Idn}
 use Rattle.sercos_step.specs.declared.request.Request.{Request}
 use Rattle.sercos_step.specs.declared.request.Request.TheVariants as request
@@ -29,6 +29,7 @@ use Rattle.sercos_handshake.proofs.TransferSteps.{newest_step}
 use Rattle.sercos_handshake.proofs.WriteRuns.{run_next}
 use Rattle.sercos_handshake.proofs.WriteStages.{low_of, high_of, told}
 use Rattle.sercos_handshake.proofs.WriteStages as write
+use Rattle.sercos_undisturbed.proofs.Small.{never_both}
 
 some_same : {A : Type 0} (x y : A) → Some x ≡ Some y → y ≡ x
 some_same x y is = cc
@@ -39,9 +40,6 @@ is_nil (w ∷ ws) = false
 
 good_answer : (a : Answer) (word : ℕ) → a ≡ good word → a.error ≡ false
 good_answer a word is = ap (λ (x : Answer). x.error) is
-
-never_both : (b : Bool) → b ≡ true → b ≡ false → ⊥
-never_both b on off = false≢true (sym off ∙ on)
 
 -- an answer that is refused by a cause has one
 caused : (o : Option ℕ) (word : ℕ) (a : Answer) → a ≡ answer_by o word → a.error ≡ true → o ≡ Some a.word

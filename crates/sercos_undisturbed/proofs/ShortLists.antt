@@ -28,6 +28,7 @@ use Rattle.sercos_journal.proofs.StationLemmas.{drives_so}
 use Rattle.sercos_views.specs.RingViews.{views_of}
 use Rattle.sercos_held.proofs.StoreOf.{AllowsWrites}
 use Rattle.sercos_undisturbed.proofs.BlockStays.{IsAt, Stays, stays_at}
+use Rattle.sercos_undisturbed.proofs.Small.{none_some}
 
 -- THE BLOCKS WITH LIMITS
 abbrev is_limited : Block → Bool
@@ -120,9 +121,6 @@ short_outside d blocks few stored =
     let long = list_long (map (λ (b : Block). b.idn) (filter is_outside blocks)) in
     let many = idns_many (filter is_outside blocks) in
     let most = few_outside d blocks stored in omega (arith, long, many, most, few)
-
-none_some : (n : ℕ) → None ≡ Some n → ⊥
-none_some n e = cc
 
 -- THE LIST of the check: the block is fixed, so no write to it is accepted
 fixed_22 : (d : DriveView) (blocks : List Block) (phase : ℕ) (bytes : List ℕ) → blocks_fault [] d.blocks ≡ None → IsStoreOf d blocks → put_fault (find_block 22 blocks) phase bytes ≡ None → ⊥

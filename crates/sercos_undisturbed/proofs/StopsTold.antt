@@ -28,6 +28,7 @@ use Rattle.sercos_held.proofs.Runs.{Laws}
 use Rattle.sercos_headline.specs.Stops.{StopsRight}
 use Rattle.sercos_headline.proofs.HeadlineRuns.{MoreLaws, keeps_all}
 use Rattle.sercos_undisturbed.proofs.StopStays.{ats_stop, mdt_stop, stop_after}
+use Rattle.sercos_undisturbed.proofs.Small.{none_some}
 
 -- A STOP THAT COMES is told.
 abbrev IsTold : Past → Type 0
@@ -61,9 +62,6 @@ mdt_is_told s p none = by (is_plan_due s (with_stop (first_trouble s p) p))
     by : (due : Bool) → IsTold (if due then planned_by s (with_stop (first_trouble s p) p) else with_stop (first_trouble s p) p)
     by true = planned_is_told s (with_stop (first_trouble s p) p) looked
     by false = looked
-
-none_some : (x : Stop) → None ≡ Some x → ⊥
-none_some x e = cc
 
 -- a ring that falls has no stop
 fallen_stop : (s : Known) (p : Past) (f : Fall) → fall_of s p ≡ Some f → (after_end s p).stop ≡ None

@@ -57,6 +57,7 @@ use Rattle.sercos_undisturbed.proofs.JobsBegun.{wells}
 use Rattle.sercos_undisturbed.proofs.OwnSet.{Say, say_written}
 use Rattle.sercos_undisturbed.proofs.RefusedCauses.{check_4, found_4}
 use Rattle.sercos_undisturbed.proofs.SetsFour.{sets_well}
+use Rattle.sercos_undisturbed.proofs.Small.{first_is}
 
 abbrev pub IsWell : SetCommand → Type 0
 IsWell s = s.well ≡ true
@@ -94,9 +95,6 @@ well_status time cycle (Some s) on well = by (has_ended time cycle s) (well s re
     by : (x : Bool) → s.well ≡ true → (status_of x s.well ≡ 3) ⊎ (status_of x s.well ≡ 7)
     by true is = inl (ap (status_of true) is)
     by false is = inr refl
-
-first_is : (x y : Entry) (xs ys : List Entry) → x ∷ xs ≡ y ∷ ys → (x ≡ y) × (xs ≡ ys)
-first_is x y xs ys e = (cc, cc)
 
 -- the part of a request in the log
 part_at : (newer older : List Begun) (b : Begun) (log : List Entry) → AreParts (newer ++ b ∷ older) log → IsPartAt log b
