@@ -62,3 +62,4 @@ pub mod SetsFour
 pub mod EntriesSay
 pub mod WellGiven
 pub mod Small
+pub mod StaysClear

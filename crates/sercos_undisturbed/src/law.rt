@@ -5,6 +5,7 @@ ghost use Rattle.sercos_undisturbed.specs.Sections.{NoneIdleInThree, NoneIdleInT
 ghost use Rattle.sercos_undisturbed.specs.StartUps.{AgesUndisturbed, AnswersUndisturbed, ComesToPhaseTwo, CostsUndisturbed, StaysUpUndisturbed, TellsNoFallUndisturbed};
 ghost use Rattle.sercos_undisturbed.specs.StopsInTwo.{StopsInTwo};
 ghost use Rattle.sercos_undisturbed.specs.StopsLater.{EndsStartUp, NoStopInFour, RisesIfRight, StopsInThree};
+ghost use Rattle.sercos_undisturbed.specs.Undisturbed.{StaysClear};
 
 use sercos_agenda::{agenda_law, report_law, stop_law};
 use sercos_block::{ring_law, store_law};
@@ -36,6 +37,7 @@ use sercos_typed::typed_law;
 /// phase 4, since an own block of it was outside its limits at opening, and has the list that it gave; in phase 4 there is none. So that is
 /// how a start-up ends: in phase 4, exactly if nothing of this is in its way, or with one of these stops.
 pub fn undisturbed_law()
+    ensures clear { StaysClear }
     ensures stays { StaysUpUndisturbed }
     ensures tells { TellsNoFallUndisturbed }
     ensures ages { AgesUndisturbed }

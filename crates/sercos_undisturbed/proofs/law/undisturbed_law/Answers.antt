@@ -14,6 +14,7 @@ use Rattle.sercos_undisturbed.proofs.PhaseRuns.{phases_in}
 use Rattle.sercos_undisturbed.proofs.RefusedStops.{refused_stop}
 use Rattle.sercos_undisturbed.proofs.TwoStops.{stop_in_two}
 use Rattle.sercos_undisturbed.proofs.LaterStops.{no_stop_in_four, ready_if_ended, stop_in_three}
+use Rattle.sercos_undisturbed.proofs.StaysClear.{stays_clear}
 use Rattle.sercos_undisturbed.proofs.StartUpEnds.{ReadyIfEnded, ends_in_time, inside, rises_if_right}
 use Rattle.sercos_undisturbed.proofs.Sections.{never_idle, none_idle}
 use Rattle.sercos_undisturbed.proofs.law.undisturbed_law.Goals as goal
@@ -109,6 +110,7 @@ returns c =
     ready_if_ended laws more c.run_law.ensures.up c.parts_law.ensures.replies c.parts_law.ensures.transfers c.run_law.ensures.in_phase c.run_law.ensures.epoch c.run_law.ensures.cycle c.stop_law.ensures.refused c.stop_law.ensures.check128
     r jobs carry restarts opened t j run clear stays k below (inside r k below) none ended in
     record {
+      clear = λ r jobs carry restarts cycles before run clear calm. stays_clear r jobs carry restarts cycles before run clear calm;
       stays = λ r jobs carry restarts cycles before opened run clear starts calm.
           stays_throughout laws more c.agenda_law.ensures.turn c.run_law.ensures.up c.calls_law.ensures.late r jobs carry restarts opened c.passage_law.ensures.throughout c.passage_law.ensures.hears cycles before run clear starts calm;
       tells = λ r jobs carry restarts t cycles before opened run clear starts calm. tells_no_fall laws more c.agenda_law.ensures.turn c.run_law.ensures.up c.calls_law.ensures.late r jobs carry restarts opened t cycles before run clear starts calm;
