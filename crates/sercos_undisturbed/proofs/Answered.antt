@@ -46,8 +46,10 @@ use Rattle.sercos_undisturbed.specs.StartUps.{TellsNoFall}
 use Rattle.sercos_undisturbed.proofs.CommandRuns.{first_commands}
 use Rattle.sercos_undisturbed.proofs.PassedRuns.{commands_so}
 use Rattle.sercos_undisturbed.proofs.Carried.{are_carried}
-use Rattle.sercos_undisturbed.proofs.PassedCycles.{or_first, none_below, views_split}
+use Rattle.sercos_undisturbed.proofs.PassedCycles.{views_split}
 use Rattle.sercos_undisturbed.proofs.NeverFalls.{begins_so, runs_split, never_falls}
+use Rattle.sercos_undisturbed.proofs.Comes.{none_below}
+use Rattle.sercos_undisturbed.proofs.Small.{both_off}
 
 -- in an epoch that has just begun no step is open
 age_at_start : (past : List View) → BeginsEpoch past → age_in past ≡ 0
@@ -127,7 +129,7 @@ module _ (laws : Laws) (more : MoreLaws) (turn : WorkInTurn) (comes_up : (busy :
       none = (never_falls laws more turn comes_up late r jobs carry restarts opened (t ∷ cycles) before run clear starts calm).stays.1
 
       quiet : restart_events r jobs restarts (length (cycles ++ before)) (master_calls r carry restarts (cycles ++ before)) ≡ no_events
-      quiet = quiet_so r jobs restarts (length (cycles ++ before)) (master_calls r carry restarts (cycles ++ before)) (none_below (length r.drives + 1) (restarts (length (cycles ++ before))) (or_first _ _ calm.1) 0 (omega arith))
+      quiet = quiet_so r jobs restarts (length (cycles ++ before)) (master_calls r carry restarts (cycles ++ before)) (none_below (length r.drives + 1) (restarts (length (cycles ++ before))) (both_off _ _ calm.1).0 0 (omega arith))
 
       keeps : KeepsAll r jobs carry restarts t (cycles ++ before)
       keeps = keeps_all laws more r jobs carry restarts opened t (cycles ++ before) run clear

@@ -16,9 +16,7 @@ use Rattle.sercos_journal.specs.Arrivals.{heard, passage}
 use Rattle.sercos_journal.specs.Runs.{station_of, with_at, at_calls, looks_back}
 use Rattle.sercos_views.proofs.MasterSame.{AfterAts, ats_next}
 use Rattle.sercos_undisturbed.proofs.Comes.{IsAmong}
-
-same_place : (k : ℕ) → (k == k) ≡ true
-same_place k = grind (arith, nat_tests)
+use Rattle.sercos_undisturbed.proofs.Small.{same_place}
 
 -- what an AT leaves
 keeps_at : (s : Known) (k : ℕ) (content : List ℕ) (q : Past) → q.now.heard k ≡ true → (after_at s content q).now.heard k ≡ true

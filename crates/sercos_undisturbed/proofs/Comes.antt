@@ -20,20 +20,13 @@ use Rattle.sercos_journal.specs.Runs.{station_of, disturbs_mst, disturbs_mdt, di
 use Rattle.sercos_journal.proofs.ClearLemmas.{same_bits}
 use Rattle.sercos_views.proofs.Members.{IsWhole}
 use Rattle.sercos_undisturbed.specs.Undisturbed.{IsUndisturbed}
+use Rattle.sercos_undisturbed.proofs.Small.{both_off}
 
-or_first : (a b : Bool) → (a || b) ≡ false → a ≡ false
-or_first false b is = refl
-or_first true b is = is
-
-or_second : (a b : Bool) → (a || b) ≡ false → b ≡ false
-or_second false b is = is
-or_second true b is = cc
-
-none_any : (n : ℕ) (f : ℕ → Bool) → any_below n f ≡ false → (i : ℕ) → i < n → f i ≡ false
-none_any zero f none i below = absurd (omega (arith, below))
-none_any (suc n) f none i below = elim (cases_eq i n) [
-  | inl same ↦ rw same (or_second (any_below n f) (f n) none)
-  | inr other ↦ none_any n f (or_first (any_below n f) (f n) none) i (omega (arith, below, other))
+pub none_below : (n : ℕ) (f : ℕ → Bool) → any_below n f ≡ false → (i : ℕ) → i < n → f i ≡ false
+none_below zero f none i below = absurd (omega (arith, below))
+none_below (suc n) f none i below = elim (cases_eq i n) [
+  | inl same ↦ rw same (both_off (any_below n f) (f n) none).1
+  | inr other ↦ none_below n f (both_off (any_below n f) (f n) none).0 i (omega (arith, below, other))
 ]
 
 -- the parts of an undisturbed cycle
@@ -57,11 +50,11 @@ calm_in r carry restarts t j is =
     let (stays, mst, own, ats, mdt) = none_of (any_below (length r.drives + 1) (restarts (length j))) (any_below (length r.drives) (disturbs_mst carry (length j) (mst_in t.sent))) (disturbed_at carry (passage (length j) kinds.Mst 0 0) (mst_in t.sent))
     (disturbs_ats r carry (length j) (ats_in t.sent)) (any_below (length r.drives) (disturbs_mdt carry (length j) (mdt_in t.sent))) is in
     record {
-      stays = λ i low. none_any (length r.drives + 1) (restarts (length j)) stays i (omega (arith, low));
-      mst = none_any (length r.drives) (disturbs_mst carry (length j) (mst_in t.sent)) mst;
+      stays = λ i low. none_below (length r.drives + 1) (restarts (length j)) stays i (omega (arith, low));
+      mst = none_below (length r.drives) (disturbs_mst carry (length j) (mst_in t.sent)) mst;
       own = own;
       ats = ats;
-      mdt = none_any (length r.drives) (disturbs_mdt carry (length j) (mdt_in t.sent)) mdt;
+      mdt = none_below (length r.drives) (disturbs_mdt carry (length j) (mdt_in t.sent)) mdt;
     }
 
 not_true : (b : Bool) → not b ≡ false → b ≡ true
@@ -83,8 +76,8 @@ IsAmong x (y ∷ others) = (y ≡ x) ⊎ IsAmong x others
 
 pub calm_at : (r : RingView) (carry : Carry) (cycle : ℕ) (at : List ℕ) (ats : List (List ℕ)) → IsAmong at ats → disturbs_ats r carry cycle ats ≡ false → disturbed_at carry (passage cycle kinds.At (station_of r (slice_index at 0)) 0) at ≡ false
 calm_at r carry cycle at [] among calm = absurd among
-calm_at r carry cycle at (x ∷ others) (inl same) calm = subst (λ (c : List ℕ). disturbed_at carry (passage cycle kinds.At (station_of r (slice_index c 0)) 0) c ≡ false) same (or_first _ _ calm)
-calm_at r carry cycle at (x ∷ others) (inr later) calm = calm_at r carry cycle at others later (or_second _ _ calm)
+calm_at r carry cycle at (x ∷ others) (inl same) calm = subst (λ (c : List ℕ). disturbed_at carry (passage cycle kinds.At (station_of r (slice_index c 0)) 0) c ≡ false) same ((both_off _ _ calm).0)
+calm_at r carry cycle at (x ∷ others) (inr later) calm = calm_at r carry cycle at others later ((both_off _ _ calm).1)
 
 -- What a drive says is among the ATs of the cycle.
 among_put : (s x : Said) (others : List Said) → (x.content ≡ s.content) ⊎ IsAmong s.content (contents others) → IsAmong s.content (contents (inserted x others))

@@ -38,16 +38,10 @@ use Rattle.sercos_undisturbed.specs.Undisturbed.{IsUndisturbed}
 use Rattle.sercos_undisturbed.proofs.Comes.{IsCalm, calm_in, comes, IsAmong, calm_at, among_said, own_mst_whole}
 use Rattle.sercos_undisturbed.proofs.AtsTaken.{IsWanted, takes_ats}
 use Rattle.sercos_undisturbed.proofs.SendsNext.{SaysOne, sends_next}
+use Rattle.sercos_undisturbed.proofs.Small.{same_place}
+use Rattle.sercos_undisturbed.proofs.AfterAt.{after_at_so}
 
 -- no phase above 4 is commanded
-low_at : (s : Known) (place : Option ℕ) (content : List ℕ) (p : Past) → p.now.phase ≤ 4 → (after_at_of s place content p).now.phase ≤ 4
-low_at s None content p low = low
-low_at s (Some k) content p low = by (is_taken s p k content)
-  where
-    by : (t : Bool) → (if t then after_taken k content p else p).now.phase ≤ 4
-    by true = low
-    by false = low
-
 done_below : (n : ℕ) (s : Known) (p : Past) → is_done_in n s p ≡ true → n < 4
 done_below n s p done = grind (arith, nat_tests, done)
 
@@ -65,7 +59,7 @@ low_end s p low = by (is_some (fall_of s p))
 pub phase_low : (s : Known) (requests : ℕ → List Task) (h : List Call) → (past s requests h).now.phase ≤ 4
 phase_low s requests [] = omega arith
 phase_low s requests (HearMst content ∷ h) = phase_low s requests h
-phase_low s requests (HearAt content ∷ h) = low_at s (place_of s (slice_index content 0)) content (past s requests h) (phase_low s requests h)
+phase_low s requests (HearAt content ∷ h) = after_at_so (λ p. p.now.phase ≤ 4) s content (past s requests h) (phase_low s requests h) (λ k. phase_low s requests h)
 phase_low s requests (master.Mdt ∷ h) = subst (λ (n : ℕ). n ≤ 4) (sym (turn_mdt s (past s requests h)).phase_is) (phase_low s requests h)
 phase_low s requests (End ∷ h) = low_end s (past s requests h) (phase_low s requests h)
 phase_low s requests (Restart ∷ h) = omega arith
@@ -102,9 +96,6 @@ single_said : (s : Known) (p : Past) (k : ℕ) → p.now.phase ≡ 1 → p.now.a
 single_said s p k one to = let is : (p.now.phase == 1) ≡ true = grind (arith, nat_tests, one) in rw (is, to) refl
 
 -- an AT that is awaited in phase 1
-same_place : (k : ℕ) → (k == k) ≡ true
-same_place k = grind (arith, nat_tests)
-
 awaits_to : (q : Past) (k : ℕ) → q.now.phase ≡ 1 → addressed_before q.turns ≡ Some k → is_awaited q k ≡ true
 awaits_to q k one to = rw (one, to, same_place k) refl
 

@@ -1,6 +1,6 @@
 -- In phase 2, where a drive's writes have begun, the check for phase 3 of each drive before it in the ring has ended well.
 use Rattle.std.proofs.Common.{◌≡◌, inl, inr, ℕ, zero, suc, ◌+◌, ◌<◌, ◌≤◌, Bool, true, false, not, ◌&&◌, List, [], ◌∷◌, length, Option, Some, None, refl, sym, ap, ◌∙◌, subst, arith, if◌then◌else◌}
-use Rattle.std.specs.Prelude.{◌==◌, nat_le, is_none, is_some, slice_index}
+use Rattle.std.specs.Prelude.{◌==◌, nat_le, is_none, is_some}
 use Rattle.std.specs.Option.{option_or}
 use Rattle.std.proofs.lemmas.Bool.{and_parts, cases_eq, cases_lt, false≢true, or_cases, leb-true, le-leb}
 use Rattle.sercos_telegram.specs.declared.words.Status.{Status}
@@ -15,7 +15,7 @@ use Rattle.sercos_seat.specs.Ring.{Known, MemberView, Task, member}
 use Rattle.sercos_seat.specs.Seats.{AreWaiting}
 use Rattle.sercos_seat.proofs.Agendas.{ended_there}
 use Rattle.sercos_seat.proofs.Seats.{before_end}
-use Rattle.sercos_master.specs.Annals.{Call, HearMst, HearAt, Mdt, End, Restart, Past, outcomes, first_from, first_place, is_idle, is_taken, after_taken, after_at_of, after_at, place_of, settled, in_turn, has_turn, next_task, begins, fall_of, is_done, goes_on, new_epoch, still_waiting, past}
+use Rattle.sercos_master.specs.Annals.{Call, HearMst, HearAt, Mdt, End, Restart, Past, outcomes, first_from, first_place, is_idle, after_taken, settled, in_turn, has_turn, next_task, begins, fall_of, is_done, goes_on, new_epoch, still_waiting, past}
 use Rattle.sercos_master.proofs.Configured.{mdt_adds, leaves}
 use Rattle.sercos_master.proofs.Planned.{at_adds}
 use Rattle.sercos_handshake.specs.Epochs.{with_begun}
@@ -25,6 +25,8 @@ use Rattle.sercos_agenda.proofs.OneTurn.{AtHears, SameAt, HeardAt, elsewhere_sam
 use Rattle.sercos_views.specs.RingViews.{request_of}
 use Rattle.sercos_undisturbed.proofs.StaysUp.{found_passes, place_so}
 use Rattle.sercos_views.proofs.MasterSame.{begun_so, turn_mdt}
+use Rattle.sercos_undisturbed.proofs.AfterAt.{after_at_so}
+use Rattle.sercos_undisturbed.proofs.Small.{some_is}
 
 -- a check that has ended well stays so
 pub checked_stays : (m : MemberView) (outs : List Outcome) (o : Option Outcome) → is_checked m outs ≡ true → is_checked m (with_outcome o outs) ≡ true
@@ -45,9 +47,6 @@ before_first : (k n : ℕ) (test : ℕ → Bool) (i : ℕ) → first_from k n te
 before_first k zero test i found j from low = absurd (cc)
 before_first k (suc n) test i found j from low = by (test k) refl found (λ rest more. before_first (k + 1) n test i rest j more low)
   where
-    some_is : (a b : ℕ) → Some a ≡ Some b → a ≡ b
-    some_is a b e = cc
-
     by : (b : Bool) → test k ≡ b → (if b then Some k else first_from (k + 1) n test) ≡ Some i → (first_from (k + 1) n test ≡ Some i → k + 1 ≤ j → test j ≡ false) → test j ≡ false
     by true here is next = let same = some_is k i is in absurd (omega (arith, same, from, low))
     by false here is next = elim (cases_eq j k) [
@@ -63,9 +62,6 @@ not_false false e = sym e
 turn_after : (s : Known) (p : Past) (k : ℕ) → in_turn s p ≡ Some k → is_read (member s k) (outcomes p k) ≡ true → (j : ℕ) → j < k → is_checked (member s j) (outcomes p j) ≡ true
 turn_after s p k turn read j low = by (first_place s (λ i. not (is_read (member s i) (outcomes p i)))) refl turn
   where
-    some_is : (a b : ℕ) → Some a ≡ Some b → a ≡ b
-    some_is a b e = cc
-
     by : (o : Option ℕ) → first_place s (λ i. not (is_read (member s i) (outcomes p i))) ≡ o → option_or o (first_place s (λ i. not (is_checked (member s i) (outcomes p i)))) ≡ Some k → is_checked (member s j) (outcomes p j) ≡ true
     by None none second = not_false _ (before_first 0 (length s.drives) (λ i. not (is_checked (member s i) (outcomes p i))) k second j (omega arith) low)
     by (Some i) found first =
@@ -92,17 +88,6 @@ module _ (tasks : BeginsTasks) (early : BeginsNoneEarly) (s : Known) (requests :
         | inl same ↦ subst (λ (n : ℕ). length (begun_by ((after_taken i content p).calls n)) ≡ length (begun_by (p.calls n))) (sym same) (heard (here_hears i content p))
         | inr other ↦ ap (λ (l : List Begun). length l) (elsewhere_same i k content p other)
       ]
-
-  at_order : (content : List ℕ) (p : Past) → AreInOrder p → AreInOrder (after_at s content p)
-  at_order content p have = by (place_of s (slice_index content 0))
-    where
-      by : (o : Option ℕ) → AreInOrder (after_at_of s o content p)
-      by None = have
-      by (Some i) = which (is_taken s p i content)
-        where
-          which : (on : Bool) → AreInOrder (if on then after_taken i content p else p)
-          which true = taken_order i content p have
-          which false = have
 
   -- THE MDT
   mdt_order : (h : List Call) → AreInOrder (past s requests h) → AreInOrder (past s requests (Mdt ∷ h))
@@ -175,7 +160,7 @@ module _ (tasks : BeginsTasks) (early : BeginsNoneEarly) (s : Known) (requests :
   pub in_order : (h : List Call) → AreInOrder (past s requests h)
   in_order [] = λ two k there more j low. absurd (omega (arith, two))
   in_order (HearMst content ∷ h) = in_order h
-  in_order (HearAt content ∷ h) = at_order content (past s requests h) (in_order h)
+  in_order (HearAt content ∷ h) = after_at_so AreInOrder s content (past s requests h) (in_order h) (λ i. taken_order i content (past s requests h) (in_order h))
   in_order (Mdt ∷ h) = mdt_order h (in_order h)
   in_order (End ∷ h) = end_order h (in_order h)
   in_order (Restart ∷ h) = λ two k there more j low. absurd (omega (arith, two))

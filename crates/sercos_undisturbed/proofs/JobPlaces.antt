@@ -79,15 +79,15 @@ module _ (s : Known) (k : ℕ) where
   task_at (Some p) waiting by_then outs n t wait long early same checked few (Lists4 at failed is) = later p n 13 (sym long ∙ at) ∙ ap (λ (x : Task). Some x.request) (sym is)
   task_at plan waiting by_then outs n t wait long early same checked few (OfWaiting j at ready got) = let late = wait j t got in absurd (omega (arith, late, early))
 
-  -- the task after the reads and the writes has no number
-  unnumbered : (by_then : Option PlanView) (waiting : List Task) (outs : List Outcome) (t : Task) → length outs ≡ reads_count (member s k) + 11 → IsTask s k by_then waiting outs t → t.number ≡ None
-  unnumbered by_then waiting outs t long (OfReads r less got is) = absurd (omega (arith, long, less))
-  unnumbered by_then waiting outs t long (OfWrites p i r has less at got is) = absurd (omega (arith, long, less, at))
-  unnumbered by_then waiting outs t long (Checks3 p has at is) = ap (λ (x : Task). x.number) is
-  unnumbered by_then waiting outs t long (Lists3 at failed is) = absurd (omega (arith, long, at))
-  unnumbered by_then waiting outs t long (Checks4 at well is) = absurd (omega (arith, long, at))
-  unnumbered by_then waiting outs t long (Lists4 at failed is) = absurd (omega (arith, long, at))
-  unnumbered by_then waiting outs t long (OfWaiting j at ready got) = absurd (omega (arith, long, at))
+  -- a task of the start-up has no number
+  pub unnumbered : (by_then : Option PlanView) (waiting : List Task) (outs : List Outcome) (t : Task) → length outs ≤ reads_count (member s k) + 12 → IsTask s k by_then waiting outs t → t.number ≡ None
+  unnumbered by_then waiting outs t few (OfReads r less got is) = ap (λ (x : Task). x.number) is
+  unnumbered by_then waiting outs t few (OfWrites p i r has less at got is) = ap (λ (x : Task). x.number) is
+  unnumbered by_then waiting outs t few (Checks3 p has at is) = ap (λ (x : Task). x.number) is
+  unnumbered by_then waiting outs t few (Lists3 at failed is) = ap (λ (x : Task). x.number) is
+  unnumbered by_then waiting outs t few (Checks4 at well is) = ap (λ (x : Task). x.number) is
+  unnumbered by_then waiting outs t few (Lists4 at failed is) = ap (λ (x : Task). x.number) is
+  unnumbered by_then waiting outs t few (OfWaiting j at ready got) = absurd (omega (arith, few, at))
 
   -- THE CHECK FOR PHASE 3 has ended well, if something comes after it.
   checked_before : (plan : Option PlanView) (waiting : List Task) (phase : ℕ) (older : List Begun) (tasks : List Task) → AreBegunTasks s k plan waiting phase older tasks → HasEndedWell older tasks → AreAt (jobs_of s plan k) older → Give3 older
@@ -107,7 +107,7 @@ module _ (s : Known) (k : ℕ) where
       ended = are.1.ended ∙ eleven
 
       whole : (bytes : List ℕ) × (outcome_of c.request c.answers ≡ Some (outcome.Complete bytes))
-      whole = well (unnumbered are.1.by_then waiting (outcomes_in older) u ended are.1.task)
+      whole = well (unnumbered are.1.by_then waiting (outcomes_in older) u (let e = ended in omega (arith, e)) are.1.task)
 
       bytes : List ℕ
       bytes = whole.0

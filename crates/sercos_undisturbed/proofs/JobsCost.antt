@@ -30,7 +30,7 @@ use Rattle.sercos_pace.specs.Jobs.{IsWord, AreWords, IsListBlock, IsWordWrite, A
 use Rattle.sercos_bound.specs.Bounds.{read_cycles, write_cycles, command_cycles}
 use Rattle.sercos_undisturbed.specs.Jobs.{jobs_of, AreAt}
 
--- what is behind the first items of two lists
+-- what comes after the first items of two lists
 drop_behind : (xs ys : List Request) (n i : ℕ) → n ≡ length xs + i → drop n (xs ++ ys) ≡ drop i ys
 drop_behind [] ys n i at = ap (λ (m : ℕ). drop m ys) (at ∙ omega arith)
 drop_behind (x ∷ xs) ys zero i at = absurd (omega (arith, at))

@@ -1,5 +1,5 @@
 -- The newest step of a request that is begun in phase 3 or later was accepted in such a phase.
-use Rattle.std.proofs.Common.{◌≡◌, inl, inr, ℕ, suc, ◌+◌, ◌<◌, ◌≤◌, Bool, true, false, List, [], ◌∷◌, length, Option, Some, None, refl, sym, ap, ◌∙◌, subst, arith, if◌then◌else◌, length-append}
+use Rattle.std.proofs.Common.{◌≡◌, inl, inr, ℕ, ◌+◌, ◌<◌, ◌≤◌, Bool, true, false, List, [], ◌∷◌, length, Option, Some, None, refl, sym, ap, ◌∙◌, subst, arith, if◌then◌else◌, length-append}
 use Rattle.std.specs.Prelude.{is_some}
 use Rattle.std.proofs.lemmas.Bool.{cases_lt}
 use mathlib.Core.Bool.{beq}
@@ -20,7 +20,7 @@ use Rattle.sercos_seat.specs.Ring.{known_of, member}
 use Rattle.sercos_master.specs.Annals.{fall_of}
 use Rattle.sercos_script.specs.Links.{Carry, Restarts}
 use Rattle.sercos_handshake.specs.Epochs.{epoch_begun, begun_in, epoch_taken, taken_in, epoch_log, log_in, unless_restart, with_heard, with_begun}
-use Rattle.sercos_handshake.specs.InStep.{AreInStep, Idle, Sent, Kept, steps_of}
+use Rattle.sercos_handshake.specs.InStep.{AreInStep, Idle, Sent, Kept}
 use Rattle.sercos_handshake.specs.RunLaws.{ComesUp, ProcessesInPhase, AreInStepInEpoch}
 use Rattle.sercos_handshake.specs.Views.{Heard, View, with_record, processed_in}
 use Rattle.sercos_journal.specs.Runs.{IsRun, IsClear}
@@ -32,6 +32,7 @@ use Rattle.sercos_headline.proofs.HeadlineRuns.{MoreLaws, all_stand}
 use Rattle.sercos_undisturbed.proofs.StaysUp.{phase_now}
 use Rattle.sercos_undisturbed.proofs.JobsBegun.{begun_end, few_now}
 use Rattle.sercos_undisturbed.proofs.Small.{first_is, nothing_there}
+use Rattle.sercos_handshake.proofs.TransferSteps.{length-steps_of}
 
 -- STEPS: an answer leaves those that were begun
 more_steps : (r : Request) (a : Answer) (h : List Answer) → length (steps_begun r h) ≤ length (steps_begun r (a ∷ h))
@@ -70,15 +71,11 @@ heard_head (Some a) begun one older is = by (answers_it begun a.status) begun is
 none_open : (s : Step) → None ≡ Some s → ⊥
 none_open s e = cc
 
-log_steps : (log : List Entry) → length (steps_of log) ≡ length log
-log_steps [] = refl
-log_steps (e ∷ log) = ap (λ (n : ℕ). suc n) (log_steps log)
-
 -- the drive has accepted no more steps than were begun
 few_accepted : (begun : List Begun) (log : List Entry) → AreInStep begun log → length log ≤ length (steps_in begun)
-few_accepted begun log (Idle none steps answers) = let same = ap (λ (l : List Step). length l) steps in let all = log_steps log in omega (arith, same, all)
-few_accepted begun log (Sent s some steps answers) = let same = ap (λ (l : List Step). length l) steps in let all = log_steps log in omega (arith, same, all)
-few_accepted begun log (Kept e before some is steps answers) = let same = ap (λ (l : List Step). length l) steps in let all = log_steps log in omega (arith, same, all)
+few_accepted begun log (Idle none steps answers) = let same = ap (λ (l : List Step). length l) steps in let all = length-steps_of log in omega (arith, same, all)
+few_accepted begun log (Sent s some steps answers) = let same = ap (λ (l : List Step). length l) steps in let all = length-steps_of log in omega (arith, same, all)
+few_accepted begun log (Kept e before some is steps answers) = let same = ap (λ (l : List Step). length l) steps in let all = length-steps_of log in omega (arith, same, all)
 
 -- a request for a procedure command has a first step
 pub first_step : (i : Idn) (h : List Answer) → 1 ≤ length (steps_begun (request.Command i) h)
@@ -91,7 +88,7 @@ pub older_fewer : (one : Begun) (older : List Begun) (log rest : List Entry) (e 
 older_fewer one older log rest e (Idle none steps answers) ended some is =
     let same = ap (λ (l : List Step). length l) steps in
     let parts = length-append (steps_begun one.request one.answers) (steps_in older) in
-    let all = log_steps log in
+    let all = length-steps_of log in
     let long = ap (λ (l : List Entry). length l) is in omega (arith, same, parts, all, long, some)
 older_fewer one older log rest e (Sent s open_is steps answers) ended some is = absurd (none_open s (sym ended ∙ open_is))
 older_fewer one older log rest e (Kept x before open_is split steps answers) ended some is = absurd (none_open x.taken.step (sym ended ∙ open_is))

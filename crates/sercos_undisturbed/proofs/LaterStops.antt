@@ -58,7 +58,7 @@ use Rattle.sercos_headline.proofs.HeadlineRuns.{MoreLaws, all_stand, first_store
 use Rattle.sercos_undisturbed.specs.Jobs.{jobs_of, AreAt}
 use Rattle.sercos_undisturbed.specs.StopsLater.{StopsForTheCheck}
 use Rattle.sercos_undisturbed.proofs.CycleHeld.{fits_in}
-use Rattle.sercos_undisturbed.proofs.JobPlaces.{at_most, later, some_plan}
+use Rattle.sercos_undisturbed.proofs.JobPlaces.{at_most, later, some_plan, unnumbered}
 use Rattle.sercos_undisturbed.proofs.JobsBegun.{begun_end, begun_now, few_now, place_of, places_now, tasks_now}
 use Rattle.sercos_undisturbed.proofs.PhaseThree.{few_outcomes}
 use Rattle.sercos_undisturbed.proofs.WellGiven.{check_gives_3}
@@ -108,16 +108,7 @@ never_broken r (a ∷ h) e = by a.error (is_whole r (answer_words h ++ a.word �
     by false true e = cc
     by false false e = cc
 
--- The task 12 places after the reads has no number, and is complete if another one was begun after it.
-unnumbered : (s : Known) (k : ℕ) (by_then : Option PlanView) (waiting : List Task) (outs : List Outcome) (t : Task) → length outs ≡ reads_count (member s k) + 12 → IsTask s k by_then waiting outs t → t.number ≡ None
-unnumbered s k by_then waiting outs t long (OfReads r less got is) = absurd (omega (arith, long, less))
-unnumbered s k by_then waiting outs t long (OfWrites p i r has less at got is) = absurd (omega (arith, long, less, at))
-unnumbered s k by_then waiting outs t long (Checks3 p has at is) = absurd (omega (arith, long, at))
-unnumbered s k by_then waiting outs t long (Lists3 at failed is) = ap (λ (x : Task). x.number) is
-unnumbered s k by_then waiting outs t long (Checks4 at well is) = ap (λ (x : Task). x.number) is
-unnumbered s k by_then waiting outs t long (Lists4 at failed is) = absurd (omega (arith, long, at))
-unnumbered s k by_then waiting outs t long (OfWaiting j at ready got) = absurd (omega (arith, long, at))
-
+-- the task 12 places after the reads is complete if another one was begun after it
 complete_before : (s : Known) (k : ℕ) (plan : Option PlanView) (waiting : List Task) (phase : ℕ) (x : Begun) (newer : List Begun) (one : Begun) (older : List Begun) (tasks : List Task) → AreBegunTasks s k plan waiting phase (x ∷ (newer ++ one ∷ older)) tasks
     → length older ≡ reads_count (member s k) + 12 → (bytes : List ℕ) × (outcome_of one.request one.answers ≡ Some (outcome.Complete bytes))
 complete_before s k plan waiting phase x newer one older [] are long = absurd are

@@ -63,3 +63,4 @@ pub mod EntriesSay
 pub mod WellGiven
 pub mod Small
 pub mod StaysClear
+pub mod AfterAt

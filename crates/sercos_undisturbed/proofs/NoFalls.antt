@@ -1,6 +1,6 @@
 -- Where the ring doesn't fall at the end of a cycle.
 use Rattle.std.proofs.Common.{◌≡◌, ℕ, zero, suc, ◌+◌, ◌<◌, ◌≤◌, Bool, true, false, not, ◌&&◌, List, [], ◌∷◌, length, Option, Some, None, Result, Ok, Err, refl, sym, ◌∙◌, ap, arith, if◌then◌else◌}
-use Rattle.std.specs.Prelude.{◌==◌, nat_le, is_some, slice_index}
+use Rattle.std.specs.Prelude.{◌==◌, nat_le, is_some}
 use Rattle.std.specs.Option.{option_or}
 use Rattle.std.proofs.lemmas.Bool.{false≢true}
 use Rattle.std.proofs.lemmas.Bool.Decides.{nat_tests}
@@ -15,8 +15,9 @@ use Rattle.sercos_trace.specs.declared.events.Fall.TheVariants as fall
 use Rattle.sercos_seat.specs.Agenda.{wishes_given, last_long_stop}
 use Rattle.sercos_seat.specs.Channel.{is_place}
 use Rattle.sercos_seat.specs.Ring.{Known, Task}
-use Rattle.sercos_master.specs.Annals.{Past, Turn, Call, HearMst, HearAt, Mdt, End, Restart, past, outcomes, first_from, first_place, place_of, is_taken, after_taken, after_at_of, with_stop, with_plan, planned_by, with_due_plan, is_plan_due, first_trouble, after_mdt, has_lost_mst, has_lost_at, count_addressed, is_at_limit, fall_at, fall_of, is_done, next_phase, goes_on, new_epoch, still_waiting, after_end}
+use Rattle.sercos_master.specs.Annals.{Past, Turn, Call, HearMst, HearAt, Mdt, End, Restart, past, outcomes, first_from, first_place, with_stop, with_plan, planned_by, with_due_plan, is_plan_due, first_trouble, after_mdt, has_lost_mst, has_lost_at, count_addressed, is_at_limit, fall_at, fall_of, is_done, next_phase, goes_on, new_epoch, still_waiting, after_end}
 use Rattle.sercos_views.proofs.MasterSame.{SameTurn, turn_mdt}
+use Rattle.sercos_undisturbed.proofs.AfterAt.{after_at_so}
 
 -- WHAT WAS HEARD stays when the answers are looked at and the MDT goes.
 heard_stop : (x : Option Stop) (p : Past) → (with_stop x p).now.heard ≡ p.now.heard
@@ -53,14 +54,6 @@ IsNoLower phase (t ∷ turns) = t.phase ≤ phase
 abbrev pub HasRisen : Past → Type 0
 HasRisen p = IsNoLower p.now.phase p.turns
 
-risen_at : (s : Known) (place : Option ℕ) (content : List ℕ) (p : Past) → HasRisen p → HasRisen (after_at_of s place content p)
-risen_at s None content p risen = risen
-risen_at s (Some k) content p risen = by (is_taken s p k content)
-  where
-    by : (t : Bool) → HasRisen (if t then after_taken k content p else p)
-    by true = risen
-    by false = risen
-
 no_lower : (phase now : ℕ) (turns before : List Turn) → now ≡ phase → turns ≡ before → IsNoLower phase before → IsNoLower now turns
 no_lower phase now turns before is are risen = rw (is, are) risen
 
@@ -78,7 +71,7 @@ risen_end s p = by (is_some (fall_of s p))
 pub has_risen : (s : Known) (requests : ℕ → List Task) (h : List Call) → HasRisen (past s requests h)
 has_risen s requests [] = tt
 has_risen s requests (HearMst content ∷ h) = has_risen s requests h
-has_risen s requests (HearAt content ∷ h) = risen_at s (place_of s (slice_index content 0)) content (past s requests h) (has_risen s requests h)
+has_risen s requests (HearAt content ∷ h) = after_at_so HasRisen s content (past s requests h) (has_risen s requests h) (λ k. has_risen s requests h)
 has_risen s requests (Mdt ∷ h) =
     let same : SameTurn (after_mdt s (past s requests h)) (past s requests h) = turn_mdt s (past s requests h) in
     no_lower (past s requests h).now.phase (after_mdt s (past s requests h)).now.phase (after_mdt s (past s requests h)).turns (past s requests h).turns same.phase_is same.turns_are (has_risen s requests h)

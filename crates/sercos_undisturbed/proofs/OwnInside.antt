@@ -16,11 +16,7 @@ use Rattle.sercos_startup.specs.Kept.{is_own_outside}
 use Rattle.sercos_startup.proofs.OwnLemmas.{own_at_opening}
 use Rattle.sercos_undisturbed.proofs.BlockStays.{IsAt, Stays}
 use Rattle.sercos_undisturbed.proofs.CycleHeld.{second_none}
-use Rattle.sercos_undisturbed.proofs.Small.{some_is}
-
-or_none : (x y : Bool) → (x || y) ≡ false → (x ≡ false) × (y ≡ false)
-or_none true y off = absurd (false≢true (sym off))
-or_none false y off = (refl, off)
+use Rattle.sercos_undisturbed.proofs.Small.{both_off, some_is}
 
 -- A TEST THAT NO BLOCK PASSES, by the number of the block and by the list
 all_at : (q : Block → Bool) (n : ℕ) (blocks : List Block) (b : Block) → list_all q blocks ≡ true → find_block n blocks ≡ Some b → (q b ≡ true) × ((b.idn.raw == n) ≡ true)
@@ -46,7 +42,7 @@ none_at p n [] none b found = absurd (cc)
 none_at p n (c ∷ blocks) none b found = by (c.idn.raw == n) found (λ rest. none_at p n blocks parts.1 b rest)
   where
     parts : (p c ≡ false) × (list_any p blocks ≡ false)
-    parts = or_none (p c) (list_any p blocks) none
+    parts = both_off (p c) (list_any p blocks) none
 
     by : (x : Bool) → cond x (Some c) (find_block n blocks) ≡ Some b → (find_block n blocks ≡ Some b → p b ≡ false) → p b ≡ false
     by true found rest = subst (λ (y : Block). p y ≡ false) (some_is c b found) parts.0

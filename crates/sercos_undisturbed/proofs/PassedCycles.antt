@@ -1,12 +1,10 @@
 -- In undisturbed cycles every check counts as passed where the master commands the next phase.
-use Rattle.std.proofs.Common.{◌≡◌, inl, inr, ℕ, zero, suc, ◌+◌, ◌<◌, Bool, true, false, ◌||◌, List, [], ◌∷◌, ◌++◌, length, refl, ap, ◌∙◌, subst, arith}
-use Rattle.std.proofs.lemmas.Bool.{cases_eq}
+use Rattle.std.proofs.Common.{◌≡◌, ℕ, ◌+◌, ◌<◌, List, [], ◌∷◌, ◌++◌, length, refl, ap, subst, arith}
 use Rattle.sercos_step.specs.declared.request.Job.{Job}
 use Rattle.sercos_block.specs.Views.{RingView}
 use Rattle.sercos_trace.specs.Views.{CycleView}
 use Rattle.sercos_script.specs.Links.{Carry, Restarts}
 use Rattle.sercos_handshake.specs.Views.{View}
-use Rattle.sercos_journal.specs.Arrivals.{any_below}
 use Rattle.sercos_journal.specs.Runs.{IsRun, IsClear}
 use Rattle.sercos_views.specs.RingViews.{view_of, views_of}
 use Rattle.sercos_held.specs.Opened.{IsOpened}
@@ -16,22 +14,8 @@ use Rattle.sercos_pace.specs.Passages.{IsPassed, ArePassed}
 use Rattle.sercos_undisturbed.specs.Undisturbed.{IsUndisturbed, AreUndisturbed}
 use Rattle.sercos_undisturbed.specs.ViewsSince.{views_since}
 use Rattle.sercos_undisturbed.proofs.PassedRuns.{passed_in}
-
-pub or_first : (a b : Bool) → (a || b) ≡ false → a ≡ false
-or_first false b none = refl
-or_first true b none = absurd (cc)
-
-or_second : (a b : Bool) → (a || b) ≡ false → b ≡ false
-or_second false b none = none
-or_second true b none = absurd (cc)
-
--- no station restarts
-pub none_below : (n : ℕ) (f : ℕ → Bool) → any_below n f ≡ false → (i : ℕ) → i < n → f i ≡ false
-none_below zero f none i low = absurd (omega (arith, low))
-none_below (suc n) f none i low = elim (cases_eq i n) [
-  | inl same ↦ ap f same ∙ or_second (any_below n f) (f n) none
-  | inr other ↦ none_below n f (or_first (any_below n f) (f n) none) i (omega (arith, low, other))
-]
+use Rattle.sercos_undisturbed.proofs.Comes.{none_below}
+use Rattle.sercos_undisturbed.proofs.Small.{both_off}
 
 -- the views of all cycles are those of the last, and those before
 pub views_split : (r : RingView) (jobs : List Job) (carry : Carry) (restarts : Restarts) (k : ℕ) (cycles before : List CycleView) → views_of r jobs carry restarts k (cycles ++ before) ≡ views_since r jobs carry restarts k cycles before ++ views_of r jobs carry restarts k before
@@ -43,7 +27,7 @@ module _ (laws : Laws) (more : MoreLaws) (r : RingView) (jobs : List Job) (carry
   pub passed_undisturbed : (t : CycleView) (j : List CycleView) → IsRun r jobs carry restarts (t ∷ j) → IsClear (t ∷ j) → (k : ℕ) → k < length r.drives → IsUndisturbed r carry restarts t j
       → IsPassed (view_of r jobs carry restarts k t j) (views_of r jobs carry restarts k j)
   passed_undisturbed t j run clear k below undisturbed =
-      passed_in laws more r jobs carry restarts opened t j run clear k below (none_below (length r.drives + 1) (restarts (length j)) (or_first _ _ undisturbed) (k + 1) (omega (arith, below)))
+      passed_in laws more r jobs carry restarts opened t j run clear k below (none_below (length r.drives + 1) (restarts (length j)) (both_off _ _ undisturbed).0 (k + 1) (omega (arith, below)))
 
   -- and in several, after whatever cycles
   pub all_passed : (cycles before : List CycleView) → IsRun r jobs carry restarts (cycles ++ before) → IsClear (cycles ++ before) → (k : ℕ) → k < length r.drives → AreUndisturbed r carry restarts cycles before

@@ -1,17 +1,18 @@
 -- In phase 3 and later the checks for phase 3 have ended well, and in phase 4 those for phase 4.
-use Rattle.std.proofs.Common.{◌≡◌, inl, inr, ℕ, ◌+◌, ◌<◌, ◌≤◌, Bool, true, false, List, [], ◌∷◌, length, Option, Some, None, refl, sym, ap, ◌∙◌, arith, if◌then◌else◌}
-use Rattle.std.specs.Prelude.{is_some, slice_index}
+use Rattle.std.proofs.Common.{◌≡◌, inl, inr, ℕ, ◌+◌, ◌<◌, ◌≤◌, Bool, true, false, List, [], ◌∷◌, length, Option, refl, sym, ap, ◌∙◌, arith, if◌then◌else◌}
+use Rattle.std.specs.Prelude.{is_some}
 use Rattle.std.proofs.lemmas.Bool.{cases_lt}
 use Rattle.sercos_step.specs.declared.request.Outcome.{Outcome}
 use Rattle.sercos_seat.specs.Agenda.{is_checked, is_ready}
 use Rattle.sercos_seat.specs.Channel.{with_outcome}
 use Rattle.sercos_seat.specs.Ring.{Known, MemberView, Task, member}
-use Rattle.sercos_master.specs.Annals.{Call, HearMst, HearAt, Mdt, End, Restart, Past, outcomes, is_taken, after_taken, after_at_of, after_at, place_of, fall_of, is_done, is_done_in, goes_on, new_epoch, still_waiting, after_end, past}
+use Rattle.sercos_master.specs.Annals.{Call, HearMst, HearAt, Mdt, End, Restart, Past, outcomes, after_taken, fall_of, is_done, is_done_in, goes_on, new_epoch, still_waiting, after_end, past}
 use Rattle.sercos_master.proofs.Configured.{each_passes, mdt_adds}
 use Rattle.sercos_master.proofs.Planned.{at_adds}
 use Rattle.sercos_views.proofs.MasterSame.{turn_mdt}
 use Rattle.sercos_undisturbed.proofs.InOrder.{checked_stays}
 use Rattle.sercos_undisturbed.proofs.PhaseThree.{ready_stays}
+use Rattle.sercos_undisturbed.proofs.AfterAt.{after_at_so}
 
 -- a test that more outcomes don't change, and that each drive passes where a phase rises to n
 module _ (s : Known) (requests : ℕ → List Task) (n : ℕ) (some : 1 ≤ n) (test : MemberView → List Outcome → Bool) (stays : (m : MemberView) (outs : List Outcome) (o : Option Outcome) → test m outs ≡ true → test m (with_outcome o outs) ≡ true)
@@ -21,17 +22,6 @@ module _ (s : Known) (requests : ℕ → List Task) (n : ℕ) (some : 1 ≤ n) (
 
   taken_pass : (i : ℕ) (content : List ℕ) (p : Past) → AllPass p → AllPass (after_taken i content p)
   taken_pass i content p have high k low = let adds = at_adds i content p k in ap (test (member s k)) adds.1 ∙ stays (member s k) (outcomes p k) adds.0 (have high k low)
-
-  at_pass : (content : List ℕ) (p : Past) → AllPass p → AllPass (after_at s content p)
-  at_pass content p have = by (place_of s (slice_index content 0))
-    where
-      by : (o : Option ℕ) → AllPass (after_at_of s o content p)
-      by None = have
-      by (Some i) = which (is_taken s p i content)
-        where
-          which : (on : Bool) → AllPass (if on then after_taken i content p else p)
-          which true = taken_pass i content p have
-          which false = have
 
   end_pass : (p : Past) → AllPass p → AllPass (after_end s p)
   end_pass p have = by (is_some (fall_of s p)) (is_done s p) refl
@@ -47,7 +37,7 @@ module _ (s : Known) (requests : ℕ → List Task) (n : ℕ) (some : 1 ≤ n) (
   pub all_pass : (h : List Call) → AllPass (past s requests h)
   all_pass [] = λ high k low. absurd (omega (arith, some, high))
   all_pass (HearMst content ∷ h) = all_pass h
-  all_pass (HearAt content ∷ h) = at_pass content (past s requests h) (all_pass h)
+  all_pass (HearAt content ∷ h) = after_at_so AllPass s content (past s requests h) (all_pass h) (λ i. taken_pass i content (past s requests h) (all_pass h))
   all_pass (Mdt ∷ h) = λ high k low.
       let same = (turn_mdt s (past s requests h)).phase_is in
       ap (test (member s k)) (mdt_adds s (past s requests h) k) ∙ all_pass h (omega (arith, high, same)) k low

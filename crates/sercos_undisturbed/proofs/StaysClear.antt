@@ -1,5 +1,5 @@
 -- In an undisturbed cycle no arrival is unseen.
-use Rattle.std.proofs.Common.{◌≡◌, ℕ, zero, suc, ◌+◌, ◌<◌, Bool, true, false, ◌||◌, ◌&&◌, List, [], ◌∷◌, ◌++◌, length, Option, Some, None, refl, ap, arith, if◌then◌else◌}
+use Rattle.std.proofs.Common.{◌≡◌, ℕ, zero, suc, ◌+◌, ◌<◌, Bool, true, false, ◌&&◌, List, [], ◌∷◌, ◌++◌, length, Option, Some, None, refl, ap, arith, if◌then◌else◌}
 use Rattle.std.specs.Prelude.{is_none, slice_index}
 use Rattle.sercos_hdlc.specs.Reason.{reason_of}
 use Rattle.sercos_telegram.specs.declared.layout.Kind.TheVariants as kinds
@@ -13,6 +13,7 @@ use Rattle.sercos_journal.specs.Records.{mst_in, ats_in, mdt_in}
 use Rattle.sercos_journal.specs.Runs.{disturbs_ats, disturbs_mdt, unseen_ats, unseen_mdt, unseen_mst, station_of, IsNext, IsRun, IsClear}
 use Rattle.sercos_undisturbed.specs.Undisturbed.{IsUndisturbed, AreUndisturbed}
 use Rattle.sercos_undisturbed.proofs.Comes.{IsCalm, calm_in}
+use Rattle.sercos_undisturbed.proofs.Small.{both_off}
 
 -- what isn't disturbed isn't unseen
 seen : (sent : List Bool) (came : Option (List Bool)) → is_disturbed sent came ≡ false → is_unseen sent came ≡ false
@@ -38,27 +39,23 @@ module _ (carry : Carry) where
   none_ats : (r : RingView) (cycle : ℕ) (ats : List (List ℕ)) → disturbs_ats r carry cycle ats ≡ false → unseen_ats r carry cycle ats ≡ 0
   none_ats r cycle [] calm = refl
   none_ats r cycle (at ∷ ats) calm =
-      let parts = both (disturbed_at carry (passage cycle kinds.At (station_of r (slice_index at 0)) 0) at) (disturbs_ats r carry cycle ats) calm in
+      let parts = both_off (disturbed_at carry (passage cycle kinds.At (station_of r (slice_index at 0)) 0) at) (disturbs_ats r carry cycle ats) calm in
       let first = none_at (passage cycle kinds.At (station_of r (slice_index at 0)) 0) at parts.0 in
       let rest = none_ats r cycle ats parts.1 in omega (arith, first, rest)
-    where
-      both : (x y : Bool) → (x || y) ≡ false → (x ≡ false) × (y ≡ false)
-      both true y off = absurd (cc)
-      both false y off = (refl, off)
 
-none_below : (n : ℕ) (f : ℕ → ℕ) → ((k : ℕ) → k < n → f k ≡ 0) → sum_below n f ≡ 0
-none_below zero f none = refl
-none_below (suc n) f none = let rest = none_below n f (λ k low. none k (omega (arith, low))) in let last = none n (omega arith) in omega (arith, rest, last)
+sum_none : (n : ℕ) (f : ℕ → ℕ) → ((k : ℕ) → k < n → f k ≡ 0) → sum_below n f ≡ 0
+sum_none zero f none = refl
+sum_none (suc n) f none = let rest = sum_none n f (λ k low. none k (omega (arith, low))) in let last = none n (omega arith) in omega (arith, rest, last)
 
 module _ (r : RingView) (jobs : List Job) (carry : Carry) (restarts : Restarts) where
   clear_in : (t : CycleView) (j : List CycleView) → IsNext r jobs carry restarts t j → IsUndisturbed r carry restarts t j → t.unseen ≡ 0
   clear_in t j next undisturbed =
       let calm : IsCalm r carry restarts (length j) t.sent = calm_in r carry restarts t j undisturbed in
       let all = next.unseen in
-      let msts = none_below (length r.drives) (unseen_mst carry (length j) (mst_in t.sent)) (λ k low. none_at carry (passage (length j) kinds.Mst 0 (k + 1)) (mst_in t.sent) (calm.mst k low)) in
+      let msts = sum_none (length r.drives) (unseen_mst carry (length j) (mst_in t.sent)) (λ k low. none_at carry (passage (length j) kinds.Mst 0 (k + 1)) (mst_in t.sent) (calm.mst k low)) in
       let own = none_at carry (passage (length j) kinds.Mst 0 0) (mst_in t.sent) calm.own in
       let ats = none_ats carry r (length j) (ats_in t.sent) calm.ats in
-      let mdts = none_below (length r.drives) (unseen_mdt carry (length j) (mdt_in t.sent)) (λ k low. none_mdt carry (length j) (mdt_in t.sent) k (calm.mdt k low)) in
+      let mdts = sum_none (length r.drives) (unseen_mdt carry (length j) (mdt_in t.sent)) (λ k low. none_mdt carry (length j) (mdt_in t.sent) k (calm.mdt k low)) in
       omega (arith, all, msts, own, ats, mdts)
 
   pub stays_clear : (cycles before : List CycleView) → IsRun r jobs carry restarts (cycles ++ before) → IsClear before → AreUndisturbed r carry restarts cycles before → IsClear (cycles ++ before)

@@ -1,5 +1,5 @@
 -- A stop stays as long as the ring doesn't fall and the master doesn't restart.
-use Rattle.std.proofs.Common.{◌≡◌, ℕ, Bool, true, false, List, [], ◌∷◌, length, Option, Some, None, refl, sym, ◌∙◌, ap, if◌then◌else◌}
+use Rattle.std.proofs.Common.{◌≡◌, ℕ, true, List, [], ◌∷◌, length, Option, Some, None, refl, sym, ◌∙◌, ap}
 use Rattle.std.specs.Prelude.{is_some, slice_index}
 use Rattle.sercos_telegram.specs.declared.layout.Kind.TheVariants as kinds
 use Rattle.sercos_step.specs.declared.request.Job.{Job}
@@ -7,7 +7,7 @@ use Rattle.sercos_block.specs.Views.{RingView}
 use Rattle.sercos_trace.specs.declared.events.Stop.{Stop}
 use Rattle.sercos_trace.specs.Views.{CycleView}
 use Rattle.sercos_seat.specs.Ring.{Known, known_of}
-use Rattle.sercos_master.specs.Annals.{Past, Call, place_of, is_taken, after_taken, after_at_of, after_at, first_trouble, with_due_plan, after_mdt, fall_of}
+use Rattle.sercos_master.specs.Annals.{Past, Call, after_at, first_trouble, with_due_plan, after_mdt, fall_of}
 use Rattle.sercos_master.proofs.Rings.{due_stopped, stop_stays}
 use Rattle.sercos_script.specs.Links.{Carry, Restarts}
 use Rattle.sercos_journal.specs.Arrivals.{heard, passage}
@@ -15,17 +15,10 @@ use Rattle.sercos_journal.specs.Records.{mst_in, ats_in}
 use Rattle.sercos_journal.specs.Runs.{station_of, with_at, at_calls, looks_back, master_calls, own_mst, begins}
 use Rattle.sercos_views.specs.RingViews.{at_start, behind_mdt, behind_ats}
 use Rattle.sercos_undisturbed.proofs.PhaseCounts.{end_kept}
+use Rattle.sercos_undisturbed.proofs.AfterAt.{after_at_so}
 
 at_stop : (s : Known) (content : List ℕ) (p : Past) → (after_at s content p).stop ≡ p.stop
-at_stop s content p = by (place_of s (slice_index content 0))
-  where
-    taken : (k : ℕ) (t : Bool) → (if t then after_taken k content p else p).stop ≡ p.stop
-    taken k true = refl
-    taken k false = refl
-
-    by : (o : Option ℕ) → (after_at_of s o content p).stop ≡ p.stop
-    by None = refl
-    by (Some k) = taken k (is_taken s p k content)
+at_stop s content p = after_at_so (λ q. q.stop ≡ p.stop) s content p refl (λ k. refl)
 
 pub ats_stop : (r : RingView) (jobs : List Job) (carry : Carry) (cycle : ℕ) (ats : List (List ℕ)) (h : List Call) → (looks_back r jobs (at_calls r carry cycle ats h)).stop ≡ (looks_back r jobs h).stop
 ats_stop r jobs carry cycle [] h = refl

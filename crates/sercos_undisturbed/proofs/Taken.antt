@@ -20,6 +20,7 @@ use Rattle.sercos_journal.specs.Arrivals.{heard, passage}
 use Rattle.sercos_journal.specs.Runs.{station_of, inserted, with_said, said_below, contents, with_at, at_calls, looks_back}
 use Rattle.sercos_views.specs.RingViews.{heard_last}
 use Rattle.sercos_undisturbed.proofs.Arrivals.{AllHeard}
+use Rattle.sercos_undisturbed.proofs.Small.{same_place}
 
 -- After some ATs of a cycle none was taken from the drive at a place ..
 pub record Waits (k : ℕ) (p q : Past) : Type 0 where
@@ -33,9 +34,6 @@ pub record Took (k : ℕ) (p q : Past) : Type 0 where
   pub taken : q.now.heard k ≡ true
   pub phase_is : q.now.phase ≡ p.now.phase
   pub last : 2 ≤ p.now.phase → is_some (heard_last (q.calls k)) ≡ true
-
-same_place : (k : ℕ) → (k == k) ≡ true
-same_place k = grind (arith, nat_tests)
 
 not_again : (a b was : Bool) → was ≡ true → (a && (not was && b)) ≡ true → ⊥
 not_again true b true is taken = false≢true taken

@@ -14,7 +14,7 @@ use Rattle.sercos_views.specs.RingViews.{behind_mdt, views_of}
 use Rattle.sercos_held.specs.Opened.{IsOpened}
 use Rattle.sercos_undisturbed.specs.ViewsSince.{views_since}
 
--- The master goes on with phase 2: behind the MDT's place there is no stop, there is a plan if all reads have ended, and the check for
+-- The master goes on with phase 2: after the MDT's place there is no stop, there is a plan if all reads have ended, and the check for
 -- phase 3 of some drive hasn't ended well.
 pub record GoesOnInTwo (r : RingView) (p : Past) : Type 0 where
   pub phase : p.now.phase ≡ 2
