@@ -26,7 +26,7 @@ use Rattle.sercos_views.specs.RingViews.{behind_mdt}
 use Rattle.sercos_held.specs.Opened.{IsOpened}
 use Rattle.sercos_held.proofs.Runs.{Laws, drive_got}
 use Rattle.sercos_headline.proofs.HeadlineRuns.{MoreLaws}
-use Rattle.sercos_undisturbed.specs.Ends.{HasFailedCheck}
+use Rattle.sercos_undisturbed.specs.Ends.{HasBadCheck}
 use Rattle.sercos_undisturbed.specs.Undisturbed.{AreUndisturbed}
 use Rattle.sercos_undisturbed.specs.EpochStarts.{StartsEpoch}
 use Rattle.sercos_undisturbed.proofs.Comes.{calm_in}
@@ -108,14 +108,14 @@ module _ (laws : Laws) (more : MoreLaws) (turn : WorkInTurn) (comes_up : (busy :
     stopped_next stopped = ap (λ (o : Option Stop). is_some o) (stop_next stopped) ∙ stopped
 
     pub comes_to_four : startup_bound r ≤ length cycles
-        → (t.phase ≡ 4) ⊎ ((is_some (behind_mdt r jobs carry restarts t.sent (cycles ++ before)).stop ≡ true) ⊎ HasFailedCheck r (looks_back r jobs (master_calls r carry restarts (cycles ++ before))))
+        → (t.phase ≡ 4) ⊎ ((is_some (behind_mdt r jobs carry restarts t.sent (cycles ++ before)).stop ≡ true) ⊎ HasBadCheck r (looks_back r jobs (master_calls r carry restarts (cycles ++ before))))
     comes_to_four long = by (stands_so cycles before run.0 clear.0 starts calm.0)
       where
         bound : 20 + 2 * length r.drives + sum_by section_two r.drives + greatest command_cycles r.drives ≤ length cycles
         bound = let within = within_bound started r in omega (arith, within, long)
 
         by : StandsSo (length cycles) (looks_back r jobs (master_calls r carry restarts (cycles ++ before)))
-            → (t.phase ≡ 4) ⊎ ((is_some (behind_mdt r jobs carry restarts t.sent (cycles ++ before)).stop ≡ true) ⊎ HasFailedCheck r (looks_back r jobs (master_calls r carry restarts (cycles ++ before))))
+            → (t.phase ≡ 4) ⊎ ((is_some (behind_mdt r jobs carry restarts t.sent (cycles ++ before)).stop ≡ true) ⊎ HasBadCheck r (looks_back r jobs (master_calls r carry restarts (cycles ++ before))))
         by (Early few) = let within = bound in absurd (omega (arith, few, within))
         by (InFour four) = inl (four_next four)
         by (Stopped stopped) = inr (inl (stopped_next stopped))

@@ -24,7 +24,7 @@ use Rattle.sercos_views.proofs.Members.{members_count}
 use Rattle.sercos_held.specs.Opened.{IsOpened}
 use Rattle.sercos_held.proofs.Runs.{Laws}
 use Rattle.sercos_headline.proofs.HeadlineRuns.{MoreLaws}
-use Rattle.sercos_undisturbed.specs.Ends.{HasFailedCheck}
+use Rattle.sercos_undisturbed.specs.Ends.{HasBadCheck}
 use Rattle.sercos_undisturbed.specs.Undisturbed.{AreUndisturbed}
 use Rattle.sercos_undisturbed.specs.EpochStarts.{StartsEpoch}
 use Rattle.sercos_undisturbed.specs.StopsInTwo.{StopsForThePlan, StopsForTheCycleTime, StopsInTwo}
@@ -109,7 +109,7 @@ module _ (laws : Laws) (more : MoreLaws) (turn : WorkInTurn) (comes_up : (busy :
 
   -- and no check that has failed.
   ready_before : IsRight r → (u : CycleView) (rest : List CycleView) → IsRun r jobs carry restarts (u ∷ (rest ++ before)) → IsClear (u ∷ (rest ++ before)) → AreUndisturbed r carry restarts (u ∷ rest) before
-      → HasFailedCheck r (looks_back r jobs (master_calls r carry restarts (u ∷ (rest ++ before)))) → ⊥
+      → HasBadCheck r (looks_back r jobs (master_calls r carry restarts (u ∷ (rest ++ before)))) → ⊥
   ready_before right u rest runs clears calms failed =
       false≢true (sym failed.badly ∙ ap (is_ready (member (known_of r) failed.place)) same
       ∙ ready r jobs carry restarts opened u (rest ++ before) runs clears kept failed.place failed.there (right.1 failed.place failed.there) (subst (λ (l : List Outcome). reads_count (member (known_of r) failed.place) + 12 < length l) same failed.ended))
@@ -121,7 +121,7 @@ module _ (laws : Laws) (more : MoreLaws) (turn : WorkInTurn) (comes_up : (busy :
       same = ap (λ (p : Past). outcomes p failed.place) (end_kept (known_of r) (behind_mdt r jobs carry restarts u.sent (rest ++ before)) kept)
 
   pub rises_if_right : startup_bound r ≤ length cycles → IsRight r
-      → (t.phase ≡ 4) ⊎ ((is_some (behind_mdt r jobs carry restarts t.sent (cycles ++ before)).stop ≡ true) ⊎ HasFailedCheck r (looks_back r jobs (master_calls r carry restarts (cycles ++ before)))) → t.phase ≡ 4
+      → (t.phase ≡ 4) ⊎ ((is_some (behind_mdt r jobs carry restarts t.sent (cycles ++ before)).stop ≡ true) ⊎ HasBadCheck r (looks_back r jobs (master_calls r carry restarts (cycles ++ before)))) → t.phase ≡ 4
   rises_if_right long right (inl four) = four
   rises_if_right long right (inr (inl stopped)) = rises_in (start_up_ends long (inr stopped)) right
   rises_if_right long right (inr (inr failed)) = by cycles refl
@@ -129,4 +129,4 @@ module _ (laws : Laws) (more : MoreLaws) (turn : WorkInTurn) (comes_up : (busy :
       by : (l : List CycleView) → cycles ≡ l → t.phase ≡ 4
       by [] empty = let bound = within_bound started r in let none = ap (λ (l : List CycleView). length l) empty in absurd (omega (arith, bound, long, none))
       by (u ∷ rest) is = absurd (ready_before right u rest (subst (λ (l : List CycleView). IsRun r jobs carry restarts (l ++ before)) is run.0) (subst (λ (l : List CycleView). IsClear (l ++ before)) is clear.0)
-          (subst (λ (l : List CycleView). AreUndisturbed r carry restarts l before) is calm.0) (subst (λ (l : List CycleView). HasFailedCheck r (looks_back r jobs (master_calls r carry restarts (l ++ before)))) is failed))
+          (subst (λ (l : List CycleView). AreUndisturbed r carry restarts l before) is calm.0) (subst (λ (l : List CycleView). HasBadCheck r (looks_back r jobs (master_calls r carry restarts (l ++ before)))) is failed))

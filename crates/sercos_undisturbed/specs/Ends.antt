@@ -17,7 +17,7 @@ use Rattle.sercos_undisturbed.specs.EpochStarts.{StartsEpoch}
 
 -- The check for phase 4 of some drive has ended, and not well: it is the request after the reads, the eleven writes and the check for
 -- phase 3.
-pub record HasFailedCheck (r : RingView) (p : Past) : Type 0 where
+pub record HasBadCheck (r : RingView) (p : Past) : Type 0 where
   pub place : ℕ
   pub there : place < length r.drives
   pub ended : reads_count (member (known_of r) place) + 12 < length (outcomes p place)
@@ -28,7 +28,7 @@ pub record HasFailedCheck (r : RingView) (p : Past) : Type 0 where
 abbrev pub ComesToPhaseFour : Type 0
 ComesToPhaseFour = (r : RingView) (jobs : List Job) (carry : Carry) (restarts : Restarts) (t : CycleView) (cycles before : List CycleView) → IsOpened r jobs → IsRun r jobs carry restarts (t ∷ (cycles ++ before)) →
     IsClear (t ∷ (cycles ++ before)) → StartsEpoch r jobs carry restarts before → AreUndisturbed r carry restarts (t ∷ cycles) before → startup_bound r ≤ length cycles →
-    (t.phase ≡ 4) ⊎ ((is_some (behind_mdt r jobs carry restarts t.sent (cycles ++ before)).stop ≡ true) ⊎ HasFailedCheck r (looks_back r jobs (master_calls r carry restarts (cycles ++ before))))
+    (t.phase ≡ 4) ⊎ ((is_some (behind_mdt r jobs carry restarts t.sent (cycles ++ before)).stop ≡ true) ⊎ HasBadCheck r (looks_back r jobs (master_calls r carry restarts (cycles ++ before))))
 
 -- And if that one has had the time to come, which is that of 41 steps more of the slowest drive, phase 4 is commanded, or there is a stop.
 abbrev pub ComesToAnEnd : Type 0
