@@ -1,5 +1,5 @@
--- In phases 2 and 3 a channel whose turn it is has an open transfer until its tasks are done.
-use Rattle.std.proofs.Common.{◌≡◌, ◌⊎◌, inl, inr, ℕ, zero, suc, ◌+◌, ◌-◌, ◌<◌, ◌≤◌, Bool, true, false, not, ◌&&◌, ◌||◌, List, [], ◌∷◌, map, min, length, refl, sym, ap, ap₂, ◌∙◌, subst, arith, if◌then◌else◌}
+-- In phases 2 to 4 a channel whose turn it is has an open transfer until its tasks are done.
+use Rattle.std.proofs.Common.{◌≡◌, ◌⊎◌, inl, inr, ℕ, zero, suc, ◌+◌, ◌-◌, ◌<◌, ◌≤◌, Bool, true, false, not, ◌&&◌, ◌||◌, List, [], ◌∷◌, map, min, drop, length, refl, sym, ap, ap₂, ◌∙◌, subst, arith, if◌then◌else◌}
 use Rattle.std.specs.Prelude.{◌==◌, nat_le, nat_lt, Option, Some, None, Result, Ok, Err, is_some, is_none, option_map, slice_get, slice_index_or}
 use Rattle.std.specs.List.{All}
 use Rattle.std.specs.Option.{option_or}
@@ -24,18 +24,23 @@ use Rattle.sercos_trace.specs.declared.events.Stop.TheVariants as stop
 use Rattle.sercos_handshake.proofs.ExactTransfers.{IsRefused, Ends as TransferEnds, GoesOn, IsWhole, ends_so}
 use Rattle.sercos_seat.specs.Ring.{Known, Task, HasLists, no_member, member, startup}
 use Rattle.sercos_seat.specs.Agenda.{idn, given, ended_well, reads, reads_count, writes, agenda, is_read, is_checked, is_ready, wishes_given, last_long_stop}
-use Rattle.sercos_seat.specs.Channel.{outcomes_in, last_outcome, is_place, trouble_by, of_phase}
+use Rattle.sercos_seat.specs.Channel.{outcomes_in, last_outcome, is_place, trouble_by, of_phase, count_requests}
 use Rattle.sercos_seat.specs.Seats.{AreWaiting, next_write, next_in_2, next_in_3}
 use Rattle.sercos_seat.proofs.Gets.{get_some}
-use Rattle.sercos_seat.proofs.Agendas.{reads_length, next_2, next_3}
-use Rattle.sercos_master.specs.Annals.{Call, Mdt, Past, first_from, first_place, outcomes, is_idle, trouble, first_trouble, all_read, all_checked, with_stop, is_plan_due, with_plan, planned_by, with_due_plan, settled, in_turn, has_turn, next_task, begins, with_begin, is_sent_to, addressed_in, ready_to_send, after_mdt, past}
-use Rattle.sercos_master.proofs.Configured.{Leaves, leaves, mdt_adds, each_passes, configured}
-use Rattle.sercos_master.proofs.Followed.{HasNext, none_troubled, no_stop_before}
-use Rattle.sercos_master.proofs.Laws.{all_waiting}
+use Rattle.sercos_seat.proofs.Agendas.{not_checked, reads_length, next_2, next_3}
+use Rattle.sercos_seat.proofs.Queues.{next_request}
+use Rattle.sercos_master.specs.Annals.{Call, Mdt, Past, first_from, first_place, outcomes, is_idle, trouble, first_trouble, all_read, all_checked, with_stop, is_plan_due, with_plan, planned_by, with_due_plan, settled, in_turn, has_turn, next_task, begins, with_begin, with_task, is_sent_to, still_waiting, addressed_in, ready_to_send, after_mdt, past}
+use Rattle.sercos_master.proofs.Configured.{Leaves, leaves, mdt_adds, each_passes, configured, ready}
+use Rattle.sercos_master.proofs.Followed.{HasNext, none_troubled, no_stop_before, settles}
+use Rattle.sercos_master.proofs.InOrder.{still_left}
+use Rattle.sercos_master.proofs.Laws.{all_waiting, waiting_settled}
 use Rattle.sercos_agenda.specs.Tasks.{IsTask, OfReads, OfWrites, Checks3, Lists3, Checks4, Lists4, OfWaiting, HasBegunTasks, AreBegunTasks}
 use Rattle.sercos_agenda.specs.Turns.{WorksInTwo, WorksInThree}
 use Rattle.sercos_agenda.proofs.TaskRuns.{all_ended, begun_tasks}
+use Rattle.sercos_agenda.specs.Reported.{AreNumbered}
 use Rattle.sercos_agenda.proofs.OneTurn.{from_same}
+use Rattle.sercos_agenda.proofs.ReportedRuns.{count_so}
+use Rattle.sercos_agenda.proofs.Requests.{numbered_drop}
 
 -- THE FIRST PLACE that passes, if not each one fails.
 pub record IsFound (k n : ℕ) (test : ℕ → Bool) : Type 0 where
@@ -56,7 +61,7 @@ none_or_some : (o : Option ℕ) → (o ≡ None) ⊎ (is_none o ≡ false)
 none_or_some None = inl refl
 none_or_some (Some x) = inr refl
 
-not_so : (b : Bool) → not b ≡ true → b ≡ false
+pub not_so : (b : Bool) → not b ≡ true → b ≡ false
 not_so false e = refl
 not_so true e = absurd (false≢true e)
 
@@ -199,47 +204,21 @@ three_more n outcomes planned checked ready few has on off least most = by (leng
     by true e = (request.Command (idn 128), rw (has, on, done, e) refl)
     by false e = let last : (length outcomes == n + 13) ≡ true = grind (arith, nat_tests, e, least, most) in (request.Read (idn 22) 7, rw (has, on, off, done, e, last) refl)
 
--- a check that has ended well has an outcome
-not_given : (outcomes : List Outcome) (i : ℕ) → length outcomes ≤ i → ended_well (given outcomes i) ≡ false
-not_given [] i few = refl
-not_given (o ∷ outcomes) zero few = absurd (omega (arith, few))
-not_given (o ∷ outcomes) (suc i) few = not_given outcomes i (omega (arith, few))
-
 long_enough : (outcomes : List Outcome) (n : ℕ) → ended_well (given outcomes (n + 11)) ≡ true → n + 12 ≤ length outcomes
 long_enough outcomes n well = elim (cases_lt (n + 11) (length outcomes)) [
   | inl more ↦ omega (arith, more)
-  | inr few ↦ absurd (false≢true (sym (not_given outcomes (n + 11) few) ∙ well))
+  | inr few ↦ absurd (false≢true (sym (not_checked outcomes (n + 11) few) ∙ well))
 ]
 
 never_checked : (outcomes : List Outcome) (n : ℕ) → nat_le n (length outcomes) ≡ false → ended_well (given outcomes (n + 11)) ≡ false
-never_checked outcomes n unread = not_given outcomes (n + 11) (grind (arith, nat_tests, unread))
+never_checked outcomes n unread = not_checked outcomes (n + 11) (grind (arith, nat_tests, unread))
 
--- settling leaves what waits
-waiting_stop : (o : Option Stop) (p : Past) → (with_stop o p).waiting ≡ p.waiting
-waiting_stop None p = refl
-waiting_stop (Some x) p = by (is_some p.stop)
-  where
-    by : (b : Bool) → (if b then p else record p { now = record p.now { stops = true }; stop = Some x }).waiting ≡ p.waiting
-    by true = refl
-    by false = refl
-
-waiting_plan : (made : Result PlanView ChainView) (p : Past) → (with_plan made p).waiting ≡ p.waiting
-waiting_plan (Ok plan) p = refl
-waiting_plan (Err chain) p = waiting_stop (Some (stop.NoFit chain)) p
-
-waiting_same : (s : Known) (p : Past) → (settled s p).waiting ≡ p.waiting
-waiting_same s p = due (with_stop (first_trouble s p) p) ∙ waiting_stop (first_trouble s p) p
-  where
-    due : (p1 : Past) → (with_due_plan s p1).waiting ≡ p1.waiting
-    due p1 = by (is_plan_due s p1)
-      where
-        made : (fits : Bool) → (if fits then with_plan (planned (wishes_given s (outcomes p1))) p1 else with_stop (last_long_stop s.drives 0 (outcomes p1)) p1).waiting ≡ p1.waiting
-        made true = waiting_plan (planned (wishes_given s (outcomes p1))) p1
-        made false = waiting_stop (last_long_stop s.drives 0 (outcomes p1)) p1
-
-        by : (b : Bool) → (if b then planned_by s p1 else p1).waiting ≡ p1.waiting
-        by true = made (nat_le (record_bytes (wishes_given s (outcomes p1)).drives) 2047)
-        by false = refl
+-- nothing is left of a list that ends before a place
+all_dropped : (xs : List Task) (n : ℕ) → slice_get xs n ≡ None → drop n xs ≡ []
+all_dropped [] zero none = refl
+all_dropped [] (suc n) none = refl
+all_dropped (x ∷ xs) zero none = absurd (cc)
+all_dropped (x ∷ xs) (suc n) none = all_dropped xs n none
 
 -- WHAT THE MDT'S TURN LEAVES of a channel
 module _ (has_next : HasNext) (s : Known) (p : Past) (k : ℕ) where
@@ -268,10 +247,10 @@ module _ (has_next : HasNext) (s : Known) (p : Past) (k : ℕ) where
       by None is = busy
       by (Some t) is = fresh has_next t.request (begun_by (q.calls k))
 
-  opens : (t : Task) → begins s q k ≡ Some t → is_idle (after_mdt s p) k ≡ false
+  pub opens : (t : Task) → begins s q k ≡ Some t → is_idle (after_mdt s p) k ≡ false
   opens t is = idle_is ∙ ap (λ (o : Option Task). is_none (open_in (begun_by (with_begin o (q.calls k))))) is ∙ fresh has_next t.request (begun_by (q.calls k))
 
-  begins_so : (phase : ℕ) (r : Request) → q.stop ≡ None → is_idle q k ≡ true → has_turn s q k ≡ true → q.now.phase ≡ phase → of_phase phase (next_task s q k) ≡ Some (startup phase r) → begins s q k ≡ Some (startup phase r)
+  pub begins_so : (phase : ℕ) (r : Request) → q.stop ≡ None → is_idle q k ≡ true → has_turn s q k ≡ true → q.now.phase ≡ phase → of_phase phase (next_task s q k) ≡ Some (startup phase r) → begins s q k ≡ Some (startup phase r)
   begins_so phase r free idle turn is next = rw (free, idle, turn, is) next
 
 few_reads : (s : Known) (k : ℕ) → k < length s.drives → All HasLists s.drives → reads_count (member s k) ≤ 38
@@ -280,7 +259,7 @@ few_reads s k below all = by (all k no_member below)
     by : HasLists (member s k) → reads_count (member s k) ≤ 38
     by (at, mdt) = omega (arith, at, mdt)
 
-module _ (has_next : HasNext) (s : Known) (requests : ℕ → List Task) (h : List Call) (wait : (j : ℕ) → AreWaiting (requests j)) (lists : All HasLists s.drives) where
+module _ (has_next : HasNext) (s : Known) (requests : ℕ → List Task) (h : List Call) (wait : (j : ℕ) → AreWaiting (requests j)) where
   abbrev pub p0 : Past
   p0 = past s requests h
 
@@ -302,105 +281,163 @@ module _ (has_next : HasNext) (s : Known) (requests : ℕ → List Task) (h : Li
   same_first : (f g : ℕ → Bool) → ((k : ℕ) → f k ≡ g k) → first_place s f ≡ first_place s g
   same_first f g same = from_same (length s.drives) 0 f g same
 
-  -- PHASE 2
-  turn_works : settled_p.now.phase ≡ 2 → settled_p.stop ≡ None → (k : ℕ) → k < length s.drives → in_turn s settled_p ≡ Some k → is_checked (member s k) (outcomes settled_p k) ≡ false →
-      (reads_count (member s k) ≤ length (outcomes settled_p k) → is_some settled_p.plan ≡ true) → is_idle (after_mdt s p0) k ≡ false
-  turn_works two free k there turn fails planned = by (is_idle settled_p k) refl
+  -- PHASE 4
+  pub works_in_four : ((j : ℕ) → AreNumbered (requests j)) → (k : ℕ) → k < length s.drives → (after_mdt s p0).now.phase ≡ 4 → (after_mdt s p0).stop ≡ None → is_some (after_mdt s p0).plan ≡ true → is_idle (after_mdt s p0) k ≡ true →
+      still_waiting (after_mdt s p0) k ≡ []
+  works_in_four have k there four free planned idle = by (begins s settled_p k) refl
     where
-      by : (b : Bool) → is_idle settled_p k ≡ b → is_idle (after_mdt s p0) k ≡ false
-      by false busy = still_open has_next s p0 k busy
-      by true idle = opens has_next s p0 k (startup 2 more.0) (begins_so has_next s p0 k 2 more.0 free idle has_turn_so two next)
+      in_four : p0.now.phase ≡ 4
+      in_four = sym (leaves s p0).phase ∙ four
+
+      waits_so : AreWaiting (settled_p.waiting k)
+      waits_so = subst AreWaiting (ap (λ (w : ℕ → List Task). w k) (sym (waiting_settled s p0))) (waits k)
+
+      ready_so : is_ready (member s k) (outcomes settled_p k) ≡ true
+      ready_so = ap (λ (l : List Outcome). is_ready (member s k) l) (same_outcomes k) ∙ ready s requests h k there (rw in_four refl)
+
+      numbered_so : AreNumbered (p0.waiting k)
+      numbered_so = let left = still_left s requests h k in subst AreNumbered (sym left.1) (numbered_drop left.0 (requests k) (have k))
+
+      none_left : is_idle settled_p k ≡ true → of_phase 4 (next_task s settled_p k) ≡ None → slice_get (settled_p.waiting k) (count_requests (settled_p.tasks k)) ≡ None
+      none_left rests none =
+          let (plan, is) = has_plan settled_p.plan planned in
+          empty (slice_get (settled_p.waiting k) (count_requests (settled_p.tasks k))) refl
+          (ap (of_phase 4) (sym (next_request s plan (settled_p.waiting k) k (outcomes settled_p k) (count_requests (settled_p.tasks k)) ready_so long)
+          ∙ ap (λ (o : Option PlanView). slice_get (agenda s o (settled_p.waiting k) k (outcomes settled_p k)) (length (outcomes settled_p k))) (sym is)) ∙ none)
         where
+          has_plan : (o : Option PlanView) → is_some o ≡ true → (plan : PlanView) × (o ≡ Some plan)
+          has_plan None some = absurd (false≢true some)
+          has_plan (Some plan) some = (plan, refl)
+
           idle_before : is_none (open_in (begun_by (p0.calls k))) ≡ true
-          idle_before = ap (λ (calls : ℕ → List channel.Call). is_none (open_in (begun_by (calls k)))) (sym (leaves s p0).calls) ∙ idle
+          idle_before = ap (λ (calls : ℕ → List channel.Call). is_none (open_in (begun_by (calls k)))) (sym (leaves s p0).calls) ∙ rests
 
-          in_two : p0.now.phase ≡ 2
-          in_two = sym (leaves s p0).phase ∙ two
+          long : length (outcomes settled_p k) ≡ reads_count (member s k) + 13 + count_requests (settled_p.tasks k)
+          long =
+              let same : length (outcomes settled_p k) ≡ length (outcomes p0 k) = ap (λ (l : List Outcome). length l) (same_outcomes k) in
+              let ended : length (outcomes p0 k) ≡ length (begun_by (p0.calls k)) = all_ended s k has_next p0.plan (p0.waiting k) p0.now.phase (begun_by (p0.calls k)) (p0.tasks k) (begun_then k there) idle_before in
+              let count : count_requests (p0.tasks k) + (reads_count (member s k) + 13) ≡ length (begun_by (p0.calls k)) =
+              count_so s k p0.plan (p0.waiting k) numbered_so p0.now.phase (begun_by (p0.calls k)) (p0.tasks k) (begun_then k there) (ready s requests h k there (rw in_four refl)) in
+              let tasks : count_requests (settled_p.tasks k) ≡ count_requests (p0.tasks k) = ap (λ (ts : ℕ → List Task). count_requests (ts k)) (settles s p0).tasks in
+              omega (arith, same, ended, count, tasks)
 
-          low : length (outcomes settled_p k) ≤ reads_count (member s k) + 12
-          low = subst (λ (l : List Outcome). length l ≤ reads_count (member s k) + 12) (sym (same_outcomes k))
-              (not_far has_next s k p0.plan (p0.waiting k) (begun_by (p0.calls k)) (p0.tasks k) (waits k)
-              (subst (λ (n : ℕ). AreBegunTasks s k p0.plan (p0.waiting k) n (begun_by (p0.calls k)) (p0.tasks k)) in_two (begun_then k there)) idle_before (quiet_at free k there)
-              (ap (λ (l : List Outcome). is_checked (member s k) l) (sym (same_outcomes k)) ∙ fails))
-
-          more : (r : Request) × (next_in_2 s settled_p.plan k (min (length (outcomes settled_p k)) 100) (is_checked (member s k) (outcomes settled_p k)) ≡ Some r)
-          more = two_more has_next s k settled_p.plan (outcomes settled_p k) (few_reads s k there lists) planned low fails
-
-          next : of_phase 2 (next_task s settled_p k) ≡ Some (startup 2 more.0)
-          next = next_2 s settled_p.plan (settled_p.waiting k) k (outcomes settled_p k) (min (length (outcomes settled_p k)) 100) (is_checked (member s k) (outcomes settled_p k)) (few_reads s k there lists) settled_waits refl refl
-              ∙ ap (option_map (startup 2)) more.1
+          empty : (o : Option Task) → slice_get (settled_p.waiting k) (count_requests (settled_p.tasks k)) ≡ o → of_phase 4 o ≡ None → slice_get (settled_p.waiting k) (count_requests (settled_p.tasks k)) ≡ None
+          empty None got nothing = got
+          empty (Some t) got nothing = absurd (cc (kept t (waits_so (count_requests (settled_p.tasks k)) t got), nothing))
             where
-              settled_waits : AreWaiting (settled_p.waiting k)
-              settled_waits = subst AreWaiting (ap (λ (w : ℕ → List Task). w k) (sym (waiting_same s p0))) (waits k)
+              kept : (t : Task) → t.phase ≡ 4 → of_phase 4 (Some t) ≡ Some t
+              kept t in_phase = let same : (t.phase == 4) ≡ true = grind (arith, nat_tests, in_phase) in rw same refl
 
-          has_turn_so : has_turn s settled_p k ≡ true
-          has_turn_so = rw (two, turn) (let here : (k == k) ≡ true = grind (arith, nat_tests) in rw here refl)
-
-  pub works_in_two : (after_mdt s p0).now.phase ≡ 2 → (after_mdt s p0).stop ≡ None → (all_read s (after_mdt s p0) ≡ true → is_some (after_mdt s p0).plan ≡ true) → all_checked s (after_mdt s p0) ≡ false →
-      (k : ℕ) × (k < length s.drives) × (is_idle (after_mdt s p0) k ≡ false)
-  works_in_two two free planned fails = first (none_or_some (first_place s (λ k. not (is_read (member s k) (outcomes settled_p k)))))
-    where
-      after_same : (k : ℕ) → outcomes (after_mdt s p0) k ≡ outcomes settled_p k
-      after_same k = mdt_adds s p0 k ∙ sym (same_outcomes k)
-
-      first : (first_place s (λ k. not (is_read (member s k) (outcomes settled_p k))) ≡ None) ⊎ (is_none (first_place s (λ k. not (is_read (member s k) (outcomes settled_p k)))) ≡ false) → (k : ℕ) × (k < length s.drives) × (is_idle (after_mdt s p0) k ≡ false)
-      first (inr some) =
-          let f = found_some 0 (length s.drives) (λ k. not (is_read (member s k) (outcomes settled_p k))) some in
-          let low = f.below in
-          let there : f.place < length s.drives = omega (arith, low) in
-          let unread = not_so _ f.passes in
-          (f.place, there, turn_works two free f.place there (rw f.found refl) (unchecked f.place unread) (λ many. absurd (false≢true (sym unread ∙ le-leb _ _ many))))
+      by : (o : Option Task) → begins s settled_p k ≡ o → drop (count_requests (with_task (begins s settled_p k) (settled_p.tasks k))) (settled_p.waiting k) ≡ []
+      by (Some t) is = absurd (false≢true (sym (opens has_next s p0 k t is) ∙ idle))
+      by None is =
+          let rests : is_idle settled_p k ≡ true = sym (idle_is has_next s p0 k ∙ ap (λ (o : Option Task). is_none (open_in (begun_by (with_begin o (settled_p.calls k))))) is) ∙ idle in
+          ap (λ (o : Option Task). drop (count_requests (with_task o (settled_p.tasks k))) (settled_p.waiting k)) is
+          ∙ all_dropped (settled_p.waiting k) (count_requests (settled_p.tasks k)) (none_left rests (nothing rests (is_none settled_p.stop) (has_turn s settled_p k) (rw free refl) (rw four refl) is))
         where
-          unchecked : (k : ℕ) → is_read (member s k) (outcomes settled_p k) ≡ false → is_checked (member s k) (outcomes settled_p k) ≡ false
-          unchecked k unread = never_checked (outcomes settled_p k) (reads_count (member s k)) unread
-      first (inl none) = second (none_or_some (first_place s (λ k. not (is_checked (member s k) (outcomes settled_p k)))))
-        where
-          read : all_read s (after_mdt s p0) ≡ true
-          read = ap (λ (o : Option ℕ). is_none o) (same_first (λ k. not (is_read (member s k) (outcomes (after_mdt s p0) k))) (λ k. not (is_read (member s k) (outcomes settled_p k))) (λ k. ap (λ (l : List Outcome). not (is_read (member s k) l)) (after_same k)) ∙ none)
+          nothing : is_idle settled_p k ≡ true → (a b : Bool) → is_none settled_p.stop ≡ true → has_turn s settled_p k ≡ true → begins s settled_p k ≡ None → of_phase 4 (next_task s settled_p k) ≡ None
+          nothing rests a b no_stop turn is = ap (λ (n : ℕ). of_phase n (next_task s settled_p k)) (sym four) ∙ (sym (rw (no_stop, rests, turn) refl) ∙ is)
 
-          second : (first_place s (λ k. not (is_checked (member s k) (outcomes settled_p k))) ≡ None) ⊎ (is_none (first_place s (λ k. not (is_checked (member s k) (outcomes settled_p k)))) ≡ false) → (k : ℕ) × (k < length s.drives) × (is_idle (after_mdt s p0) k ≡ false)
-          second (inl all) = absurd (false≢true (sym fails ∙ ap (λ (o : Option ℕ). is_none o) (same_first (λ k. not (is_checked (member s k) (outcomes (after_mdt s p0) k))) (λ k. not (is_checked (member s k) (outcomes settled_p k))) (λ k. ap (λ (l : List Outcome). not (is_checked (member s k) l)) (after_same k)) ∙ all)))
-          second (inr some) =
-              let f = found_some 0 (length s.drives) (λ k. not (is_checked (member s k) (outcomes settled_p k))) some in
-              let low = f.below in
-              let there : f.place < length s.drives = omega (arith, low) in
-              (f.place, there, turn_works two free f.place there (rw (none, f.found) refl) (not_so _ f.passes) (λ many. planned read))
+  module _ (lists : All HasLists s.drives) where
+    -- PHASE 2
+    turn_works : settled_p.now.phase ≡ 2 → settled_p.stop ≡ None → (k : ℕ) → k < length s.drives → in_turn s settled_p ≡ Some k → is_checked (member s k) (outcomes settled_p k) ≡ false →
+        (reads_count (member s k) ≤ length (outcomes settled_p k) → is_some settled_p.plan ≡ true) → is_idle (after_mdt s p0) k ≡ false
+    turn_works two free k there turn fails planned = by (is_idle settled_p k) refl
+      where
+        by : (b : Bool) → is_idle settled_p k ≡ b → is_idle (after_mdt s p0) k ≡ false
+        by false busy = still_open has_next s p0 k busy
+        by true idle = opens has_next s p0 k (startup 2 more.0) (begins_so has_next s p0 k 2 more.0 free idle has_turn_so two next)
+          where
+            idle_before : is_none (open_in (begun_by (p0.calls k))) ≡ true
+            idle_before = ap (λ (calls : ℕ → List channel.Call). is_none (open_in (begun_by (calls k)))) (sym (leaves s p0).calls) ∙ idle
 
-  -- PHASE 3
-  pub works_in_three : (k : ℕ) → k < length s.drives → (after_mdt s p0).now.phase ≡ 3 → (after_mdt s p0).stop ≡ None → is_some (after_mdt s p0).plan ≡ true → is_ready (member s k) (outcomes (after_mdt s p0) k) ≡ false →
-      is_idle (after_mdt s p0) k ≡ false
-  works_in_three k there three free planned fails = by (is_idle settled_p k) refl
-    where
-      in_three : p0.now.phase ≡ 3
-      in_three = sym (leaves s p0).phase ∙ three
+            in_two : p0.now.phase ≡ 2
+            in_two = sym (leaves s p0).phase ∙ two
 
-      checked : is_checked (member s k) (outcomes settled_p k) ≡ true
-      checked = ap (λ (l : List Outcome). is_checked (member s k) l) (same_outcomes k) ∙ configured s requests h k there (rw in_three refl)
+            low : length (outcomes settled_p k) ≤ reads_count (member s k) + 12
+            low = subst (λ (l : List Outcome). length l ≤ reads_count (member s k) + 12) (sym (same_outcomes k))
+                (not_far has_next s k p0.plan (p0.waiting k) (begun_by (p0.calls k)) (p0.tasks k) (waits k)
+                (subst (λ (n : ℕ). AreBegunTasks s k p0.plan (p0.waiting k) n (begun_by (p0.calls k)) (p0.tasks k)) in_two (begun_then k there)) idle_before (quiet_at free k there)
+                (ap (λ (l : List Outcome). is_checked (member s k) l) (sym (same_outcomes k)) ∙ fails))
 
-      unready : is_ready (member s k) (outcomes settled_p k) ≡ false
-      unready = ap (λ (l : List Outcome). is_ready (member s k) l) (same_outcomes k ∙ sym (mdt_adds s p0 k)) ∙ fails
+            more : (r : Request) × (next_in_2 s settled_p.plan k (min (length (outcomes settled_p k)) 100) (is_checked (member s k) (outcomes settled_p k)) ≡ Some r)
+            more = two_more has_next s k settled_p.plan (outcomes settled_p k) (few_reads s k there lists) planned low fails
 
-      by : (b : Bool) → is_idle settled_p k ≡ b → is_idle (after_mdt s p0) k ≡ false
-      by false busy = still_open has_next s p0 k busy
-      by true idle = opens has_next s p0 k (startup 3 more.0) (begins_so has_next s p0 k 3 more.0 free idle has_turn_so three next)
-        where
-          idle_before : is_none (open_in (begun_by (p0.calls k))) ≡ true
-          idle_before = ap (λ (calls : ℕ → List channel.Call). is_none (open_in (begun_by (calls k)))) (sym (leaves s p0).calls) ∙ idle
+            next : of_phase 2 (next_task s settled_p k) ≡ Some (startup 2 more.0)
+            next = next_2 s settled_p.plan (settled_p.waiting k) k (outcomes settled_p k) (min (length (outcomes settled_p k)) 100) (is_checked (member s k) (outcomes settled_p k)) (few_reads s k there lists) settled_waits refl refl
+                ∙ ap (option_map (startup 2)) more.1
+              where
+                settled_waits : AreWaiting (settled_p.waiting k)
+                settled_waits = subst AreWaiting (ap (λ (w : ℕ → List Task). w k) (sym (waiting_settled s p0))) (waits k)
 
-          low : length (outcomes settled_p k) ≤ reads_count (member s k) + 13
-          low = subst (λ (l : List Outcome). length l ≤ reads_count (member s k) + 13) (sym (same_outcomes k))
-              (not_further has_next s k p0.plan (p0.waiting k) (begun_by (p0.calls k)) (p0.tasks k) (waits k)
-              (subst (λ (n : ℕ). AreBegunTasks s k p0.plan (p0.waiting k) n (begun_by (p0.calls k)) (p0.tasks k)) in_three (begun_then k there)) idle_before (quiet_at free k there))
+            has_turn_so : has_turn s settled_p k ≡ true
+            has_turn_so = rw (two, turn) (let here : (k == k) ≡ true = grind (arith, nat_tests) in rw here refl)
 
-          more : (r : Request) × (next_in_3 (reads_count (member s k)) (is_some settled_p.plan) (min (length (outcomes settled_p k)) 100) (is_checked (member s k) (outcomes settled_p k)) (is_ready (member s k) (outcomes settled_p k)) ≡ Some r)
-          more = three_more (reads_count (member s k)) (outcomes settled_p k) (is_some settled_p.plan) _ _ (few_reads s k there lists) planned checked unready (long_enough (outcomes settled_p k) (reads_count (member s k)) checked) low
+    pub works_in_two : (after_mdt s p0).now.phase ≡ 2 → (after_mdt s p0).stop ≡ None → (all_read s (after_mdt s p0) ≡ true → is_some (after_mdt s p0).plan ≡ true) → all_checked s (after_mdt s p0) ≡ false →
+        (k : ℕ) × (k < length s.drives) × (is_idle (after_mdt s p0) k ≡ false)
+    works_in_two two free planned fails = first (none_or_some (first_place s (λ k. not (is_read (member s k) (outcomes settled_p k)))))
+      where
+        after_same : (k : ℕ) → outcomes (after_mdt s p0) k ≡ outcomes settled_p k
+        after_same k = mdt_adds s p0 k ∙ sym (same_outcomes k)
 
-          next : of_phase 3 (next_task s settled_p k) ≡ Some (startup 3 more.0)
-          next = next_3 s settled_p.plan (settled_p.waiting k) k (outcomes settled_p k) (min (length (outcomes settled_p k)) 100) (is_checked (member s k) (outcomes settled_p k)) (is_ready (member s k) (outcomes settled_p k)) (few_reads s k there lists) settled_waits refl refl refl
-              ∙ ap (option_map (startup 3)) more.1
-            where
-              settled_waits : AreWaiting (settled_p.waiting k)
-              settled_waits = subst AreWaiting (ap (λ (w : ℕ → List Task). w k) (sym (waiting_same s p0))) (waits k)
+        first : (first_place s (λ k. not (is_read (member s k) (outcomes settled_p k))) ≡ None) ⊎ (is_none (first_place s (λ k. not (is_read (member s k) (outcomes settled_p k)))) ≡ false) → (k : ℕ) × (k < length s.drives) × (is_idle (after_mdt s p0) k ≡ false)
+        first (inr some) =
+            let f = found_some 0 (length s.drives) (λ k. not (is_read (member s k) (outcomes settled_p k))) some in
+            let low = f.below in
+            let there : f.place < length s.drives = omega (arith, low) in
+            let unread = not_so _ f.passes in
+            (f.place, there, turn_works two free f.place there (rw f.found refl) (unchecked f.place unread) (λ many. absurd (false≢true (sym unread ∙ le-leb _ _ many))))
+          where
+            unchecked : (k : ℕ) → is_read (member s k) (outcomes settled_p k) ≡ false → is_checked (member s k) (outcomes settled_p k) ≡ false
+            unchecked k unread = never_checked (outcomes settled_p k) (reads_count (member s k)) unread
+        first (inl none) = second (none_or_some (first_place s (λ k. not (is_checked (member s k) (outcomes settled_p k)))))
+          where
+            read : all_read s (after_mdt s p0) ≡ true
+            read = ap (λ (o : Option ℕ). is_none o) (same_first (λ k. not (is_read (member s k) (outcomes (after_mdt s p0) k))) (λ k. not (is_read (member s k) (outcomes settled_p k))) (λ k. ap (λ (l : List Outcome). not (is_read (member s k) l)) (after_same k)) ∙ none)
 
-          has_turn_so : has_turn s settled_p k ≡ true
-          has_turn_so = rw three refl
+            second : (first_place s (λ k. not (is_checked (member s k) (outcomes settled_p k))) ≡ None) ⊎ (is_none (first_place s (λ k. not (is_checked (member s k) (outcomes settled_p k)))) ≡ false) → (k : ℕ) × (k < length s.drives) × (is_idle (after_mdt s p0) k ≡ false)
+            second (inl all) = absurd (false≢true (sym fails ∙ ap (λ (o : Option ℕ). is_none o) (same_first (λ k. not (is_checked (member s k) (outcomes (after_mdt s p0) k))) (λ k. not (is_checked (member s k) (outcomes settled_p k))) (λ k. ap (λ (l : List Outcome). not (is_checked (member s k) l)) (after_same k)) ∙ all)))
+            second (inr some) =
+                let f = found_some 0 (length s.drives) (λ k. not (is_checked (member s k) (outcomes settled_p k))) some in
+                let low = f.below in
+                let there : f.place < length s.drives = omega (arith, low) in
+                (f.place, there, turn_works two free f.place there (rw (none, f.found) refl) (not_so _ f.passes) (λ many. planned read))
+
+    -- PHASE 3
+    pub works_in_three : (k : ℕ) → k < length s.drives → (after_mdt s p0).now.phase ≡ 3 → (after_mdt s p0).stop ≡ None → is_some (after_mdt s p0).plan ≡ true → is_ready (member s k) (outcomes (after_mdt s p0) k) ≡ false →
+        is_idle (after_mdt s p0) k ≡ false
+    works_in_three k there three free planned fails = by (is_idle settled_p k) refl
+      where
+        in_three : p0.now.phase ≡ 3
+        in_three = sym (leaves s p0).phase ∙ three
+
+        checked : is_checked (member s k) (outcomes settled_p k) ≡ true
+        checked = ap (λ (l : List Outcome). is_checked (member s k) l) (same_outcomes k) ∙ configured s requests h k there (rw in_three refl)
+
+        unready : is_ready (member s k) (outcomes settled_p k) ≡ false
+        unready = ap (λ (l : List Outcome). is_ready (member s k) l) (same_outcomes k ∙ sym (mdt_adds s p0 k)) ∙ fails
+
+        by : (b : Bool) → is_idle settled_p k ≡ b → is_idle (after_mdt s p0) k ≡ false
+        by false busy = still_open has_next s p0 k busy
+        by true idle = opens has_next s p0 k (startup 3 more.0) (begins_so has_next s p0 k 3 more.0 free idle has_turn_so three next)
+          where
+            idle_before : is_none (open_in (begun_by (p0.calls k))) ≡ true
+            idle_before = ap (λ (calls : ℕ → List channel.Call). is_none (open_in (begun_by (calls k)))) (sym (leaves s p0).calls) ∙ idle
+
+            low : length (outcomes settled_p k) ≤ reads_count (member s k) + 13
+            low = subst (λ (l : List Outcome). length l ≤ reads_count (member s k) + 13) (sym (same_outcomes k))
+                (not_further has_next s k p0.plan (p0.waiting k) (begun_by (p0.calls k)) (p0.tasks k) (waits k)
+                (subst (λ (n : ℕ). AreBegunTasks s k p0.plan (p0.waiting k) n (begun_by (p0.calls k)) (p0.tasks k)) in_three (begun_then k there)) idle_before (quiet_at free k there))
+
+            more : (r : Request) × (next_in_3 (reads_count (member s k)) (is_some settled_p.plan) (min (length (outcomes settled_p k)) 100) (is_checked (member s k) (outcomes settled_p k)) (is_ready (member s k) (outcomes settled_p k)) ≡ Some r)
+            more = three_more (reads_count (member s k)) (outcomes settled_p k) (is_some settled_p.plan) _ _ (few_reads s k there lists) planned checked unready (long_enough (outcomes settled_p k) (reads_count (member s k)) checked) low
+
+            next : of_phase 3 (next_task s settled_p k) ≡ Some (startup 3 more.0)
+            next = next_3 s settled_p.plan (settled_p.waiting k) k (outcomes settled_p k) (min (length (outcomes settled_p k)) 100) (is_checked (member s k) (outcomes settled_p k)) (is_ready (member s k) (outcomes settled_p k)) (few_reads s k there lists) settled_waits refl refl refl
+                ∙ ap (option_map (startup 3)) more.1
+              where
+                settled_waits : AreWaiting (settled_p.waiting k)
+                settled_waits = subst AreWaiting (ap (λ (w : ℕ → List Task). w k) (sym (waiting_settled s p0))) (waits k)
+
+            has_turn_so : has_turn s settled_p k ≡ true
+            has_turn_so = rw three refl

@@ -70,7 +70,7 @@ module _ (s : Known) (k : ℕ) (plan : Option PlanView) (waiting : List Task) (h
   ready_more all (Some o) many = ready_stays (member s k) all o many
 
   -- how many requests were begun, if the check for phase 4 has ended well
-  count_so : (phase : ℕ) (begun : List Begun) (tasks : List Task) → AreBegunTasks s k plan waiting phase begun tasks → is_ready (member s k) (outcomes_in begun) ≡ true → count_requests tasks + (reads_count (member s k) + 13) ≡ length begun
+  pub count_so : (phase : ℕ) (begun : List Begun) (tasks : List Task) → AreBegunTasks s k plan waiting phase begun tasks → is_ready (member s k) (outcomes_in begun) ≡ true → count_requests tasks + (reads_count (member s k) + 13) ≡ length begun
   count_so phase [] [] are ready = let many = ready_long (member s k) [] ready in absurd (omega arith)
   count_so phase [] (t ∷ tasks) are ready = absurd are
   count_so phase (b ∷ older) [] are ready = absurd are

@@ -1,6 +1,6 @@
 ghost use Rattle.sercos_agenda.specs.Channels.{CallsAreMoves};
 ghost use Rattle.sercos_agenda.specs.Tasks.{BeginsTasks, EndsTasks, BeginsNoneEarly};
-ghost use Rattle.sercos_agenda.specs.Turns.{WorkInTurn, WorksInTwo, WorksInThree};
+ghost use Rattle.sercos_agenda.specs.Turns.{WorkInTurn, WorksInFour, WorksInThree, WorksInTwo};
 ghost use Rattle.sercos_agenda.specs.Reads.{ReadsWell};
 ghost use Rattle.sercos_agenda.specs.Writes.{WritesData, ConfiguresFromCheck, ConfiguresAtRise};
 ghost use Rattle.sercos_agenda.specs.Stops.{NoFitHasCause, RefusedHasCause, BadConfigHasCause, Check127HasCause, Check128HasCause};
@@ -18,8 +18,8 @@ pub fn channel_law()
 
 /// A law: the requests that were begun on a channel in an epoch are those of its agenda, each at its place, and each outcome is
 /// that of one of them. Nothing is begun in phases 0 and 1, and in phase 2 at most one channel has an open transfer. Without a stop
-/// one has after each MDT until all checks for phase 3 have ended well, and in phase 3 each has until its own check has. If there is
-/// a plan, each drive has answered all reads without error. From where the check for phase 3 has been begun, and up to phase 3,
+/// one has after each MDT until all checks for phase 3 have ended well; in phase 3 each has until its own check has, and in phase 4
+/// each as long as requests to its drive wait. If there is a plan, each drive has answered all reads without error. From where the check for phase 3 has been begun, and up to phase 3,
 /// each of the eleven writes of the plan was answered without error, and nothing newer writes to its identifier number.
 pub fn agenda_law()
     ensures tasks { BeginsTasks }
@@ -28,6 +28,7 @@ pub fn agenda_law()
     ensures turn { WorkInTurn }
     ensures two { WorksInTwo }
     ensures three { WorksInThree }
+    ensures four { WorksInFour }
     ensures reads { ReadsWell }
     ensures data { WritesData }
     ensures check { ConfiguresFromCheck }

@@ -17,7 +17,7 @@ use Rattle.sercos_trace.specs.Views.{CycleView}
 use Rattle.sercos_trace.specs.Texts.{header_text, cycle_text, end_text}
 use Rattle.sercos_trace.specs.Written.{Seen, HasTaken, HasFailed}
 use Rattle.sercos_trace.specs.declared.record.Totals.{Totals}
-use Rattle.sercos_app.proofs.PartLemmas.{taken_none, taken_then, failed_early, failed_later}
+use Rattle.sercos_trace.proofs.WriteLemmas.{taken_none, taken_then, failed_early, failed_later}
 use Rattle.sercos_script.specs.Links.{Carry, Restarts}
 use Rattle.sercos_journal.specs.Runs.{IsRun, run_of, next_record}
 use Rattle.sercos_app.specs.Totals.{totals_of, falls_in}

@@ -5,19 +5,20 @@ use Rattle.std.specs.Io.KnownBytes.{Appends, Consumes}
 use Rattle.sercos_model.specs.Streams.{Rose}
 use Rattle.sercos_io.specs.declared.status.Status.{Status}
 use Rattle.sercos_io.specs.declared.status.Status.TheVariants.{Done, No, BadWords, Refused, ReadFault, WriteFault, Memory, TooLong}
-use Rattle.sercos_app.specs.declared.form.Form.{Form}
-use Rattle.sercos_app.specs.declared.form.Form.TheVariants.{Show, Plan, Margin, Run, Check, Gen}
+use Rattle.sercos_words.specs.declared.form.Form.{Form}
+use Rattle.sercos_words.specs.declared.form.Form.TheVariants.{Show, Plan, Margin, Run, Check, Gen}
 use Rattle.sercos_script.specs.Links.{Carry, Restarts}
 use Rattle.sercos_app.specs.Answer.{command_answer, form_answer, answer_of, SaysWell}
-use Rattle.sercos_app.specs.Form.{form_of, reads_input}
-use Rattle.sercos_app.specs.Show.{show_answer, show_status, first_fault, lines_of}
-use Rattle.sercos_app.specs.Planning.{wishes_answer, document_answer, plan_answer, PlansItsRing}
-use Rattle.sercos_app.specs.Margins.{wishes_margins, document_margins, margin_answer, MeasuresItsRing}
+use Rattle.sercos_words.specs.Form.{form_of, reads_input}
+use Rattle.sercos_answer.specs.Lines.{lines_of}
+use Rattle.sercos_show.specs.Show.{show_answer, show_status, first_fault}
+use Rattle.sercos_planning.specs.Planning.{wishes_answer, document_answer, plan_answer, PlansItsRing}
+use Rattle.sercos_planning.specs.Margins.{wishes_margins, document_margins, margin_answer, MeasuresItsRing}
 use Rattle.sercos_app.specs.Journals.{journal_text}
 use Rattle.sercos_app.specs.Running.{carry_under, restarts_under, document_run, traced_answer, run_answer, RunsItsRing}
-use Rattle.sercos_app.specs.declared.verdict.Verdict.{Verdict}
-use Rattle.sercos_app.specs.declared.verdict.Verdict.TheVariants as verdict
-use Rattle.sercos_app.specs.Checking.{capture_fault, first_violation, verdict_by, verdict_of, verdict_status, verdict_text, check_answer}
+use Rattle.sercos_checking.specs.declared.verdict.Verdict.{Verdict}
+use Rattle.sercos_checking.specs.declared.verdict.Verdict.TheVariants as verdict
+use Rattle.sercos_checking.specs.Checking.{capture_fault, first_violation, verdict_by, verdict_of, verdict_status, verdict_text, check_answer}
 use Rattle.sercos_config.specs.Generated.{generated}
 use Rattle.sercos_app.specs.Generating.{gen_answer, RunsGenerated}
 use Rattle.sercos_timing.specs.Views.{WishesView, PlanView}
@@ -35,6 +36,7 @@ use Rattle.sercos_app.specs.Outcome.Writes.{whole, short}
 use Rattle.sercos_app.specs.Outcome.Stops.{no_form, unreadable, too_many, no_memory}
 use Rattle.sercos_app.specs.Outcome.Outcome.{stopped, answered}
 use Rattle.sercos_app.specs.TopCall.{writes_nothing, fault_status, ReadsWhole, IsInput, HasInput, TakesAtMost, TakesTooMany, IsAnswered, IsCutShort, IsAnswer, NonePlanned, LeastPlanned, MarginsTold, ChainTold, ViolationTold, CleanTold, RunTraced, RunSummed}
+use Rattle.sercos_journal.proofs.RunLemmas.{length-run_of}
 
 -- the statuses of answers
 data IsGiven : Status → Type 0 where
@@ -563,11 +565,6 @@ at_clean out e f =
     let whole = done_whole _ _ Check a.bytes _ _ a.ends e in
     told-clean _ _ a.bytes _ _ _ _ whole.0 a.input whole.1
 
--- what the answers of `run` say
-run_counts : (r : RingView) (jobs : List Job) (carry : Carry) (restarts : Restarts) (n : ℕ) → length (run_of r jobs carry restarts n) ≡ n
-run_counts r jobs carry restarts zero = refl
-run_counts r jobs carry restarts (suc n) = ap suc (run_counts r jobs carry restarts n)
-
 traced-read : (carry : Carry) (restarts : Restarts) (document : Result DocumentView BadDocument) → (traced_answer carry restarts document).status ≢ Refused
     → (d : DocumentView) × (document ≡ Ok d) × ((traced_answer carry restarts document).output ≡ journal_text (wishes_of d.setup) (document_run carry restarts d))
 unfolding traced_answer
@@ -588,7 +585,8 @@ traced-run carry restarts bytes left left' held held' says at input written =
       journal = document_run carry restarts d;
       run = (says d read).run;
       keeps = (says d read).keeps;
-      count = run_counts d.setup d.jobs (carry_under d carry) (restarts_under d restarts) d.setup.cycles;
+      starts = (says d read).starts;
+      count = length-run_of d.setup d.jobs (carry_under d carry) (restarts_under d restarts) d.setup.cycles;
       written = rw text at written;
     }
 
@@ -608,7 +606,8 @@ summed-run carry restarts n bytes held held' says written =
       journal = document_run carry restarts (generated n);
       run = says.run;
       keeps = says.keeps;
-      count = run_counts (generated n).setup (generated n).jobs (carry_under (generated n) carry) (restarts_under (generated n) restarts) (generated n).setup.cycles;
+      starts = says.starts;
+      count = length-run_of (generated n).setup (generated n).jobs (carry_under (generated n) carry) (restarts_under (generated n) restarts) (generated n).setup.cycles;
       written = written;
     }
 

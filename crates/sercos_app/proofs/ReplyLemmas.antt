@@ -5,11 +5,11 @@ use Rattle.sercos_app.specs.TopCall.{ReadsWhole}
 use Rattle.sercos_io.specs.declared.status.Status.TheVariants.{Memory}
 use Rattle.sercos_io.specs.declared.status.Status.{Status}
 use Rattle.sercos_script.specs.Links.{Carry, Restarts}
-use Rattle.sercos_app.specs.declared.form.Form.{Form}
+use Rattle.sercos_words.specs.declared.form.Form.{Form}
 use Rattle.sercos_app.specs.declared.given.Given.{Given}
-use Rattle.sercos_app.specs.Form.{form_of, reads_input}
+use Rattle.sercos_words.specs.Form.{form_of, reads_input}
 use Rattle.sercos_app.specs.Given.{Gives}
-use Rattle.sercos_app.specs.Show.{Answer}
+use Rattle.sercos_answer.specs.Answer.{Answer}
 use Rattle.sercos_app.specs.Answer.{command_answer, SaysWell}
 use Rattle.sercos_app.specs.Outcome.{SourceChange, SinkChange, GivesMade, Replies, TakesInput, Outcome}
 use Rattle.sercos_app.specs.Outcome.Replies.{none_found, replied}

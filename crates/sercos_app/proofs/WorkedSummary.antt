@@ -2,7 +2,7 @@
 use Rattle.std.proofs.Common.{◌≡◌, ◌++◌, codes, Some, None, refl}
 use Rattle.std.specs.Fmt.{digits}
 use Rattle.sercos_text.specs.Templates.{line_text, part_text, part_left, field_of, value_text}
-use Rattle.sercos_app.specs.Show.{line_feed}
+use Rattle.sercos_answer.specs.Answer.{line_feed}
 use Rattle.sercos_app.specs.Generating.{first_text, gen_line}
 
 of_one_drive : gen_line 1 (record { cycles = 398; phase = 4; complete = 1; refused = 0; broken = 0; falls = 0; unseen = 0; phase4 = Some 186 })

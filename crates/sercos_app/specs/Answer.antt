@@ -2,14 +2,15 @@
 -- it does to bits, and which stations it restarts.
 use Rattle.std.specs.Prelude.{ℕ, List, [], Option, Some, None}
 use Rattle.sercos_io.specs.declared.status.Status.TheVariants.{BadWords}
-use Rattle.sercos_app.specs.declared.form.Form.{Form}
-use Rattle.sercos_app.specs.declared.form.Form.TheVariants as forms
-use Rattle.sercos_app.specs.Form.{form_of}
-use Rattle.sercos_app.specs.Show.{Answer, show_answer}
-use Rattle.sercos_app.specs.Planning.{plan_answer, PlansItsRing}
-use Rattle.sercos_app.specs.Margins.{margin_answer, MeasuresItsRing}
+use Rattle.sercos_words.specs.declared.form.Form.{Form}
+use Rattle.sercos_words.specs.declared.form.Form.TheVariants as forms
+use Rattle.sercos_words.specs.Form.{form_of}
+use Rattle.sercos_answer.specs.Answer.{Answer}
+use Rattle.sercos_show.specs.Show.{show_answer}
+use Rattle.sercos_planning.specs.Planning.{plan_answer, PlansItsRing}
+use Rattle.sercos_planning.specs.Margins.{margin_answer, MeasuresItsRing}
 use Rattle.sercos_app.specs.Running.{run_answer, RunsItsRing}
-use Rattle.sercos_app.specs.Checking.{check_answer}
+use Rattle.sercos_checking.specs.Checking.{check_answer}
 use Rattle.sercos_app.specs.Generating.{gen_answer, RunsGenerated}
 use Rattle.sercos_script.specs.Links.{Carry, Restarts}
 

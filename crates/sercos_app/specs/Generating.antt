@@ -9,7 +9,7 @@ use Rattle.sercos_text.specs.Templates.Value.{number}
 use Rattle.sercos_trace.specs.declared.record.Totals.{Totals}
 use Rattle.sercos_journal.specs.Runs.{run_of}
 use Rattle.sercos_config.specs.Generated.{generated}
-use Rattle.sercos_app.specs.Show.{Answer, line_feed}
+use Rattle.sercos_answer.specs.Answer.{Answer, line_feed}
 use Rattle.sercos_app.specs.Totals.{totals_of}
 use Rattle.sercos_app.specs.Running.{carry_under, restarts_under, document_run, IsDocumentRun}
 

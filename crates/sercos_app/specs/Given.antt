@@ -6,7 +6,7 @@ use Rattle.sercos_document.specs.declared.refusal.BadDocument.TheVariants.{Memor
 use Rattle.sercos_document.specs.Lines.{line_of}
 use Rattle.sercos_app.specs.declared.given.Given.{Given}
 use Rattle.sercos_app.specs.declared.given.Given.TheVariants.{Reply, Refusal}
-use Rattle.sercos_app.specs.Show.{Answer}
+use Rattle.sercos_answer.specs.Answer.{Answer}
 
 abbrev pub given_status : Given → Status
 given_status (Reply reply) = reply.status

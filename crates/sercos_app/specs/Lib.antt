@@ -1,13 +1,3 @@
-pub mod Line
-pub mod SpelledLine
-pub mod Places
-pub mod Show
-pub mod Checking
-pub mod Taken
-pub mod Form
-pub mod CommandLine
-pub mod Planning
-pub mod Margins
 pub mod Totals
 pub mod Counting
 pub mod Journals

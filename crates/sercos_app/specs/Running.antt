@@ -9,11 +9,12 @@ use Rattle.sercos_script.specs.Scripts.{carried, restarts_at}
 use Rattle.sercos_trace.specs.Views.{CycleView}
 use Rattle.sercos_journal.specs.Runs.{IsRun, IsClear, run_of}
 use Rattle.sercos_headline.specs.Headline.{KeepsAll}
+use Rattle.sercos_undisturbed.specs.WholeRuns.{NeverDisturbed, StartsUp}
 use Rattle.sercos_document.specs.declared.refusal.BadDocument.{BadDocument}
 use Rattle.sercos_document.specs.Lines.{line_of}
 use Rattle.sercos_config.specs.Views.{DocumentView}
 use Rattle.sercos_config.specs.Document.{document_of}
-use Rattle.sercos_app.specs.Show.{Answer}
+use Rattle.sercos_answer.specs.Answer.{Answer}
 use Rattle.sercos_app.specs.Journals.{journal_text}
 
 -- The ring's link is the script of the document, followed by the link handed in.
@@ -44,10 +45,15 @@ run_answer carry restarts bytes = traced_answer carry restarts (document_of byte
 abbrev pub KeepsThroughout : RingView → List Job → Carry → Restarts → List CycleView → Type 0
 KeepsThroughout r jobs carry restarts run = (later : List CycleView) (t : CycleView) (j : List CycleView) → run ≡ later ++ t ∷ j → IsClear (t ∷ j) → KeepsAll r jobs carry restarts t j
 
+-- And in each cycle up to the first that is disturbed, the start-up goes as it should: phase 4 comes in time, or a stop for its cause.
+abbrev pub StartsThroughout : RingView → List Job → Carry → Restarts → List CycleView → Type 0
+StartsThroughout r jobs carry restarts run = (later : List CycleView) (t : CycleView) (j : List CycleView) → run ≡ later ++ t ∷ j → NeverDisturbed r carry restarts (t ∷ j) → StartsUp r jobs carry restarts t j
+
 -- The cycles of a document are a run, in which each is the next one after those before it, and they keep all this.
 pub record IsDocumentRun (carry : Carry) (restarts : Restarts) (d : DocumentView) : Type 0 where
   pub run : IsRun d.setup d.jobs (carry_under d carry) (restarts_under d restarts) (document_run carry restarts d)
   pub keeps : KeepsThroughout d.setup d.jobs (carry_under d carry) (restarts_under d restarts) (document_run carry restarts d)
+  pub starts : StartsThroughout d.setup d.jobs (carry_under d carry) (restarts_under d restarts) (document_run carry restarts d)
 
 -- what is written of a document is such a run
 abbrev pub RunsItsRing : Carry → Restarts → List ℕ → Type 0

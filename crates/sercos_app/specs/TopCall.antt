@@ -5,12 +5,13 @@ use Rattle.std.specs.Io.KnownBytes.{Appends, Consumes, IsAtEnd}
 use Rattle.sercos_io.specs.declared.status.Status.{Status}
 use Rattle.sercos_io.specs.declared.status.Status.TheVariants.{BadWords, Refused, ReadFault, WriteFault, Memory, TooLong}
 use Rattle.sercos_script.specs.Links.{Carry, Restarts}
-use Rattle.sercos_app.specs.Form.{form_of, reads_input}
+use Rattle.sercos_words.specs.Form.{form_of, reads_input}
 use Rattle.sercos_app.specs.Answer.{answer_of}
-use Rattle.sercos_app.specs.Show.{Answer, lines_of}
-use Rattle.sercos_app.specs.Planning.{plan_text, chain_text}
-use Rattle.sercos_app.specs.Margins.{TellsMargins, TellsChain}
-use Rattle.sercos_app.specs.Checking.{capture_fault, first_violation, violation_text, clean_text}
+use Rattle.sercos_answer.specs.Answer.{Answer}
+use Rattle.sercos_answer.specs.Lines.{lines_of}
+use Rattle.sercos_planning.specs.Planning.{plan_text, chain_text}
+use Rattle.sercos_planning.specs.Margins.{TellsMargins, TellsChain}
+use Rattle.sercos_checking.specs.Checking.{capture_fault, first_violation, violation_text, clean_text}
 use Rattle.sercos_timing.specs.Views.{PlanView}
 use Rattle.sercos_plan.specs.Least.{IsLeast, NoneFits}
 use Rattle.sercos_plan.specs.Views.{ChainView}
@@ -20,7 +21,7 @@ use Rattle.sercos_trace.specs.Views.{CycleView}
 use Rattle.sercos_trace.specs.Texts.{trace_of}
 use Rattle.sercos_journal.specs.Runs.{IsRun}
 use Rattle.sercos_app.specs.Totals.{totals_of}
-use Rattle.sercos_app.specs.Running.{carry_under, restarts_under, KeepsThroughout}
+use Rattle.sercos_app.specs.Running.{carry_under, restarts_under, KeepsThroughout, StartsThroughout}
 use Rattle.sercos_config.specs.Views.{DocumentView}
 use Rattle.sercos_config.specs.Document.{document_of}
 use Rattle.sercos_config.specs.Generated.{generated}
@@ -159,6 +160,7 @@ pub record RunTraced (carry : Carry) (restarts : Restarts) (left left' held held
   pub journal : List CycleView
   pub run : IsRun says.setup says.jobs (carry_under says carry) (restarts_under says restarts) journal
   pub keeps : KeepsThroughout says.setup says.jobs (carry_under says carry) (restarts_under says restarts) journal
+  pub starts : StartsThroughout says.setup says.jobs (carry_under says carry) (restarts_under says restarts) journal
   pub count : length journal ≡ says.setup.cycles
   pub written : Appends held held' (trace_of (wishes_of says.setup) (reverse journal) (totals_of (reverse journal)))
 
@@ -168,5 +170,6 @@ pub record RunSummed (carry : Carry) (restarts : Restarts) (n : ℕ) (held held'
   pub journal : List CycleView
   pub run : IsRun (generated n).setup (generated n).jobs (carry_under (generated n) carry) (restarts_under (generated n) restarts) journal
   pub keeps : KeepsThroughout (generated n).setup (generated n).jobs (carry_under (generated n) carry) (restarts_under (generated n) restarts) journal
+  pub starts : StartsThroughout (generated n).setup (generated n).jobs (carry_under (generated n) carry) (restarts_under (generated n) restarts) journal
   pub count : length journal ≡ (generated n).setup.cycles
   pub written : Appends held held' (gen_line n (totals_of (reverse journal)))

@@ -1,103 +1,12 @@
-// `check`: the verdict on a capture.
-ghost use Rattle.std.specs.Prelude.{◌≡◌, ◌<◌, ◌≤◌, ◌+◌, ◌^◌, List, ◌∷◌, length, map, IfNone};
-ghost use Rattle.sercos_trace.specs.declared.reading.Line.{Line};
-ghost use Rattle.sercos_trace.specs.declared.reading.Line.TheVariants.{Other};
-ghost use Rattle.sercos_check.specs.Shape.{HasShape};
-ghost use Rattle.sercos_check.specs.Tests.{can_follow};
-ghost use Rattle.sercos_check.specs.Verdicts.{plain, CheckerStandsFor};
-ghost use Rattle.sercos_app.specs.Checking.{read_as, column_of, verdict_of, verdict_status, verdict_text, check_answer};
+// `check`: the verdict on a capture is written.
+ghost use Rattle.std.specs.Prelude.{◌≡◌, ◌≤◌, length};
+ghost use Rattle.sercos_checking.specs.Checking.{verdict_of, verdict_status, verdict_text, check_answer};
 ghost use Rattle.sercos_app.specs.Outcome.{Replies, Writes, changed};
-ghost use Rattle.sercos_app.specs.Taken.{HasTaken, verdict_after};
 
 use crate::given::fault_status;
-use crate::lines::cut_line;
-use crate::verdict::{Verdict, verdict_line, verdict_on, verdict_status};
-use sercos_check::{Checker, shape_law, test_law};
+use sercos_checking::capture::verdict;
+use sercos_checking::{Verdict, verdict_line, verdict_status};
 use sercos_io::{Sink, Status, write_all};
-use sercos_trace::{Line, Reader};
-
-// Takes a line as a check of the shape alone does. Returns whether it can follow those before it. A telegram's line is taken as
-// the other line that is passed in, since a line is large and made slowly.
-fn follows(shape: &mut Checker, line: &Line, other: &Line) -> bool
-    requires lines { shape.old.lines < 2 ^ 31 }
-    requires other { other.now ≡ Other }
-    ensures value { (before : List Line) → CheckerStandsFor shape.old (map plain before) → HasShape before → result ≡ can_follow before line.now }
-    ensures stands { (before : List Line) → CheckerStandsFor shape.old (map plain before) → CheckerStandsFor shape.new (map plain (line.now ∷ before)) }
-{
-    shape_law();
-    test_law();
-    match line {
-        Line::Telegram { .. } => shape.line(other).is_ok(),
-        _ => shape.line(line).is_ok(),
-    }
-}
-
-// Takes the text of the next line. Returns the column at which it is refused.
-fn take(
-    shape: &mut Checker,
-    rules: &mut Checker,
-    reader: &mut Reader,
-    other: &Line,
-    text: &[u8],
-) -> Option<usize>
-    requires shape { shape.old.lines < 2 ^ 31 }
-    requires rules { rules.old.lines < 2 ^ 31 }
-    requires other { other.now ≡ Other }
-    ensures column { (before : List Line) → HasTaken shape.old rules.old before → result ≡ column_of before text.now }
-    ensures taken { (before : List Line) → HasTaken shape.old rules.old before → IfNone result (HasTaken shape.new rules.new (read_as text.now ∷ before)) }
-{
-    test_law();
-    if let Err(bad) = reader.read(text) {
-        return Some(bad.column);
-    }
-    let line = reader.line();
-    if !follows(shape, line, other) {
-        return Some(1);
-    }
-    // The checker keeps its first trouble.
-    let _trouble = rules.line(line);
-    None
-}
-
-// The verdict after the last line.
-fn ended(shape: &Checker, rules: &Checker) -> Verdict
-    ensures { (lines : List Line) → HasTaken shape.now rules.now lines → result ≡ verdict_after lines }
-{
-    shape_law();
-    if let Err(trouble) = shape.finish() {
-        return verdict_on(trouble);
-    }
-    match rules.finish() {
-        Ok(lines) => Verdict::Clean { lines },
-        Err(trouble) => verdict_on(trouble),
-    }
-}
-
-// The verdict on a capture. Two checkers go through it together, and no line is kept: a fault of grammar or shape is an answer
-// at once, and a violation only once all lines were seen.
-fn verdict(text: &[u8]) -> Verdict
-    requires { length text.now ≤ 1048576 }
-    ensures { result ≡ verdict_of text.now }
-{
-    let mut shape = Checker::new();
-    let mut rules = Checker::new();
-    let mut reader = Reader::new();
-    let other = Line::Other;
-    let mut rest = text;
-    let mut number = 1u32;
-    while !rest.is_empty() {
-        let (line, others) = cut_line(rest);
-        if let Some(column) = take(&mut shape, &mut rules, &mut reader, &other, line) {
-            return Verdict::Refused {
-                line: number,
-                column,
-            };
-        }
-        rest = others;
-        number += 1;
-    }
-    ended(&shape, &rules)
-}
 
 // Writes the line of a verdict, and returns its status, or that of a failed write.
 fn give_verdict<K: Sink>(verdict: Verdict, sink: &mut K) -> Status

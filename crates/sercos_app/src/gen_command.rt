@@ -21,6 +21,7 @@ use sercos_script::{BitLink, Both, Scripted};
 use sercos_step::Job;
 use sercos_text::{Given, Line, push_line};
 use sercos_trace::Totals;
+use sercos_undisturbed::undisturbed_law;
 use std::alloc::Global;
 
 // Appends the number of drives and of cycles.
@@ -148,6 +149,7 @@ pub fn answer_gen<L: BitLink, K: Sink>(alloc: Global, n: u8, link: L, sink: &mut
 {
     run_law();
     headline_law();
+    undisturbed_law();
     match generate(alloc, n) {
         Ok(document) => {
             show_opened(&document);

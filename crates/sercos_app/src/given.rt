@@ -5,7 +5,7 @@ ghost use Rattle.sercos_document.specs.Lines.{line_of};
 ghost use Rattle.sercos_app.specs.Outcome.{Writes, changed};
 ghost use Rattle.sercos_app.specs.TopCall.{fault_status};
 
-use crate::show::Reply;
+use sercos_answer::Reply;
 use sercos_config::{BadDocument, write_refusal};
 use sercos_io::{Sink, Status, write_all};
 use std::alloc::AllocError;

@@ -2,7 +2,7 @@
 ghost use Rattle.std.specs.Prelude.{◌≡◌, ◌≢◌, ◌≤◌, ◌<◌, ◌⊎◌, length, Some, None};
 ghost use Rattle.sercos_model.specs.Streams.{last_count};
 ghost use Rattle.sercos_app.specs.Answer.{answer_of};
-ghost use Rattle.sercos_app.specs.Form.{form_of};
+ghost use Rattle.sercos_words.specs.Form.{form_of};
 ghost use Rattle.sercos_app.specs.TopCall.{IsAnswer};
 
 use crate::top_call::sercos;

@@ -21,6 +21,7 @@ use sercos_ring::Ring;
 use sercos_script::{BitLink, Both, Scripted};
 use sercos_step::Job;
 use sercos_timing::Wishes;
+use sercos_undisturbed::undisturbed_law;
 use std::alloc::Global;
 
 /// How many cycles a ring runs: 1 to 50,000.
@@ -111,6 +112,7 @@ pub fn answer_run<L: BitLink, K: Sink>(alloc: Global, bytes: &[u8], link: L, sin
 {
     run_law();
     headline_law();
+    undisturbed_law();
     match read_ring(alloc, bytes) {
         Ok(document) => {
             show_opened(&document);

@@ -16,7 +16,7 @@ ghost use Rattle.sercos_app.specs.Counting.{HasRoom, IsFew, with_cycle};
 ghost use Rattle.sercos_app.specs.Journals.{HasMade, IsRingOf, OfRun, WritesCycles, journal_text};
 ghost use Rattle.sercos_app.specs.Totals.{totals_of};
 ghost use Rattle.sercos_app.specs.RunWriting.{WritesRun};
-ghost use Rattle.sercos_app.specs.Running.{KeepsThroughout};
+ghost use Rattle.sercos_app.specs.Running.{KeepsThroughout, StartsThroughout};
 
 use crate::counting::{count_made, no_totals};
 use sercos_block::ring_law;
@@ -28,6 +28,7 @@ use sercos_ring::{Ring, standing_law};
 use sercos_script::BitLink;
 use sercos_timing::Wishes;
 use sercos_trace::{CycleRecord, Totals, write_cycle, write_end, write_header};
+use sercos_undisturbed::undisturbed_law;
 
 // Writes the head of a trace.
 
@@ -123,7 +124,7 @@ fn write_whole<L: BitLink, K: Sink>(
 /// The ring has made no cycle, and the wishes are those of the setup with which it was opened; 1 to 50,000 cycles. After an error
 /// the sink has taken a prefix of the text, short of the whole, and its count of faults has risen. In both cases the ring stands
 /// for the cycles that it has made. If it was opened with what its types say, each cycle up to the first arrival that is unseen keeps
-/// all that `headline_law` says.
+/// all that `headline_law` says, and each up to the first that is disturbed all that `undisturbed_law` says of a start-up.
 pub fn write_run<L: BitLink, K: Sink>(
     ring: &mut Ring<L>,
     w: &Wishes,
@@ -141,11 +142,14 @@ pub fn write_run<L: BitLink, K: Sink>(
     ensures cause { HasCause (K.faults sink.old) (K.faults sink.new) result }
     ensures keeps { (r : RingView) (jobs : List Job) (carry : Carry) (restarts : Restarts) → RingStandsFor L.carry L.restart ring.old r jobs carry restarts []
         → IsOpened r jobs → KeepsThroughout r jobs carry restarts (run_of r jobs carry restarts cycles) }
+    ensures starts { (r : RingView) (jobs : List Job) (carry : Carry) (restarts : Restarts) → RingStandsFor L.carry L.restart ring.old r jobs carry restarts []
+        → IsOpened r jobs → StartsThroughout r jobs carry restarts (run_of r jobs carry restarts cycles) }
     ensures room { OfRun (RingStandsFor L.carry L.restart) ring.old cycles (λ run. length (journal_text w.now run) ≤ K.room sink.old → IsOk result) }
 {
     ring_law();
     run_law();
     headline_law();
+    undisturbed_law();
     standing_law::<L>();
     write_whole(ring, w, cycles, sink)
 }

@@ -2,24 +2,23 @@
 ghost use Rattle.std.specs.Prelude.{◌≡◌, ◌≢◌, ℕ, ◌≤◌, ◌⊎◌, true, false, List, length, Some, None, IsTrue, IfOk};
 ghost use Rattle.sercos_model.specs.Streams.{Rose};
 ghost use Rattle.sercos_app.specs.Answer.{answer_of, command_answer, SaysWell};
-ghost use Rattle.sercos_app.specs.Form.{form_of, reads_input, HasDrives};
+ghost use Rattle.sercos_words.specs.Form.{form_of, reads_input, HasDrives};
 ghost use Rattle.sercos_app.specs.Given.{Gives, IsWritable};
 ghost use Rattle.sercos_app.specs.Outcome.{Outcome, Replies, GivesMade, changed};
-ghost use Rattle.sercos_app.specs.Margins.{MeasuresItsRing, margin_answer};
-ghost use Rattle.sercos_app.specs.Planning.{PlansItsRing, plan_answer};
-ghost use Rattle.sercos_app.specs.Show.{show_answer};
+ghost use Rattle.sercos_planning.specs.Margins.{MeasuresItsRing, margin_answer};
+ghost use Rattle.sercos_planning.specs.Planning.{PlansItsRing, plan_answer};
+ghost use Rattle.sercos_show.specs.Show.{show_answer};
 ghost use Rattle.sercos_app.specs.TopCall.{writes_nothing, HasInput, TakesAtMost, TakesTooMany, IsAnswered, IsCutShort, IsAnswer, NonePlanned, LeastPlanned, MarginsTold, ChainTold, ViolationTold, CleanTold, RunTraced, RunSummed};
 
 use crate::check_command::answer_check;
-use crate::form::{Form, form_of};
 use crate::gen_command::answer_gen;
 use crate::given::{Given, give, refused};
-use crate::margin_command::margins;
-use crate::planning::plan;
 use crate::run_command::answer_run;
-use crate::show::show;
 use sercos_io::{ReadAll, Sink, Source, Status, Words, read_all};
+use sercos_planning::{margins, plan};
 use sercos_script::BitLink;
+use sercos_show::show::show;
+use sercos_words::{Form, form_of};
 use std::alloc::{AllocError, Global};
 
 // What `show` gives for an input.
@@ -87,7 +86,7 @@ fn answer_margin<K: Sink>(alloc: Global, bytes: &[u8], sink: &mut K) -> Status
 }
 
 // Whether a command reads its source.
-#[tactic(auto, unfolding(crate::specs::Form::reads_input))]
+#[tactic(auto, unfolding(sercos_words::specs::Form::reads_input))]
 fn reads_input(form: Form) -> bool
     ensures { result ≡ reads_input (Some form) }
 {

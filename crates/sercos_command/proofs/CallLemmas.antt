@@ -10,7 +10,7 @@ use Rattle.sercos_command.specs.Settings.{CommandsView, find_set, without, with_
 use Rattle.sercos_command.specs.Calls.{Call, Wrote, Other, Reset, settings, is_passed, newest, CommandsStandFor}
 use Rattle.sercos_command.proofs.SetLemmas.{commands-with_data, all_without, all_with_set}
 
-from_cancel_is : (first : Option ℕ) (at cycle : ℕ) → cycle ≤ at → is_from (from_cancel cycle first) at ≡ is_from first (min at cycle)
+pub from_cancel_is : (first : Option ℕ) (at cycle : ℕ) → cycle ≤ at → is_from (from_cancel cycle first) at ≡ is_from first (min at cycle)
 from_cancel_is None at cycle late = refl
 from_cancel_is (Some first) at cycle late = by (nat_le first cycle) refl
   where
@@ -22,12 +22,12 @@ or_false : (b : Bool) → b ≡ (b || false)
 or_false true = refl
 or_false false = refl
 
-from_setting_is : (first : Option ℕ) (at end : ℕ) → is_from (from_setting end first) at ≡ (nat_le end at || is_from first at)
+pub from_setting_is : (first : Option ℕ) (at end : ℕ) → is_from (from_setting end first) at ≡ (nat_le end at || is_from first at)
 from_setting_is None at end = or_false (nat_le end at)
 from_setting_is (Some first) at end = grind (arith, nat_tests)
 
 -- a write to a check, by whether it is a cancel, whether the check was not set, and whether it ends well
-by_write : (cancels new well : Bool) (at cycle time : ℕ) (first : Option ℕ) (now before : Bool) → cycle ≤ at → is_from first at ≡ now → is_from first (min at cycle) ≡ before
+pub by_write : (cancels new well : Bool) (at cycle time : ℕ) (first : Option ℕ) (now before : Bool) → cycle ≤ at → is_from first at ≡ now → is_from first (min at cycle) ≡ before
     → is_from (cond cancels (from_cancel cycle first) (cond (new && well) (from_setting (cycle + time) first) first)) at
     ≡ cond cancels before ((new && (well && nat_le (cycle + time) at)) || now)
 by_write true new well at cycle time first now before late n b = from_cancel_is first at cycle late ∙ b

@@ -1,4 +1,4 @@
 mod SetLemmas
-mod CallLemmas
+pub mod CallLemmas
 mod CheckLemmas
 mod Worked

@@ -34,7 +34,7 @@ refused_error r a h code is = by a.error (is_whole r (answer_words h ++ a.word �
     by false false bytes is = absurd (cc)
 
 -- a read of the data status isn't refused while a number is open
-selects_status : (t : Taken) (all : List Entry) → (t.step.element == 1) ≡ true → ((selection t (run_before false 1 all)).step.element == 1) ≡ true
+pub selects_status : (t : Taken) (all : List Entry) → (t.step.element == 1) ≡ true → ((selection t (run_before false 1 all)).step.element == 1) ≡ true
 selects_status t [] first = first
 selects_status t (e ∷ all) first =
     by (beq e.taken.step.write false) (e.taken.step.element == 1) (not e.taken.step.last && not e.answer.error) refl (selects_status e.taken all)
@@ -46,7 +46,7 @@ selects_status t (e ∷ all) first =
     by true false w is behind = first
     by false v w is behind = first
 
-reads_well : (raw : ℕ) (t : Taken) (all : List Entry) → t.step ≡ a_step false true 1 0 → open_idn all ≡ Some raw → (reply_of t all).error ≡ false
+pub reads_well : (raw : ℕ) (t : Taken) (all : List Entry) → t.step ≡ a_step false true 1 0 → open_idn all ≡ Some raw → (reply_of t all).error ≡ false
 reads_well raw t all is opened =
     let first = selects_status t all (ap (λ (s : Step). s.element == 1) is) in
     let s : Taken = selection t (run_before false 1 all) in

@@ -53,7 +53,7 @@ commanded v past is = elim (chosen v.master_restarts 0 (command past)) [
   | inr on ↦ inr (on.0, is ∙ on.1)
 ]
 
-unless_restart-on : {A : Type 0} (v : View) (xs : List A) → v.master_restarts ≡ false → unless_restart v xs ≡ xs
+pub unless_restart-on : {A : Type 0} (v : View) (xs : List A) → v.master_restarts ≡ false → unless_restart v xs ≡ xs
 unless_restart-on v xs on = cond-false v.master_restarts [] xs on
 
 unless_restart-none : {A : Type 0} (v : View) (xs : List A) → (v.master_restarts ≡ false → xs ≡ []) → unless_restart v xs ≡ []

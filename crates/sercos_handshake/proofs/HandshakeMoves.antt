@@ -73,7 +73,7 @@ ahs-shown busy cycle bit change [] = refl
 ahs-shown busy cycle bit change (e ∷ log) = ahs-shown_so bit change e (nat_le (cycle - e.taken.cycle) busy)
 
 -- a status with the other bit answers nothing, and where no step is open none does
-quiet_none : (begun : List Begun) (status : Status) → open_in begun ≡ None → answers_it begun status ≡ false
+pub quiet_none : (begun : List Begun) (status : Status) → open_in begun ≡ None → answers_it begun status ≡ false
 quiet_none begun status none = rw none refl
 
 pub quiet_bit : (begun : List Begun) (log : List Entry) (s : Step) (status : Status) → steps_in begun ≡ s ∷ steps_of log → status.ahs ≡ is_odd log → open_in begun ≡ Some s → answers_it begun status ≡ false

@@ -52,7 +52,7 @@ pub data Stage (idn : Idn) (bytes : List ℕ) (b : Block) (words : List ℕ) (al
   AtWord : (w : ℕ) (more : List ℕ) (taken : List Taken) (word : ℕ) (rest : List ℕ) → words ≡ w ∷ low_of b ∷ high_of b ∷ more → length more ≡ length taken → open_idn all ≡ Some idn.raw →
       run_before true 7 all ≡ taken → in_order taken (word ∷ rest) ≡ told b bytes → Stage idn bytes b words all
 
-abbrev is_nil : List ℕ → Bool
+abbrev pub is_nil : List ℕ → Bool
 is_nil [] = true
 is_nil (w ∷ ws) = false
 
@@ -78,13 +78,13 @@ module _ (idn : Idn) (bytes : List ℕ) (b : Block) (said : shape_of 7 (low_of b
   asked = request.Write idn 7 bytes
 
   -- the next step
-  next_opening : (words : List ℕ) (s : Step) → words ≡ [] → slice_get (steps_of asked words) (length words) ≡ Some s → s ≡ opening idn
+  pub next_opening : (words : List ℕ) (s : Step) → words ≡ [] → slice_get (steps_of asked words) (length words) ≡ Some s → s ≡ opening idn
   next_opening words s is next = some_same (opening idn) s (rw is at next)
 
-  next_low : (words : List ℕ) (s : Step) (w : ℕ) → words ≡ w ∷ [] → slice_get (steps_of asked words) (length words) ≡ Some s → s ≡ a_step false false 3 0
+  pub next_low : (words : List ℕ) (s : Step) (w : ℕ) → words ≡ w ∷ [] → slice_get (steps_of asked words) (length words) ≡ Some s → s ≡ a_step false false 3 0
   next_low words s w is next = some_same (a_step false false 3 0) s (rw is at next)
 
-  next_high : (words : List ℕ) (s : Step) (w x : ℕ) → words ≡ w ∷ x ∷ [] → slice_get (steps_of asked words) (length words) ≡ Some s → s ≡ a_step false true 3 0
+  pub next_high : (words : List ℕ) (s : Step) (w x : ℕ) → words ≡ w ∷ x ∷ [] → slice_get (steps_of asked words) (length words) ≡ Some s → s ≡ a_step false true 3 0
   next_high words s w x is next = some_same (a_step false true 3 0) s (rw is at next)
 
   steps_known : (w : ℕ) (more : List ℕ) → steps_of asked (w ∷ low_of b ∷ high_of b ∷ more) ≡ opening idn ∷ a_step false false 3 0 ∷ a_step false true 3 0 ∷ run true 7 (told b bytes)
@@ -94,7 +94,7 @@ module _ (idn : Idn) (bytes : List ℕ) (b : Block) (said : shape_of 7 (low_of b
   first_of word [] = refl
   first_of word (v ∷ rest) = refl
 
-  next_word : (words : List ℕ) (s : Step) (w : ℕ) (more : List ℕ) (taken : List Taken) (word : ℕ) (rest : List ℕ) → words ≡ w ∷ low_of b ∷ high_of b ∷ more → length more ≡ length taken →
+  pub next_word : (words : List ℕ) (s : Step) (w : ℕ) (more : List ℕ) (taken : List Taken) (word : ℕ) (rest : List ℕ) → words ≡ w ∷ low_of b ∷ high_of b ∷ more → length more ≡ length taken →
       in_order taken (word ∷ rest) ≡ told b bytes → slice_get (steps_of asked words) (length words) ≡ Some s → s ≡ a_step true (is_nil rest) 7 word
   next_word words s w more taken word rest is count ordered next =
       let at : slice_get (steps_of asked words) (length words) ≡ slice_get (run true 7 (told b bytes)) (length more) =

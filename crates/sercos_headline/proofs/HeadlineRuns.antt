@@ -158,7 +158,7 @@ module _ (laws : Laws) (more : MoreLaws) (r : RingView) (jobs : List Job) (carry
   all_stand (t ∷ j) (run, next) (before, clear) =
       all_next laws r jobs carry restarts opened first_store t j next clear (spelled_in t j next) (stored_in t j) (all_stand j run before)
 
-  well : (j : List CycleView) → IsRun r jobs carry restarts j → IsClear j → AllWell laws more.stop_laws r jobs carry restarts opened first_store j
+  pub well : (j : List CycleView) → IsRun r jobs carry restarts j → IsClear j → AllWell laws more.stop_laws r jobs carry restarts opened first_store j
   well [] run clear = λ k below. well_first r jobs carry restarts k
   well (t ∷ j) (run, next) (before, clear) =
       all_well laws more.stop_laws r jobs carry restarts opened first_store t j next clear (spelled_in t j next) (stored_in t j) (all_stand j run before) (all_stand (t ∷ j) (run, next) (before, clear)) (well j run before)

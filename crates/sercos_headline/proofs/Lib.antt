@@ -3,6 +3,6 @@ mod Placed
 mod ApartRuns
 pub mod ApartCycles
 mod StopReads
-mod StopRuns
+pub mod StopRuns
 pub mod WellRuns
 pub mod HeadlineRuns

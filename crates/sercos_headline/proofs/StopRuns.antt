@@ -52,7 +52,6 @@ use Rattle.sercos_views.proofs.Members.{member_is, members_count}
 use Rattle.sercos_held.specs.Opened.{IsOpened}
 use Rattle.sercos_held.specs.Stored.{AreStored}
 use Rattle.sercos_held.proofs.AnsweredRuns.{is_read_request, as_read, read_of, read_answers, answered_by, entries_stored}
-use Rattle.sercos_held.proofs.HoldsRuns.{got_below}
 use Rattle.sercos_held.proofs.Runs.{Laws, drive_got, wishes_so}
 use Rattle.sercos_headline.proofs.StopReads.{StopsSo, OfOutcome, WithReads, stops_so}
 
@@ -145,7 +144,7 @@ module _ (laws : Laws) (ring_valid : RingIsValid) (no_stops : NoAttributeStops) 
     where
       each : (n : ℕ) (x : Request) → slice_get (reads (member (known_of r) k)) n ≡ Some x → (o : Outcome) × (slice_get (outcomes now k) n ≡ Some o) × IsAnswer (drive_at r k) x o
       each n x got =
-          let less = got_below (reads (member (known_of r) k)) n x got in
+          let less = slice_get_within (reads (member (known_of r) k)) n x got in
           let long = reads_length (member (known_of r) k) in
           let early : n < reads_count (member (known_of r) k) = omega (arith, less, long) in
           let (bytes, complete) = whole k (place_inside k below) n early in

@@ -40,8 +40,9 @@ use Rattle.sercos_agenda.specs.Writes.{start_numbers, WritesData}
 use Rattle.sercos_views.proofs.Members.{members_count}
 use Rattle.sercos_views.proofs.Received.{Agrees}
 use Rattle.sercos_held.specs.Held.{AreHeld}
-use Rattle.sercos_held.proofs.HoldsRuns.{held_at, got_below}
+use Rattle.sercos_held.proofs.HoldsRuns.{held_at}
 use Rattle.sercos_held.proofs.Laid.{records_of, records_concat, records_take, records_lengths}
+use Rattle.std.proofs.lemmas.Option.{slice_get_within}
 
 -- a place of the ring has a wish
 wishes_count : (r : RingView) → length (wishes_of r).drives ≡ length r.drives
@@ -126,7 +127,7 @@ held_holds newest write_data writes_start whole r plan k d views valid_ring vali
     each : (i : ℕ) (v : ℕ × List ℕ) → slice_get (map written_by (writes (known_of r) plan k)) i ≡ Some v → data_at (store_in (store_of d) views) v.0 ≡ v.1
     each i v got =
         let (q, there, is) = got_mapped (writes (known_of r) plan k) i v got in
-        let less = got_below (writes (known_of r) plan k) i q there in
+        let less = slice_get_within (writes (known_of r) plan k) i q there in
         let (w, bytes, write, number) = write_data (known_of r) plan k i less in
         let one : q ≡ request.Write w 7 bytes = cc in
         let pair : v ≡ (w.raw, bytes) = is ∙ ap written_by one in

@@ -45,7 +45,7 @@ use Rattle.sercos_agenda.proofs.AgendaTasks.{mapped}
 use Rattle.sercos_views.specs.RingViews.{views_of}
 use Rattle.sercos_views.proofs.ViewRuns.{Sees}
 use Rattle.sercos_held.specs.Stored.{IsStored, AreStored}
-use Rattle.sercos_held.proofs.HoldsRuns.{got_below}
+use Rattle.std.proofs.lemmas.Option.{slice_get_within}
 
 -- each accepted step was accepted on a store of the drive
 abbrev pub EntriesStored : DriveView → List Entry → Type 0
@@ -192,7 +192,7 @@ reads_answered ends well r jobs carry restarts k j blocks plan below exact small
 
     each : (n : ℕ) (x : Request) → slice_get (reads (member (known_of r) k)) n ≡ Some x → (o : Outcome) × (slice_get (outcomes (looks_back r jobs (master_calls r carry restarts j)) k) n ≡ Some o) × IsAnswer (drive_at r k) x o
     each n x got =
-        let less = got_below (reads m) n x got in
+        let less = slice_get_within (reads m) n x got in
         let long = reads_length m in
         let early : n < reads_count m = omega (arith, less, long) in
         let (bytes, complete) = well (known_of r) (tasks_for (known_of r) jobs) (master_calls r carry restarts j) plan has k below n early in

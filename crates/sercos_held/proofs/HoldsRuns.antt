@@ -30,8 +30,9 @@ use Rattle.sercos_journal.specs.Runs.{drive_at, master_calls, looks_back, IsNext
 use Rattle.sercos_agenda.specs.Writes.{start_numbers, IsConfigured, WritesData, ConfiguresAtRise}
 use Rattle.sercos_views.specs.RingViews.{at_start, behind_mdt, view_of, views_of}
 use Rattle.sercos_views.proofs.ViewRuns.{Sees, command_below}
-use Rattle.sercos_held.specs.Held.{IsHeld, AreHeld, HoldsPlan, AreProtected}
+use Rattle.sercos_held.specs.Held.{AreHeld, AreProtected, HoldsThePlan, IsHeld}
 use Rattle.sercos_held.proofs.PlanStays.{end_plan, plan_kept}
+use Rattle.std.proofs.lemmas.Option.{slice_get_within}
 
 -- each of some requests, by its place
 pub held_by : (blocks : List Block) (own : List Write) (requests : List Request) → ((i : ℕ) (r : Request) → slice_get requests i ≡ Some r → IsHeld blocks own r) → AreHeld blocks own requests
@@ -42,11 +43,6 @@ pub held_at : (blocks : List Block) (own : List Write) (requests : List Request)
 held_at blocks own [] i r held got = absurd (cc)
 held_at blocks own (x ∷ requests) zero r held got = let same : x ≡ r = cc in subst (λ (y : Request). IsHeld blocks own y) same held.0
 held_at blocks own (x ∷ requests) (suc i) r held got = held_at blocks own requests i r held.1 got
-
-pub got_below : {A : Type 0} (xs : List A) (i : ℕ) (x : A) → slice_get xs i ≡ Some x → i < length xs
-got_below [] i x got = absurd (cc)
-got_below (y ∷ xs) zero x got = omega arith
-got_below (y ∷ xs) (suc i) x got = let less = got_below xs i x got in omega arith
 
 protected_at : (blocks : List Block) (numbers : List ℕ) (i raw : ℕ) → AreProtected blocks numbers → slice_get numbers i ≡ Some raw → (b : Block) → find_block raw blocks ≡ Some b → (is_protected b.attribute 3 ≡ true) × (is_protected b.attribute 4 ≡ true)
 protected_at blocks [] i raw are got b found = absurd (cc)
@@ -67,7 +63,7 @@ each_write write_data s plan k blocks own each = held_by blocks own (writes s pl
   where
     one : (i : ℕ) (r : Request) → slice_get (writes s plan k) i ≡ Some r → IsHeld blocks own r
     one i r got =
-        let less = got_below (writes s plan k) i r got in
+        let less = slice_get_within (writes s plan k) i r got in
         let long = eleven s plan k in
         let (w, bytes, there, number) = write_data s plan k i (omega (arith, less, long)) in
         subst (λ (x : Request). IsHeld blocks own x) (same_request (request.Write w 7 bytes) r (sym there ∙ got)) (each i w bytes there number)
@@ -77,7 +73,7 @@ module _ (write_data : WritesData) (configures : ConfiguresAtRise) (stays_writte
     (blocks : List Block) (small : AreSmall blocks) (guarded : AreProtected blocks start_numbers) where
   -- where phase 3 is commanded next
   rises_held : (j : List CycleView) → Sees r jobs carry restarts k j → AreSound blocks (views_of r jobs carry restarts k j) → (looks_back r jobs (master_calls r carry restarts j)).now.phase ≡ 3
-      → HoldsPlan (known_of r) k blocks (looks_back r jobs (master_calls r carry restarts j)) (all_writes (views_of r jobs carry restarts k j))
+      → HoldsThePlan (known_of r) k blocks (looks_back r jobs (master_calls r carry restarts j)) (all_writes (views_of r jobs carry restarts k j))
   rises_held j sees sound three late =
       let p = looks_back r jobs (master_calls r carry restarts j) in
       let done = configured (known_of r) (tasks_for (known_of r) jobs) (master_calls r carry restarts j) k below (grind (arith, nat_tests, late)) in
@@ -102,8 +98,8 @@ module _ (write_data : WritesData) (configures : ConfiguresAtRise) (stays_writte
 
   -- from the end of a cycle to that of the next
   pub holds_next : (t : CycleView) (j : List CycleView) → IsNext r jobs carry restarts t j → Sees r jobs carry restarts k j → Sees r jobs carry restarts k (t ∷ j) → AreSound blocks (views_of r jobs carry restarts k (t ∷ j))
-      → HoldsPlan (known_of r) k blocks (looks_back r jobs (master_calls r carry restarts j)) (all_writes (views_of r jobs carry restarts k j))
-      → HoldsPlan (known_of r) k blocks (looks_back r jobs (master_calls r carry restarts (t ∷ j))) (all_writes (views_of r jobs carry restarts k (t ∷ j)))
+      → HoldsThePlan (known_of r) k blocks (looks_back r jobs (master_calls r carry restarts j)) (all_writes (views_of r jobs carry restarts k j))
+      → HoldsThePlan (known_of r) k blocks (looks_back r jobs (master_calls r carry restarts (t ∷ j))) (all_writes (views_of r jobs carry restarts k (t ∷ j)))
   holds_next t j next before sees sound holds late = elim (cases_eq (looks_back r jobs (master_calls r carry restarts (t ∷ j))).now.phase 3) [
     | inl three ↦ rises_held (t ∷ j) sees sound three late
     | inr other ↦ fourth (omega (arith, late, other))
@@ -143,5 +139,5 @@ module _ (write_data : WritesData) (configures : ConfiguresAtRise) (stays_writte
           )
 
 -- before the first cycle
-pub holds_first : (r : RingView) (jobs : List Job) (k : ℕ) (blocks : List Block) (own : List Write) → HoldsPlan (known_of r) k blocks (looks_back r jobs []) own
+pub holds_first : (r : RingView) (jobs : List Job) (k : ℕ) (blocks : List Block) (own : List Write) → HoldsThePlan (known_of r) k blocks (looks_back r jobs []) own
 holds_first r jobs k blocks own late = absurd (omega (arith, late))

@@ -58,7 +58,7 @@ use Rattle.sercos_views.proofs.DriveSame.{IsSame, standing_at}
 use Rattle.sercos_typed.proofs.Plans.{ring_known, ring_timed, all_members}
 use Rattle.sercos_typed.proofs.Steps.{AreBegun}
 use Rattle.sercos_typed.proofs.Begun.{tasks_so, IsTypedPast, typed_past}
-use Rattle.sercos_held.specs.Held.{AreHeld, HoldsPlan, AreProtected}
+use Rattle.sercos_held.specs.Held.{AreHeld, AreProtected, HoldsThePlan}
 use Rattle.sercos_held.specs.Stored.{IsStored, AreStored}
 use Rattle.sercos_held.specs.Opened.{IsOpened}
 use Rattle.sercos_held.proofs.HoldsRuns.{holds_next, holds_first}
@@ -103,7 +103,7 @@ pub record Stands (r : RingView) (jobs : List Job) (carry : Carry) (restarts : R
   pub sees : Sees r jobs carry restarts k j
   pub sound : AreSound (store_of (drive_at r k)) (views_of r jobs carry restarts k j)
   pub stored : AreStored (drive_at r k) (views_of r jobs carry restarts k j)
-  pub holds : HoldsPlan (known_of r) k (store_of (drive_at r k)) (looks_back r jobs (master_calls r carry restarts j)) (all_writes (views_of r jobs carry restarts k j))
+  pub holds : HoldsThePlan (known_of r) k (store_of (drive_at r k)) (looks_back r jobs (master_calls r carry restarts j)) (all_writes (views_of r jobs carry restarts k j))
 
 abbrev pub AllStand : RingView → List Job → Carry → Restarts → List CycleView → Type 0
 AllStand r jobs carry restarts j = (k : ℕ) → k < length r.drives → Stands r jobs carry restarts j k

@@ -25,8 +25,8 @@ AreHeld blocks writes (r ∷ requests) = IsHeld blocks writes r × AreHeld block
 
 -- If phase 3 or 4 is commanded next, the master has a plan, and the newest write of the drive to each identifier number of the
 -- start-up is that of this plan, whether or not the drive has fallen since.
-abbrev pub HoldsPlan : Known → ℕ → List Block → Past → List Write → Type 0
-HoldsPlan s k blocks p own = 3 ≤ p.now.phase → (plan : PlanView) × (p.plan ≡ Some plan) × AreHeld blocks own (writes s plan k)
+abbrev pub HoldsThePlan : Known → ℕ → List Block → Past → List Write → Type 0
+HoldsThePlan s k blocks p own = 3 ≤ p.now.phase → (plan : PlanView) × (p.plan ≡ Some plan) × AreHeld blocks own (writes s plan k)
 
 -- the blocks with these numbers are write protected in phases 3 and 4
 abbrev pub AreProtected : List Block → List ℕ → Type 0

@@ -36,7 +36,7 @@ heard-clear carry p content whole clear = by (arrival carry p content) clear
     by None clear = inl refl
     by (Some came) clear = came_as came (are_same came (frame_of content)) refl clear
 
-are_same-refl : (bits : List Bool) → are_same bits bits ≡ true
+pub are_same-refl : (bits : List Bool) → are_same bits bits ≡ true
 are_same-refl [] = refl
 are_same-refl (true ∷ bits) = are_same-refl bits
 are_same-refl (false ∷ bits) = are_same-refl bits

@@ -707,7 +707,7 @@ due_planned s p e = by (p.now.phase == 2) (is_none p.stop) p.plan e
     by true false o f = refl
     by false b o f = refl
 
-none_of_some : {A : Type 0} (o : Option A) → is_some o ≡ true → is_none o ≡ false
+pub none_of_some : {A : Type 0} (o : Option A) → is_some o ≡ true → is_none o ≡ false
 none_of_some None e = absurd (false≢true e)
 none_of_some (Some x) e = refl
 

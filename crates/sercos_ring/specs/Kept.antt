@@ -12,6 +12,7 @@ use Rattle.sercos_script.specs.Links.{Carry, Restarts}
 use Rattle.sercos_journal.specs.Runs.{drive_at, master_calls, given_before, IsNext, IsRun, IsClear}
 use Rattle.sercos_held.specs.Opened.{IsOpened}
 use Rattle.sercos_headline.specs.Headline.{KeepsAll}
+use Rattle.sercos_undisturbed.specs.WholeRuns.{NeverDisturbed, StartsUp}
 use Rattle.sercos_ring.specs.Stations.{AllStand, addresses_below}
 use Rattle.sercos_ring.specs.Parts.{PartsStandFor}
 use Rattle.sercos_ring.specs.declared.ring.Ring.{Ring}
@@ -81,3 +82,8 @@ pub record IsNextOf {L : Type 0} (carry_of : L → Carry) (restart_of : L → Re
 pub record KeepsAllOf {L : Type 0} (carry_of : L → Carry) (restart_of : L → Restarts) (ring : Ring L) (made : CycleView) : Type 0 where
   pub keeps : (r : RingView) (jobs : List Job) (carry : Carry) (restarts : Restarts) (j : List CycleView)
       → RingStandsFor carry_of restart_of ring r jobs carry restarts j → IsOpened r jobs → IsClear (made ∷ j) → KeepsAll r jobs carry restarts made j
+
+-- And what holds of it if no cycle of the run was disturbed so far.
+pub record StartsUpOf {L : Type 0} (carry_of : L → Carry) (restart_of : L → Restarts) (ring : Ring L) (made : CycleView) : Type 0 where
+  pub starts : (r : RingView) (jobs : List Job) (carry : Carry) (restarts : Restarts) (j : List CycleView)
+      → RingStandsFor carry_of restart_of ring r jobs carry restarts j → IsOpened r jobs → NeverDisturbed r carry restarts (made ∷ j) → StartsUp r jobs carry restarts made j

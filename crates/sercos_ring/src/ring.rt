@@ -33,6 +33,7 @@ use sercos_master::AnyMaster;
 use sercos_script::BitLink;
 use sercos_step::Job;
 use sercos_trace::{CycleRecord, Events, Move, Sent};
+use sercos_undisturbed::undisturbed_law;
 use std::alloc::{AllocError, Global};
 
 /// A ring: its drives, its master, and the links between them.
@@ -211,7 +212,7 @@ impl<L: BitLink> Ring<L> {
     ghost use Rattle.std.specs.Borrow.{follows_so};
     ghost use mathlib.Core.Option.{none};
     ghost use Rattle.sercos_ring.specs.contracts.ring.Ring.{the_row};
-    ghost use Rattle.sercos_ring.specs.Kept.{AfterCycle, AfterTurn, IsNextOf, KeepsAllOf, RingStandsFor, cycles_made, drives_in, newest};
+    ghost use Rattle.sercos_ring.specs.Kept.{AfterCycle, AfterTurn, IsNextOf, KeepsAllOf, RingStandsFor, StartsUpOf, cycles_made, drives_in, newest};
 
     /// Opens a ring of a valid setup that has made no cycle, over a link, with at most 4,096 requests, each of an element that a
     /// transfer takes. A request to an address that no drive of the setup has is never begun. `AllocError` is returned if memory
@@ -293,13 +294,19 @@ impl<L: BitLink> Ring<L> {
     /// Whatever the link does, as long as nothing was unseen: if phase 3 or 4 is commanded, the telegrams are apart and keep the
     /// times that the drives declare; no drive stands later than the later phase commanded in this cycle or the one before; and
     /// all transfers so far are exact, and told once and in order.
+    ///
+    /// As long as no cycle was disturbed: no fall is told, and no request as broken. Phase 4 is commanded from the cycle on that
+    /// `startup_bound` says, and stays, exactly if a plan fits, the cycle time lies within each drive's limits, and no own block of a
+    /// drive was outside its limits at opening. Otherwise a stop for its cause is told at most 41 steps of the slowest drive later.
     pub fn cycle(&mut self) -> &CycleRecord
         requires room { cycles_made self.old < 2 ^ 31 }
         ensures* after { sem 𝓛 (follows_so (the_row L.row) (the_row L.row) self.entry.ghost_name none (λ _ _. ⊤) (λ new. AfterCycle L.carry L.restart self.old new × (result.now ≡ newest new))) }
         ensures next { IsNextOf L.carry L.restart self.old result.now }
         ensures headline { KeepsAllOf L.carry L.restart self.old result.now }
+        ensures undisturbed { StartsUpOf L.carry L.restart self.old result.now }
     {
         headline_law();
+        undisturbed_law();
         self.go();
         &self.record
     }

@@ -262,7 +262,7 @@ ended_there [] i e = absurd (false≢true e)
 ended_there (o ∷ outcomes) zero e = omega arith
 ended_there (o ∷ outcomes) (suc i) e = let h : i < length outcomes = ended_there outcomes i e in omega (arith, h)
 
-not_checked : (outcomes : List Outcome) (i : ℕ) → length outcomes ≤ i → ended_well (given outcomes i) ≡ false
+pub not_checked : (outcomes : List Outcome) (i : ℕ) → length outcomes ≤ i → ended_well (given outcomes i) ≡ false
 not_checked [] i h = refl
 not_checked (o ∷ outcomes) zero h = absurd (omega (arith, h))
 not_checked (o ∷ outcomes) (suc i) h = not_checked outcomes i (omega (arith, h))

@@ -40,7 +40,7 @@ pub record IsPartAt (log : List Entry) (b : Begun) : Type 0 where
   pub split : log ≡ front ++ (part ++ rest)
   pub is : IsPart b part
 
-part_at : (newer older : List Begun) (b : Begun) (log : List Entry) → AreParts (newer ++ b ∷ older) log → IsPartAt log b
+pub part_at : (newer older : List Begun) (b : Begun) (log : List Entry) → AreParts (newer ++ b ∷ older) log → IsPartAt log b
 part_at [] older b log (part, rest, those, is, others) = record { front = []; part = part; rest = rest; split = those; is = is }
 part_at (x ∷ newer) older b log (part, rest, those, is, others) =
     let more = part_at newer older b rest others in

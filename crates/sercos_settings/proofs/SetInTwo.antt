@@ -30,7 +30,7 @@ use Rattle.sercos_startup.specs.Later.{IsProtectedLater}
 use Rattle.sercos_settings.proofs.Givers.{IsGiven, gives_newest, given_heard}
 
 -- if a write isn't refused, the block isn't write protected
-bare : (o : Option Block) (phase : ℕ) (bytes : List ℕ) (a : Attribute) → option_map (λ (b : Block). b.attribute) o ≡ Some a → put_fault o phase bytes ≡ None → is_protected a phase ≡ false
+pub bare : (o : Option Block) (phase : ℕ) (bytes : List ℕ) (a : Attribute) → option_map (λ (b : Block). b.attribute) o ≡ Some a → put_fault o phase bytes ≡ None → is_protected a phase ≡ false
 bare None phase bytes a has none = absurd (cc)
 bare (Some b) phase bytes a has none =
     let same : b.attribute ≡ a = cc in

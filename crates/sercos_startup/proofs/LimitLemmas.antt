@@ -54,7 +54,7 @@ number_taken : (d : DriveView) (blocks : List Block) (raw n : ℕ) (c : Block) �
     → put_fault (Some c) 2 (to_le_bytes w16 n) ≡ None → put_fault (find_block raw blocks) 2 (to_le_bytes w16 n) ≡ None
 number_taken d blocks raw n c none is there taken = refused_as d blocks raw c (to_le_bytes w16 n) none is there ∙ taken
 
-length_list : (idns : List Idn) → length (list_bytes idns) ≡ 2 * length idns
+pub length_list : (idns : List Idn) → length (list_bytes idns) ≡ 2 * length idns
 length_list [] = refl
 length_list (idn ∷ idns) = let rest = length_list idns in omega arith
 

@@ -29,7 +29,7 @@ no_own b blocks built = by (is_built_in b.idn.raw) built
 more_own : (b : Block) (xs ys : List Block) → filter is_own_outside xs ≡ filter is_own_outside ys → filter is_own_outside (b ∷ xs) ≡ filter is_own_outside (b ∷ ys)
 more_own b xs ys same = ap (λ (rest : List Block). cond (is_own_outside b) (b ∷ rest) rest) same
 
-leaves_own : (blocks : List Block) (raw : ℕ) (bytes : List ℕ) → is_built_in raw ≡ true → filter is_own_outside (with_data raw bytes blocks) ≡ filter is_own_outside blocks
+pub leaves_own : (blocks : List Block) (raw : ℕ) (bytes : List ℕ) → is_built_in raw ≡ true → filter is_own_outside (with_data raw bytes blocks) ≡ filter is_own_outside blocks
 leaves_own [] raw bytes built = refl
 leaves_own (b ∷ blocks) raw bytes built = by (b.idn.raw == raw) refl (leaves_own blocks raw bytes built)
   where

@@ -1,5 +1,5 @@
 mod DigitLemmas
-mod ValueLaws
+pub mod ValueLaws
 mod FieldLaws
 mod FieldLemmas
 mod LineLaws

@@ -82,17 +82,19 @@ number_fault-IsGood most text good =
     is_lead first digits lead = grind (arith, nat_tests)
 
 -- what a number without a fault spells
-pub number_spelled : (most : ℕ) (text : List ℕ) → most < 2 ^ 64 → IsGood most text → text ≡ decimal (number_of text) ++ drop (number_len text) text
-number_spelled most text fits good =
+pub number_front : (most : ℕ) (text : List ℕ) → most < 2 ^ 64 → IsGood most text → decimal (number_of text) ≡ take (number_len text) text
+number_front most text fits good =
     let digits : ℕ = number_len text in
     let front : List ℕ = take digits text in
     let long = length-take-le digits text (prefix_len-le-length is_ascii_digit text) in
     let first = get_or-take digits text 0 0 good.some in
     let are : AreDigits front =
     λ i below. rw (get_or-take digits text i 0 (omega arith)) (digit_in_range (get_or text i 0) (prefix_len_passes is_ascii_digit text i 0 (omega arith))) in
-    let number : decimal (number_of text) ≡ front =
-    decimal-digits_value digits_model front are (omega (arith, long, good.some)) (λ zeros. omega (arith, long, good.some, good.lead (sym first ∙ zeros))) (omega (arith, good.most_is)) in
-    sym (take-append-drop digits text) ∙ ap (λ front. front ++ drop digits text) (sym number)
+    decimal-digits_value digits_model front are (omega (arith, long, good.some)) (λ zeros. omega (arith, long, good.some, good.lead (sym first ∙ zeros))) (omega (arith, good.most_is))
+
+pub number_spelled : (most : ℕ) (text : List ℕ) → most < 2 ^ 64 → IsGood most text → text ≡ decimal (number_of text) ++ drop (number_len text) text
+number_spelled most text fits good =
+    sym (take-append-drop (number_len text) text) ∙ ap (λ front. front ++ drop (number_len text) text) (sym (number_front most text fits good))
 
 -- what a number and what is behind it are read as
 pub record ReadsNumber (text : List ℕ) (n : ℕ) : Type 0 where

@@ -1,5 +1,5 @@
 mod KindLemmas
-mod WriteLemmas
+pub mod WriteLemmas
 mod Worked
 mod NumberLemmas
 mod ReadBack

@@ -15,7 +15,7 @@ use Rattle.sercos_script.specs.Links.{Carry}
 use Rattle.sercos_journal.specs.Arrivals.{heard, passage}
 use Rattle.sercos_journal.specs.Runs.{station_of, with_at, at_calls, looks_back}
 use Rattle.sercos_views.proofs.MasterSame.{AfterAts, ats_next}
-use Rattle.sercos_undisturbed.proofs.Comes.{IsAmong}
+use Rattle.sercos_undisturbed.proofs.Taken.{IsAmong}
 use Rattle.sercos_undisturbed.proofs.Small.{same_place}
 
 -- what an AT leaves

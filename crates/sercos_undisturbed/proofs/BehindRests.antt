@@ -34,8 +34,8 @@ follow_in v past old stays rests (recent, is) = by v.master_restarts stays
     by true on = absurd (cc)
     by false off = begun_behind v.begins old (with_heard v.heard (epoch_begun past)) (subst (λ (l : List Begun). Follow old (with_heard v.heard l)) (sym is) (heard_behind v.heard recent old rests))
 
-pub follow_since : (cycles past : List View) (old : List Begun) → AreWhole cycles past → open_in old ≡ None → epoch_begun past ≡ old → Follow old (epoch_begun (cycles ++ past))
-follow_since [] past old whole rests is = ([], is)
+pub follow_since : (cycles past : List View) (old : List Begun) → AreWhole cycles past → open_in old ≡ None → Follow old (epoch_begun past) → Follow old (epoch_begun (cycles ++ past))
+follow_since [] past old whole rests is = is
 follow_since (v ∷ cycles) past old whole rests is = by v.falls whole.1.stays (follow_in v (cycles ++ past) old whole.1.master rests (follow_since cycles past old whole.0 rests is))
   where
     by : (b : Bool) → b ≡ false → Follow old (begun_in v (cycles ++ past)) → Follow old (if b then [] else begun_in v (cycles ++ past))

@@ -13,9 +13,10 @@ use Rattle.sercos_settings.proofs.Givers.{are_away}
 use Rattle.sercos_pace.specs.Passes.{sets_to}
 use Rattle.sercos_undisturbed.specs.CommandsFollow.{LogLeaves}
 use Rattle.sercos_undisturbed.proofs.LogLeaves.{added_cycle, read_adds_none}
+use Rattle.sercos_undisturbed.proofs.OwnSet.{none_without}
 
 -- THE SETTINGS. A command that isn't set isn't, once another is set or any is cancelled.
-unset_without : (raw other : ℕ) (set : List SetCommand) → find_set raw set ≡ None → find_set raw (without other set) ≡ None
+pub unset_without : (raw other : ℕ) (set : List SetCommand) → find_set raw set ≡ None → find_set raw (without other set) ≡ None
 unset_without raw other [] none = refl
 unset_without raw other (x ∷ set) none = by (x.idn.raw == raw) (x.idn.raw == other) refl none (unset_without raw other set)
   where
@@ -24,15 +25,6 @@ unset_without raw other (x ∷ set) none = by (x.idn.raw == raw) (x.idn.raw == o
     by true gone e none more = absurd (cc)
     by false true e none more = more none
     by false false e none more = ap (λ (v : Bool). if v then Some x else find_set raw (without other set)) e ∙ more none
-
--- one that is cancelled isn't set
-gone_without : (raw : ℕ) (set : List SetCommand) → find_set raw (without raw set) ≡ None
-gone_without raw [] = refl
-gone_without raw (x ∷ set) = by (x.idn.raw == raw) refl (gone_without raw set)
-  where
-    by : (same : Bool) → (x.idn.raw == raw) ≡ same → find_set raw (without raw set) ≡ None → find_set raw (if not same then x ∷ without raw set else without raw set) ≡ None
-    by true e more = more
-    by false e more = ap (λ (v : Bool). if v then Some x else find_set raw (without raw set)) e ∙ more
 
 unset_last : (raw : ℕ) (set : List SetCommand) (s : SetCommand) → find_set raw set ≡ None → (s.idn.raw == raw) ≡ false → find_set raw (set ++ s ∷ []) ≡ None
 unset_last raw [] s none other = ap (λ (v : Bool). if v then Some s else None) other
@@ -70,7 +62,7 @@ write_unset raw other value cycle blocks c off none = by (value == 0)
     by true = unset_without raw other c.set none
     by false = unset_with raw c.set (record { idn = record { raw = other }; cycle = cycle; well = ends_well c.rate other blocks }) none off
 
-other_unset : (raw : ℕ) (w : Write) (blocks : List Block) (c : CommandsView) → (w.raw == raw) ≡ false → find_set raw c.set ≡ None → find_set raw (commands_with (Some w) blocks c).set ≡ None
+pub other_unset : (raw : ℕ) (w : Write) (blocks : List Block) (c : CommandsView) → (w.raw == raw) ≡ false → find_set raw c.set ≡ None → find_set raw (commands_with (Some w) blocks c).set ≡ None
 other_unset raw w blocks c off none = by (is_command blocks w.raw)
   where
     by : (v : Bool) → find_set raw (let d : CommandsView = if v then with_write w.raw (setting_in w) w.cycle (with_data w.raw w.bytes blocks) c else without_checks c in d.set) ≡ None
@@ -80,7 +72,7 @@ other_unset raw w blocks c off none = by (is_command blocks w.raw)
 -- a command that is cancelled has the status 0
 cancelled_status : (raw at n : ℕ) (blocks : List Block) (c : CommandsView) → status_in (with_write raw 0 at blocks c) raw n ≡ 0
 unfolding with_write
-cancelled_status raw at n blocks c = ap (λ (o : Option SetCommand). status_by c.time o n) (gone_without raw c.set)
+cancelled_status raw at n blocks c = ap (λ (o : Option SetCommand). status_by c.time o n) (none_without raw c.set)
 
 -- the status of a command that is set, by whether it has ended and ends well
 abbrev status_as : Bool → Bool → ℕ

@@ -1,26 +1,25 @@
 -- What arrives in an undisturbed cycle is what was sent.
-use Rattle.std.proofs.Common.{◌≡◌, ◌⊎◌, inl, inr, ℕ, zero, suc, ◌+◌, ◌<◌, ◌≤◌, ◌||◌, Bool, true, false, not, List, [], ◌∷◌, length, Option, Some, None, refl, sym, subst, arith, if◌then◌else◌}
-use Rattle.std.specs.Prelude.{◌==◌, nat_lt, slice_index, option_and_then}
+use Rattle.std.proofs.Common.{◌≡◌, inl, inr, ℕ, zero, suc, ◌+◌, ◌<◌, ◌≤◌, ◌||◌, Bool, true, false, not, List, [], ◌∷◌, length, Option, Some, None, refl, sym, subst, arith}
+use Rattle.std.specs.Prelude.{◌==◌, slice_index, option_and_then}
 use Rattle.std.proofs.lemmas.Bool.{cases_eq, false≢true}
 use Rattle.std.proofs.lemmas.Bool.Decides.{nat_tests}
 use Rattle.sercos_hdlc.specs.Stuffed.{frame_of}
 use Rattle.sercos_telegram.specs.declared.layout.Kind.TheVariants as kinds
 use Rattle.sercos_telegram.specs.Spells.{all_drives, mst_content}
 use Rattle.sercos_telegram.specs.Faults.{mst_fault, head_fault}
-use Rattle.sercos_block.specs.Views.{DriveView, RingView}
-use Rattle.sercos_drive.specs.Heard.{DriveCall}
-use Rattle.sercos_drive.specs.Says.{Said, drive_says}
+use Rattle.sercos_block.specs.Views.{RingView}
 use Rattle.sercos_trace.specs.Views.{SentView, CycleView}
 use Rattle.sercos_master.specs.Annals.{is_mst}
 use Rattle.sercos_script.specs.declared.link.Passage.{Passage}
 use Rattle.sercos_script.specs.Links.{Carry, Restarts}
 use Rattle.sercos_journal.specs.Arrivals.{arrival, content_in, passage, heard, is_disturbed, any_below, disturbed_at}
 use Rattle.sercos_journal.specs.Records.{mst_in, ats_in, mdt_in}
-use Rattle.sercos_journal.specs.Runs.{station_of, disturbs_mst, disturbs_mdt, disturbs_ats, inserted, with_said, said_below, contents}
+use Rattle.sercos_journal.specs.Runs.{station_of, disturbs_mst, disturbs_mdt, disturbs_ats}
 use Rattle.sercos_journal.proofs.ClearLemmas.{same_bits}
 use Rattle.sercos_views.proofs.Members.{IsWhole}
 use Rattle.sercos_undisturbed.specs.Undisturbed.{IsUndisturbed}
 use Rattle.sercos_undisturbed.proofs.Small.{both_off}
+use Rattle.sercos_undisturbed.proofs.Taken.{IsAmong}
 
 pub none_below : (n : ℕ) (f : ℕ → Bool) → any_below n f ≡ false → (i : ℕ) → i < n → f i ≡ false
 none_below zero f none i below = absurd (omega (arith, below))
@@ -70,40 +69,10 @@ comes carry p content whole calm = by (arrival carry p content) calm
     by (Some came) on = rw (same_bits came (frame_of content) (not_true _ on)) whole
 
 -- one of the ATs
-abbrev pub IsAmong : List ℕ → List (List ℕ) → Type 0
-IsAmong x [] = ⊥
-IsAmong x (y ∷ others) = (y ≡ x) ⊎ IsAmong x others
-
 pub calm_at : (r : RingView) (carry : Carry) (cycle : ℕ) (at : List ℕ) (ats : List (List ℕ)) → IsAmong at ats → disturbs_ats r carry cycle ats ≡ false → disturbed_at carry (passage cycle kinds.At (station_of r (slice_index at 0)) 0) at ≡ false
 calm_at r carry cycle at [] among calm = absurd among
 calm_at r carry cycle at (x ∷ others) (inl same) calm = subst (λ (c : List ℕ). disturbed_at carry (passage cycle kinds.At (station_of r (slice_index c 0)) 0) c ≡ false) same ((both_off _ _ calm).0)
 calm_at r carry cycle at (x ∷ others) (inr later) calm = calm_at r carry cycle at others later ((both_off _ _ calm).1)
-
--- What a drive says is among the ATs of the cycle.
-among_put : (s x : Said) (others : List Said) → (x.content ≡ s.content) ⊎ IsAmong s.content (contents others) → IsAmong s.content (contents (inserted x others))
-among_put s x [] is = is
-among_put s x (y ∷ others) is = by (nat_lt x.start y.start) (λ rest. among_put s x others rest) is
-  where
-    by : (b : Bool) → ((x.content ≡ s.content) ⊎ IsAmong s.content (contents others) → IsAmong s.content (contents (inserted x others)))
-        → (x.content ≡ s.content) ⊎ ((y.content ≡ s.content) ⊎ IsAmong s.content (contents others)) → IsAmong s.content (contents (if b then x ∷ y ∷ others else y ∷ inserted x others))
-    by true next is = is
-    by false next (inl same) = inr (next (inl same))
-    by false next (inr (inl same)) = inl same
-    by false next (inr (inr later)) = inr (next (inr later))
-
-pub among_said : (n : ℕ) (d : ℕ → DriveView) (rate : ℕ) (h : ℕ → List DriveCall) (k : ℕ) (s : Said) → k < n → drive_says (d k) rate (h k) ≡ Some s → IsAmong s.content (contents (said_below n d rate h))
-among_said zero d rate h k s below says = absurd (omega (arith, below))
-among_said (suc n) d rate h k s below says = elim (cases_eq k n) [
-  | inl same ↦ here (subst (λ (i : ℕ). drive_says (d i) rate (h i) ≡ Some s) same says)
-  | inr other ↦ there (drive_says (d n) rate (h n)) (among_said n d rate h k s (omega (arith, below, other)) says)
-]
-  where
-    here : drive_says (d n) rate (h n) ≡ Some s → IsAmong s.content (contents (with_said (drive_says (d n) rate (h n)) (said_below n d rate h)))
-    here is = rw is (among_put s s (said_below n d rate h) (inl refl))
-
-    there : (o : Option Said) → IsAmong s.content (contents (said_below n d rate h)) → IsAmong s.content (contents (with_said o (said_below n d rate h)))
-    there None rest = rest
-    there (Some x) rest = among_put s x (said_below n d rate h) (inr rest)
 
 -- an MST that comes back
 mst_sound : (p : ℕ) → p ≤ 4 → mst_fault (all_drives ∷ p ∷ []) ≡ None

@@ -22,32 +22,11 @@ use Rattle.sercos_script.specs.Links.{Carry, Restarts}
 use Rattle.sercos_journal.specs.Records.{mdt_in}
 use Rattle.sercos_journal.specs.Runs.{drive_at, with_restart, mdt_heard, given_before, given_mst}
 use Rattle.sercos_undisturbed.proofs.LogLeaves.{added_cycle}
-
--- ONE CALL. What a write to a check makes of what is kept of it.
-from_cancel_is : (first : Option ℕ) (at cycle : ℕ) → cycle ≤ at → is_from (from_cancel cycle first) at ≡ is_from first (min at cycle)
-from_cancel_is None at cycle late = refl
-from_cancel_is (Some first) at cycle late = by (nat_le first cycle) refl
-  where
-    by : (ended : Bool) → nat_le first cycle ≡ ended → is_from (cond ended (Some first) None) at ≡ nat_le first (min at cycle)
-    by true e = grind (arith, nat_tests)
-    by false e = grind (arith, nat_tests)
+use Rattle.sercos_command.proofs.CallLemmas.{by_write}
 
 or_false : (b : Bool) → b ≡ (b || false)
 or_false true = refl
 or_false false = refl
-
-from_setting_is : (first : Option ℕ) (at end : ℕ) → is_from (from_setting end first) at ≡ (nat_le end at || is_from first at)
-from_setting_is None at end = or_false (nat_le end at)
-from_setting_is (Some first) at end = grind (arith, nat_tests)
-
--- a write to a check, by whether it is a cancel, whether the check was not set, and whether it ends well
-by_write : (cancels new well : Bool) (at cycle time : ℕ) (first : Option ℕ) (now before : Bool) → cycle ≤ at → is_from first at ≡ now → is_from first (min at cycle) ≡ before
-    → is_from (cond cancels (from_cancel cycle first) (cond (new && well) (from_setting (cycle + time) first) first)) at
-    ≡ cond cancels before ((new && (well && nat_le (cycle + time) at)) || now)
-by_write true new well at cycle time first now before late n b = from_cancel_is first at cycle late ∙ b
-by_write false true true at cycle time first now before late n b = from_setting_is first at (cycle + time) ∙ rw n refl
-by_write false true false at cycle time first now before late n b = n
-by_write false false well at cycle time first now before late n b = n
 
 passed_written : (v : CommandsView) (rate time check raw value cycle : ℕ) (blocks : List Block) (h : List Call) (first : Option ℕ) (at : ℕ)
     → v.rate ≡ rate → v.time ≡ time → v.set ≡ settings rate h → newest h ≤ cycle → cycle ≤ at

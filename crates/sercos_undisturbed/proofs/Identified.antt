@@ -1,13 +1,11 @@
 -- In phase 1 a drive that is addressed in an undisturbed cycle is heard in the next.
-use Rattle.std.proofs.Common.{◌≡◌, inl, inr, ℕ, zero, suc, ◌+◌, ◌<◌, ◌≤◌, Bool, true, false, List, [], ◌∷◌, length, Option, Some, None, refl, sym, ◌∙◌, ap, subst, arith, if◌then◌else◌}
+use Rattle.std.proofs.Common.{◌≡◌, inl, inr, ℕ, ◌+◌, ◌<◌, ◌≤◌, Bool, true, false, List, [], ◌∷◌, length, Option, Some, None, refl, sym, ◌∙◌, ap, subst, arith, if◌then◌else◌}
 use Rattle.std.specs.Prelude.{◌==◌, nat_le, is_some, is_none, slice_index, option_map}
-use Rattle.std.proofs.lemmas.Bool.{cases_eq, false≢true}
 use Rattle.std.proofs.lemmas.Bool.Decides.{nat_tests}
 use Rattle.sercos_telegram.specs.declared.layout.Kind.TheVariants as kinds
 use Rattle.sercos_telegram.specs.Spells.{mst_content}
 use Rattle.sercos_telegram.specs.Faults.{at_fault}
 use Rattle.sercos_step.specs.declared.request.Job.{Job}
-use Rattle.sercos_block.specs.Rings.{is_ring}
 use Rattle.sercos_block.specs.Views.{RingView}
 use Rattle.sercos_service_master.specs.Begun.{Said}
 use Rattle.sercos_drive.specs.declared.hearing.Told.{Told}
@@ -16,9 +14,8 @@ use Rattle.sercos_drive.specs.Moments.{phase_in, has_mst, blocks_in}
 use Rattle.sercos_drive.specs.Annals.{annals}
 use Rattle.sercos_trace.specs.Views.{CycleView}
 use Rattle.sercos_seat.specs.Records.{record_said}
-use Rattle.sercos_seat.specs.Ring.{Known, MemberView, Task, member, known_of, tasks_for}
-use Rattle.sercos_master.specs.Annals.{Past, Call, HearMst, HearAt, End, Restart, first_from, place_of, addressed_before, is_awaited, is_mst, is_taken, after_taken, after_at_of, fall_of, is_done, is_done_in, next_phase, goes_on, new_epoch, still_waiting, after_end, past}
-use Rattle.sercos_master.specs.Annals as master
+use Rattle.sercos_seat.specs.Ring.{Known, MemberView, known_of, tasks_for}
+use Rattle.sercos_master.specs.Annals.{Past, place_of, addressed_before, is_awaited, is_mst, fall_of, is_done, is_done_in, next_phase, goes_on, new_epoch, still_waiting, after_end}
 use Rattle.sercos_master.specs.Says.{idle, single, mdt_said}
 use Rattle.sercos_script.specs.Links.{Carry, Restarts}
 use Rattle.sercos_journal.specs.Arrivals.{heard, passage}
@@ -26,8 +23,8 @@ use Rattle.sercos_journal.specs.Records.{mst_in, ats_in, mdt_in}
 use Rattle.sercos_journal.specs.Runs.{drive_at, station_of, with_restart, mdt_heard, disturbs_mdt, given_before, given_mst, master_calls, begins, own_mst, content_of, contents, said_below, looks_back, IsNext, IsRun}
 use Rattle.sercos_journal.proofs.RunLemmas.{ats_in-said, mdt_in-said}
 use Rattle.sercos_views.specs.RingViews.{at_start, behind_mst, behind_ats, behind_mdt, after_mst, phase_got}
-use Rattle.sercos_views.proofs.MasterSame.{begun_cycle, ats_none, turn_mdt}
-use Rattle.sercos_views.proofs.Members.{IsWhole, member_is, members_count, place_is}
+use Rattle.sercos_views.proofs.MasterSame.{begun_cycle, ats_none}
+use Rattle.sercos_views.proofs.Members.{IsWhole, member_is}
 use Rattle.sercos_views.proofs.Codecs.{mst_clear, single_clear}
 use Rattle.sercos_views.proofs.DriveSame.{said_to as said_by_told}
 use Rattle.sercos_views.proofs.ViewRuns.{IsSpelled, started}
@@ -35,15 +32,14 @@ use Rattle.sercos_held.specs.Opened.{IsOpened}
 use Rattle.sercos_held.proofs.Runs.{Laws}
 use Rattle.sercos_headline.proofs.HeadlineRuns.{MoreLaws, spelled_in}
 use Rattle.sercos_undisturbed.specs.Undisturbed.{IsUndisturbed}
-use Rattle.sercos_undisturbed.proofs.Comes.{IsCalm, calm_in, comes, IsAmong, calm_at, among_said, own_mst_whole}
+use Rattle.sercos_undisturbed.proofs.Comes.{IsCalm, calm_in, comes, calm_at, own_mst_whole}
+use Rattle.sercos_undisturbed.proofs.Taken.{IsAmong, among_said}
 use Rattle.sercos_undisturbed.proofs.AtsTaken.{IsWanted, takes_ats}
 use Rattle.sercos_undisturbed.proofs.SendsNext.{SaysOne, sends_next}
 use Rattle.sercos_undisturbed.proofs.Small.{same_place}
-use Rattle.sercos_undisturbed.proofs.AfterAt.{after_at_so}
-
--- no phase above 4 is commanded
-done_below : (n : ℕ) (s : Known) (p : Past) → is_done_in n s p ≡ true → n < 4
-done_below n s p done = grind (arith, nat_tests, done)
+use Rattle.sercos_views.proofs.MasterSame.{done_below}
+use Rattle.sercos_typed.proofs.Mdts.{phase_low}
+use Rattle.sercos_undisturbed.proofs.Addressed.{place_found}
 
 low_end : (s : Known) (p : Past) → p.now.phase ≤ 4 → (after_end s p).now.phase ≤ 4
 low_end s p low = by (is_some (fall_of s p))
@@ -55,41 +51,6 @@ low_end s p low = by (is_some (fall_of s p))
     by : (falls : Bool) → (if falls then new_epoch (p.cycle + 1) (still_waiting p) else goes_on (next_phase s p) p).now.phase ≤ 4
     by true = omega arith
     by false = up (is_done s p) refl
-
-pub phase_low : (s : Known) (requests : ℕ → List Task) (h : List Call) → (past s requests h).now.phase ≤ 4
-phase_low s requests [] = omega arith
-phase_low s requests (HearMst content ∷ h) = phase_low s requests h
-phase_low s requests (HearAt content ∷ h) = after_at_so (λ p. p.now.phase ≤ 4) s content (past s requests h) (phase_low s requests h) (λ k. phase_low s requests h)
-phase_low s requests (master.Mdt ∷ h) = subst (λ (n : ℕ). n ≤ 4) (sym (turn_mdt s (past s requests h)).phase_is) (phase_low s requests h)
-phase_low s requests (End ∷ h) = low_end s (past s requests h) (phase_low s requests h)
-phase_low s requests (Restart ∷ h) = omega arith
-
--- a place that passes a test is found, or one before it
-found_first : (k n i : ℕ) (test : ℕ → Bool) → k ≤ i → i < k + n → test i ≡ true → is_some (first_from k n test) ≡ true
-found_first k zero i test low high passes = absurd (omega (arith, low, high))
-found_first k (suc n) i test low high passes = by (test k) refl (λ other. found_first (k + 1) n i test (omega (arith, low, other)) (omega (arith, high)) passes)
-  where
-    by : (b : Bool) → test k ≡ b → ((k ≡ i → ⊥) → is_some (first_from (k + 1) n test) ≡ true) → is_some (if b then Some k else first_from (k + 1) n test) ≡ true
-    by true here later = refl
-    by false off later = elim (cases_eq k i) [
-      | inl same ↦ absurd (false≢true (sym off ∙ ap test same ∙ passes))
-      | inr other ↦ later other
-    ]
-
--- the master finds a drive by its address
-pub place_found : (r : RingView) (k : ℕ) → is_ring r ≡ true → k < length r.drives → place_of (known_of r) (drive_at r k).address ≡ Some k
-place_found r k valid below = by (place_of (known_of r) (drive_at r k).address) refl
-  where
-    mine : ((member (known_of r) k).address == (drive_at r k).address) ≡ true
-    mine = let same : (member (known_of r) k).address ≡ (drive_at r k).address = ap (λ (m : MemberView). m.address) (member_is r k) in grind (arith, nat_tests, same)
-
-    some : is_some (place_of (known_of r) (drive_at r k).address) ≡ true
-    some = let count = members_count r in
-        found_first 0 (length (known_of r).drives) k (λ i. (member (known_of r) i).address == (drive_at r k).address) (omega arith) (omega (arith, below, count)) mine
-
-    by : (o : Option ℕ) → place_of (known_of r) (drive_at r k).address ≡ o → o ≡ Some k
-    by None is = absurd (false≢true (sym (ap (λ (o : Option ℕ). is_some o) is) ∙ some))
-    by (Some i) is = let same : k ≡ i = place_is r k i valid below is in ap (λ (n : ℕ). Some n) (sym same)
 
 -- the MDT of a cycle of phase 1
 single_said : (s : Known) (p : Past) (k : ℕ) → p.now.phase ≡ 1 → p.now.addressed ≡ Some k → mdt_said s p ≡ Some (single s idle k)

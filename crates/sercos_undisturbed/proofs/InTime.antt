@@ -1,5 +1,5 @@
 -- After the cycles of a start-up phase 4 is commanded, or there is a stop, or a check for phase 4 hasn't ended well.
-use Rattle.std.proofs.Common.{◌≡◌, ◌⊎◌, inl, inr, ℕ, ◌+◌, ◌*◌, ◌≤◌, Bool, true, false, List, [], ◌∷◌, ◌++◌, length, Option, Some, None, refl, ap, ◌∙◌, subst, arith, if◌then◌else◌}
+use Rattle.std.proofs.Common.{◌≡◌, ◌⊎◌, inl, inr, ℕ, ◌+◌, ◌*◌, ◌≤◌, true, List, [], ◌∷◌, ◌++◌, length, Option, Some, None, refl, ap, ◌∙◌, subst, arith}
 use Rattle.std.specs.Prelude.{is_some}
 use Rattle.std.specs.List.{sum_by}
 use Rattle.std.proofs.lemmas.Bool.{cases_eq, cases_lt}
@@ -30,7 +30,9 @@ use Rattle.sercos_undisturbed.specs.Ends.{HasBadCheck}
 use Rattle.sercos_undisturbed.specs.Undisturbed.{AreUndisturbed}
 use Rattle.sercos_undisturbed.specs.EpochStarts.{StartsEpoch}
 use Rattle.sercos_undisturbed.proofs.Comes.{calm_in}
-use Rattle.sercos_undisturbed.proofs.Identified.{phase_low, starts_so}
+use Rattle.sercos_undisturbed.proofs.EpochCycles.{stays_four}
+use Rattle.sercos_undisturbed.proofs.Identified.{starts_so}
+use Rattle.sercos_typed.proofs.Mdts.{phase_low}
 use Rattle.sercos_undisturbed.proofs.PhaseRuns.{next_phase_is}
 use Rattle.sercos_undisturbed.proofs.PhasesRise.{late_in, phase_after}
 use Rattle.sercos_undisturbed.proofs.NeverFalls.{busy_low, never_falls}
@@ -158,16 +160,12 @@ module _ (laws : Laws) (more : MoreLaws) (turn : WorkInTurn) (comes_up : (busy :
       same : (looks_back r jobs (master_calls r carry restarts (u ∷ (cycles ++ before)))).stop ≡ (behind_mdt r jobs carry restarts u.sent (cycles ++ before)).stop
       same = stop_after r jobs carry restarts u (cycles ++ before) stays
 
-      up : (done : Bool) (n : ℕ) → n ≡ 4 → (if done then n + 1 else n) ≤ 4 → (if done then n + 1 else n) ≡ 4
-      up true n is low = absurd (omega (arith, is, low))
-      up false n is low = is
-
       four : u.phase ≡ 4 → t.phase ≡ 4
       four is =
           let low = phase_low (known_of r) (tasks_for (known_of r) jobs) (master_calls r carry restarts (u ∷ (cycles ++ before))) in
           let after = phase_after laws more comes_up r jobs carry restarts opened u (cycles ++ before) run.0 stays in
           next_phase_is laws more comes_up r jobs carry restarts opened t (u ∷ (cycles ++ before)) run calm.1 ∙ after
-          ∙ up (is_done (known_of r) (behind_mdt r jobs carry restarts u.sent (cycles ++ before))) u.phase is (subst (λ (n : ℕ). n ≤ 4) after low)
+          ∙ stays_four (is_done (known_of r) (behind_mdt r jobs carry restarts u.sent (cycles ++ before))) u.phase is (subst (λ (n : ℕ). n ≤ 4) after low)
 
       stop_stays_so : is_some (behind_mdt r jobs carry restarts u.sent (cycles ++ before)).stop ≡ true → (behind_mdt r jobs carry restarts t.sent (u ∷ (cycles ++ before))).stop ≡ (behind_mdt r jobs carry restarts u.sent (cycles ++ before)).stop
       stop_stays_so stopped = stop_next t (u ∷ cycles) before run clear starts calm (ap (λ (o : Option Stop). is_some o) same ∙ stopped) ∙ same

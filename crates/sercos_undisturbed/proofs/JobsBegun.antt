@@ -41,7 +41,6 @@ use Rattle.sercos_settings.proofs.CheckRuns.{checks_give_3}
 use Rattle.sercos_settings.proofs.WellSets.{well_first}
 use Rattle.sercos_held.specs.Opened.{IsOpened}
 use Rattle.sercos_held.proofs.AnsweredRuns.{IsRead, is_read_request, as_read, read_of, read_answers, answered_by, entries_stored}
-use Rattle.sercos_held.proofs.HoldsRuns.{got_below}
 use Rattle.sercos_held.proofs.Runs.{Laws, drive_got, got_inside, small, wishes_so}
 use Rattle.sercos_headline.proofs.HeadlineRuns.{MoreLaws, all_stand, first_store, keeps_all, spelled_in, stored_in}
 use Rattle.sercos_headline.proofs.WellRuns.{AllWell, all_well}
@@ -49,6 +48,7 @@ use Rattle.sercos_undisturbed.specs.Jobs.{jobs_of, AreAt}
 use Rattle.sercos_undisturbed.proofs.JobPlaces.{Give3, begun_at, few_in_two, reading}
 use Rattle.sercos_undisturbed.proofs.PlanMade.{looked_adds, no_stop_looked, plan_made, read_same}
 use Rattle.sercos_undisturbed.proofs.Small.{some_is}
+use Rattle.std.proofs.lemmas.Option.{slice_get_within}
 
 -- what stands in the middle of what was begun
 pub place_of : (all : List Request) (newer older : List Begun) (b : Begun) → AreAt all (newer ++ b ∷ older) → slice_get all (length older) ≡ Some b.request
@@ -103,7 +103,7 @@ module _ (laws : Laws) (more : MoreLaws) (r : RingView) (jobs : List Job) (carry
         each n x got = (outcome.Complete bytes, complete_is, subst (λ (y : Request). IsAnswer (drive_at r k) y (outcome.Complete bytes)) (sym of.2) answer)
           where
             early : n < reads_count (member (known_of r) k)
-            early = let less = got_below (reads (member (known_of r) k)) n x got in let long = reads_length (member (known_of r) k) in omega (arith, less, long)
+            early = let less = slice_get_within (reads (member (known_of r) k)) n x got in let long = reads_length (member (known_of r) k) in omega (arith, less, long)
 
             bytes : List ℕ
             bytes = (whole k (inside k below) n early).0

@@ -1,6 +1,6 @@
 -- In phase 3 the master stops for a check for phase 4 alone, and in phase 4 for nothing.
-use Rattle.std.proofs.Common.{◌≡◌, ◌⊎◌, inl, inr, ℕ, zero, suc, ◌+◌, ◌<◌, ◌≤◌, Bool, true, false, ◌&&◌, List, [], ◌∷◌, ◌++◌, length, Option, Some, None, refl, sym, ap, ap₂, ◌∙◌, subst, arith, if◌then◌else◌, length-append}
-use Rattle.std.specs.Prelude.{slice_get, is_some, unwrap_or, option_map}
+use Rattle.std.proofs.Common.{◌≡◌, ◌⊎◌, inl, inr, ℕ, zero, suc, ◌+◌, ◌<◌, ◌≤◌, Bool, true, false, ◌&&◌, List, [], ◌∷◌, ◌++◌, length, Option, Some, None, refl, sym, ap, ap₂, ◌∙◌, subst, arith, if◌then◌else◌, append_assoc, length-append}
+use Rattle.std.specs.Prelude.{map, slice_get, is_some, take, unwrap_or, option_map}
 use Rattle.std.proofs.lemmas.Bool.{cases_lt, and_parts, cases_eq, false≢true}
 use Rattle.sercos_idn.specs.Attributes.{attribute_of}
 use Rattle.sercos_idn.specs.declared.code.Code.{Code}
@@ -13,14 +13,12 @@ use Rattle.sercos_step.specs.declared.request.Request.TheVariants as request
 use Rattle.sercos_step.specs.Steps.{answer_words, is_whole, next_step, outcome_of, result_of}
 use Rattle.sercos_step.specs.declared.step.Answer.{Answer}
 use Rattle.sercos_timing.specs.Views.{PlanView}
-use Rattle.sercos_block.specs.BuiltIns.{built_in, built_in_block, row}
 use Rattle.sercos_block.specs.declared.block.Block.{Block}
-use Rattle.sercos_block.specs.declared.built_in.Opening.TheVariants.{Empty}
 use Rattle.sercos_block.specs.Rules.{blocks_fault}
-use Rattle.sercos_block.specs.Stores.{find_block, store_of}
+use Rattle.sercos_block.specs.Stores.{find_block, store_of, with_own}
 use Rattle.sercos_block.specs.Views.{DriveView, RingView}
 use Rattle.sercos_command.specs.Checks.{is_outside}
-use Rattle.std.specs.List.{list_any}
+use Rattle.std.specs.List.{filter, list_any}
 use Rattle.sercos_service_drive.specs.Replies.{write_cause_in}
 use Rattle.sercos_service_master.specs.Begun.{Begun, step_at, steps_begun, steps_in}
 use Rattle.sercos_service_master.specs.Calls.{begun_by}
@@ -28,7 +26,7 @@ use Rattle.sercos_trace.specs.Views.{CycleView}
 use Rattle.sercos_trace.specs.declared.events.Fall.{Fall}
 use Rattle.sercos_trace.specs.declared.events.Stop.{Stop}
 use Rattle.sercos_trace.specs.declared.events.Stop.TheVariants as stop
-use Rattle.sercos_seat.specs.Agenda.{idn, reads, reads_count, writes, is_checked, is_ready, ended_well, given, bytes_of}
+use Rattle.sercos_seat.specs.Agenda.{idn, idns_in, reads, reads_count, writes, is_checked, is_ready, ended_well, given, bytes_of}
 use Rattle.sercos_seat.specs.Channel.{outcomes_in, with_outcome}
 use Rattle.sercos_seat.specs.Ring.{Known, Task, known_of, member, tasks_for}
 use Rattle.sercos_seat.proofs.Agendas.{ended_there, reads_length}
@@ -41,7 +39,6 @@ use Rattle.sercos_handshake.specs.Parts.{HaveReplies, MakeTransfers}
 use Rattle.sercos_handshake.specs.RunLaws.{ComesUp, ProcessesInPhase, AreInStepInCycle, AreInStepInEpoch}
 use Rattle.sercos_handshake.specs.Transfers.{IsTransfer}
 use Rattle.sercos_handshake.proofs.SettingReplies.{Allows}
-use Rattle.sercos_startup.proofs.BlockFinds.{find_store_of}
 use Rattle.sercos_startup.proofs.CheckPasses.{ring_drive}
 use Rattle.sercos_journal.specs.Runs.{drive_at, middle, IsRun, IsClear}
 use Rattle.sercos_agenda.specs.Reported.{AreNumbered}
@@ -60,16 +57,18 @@ use Rattle.sercos_undisturbed.specs.StopsLater.{StopsForTheCheck}
 use Rattle.sercos_undisturbed.proofs.CycleHeld.{fits_in}
 use Rattle.sercos_undisturbed.proofs.JobPlaces.{at_most, later, some_plan, unnumbered}
 use Rattle.sercos_undisturbed.proofs.JobsBegun.{begun_end, begun_now, few_now, place_of, places_now, tasks_now}
-use Rattle.sercos_undisturbed.proofs.PhaseThree.{few_outcomes}
+use Rattle.sercos_master.proofs.Followed.{not_longer}
 use Rattle.sercos_undisturbed.proofs.WellGiven.{check_gives_3}
+use Rattle.sercos_undisturbed.proofs.ListedRuns.{list_is, own_bytes}
+use Rattle.sercos_undisturbed.proofs.OwnSorted.{list_back}
 use Rattle.sercos_undisturbed.proofs.LateSteps.{first_step, late_now, older_fewer}
 use Rattle.sercos_undisturbed.proofs.Reached.{all_checked_in, all_ready_in}
-use Rattle.sercos_undisturbed.proofs.RefusedCauses.{allows_4, check_4, check_free_4, found_4}
+use Rattle.sercos_undisturbed.proofs.RefusedCauses.{allows_4, check_4, check_free_4, found_4, found_list, list_4}
 use Rattle.sercos_undisturbed.proofs.RefusedRuns.{IsRefused, newest_refused}
 use Rattle.sercos_undisturbed.proofs.RefusedSteps.{command_well, data_reads_well}
 use Rattle.sercos_undisturbed.proofs.StaysUp.{phase_now}
 use Rattle.sercos_undisturbed.proofs.StopsTold.{stops_right}
-use Rattle.sercos_undisturbed.proofs.Small.{never_both, some_is}
+use Rattle.sercos_undisturbed.proofs.Small.{first_is, never_both, some_is}
 
 -- A request that was refused is no check that ended well.
 refused_badly : (outs : List Outcome) (code : Code) (i : ℕ) → ended_well (given (outs ++ outcome.Refused code ∷ []) i) ≡ true → i < length outs
@@ -80,14 +79,6 @@ refused_badly outs code i well = elim (cases_eq i (length outs)) [
       let long = length-append outs (outcome.Refused code ∷ []) in omega (arith, there, long, other)
 ]
 
--- THE BLOCKS of the check and of its list
-abbrev list_4 : DriveView → Block
-list_4 d = built_in_block d (row 22 0x70550001 true (Empty 128))
-
-found_list : (d : DriveView) → blocks_fault [] d.blocks ≡ None → find_block 22 (store_of d) ≡ Some (list_4 d)
-unfolding built_in
-found_list d rules = find_store_of 22 d rules
-
 pub check_is_command : (d : DriveView) → (check_4 d).attribute.command ≡ true
 unfolding attribute_of
 check_is_command d = refl
@@ -97,6 +88,13 @@ got_there : {A : Type 0} (xs : List A) (n : ℕ) → n < length xs → (x : A) �
 got_there [] n low = absurd (omega (arith, low))
 got_there (x ∷ xs) zero low = (x, refl)
 got_there (x ∷ xs) (suc n) low = got_there xs n (omega (arith, low))
+
+-- two ends of a list that are as long are the same
+same_end : (xs ys us vs : List Begun) → xs ++ us ≡ ys ++ vs → length us ≡ length vs → us ≡ vs
+same_end [] [] us vs same long = same
+same_end [] (y ∷ ys) us vs same long = let all : length us ≡ suc (length (ys ++ vs)) = ap (λ (l : List Begun). length l) same in let parts = length-append ys vs in absurd (omega (arith, all, parts, long))
+same_end (x ∷ xs) [] us vs same long = let all : suc (length (xs ++ us)) ≡ length vs = ap (λ (l : List Begun). length l) same in let parts = length-append xs us in absurd (omega (arith, all, parts, long))
+same_end (x ∷ xs) (y ∷ ys) us vs same long = same_end xs ys us vs (first_is x y (xs ++ us) (ys ++ vs) same).1 long
 
 -- no request ends as broken by its answers
 never_broken : (r : Request) (h : List Answer) → outcome_of r h ≡ Some outcome.Broken → ⊥
@@ -273,20 +271,21 @@ module _ (laws : held.Laws) (more : MoreLaws) (comes_up : (busy : ℕ) → Comes
       by (inl three) has = never_three has.ended.place (low has) has.ended.there has.ended.one has.ended.older code has.ended.begun has.ended.task has.ended.tasks has.ended.tasks_are has.ended.startup has.ended.ended three
       by (inr four) has = never_four has.ended.place (low has) has.ended.there has.ended.one has.ended.older code has.ended.begun has.ended.task has.ended.tasks has.ended.tasks_are has.ended.startup has.ended.ended four
 
-  -- THE OUTCOME 12 places after the reads is that of the check.
-  abbrev EndedAt : ℕ → Outcome → Type 0
-  EndedAt k o = HasEndedAt (known_of r) k now.plan (now.waiting k) now.now.phase (begun_by (now.calls k)) (reads_count (member (known_of r) k) + 12) o
+  -- THE OUTCOME 12 places after the reads is that of the check, and the next one that of its list.
+  abbrev EndedAt : ℕ → ℕ → Outcome → Type 0
+  EndedAt k i o = HasEndedAt (known_of r) k now.plan (now.waiting k) now.now.phase (begun_by (now.calls k)) (reads_count (member (known_of r) k) + i) o
 
-  split_at : (k : ℕ) → k < length r.drives → (o : Outcome) (at : EndedAt k o) → epoch_begun (views_of r jobs carry restarts k (t ∷ j)) ≡ at.newer ++ at.one ∷ at.older
-  split_at k below o at = sym (begun_now laws more r jobs carry restarts opened t j run clear stays k below) ∙ at.split
+  split_at : (k : ℕ) → k < length r.drives → (i : ℕ) (o : Outcome) (at : EndedAt k i o) → epoch_begun (views_of r jobs carry restarts k (t ∷ j)) ≡ at.newer ++ at.one ∷ at.older
+  split_at k below i o at = sym (begun_now laws more r jobs carry restarts opened t j run clear stays k below) ∙ at.split
 
-  asks_check : t.phase ≡ 3 → (k : ℕ) → k < length r.drives → (o : Outcome) (at : EndedAt k o) → at.one.request ≡ request.Command (idn 128)
-  asks_check three k below o at = some_is at.one.request (request.Command (idn 128))
+  asks_at : t.phase ≡ 3 → (k : ℕ) → k < length r.drives → (i : ℕ) (q : Request) → ((p : PlanView) → slice_get (writes (known_of r) p k ++ request.Command (idn 127) ∷ request.Command (idn 128) ∷ request.Read (idn 22) 7 ∷ []) i ≡ Some q) → (o : Outcome) (at : EndedAt k i o)
+      → at.one.request ≡ q
+  asks_at three k below i q is o at = some_is at.one.request q
       (sym (place_of (jobs_of (known_of r) (Some made.0) k) at.newer at.older at.one (subst (λ (o : Option PlanView). AreAt (jobs_of (known_of r) o k) (at.newer ++ at.one ∷ at.older)) made.1 places))
-      ∙ later (known_of r) k made.0 (length at.older) 12 at.place)
+      ∙ later (known_of r) k made.0 (length at.older) i at.place ∙ is made.0)
     where
       places : AreAt (jobs_of (known_of r) (behind_mdt r jobs carry restarts t.sent j).plan k) (at.newer ++ at.one ∷ at.older)
-      places = subst (AreAt (jobs_of (known_of r) (behind_mdt r jobs carry restarts t.sent j).plan k)) (split_at k below o at)
+      places = subst (AreAt (jobs_of (known_of r) (behind_mdt r jobs carry restarts t.sent j).plan k)) (split_at k below i o at)
           (places_now laws more r jobs carry restarts opened t j run clear stays k below (let same = phase_is in omega (arith, same, three)))
 
       long : reads_count (member (known_of r) k) < length (at.newer ++ at.one ∷ at.older)
@@ -306,16 +305,42 @@ module _ (laws : held.Laws) (more : MoreLaws) (comes_up : (busy : ℕ) → Comes
       by : (b : Bool) → list_any is_outside (drive_at r failed.place).blocks ≡ b → list_any is_outside (drive_at r failed.place).blocks ≡ true
       by true is = is
       by false none =
-          let gives = check_gives_3 laws more r jobs carry restarts opened failed.place low none (t ∷ j) run clear at.newer at.older at.one failed.status (split_at failed.place low (outcome.Complete failed.status) at) (asks_check three failed.place low (outcome.Complete failed.status) at) at.ended in
+          let gives = check_gives_3 laws more r jobs carry restarts opened failed.place low none (t ∷ j) run clear at.newer at.older at.one failed.status (split_at failed.place low 12 (outcome.Complete failed.status) at) (asks_at three failed.place low 12 (request.Command (idn 128)) (λ p. refl) (outcome.Complete failed.status) at) at.ended in
           absurd (false≢true (sym failed.badly ∙ ap ended_well gives))
 
+  -- THE LIST that the drive then gave has the numbers of these blocks.
+  lists_own : t.phase ≡ 3 → (address : ℕ) (list : List Idn) (failed : HasFailedCheck (known_of r) (behind_mdt r jobs carry restarts t.sent j) 12 address list) → failed.place < length r.drives → list_any is_outside (drive_at r failed.place).blocks ≡ true
+      → list ≡ map (λ (b : Block). b.idn) (filter is_outside (with_own [] (drive_at r failed.place).blocks))
+  lists_own three address list failed low outside =
+      failed.list_is ∙ ap (λ (l : List ℕ). take 64 (idns_in l)) bytes_are
+      ∙ list_back (drive_at r failed.place) (ring_drive r failed.place (drive_at r failed.place) opened.valid (drive_got r failed.place low)).blocks
+      (let few = (first_store laws more r jobs carry restarts opened failed.place low).few in omega (arith, few))
+    where
+      first : HasEndedAt (known_of r) failed.place (behind_mdt r jobs carry restarts t.sent j).plan ((behind_mdt r jobs carry restarts t.sent j).waiting failed.place) (behind_mdt r jobs carry restarts t.sent j).now.phase
+          (begun_by ((behind_mdt r jobs carry restarts t.sent j).calls failed.place)) (reads_count (member (known_of r) failed.place) + 12) (outcome.Complete failed.status)
+      first = laws.ends (known_of r) (tasks_for (known_of r) jobs) (middle r carry restarts t.sent j) failed.place (reads_count (member (known_of r) failed.place) + 12) (outcome.Complete failed.status) failed.there failed.complete
+
+      second : HasEndedAt (known_of r) failed.place (behind_mdt r jobs carry restarts t.sent j).plan ((behind_mdt r jobs carry restarts t.sent j).waiting failed.place) (behind_mdt r jobs carry restarts t.sent j).now.phase
+          (begun_by ((behind_mdt r jobs carry restarts t.sent j).calls failed.place)) (reads_count (member (known_of r) failed.place) + 13) (outcome.Complete failed.bytes)
+      second = laws.ends (known_of r) (tasks_for (known_of r) jobs) (middle r carry restarts t.sent j) failed.place (reads_count (member (known_of r) failed.place) + 13) (outcome.Complete failed.bytes) failed.there failed.listed
+
+      behind : second.older ≡ first.one ∷ first.older
+      behind = same_end (second.newer ++ second.one ∷ []) first.newer second.older (first.one ∷ first.older) (append_assoc second.newer (second.one ∷ []) second.older ∙ sym second.split ∙ first.split)
+          (let a = first.place in let b = second.place in omega (arith, a, b))
+
+      bytes_are : failed.bytes ≡ own_bytes (drive_at r failed.place)
+      bytes_are = list_is laws more comes_up r jobs carry restarts opened failed.place low outside (t ∷ j) run clear second.newer first.older second.one first.one failed.bytes failed.status
+          (split_at failed.place low 13 (outcome.Complete failed.bytes) second ∙ ap (λ (l : List Begun). second.newer ++ second.one ∷ l) behind)
+          (asks_at three failed.place low 13 (request.Read (idn 22) 7) (λ p. refl) (outcome.Complete failed.bytes) second) second.ended
+          (asks_at three failed.place low 12 (request.Command (idn 128)) (λ p. refl) (outcome.Complete failed.status) first) first.ended
+
   -- A CHECK THAT HAS ENDED has ended well, if no own block was outside.
-  never_refused : t.phase ≡ 3 → (k : ℕ) → k < length r.drives → k < length (known_of r).drives → (code : Code) (at : EndedAt k (outcome.Refused code)) → ⊥
+  never_refused : t.phase ≡ 3 → (k : ℕ) → k < length r.drives → k < length (known_of r).drives → (code : Code) (at : EndedAt k 12 (outcome.Refused code)) → ⊥
   never_refused three k below there code at = by at.newer refl
     where
       all : AreBegunTasks (known_of r) k (behind_mdt r jobs carry restarts t.sent j).plan ((behind_mdt r jobs carry restarts t.sent j).waiting k) (behind_mdt r jobs carry restarts t.sent j).now.phase (at.newer ++ at.one ∷ at.older) ((behind_mdt r jobs carry restarts t.sent j).tasks k)
       all = subst (λ (l : List Begun). AreBegunTasks (known_of r) k (behind_mdt r jobs carry restarts t.sent j).plan ((behind_mdt r jobs carry restarts t.sent j).waiting k) (behind_mdt r jobs carry restarts t.sent j).now.phase l ((behind_mdt r jobs carry restarts t.sent j).tasks k))
-          (split_at k below (outcome.Refused code) at) (tasks_now laws more r jobs carry restarts opened t j run clear stays k below)
+          (split_at k below 12 (outcome.Refused code) at) (tasks_now laws more r jobs carry restarts opened t j run clear stays k below)
 
       newest : (tasks : List Task) → (behind_mdt r jobs carry restarts t.sent j).tasks k ≡ tasks → begun_by ((behind_mdt r jobs carry restarts t.sent j).calls k) ≡ at.one ∷ at.older
           → AreBegunTasks (known_of r) k (behind_mdt r jobs carry restarts t.sent j).plan ((behind_mdt r jobs carry restarts t.sent j).waiting k) (behind_mdt r jobs carry restarts t.sent j).now.phase (at.one ∷ at.older) tasks → ⊥
@@ -336,9 +361,9 @@ module _ (laws : held.Laws) (more : MoreLaws) (comes_up : (busy : ℕ) → Comes
   well_at : t.phase ≡ 3 → (k : ℕ) → k < length r.drives → k < length (known_of r).drives → list_any is_outside (drive_at r k).blocks ≡ false → (o : Outcome) → slice_get (outcomes now k) (reads_count (member (known_of r) k) + 12) ≡ Some o → ended_well (bytes_of o) ≡ true
   well_at three k below there none o got = by o (laws.ends (known_of r) (tasks_for (known_of r) jobs) (middle r carry restarts t.sent j) k (reads_count (member (known_of r) k) + 12) o there got)
     where
-      by : (o : Outcome) → EndedAt k o → ended_well (bytes_of o) ≡ true
+      by : (o : Outcome) → EndedAt k 12 o → ended_well (bytes_of o) ≡ true
       by (outcome.Complete bytes) at =
-          ap ended_well (check_gives_3 laws more r jobs carry restarts opened k below none (t ∷ j) run clear at.newer at.older at.one bytes (split_at k below (outcome.Complete bytes) at) (asks_check three k below (outcome.Complete bytes) at) at.ended)
+          ap ended_well (check_gives_3 laws more r jobs carry restarts opened k below none (t ∷ j) run clear at.newer at.older at.one bytes (split_at k below 12 (outcome.Complete bytes) at) (asks_at three k below 12 (request.Command (idn 128)) (λ p. refl) (outcome.Complete bytes) at) at.ended)
       by (outcome.Refused code) at = absurd (never_refused three k below there code at)
       by outcome.Broken at = absurd (never_broken at.one.request at.one.answers at.ended)
 
@@ -349,7 +374,7 @@ module _ (laws : held.Laws) (more : MoreLaws) (comes_up : (busy : ℕ) → Comes
         let same = phase_is in
         let few = few_now laws more r jobs carry restarts opened t j run clear stays k below (omega (arith, same, early)) in
         let begun = ap (λ (l : List Begun). length l) (begun_now laws more r jobs carry restarts opened t j run clear stays k below) in
-        let outs = few_outcomes (begun_by ((behind_mdt r jobs carry restarts t.sent j).calls k)) in absurd (omega (arith, few, begun, outs, ended))
+        let outs = not_longer (begun_by ((behind_mdt r jobs carry restarts t.sent j).calls k)) in absurd (omega (arith, few, begun, outs, ended))
     | inr late ↦ elim (cases_eq t.phase 3) [
       | inl three ↦
           let same = phase_is in
@@ -380,6 +405,7 @@ module _ (laws : held.Laws) (more : MoreLaws) (comes_up : (busy : ℕ) → Comes
         failed = failed;
         there = low;
         outside = own_outside three address list.items failed low;
+        lists = lists_own three address list.items failed low (own_outside three address list.items failed low);
         fits = fits_in laws more r jobs carry restarts opened t j run clear (omega (arith, three));
       }
 

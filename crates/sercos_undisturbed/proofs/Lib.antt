@@ -64,3 +64,17 @@ pub mod WellGiven
 pub mod Small
 pub mod StaysClear
 pub mod AfterAt
+pub mod EpochCycles
+pub mod LongWrites
+pub mod OneRequest
+pub mod InFour
+pub mod EndedInTime
+pub mod ToldInTime
+pub mod ListSet
+pub mod SinceSet
+pub mod ListRead
+pub mod ListedRuns
+pub mod OwnSorted
+pub mod WholeRuns
+pub mod Quiet
+pub mod StopOnce

@@ -39,11 +39,11 @@ use Rattle.sercos_held.proofs.Runs.{Laws, drive_got, kept_at_mst}
 use Rattle.sercos_headline.proofs.HeadlineRuns.{MoreLaws, all_stand, first_store, keeps_all, spelled_in, stored_in}
 use Rattle.sercos_undisturbed.proofs.CheckTasks.{IsCheckNewest, check_128}
 use Rattle.sercos_undisturbed.proofs.CheckedViews.{status_3}
-use Rattle.sercos_undisturbed.proofs.Identified.{phase_low}
+use Rattle.sercos_typed.proofs.Mdts.{phase_low}
 use Rattle.sercos_undisturbed.proofs.StaysUp.{phase_now}
 use Rattle.sercos_undisturbed.proofs.JobsBegun.{begun_now}
 use Rattle.sercos_undisturbed.proofs.EntriesSay.{EntriesSay, ViewsSay, entries_say}
-use Rattle.sercos_undisturbed.proofs.OwnSet.{AreBuiltIn, SaysOwn, own_so}
+use Rattle.sercos_undisturbed.proofs.OwnSet.{AreBuiltIn, IsOwn, SaysOwn, own_so}
 use Rattle.sercos_undisturbed.proofs.BuiltInWrites.{NeverFour, writes_built}
 
 abbrev status_of : Bool → Bool → ℕ
@@ -83,11 +83,15 @@ module _ (laws : Laws) (more : MoreLaws) (comes_up : (busy : ℕ) → ComesUp bu
   abbrev FitsOwn : Type 0
   FitsOwn = list_any is_outside (drive_at r k).blocks ≡ false
 
-  -- AS LONG AS PHASE 4 WAS NEVER COMMANDED each step that was accepted met commands that say so.
+  -- AS LONG AS PHASE 4 WAS NEVER COMMANDED the own blocks that are outside are those of the opening, and each step that was accepted met
+  -- commands that say so.
+  pub own_in : (t : CycleView) (j : List CycleView) → IsRun r jobs carry restarts (t ∷ j) → IsClear (t ∷ j) → NeverFour j → IsOwn (drive_at r k) (view_of r jobs carry restarts k t j).blocks (view_of r jobs carry restarts k t j).commands
+  own_in t j (run, next) (before, clear) never =
+      own_so (drive_at r k) r.rate (given_mst carry restarts t.sent j k) (subst AreBuiltIn (sym (kept_at_mst laws r jobs carry restarts opened (first_store laws more r jobs carry restarts opened) t j next clear (spelled_in laws more r jobs carry restarts opened t j next)
+      (stored_in laws more r jobs carry restarts opened t j) (all_stand laws more r jobs carry restarts opened j run before) k below).writes) (writes_built laws more comes_up r jobs carry restarts opened k below j run before never))
+
   says_in : (t : CycleView) (j : List CycleView) → IsRun r jobs carry restarts (t ∷ j) → IsClear (t ∷ j) → NeverFour j → SaysOwn (drive_at r k) (view_of r jobs carry restarts k t j).commands
-  says_in t j (run, next) (before, clear) never =
-      (own_so (drive_at r k) r.rate (given_mst carry restarts t.sent j k) (subst AreBuiltIn (sym (kept_at_mst laws r jobs carry restarts opened (first_store laws more r jobs carry restarts opened) t j next clear (spelled_in laws more r jobs carry restarts opened t j next)
-      (stored_in laws more r jobs carry restarts opened t j) (all_stand laws more r jobs carry restarts opened j run before) k below).writes) (writes_built laws more comes_up r jobs carry restarts opened k below j run before never))).says
+  says_in t j run clear never = (own_in t j run clear never).says
 
   views_say : (j : List CycleView) → IsRun r jobs carry restarts j → IsClear j → NeverFour j → ViewsSay (SaysOwn (drive_at r k)) (views_of r jobs carry restarts k j)
   views_say [] run clear never = tt
@@ -152,7 +156,7 @@ module _ (laws : Laws) (more : MoreLaws) (comes_up : (busy : ℕ) → ComesUp bu
       let same = phase_now laws more comes_up r jobs carry restarts opened t j next in
       let low = phase_low (known_of r) (tasks_for (known_of r) jobs) (middle r carry restarts t.sent j) in omega (arith, same, low)
 
-  never_or_own : (j : List CycleView) → IsRun r jobs carry restarts j → IsClear j → NeverFour j ⊎ FitsOwn
+  pub never_or_own : (j : List CycleView) → IsRun r jobs carry restarts j → IsClear j → NeverFour j ⊎ FitsOwn
   never_or_own [] run clear = inl tt
   never_or_own (t ∷ j) run clear = by (never_or_own j run.0 clear.0)
     where

@@ -19,7 +19,7 @@ use Rattle.sercos_undisturbed.proofs.CycleHeld.{second_none}
 use Rattle.sercos_undisturbed.proofs.Small.{both_off, some_is}
 
 -- A TEST THAT NO BLOCK PASSES, by the number of the block and by the list
-all_at : (q : Block → Bool) (n : ℕ) (blocks : List Block) (b : Block) → list_all q blocks ≡ true → find_block n blocks ≡ Some b → (q b ≡ true) × ((b.idn.raw == n) ≡ true)
+pub all_at : (q : Block → Bool) (n : ℕ) (blocks : List Block) (b : Block) → list_all q blocks ≡ true → find_block n blocks ≡ Some b → (q b ≡ true) × ((b.idn.raw == n) ≡ true)
 all_at q n [] b all found = absurd (cc)
 all_at q n (c ∷ blocks) b all found = by (c.idn.raw == n) refl found (λ rest. all_at q n blocks b parts.1 rest)
   where

@@ -1,6 +1,6 @@
 -- As long as built-in blocks alone are written to a drive, those of its own that are outside their limits are the same as at opening; so
 -- if a check for phase 4 is set that ends well, there are none.
-use Rattle.std.proofs.Common.{◌≡◌, ℕ, suc, arith, Bool, true, false, not, ◌&&◌, List, [], ◌∷◌, ◌++◌, length, map, filter, Option, Some, None, refl, sym, ap, ◌∙◌, if◌then◌else◌, subst}
+use Rattle.std.proofs.Common.{◌≡◌, ℕ, suc, arith, Bool, true, false, not, ◌&&◌, List, [], ◌∷◌, ◌++◌, length, filter, Option, Some, None, refl, sym, ap, ◌∙◌, if◌then◌else◌, subst}
 use Rattle.std.specs.Prelude.{◌==◌, nat_le, is_none, is_some, cond}
 use Rattle.std.proofs.lemmas.Bool.{false≢true, eqb-true}
 use Rattle.std.proofs.lemmas.Bool.Decides.{nat_tests}
@@ -20,6 +20,7 @@ use Rattle.sercos_drive.specs.Annals.{annals, stands_in, processed_in, ends_in}
 use Rattle.sercos_startup.specs.Kept.{is_own_outside}
 use Rattle.sercos_startup.proofs.OwnLemmas.{own_stay}
 use Rattle.sercos_undisturbed.proofs.Small.{none_some}
+use Rattle.sercos_seat.proofs.Gets.{length_map}
 
 -- each of these writes is to a built-in block
 abbrev pub AreBuiltIn : List Write → Type 0
@@ -66,7 +67,7 @@ data_leaves raw bytes blocks built = by (is_command blocks raw) (own_stay (recor
     by false is = is
 
 -- THE SETTINGS
-none_without : (raw : ℕ) (set : List SetCommand) → find_set raw (without raw set) ≡ None
+pub none_without : (raw : ℕ) (set : List SetCommand) → find_set raw (without raw set) ≡ None
 none_without raw [] = refl
 none_without raw (s ∷ set) = by (s.idn.raw == raw) refl (none_without raw set)
   where
@@ -114,13 +115,9 @@ none_own (b ∷ blocks) none = by (is_outside b) (is_built_in b.idn.raw) none (n
     by false true none more = more none
     by false false none more = more none
 
-same_length : {A B : Type 0} (f : A → B) (xs : List A) → length (map f xs) ≡ length xs
-same_length f [] = refl
-same_length f (x ∷ xs) = ap (λ (n : ℕ). suc n) (same_length f xs)
-
 well_own : (rate : ℕ) (blocks : List Block) → ends_well rate 128 blocks ≡ true → filter is_own_outside blocks ≡ []
 unfolding unfit_for_phase_4
-well_own rate blocks well = none_own blocks (sym (ap (λ (n : ℕ). n == 0) (same_length (λ (b : Block). b.idn) (filter is_outside blocks))) ∙ well)
+well_own rate blocks well = none_own blocks (sym (ap (λ (n : ℕ). n == 0) (length_map (λ (b : Block). b.idn) (filter is_outside blocks))) ∙ well)
 
 -- ONE WRITE
 pub say_written : (such : SetCommand → Type 0) (raw value cycle : ℕ) (blocks : List Block) (c : CommandsView) → (raw ≡ 128 → such (record { idn = record { raw = raw }; cycle = cycle; well = ends_well c.rate raw blocks })) → Say such c

@@ -1,17 +1,12 @@
 -- Where the master commands the next phase, a drive's check counts as passed: in every run in which nothing was unseen, if the drive doesn't
 -- restart in this very cycle.
-use Rattle.std.proofs.Common.{◌≡◌, inl, inr, ℕ, suc, ◌+◌, ◌<◌, ◌≤◌, Bool, true, false, not, List, [], ◌∷◌, length, Option, Some, None, refl, sym, ap, ◌∙◌, subst, arith, if◌then◌else◌}
-use Rattle.std.specs.Prelude.{◌==◌, is_some, option_map, unwrap_or}
+use Rattle.std.proofs.Common.{◌≡◌, inl, inr, ℕ, suc, ◌+◌, ◌<◌, ◌≤◌, Bool, true, false, not, List, [], ◌∷◌, length, Option, None, refl, sym, ap, ◌∙◌, subst, arith, if◌then◌else◌}
+use Rattle.std.specs.Prelude.{◌==◌, is_some}
 use Rattle.std.proofs.lemmas.Bool.{cases_eq, and_parts, cond-false, ne_eqb}
-use Rattle.sercos_idn.specs.declared.attribute.Attribute.{Attribute}
-use Rattle.sercos_idn.specs.Codes.{attribute_fault}
-use Rattle.sercos_idn.specs.Attributes.{attribute_of}
 use Rattle.sercos_step.specs.declared.request.Job.{Job}
-use Rattle.sercos_block.specs.declared.block.Block.{Block}
-use Rattle.sercos_block.specs.Rings.{block_attribute, built_in_attribute, row_in, attribute_in}
 use Rattle.sercos_block.specs.Rules.{blocks_fault}
-use Rattle.sercos_block.specs.Stores.{find_block, store_of}
-use Rattle.sercos_block.specs.Views.{DriveView, RingView}
+use Rattle.sercos_block.specs.Stores.{store_of}
+use Rattle.sercos_block.specs.Views.{RingView}
 use Rattle.sercos_command.specs.Settings.{CommandsView, is_command, without_settings}
 use Rattle.sercos_service_drive.specs.Log.{Taken}
 use Rattle.sercos_service_drive.specs.Writes.{commands_with}
@@ -22,8 +17,6 @@ use Rattle.sercos_trace.specs.Views.{CycleView}
 use Rattle.sercos_seat.specs.Ring.{member, known_of, tasks_for}
 use Rattle.sercos_seat.specs.Agenda.{is_checked, is_ready}
 use Rattle.sercos_seat.specs.Channel.{outcomes_in}
-use Rattle.sercos_startup.specs.StartUp.{IsStoreOf}
-use Rattle.sercos_startup.proofs.BlockFinds.{same_attribute}
 use Rattle.sercos_startup.proofs.CheckPasses.{ring_drive}
 use Rattle.sercos_master.specs.Annals.{Past, outcomes, fall_of, is_done, is_done_in}
 use Rattle.sercos_master.proofs.Configured.{each_passes}
@@ -52,16 +45,7 @@ use Rattle.sercos_undisturbed.proofs.CheckTasks.{IsCheckNewest, check_127, check
 use Rattle.sercos_undisturbed.proofs.CheckedViews.{check_counts}
 use Rattle.sercos_undisturbed.proofs.CommandCalls.{keeps_before, counts_127, counts_128}
 use Rattle.sercos_undisturbed.proofs.CommandRuns.{first_commands, AreCommandsSo, commands_first, commands_next}
-
--- S-0-0128 is a procedure command of each drive
-is_command_128 : (d : DriveView) (blocks : List Block) → blocks_fault [] d.blocks ≡ None → IsStoreOf d blocks → is_command blocks 128 ≡ true
-unfolding block_attribute built_in_attribute row_in attribute_in attribute_fault attribute_of
-is_command_128 d blocks none is =
-    known (find_block 128 blocks) ∙ ap (λ (o : Option Attribute). unwrap_or (option_map (λ (a : Attribute). a.command) o) false) (same_attribute 128 d blocks none is)
-  where
-    known : (o : Option Block) → unwrap_or (option_map (λ (b : Block). b.attribute.command) o) false ≡ unwrap_or (option_map (λ (a : Attribute). a.command) (option_map (λ (b : Block). b.attribute) o)) false
-    known None = refl
-    known (Some b) = refl
+use Rattle.sercos_undisturbed.proofs.WellGiven.{is_command_128}
 
 -- A drive that is a phase below the commanded one at the end of a cycle, and was so before, got no MST in it: so all stays.
 stays_below : (passed : CommandsView → Option ℕ) (busy n : ℕ) (c : CommandsView) (v : View) (past : List View) → IsNextView busy v past → CommandsFollow c (v ∷ past) → 1 ≤ n → v.phase ≡ n + 1 → (standing (v ∷ past)).ended ≡ n

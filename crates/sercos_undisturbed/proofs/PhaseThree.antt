@@ -1,5 +1,5 @@
 -- In an undisturbed epoch phase 3 lasts no longer than the check of a drive takes, unless one hasn't ended well.
-use Rattle.std.proofs.Common.{◌≡◌, ◌⊎◌, inl, inr, ℕ, suc, ◌+◌, ◌*◌, ◌<◌, ◌≤◌, Bool, true, false, not, ◌&&◌, List, [], ◌∷◌, ◌++◌, length, Option, Some, None, refl, sym, ap, ap₂, ◌∙◌, subst, arith, if◌then◌else◌, length-append}
+use Rattle.std.proofs.Common.{◌≡◌, ◌⊎◌, inl, inr, ℕ, suc, ◌+◌, ◌*◌, ◌<◌, ◌≤◌, Bool, true, false, not, ◌&&◌, List, [], ◌∷◌, ◌++◌, length, Option, Some, None, refl, sym, ap, ap₂, ◌∙◌, subst, arith, if◌then◌else◌}
 use Rattle.std.specs.Prelude.{is_some}
 use Rattle.std.specs.List.{sum_by}
 use Rattle.std.proofs.lemmas.Bool.{and_parts, false≢true}
@@ -21,7 +21,7 @@ use Rattle.sercos_seat.proofs.Seats.{before_end}
 use Rattle.sercos_master.specs.Annals.{Past, outcomes, fall_of, is_done, is_done_in, all_ready}
 use Rattle.sercos_master.proofs.Configured.{each_passes}
 use Rattle.sercos_script.specs.Links.{Carry, Restarts}
-use Rattle.sercos_handshake.specs.Epochs.{with_heard, with_begun, epoch_begun}
+use Rattle.sercos_handshake.specs.Epochs.{epoch_begun}
 use Rattle.sercos_handshake.specs.RunLaws.{ComesUp}
 use Rattle.sercos_handshake.specs.Views.{View, standing}
 use Rattle.sercos_handshake.specs.WholeRun.{AreSound}
@@ -40,26 +40,25 @@ use Rattle.sercos_startup.proofs.CheckPasses.{KeepsRules, ring_drive}
 use Rattle.sercos_views.specs.RingViews.{at_start, behind_mdt, view_of, views_of}
 use Rattle.sercos_views.proofs.Members.{members_count}
 use Rattle.sercos_held.specs.Opened.{IsOpened}
-use Rattle.sercos_held.proofs.Extended.{Extends, heard_more, begun_same}
+use Rattle.sercos_held.proofs.Extended.{Extends}
 use Rattle.sercos_held.proofs.Runs.{Laws, drive_got, small, holding}
 use Rattle.sercos_headline.proofs.HeadlineRuns.{MoreLaws, all_stand, first_store, spelled_in, stored_in}
 use Rattle.sercos_undisturbed.specs.Undisturbed.{AreUndisturbed}
 use Rattle.sercos_undisturbed.specs.EpochStarts.{StartsEpoch}
 use Rattle.sercos_undisturbed.specs.ViewsSince.{views_since}
 use Rattle.sercos_undisturbed.specs.Sections.{AreInThree}
-use Rattle.sercos_undisturbed.specs.StartUps.{StaysUp}
 use Rattle.sercos_undisturbed.specs.Jobs.{jobs_of, AreAt}
+use Rattle.sercos_undisturbed.proofs.EpochCycles.{IsOn, AreOn, run_rest, wholes, longer, outcomes_extend, outcomes_after, on_in}
 use Rattle.sercos_undisturbed.proofs.Comes.{calm_in}
 use Rattle.sercos_undisturbed.proofs.Identified.{starts_so}
 use Rattle.sercos_undisturbed.proofs.StaysUp.{phase_now, epoch_starts}
-use Rattle.sercos_undisturbed.proofs.PhaseCounts.{end_kept}
 use Rattle.sercos_undisturbed.proofs.PhaseRuns.{next_phase_is}
 use Rattle.sercos_undisturbed.proofs.PhasesRise.{phase_after}
 use Rattle.sercos_undisturbed.proofs.CommandRuns.{first_commands}
 use Rattle.sercos_undisturbed.proofs.PassedRuns.{commands_so}
 use Rattle.sercos_undisturbed.proofs.Carried.{are_carried}
 use Rattle.sercos_undisturbed.proofs.PassedCycles.{views_split}
-use Rattle.sercos_undisturbed.proofs.NeverFalls.{AllWhole, runs_split, never_falls, stays_throughout}
+use Rattle.sercos_undisturbed.proofs.NeverFalls.{AllWhole, runs_split, never_falls}
 use Rattle.sercos_undisturbed.proofs.Sections.{never_idle}
 use Rattle.sercos_undisturbed.proofs.StopStays.{none_before, stop_after}
 use Rattle.sercos_undisturbed.proofs.BehindRests.{Follow, follow_since}
@@ -67,6 +66,7 @@ use Rattle.sercos_undisturbed.proofs.JobsCost.{check_fits, list_fits}
 use Rattle.sercos_undisturbed.proofs.ShortLists.{few_blocks, longest_list, lists_short}
 use Rattle.sercos_undisturbed.proofs.JobsBegun.{begun_end, begun_now, tasks_now, places_now, few_now}
 use Rattle.sercos_undisturbed.proofs.PhaseTwo.{section_two, listed_all, two_lasts}
+use Rattle.sercos_master.proofs.Followed.{not_longer}
 
 -- A CHECK that has ended well stays so, whatever outcome comes.
 given_stays : (outs : List Outcome) (o : Outcome) (i : ℕ) → ended_well (given outs i) ≡ true → ended_well (given (outs ++ o ∷ []) i) ≡ true
@@ -84,15 +84,6 @@ unready_before m old new (o, is) unready = by (is_ready m old) refl
     by : (b : Bool) → is_ready m old ≡ b → is_ready m old ≡ false
     by false off = off
     by true on = absurd (false≢true (sym unready ∙ ap (is_ready m) is ∙ ready_stays m old o on))
-
--- no more outcomes than requests
-pub few_outcomes : (begun : List Begun) → length (outcomes_in begun) ≤ length begun
-few_outcomes [] = omega arith
-few_outcomes (b ∷ older) = by (outcome_of b.request b.answers) (few_outcomes older)
-  where
-    by : (o : Option Outcome) → length (outcomes_in older) ≤ length older → length (with_outcome o (outcomes_in older)) ≤ suc (length older)
-    by None few = omega (arith, few)
-    by (Some o) few = let long = length-append (outcomes_in older) (o ∷ []) in omega (arith, few, long)
 
 is_false : (b : Bool) → not b ≡ true → b ≡ false
 is_false false e = refl
@@ -113,43 +104,15 @@ module _ (laws : Laws) (more : MoreLaws) (r : RingView) (jobs : List Job) (carry
   -- A CYCLE of phase 3 in which nothing is lost
   pub record IsThird (t : CycleView) (j : List CycleView) : Type 0 where
     pub phase : t.phase ≡ 3
-    pub now : (behind_mdt r jobs carry restarts t.sent j).now.phase ≡ 3
-    pub stays : fall_of (known_of r) (behind_mdt r jobs carry restarts t.sent j) ≡ None
-    pub starts : at_start r jobs carry restarts j ≡ looks_back r jobs (master_calls r carry restarts j)
-    pub whole : (k : ℕ) → k < length r.drives → IsWhole (view_of r jobs carry restarts k t j) (views_of r jobs carry restarts k j)
-    pub up : (k : ℕ) → k < length r.drives → (standing (views_of r jobs carry restarts k (t ∷ j))).ended ≡ 3
+    pub on : IsOn r jobs carry restarts t j
 
   abbrev pub AreThird : List CycleView → List CycleView → Type 0
   AreThird [] rest = Unit {0}
   AreThird (t ∷ three) rest = AreThird three rest × IsThird t (three ++ rest)
 
-  wholes : (three rest : List CycleView) → AreThird three rest → (k : ℕ) → k < length r.drives → AreWhole (views_since r jobs carry restarts k three rest) (views_of r jobs carry restarts k rest)
-  wholes [] rest are k below = tt
-  wholes (t ∷ three) rest are k below = (wholes three rest are.0 k below, subst (λ (l : List View). IsWhole (view_of r jobs carry restarts k t (three ++ rest)) l) (views_split r jobs carry restarts k three rest) (are.1.whole k below))
-
-  -- outcomes only come to those that are there
-  extended : (t : CycleView) (j : List CycleView) → IsRun r jobs carry restarts (t ∷ j) → IsClear (t ∷ j) → IsThird t j → (k : ℕ) → k < length r.drives → Extends (outcomes (back j) k) (outcomes (now_in t j) k)
-  extended t j run clear third k below = (more_is.0, ap outcomes_in now_are ∙ begun_same v.begins (with_heard v.heard (epoch_begun (views_of r jobs carry restarts k j))) ∙ more_is.1 ∙ ap (λ (l : List Begun). with_outcome more_is.0 (outcomes_in l)) (sym before_are))
-    where
-      v : View
-      v = view_of r jobs carry restarts k t j
-
-      before_are : begun_by ((back j).calls k) ≡ epoch_begun (views_of r jobs carry restarts k j)
-      before_are = (all_stand laws more r jobs carry restarts opened j run.0 clear.0 k below).sees.master.begun_are
-
-      unrestarted : (b : Bool) → b ≡ false → (if b then [] else epoch_begun (views_of r jobs carry restarts k j)) ≡ epoch_begun (views_of r jobs carry restarts k j)
-      unrestarted true on = absurd (cc)
-      unrestarted false off = refl
-
-      now_are : begun_by ((now_in t j).calls k) ≡ with_begun v.begins (with_heard v.heard (epoch_begun (views_of r jobs carry restarts k j)))
-      now_are = begun_now laws more r jobs carry restarts opened t j run clear third.stays k below ∙ begun_end laws more r jobs carry restarts opened t j run clear third.stays k
-          ∙ ap (λ (l : List Begun). with_begun v.begins (with_heard v.heard l)) (unrestarted v.master_restarts (third.whole k below).master)
-
-      more_is : Extends (outcomes_in (epoch_begun (views_of r jobs carry restarts k j))) (outcomes_in (with_heard v.heard (epoch_begun (views_of r jobs carry restarts k j))))
-      more_is = heard_more v.heard (epoch_begun (views_of r jobs carry restarts k j))
-
-  after_same : (t : CycleView) (j : List CycleView) → IsThird t j → (k : ℕ) → outcomes (back (t ∷ j)) k ≡ outcomes (now_in t j) k
-  after_same t j third k = ap (λ (p : Past). outcomes p k) (end_kept (known_of r) (now_in t j) third.stays)
+  ons : (three rest : List CycleView) → AreThird three rest → AreOn r jobs carry restarts three rest
+  ons [] rest are = tt
+  ons (t ∷ three) rest are = (ons three rest are.0, are.1.on)
 
   -- the plan
   planned_in_three : (t : CycleView) (j : List CycleView) → IsRun r jobs carry restarts (t ∷ j) → IsClear (t ∷ j) → IsThird t j → (k : ℕ) → k < length r.drives → (plan : PlanView) × ((now_in t j).plan ≡ Some plan)
@@ -164,9 +127,10 @@ module _ (laws : Laws) (more : MoreLaws) (r : RingView) (jobs : List Job) (carry
       → is_ready (member (known_of r) k) (outcomes (back (three ++ rest)) k) ≡ false → AreInThree r jobs carry restarts k three rest
   at_work [] rest run clear are k below none unready = tt
   at_work (t ∷ three) rest run clear are k below none unready = (
-    at_work three rest run.0 clear.0 are.0 k below (none_before r jobs carry restarts t (three ++ rest) are.1.starts stop_now) (unready_before (member (known_of r) k) _ _ (extended t (three ++ rest) run clear are.1 k below) unready_now),
+    at_work three rest run.0 clear.0 are.0 k below (none_before r jobs carry restarts t (three ++ rest) are.1.on.starts stop_now)
+        (unready_before (member (known_of r) k) _ _ (outcomes_extend laws more r jobs carry restarts opened t (three ++ rest) run clear are.1.on k below) unready_now),
     record {
-      phase = are.1.now;
+      phase = are.1.on.now ∙ are.1.phase;
       goes_on = stop_now;
       planned = let has = planned_in_three t (three ++ rest) run clear are.1 k below in ap (λ (o : Option PlanView). is_some o) has.1;
       unready = unready_now;
@@ -174,10 +138,10 @@ module _ (laws : Laws) (more : MoreLaws) (r : RingView) (jobs : List Job) (carry
   )
     where
       stop_now : (behind_mdt r jobs carry restarts t.sent (three ++ rest)).stop ≡ None
-      stop_now = sym (stop_after r jobs carry restarts t (three ++ rest) are.1.stays) ∙ none
+      stop_now = sym (stop_after r jobs carry restarts t (three ++ rest) are.1.on.stays) ∙ none
 
       unready_now : is_ready (member (known_of r) k) (outcomes (behind_mdt r jobs carry restarts t.sent (three ++ rest)) k) ≡ false
-      unready_now = sym (ap (is_ready (member (known_of r) k)) (after_same t (three ++ rest) are.1 k)) ∙ unready
+      unready_now = sym (ap (is_ready (member (known_of r) k)) (outcomes_after laws more r jobs carry restarts opened t (three ++ rest) are.1.on k)) ∙ unready
 
   -- THE RISE to phase 3, and the cycles since
   pub record IsRisen (n : ℕ) (j : List CycleView) : Type 0 where
@@ -210,7 +174,7 @@ module _ (laws : Laws) (more : MoreLaws) (r : RingView) (jobs : List Job) (carry
     all_then =
         let most = few_now laws more r jobs carry restarts opened first old run clear stays k below (omega (arith, two)) in
         let some = ended_there (outcomes (now_in first old) k) (reads_count (member (known_of r) k) + 11) checked_then in
-        let few = few_outcomes (begun_by ((now_in first old).calls k)) in
+        let few = not_longer (begun_by ((now_in first old).calls k)) in
         let same = ap (λ (l : List Begun). length l) (begun_now laws more r jobs carry restarts opened first old run clear stays k below) in
         omega (arith, most, some, few, same)
 
@@ -218,17 +182,7 @@ module _ (laws : Laws) (more : MoreLaws) (turn : WorkInTurn) (comes_up : (busy :
     (stand : (busy : ℕ) → StandsThroughout busy) (hear : (busy : ℕ) → HearsThroughout busy) (starts_in : (busy : ℕ) → StartsInCost busy) (timed : ComesTimed) (reads_cost : (busy : ℕ) → ReadsCost busy) (writes_cost : (busy : ℕ) → WritesCost busy) where
   third_in : (t : CycleView) (cycles before : List CycleView) → IsRun r jobs carry restarts (t ∷ (cycles ++ before)) → IsClear (t ∷ (cycles ++ before)) → StartsEpoch r jobs carry restarts before → AreUndisturbed r carry restarts (t ∷ cycles) before
       → t.phase ≡ 3 → IsThird laws more r jobs carry restarts opened t (cycles ++ before)
-  third_in t cycles before run clear starts calm phase = record {
-    phase = phase;
-    now = phase_now laws more comes_up r jobs carry restarts opened t (cycles ++ before) run.1 ∙ phase;
-    stays = all.stays.1;
-    starts = starts_so laws more r jobs carry restarts opened t (cycles ++ before) run.1 (calm_in r carry restarts t (cycles ++ before) calm.1);
-    whole = λ k below. subst (λ (l : List View). IsWhole (view_of r jobs carry restarts k t (cycles ++ before)) l) (sym (views_split r jobs carry restarts k cycles before)) (all.whole k below).1;
-    up = λ k below. subst (λ (l : List View). (standing (view_of r jobs carry restarts k t (cycles ++ before) ∷ l)).ended ≡ t.phase) (sym (views_split r jobs carry restarts k cycles before)) (all.stands k below).1.1 ∙ phase;
-  }
-    where
-      all : StaysUp r jobs carry restarts (t ∷ cycles) before
-      all = stays_throughout laws more turn comes_up late r jobs carry restarts opened stand hear (t ∷ cycles) before run clear starts calm
+  third_in t cycles before run clear starts calm phase = record { phase = phase; on = on_in laws more turn comes_up late r jobs carry restarts opened stand hear t cycles before run clear starts calm }
 
   pub since_rise : (cycles before : List CycleView) → IsRun r jobs carry restarts (cycles ++ before) → IsClear (cycles ++ before) → StartsEpoch r jobs carry restarts before → AreUndisturbed r carry restarts cycles before
       → (looks_back r jobs (master_calls r carry restarts (cycles ++ before))).now.phase ≡ 3 → (looks_back r jobs (master_calls r carry restarts (cycles ++ before))).stop ≡ None
@@ -282,19 +236,11 @@ module _ (laws : Laws) (more : MoreLaws) (turn : WorkInTurn) (comes_up : (busy :
           }
 
 -- THE CYCLES OF PHASE 3
-run_rest : (r : RingView) (jobs : List Job) (carry : Carry) (restarts : Restarts) (cycles rest : List CycleView) → IsRun r jobs carry restarts (cycles ++ rest) → IsClear (cycles ++ rest) → IsRun r jobs carry restarts rest × IsClear rest
-run_rest r jobs carry restarts [] rest run clear = (run, clear)
-run_rest r jobs carry restarts (t ∷ cycles) rest run clear = run_rest r jobs carry restarts cycles rest run.0 clear.0
-
 -- all but the newest request have ended
 begun_few : (s : Known) (k : ℕ) (plan : Option PlanView) (waiting : List Task) (phase n : ℕ) (begun : List Begun) (tasks : List Task) → AreBegunTasks s k plan waiting phase begun tasks → length (outcomes_in begun) ≤ n → length begun ≤ suc n
 begun_few s k plan waiting phase n [] tasks are few = omega arith
 begun_few s k plan waiting phase n (b ∷ older) [] are few = absurd are
-begun_few s k plan waiting phase n (b ∷ older) (t ∷ tasks) are few = let ended = are.1.ended in let longer = by (outcome_of b.request b.answers) in omega (arith, ended, longer, few)
-  where
-    by : (o : Option Outcome) → length (outcomes_in older) ≤ length (with_outcome o (outcomes_in older))
-    by None = omega arith
-    by (Some o) = let long = length-append (outcomes_in older) (o ∷ []) in omega (arith, long)
+begun_few s k plan waiting phase n (b ∷ older) (t ∷ tasks) are few = let ended = are.1.ended in let grown = longer (outcome_of b.request b.answers) (outcomes_in older) in omega (arith, ended, grown, few)
 
 stays_three : (done : Bool) (n : ℕ) → n ≡ 3 → (if done then n + 1 else n) ≡ 3 → done ≡ false
 stays_three true n three is = absurd (omega (arith, three, is))
@@ -319,13 +265,13 @@ module _ (laws : Laws) (more : MoreLaws) (comes_up : (busy : ℕ) → ComesUp bu
     split = views_split r jobs carry restarts k (t ∷ three) (first ∷ old)
 
     are_whole : AreWhole (views_since r jobs carry restarts k (t ∷ three) (first ∷ old)) (views_of r jobs carry restarts k (first ∷ old))
-    are_whole = wholes laws more r jobs carry restarts opened (t ∷ three) (first ∷ old) third k below
+    are_whole = wholes r jobs carry restarts (t ∷ three) (first ∷ old) (ons laws more r jobs carry restarts opened (t ∷ three) (first ∷ old) third) k below
 
     rest : open_in begun_old ≡ None
     rest = rests_then laws more r jobs carry restarts opened first old old_run.0 old_run.1 stays two rises k below
 
     recently : Follow begun_old (epoch_begun all_views)
-    recently = subst (λ (l : List View). Follow begun_old (epoch_begun l)) (sym split) (follow_since (views_since r jobs carry restarts k (t ∷ three) (first ∷ old)) (views_of r jobs carry restarts k (first ∷ old)) begun_old are_whole rest refl)
+    recently = subst (λ (l : List View). Follow begun_old (epoch_begun l)) (sym split) (follow_since (views_since r jobs carry restarts k (t ∷ three) (first ∷ old)) (views_of r jobs carry restarts k (first ∷ old)) begun_old are_whole rest ([], refl))
 
     -- the cycles with an open step cost no more than the requests since the rise ..
     opens_recent : (longest : ℕ → ℕ) → AreListed longest all_views
@@ -342,14 +288,14 @@ module _ (laws : Laws) (more : MoreLaws) (comes_up : (busy : ℕ) → ComesUp bu
         by : ((standing (views_since r jobs carry restarts k (t ∷ three) (first ∷ old) ++ views_of r jobs carry restarts k (first ∷ old))).ended ≡ 0)
             ⊎ (open_since (views_since r jobs carry restarts k (t ∷ three) (first ∷ old)) (views_of r jobs carry restarts k (first ∷ old)) ≤ cost_in (cost_of (drive_at r k).busy (drive_at r k).command longest (store_of (drive_at r k))) recently.0)
             → open_since (views_since r jobs carry restarts k (t ∷ three) (first ∷ old)) (views_of r jobs carry restarts k (first ∷ old)) ≤ cost_in (cost_of (drive_at r k).busy (drive_at r k).command longest (store_of (drive_at r k))) recently.0
-        by (inl down) = let both : 3 ≡ 0 = sym (third.1.up k below) ∙ ap (λ (l : List View). (standing l).ended) split ∙ down in absurd (omega (arith, both))
+        by (inl down) = let both : 3 ≡ 0 = sym third.1.phase ∙ sym (third.1.on.up k below) ∙ ap (λ (l : List View). (standing l).ended) split ∙ down in absurd (omega (arith, both))
         by (inr is) = is
 
     -- .. which are the check alone, as long as its list isn't asked for.
     places : (plan : PlanView) → (behind_mdt r jobs carry restarts t.sent (three ++ first ∷ old)).plan ≡ Some plan → AreAt (jobs_of (known_of r) (Some plan) k) (recently.0 ++ begun_old)
     places plan has = subst (λ (o : Option PlanView). AreAt (jobs_of (known_of r) o k) (recently.0 ++ begun_old)) has
         (subst (λ (l : List Begun). AreAt (jobs_of (known_of r) (behind_mdt r jobs carry restarts t.sent (three ++ first ∷ old)).plan k) l) recently.1
-        (places_now laws more r jobs carry restarts opened t (three ++ first ∷ old) run clear third.1.stays k below (let now = third.1.now in omega (arith, now))))
+        (places_now laws more r jobs carry restarts opened t (three ++ first ∷ old) run clear third.1.on.stays k below (let now = third.1.on.now ∙ third.1.phase in omega (arith, now))))
 
     abbrev outs : List Outcome
     outs = outcomes (behind_mdt r jobs carry restarts t.sent (three ++ first ∷ old)) k
@@ -367,8 +313,8 @@ module _ (laws : Laws) (more : MoreLaws) (comes_up : (busy : ℕ) → ComesUp bu
         → open_since (views_since r jobs carry restarts k (t ∷ three) (first ∷ old)) (views_of r jobs carry restarts k (first ∷ old)) ≤ command_cycles (drive_at r k)
     check_lasts few =
         let p = behind_mdt r jobs carry restarts t.sent (three ++ first ∷ old) in
-        let begun_are = begun_now laws more r jobs carry restarts opened t (three ++ first ∷ old) run clear third.1.stays k below in
-        let le = begun_few (known_of r) k p.plan (p.waiting k) p.now.phase (reads_count (member (known_of r) k) + 12) (epoch_begun all_views) (p.tasks k) (tasks_now laws more r jobs carry restarts opened t (three ++ first ∷ old) run clear third.1.stays k below)
+        let begun_are = begun_now laws more r jobs carry restarts opened t (three ++ first ∷ old) run clear third.1.on.stays k below in
+        let le = begun_few (known_of r) k p.plan (p.waiting k) p.now.phase (reads_count (member (known_of r) k) + 12) (epoch_begun all_views) (p.tasks k) (tasks_now laws more r jobs carry restarts opened t (three ++ first ∷ old) run clear third.1.on.stays k below)
         (subst (λ (l : List Begun). length (outcomes_in l) ≤ reads_count (member (known_of r) k) + 12) begun_are few) in
         let few_begun : length (epoch_begun all_views) ≤ reads_count (member (known_of r) k) + 13 = omega (arith, le) in
         let opens = opens_recent (λ raw. 512) (listed_all all_views) in
@@ -424,8 +370,8 @@ module _ (laws : Laws) (more : MoreLaws) (comes_up : (busy : ℕ) → ComesUp bu
           }
             where
               undone : all_ready (known_of r) (behind_mdt r jobs carry restarts t.sent (three ++ risen.first ∷ risen.old)) ≡ false
-              undone = sym (ap (λ (m : ℕ). is_done_in m (known_of r) (behind_mdt r jobs carry restarts t.sent (three ++ risen.first ∷ risen.old))) third.1.now)
-                  ∙ stays_three (is_done (known_of r) (behind_mdt r jobs carry restarts t.sent (three ++ risen.first ∷ risen.old))) t.phase third.1.phase (sym (phase_after laws more comes_up r jobs carry restarts opened t (three ++ risen.first ∷ risen.old) runs third.1.stays) ∙ phase)
+              undone = sym (ap (λ (m : ℕ). is_done_in m (known_of r) (behind_mdt r jobs carry restarts t.sent (three ++ risen.first ∷ risen.old))) (third.1.on.now ∙ third.1.phase))
+                  ∙ stays_three (is_done (known_of r) (behind_mdt r jobs carry restarts t.sent (three ++ risen.first ∷ risen.old))) t.phase third.1.phase (sym (phase_after laws more comes_up r jobs carry restarts opened t (three ++ risen.first ∷ risen.old) runs third.1.on.stays) ∙ phase)
 
               last : IsFound 0 (length (known_of r).drives) (λ k. not (is_ready (member (known_of r) k) (outcomes (behind_mdt r jobs carry restarts t.sent (three ++ risen.first ∷ risen.old)) k)))
               last = found_some 0 (length (known_of r).drives) (λ k. not (is_ready (member (known_of r) k) (outcomes (behind_mdt r jobs carry restarts t.sent (three ++ risen.first ∷ risen.old)) k))) undone
@@ -437,7 +383,7 @@ module _ (laws : Laws) (more : MoreLaws) (comes_up : (busy : ℕ) → ComesUp bu
               unready = is_false (is_ready (member (known_of r) last.place) (outcomes (behind_mdt r jobs carry restarts t.sent (three ++ risen.first ∷ risen.old)) last.place)) last.passes
 
               same : outcomes (looks_back r jobs (master_calls r carry restarts (t ∷ (three ++ risen.first ∷ risen.old)))) last.place ≡ outcomes (behind_mdt r jobs carry restarts t.sent (three ++ risen.first ∷ risen.old)) last.place
-              same = after_same laws more r jobs carry restarts opened t (three ++ risen.first ∷ risen.old) third.1 last.place
+              same = outcomes_after laws more r jobs carry restarts opened t (three ++ risen.first ∷ risen.old) third.1.on last.place
 
               idle_never : length (t ∷ three) ≤ open_since (views_since r jobs carry restarts last.place (t ∷ three) (risen.first ∷ risen.old)) (views_of r jobs carry restarts last.place (risen.first ∷ risen.old))
               idle_never = never_idle laws more three_works r jobs carry restarts opened last.place low (t ∷ three) (risen.first ∷ risen.old) runs clears

@@ -14,7 +14,7 @@ use Rattle.sercos_block.specs.Rules.{blocks_fault}
 use Rattle.sercos_block.specs.Stores.{find_block, store_of}
 use Rattle.sercos_block.specs.Views.{DriveView}
 use Rattle.sercos_block.specs.declared.block.Block.{Block}
-use Rattle.sercos_block.specs.declared.built_in.Opening.TheVariants.{Zero}
+use Rattle.sercos_block.specs.declared.built_in.Opening.TheVariants.{Empty, Zero}
 use Rattle.sercos_service_drive.specs.Log.{Taken, Entry, in_order}
 use Rattle.sercos_service_drive.specs.Replies.{bytes_written, write_cause, write_cause_in}
 use Rattle.sercos_service_drive.proofs.WordLemmas.{length-bytes_in}
@@ -27,7 +27,8 @@ use Rattle.sercos_startup.proofs.CauseLemmas.{causes_alike, cycle_cause, number_
 use Rattle.sercos_handshake.proofs.SettingReplies.{Allows}
 use Rattle.sercos_handshake.proofs.WriteRuns.{length-in_order}
 use Rattle.sercos_handshake.proofs.WriteStages.{told}
-use Rattle.sercos_undisturbed.proofs.RefusedSteps.{is_nil, IsCaused}
+use Rattle.sercos_undisturbed.proofs.RefusedSteps.{IsCaused}
+use Rattle.sercos_handshake.proofs.WriteStages.{is_nil}
 use Rattle.sercos_undisturbed.proofs.Small.{none_some, some_is}
 
 -- WORDS
@@ -170,3 +171,11 @@ found_3 d rules = find_store_of 127 d rules
 pub found_4 : (d : DriveView) → blocks_fault [] d.blocks ≡ None → find_block 128 (store_of d) ≡ Some (check_4 d)
 unfolding built_in
 found_4 d rules = find_store_of 128 d rules
+
+-- the list of the check for phase 4
+abbrev pub list_4 : DriveView → Block
+list_4 d = built_in_block d (row 22 0x70550001 true (Empty 128))
+
+pub found_list : (d : DriveView) → blocks_fault [] d.blocks ≡ None → find_block 22 (store_of d) ≡ Some (list_4 d)
+unfolding built_in
+found_list d rules = find_store_of 22 d rules

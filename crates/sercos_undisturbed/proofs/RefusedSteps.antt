@@ -1,9 +1,8 @@
 -- Which step of a transfer can be refused. Of a write of operation data it is one that writes a word, by that word's cause; of a read of the
 -- attribute or of operation data none is; and of a procedure command it is the setting alone.
-use Rattle.std.proofs.Common.{◌≡◌, ℕ, suc, ◌+◌, ◌*◌, Bool, true, false, not, ◌&&◌, List, [], ◌∷◌, ◌++◌, length, Option, Some, None, refl, sym, ap, ap₂, ◌∙◌, if◌then◌else◌}
+use Rattle.std.proofs.Common.{◌≡◌, ℕ, ◌+◌, ◌*◌, Bool, true, false, ◌&&◌, List, [], ◌∷◌, ◌++◌, length, Option, Some, None, refl, sym, ap, ap₂, ◌∙◌, if◌then◌else◌}
 use Rattle.std.specs.Prelude.{◌==◌, is_some, is_none, option_map, slice_get, slice_index}
 use Rattle.std.specs.Bool.{then_some}
-use mathlib.Core.Bool.{beq}
 use Rattle.std.proofs.lemmas.Bool.{cond-true, cond-false}
 use Rattle.sercos_idn.specs.declared.idn.Idn.{Idn}
 use Rattle.sercos_step.specs.declared.request.Request.{Request}
@@ -11,7 +10,7 @@ use Rattle.sercos_step.specs.declared.request.Request.TheVariants as request
 use Rattle.sercos_step.specs.declared.step.Answer.{Answer}
 use Rattle.sercos_step.specs.declared.step.Step.{Step}
 use Rattle.sercos_step.specs.Steps.{a_step, opening, run, steps_of, answer_words, asks_attribute}
-use Rattle.sercos_step.specs.Words.{shape_of, shape_by, words_told}
+use Rattle.sercos_step.specs.Words.{shape_of, shape_by}
 use Rattle.sercos_block.specs.Blocks.{element_of}
 use Rattle.sercos_block.specs.Stores.{find_block, read_fault}
 use Rattle.sercos_block.specs.declared.block.Block.{Block}
@@ -26,17 +25,13 @@ use Rattle.sercos_handshake.proofs.CommandStages as command
 use Rattle.sercos_handshake.proofs.ReadStages as read
 use Rattle.sercos_handshake.proofs.SettingReplies.{Allows, cancels_well}
 use Rattle.sercos_handshake.proofs.TransferSteps.{newest_step}
-use Rattle.sercos_handshake.proofs.WriteRuns.{run_next}
-use Rattle.sercos_handshake.proofs.WriteStages.{low_of, high_of, told}
+use Rattle.sercos_handshake.proofs.WriteStages.{low_of, high_of, told, is_nil}
 use Rattle.sercos_handshake.proofs.WriteStages as write
 use Rattle.sercos_undisturbed.proofs.Small.{never_both}
+use Rattle.sercos_handshake.proofs.CommandRefusals as refusals
 
 some_same : {A : Type 0} (x y : A) → Some x ≡ Some y → y ≡ x
 some_same x y is = cc
-
-abbrev pub is_nil : List ℕ → Bool
-is_nil [] = true
-is_nil (w ∷ ws) = false
 
 good_answer : (a : Answer) (word : ℕ) → a ≡ good word → a.error ≡ false
 good_answer a word is = ap (λ (x : Answer). x.error) is
@@ -57,7 +52,7 @@ opening_good t all idn blocks b is alike found =
     ∙ cond-true _ _ _ (ap (λ (s : Step). is_some (find_block s.word t.blocks)) is ∙ some_alike (find_block idn.raw t.blocks) b (find-alike idn.raw t.blocks blocks b alike found))
 
 -- the reply to a word of operation data
-reply_word : (raw word : ℕ) (last : Bool) (t : Taken) (all : List Entry) (run : List Taken) → t.step ≡ a_step true last 7 word → open_idn all ≡ Some raw → run_before true 7 all ≡ run →
+pub reply_word : (raw word : ℕ) (last : Bool) (t : Taken) (all : List Entry) (run : List Taken) → t.step ≡ a_step true last 7 word → open_idn all ≡ Some raw → run_before true 7 all ≡ run →
     reply_of t all ≡ answer_by (write_cause_in (find_block raw t.blocks) t.phase last (in_order run (word ∷ []))) 0
 reply_word raw word last t all run is opened before =
     let closed : (t.step.write && (t.step.element == 1)) ≡ false = ap (λ (s : Step). s.write && (s.element == 1)) is in
@@ -83,32 +78,6 @@ module _ (idn : Idn) (bytes : List ℕ) (b : Block) (said : shape_of 7 (low_of b
   abbrev asked : Request
   asked = request.Write idn 7 bytes
 
-  -- the next step
-  next_opening : (words : List ℕ) (s : Step) → words ≡ [] → slice_get (steps_of asked words) (length words) ≡ Some s → s ≡ opening idn
-  next_opening words s is next = some_same (opening idn) s (rw is at next)
-
-  next_low : (words : List ℕ) (s : Step) (w : ℕ) → words ≡ w ∷ [] → slice_get (steps_of asked words) (length words) ≡ Some s → s ≡ a_step false false 3 0
-  next_low words s w is next = some_same (a_step false false 3 0) s (rw is at next)
-
-  next_high : (words : List ℕ) (s : Step) (w x : ℕ) → words ≡ w ∷ x ∷ [] → slice_get (steps_of asked words) (length words) ≡ Some s → s ≡ a_step false true 3 0
-  next_high words s w x is next = some_same (a_step false true 3 0) s (rw is at next)
-
-  steps_known : (w : ℕ) (more : List ℕ) → steps_of asked (w ∷ low_of b ∷ high_of b ∷ more) ≡ opening idn ∷ a_step false false 3 0 ∷ a_step false true 3 0 ∷ run true 7 (told b bytes)
-  steps_known w more = ap (λ s. opening idn ∷ a_step false false 3 0 ∷ a_step false true 3 0 ∷ run true 7 (words_told s bytes)) said
-
-  first_of : (word : ℕ) (rest : List ℕ) → slice_get (run true 7 (word ∷ rest)) 0 ≡ Some (a_step true (is_nil rest) 7 word)
-  first_of word [] = refl
-  first_of word (v ∷ rest) = refl
-
-  next_word : (words : List ℕ) (s : Step) (w : ℕ) (more : List ℕ) (taken : List Taken) (word : ℕ) (rest : List ℕ) → words ≡ w ∷ low_of b ∷ high_of b ∷ more → length more ≡ length taken →
-      in_order taken (word ∷ rest) ≡ told b bytes → slice_get (steps_of asked words) (length words) ≡ Some s → s ≡ a_step true (is_nil rest) 7 word
-  next_word words s w more taken word rest is count ordered next =
-      let at : slice_get (steps_of asked words) (length words) ≡ slice_get (run true 7 (told b bytes)) (length more) =
-      ap (λ (ws : List ℕ). slice_get (steps_of asked ws) (length ws)) is ∙ ap (λ (steps : List Step). slice_get steps (suc (suc (suc (length more))))) (steps_known w more) in
-      let there : slice_get (run true 7 (told b bytes)) (length more) ≡ Some (a_step true (is_nil rest) 7 word) =
-      ap₂ (λ (ws : List ℕ) (k : ℕ). slice_get (run true 7 ws) k) (sym ordered) count ∙ run_next taken word rest ∙ first_of word rest in
-      some_same (a_step true (is_nil rest) 7 word) s (sym there ∙ sym at ∙ next)
-
   pub write_caused : (e : Entry) (entries log : List Entry) → IsTransfer asked blocks e entries log → e.answer.error ≡ true → IsCaused idn bytes b e
   write_caused e entries log is error = by (write.stage_before idn bytes b said blocks found e entries log is).0
     where
@@ -122,14 +91,14 @@ module _ (idn : Idn) (bytes : List ℕ) (b : Block) (said : shape_of 7 (low_of b
       never word well = absurd (never_both e.answer.error error (good_answer e.answer word (reply ∙ well)))
 
       by : write.Stage idn bytes b (answer_words (replies_of entries)) (entries ++ log) → IsCaused idn bytes b e
-      by (write.AtOpening at) = never 0 (opening_good e.taken (entries ++ log) idn blocks b (next_opening (answer_words (replies_of entries)) e.taken.step at next) is.alike.1 found)
+      by (write.AtOpening at) = never 0 (opening_good e.taken (entries ++ log) idn blocks b (write.next_opening idn bytes b said (answer_words (replies_of entries)) e.taken.step at next) is.alike.1 found)
       by (write.AtLow w at opened before) =
-          let step = next_low (answer_words (replies_of entries)) e.taken.step w at next in
+          let step = write.next_low idn bytes b said (answer_words (replies_of entries)) e.taken.step w at next in
           never _ (reply_low idn.raw 0 false e.taken (entries ++ log) b.attribute step opened before (IsRead-alike idn.raw e.taken blocks b (ap (λ (s : Step). s.element) step) is.alike.1 found))
       by (write.AtHigh w t at opened before reads) =
-          never _ (reply_high idn.raw 0 true e.taken t (entries ++ log) b.attribute (next_high (answer_words (replies_of entries)) e.taken.step w (low_of b) at next) opened before reads)
+          never _ (reply_high idn.raw 0 true e.taken t (entries ++ log) b.attribute (write.next_high idn bytes b said (answer_words (replies_of entries)) e.taken.step w (low_of b) at next) opened before reads)
       by (write.AtWord w more taken word rest at count opened before ordered) =
-          let step = next_word (answer_words (replies_of entries)) e.taken.step w more taken word rest at count ordered next in
+          let step = write.next_word idn bytes b said (answer_words (replies_of entries)) e.taken.step w more taken word rest at count ordered next in
           record {
             before = taken;
             word = word;
@@ -200,27 +169,6 @@ attribute_reads_well idn b blocks found = reads_well idn 3 b blocks found refl a
 pub data_reads_well : (idn : Idn) (b : Block) (blocks : List Block) → find_block idn.raw blocks ≡ Some b → (e : Entry) (entries log : List Entry) → IsTransfer (request.Read idn 7) blocks e entries log → e.answer.error ≡ false
 data_reads_well idn b blocks found = reads_well idn 7 b blocks found refl always_7
 
--- A PROCEDURE COMMAND: a read of its data status isn't refused while its number is open
-selects_status : (t : Taken) (all : List Entry) → (t.step.element == 1) ≡ true → ((selection t (run_before false 1 all)).step.element == 1) ≡ true
-selects_status t [] first = first
-selects_status t (e ∷ all) first =
-    by (beq e.taken.step.write false) (e.taken.step.element == 1) (not e.taken.step.last && not e.answer.error) refl (selects_status e.taken all)
-  where
-    by : (u v w : Bool) → (e.taken.step.element == 1) ≡ v → ((e.taken.step.element == 1) ≡ true → ((selection e.taken (run_before false 1 all)).step.element == 1) ≡ true) →
-        ((selection t (if u && (v && w) then e.taken ∷ run_before false 1 all else [])).step.element == 1) ≡ true
-    by true true true is behind = behind is
-    by true true false is behind = first
-    by true false w is behind = first
-    by false v w is behind = first
-
-status_well : (raw : ℕ) (t : Taken) (all : List Entry) → t.step ≡ a_step false true 1 0 → open_idn all ≡ Some raw → (reply_of t all).error ≡ false
-status_well raw t all is opened =
-    let first = selects_status t all (ap (λ (s : Step). s.element == 1) is) in
-    let s : Taken = selection t (run_before false 1 all) in
-    let there = cond-true (s.step.element == 1) None (read_fault (find_block raw s.blocks) s.step.element) first in
-    let copied = slice_index (copy raw s) (length (run_before false 1 all)) in
-    ap (λ (a : Answer). a.error) (reply-read raw 1 0 true t all (run_before false 1 all) refl is opened refl ∙ ap (λ (o : Option ℕ). answer_by o copied) there)
-
 -- so it isn't refused at all, if its setting isn't
 pub command_well : (idn : Idn) (b : Block) (blocks : List Block) → find_block idn.raw blocks ≡ Some b → b.attribute.command ≡ true → (e : Entry) (entries log : List Entry) → IsTransfer (request.Command idn) blocks e entries log → Allows b e.taken.phase
     → write_cause_in (find_block idn.raw e.taken.blocks) e.taken.phase true (3 ∷ []) ≡ None → e.answer.error ≡ false
@@ -236,7 +184,7 @@ command_well idn b blocks found command_is e entries log is allows none = by (co
     first same = some_same (opening idn) e.taken.step (sym (ap (λ (ws : List ℕ). slice_get (steps_of (request.Command idn) ws) (length ws)) same) ∙ next)
 
     polls : open_idn (entries ++ log) ≡ Some idn.raw → run_before true 7 (entries ++ log) ≡ [] → (polled : List ℕ) → Poll polled e.taken.step → e.answer.error ≡ false
-    polls opened free polled (Reads step long) = ap (λ (a : Answer). a.error) reply ∙ status_well idn.raw e.taken (entries ++ log) step opened
+    polls opened free polled (Reads step long) = ap (λ (a : Answer). a.error) reply ∙ refusals.reads_well idn.raw e.taken (entries ++ log) step opened
     polls opened free polled (Cancels step long) = ap (λ (a : Answer). a.error) reply ∙ cancels_well idn.raw e.taken (entries ++ log) blocks b step opened free is.alike.1 found command_is allows
 
     by : command.Stage idn b (answer_words (replies_of entries)) entries (entries ++ log) → e.answer.error ≡ false

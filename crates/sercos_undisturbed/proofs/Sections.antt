@@ -47,7 +47,7 @@ one_more_is : (b : Bool) (n : ℕ) → b ≡ true → n + 1 ≤ one_more b n
 one_more_is true n is = omega arith
 one_more_is false n is = absurd (cc)
 
-some_open : (o : Option Step) → is_none o ≡ false → is_some o ≡ true
+pub some_open : (o : Option Step) → is_none o ≡ false → is_some o ≡ true
 some_open None is = sym is
 some_open (Some s) is = refl
 

@@ -1,6 +1,6 @@
 -- What the master sends in a cycle of a clear run.
-use Rattle.std.proofs.Common.{◌≡◌, ℕ, ◌<◌, ◌≤◌, Bool, true, false, List, ◌∷◌, length, Option, Some, None, refl, sym, ◌∙◌, ap, subst}
-use Rattle.std.specs.Prelude.{nat_le, is_some, is_none}
+use Rattle.std.proofs.Common.{◌≡◌, ℕ, ◌<◌, ◌≤◌, Bool, true, false, List, ◌∷◌, length, refl, sym, ◌∙◌, ap, subst}
+use Rattle.std.specs.Prelude.{nat_le, is_some}
 use Rattle.sercos_step.specs.declared.request.Job.{Job}
 use Rattle.sercos_block.specs.Stores.{IsStore, store_of}
 use Rattle.sercos_block.specs.Views.{RingView}
@@ -26,10 +26,7 @@ use Rattle.sercos_headline.proofs.HeadlineRuns.{MoreLaws, first_store, stored_in
 use Rattle.sercos_pace.proofs.WholeCycles.{open_late}
 use Rattle.sercos_undisturbed.proofs.Addressed.{addressed_open, told_if, told_late, told_one}
 use Rattle.sercos_undisturbed.proofs.Phases.{late_so, two_so}
-
-not_none : {A : Type 0} (o : Option A) → is_some o ≡ true → is_none o ≡ false
-not_none None some = cc
-not_none (Some x) some = refl
+use Rattle.sercos_master.proofs.Rings.{none_of_some}
 
 module _ (laws : Laws) (more : MoreLaws) (turn : WorkInTurn) (r : RingView) (jobs : List Job) (carry : Carry) (restarts : Restarts) (opened : IsOpened r jobs) where
   pub stores : (k : ℕ) → k < length r.drives → IsStore (store_of (drive_at r k))
@@ -79,7 +76,7 @@ module _ (laws : Laws) (more : MoreLaws) (turn : WorkInTurn) (r : RingView) (job
         begun_are = begun_then laws r jobs carry restarts opened stores t j run.1 clear.1 spelled stored all k below
 
         not_idle : is_idle (behind_mdt r jobs carry restarts t.sent j) k ≡ false
-        not_idle = not_none (open_in (begun_by ((behind_mdt r jobs carry restarts t.sent j).calls k))) (ap (λ (l : List Begun). is_some (open_in l)) begun_are ∙ opens)
+        not_idle = none_of_some (open_in (begun_by ((behind_mdt r jobs carry restarts t.sent j).calls k))) (ap (λ (l : List Begun). is_some (open_in l)) begun_are ∙ opens)
 
         by : (late : Bool) → nat_le 3 t.phase ≡ late → 2 ≤ t.phase → is_some (told_to (behind_mdt r jobs carry restarts t.sent j) k) ≡ true
         by true is two = joint_in k below (late_so t.phase is)

@@ -8,7 +8,6 @@ use Rattle.sercos_model.proofs.FaultLemmas.{none_of-or, none_of-then}
 use Rattle.sercos_idn.specs.Attributes.{attribute_of}
 use Rattle.sercos_idn.specs.declared.attribute.Attribute.{Attribute}
 use Rattle.sercos_step.specs.declared.request.Job.{Job}
-use Rattle.sercos_timing.specs.Views.{PlanView}
 use Rattle.sercos_block.specs.Blocks.{is_fixed, is_protected}
 use Rattle.sercos_block.specs.Rules.{blocks_fault}
 use Rattle.sercos_block.specs.Stores.{find_block, with_data, store_of, write_fault, data_fault, put_fault, are_ascending}
@@ -24,7 +23,7 @@ use Rattle.sercos_drive.specs.Annals.{annals}
 use Rattle.sercos_trace.specs.Views.{CycleView}
 use Rattle.sercos_script.specs.Links.{Carry, Restarts}
 use Rattle.sercos_startup.specs.Kept.{BlocksKeep, is_own_outside}
-use Rattle.sercos_startup.specs.StartUp.{IsStoreOf, Holds, start_up}
+use Rattle.sercos_startup.specs.StartUp.{IsStoreOf}
 use Rattle.sercos_startup.proofs.CheckPasses.{ring_drive}
 use Rattle.sercos_startup.proofs.LimitLemmas.{names_own}
 use Rattle.sercos_service_drive.specs.Writes.{without_data}
@@ -94,6 +93,64 @@ ascends keep d blocks raw phase bytes ascending stored allowed = by (is_command 
 abbrev pub SetsWell : View → List View → Type 0
 SetsWell v past = (w : Write) → write_of (processed_in v past) (kept_in v past) ≡ Some w → w.raw ≡ 128 → ends_well v.commands.rate 128 (with_data 128 w.bytes v.blocks) ≡ true
 
+module _ (laws : Laws) (more : MoreLaws) (r : RingView) (jobs : List Job) (carry : Carry) (restarts : Restarts) (opened : IsOpened r jobs) (k : ℕ) (below : k < length r.drives) (t : CycleView) (j : List CycleView) (run : IsRun r jobs carry restarts (t ∷ j))
+    (clear : IsClear (t ∷ j)) (w : Write) (is : write_of (processed_in (view_of r jobs carry restarts k t j) (views_of r jobs carry restarts k j)) (kept_in (view_of r jobs carry restarts k t j) (views_of r jobs carry restarts k j)) ≡ Some w) where
+  -- THE WRITE OF A CYCLE could be made.
+  pub allowed_in : put_fault (find_block w.raw (view_of r jobs carry restarts k t j).blocks) (stood_in (view_of r jobs carry restarts k t j) (standing (views_of r jobs carry restarts k j))) w.bytes ≡ None
+  allowed_in = by (processes v past)
+    where
+      v : View
+      v = view_of r jobs carry restarts k t j
+
+      past : List View
+      past = views_of r jobs carry restarts k j
+
+      stands : Stands r jobs carry restarts (t ∷ j) k
+      stands = all_stand laws more r jobs carry restarts opened (t ∷ j) run clear k below
+
+      by : Processes v past → put_fault (find_block w.raw v.blocks) (stood_in v (standing past)) w.bytes ≡ None
+      by (Nothing nothing) = let no : Some w ≡ None = sym is ∙ ap (λ (o : Option Taken). write_of o (kept_in v past)) nothing in absurd (cc)
+      by (Record s got came two some) = subst (λ (o : Option Write). IfSome o (λ w. put_fault (find_block w.raw v.blocks) (stood_in v (standing past)) w.bytes ≡ None)) adds_it
+          (more.allows (record_in v (length past) (stood_in v (standing past)) s) (kept_in v past)
+          (those_moved (store_of (drive_at r k)) v.blocks (kept_in v past) stands.sound.1.0 (those_kept (store_of (drive_at r k)) v past (those_since (store_of (drive_at r k)) past stands.sound.0))))
+        where
+          adds_it : added_on (record_in v (length past) (stood_in v (standing past)) s) (kept_in v past) ≡ Some w
+          adds_it = sym (ap (λ (o : Option Taken). write_of o (kept_in v past)) some) ∙ is
+
+  -- And if it was one to S-0-0128, phase 3 was commanded.
+  pub three_in : w.raw ≡ 128 → t.phase ≡ 3
+  three_in number = by (processes v past)
+    where
+      v : View
+      v = view_of r jobs carry restarts k t j
+
+      past : List View
+      past = views_of r jobs carry restarts k j
+
+      stored : IsStored (drive_at r k) (view_of r jobs carry restarts k t j).blocks
+      stored = stored_in laws more r jobs carry restarts opened t j k below
+
+      rules : blocks_fault [] (drive_at r k).blocks ≡ None
+      rules = (ring_drive r k (drive_at r k) opened.valid (drive_got r k below)).blocks
+
+      by : Processes v past → t.phase ≡ 3
+      by (Nothing nothing) = let no : Some w ≡ None = sym is ∙ ap (λ (o : Option Taken). write_of o (kept_in v past)) nothing in absurd (cc)
+      by (Record s got came two some) =
+          sym (processed_phase v past came (omega (arith, two)))
+          ∙ in_three (drive_at r k) (stood_in v (standing past)) (bare_4 (drive_at r k) (find_block 128 v.blocks) (stood_in v (standing past)) w.bytes
+          (find-alike 128 v.blocks (store_of (drive_at r k)) (check_4 (drive_at r k)) (alike_so (drive_at r k) v.blocks stored.1) (found_4 (drive_at r k) rules))
+          (ap (λ (n : ℕ). put_fault (find_block n v.blocks) (stood_in v (standing past)) w.bytes) (sym number) ∙ allowed_in))
+
+-- FROM PHASE 3 ON a drive's check for phase 4 names its own blocks that are outside their limits.
+pub names_in : (laws : Laws) (more : MoreLaws) (r : RingView) (jobs : List Job) (carry : Carry) (restarts : Restarts) (opened : IsOpened r jobs) (k : ℕ) (below : k < length r.drives) (t : CycleView) (j : List CycleView) → IsRun r jobs carry restarts (t ∷ j) → IsClear (t ∷ j) → 3 ≤ t.phase
+    → unfit_for_phase_4 (view_of r jobs carry restarts k t j).blocks ≡ map (λ (b : Block). b.idn) (filter is_own_outside (view_of r jobs carry restarts k t j).blocks)
+names_in laws more r jobs carry restarts opened k below t j run clear late =
+    let stored = stored_in laws more r jobs carry restarts opened t j k below in
+    let held = holds_cycle laws more r jobs carry restarts opened t j run clear late k below in
+    let fit = fits_in laws more r jobs carry restarts opened t j run clear late in
+    names_own (drive_at r k) (view_of r jobs carry restarts k t j).blocks r.cycle stored.0 (ring_drive r k (drive_at r k) opened.valid (drive_got r k below)).blocks stored.1 held.1.1.0
+    (cycle_some r.cycle (s_known laws r jobs carry restarts opened (first_store laws more r jobs carry restarts opened)).cycles.cycle).1 (fit.low k below) (fit.high k below)
+
 module _ (laws : Laws) (more : MoreLaws) (r : RingView) (jobs : List Job) (carry : Carry) (restarts : Restarts) (opened : IsOpened r jobs) (k : ℕ) (below : k < length r.drives) (none : list_any is_outside (drive_at r k).blocks ≡ false) where
   rules : blocks_fault [] (drive_at r k).blocks ≡ None
   rules = (ring_drive r k (drive_at r k) opened.valid (drive_got r k below)).blocks
@@ -102,7 +159,7 @@ module _ (laws : Laws) (more : MoreLaws) (r : RingView) (jobs : List Job) (carry
   own_inside h n = stays_at more.keep more.allows more.those (drive_at r k) n (λ b. is_own_outside b ≡ false) (own_stays (drive_at r k) rules none n) r.rate h (first_store laws more r jobs carry restarts opened k below).ascending
 
   pub sets_well : (t : CycleView) (j : List CycleView) → IsRun r jobs carry restarts (t ∷ j) → IsClear (t ∷ j) → SetsWell (view_of r jobs carry restarts k t j) (views_of r jobs carry restarts k j)
-  sets_well t j run clear w is number = by (processes v past)
+  sets_well t j run clear w is number = ends_so v.commands.rate (with_data 128 w.bytes v.blocks) (none_listed is_outside (with_data 128 w.bytes v.blocks) (ascends more.keep d v.blocks 128 (stood_in v (standing past)) w.bytes stored.0.ascending stored.1 allowed) after)
     where
       v : View
       v = view_of r jobs carry restarts k t j
@@ -113,47 +170,26 @@ module _ (laws : Laws) (more : MoreLaws) (r : RingView) (jobs : List Job) (carry
       d : DriveView
       d = drive_at r k
 
-      stands : Stands r jobs carry restarts (t ∷ j) k
-      stands = all_stand laws more r jobs carry restarts opened (t ∷ j) run clear k below
-
       stored : IsStored (drive_at r k) (view_of r jobs carry restarts k t j).blocks
       stored = stored_in laws more r jobs carry restarts opened t j k below
 
-      by : Processes v past → ends_well v.commands.rate 128 (with_data 128 w.bytes v.blocks) ≡ true
-      by (Nothing nothing) = let no : Some w ≡ None = sym is ∙ ap (λ (o : Option Taken). write_of o (kept_in v past)) nothing in absurd (cc)
-      by (Record s got came two some) = ends_so v.commands.rate (with_data 128 w.bytes v.blocks) (none_listed is_outside (with_data 128 w.bytes v.blocks) (ascends more.keep d v.blocks 128 (stood_in v (standing past)) w.bytes stored.0.ascending stored.1 allowed) after)
-        where
-          adds_it : added_on (record_in v (length past) (stood_in v (standing past)) s) (kept_in v past) ≡ Some w
-          adds_it = sym (ap (λ (o : Option Taken). write_of o (kept_in v past)) some) ∙ is
+      allowed : put_fault (find_block 128 (view_of r jobs carry restarts k t j).blocks) (stood_in (view_of r jobs carry restarts k t j) (standing (views_of r jobs carry restarts k j))) w.bytes ≡ None
+      allowed = ap (λ (n : ℕ). put_fault (find_block n (view_of r jobs carry restarts k t j).blocks) (stood_in (view_of r jobs carry restarts k t j) (standing (views_of r jobs carry restarts k j))) w.bytes) (sym number)
+          ∙ allowed_in laws more r jobs carry restarts opened k below t j run clear w is
 
-          fault : put_fault (find_block w.raw v.blocks) (stood_in v (standing past)) w.bytes ≡ None
-          fault = subst (λ (o : Option Write). IfSome o (λ w. put_fault (find_block w.raw v.blocks) (stood_in v (standing past)) w.bytes ≡ None)) adds_it
-              (more.allows (record_in v (length past) (stood_in v (standing past)) s) (kept_in v past) (those_moved (store_of d) v.blocks (kept_in v past) stands.sound.1.0 (those_kept (store_of d) v past (those_since (store_of d) past stands.sound.0))))
+      late : 3 ≤ t.phase
+      late = let is_three = three_in laws more r jobs carry restarts opened k below t j run clear w is number in omega (arith, is_three)
 
-          allowed : put_fault (find_block 128 v.blocks) (stood_in v (standing past)) w.bytes ≡ None
-          allowed = ap (λ (n : ℕ). put_fault (find_block n v.blocks) (stood_in v (standing past)) w.bytes) (sym number) ∙ fault
+      own : filter is_own_outside (view_of r jobs carry restarts k t j).blocks ≡ []
+      own = none_listed is_own_outside (view_of r jobs carry restarts k t j).blocks stored.0.ascending (own_inside (given_mst carry restarts t.sent j k))
 
-          three : t.phase ≡ 3
-          three = sym (processed_phase v past came (omega (arith, two)))
-              ∙ in_three d (stood_in v (standing past)) (bare_4 d (find_block 128 v.blocks) (stood_in v (standing past)) w.bytes (find-alike 128 v.blocks (store_of d) (check_4 d) (alike_so d v.blocks stored.1) (found_4 d rules)) allowed)
+      unfit : unfit_for_phase_4 (view_of r jobs carry restarts k t j).blocks ≡ []
+      unfit = names_in laws more r jobs carry restarts opened k below t j run clear late ∙ ap (λ (l : List Block). map (λ (b : Block). b.idn) l) own
 
-          late : 3 ≤ t.phase
-          late = let is_three = three in omega (arith, is_three)
+      before : (n : ℕ) → IsAt n (λ b. is_outside b ≡ false) (view_of r jobs carry restarts k t j).blocks
+      before n = none_at is_outside n (view_of r jobs carry restarts k t j).blocks (none_any is_outside (view_of r jobs carry restarts k t j).blocks (names_none (view_of r jobs carry restarts k t j).blocks unfit))
 
-          held : (plan : PlanView) × Holds v.blocks (start_up r.control r.cycle plan k d.at d.mdt)
-          held = holds_cycle laws more r jobs carry restarts opened t j run clear late k below
-
-          own : filter is_own_outside v.blocks ≡ []
-          own = none_listed is_own_outside v.blocks stored.0.ascending (own_inside (given_mst carry restarts t.sent j k))
-
-          unfit : unfit_for_phase_4 v.blocks ≡ []
-          unfit =
-              let fit = fits_in laws more r jobs carry restarts opened t j run clear late in
-              names_own d v.blocks r.cycle stored.0 rules stored.1 held.1.1.0 (cycle_some r.cycle (s_known laws r jobs carry restarts opened (first_store laws more r jobs carry restarts opened)).cycles.cycle).1 (fit.low k below) (fit.high k below)
-              ∙ ap (λ (l : List Block). map (λ (b : Block). b.idn) l) own
-
-          before : (n : ℕ) → IsAt n (λ b. is_outside b ≡ false) v.blocks
-          before n = none_at is_outside n v.blocks (none_any is_outside v.blocks (names_none v.blocks unfit))
-
-          after : (n : ℕ) → IsAt n (λ b. is_outside b ≡ false) (with_data 128 w.bytes v.blocks)
-          after n = written_at n 128 w.bytes (λ b. is_outside b ≡ false) v.blocks (λ same b found. within b w.bytes (no_data_fault (find_block 128 v.blocks) b (stood_in v (standing past)) w.bytes (ap (λ (m : ℕ). find_block m v.blocks) same ∙ found) allowed)) (before n)
+      after : (n : ℕ) → IsAt n (λ b. is_outside b ≡ false) (with_data 128 w.bytes (view_of r jobs carry restarts k t j).blocks)
+      after n = written_at n 128 w.bytes (λ b. is_outside b ≡ false) (view_of r jobs carry restarts k t j).blocks
+          (λ same b found. within b w.bytes (no_data_fault (find_block 128 (view_of r jobs carry restarts k t j).blocks) b (stood_in (view_of r jobs carry restarts k t j) (standing (views_of r jobs carry restarts k j))) w.bytes
+          (ap (λ (m : ℕ). find_block m (view_of r jobs carry restarts k t j).blocks) same ∙ found) allowed)) (before n)

@@ -1,9 +1,8 @@
 -- The list of a check for phase 4 names at most 37 blocks: a drive's own ones, of which there are 36, and the cycle time.
-use Rattle.std.proofs.Common.{◌≡◌, inl, inr, ℕ, zero, suc, ◌+◌, ◌*◌, ◌<◌, ◌≤◌, Bool, true, false, ◌||◌, List, [], ◌∷◌, ◌++◌, length, map, filter, Option, Some, None, refl, sym, ap, ◌∙◌, subst, arith, if◌then◌else◌}
+use Rattle.std.proofs.Common.{◌≡◌, inl, inr, ℕ, zero, suc, ◌+◌, ◌<◌, ◌≤◌, Bool, true, false, ◌||◌, List, [], ◌∷◌, ◌++◌, length, map, filter, Option, Some, None, refl, sym, ap, ◌∙◌, subst, arith, if◌then◌else◌}
 use Rattle.std.specs.Prelude.{◌==◌, nat_lt, nat_le, is_some, slice_index_or, cond}
 use Rattle.std.proofs.lemmas.Bool.{cases_eq, false≢true, and_parts, leb-true}
 use Rattle.std.proofs.lemmas.Bool.Decides.{nat_tests}
-use Rattle.sercos_idn.specs.declared.idn.Idn.{Idn}
 use Rattle.sercos_step.specs.declared.request.Job.{Job}
 use Rattle.sercos_block.specs.BuiltIns.{built_in, built_in_block, row}
 use Rattle.sercos_block.specs.declared.built_in.Opening.TheVariants.{Empty}
@@ -29,6 +28,7 @@ use Rattle.sercos_views.specs.RingViews.{views_of}
 use Rattle.sercos_held.proofs.StoreOf.{AllowsWrites}
 use Rattle.sercos_undisturbed.proofs.BlockStays.{IsAt, Stays, stays_at}
 use Rattle.sercos_undisturbed.proofs.Small.{none_some}
+use Rattle.sercos_startup.proofs.LimitLemmas.{length_list}
 
 -- THE BLOCKS WITH LIMITS
 abbrev is_limited : Block → Bool
@@ -107,10 +107,6 @@ few_outside d blocks stored =
     let same = sym (limited_kept blocks) ∙ ap limited stored ∙ limited_kept (store_of d) in
     let most = limited_store d in omega (arith, some, same, most)
 
-list_long : (idns : List Idn) → length (list_bytes idns) ≡ 2 * length idns
-list_long [] = refl
-list_long (i ∷ idns) = let more = list_long idns in omega (arith, more)
-
 idns_many : (blocks : List Block) → length (map (λ (b : Block). b.idn) blocks) ≡ length blocks
 idns_many [] = refl
 idns_many (b ∷ blocks) = ap (λ (n : ℕ). suc n) (idns_many blocks)
@@ -118,7 +114,7 @@ idns_many (b ∷ blocks) = ap (λ (n : ℕ). suc n) (idns_many blocks)
 short_outside : (d : DriveView) (blocks : List Block) → length d.blocks ≤ 36 → IsStoreOf d blocks → length (list_bytes (unfit_for_phase_4 blocks)) ≤ 74
 unfolding unfit_for_phase_4
 short_outside d blocks few stored =
-    let long = list_long (map (λ (b : Block). b.idn) (filter is_outside blocks)) in
+    let long = length_list (map (λ (b : Block). b.idn) (filter is_outside blocks)) in
     let many = idns_many (filter is_outside blocks) in
     let most = few_outside d blocks stored in omega (arith, long, many, most, few)
 

@@ -30,7 +30,7 @@ use Rattle.sercos_undisturbed.specs.EpochStarts.{StartsEpoch}
 use Rattle.sercos_undisturbed.specs.StopsInTwo.{StopsForThePlan, StopsForTheCycleTime, StopsInTwo}
 use Rattle.sercos_undisturbed.specs.StopsLater.{IsRight, NoStopInFour, StopsForTheCheck, StopsInThree}
 use Rattle.sercos_undisturbed.proofs.CycleHeld.{fits_in}
-use Rattle.sercos_undisturbed.proofs.Identified.{phase_low}
+use Rattle.sercos_typed.proofs.Mdts.{phase_low}
 use Rattle.sercos_undisturbed.proofs.InTime.{within_bound}
 use Rattle.sercos_undisturbed.proofs.NeverFalls.{never_falls}
 use Rattle.sercos_undisturbed.proofs.OwnFit.{own_fits}

@@ -34,6 +34,7 @@ use Rattle.sercos_undisturbed.proofs.ChannelsKept.{ats_leave, unheard_first, cal
 use Rattle.sercos_undisturbed.proofs.Comes.{calm_in}
 use Rattle.sercos_undisturbed.proofs.Identified.{phase_comes, mst_whole, starts_so, goes_so, heard_next}
 use Rattle.sercos_undisturbed.proofs.NoFalls.{heard_mdt, has_risen, no_fall}
+use Rattle.sercos_views.proofs.ViewRuns.{no_answer}
 
 -- what is heard on a channel is heard of the drive
 heard_of : (s : Known) (k : ℕ) (such : List ℕ → Type 0) (c : List Call) (q : Past) → HasHeard s k such c q → heard_last c ≡ None → is_some (heard_last (q.calls k)) ≡ true → q.now.heard k ≡ true
@@ -41,12 +42,12 @@ heard_of s k such c q (Nothing same) quiet some = absurd (false≢true (sym (ap 
 heard_of s k such c q (One content is there calls heard) quiet some = heard
 
 -- NO STEP is open on a channel on which nothing was begun.
-no_answer : (a : Answer) (begun : List Begun) → with_answer a begun ≡ [] → begun ≡ []
-no_answer a [] none = refl
-no_answer a (b ∷ begun) none = cc
+nothing_kept : (a : Answer) (begun : List Begun) → with_answer a begun ≡ [] → begun ≡ []
+nothing_kept a [] none = refl
+nothing_kept a (b ∷ begun) none = cc
 
 none_heard : (b : Bool) (a : Answer) (begun : List Begun) → (if b then with_answer a begun else begun) ≡ [] → begun ≡ []
-none_heard true a begun none = no_answer a begun none
+none_heard true a begun none = nothing_kept a begun none
 none_heard false a begun none = none
 
 no_age : (c : List Call) → begun_by c ≡ [] → age_of c ≡ None
@@ -63,13 +64,9 @@ no_request : (o : Option Request) → (IsSome o → ⊥) → o ≡ None
 no_request None never = refl
 no_request (Some r) never = absurd (never refl)
 
-same_none : (b : Bool) (begun : List Begun) → (if b then begun else begun) ≡ begun
-same_none true begun = refl
-same_none false begun = refl
-
 nothing_heard : (o : Option Heard) → with_heard o [] ≡ []
 nothing_heard None = refl
-nothing_heard (Some a) = same_none (answers_it [] a.status) []
+nothing_heard (Some a) = no_answer (answers_it [] a.status) []
 
 begun_none : (busy : ℕ) → BeginsEmpty busy → (v : View) (past : List View) → IsViewRun busy (v ∷ past) → v.phase ≤ 1 → begun_in v past ≡ []
 begun_none busy empty v past (run, next) early =

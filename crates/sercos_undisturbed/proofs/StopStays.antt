@@ -20,13 +20,18 @@ use Rattle.sercos_undisturbed.proofs.AfterAt.{after_at_so}
 at_stop : (s : Known) (content : List ℕ) (p : Past) → (after_at s content p).stop ≡ p.stop
 at_stop s content p = after_at_so (λ q. q.stop ≡ p.stop) s content p refl (λ k. refl)
 
-pub ats_stop : (r : RingView) (jobs : List Job) (carry : Carry) (cycle : ℕ) (ats : List (List ℕ)) (h : List Call) → (looks_back r jobs (at_calls r carry cycle ats h)).stop ≡ (looks_back r jobs h).stop
-ats_stop r jobs carry cycle [] h = refl
-ats_stop r jobs carry cycle (at ∷ ats) h = ats_stop r jobs carry cycle ats _ ∙ by (heard carry (passage cycle kinds.At (station_of r (slice_index at 0)) 0) at)
+-- what no AT changes is the same after all of them
+pub ats_same : {A : Type 0} (f : Past → A) → ((s : Known) (content : List ℕ) (p : Past) → f (after_at s content p) ≡ f p) → (r : RingView) (jobs : List Job) (carry : Carry) (cycle : ℕ) (ats : List (List ℕ)) (h : List Call)
+    → f (looks_back r jobs (at_calls r carry cycle ats h)) ≡ f (looks_back r jobs h)
+ats_same f same r jobs carry cycle [] h = refl
+ats_same f same r jobs carry cycle (at ∷ ats) h = ats_same f same r jobs carry cycle ats _ ∙ by (heard carry (passage cycle kinds.At (station_of r (slice_index at 0)) 0) at)
   where
-    by : (o : Option (List ℕ)) → (looks_back r jobs (with_at o h)).stop ≡ (looks_back r jobs h).stop
+    by : (o : Option (List ℕ)) → f (looks_back r jobs (with_at o h)) ≡ f (looks_back r jobs h)
     by None = refl
-    by (Some content) = at_stop (known_of r) content (looks_back r jobs h)
+    by (Some content) = same (known_of r) content (looks_back r jobs h)
+
+pub ats_stop : (r : RingView) (jobs : List Job) (carry : Carry) (cycle : ℕ) (ats : List (List ℕ)) (h : List Call) → (looks_back r jobs (at_calls r carry cycle ats h)).stop ≡ (looks_back r jobs h).stop
+ats_stop = ats_same (λ (p : Past). p.stop) at_stop
 
 pub mdt_stop : (s : Known) (p : Past) → is_some p.stop ≡ true → (after_mdt s p).stop ≡ p.stop
 mdt_stop s p some = ap (λ (q : Past). (with_due_plan s q).stop) (stop_stays (first_trouble s p) p some) ∙ ap (λ (q : Past). q.stop) (due_stopped s p some)

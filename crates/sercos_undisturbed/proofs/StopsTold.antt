@@ -1,5 +1,5 @@
--- Each stop was told in the record of a cycle, so it is there for its cause.
-use Rattle.std.proofs.Common.{◌≡◌, ◌+◌, Bool, true, false, List, [], ◌∷◌, length, Option, Some, None, Result, Ok, Err, refl, sym, ap, ◌∙◌, subst, if◌then◌else◌}
+-- Each stop was told in the record of a cycle of the run, so it is there for its cause.
+use Rattle.std.proofs.Common.{◌≡◌, ◌⊎◌, inl, inr, ◌+◌, Bool, true, false, List, [], ◌∷◌, length, Option, Some, None, Result, Ok, Err, refl, sym, ap, ◌∙◌, subst, if◌then◌else◌}
 use Rattle.std.specs.Prelude.{is_some, nat_le}
 use Rattle.std.specs.Option.{option_or}
 use Rattle.std.proofs.lemmas.Bool.{false≢true}
@@ -19,7 +19,7 @@ use Rattle.sercos_master.specs.Annals.{Past, outcomes, first_trouble, with_stop,
 use Rattle.sercos_master.specs.Reports.{stop_told, restart_told}
 use Rattle.sercos_script.specs.Links.{Carry, Restarts}
 use Rattle.sercos_journal.specs.Records.{mst_in, ats_in}
-use Rattle.sercos_journal.specs.Runs.{own_mst, begins, master_calls, looks_back, no_events, IsRun, IsClear}
+use Rattle.sercos_journal.specs.Runs.{own_mst, begins, master_calls, looks_back, no_events, IsNext, IsRun, IsClear}
 use Rattle.sercos_views.specs.RingViews.{at_start, behind_ats, behind_mdt}
 use Rattle.sercos_views.proofs.MasterSame.{begun_cycle}
 use Rattle.sercos_views.proofs.ViewRuns.{started}
@@ -27,6 +27,7 @@ use Rattle.sercos_held.specs.Opened.{IsOpened}
 use Rattle.sercos_held.proofs.Runs.{Laws}
 use Rattle.sercos_headline.specs.Stops.{StopsRight}
 use Rattle.sercos_headline.proofs.HeadlineRuns.{MoreLaws, keeps_all}
+use Rattle.sercos_undisturbed.specs.WholeRuns.{HasTold}
 use Rattle.sercos_undisturbed.proofs.StopStays.{ats_stop, mdt_stop, stop_after}
 use Rattle.sercos_undisturbed.proofs.Small.{none_some}
 
@@ -67,7 +68,7 @@ mdt_is_told s p none = by (is_plan_due s (with_stop (first_trouble s p) p))
 fallen_stop : (s : Known) (p : Past) (f : Fall) → fall_of s p ≡ Some f → (after_end s p).stop ≡ None
 fallen_stop s p f falls = ap (λ (o : Option Fall). (if is_some o then new_epoch (p.cycle + 1) (still_waiting p) else goes_on (if is_done s p then p.now.phase + 1 else p.now.phase) p).stop) falls
 
-module _ (laws : Laws) (more : MoreLaws) (r : RingView) (jobs : List Job) (carry : Carry) (restarts : Restarts) (opened : IsOpened r jobs) where
+module _ (r : RingView) (jobs : List Job) (carry : Carry) (restarts : Restarts) where
   ats_kept : (t : CycleView) (j : List CycleView) → (behind_ats r jobs carry restarts t.sent j).stop ≡ (at_start r jobs carry restarts j).stop
   ats_kept t j = ats_stop r jobs carry (length j) (ats_in t.sent) (own_mst carry (length j) (mst_in t.sent) (begins r carry restarts j))
 
@@ -79,40 +80,49 @@ module _ (laws : Laws) (more : MoreLaws) (r : RingView) (jobs : List Job) (carry
       by false is = is
 
   -- a stop of this cycle
-  fresh : (t : CycleView) (j : List CycleView) (x : Stop) → IsRun r jobs carry restarts (t ∷ j) → IsClear (t ∷ j) → (at_start r jobs carry restarts j).stop ≡ None → (behind_mdt r jobs carry restarts t.sent j).stop ≡ Some x → StopsRight r (Some x)
-  fresh t j x run clear none is = subst (StopsRight r) told (keeps_all laws more r jobs carry restarts opened t j run clear).stops
+  fresh : (t : CycleView) (j : List CycleView) (x : Stop) → IsNext r jobs carry restarts t j → (at_start r jobs carry restarts j).stop ≡ None → (behind_mdt r jobs carry restarts t.sent j).stop ≡ Some x → t.events.stop ≡ Some x
+  fresh t j x next none is =
+      ap (λ (e : EventsView). e.stop) next.events
+      ∙ ap (λ (o : Option Stop). option_or o (if restarts (length j) 0 then restart_told (known_of r) (looks_back r jobs (master_calls r carry restarts j)) no_events else no_events).stop) says
     where
-      p : Past
-      p = behind_mdt r jobs carry restarts t.sent j
-
       stops : (behind_mdt r jobs carry restarts t.sent j).now.stops ≡ true
       stops = mdt_is_told (known_of r) (behind_ats r jobs carry restarts t.sent j) (ats_kept t j ∙ none) (ap (λ (o : Option Stop). is_some o) is)
 
       says : stop_told (behind_mdt r jobs carry restarts t.sent j) ≡ Some x
       says = ap (λ (b : Bool). if b then (behind_mdt r jobs carry restarts t.sent j).stop else None) stops ∙ is
 
-      told : t.events.stop ≡ Some x
-      told = ap (λ (e : EventsView). e.stop) run.1.events
-          ∙ ap (λ (o : Option Stop). option_or o (if restarts (length j) 0 then restart_told (known_of r) (looks_back r jobs (master_calls r carry restarts j)) no_events else no_events).stop) says
-
   -- a stop that was there before, or one of this cycle
-  stop_at : (t : CycleView) (j : List CycleView) (x : Stop) → IsRun r jobs carry restarts (t ∷ j) → IsClear (t ∷ j) → ((looks_back r jobs (master_calls r carry restarts j)).stop ≡ Some x → StopsRight r (Some x))
-      → (behind_mdt r jobs carry restarts t.sent j).stop ≡ Some x → StopsRight r (Some x)
-  stop_at t j x run clear before is = by (at_start r jobs carry restarts j).stop refl
+  stop_at : (t : CycleView) (j : List CycleView) (x : Stop) → IsNext r jobs carry restarts t j → ((looks_back r jobs (master_calls r carry restarts j)).stop ≡ Some x → HasTold x j)
+      → (behind_mdt r jobs carry restarts t.sent j).stop ≡ Some x → HasTold x (t ∷ j)
+  stop_at t j x next before is = by (at_start r jobs carry restarts j).stop refl
     where
-      by : (o : Option Stop) → (at_start r jobs carry restarts j).stop ≡ o → StopsRight r (Some x)
-      by None none = fresh t j x run clear none is
+      by : (o : Option Stop) → (at_start r jobs carry restarts j).stop ≡ o → HasTold x (t ∷ j)
+      by None none = inl (fresh t j x next none is)
       by (Some y) had =
           let there : is_some (behind_ats r jobs carry restarts t.sent j).stop ≡ true = ap (λ (o : Option Stop). is_some o) (ats_kept t j ∙ had) in
-          before (begun_stop j x (sym (ats_kept t j) ∙ sym (mdt_stop (known_of r) (behind_ats r jobs carry restarts t.sent j) there) ∙ is))
+          inr (before (begun_stop j x (sym (ats_kept t j) ∙ sym (mdt_stop (known_of r) (behind_ats r jobs carry restarts t.sent j) there) ∙ is)))
 
-  at_end : (j : List CycleView) (x : Stop) → IsRun r jobs carry restarts j → IsClear j → (looks_back r jobs (master_calls r carry restarts j)).stop ≡ Some x → StopsRight r (Some x)
-  at_end [] x run clear is = absurd (none_some x is)
-  at_end (t ∷ j) x run clear is = by (fall_of (known_of r) (behind_mdt r jobs carry restarts t.sent j)) refl (at_end j x run.0 clear.0)
+  at_end : (j : List CycleView) (x : Stop) → IsRun r jobs carry restarts j → (looks_back r jobs (master_calls r carry restarts j)).stop ≡ Some x → HasTold x j
+  at_end [] x run is = none_some x is
+  at_end (t ∷ j) x run is = by (fall_of (known_of r) (behind_mdt r jobs carry restarts t.sent j)) refl (at_end j x run.0)
     where
-      by : (o : Option Fall) → fall_of (known_of r) (behind_mdt r jobs carry restarts t.sent j) ≡ o → ((looks_back r jobs (master_calls r carry restarts j)).stop ≡ Some x → StopsRight r (Some x)) → StopsRight r (Some x)
-      by None stays before = stop_at t j x run clear before (sym (stop_after r jobs carry restarts t j stays) ∙ is)
+      by : (o : Option Fall) → fall_of (known_of r) (behind_mdt r jobs carry restarts t.sent j) ≡ o → ((looks_back r jobs (master_calls r carry restarts j)).stop ≡ Some x → HasTold x j) → HasTold x (t ∷ j)
+      by None stays before = stop_at t j x run.1 before (sym (stop_after r jobs carry restarts t j stays) ∙ is)
       by (Some f) falls before = absurd (none_some x (sym (fallen_stop (known_of r) (behind_mdt r jobs carry restarts t.sent j) f falls) ∙ is))
 
-  pub stops_right : (t : CycleView) (j : List CycleView) (x : Stop) → IsRun r jobs carry restarts (t ∷ j) → IsClear (t ∷ j) → (behind_mdt r jobs carry restarts t.sent j).stop ≡ Some x → StopsRight r (Some x)
-  stops_right t j x run clear is = stop_at t j x run clear (at_end j x run.0 clear.0) is
+  -- THE STOP after the MDT's place was told.
+  pub stop_told_in : (t : CycleView) (j : List CycleView) (x : Stop) → IsRun r jobs carry restarts (t ∷ j) → (behind_mdt r jobs carry restarts t.sent j).stop ≡ Some x → HasTold x (t ∷ j)
+  stop_told_in t j x run is = stop_at t j x run.1 (at_end j x run.0) is
+
+-- What is told is right.
+told_right : (laws : Laws) (more : MoreLaws) (r : RingView) (jobs : List Job) (carry : Carry) (restarts : Restarts) → IsOpened r jobs → (j : List CycleView) (x : Stop) → IsRun r jobs carry restarts j → IsClear j → HasTold x j → StopsRight r (Some x)
+told_right laws more r jobs carry restarts opened [] x run clear told = absurd told
+told_right laws more r jobs carry restarts opened (t ∷ j) x run clear told = by told (told_right laws more r jobs carry restarts opened j x run.0 clear.0)
+  where
+    by : (t.events.stop ≡ Some x) ⊎ HasTold x j → (HasTold x j → StopsRight r (Some x)) → StopsRight r (Some x)
+    by (inl here) rest = subst (StopsRight r) here (keeps_all laws more r jobs carry restarts opened t j run clear).stops
+    by (inr there) rest = rest there
+
+pub stops_right : (laws : Laws) (more : MoreLaws) (r : RingView) (jobs : List Job) (carry : Carry) (restarts : Restarts) → IsOpened r jobs → (t : CycleView) (j : List CycleView) (x : Stop) → IsRun r jobs carry restarts (t ∷ j) → IsClear (t ∷ j) →
+    (behind_mdt r jobs carry restarts t.sent j).stop ≡ Some x → StopsRight r (Some x)
+stops_right laws more r jobs carry restarts opened t j x run clear is = told_right laws more r jobs carry restarts opened (t ∷ j) x run clear (stop_told_in r jobs carry restarts t j x run is)

@@ -29,7 +29,7 @@ use Rattle.sercos_headline.proofs.HeadlineRuns.{MoreLaws, first_store}
 use Rattle.sercos_undisturbed.specs.StopsInTwo.{RefusesCycleTime, StopsForThePlan, StopsForTheCycleTime}
 use Rattle.sercos_undisturbed.proofs.StaysUp.{phase_now}
 use Rattle.sercos_undisturbed.proofs.JobsBegun.{begun_now, few_now, asked_now}
-use Rattle.sercos_undisturbed.proofs.PhaseThree.{few_outcomes}
+use Rattle.sercos_master.proofs.Followed.{not_longer}
 use Rattle.sercos_undisturbed.proofs.StopsTold.{stops_right}
 
 module _ (laws : Laws) (more : MoreLaws) (comes_up : (busy : ℕ) → ComesUp busy) (cause128 : Check128HasCause) (r : RingView) (jobs : List Job) (carry : Carry) (restarts : Restarts) (opened : IsOpened r jobs) (t : CycleView) (j : List CycleView)
@@ -56,7 +56,7 @@ module _ (laws : Laws) (more : MoreLaws) (comes_up : (busy : ℕ) → ComesUp bu
       let low : failed.place < length r.drives = omega (arith, count, there) in
       let few = few_now laws more r jobs carry restarts opened t j run clear stays failed.place low (omega (arith, n)) in
       let begun = ap (λ (l : List Begun). length l) (begun_now laws more r jobs carry restarts opened t j run clear stays failed.place low) in
-      let outs = few_outcomes (begun_by ((behind_mdt r jobs carry restarts t.sent j).calls failed.place)) in
+      let outs = not_longer (begun_by ((behind_mdt r jobs carry restarts t.sent j).calls failed.place)) in
       let ended = slice_get_within (outcomes (behind_mdt r jobs carry restarts t.sent j) failed.place) (reads_count (member (known_of r) failed.place) + 12) (outcome.Complete failed.status) failed.complete in
       omega (arith, few, begun, outs, ended)
 

@@ -58,6 +58,7 @@ use Rattle.sercos_undisturbed.proofs.OwnSet.{Say, say_written}
 use Rattle.sercos_undisturbed.proofs.RefusedCauses.{check_4, found_4}
 use Rattle.sercos_undisturbed.proofs.SetsFour.{sets_well}
 use Rattle.sercos_undisturbed.proofs.Small.{first_is}
+use Rattle.sercos_settings.proofs.CheckRuns.{part_at}
 
 abbrev pub IsWell : SetCommand → Type 0
 IsWell s = s.well ≡ true
@@ -77,7 +78,7 @@ is_command_128 d blocks rules stored =
     let is = command_so d (find_block 128 blocks) (find-alike 128 blocks (store_of d) (check_4 d) (alike_so d blocks stored) (found_4 d rules)) (find_block 128 blocks) refl in
     ap (λ (o : Option Block). unwrap_or (option_map (λ (b : Block). b.attribute.command) o) false) is.1 ∙ is.2
 
-have_commands : (d : DriveView) (views : List View) → blocks_fault [] d.blocks ≡ None → AreStored d views → HaveStores (λ blocks. is_command blocks 128 ≡ true) views
+pub have_commands : (d : DriveView) (views : List View) → blocks_fault [] d.blocks ≡ None → AreStored d views → HaveStores (λ blocks. is_command blocks 128 ≡ true) views
 have_commands d [] rules are = tt
 have_commands d (v ∷ past) rules are = (have_commands d past rules are.0, is_command_128 d v.blocks rules are.1.1)
 
@@ -95,13 +96,6 @@ well_status time cycle (Some s) on well = by (has_ended time cycle s) (well s re
     by : (x : Bool) → s.well ≡ true → (status_of x s.well ≡ 3) ⊎ (status_of x s.well ≡ 7)
     by true is = inl (ap (status_of true) is)
     by false is = inr refl
-
--- the part of a request in the log
-part_at : (newer older : List Begun) (b : Begun) (log : List Entry) → AreParts (newer ++ b ∷ older) log → IsPartAt log b
-part_at [] older b log (part, rest, those, is, others) = record { front = []; part = part; rest = rest; split = those; is = is }
-part_at (x ∷ newer) older b log (part, rest, those, is, others) =
-    let more = part_at newer older b rest others in
-    record { front = part ++ more.front; part = more.part; rest = more.rest; split = those ∙ ap (λ (l : List Entry). part ++ l) more.split ∙ sym (append_assoc part more.front (more.part ++ more.rest)); is = more.is }
 
 module _ (sets : SetsAndCancels) (ends : EndsWithStatus) (busy : ℕ) (blocks : List Block) where
   -- the last poll finds it set

@@ -9,3 +9,5 @@ pub mod Ends
 pub mod Fit
 pub mod StopsInTwo
 pub mod StopsLater
+pub mod Reports
+pub mod WholeRuns

@@ -1,9 +1,11 @@
 -- Which stops come of phases 3 and 4, and how a start-up ends. The newest cycle of a journal comes first.
-use Rattle.std.specs.Prelude.{◌≡◌, ◌⊎◌, ℕ, ◌+◌, ◌*◌, ◌<◌, ◌≤◌, true, false, List, ◌∷◌, ◌++◌, length, Some, None}
-use Rattle.std.specs.List.{list_any}
+use Rattle.std.specs.Prelude.{◌≡◌, ◌⊎◌, ℕ, ◌+◌, ◌*◌, ◌<◌, ◌≤◌, true, false, List, [], ◌∷◌, ◌++◌, length, map, Some, None}
+use Rattle.std.specs.List.{filter, list_any}
 use Rattle.sercos_idn.specs.declared.idn.Idn.{Idn}
 use Rattle.sercos_step.specs.declared.request.Job.{Job}
+use Rattle.sercos_block.specs.declared.block.Block.{Block}
 use Rattle.sercos_block.specs.Startup.{startup_bound}
+use Rattle.sercos_block.specs.Stores.{with_own}
 use Rattle.sercos_block.specs.Views.{RingView}
 use Rattle.sercos_bound.specs.Bounds.{slowest}
 use Rattle.sercos_command.specs.Checks.{is_outside}
@@ -24,7 +26,7 @@ use Rattle.sercos_undisturbed.specs.StopsInTwo.{StopsForThePlan, StopsForTheCycl
 
 -- A plan fits, and the cycle time lies within each drive's limits; but the check for phase 4 of the drive with this address, which comes 12
 -- requests after the reads, has ended badly, since an own block of the drive was outside its limits at opening. The stop has the list that
--- the drive then gave.
+-- the drive then gave: the identifier numbers of exactly these blocks, ascending, as the store has them.
 pub record StopsForTheCheck (r : RingView) (p : Past) (x : Stop) : Type 0 where
   pub address : ℕ
   pub list : List Idn
@@ -32,6 +34,7 @@ pub record StopsForTheCheck (r : RingView) (p : Past) (x : Stop) : Type 0 where
   pub failed : HasFailedCheck (known_of r) p 12 address list
   pub there : failed.place < length r.drives
   pub outside : list_any is_outside (drive_at r failed.place).blocks ≡ true
+  pub lists : list ≡ map (λ (b : Block). b.idn) (filter is_outside (with_own [] (drive_at r failed.place).blocks))
   pub fits : IsFit r
 
 -- So each stop in phase 3 is, in every run in which nothing was unseen, if the ring doesn't fall at the end of the cycle.

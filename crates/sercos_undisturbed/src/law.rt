@@ -1,11 +1,13 @@
 // The laws of an epoch in which nothing is disturbed.
 ghost use Rattle.sercos_undisturbed.specs.Ends.{ComesToAnEnd, ComesToPhaseFour, StaysAtItsEnd};
 ghost use Rattle.sercos_undisturbed.specs.Fit.{FitsInThree, OwnFitsInFour};
+ghost use Rattle.sercos_undisturbed.specs.Reports.{ReportsInTime};
 ghost use Rattle.sercos_undisturbed.specs.Sections.{NoneIdleInThree, NoneIdleInTwo};
 ghost use Rattle.sercos_undisturbed.specs.StartUps.{AgesUndisturbed, AnswersUndisturbed, ComesToPhaseTwo, CostsUndisturbed, StaysUpUndisturbed, TellsNoFallUndisturbed};
 ghost use Rattle.sercos_undisturbed.specs.StopsInTwo.{StopsInTwo};
 ghost use Rattle.sercos_undisturbed.specs.StopsLater.{EndsStartUp, NoStopInFour, RisesIfRight, StopsInThree};
 ghost use Rattle.sercos_undisturbed.specs.Undisturbed.{StaysClear};
+ghost use Rattle.sercos_undisturbed.specs.WholeRuns.{QuietIsUndisturbed, StartsUndisturbed};
 
 use sercos_agenda::{agenda_law, report_law, stop_law};
 use sercos_block::{ring_law, store_law};
@@ -34,10 +36,14 @@ use sercos_typed::typed_law;
 /// and stays. Phases 3 and 4 are commanded only if a plan fits what the ring asks, and the cycle time lies within each drive's limits;
 /// phase 4 only if no own block of a drive was outside its limits at opening. A stop in phase 2 comes since no plan fits; or a plan fits,
 /// and it names the first drive of the ring whose limits the cycle time is outside of. A stop in phase 3 comes of a drive's check for
-/// phase 4, since an own block of it was outside its limits at opening, and has the list that it gave; in phase 4 there is none. So that is
-/// how a start-up ends: in phase 4, exactly if nothing of this is in its way, or with one of these stops.
+/// phase 4, since an own block of it was outside its limits at opening, and lists the numbers of exactly these blocks; in phase 4 there
+/// is none. So that is how a start-up ends: in phase 4, exactly if nothing of this is in its way, or with one of these stops. And if it
+/// ends in phase 4, the requests to a drive that waited at the start of the epoch are reported one after the other: the first within the
+/// cycles of a start-up and of one request, and each further one within those of one request more. A run from its opening on in which no
+/// cycle is disturbed says all of this in its records. Over links that change nothing no cycle is, if no station restarts.
 pub fn undisturbed_law()
     ensures clear { StaysClear }
+    ensures quiet { QuietIsUndisturbed }
     ensures stays { StaysUpUndisturbed }
     ensures tells { TellsNoFallUndisturbed }
     ensures ages { AgesUndisturbed }
@@ -56,6 +62,8 @@ pub fn undisturbed_law()
     ensures none_four { NoStopInFour }
     ensures outcome { EndsStartUp }
     ensures rises { RisesIfRight }
+    ensures reports { ReportsInTime }
+    ensures starts { StartsUndisturbed }
 {
     agenda_law();
     report_law();

@@ -249,7 +249,7 @@ not_true : (b : Bool) → not b ≡ true → b ≡ false
 not_true false e = refl
 not_true true e = absurd (false≢true e)
 
-done_below : (n : ℕ) (s : Known) (p : Past) → is_done_in n s p ≡ true → n < 4
+pub done_below : (n : ℕ) (s : Known) (p : Past) → is_done_in n s p ≡ true → n < 4
 done_below n s p done = grind (arith, nat_tests, done)
 
 closed : (n : ℕ) (s : Known) (p : Past) → n ≡ 0 → is_done_in n s p ≡ true → 10 ≤ master.whole_row (p.now ∷ p.turns)

@@ -97,7 +97,7 @@ none_below (suc n) f none i below = elim (cases_eq i n) [
 ]
 
 -- nothing is begun before phase 2
-no_answer : (b : Bool) (begun : List Begun) → (if b then begun else begun) ≡ begun
+pub no_answer : (b : Bool) (begun : List Begun) → (if b then begun else begun) ≡ begun
 no_answer true begun = refl
 no_answer false begun = refl
 

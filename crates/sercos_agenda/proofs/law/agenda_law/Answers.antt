@@ -2,7 +2,7 @@ use Rattle.sercos_agenda.proofs.TaskRuns.{begun_tasks}
 use Rattle.sercos_agenda.proofs.OneTurn.{all_in_turn, none_early}
 use Rattle.sercos_agenda.proofs.ReadWell.{ends_tasks, are_read_well}
 use Rattle.sercos_agenda.proofs.WritesDone.{writes_data, configures_from_check, configures_at_rise}
-use Rattle.sercos_agenda.proofs.AtWork.{works_in_two, works_in_three}
+use Rattle.sercos_agenda.proofs.AtWork.{works_in_two, works_in_three, works_in_four}
 use Rattle.sercos_agenda.proofs.law.agenda_law.Goals as goal
 
 pub returns-clause-tasks : goal.returns-clause-tasks
@@ -34,3 +34,6 @@ returns-clause-two c = λ s requests h wait lists two free planned fails. works_
 
 pub returns-clause-three : goal.returns-clause-three
 returns-clause-three c = λ s requests h k wait lists there three free planned fails. works_in_three c.steps_law.ensures.next s requests h wait lists k there three free planned fails
+
+pub returns-clause-four : goal.returns-clause-four
+returns-clause-four c = λ s requests h k wait have there four free planned idle. works_in_four c.steps_law.ensures.next s requests h wait have k there four free planned idle

@@ -1,6 +1,6 @@
 use Rattle.std.proofs.Common.{sym, ◌∙◌, refl, ap, Err, []}
 use Rattle.sercos_io.specs.declared.status.Status.TheVariants.{BadWords, ReadFault, Memory, TooLong}
-use Rattle.sercos_app.specs.Form.{reads_input}
+use Rattle.sercos_words.specs.Form.{reads_input}
 use Rattle.sercos_app.specs.TopCall.{TakesAtMost}
 use Rattle.sercos_app.specs.Outcome.Stops.{no_form, unreadable, too_many, no_memory}
 use Rattle.sercos_app.specs.Outcome.Outcome.{stopped}

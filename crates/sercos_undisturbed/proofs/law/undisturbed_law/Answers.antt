@@ -2,20 +2,28 @@ use Rattle.sercos_handshake.proofs.AttributeReplies.{shape-attribute}
 use Rattle.sercos_headline.proofs.HeadlineRuns.{MoreLaws}
 use Rattle.sercos_headline.proofs.WellRuns.{StopLaws}
 use Rattle.sercos_held.proofs.Runs.{Laws}
-use Rattle.sercos_undisturbed.specs.Ends.{ComesToAnEnd, ComesToPhaseFour}
+use Rattle.sercos_undisturbed.specs.Ends.{ComesToAnEnd, ComesToPhaseFour, StaysAtItsEnd}
+use Rattle.sercos_undisturbed.specs.Fit.{FitsInThree, OwnFitsInFour}
+use Rattle.sercos_undisturbed.specs.Reports.{ReportsInTime}
+use Rattle.sercos_undisturbed.specs.StartUps.{AgesUndisturbed, AnswersUndisturbed, TellsNoFallUndisturbed}
 use Rattle.sercos_undisturbed.specs.StopsInTwo.{StopsInTwo}
-use Rattle.sercos_undisturbed.specs.StopsLater.{NoStopInFour, StopsInThree}
+use Rattle.sercos_undisturbed.specs.StopsLater.{EndsStartUp, NoStopInFour, RisesIfRight, StopsInThree}
+use Rattle.sercos_undisturbed.specs.Undisturbed.{StaysClear}
 use Rattle.sercos_undisturbed.proofs.Answered.{ages_undisturbed, answers_undisturbed, costs_undisturbed, tells_no_fall}
 use Rattle.sercos_undisturbed.proofs.CycleHeld.{fits_in}
 use Rattle.sercos_undisturbed.proofs.InTime.{comes_to_end, comes_to_four, stays_at_end}
 use Rattle.sercos_undisturbed.proofs.OwnFit.{own_fits}
 use Rattle.sercos_undisturbed.proofs.NeverFalls.{stays_throughout}
 use Rattle.sercos_undisturbed.proofs.PhaseRuns.{phases_in}
+use Rattle.sercos_undisturbed.proofs.RefusedRuns.{SaysShape}
 use Rattle.sercos_undisturbed.proofs.RefusedStops.{refused_stop}
+use Rattle.sercos_undisturbed.proofs.ToldInTime.{reports_in_time}
 use Rattle.sercos_undisturbed.proofs.TwoStops.{stop_in_two}
 use Rattle.sercos_undisturbed.proofs.LaterStops.{no_stop_in_four, ready_if_ended, stop_in_three}
 use Rattle.sercos_undisturbed.proofs.StaysClear.{stays_clear}
 use Rattle.sercos_undisturbed.proofs.StartUpEnds.{ReadyIfEnded, ends_in_time, inside, rises_if_right}
+use Rattle.sercos_undisturbed.proofs.Quiet.{quiet_runs}
+use Rattle.sercos_undisturbed.proofs.WholeRuns.{starts_up}
 use Rattle.sercos_undisturbed.proofs.Sections.{never_idle, none_idle}
 use Rattle.sercos_undisturbed.proofs.law.undisturbed_law.Goals as goal
 
@@ -90,9 +98,10 @@ returns c =
       wire = c.framing_law.ensures.wire;
     } in
     let law = c.attribute_law.ensures in
+    let said : SaysShape = λ b fits. shape-attribute b.attribute (law.small b.attribute fits) (law.sound b.attribute fits) (law.back b.attribute fits) in
     let in_two : StopsInTwo = λ r jobs carry restarts t j x opened run clear stays two is.
     stop_in_two laws more c.run_law.ensures.up c.stop_law.ensures.check128 r jobs carry restarts opened t j run clear stays two
-    (refused_stop laws more c.run_law.ensures.up c.parts_law.ensures.replies c.parts_law.ensures.transfers c.run_law.ensures.in_phase (λ b fits. shape-attribute b.attribute (law.small b.attribute fits) (law.sound b.attribute fits) (law.back b.attribute fits))
+    (refused_stop laws more c.run_law.ensures.up c.parts_law.ensures.replies c.parts_law.ensures.transfers c.run_law.ensures.in_phase said
     c.stop_law.ensures.refused c.agenda_law.ensures.none r jobs carry restarts opened t j run clear stays two) x is in
     let in_three : StopsInThree = λ r jobs carry restarts t j x opened run clear stays three is.
     stop_in_three laws more c.run_law.ensures.up c.parts_law.ensures.replies c.parts_law.ensures.transfers c.run_law.ensures.in_phase c.run_law.ensures.epoch c.run_law.ensures.cycle c.stop_law.ensures.refused c.stop_law.ensures.check128
@@ -109,15 +118,33 @@ returns c =
     let ready : ReadyIfEnded = λ r jobs carry restarts opened t j run clear stays k below none ended.
     ready_if_ended laws more c.run_law.ensures.up c.parts_law.ensures.replies c.parts_law.ensures.transfers c.run_law.ensures.in_phase c.run_law.ensures.epoch c.run_law.ensures.cycle c.stop_law.ensures.refused c.stop_law.ensures.check128
     r jobs carry restarts opened t j run clear stays k below (inside r k below) none ended in
+    let clear : StaysClear = λ r jobs carry restarts cycles before run clear calm. stays_clear r jobs carry restarts cycles before run clear calm in
+    let tells : TellsNoFallUndisturbed = λ r jobs carry restarts t cycles before opened run clear starts calm. tells_no_fall laws more c.agenda_law.ensures.turn c.run_law.ensures.up c.calls_law.ensures.late r jobs carry restarts opened t cycles before run clear starts calm in
+    let ages : AgesUndisturbed = λ r jobs carry restarts cycles before opened run clear starts calm k below.
+    ages_undisturbed laws more c.agenda_law.ensures.turn c.run_law.ensures.up c.calls_law.ensures.late r jobs carry restarts opened c.passage_law.ensures.clean c.stretch_law.ensures.ages cycles before run clear starts calm k below in
+    let answers : AnswersUndisturbed = λ r jobs carry restarts t cycles before opened run clear starts calm k a below hears fits.
+    answers_undisturbed laws more c.agenda_law.ensures.turn c.run_law.ensures.up c.calls_law.ensures.late r jobs carry restarts opened c.passage_law.ensures.clean c.stretch_law.ensures.answers t cycles before run clear starts calm k a below hears fits in
+    let at_end : StaysAtItsEnd = λ r jobs carry restarts t u cycles before opened run clear starts calm.
+    stays_at_end laws more c.agenda_law.ensures.turn c.run_law.ensures.up c.calls_law.ensures.late c.agenda_law.ensures.two c.agenda_law.ensures.three c.bound_law.ensures.started c.bound_law.ensures.greatest r jobs carry restarts opened
+    c.passage_law.ensures.throughout c.passage_law.ensures.hears c.cost_law.ensures.starts c.cost_law.ensures.timed c.jobs_law.ensures.reads c.jobs_law.ensures.writes c.jobs_law.ensures.list_read c.cost_law.ensures.since t u cycles before run clear starts calm in
+    let fit : FitsInThree = λ r jobs carry restarts t j opened run clear late. fits_in laws more r jobs carry restarts opened t j run clear late in
+    let own : OwnFitsInFour = λ r jobs carry restarts t j k opened run clear below four. own_fits laws more c.run_law.ensures.up r jobs carry restarts opened k below t j run clear four in
+    let outcome : EndsStartUp = λ r jobs carry restarts t cycles before opened run clear starts calm long. ends_in_time laws more c.agenda_law.ensures.turn c.run_law.ensures.up c.calls_law.ensures.late c.bound_law.ensures.started in_two in_three none_four ready
+    r jobs carry restarts opened t cycles before run clear starts calm long (ends r jobs carry restarts t cycles before opened run clear starts calm long) in
+    let rises : RisesIfRight = λ r jobs carry restarts t cycles before opened run clear starts calm long right.
+    rises_if_right laws more c.agenda_law.ensures.turn c.run_law.ensures.up c.calls_law.ensures.late c.bound_law.ensures.started in_two in_three none_four ready r jobs carry restarts opened t cycles before run clear starts calm
+    long right (four r jobs carry restarts t cycles before opened run clear starts calm long) in
+    let reports : ReportsInTime = λ r jobs carry restarts t cycles before opened run clear starts calm is_four k i x below got long.
+    reports_in_time laws more c.agenda_law.ensures.turn c.run_law.ensures.up c.calls_law.ensures.late c.passage_law.ensures.throughout c.passage_law.ensures.hears c.agenda_law.ensures.four c.stretch_law.ensures.always said c.cost_law.ensures.timed
+    c.passage_law.ensures.recovers c.cost_law.ensures.since four none_four r jobs carry restarts opened t cycles before run clear starts calm is_four k i x below got long in
     record {
-      clear = λ r jobs carry restarts cycles before run clear calm. stays_clear r jobs carry restarts cycles before run clear calm;
+      clear = clear;
+      quiet = quiet_runs;
       stays = λ r jobs carry restarts cycles before opened run clear starts calm.
           stays_throughout laws more c.agenda_law.ensures.turn c.run_law.ensures.up c.calls_law.ensures.late r jobs carry restarts opened c.passage_law.ensures.throughout c.passage_law.ensures.hears cycles before run clear starts calm;
-      tells = λ r jobs carry restarts t cycles before opened run clear starts calm. tells_no_fall laws more c.agenda_law.ensures.turn c.run_law.ensures.up c.calls_law.ensures.late r jobs carry restarts opened t cycles before run clear starts calm;
-      ages = λ r jobs carry restarts cycles before opened run clear starts calm k below.
-          ages_undisturbed laws more c.agenda_law.ensures.turn c.run_law.ensures.up c.calls_law.ensures.late r jobs carry restarts opened c.passage_law.ensures.clean c.stretch_law.ensures.ages cycles before run clear starts calm k below;
-      answers = λ r jobs carry restarts t cycles before opened run clear starts calm k a below hears fits.
-          answers_undisturbed laws more c.agenda_law.ensures.turn c.run_law.ensures.up c.calls_law.ensures.late r jobs carry restarts opened c.passage_law.ensures.clean c.stretch_law.ensures.answers t cycles before run clear starts calm k a below hears fits;
+      tells = tells;
+      ages = ages;
+      answers = answers;
       costs = λ r jobs carry restarts cycles before opened run clear starts calm k longest below listed.
           costs_undisturbed laws more c.agenda_law.ensures.turn c.run_law.ensures.up c.calls_law.ensures.late r jobs carry restarts opened c.cost_law.ensures.starts c.cost_law.ensures.timed cycles before run clear starts calm k longest below listed;
       two = λ r jobs carry restarts cycles before opened run clear goes. none_idle laws more c.agenda_law.ensures.two r jobs carry restarts opened cycles before run clear goes;
@@ -125,17 +152,14 @@ returns c =
       phases = λ r jobs carry restarts t cycles before opened run clear starts calm. phases_in laws more c.run_law.ensures.up r jobs carry restarts opened t cycles before run clear starts calm;
       four = four;
       ends = ends;
-      at_end = λ r jobs carry restarts t u cycles before opened run clear starts calm.
-          stays_at_end laws more c.agenda_law.ensures.turn c.run_law.ensures.up c.calls_law.ensures.late c.agenda_law.ensures.two c.agenda_law.ensures.three c.bound_law.ensures.started c.bound_law.ensures.greatest r jobs carry restarts opened
-          c.passage_law.ensures.throughout c.passage_law.ensures.hears c.cost_law.ensures.starts c.cost_law.ensures.timed c.jobs_law.ensures.reads c.jobs_law.ensures.writes c.jobs_law.ensures.list_read c.cost_law.ensures.since t u cycles before run clear starts calm;
-      fit = λ r jobs carry restarts t j opened run clear late. fits_in laws more r jobs carry restarts opened t j run clear late;
-      own = λ r jobs carry restarts t j k opened run clear below four. own_fits laws more c.run_law.ensures.up r jobs carry restarts opened k below t j run clear four;
+      at_end = at_end;
+      fit = fit;
+      own = own;
       stops_two = in_two;
       stops_three = in_three;
       none_four = none_four;
-      outcome = λ r jobs carry restarts t cycles before opened run clear starts calm long. ends_in_time laws more c.agenda_law.ensures.turn c.run_law.ensures.up c.calls_law.ensures.late c.bound_law.ensures.started in_two in_three none_four ready
-          r jobs carry restarts opened t cycles before run clear starts calm long (ends r jobs carry restarts t cycles before opened run clear starts calm long);
-      rises = λ r jobs carry restarts t cycles before opened run clear starts calm long right.
-          rises_if_right laws more c.agenda_law.ensures.turn c.run_law.ensures.up c.calls_law.ensures.late c.bound_law.ensures.started in_two in_three none_four ready r jobs carry restarts opened t cycles before run clear starts calm
-          long right (four r jobs carry restarts t cycles before opened run clear starts calm long);
+      outcome = outcome;
+      rises = rises;
+      reports = reports;
+      starts = λ r jobs carry restarts t j opened run calm. starts_up clear tells rises fit own at_end outcome ages answers reports r jobs carry restarts opened t j run calm;
     }

@@ -1,9 +1,0 @@
-use Rattle.std.proofs.Common.{length}
-use Rattle.sercos_app.proofs.CheckingLemmas.{Taking}
-use Rattle.sercos_app.proofs.check_command.verdict.Given as goal
-
-abbrev pub invariant-loop-rest : goal.invariant-loop-rest
-invariant-loop-rest l = Taking l.shape l.rules l.number l.rest l.text
-
-abbrev pub decreases-loop-rest : goal.decreases-loop-rest
-decreases-loop-rest l = length l.rest

@@ -1,5 +1,0 @@
-use Rattle.sercos_app.proofs.PlaceLemmas.{refused_at}
-use Rattle.sercos_app.proofs.law.place_law.Goals as goal
-
-pub returns : goal.returns
-returns c = refused_at

@@ -1,0 +1,140 @@
+// The verdict on a capture, and its line.
+ghost use Rattle.std.specs.Prelude.{◌≡◌, ◌≤◌, ◌+◌, ◌++◌, length, decimal};
+ghost use Rattle.sercos_checking.specs.Checking.{rule_name, violation_text, clean_text, verdict_text, verdict_status};
+ghost use Rattle.sercos_answer.specs.Answer.{refused_text};
+ghost use Rattle.sercos_checking.specs.Taken.{verdict_on};
+
+use itoa::Buffer;
+use sercos_bits::ByteList;
+use sercos_check::Trouble;
+use sercos_io::Status;
+
+/// What `check` says of a capture. Lines are counted from 1.
+#[derive(Clone, Copy, Debug, PartialEq, Eq)]
+pub enum Verdict {
+    /// A text is no line of a trace, or a line can't follow those before it, or the head ends early.
+    Refused {
+        /// The line; one past the last line if the head ends early.
+        line: u32,
+        /// The column of the first byte that can't stand, counted from 1; 1 if the line can't follow.
+        column: usize,
+    },
+    /// A telegram breaks a rule.
+    Violation {
+        /// Its line.
+        line: u32,
+        /// The lowest rule that it breaks, 1 to 9.
+        rule: u8,
+    },
+    /// Each line can follow and breaks no rule.
+    Clean {
+        /// The number of lines.
+        lines: u32,
+    },
+}
+
+/// The verdict that a checker's trouble is.
+#[tactic(auto, unfolding(crate::specs::Taken::verdict_on))]
+pub fn verdict_on(trouble: Trouble) -> Verdict
+    ensures { result ≡ verdict_on trouble }
+{
+    match trouble {
+        Trouble::Grammar { line } => Verdict::Refused { line, column: 1 },
+        Trouble::Violation { line, rule } => Verdict::Violation { line, rule },
+    }
+}
+
+/// The status with which `check` ends.
+#[tactic(auto, unfolding(crate::specs::Checking::verdict_status))]
+pub fn verdict_status(verdict: Verdict) -> Status
+    ensures { result ≡ verdict_status verdict }
+{
+    match verdict {
+        Verdict::Refused { .. } => Status::Refused,
+        Verdict::Violation { .. } => Status::No,
+        Verdict::Clean { .. } => Status::Done,
+    }
+}
+
+/// The line of a verdict: its texts have at most 34 bytes, its numbers at most 40.
+pub type VerdictLine = ByteList<96>;
+
+// Appends a text and a number in decimal.
+fn push_place(text: &str, number: u64, line: &mut VerdictLine)
+    requires { length line.old + length text.now + 20 ≤ 96 }
+    ensures value { line.new ≡ line.old ++ text.now ++ decimal number }
+    ensures bound { length line.new ≤ length line.old + length text.now + 20 }
+{
+    let mut buffer = Buffer::new();
+    line.append_within(text.as_bytes());
+    line.append_within(buffer.format(number).as_bytes());
+}
+
+// The name of a rule.
+#[tactic(auto, unfolding(crate::specs::Checking::rule_name))]
+fn rule_name(rule: u8) -> &'static str
+    ensures value { result.now ≡ rule_name rule }
+    ensures bound { length result.now ≤ 10 }
+{
+    match rule {
+        1 => "order",
+        2 => "frame",
+        3 => "layout",
+        4 => "phase",
+        5 => "start",
+        6 => "gap",
+        7 => "recovery",
+        8 => "transition",
+        _ => "end",
+    }
+}
+
+// Appends the line that refuses a capture.
+fn push_refused(number: u32, column: usize, line: &mut VerdictLine)
+    requires { length line.old ≡ 0 }
+    ensures { line.new ≡ line.old ++ refused_text number column }
+{
+    push_place("refused line ", u64::from(number), line);
+    push_place(" column ", column as u64, line);
+    line.push_within(b'\n');
+}
+
+// Appends the line that names a violation.
+#[tactic(auto, unfolding(crate::specs::Checking::violation_text))]
+fn push_violation(number: u32, rule: u8, line: &mut VerdictLine)
+    requires { length line.old ≡ 0 }
+    ensures { line.new ≡ line.old ++ violation_text number rule }
+{
+    push_place("violation line ", u64::from(number), line);
+    push_place(" rule ", u64::from(rule), line);
+    line.push_within(b' ');
+    line.append_within(rule_name(rule).as_bytes());
+    line.push_within(b'\n');
+}
+
+// Appends the line of a clean capture.
+#[tactic(auto, unfolding(crate::specs::Checking::clean_text))]
+fn push_clean(lines: u32, line: &mut VerdictLine)
+    requires { length line.old ≡ 0 }
+    ensures { line.new ≡ line.old ++ clean_text lines }
+{
+    push_place("clean ", u64::from(lines), line);
+    line.push_within(b'\n');
+}
+
+/// The line of a verdict.
+#[tactic(auto, unfolding(crate::specs::Checking::verdict_text))]
+pub fn verdict_line(verdict: Verdict) -> VerdictLine
+    ensures { result ≡ verdict_text verdict }
+{
+    let mut line = VerdictLine::new();
+    match verdict {
+        Verdict::Refused {
+            line: number,
+            column,
+        } => push_refused(number, column, &mut line),
+        Verdict::Violation { line: number, rule } => push_violation(number, rule, &mut line),
+        Verdict::Clean { lines } => push_clean(lines, &mut line),
+    }
+    line
+}

@@ -1,0 +1,9 @@
+//! `plan` and `margin`: the least plan of a ring document, and how far its times can go.
+#![tactic(auto)]
+
+mod margin_command;
+mod plan_text;
+mod planning;
+
+pub use margin_command::margins;
+pub use planning::plan;

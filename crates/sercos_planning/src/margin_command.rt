@@ -1,0 +1,124 @@
+// `margin`: how far each time of each drive can go, and the least cycle time.
+ghost use Rattle.std.specs.Prelude.{◌≡◌, ◌≢◌, ◌⊎◌, ◌<◌, ◌≤◌, ◌++◌, OnOk, IfOk, MatchResult, codes, decimal, length};
+ghost use Rattle.sercos_timing.specs.Order.{wish};
+ghost use Rattle.sercos_timing.specs.Valid.{IsValid};
+ghost use Rattle.sercos_plan.specs.ChainOf.{planned};
+ghost use Rattle.sercos_margin.specs.Margins.{greatest, declared, margin_of, HasPlan};
+ghost use Rattle.sercos_document.specs.Lines.{line_of};
+ghost use Rattle.sercos_planning.specs.Margins.{cycle_line, margin_line, margin_lines, wishes_margins, margin_answer, AreLimited, AreMargins, MeasuresItsRing};
+ghost use Rattle.sercos_io.specs.declared.status.Status.TheVariants.{Refused};
+
+use crate::plan_text::{push_chain, push_last};
+use sercos_answer::{Reply, push_text, push_two_numbers};
+use sercos_block::ring_law;
+use sercos_config::{BadDocument, read_ring};
+use sercos_io::Status;
+use sercos_margin::{Time, least_cycle, margin, margin_law};
+use sercos_timing::Wishes;
+use std::alloc::{AllocError, Global};
+
+// Appends the least cycle time.
+#[tactic(auto, unfolding(crate::specs::Margins::cycle_line))]
+fn push_cycle(cycle: Option<u16>, out: &mut Vec<u8>) -> Result<(), AllocError>
+    ensures { OnOk result (out.new.items ≡ out.old.items ++ cycle_line cycle) }
+{
+    match cycle {
+        Some(cycle) => push_last("cycle ", u64::from(cycle), out),
+        None => push_text("cycle none\n", out),
+    }
+}
+
+// How far a time of the drive at a place of the ring can go.
+fn margin_at(wishes: &Wishes, place: usize, t: Time) -> u64
+    requires valid { IsValid wishes.now }
+    requires limits { AreLimited wishes.now }
+    requires fits { HasPlan wishes.now }
+    requires drive { place < length wishes.now.drives }
+    ensures { result ≡ margin_of wishes.now place t }
+{
+    u64::from(margin(wishes, place, t))
+}
+
+// Appends how far each time of the drive at a place of the ring can go.
+#[tactic(auto, unfolding(crate::specs::Margins::margin_line))]
+fn push_margin(wishes: &Wishes, place: usize, out: &mut Vec<u8>) -> Result<(), AllocError>
+    requires valid { IsValid wishes.now }
+    requires limits { AreLimited wishes.now }
+    requires fits { HasPlan wishes.now }
+    requires drive { place < length wishes.now.drives }
+    ensures { OnOk result (out.new.items ≡ out.old.items ++ margin_line (wish wishes.now place).address (margin_of wishes.now place)) }
+{
+    let address = u64::from(wishes.wish(place).address);
+    let t1min = margin_at(wishes, place, Time::T1min);
+    let tatmt = margin_at(wishes, place, Time::Tatmt);
+    let t4min = margin_at(wishes, place, Time::T4min);
+    let tatat = margin_at(wishes, place, Time::Tatat);
+    let tmtsy = margin_at(wishes, place, Time::Tmtsy);
+    let tmtsg = margin_at(wishes, place, Time::Tmtsg);
+    push_two_numbers("margin ", address, " t1min ", t1min, out)?;
+    push_two_numbers(" tatmt ", tatmt, " t4min ", t4min, out)?;
+    push_two_numbers(" tatat ", tatat, " tmtsy ", tmtsy, out)?;
+    push_last(" tmtsg ", tmtsg, out)
+}
+
+// Appends how far each time of all drives can go.
+#[tactic(auto, unfolding(crate::specs::Margins::margin_lines))]
+fn push_margins(wishes: &Wishes, out: &mut Vec<u8>) -> Result<(), AllocError>
+    requires valid { IsValid wishes.now }
+    requires limits { AreLimited wishes.now }
+    requires fits { HasPlan wishes.now }
+    ensures { OnOk result (out.new.items ≡ out.old.items ++ margin_lines wishes.now (margin_of wishes.now) (length wishes.now.drives)) }
+{
+    for place in 0..wishes.drives().len() {
+        push_margin(wishes, place, out)?;
+    }
+    Ok(())
+}
+
+// Answers wishes: by how far the times can go, or by the chain that proves that no plan fits.
+#[tactic(auto, unfolding(crate::specs::Margins::wishes_margins))]
+fn answer_wishes(alloc: Global, wishes: &Wishes) -> Result<Reply, AllocError>
+    requires valid { IsValid wishes.now }
+    requires limits { AreLimited wishes.now }
+    ensures status { IfOk result (λ reply. reply.status ≡ (wishes_margins wishes.now (planned wishes.now)).status) }
+    ensures text { IfOk result (λ reply. reply.text.items ≡ (wishes_margins wishes.now (planned wishes.now)).output) }
+    ensures margins { AreMargins wishes.now (wishes_margins wishes.now (planned wishes.now)) }
+{
+    margin_law();
+    let cycle = least_cycle(wishes);
+    let plan = sercos_plan::plan(wishes);
+    let mut text = Vec::new(alloc);
+    push_cycle(cycle, &mut text)?;
+    let status = match plan {
+        Ok(_) => {
+            push_margins(wishes, &mut text)?;
+            Status::Done
+        }
+        Err(chain) => {
+            push_chain(&chain, &mut text)?;
+            Status::No
+        }
+    };
+    Ok(Reply { status, text })
+}
+
+/// Answers a ring document: by the least cycle time with which a plan fits, and by how far each time of each drive can go; or
+/// with `No` by that cycle time and the chain that proves that no plan fits with the ring's own. The error is the document's first
+/// refusal, or want of memory.
+#[tactic(auto, unfolding(crate::specs::Margins::margin_answer, crate::specs::Margins::document_margins), using(crate::proofs::MarginLemmas::limited_wishes))]
+pub fn margins(alloc: Global, bytes: &[u8]) -> Result<Reply, BadDocument>
+    ensures answer { MatchResult result
+        (λ reply. (reply.status ≡ (margin_answer bytes.now).status) × (reply.text.items ≡ (margin_answer bytes.now).output))
+        (λ bad. (bad ≡ BadDocument.Memory)
+        ⊎ ((margin_answer bytes.now).status ≡ Refused) × ((margin_answer bytes.now).output ≡ line_of bad)) }
+    ensures ring { MatchResult result
+        (λ _. MeasuresItsRing bytes.now)
+        (λ bad. (bad ≡ BadDocument.Memory) ⊎ MeasuresItsRing bytes.now) }
+{
+    ring_law();
+    let document = read_ring(alloc, bytes)?;
+    match answer_wishes(alloc, &document.setup.wishes()) {
+        Ok(reply) => Ok(reply),
+        Err(_) => Err(BadDocument::Memory),
+    }
+}

@@ -1,0 +1,168 @@
+// The texts of plans and of chains, appended to what is written in the end.
+ghost use Rattle.std.specs.Prelude.{◌≡◌, ◌++◌, ◌<◌, ◌≤◌, OnOk, codes, decimal, length};
+ghost use Rattle.std.specs.List.{flat_map};
+ghost use Rattle.sercos_planning.specs.Planning.{plan_line, slot_line, slot_lines, plan_text, link_line, end_line, chain_text};
+ghost use Rattle.sercos_answer.specs.Answer.{line_feed, two_numbers};
+
+use sercos_answer::{push_number, push_text, push_two_numbers};
+use sercos_plan::{Chain, Link};
+use sercos_timing::{Plan, Wishes};
+use std::alloc::AllocError;
+
+/// Appends a number after its name, and a line feed.
+pub fn push_last(name: &str, number: u64, out: &mut Vec<u8>) -> Result<(), AllocError>
+    ensures { OnOk result (out.new.items ≡ out.old.items ++ (name.now ++ decimal number ++ line_feed)) }
+{
+    push_text(name, out)?;
+    push_number(number, out)?;
+    push_text("\n", out)
+}
+
+// Appends two numbers, each after its name, and a line feed.
+fn push_last_two(
+    first: &str,
+    a: u64,
+    second: &str,
+    b: u64,
+    out: &mut Vec<u8>,
+) -> Result<(), AllocError>
+    ensures { OnOk result (out.new.items
+        ≡ out.old.items ++ (two_numbers first.now a second.now b ++ line_feed)) }
+{
+    push_two_numbers(first, a, second, b, out)?;
+    push_text("\n", out)
+}
+
+// Appends the times of all drives, and the length of the MDT.
+#[tactic(auto, unfolding(crate::specs::Planning::plan_line))]
+fn push_plan_line(plan: &Plan, out: &mut Vec<u8>) -> Result<(), AllocError>
+    ensures { OnOk result (out.new.items ≡ out.old.items ++ plan_line plan.now) }
+{
+    push_two_numbers(
+        "plan t2 ",
+        u64::from(plan.t2()),
+        " t3 ",
+        u64::from(plan.t3()),
+        out,
+    )?;
+    push_last_two(
+        " t4 ",
+        u64::from(plan.t4()),
+        " mdt ",
+        u64::from(plan.mdt_len()),
+        out,
+    )
+}
+
+// Appends the time slot of the drive at a place of the ring.
+#[tactic(auto, unfolding(crate::specs::Planning::slot_line))]
+fn push_slot(
+    wishes: &Wishes,
+    plan: &Plan,
+    place: usize,
+    out: &mut Vec<u8>,
+) -> Result<(), AllocError>
+    requires drive { place < length wishes.now.drives }
+    requires start { place < length plan.now.t1 }
+    requires position { place < length plan.now.position }
+    ensures { OnOk result (out.new.items ≡ out.old.items ++ slot_line wishes.now plan.now place) }
+{
+    let address = wishes.wish(place).address;
+    push_two_numbers(
+        "slot ",
+        u64::from(address),
+        " t1 ",
+        u64::from(plan.t1()[place]),
+        out,
+    )?;
+    push_last(" position ", u64::from(plan.position()[place]), out)
+}
+
+// Appends the time slots of all drives.
+#[tactic(auto, unfolding(crate::specs::Planning::slot_lines))]
+fn push_slots(wishes: &Wishes, plan: &Plan, out: &mut Vec<u8>) -> Result<(), AllocError>
+    requires starts { length plan.now.t1 ≡ length wishes.now.drives }
+    requires positions { length plan.now.position ≡ length wishes.now.drives }
+    ensures { OnOk result (out.new.items
+        ≡ out.old.items ++ slot_lines wishes.now plan.now (length wishes.now.drives)) }
+{
+    for place in 0..wishes.drives().len() {
+        push_slot(wishes, plan, place, out)?;
+    }
+    Ok(())
+}
+
+/// Appends a plan: its times, and the time slot of each drive in the order of the ring.
+#[tactic(auto, unfolding(crate::specs::Planning::plan_text))]
+pub fn push_plan(wishes: &Wishes, plan: &Plan, out: &mut Vec<u8>) -> Result<(), AllocError>
+    requires starts { length plan.now.t1 ≡ length wishes.now.drives }
+    requires positions { length plan.now.position ≡ length wishes.now.drives }
+    ensures { OnOk result (out.new.items ≡ out.old.items ++ plan_text wishes.now plan.now) }
+{
+    push_plan_line(plan, out)?;
+    push_slots(wishes, plan, out)
+}
+
+// Appends a link of a chain.
+#[tactic(auto, unfolding(crate::specs::Planning::link_line))]
+fn push_link(link: &Link, out: &mut Vec<u8>) -> Result<(), AllocError>
+    ensures { OnOk result (out.new.items ≡ out.old.items ++ link_line link.now) }
+{
+    push_two_numbers(
+        "rule ",
+        u64::from(link.rule),
+        " drive ",
+        u64::from(link.drive),
+        out,
+    )?;
+    push_last(" at ", u64::from(link.at), out)
+}
+
+// Appends the links of a chain.
+fn push_links(links: &[Link], out: &mut Vec<u8>) -> Result<(), AllocError>
+    ensures { OnOk result (out.new.items ≡ out.old.items ++ flat_map link_line links.now) }
+{
+    for link in links {
+        push_link(link, out)?;
+    }
+    Ok(())
+}
+
+// Appends the last part of a chain.
+#[tactic(auto, unfolding(crate::specs::Planning::end_line))]
+fn push_end(chain: &Chain, out: &mut Vec<u8>) -> Result<(), AllocError>
+    ensures { OnOk result (out.new.items ≡ out.old.items ++ end_line chain.now) }
+{
+    push_two_numbers(
+        "rule ",
+        u64::from(chain.rule()),
+        " drive ",
+        u64::from(chain.drive()),
+        out,
+    )?;
+    push_last_two(
+        " sum ",
+        u64::from(chain.sum()),
+        " bound ",
+        u64::from(chain.bound()),
+        out,
+    )
+}
+
+// Appends that there is no plan.
+fn push_no_plan(head: &str, out: &mut Vec<u8>) -> Result<(), AllocError>
+    ensures { OnOk result (out.new.items ≡ out.old.items ++ (head.now ++ line_feed)) }
+{
+    push_text(head, out)?;
+    push_text("\n", out)
+}
+
+/// Appends that there is no plan, and the chain that proves it.
+#[tactic(auto, unfolding(crate::specs::Planning::chain_text))]
+pub fn push_chain(chain: &Chain, out: &mut Vec<u8>) -> Result<(), AllocError>
+    ensures { OnOk result (out.new.items ≡ out.old.items ++ chain_text chain.now) }
+{
+    push_no_plan("no plan", out)?;
+    push_links(chain.links(), out)?;
+    push_end(chain, out)
+}

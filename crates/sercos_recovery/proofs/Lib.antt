@@ -1,0 +1,5 @@
+pub mod EpochStops
+pub mod Stretches
+pub mod UpNext
+pub mod LateDown
+pub mod AfterFalls

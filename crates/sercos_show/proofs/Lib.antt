@@ -1,0 +1,9 @@
+pub mod LineLemmas
+pub mod SpareBits
+pub mod HexPairs
+pub mod HexLines
+pub mod SpelledLines
+pub mod WrittenLines
+pub mod PlaceLemmas
+pub mod ShowLemmas
+mod WorkedLines

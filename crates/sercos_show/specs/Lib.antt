@@ -1,0 +1,4 @@
+pub mod Line
+pub mod SpelledLine
+pub mod Places
+pub mod Show

@@ -1,0 +1,10 @@
+//! `show`: what lines of frames say, or where a line is none.
+#![tactic(auto)]
+
+mod law;
+mod line;
+pub mod show;
+mod text;
+
+pub use law::{line_law, place_law};
+pub use line::LineKind;

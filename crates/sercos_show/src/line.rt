@@ -1,0 +1,263 @@
+// The lines of `show`: `raw COUNT HEX`. A fault is the place, from 0 on, of the first byte that can't stand; that of a
+// missing byte is one past the end.
+ghost use Rattle.std.specs.Prelude.{◌≡◌, ℕ, ◌+◌, ◌-◌, ◌*◌, ◌/◌, ◌<◌, ◌≤◌, min, [], ◌∷◌, OnOk, IfOk, IfErr, IfSome, IfNone, length, take, drop, slice_index, nat_eq, Some};
+ghost use Rattle.std.specs.Char.{is_ascii_hexdigit};
+ghost use Rattle.std.specs.List.{prefix_len, common_prefix_len};
+ghost use Rattle.std.specs.Result.{result_ok, result_err};
+ghost use Rattle.sercos_model.specs.Bits.{bits_of};
+ghost use Rattle.sercos_text.specs.Fields.{number_len, number_of, pairs_of};
+ghost use Rattle.sercos_show.specs.Line.{byte_of, wanted_digits, has_spare, kind_text, kind_of, kind_fault, count_fault, dash_fault, digits_fault, hex_fault, hex_bits, numbers_fault, numbers_bits, line_fault, line_bits};
+
+use sercos_bits::BitBuf;
+
+/// What the bits of a line are read as.
+#[derive(Clone, Copy, Debug, PartialEq, Eq)]
+pub enum LineKind {
+    /// `raw`: a frame.
+    Raw,
+    /// `mst`: the frame of an MST.
+    Mst,
+    /// `single`: that of an MDT of phases 1 and 2.
+    Single,
+    /// `at`: that of an AT.
+    At,
+}
+
+/// The largest COUNT.
+const MOST: u32 = 19696;
+
+// How many bytes of a text a line begins with.
+fn shared_with(line: &[u8], text: &[u8]) -> usize
+    ensures value { result ≡ common_prefix_len nat_eq line.now text.now }
+    ensures bound { result ≤ length line.now }
+{
+    for (place, wanted) in text.iter().enumerate() {
+        if line.get(place) != Some(wanted) {
+            return place;
+        }
+    }
+    text.len()
+}
+
+// The kind that a line is of, or the place of the first byte with which no kind goes on.
+#[tactic(auto, unfolding(crate::specs::Line::kind_of, crate::specs::Line::kind_fault))]
+fn kind_of(line: &[u8]) -> Result<LineKind, usize>
+    ensures kind { result_ok result ≡ kind_of line.now }
+    ensures fault { IfErr result (λ place. place ≡ kind_fault line.now) }
+    ensures bound { IfErr result (λ place. place ≤ length line.now) }
+    ensures there { IfOk result (λ kind. length (kind_text kind) ≤ length line.now) }
+{
+    let raw = shared_with(line, b"raw ");
+    let mst = shared_with(line, b"mst ");
+    let single = shared_with(line, b"single ");
+    let at = shared_with(line, b"at ");
+    if raw == 4 {
+        Ok(LineKind::Raw)
+    } else if mst == 4 {
+        Ok(LineKind::Mst)
+    } else if single == 7 {
+        Ok(LineKind::Single)
+    } else if at == 3 {
+        Ok(LineKind::At)
+    } else {
+        Err(raw.max(mst).max(single).max(at))
+    }
+}
+
+// How many bytes there are before COUNT.
+fn kind_len(kind: LineKind) -> usize
+    ensures { result ≡ length (kind_text kind) }
+{
+    match kind {
+        LineKind::Raw | LineKind::Mst => 4,
+        LineKind::Single => 7,
+        LineKind::At => 3,
+    }
+}
+
+// How many hexadecimal digits a text begins with.
+fn leading_digits(text: &[u8]) -> usize
+    ensures value { result ≡ prefix_len is_ascii_hexdigit text.now }
+    ensures bound { result ≤ length text.now }
+{
+    for (place, byte) in text.iter().enumerate() {
+        if !byte.is_ascii_hexdigit() {
+            return place;
+        }
+    }
+    text.len()
+}
+
+// The byte that two hexadecimal digits spell.
+#[tactic(auto, unfolding(crate::specs::Line::byte_of, sercos_text::specs::Fields::pairs_of))]
+fn byte_of(high: u8, low: u8) -> u8
+    ensures { result ≡ byte_of high low }
+{
+    let mut byte = [0u8];
+    match hex::decode_to_slice([high, low], &mut byte) {
+        Ok(()) => byte[0],
+        Err(_) => 0,
+    }
+}
+
+#[tactic(auto, unfolding(crate::specs::Line::wanted_digits))]
+fn wanted_digits(count: usize) -> usize
+    requires { count ≤ 19696 }
+    ensures value { result ≡ wanted_digits count }
+    ensures most { result ≤ 4924 }
+    ensures some { 0 < count → 2 ≤ result }
+{
+    2 * count.div_ceil(8)
+}
+
+#[tactic(auto, unfolding(crate::specs::Line::has_spare))]
+fn has_spare(count: usize, byte: u8) -> bool
+    requires some { 0 < count }
+    requires most { count ≤ 19696 }
+    ensures { result ≡ has_spare count byte }
+{
+    let used = count - 8 * (count.div_ceil(8) - 1);
+    u16::from(byte) >= 1 << used
+}
+
+// The fault of the HEX of no bits.
+#[tactic(auto, unfolding(crate::specs::Line::dash_fault))]
+fn dash_fault(text: &[u8]) -> Option<usize>
+    ensures value { result ≡ dash_fault text.now }
+    ensures bound { IfSome result (λ place. place ≤ length text.now) }
+{
+    if text.first() != Some(&b'-') {
+        return Some(0);
+    }
+    (text.len() > 1).then_some(1)
+}
+
+// The fault of the HEX of at least one bit.
+#[tactic(auto, unfolding(crate::specs::Line::digits_fault))]
+fn digits_fault(count: usize, text: &[u8]) -> Option<usize>
+    requires some { 0 < count }
+    requires most { count ≤ 19696 }
+    ensures value { result ≡ digits_fault count text.now }
+    ensures bound { IfSome result (λ place. place ≤ length text.now) }
+{
+    let wanted = wanted_digits(count);
+    let last = wanted - 2;
+    let digits = leading_digits(text);
+    if digits <= last {
+        return Some(digits);
+    }
+    if has_spare(count, byte_of(text[last], b'0')) {
+        return Some(last);
+    }
+    if digits < wanted {
+        return Some(digits);
+    }
+    if has_spare(count, byte_of(text[last], text[last + 1])) {
+        return Some(last);
+    }
+    (text.len() > wanted).then_some(wanted)
+}
+
+#[tactic(auto, unfolding(crate::specs::Line::hex_fault))]
+fn hex_fault(count: usize, text: &[u8]) -> Option<usize>
+    requires { count ≤ 19696 }
+    ensures value { result ≡ hex_fault count text.now }
+    ensures bound { IfSome result (λ place. place ≤ length text.now) }
+{
+    if count == 0 {
+        dash_fault(text)
+    } else {
+        digits_fault(count, text)
+    }
+}
+
+// Reads COUNT and the space after it: how many bytes they take, and COUNT.
+#[tactic(auto, unfolding(crate::specs::Line::count_fault))]
+fn read_count(text: &[u8]) -> Result<(usize, usize), usize>
+    ensures fault { result_err result ≡ count_fault text.now }
+    ensures len { IfOk result (λ r. r.0 ≡ number_len text.now + 1) }
+    ensures inside { IfOk result (λ r. r.0 ≤ length text.now) }
+    ensures count { IfOk result (λ r. r.1 ≡ number_of text.now) }
+    ensures most { IfOk result (λ r. r.1 ≤ 19696) }
+    ensures bound { IfErr result (λ place. place ≤ length text.now) }
+{
+    let (len, count) = sercos_text::read_number(text, MOST)?;
+    if text.get(len) != Some(&b' ') {
+        return Err(len);
+    }
+    Ok((len + 1, count as usize))
+}
+
+// The digits of HEX, or those that are there.
+fn hex_digits(count: usize, text: &[u8]) -> &[u8]
+    requires { count ≤ 19696 }
+    ensures value { result.now ≡ take (wanted_digits count) text.now }
+    ensures most { length result.now ≤ 4924 }
+{
+    &text[..wanted_digits(count).min(text.len())]
+}
+
+// Replaces the bits by those of the bytes that digits spell.
+#[tactic(auto, unfolding(sercos_text::specs::Fields::pairs_of, sercos_model::specs::Bits::bits_of))]
+fn set_bits(digits: &[u8], bits: &mut BitBuf)
+    requires { length digits.now ≤ 4924 }
+    ensures { bits.new ≡ bits_of (pairs_of digits.now) }
+{
+    bits.clear();
+    let mut bytes = [0u8; 2462];
+    let room = &mut bytes[..digits.len() / 2];
+    match hex::decode_to_slice(digits, room) {
+        Ok(()) => sercos_bits::bits_of(room, bits).unwrap(),
+        Err(_) => {}
+    }
+}
+
+// Reads HEX.
+#[tactic(auto, unfolding(crate::specs::Line::hex_bits))]
+fn read_hex(count: usize, text: &[u8], bits: &mut BitBuf) -> Result<(), usize>
+    requires { count ≤ 19696 }
+    ensures fault { result_err result ≡ hex_fault count text.now }
+    ensures bits { OnOk result (bits.new ≡ hex_bits count text.now) }
+    ensures bound { IfErr result (λ place. place ≤ length text.now) }
+{
+    if let Some(place) = hex_fault(count, text) {
+        return Err(place);
+    }
+    set_bits(hex_digits(count, text), bits);
+    bits.cut(count);
+    Ok(())
+}
+
+// Reads COUNT HEX.
+#[tactic(auto, unfolding(crate::specs::Line::numbers_fault, crate::specs::Line::numbers_bits))]
+fn read_numbers(text: &[u8], bits: &mut BitBuf) -> Result<(), usize>
+    ensures fault { result_err result ≡ numbers_fault text.now }
+    ensures bits { OnOk result (bits.new ≡ numbers_bits text.now) }
+    ensures bound { IfErr result (λ place. place ≤ length text.now) }
+{
+    let (begin, count) = read_count(text)?;
+    match read_hex(count, &text[begin..], bits) {
+        Ok(()) => Ok(()),
+        Err(place) => Err(begin + place),
+    }
+}
+
+/// Replaces the bits by those that a line gives, and answers its kind. The error is the place, from 0 on, of the first
+/// byte of the line that can't stand; then the bits are of no use.
+#[tactic(auto, unfolding(crate::specs::Line::line_fault, crate::specs::Line::fault_by, crate::specs::Line::line_bits, crate::specs::Line::bits_by))]
+pub fn read_line(line: &[u8], bits: &mut BitBuf) -> Result<LineKind, usize>
+    ensures fault { result_err result ≡ line_fault line.now }
+    ensures kind { IfOk result (λ kind. kind_of line.now ≡ Some kind) }
+    ensures bits { OnOk result (bits.new ≡ line_bits line.now) }
+    ensures bound { IfErr result (λ place. place ≤ length line.now) }
+{
+    let kind = match kind_of(line) {
+        Ok(kind) => kind,
+        Err(place) => return Err(place),
+    };
+    let begin = kind_len(kind);
+    match read_numbers(&line[begin..], bits) {
+        Ok(()) => Ok(kind),
+        Err(place) => Err(begin + place),
+    }
+}

@@ -1,0 +1,197 @@
+// `show`: what lines of frames say.
+ghost use Rattle.std.specs.Prelude.{◌≡◌, ◌≤◌, ◌++◌, length, slice_index, drop, IfOk, OnOk, codes, decimal};
+ghost use Rattle.sercos_show.specs.Show.{layout_text, layout_or, mst_text, single_text, at_text, wanted_address, wanted_len, content_text, refusal_text, frame_text, show_answer};
+ghost use Rattle.sercos_answer.specs.Answer.{line_feed, refused_text};
+ghost use Rattle.hex.specs.Hex.{encode_lower};
+ghost use Rattle.sercos_telegram.specs.Faults.{mst_fault, single_fault, at_fault};
+ghost use Rattle.sercos_telegram.specs.Spells.{word_at};
+ghost use Rattle.sercos_telegram.specs.Words.{control_of, status_of};
+ghost use Rattle.sercos_hdlc.specs.Reason.{reason_of};
+
+use crate::line::{LineKind, read_line};
+use crate::text::{push_at, push_hex, push_layout, push_mst, push_refusal, push_single};
+use sercos_answer::{Reply, cut_line, push_number, push_text};
+use sercos_bits::{BitBuf, Content};
+use sercos_hdlc::{BadFrame, unframe};
+use sercos_io::Status;
+use sercos_telegram::{Layout, read_at, read_mst, read_single};
+use std::alloc::{AllocError, Global};
+
+// The line that refuses the input.
+fn refused_text(alloc: Global, line: u64, column: u64) -> Result<Vec<u8>, AllocError>
+    ensures { IfOk result (λ text. text.items ≡ refused_text line column) }
+{
+    let mut text = Vec::new(alloc);
+    push_text("refused line ", &mut text)?;
+    push_number(line, &mut text)?;
+    push_text(" column ", &mut text)?;
+    push_number(column, &mut text)?;
+    push_text("\n", &mut text)?;
+    Ok(text)
+}
+
+// The reply that refuses the input at a line and a column.
+fn refusal(alloc: Global, line: u64, column: u64) -> Result<Reply, AllocError>
+    ensures status { IfOk result (λ reply. reply.status ≡ Status.Refused) }
+    ensures text { IfOk result (λ reply. reply.text.items ≡ refused_text line column) }
+{
+    let text = refused_text(alloc, line, column)?;
+    Ok(Reply {
+        status: Status::Refused,
+        text,
+    })
+}
+
+// Appends `layout` and a fault.
+#[tactic(auto, unfolding(crate::specs::Show::layout_or))]
+fn push_fault(fault: Layout, out: &mut Vec<u8>) -> Result<(), AllocError>
+    ensures { OnOk result (out.new.items ≡ out.old.items ++ (codes "layout " ++ layout_text fault)) }
+{
+    push_text("layout ", out)?;
+    push_layout(fault, out)
+}
+
+// Appends `ok` and a content.
+fn push_raw(content: &[u8], out: &mut Vec<u8>) -> Result<(), AllocError>
+    requires { length content.now ≤ 2048 }
+    ensures { OnOk result (out.new.items ≡ out.old.items ++ (codes "ok " ++ encode_lower content.now)) }
+{
+    push_text("ok ", out)?;
+    push_hex(content, out)
+}
+
+// Appends what an MST says.
+#[tactic(auto, unfolding(crate::specs::Show::layout_or))]
+fn show_mst(content: &[u8], out: &mut Vec<u8>) -> Result<(), AllocError>
+    ensures { OnOk result (out.new.items
+        ≡ out.old.items ++ layout_or (mst_fault content.now) (mst_text (slice_index content.now 1))) }
+{
+    match read_mst(content) {
+        Ok(mst) => push_mst(mst.phase, out),
+        Err(fault) => push_fault(fault, out),
+    }
+}
+
+// The address that is wanted: the one found, where it is a drive's, and else 1.
+#[tactic(auto, unfolding(crate::specs::Show::wanted_address))]
+fn wanted_address(content: &[u8]) -> u8
+    ensures { result ≡ wanted_address content.now }
+{
+    match content.first() {
+        Some(&found) if 0 < found && found < 255 => found,
+        _ => 1,
+    }
+}
+
+// Appends what an MDT of phases 1 and 2 says.
+#[tactic(auto, unfolding(crate::specs::Show::layout_or))]
+fn show_single(content: &[u8], out: &mut Vec<u8>) -> Result<(), AllocError>
+    ensures { OnOk result (out.new.items ≡ out.old.items
+        ++ layout_or (single_fault (wanted_address content.now) content.now)
+        (single_text (wanted_address content.now) (control_of (word_at content.now 1)) (word_at content.now 3))) }
+{
+    let address = wanted_address(content);
+    match read_single(address, content) {
+        Ok((control, info)) => push_single(address, &control, info, out),
+        Err(fault) => push_fault(fault, out),
+    }
+}
+
+// How many bytes are wanted behind the address of an AT: those found, where they are at least four, and else four.
+#[tactic(auto, unfolding(crate::specs::Show::wanted_len))]
+fn wanted_len(content: &[u8]) -> u16
+    requires { length content.now ≤ 2048 }
+    ensures value { result ≡ wanted_len content.now }
+    ensures least { 4 ≤ result }
+{
+    content.len().saturating_sub(1).max(4) as u16
+}
+
+// Appends what an AT says.
+#[tactic(auto, unfolding(crate::specs::Show::layout_or))]
+fn show_at(content: &[u8], out: &mut Vec<u8>) -> Result<(), AllocError>
+    requires { length content.now ≤ 2048 }
+    ensures { OnOk result (out.new.items ≡ out.old.items
+        ++ layout_or (at_fault (wanted_address content.now) (wanted_len content.now) content.now)
+        (at_text (wanted_address content.now) (status_of (word_at content.now 1)) (word_at content.now 3)
+        (drop 5 content.now))) }
+{
+    match read_at(wanted_address(content), wanted_len(content), content) {
+        Ok(at) => push_at(&at, out),
+        Err(fault) => push_fault(fault, out),
+    }
+}
+
+// Appends what a content says, read as its line asks.
+#[tactic(auto, unfolding(crate::specs::Show::content_text))]
+fn push_content(kind: LineKind, content: &[u8], out: &mut Vec<u8>) -> Result<(), AllocError>
+    requires { length content.now ≤ 2048 }
+    ensures { OnOk result (out.new.items ≡ out.old.items ++ content_text kind content.now) }
+{
+    match kind {
+        LineKind::Raw => push_raw(content, out),
+        LineKind::Mst => show_mst(content, out),
+        LineKind::Single => show_single(content, out),
+        LineKind::At => show_at(content, out),
+    }
+}
+
+// Appends a line of what a content says.
+fn push_content_line(kind: LineKind, content: &[u8], out: &mut Vec<u8>) -> Result<(), AllocError>
+    requires { length content.now ≤ 2048 }
+    ensures { OnOk result (out.new.items ≡ out.old.items ++ (content_text kind content.now ++ line_feed)) }
+{
+    push_content(kind, content, out)?;
+    push_text("\n", out)
+}
+
+// Appends `error` and a refusal of framing.
+fn push_error(bad: BadFrame, out: &mut Vec<u8>) -> Result<(), AllocError>
+    ensures { OnOk result (out.new.items
+        ≡ out.old.items ++ (codes "error " ++ refusal_text bad ++ line_feed)) }
+{
+    push_text("error ", out)?;
+    push_refusal(bad, out)?;
+    push_text("\n", out)
+}
+
+// Appends the answer to a line of a kind and of these bits.
+#[tactic(auto, unfolding(crate::specs::Show::frame_text))]
+fn push_answer(
+    kind: LineKind,
+    bits: &BitBuf,
+    content: &mut Content,
+    out: &mut Vec<u8>,
+) -> Result<(), AllocError>
+    ensures { OnOk result (out.new.items ≡ out.old.items ++ frame_text kind bits.now (reason_of bits.now)) }
+{
+    match unframe(bits, content) {
+        Ok(_) => push_content_line(kind, content.as_slice(), out),
+        Err(bad) => push_error(bad, out),
+    }
+}
+
+/// Answers the lines of a text: the refusal of the first line that has a fault, else the answer to each, in order.
+pub fn show(alloc: Global, text: &[u8]) -> Result<Reply, AllocError>
+    ensures status { IfOk result (λ reply. reply.status ≡ (show_answer text.now).status) }
+    ensures text { IfOk result (λ reply. reply.text.items ≡ (show_answer text.now).output) }
+{
+    let mut bits = BitBuf::new();
+    let mut content = Content::new();
+    let mut answers = Vec::new(alloc);
+    let mut rest = text;
+    let mut number = 1u64;
+    while !rest.is_empty() {
+        let (line, others) = cut_line(rest);
+        match read_line(line, &mut bits) {
+            Ok(kind) => push_answer(kind, &bits, &mut content, &mut answers)?,
+            Err(place) => return refusal(alloc, number, place as u64 + 1),
+        }
+        rest = others;
+        number += 1;
+    }
+    Ok(Reply {
+        status: Status::Done,
+        text: answers,
+    })
+}

@@ -1,0 +1,208 @@
+// The texts of the answers of `show`, appended to what is written in the end.
+ghost use Rattle.std.specs.Prelude.{◌≡◌, ◌++◌, OnOk, codes, decimal, length, ◌≤◌};
+ghost use Rattle.hex.specs.Hex.{encode_lower};
+ghost use Rattle.sercos_show.specs.Show.{word_text, bit_text, two_bits, bit_and_number, two_words, data_text, layout_text, mst_text, single_text, at_text, refusal_text};
+
+use sercos_answer::{push_number, push_text, push_two_numbers};
+use sercos_hdlc::BadFrame;
+use sercos_telegram::{At, Control, Layout};
+use std::alloc::AllocError;
+
+#[tactic(auto, unfolding(crate::specs::Show::word_text))]
+/// Appends a word as `0x` and four digits.
+pub fn push_word(word: u16, out: &mut Vec<u8>) -> Result<(), AllocError>
+    ensures { OnOk result (out.new.items ≡ out.old.items ++ word_text word) }
+{
+    push_text("0x", out)?;
+    let mut digits = [0u8; 4];
+    hex::encode_to_slice(word.to_be_bytes(), &mut digits).unwrap();
+    out.extend_from_slice(&digits)
+}
+
+// Appends a text and a number.
+fn push_place(text: &str, place: u64, out: &mut Vec<u8>) -> Result<(), AllocError>
+    ensures { OnOk result (out.new.items ≡ out.old.items ++ text.now ++ decimal place) }
+{
+    push_text(text, out)?;
+    push_number(place, out)
+}
+
+// Appends a bit.
+fn push_bit(bit: bool, out: &mut Vec<u8>) -> Result<(), AllocError>
+    ensures { OnOk result (out.new.items ≡ out.old.items ++ bit_text bit) }
+{
+    push_text(if bit { "1" } else { "0" }, out)
+}
+
+// Appends two bits, each behind its name.
+#[tactic(auto, unfolding(crate::specs::Show::two_bits))]
+fn push_bits(
+    first: &str,
+    a: bool,
+    second: &str,
+    b: bool,
+    out: &mut Vec<u8>,
+) -> Result<(), AllocError>
+    ensures { OnOk result (out.new.items ≡ out.old.items ++ two_bits first.now a second.now b) }
+{
+    push_text(first, out)?;
+    push_bit(a, out)?;
+    push_text(second, out)?;
+    push_bit(b, out)
+}
+
+// Appends a bit and a number, each behind its name.
+#[tactic(auto, unfolding(crate::specs::Show::bit_and_number))]
+fn push_bit_and_number(
+    first: &str,
+    bit: bool,
+    second: &str,
+    number: u64,
+    out: &mut Vec<u8>,
+) -> Result<(), AllocError>
+    ensures { OnOk result (out.new.items
+        ≡ out.old.items ++ bit_and_number first.now bit second.now number) }
+{
+    push_text(first, out)?;
+    push_bit(bit, out)?;
+    push_text(second, out)?;
+    push_number(number, out)
+}
+
+// Appends two words, each behind its name.
+#[tactic(auto, unfolding(crate::specs::Show::two_words))]
+fn push_words(
+    first: &str,
+    a: u16,
+    second: &str,
+    b: u16,
+    out: &mut Vec<u8>,
+) -> Result<(), AllocError>
+    ensures { OnOk result (out.new.items ≡ out.old.items ++ two_words first.now a second.now b) }
+{
+    push_text(first, out)?;
+    push_word(a, out)?;
+    push_text(second, out)?;
+    push_word(b, out)
+}
+
+/// Appends number, name and places of a refusal of framing.
+#[tactic(auto, unfolding(crate::specs::Show::refusal_text))]
+pub fn push_refusal(bad: BadFrame, out: &mut Vec<u8>) -> Result<(), AllocError>
+    ensures { OnOk result (out.new.items ≡ out.old.items ++ refusal_text bad) }
+{
+    match bad {
+        BadFrame::NoOpen => push_text("1 no open", out),
+        BadFrame::Abort(place) => push_place("2 abort ", u64::from(place), out),
+        BadFrame::NoClose(bits) => push_place("3 no close ", u64::from(bits), out),
+        BadFrame::Ragged(bits) => push_place("4 ragged ", u64::from(bits), out),
+        BadFrame::Short(bytes) => push_place("5 short ", u64::from(bytes), out),
+        BadFrame::Check(found, wanted) => {
+            push_words("6 check found ", found, " wanted ", wanted, out)
+        },
+        BadFrame::After(place) => push_place("7 after ", u64::from(place), out),
+        BadFrame::Long(bytes) => push_place("8 long ", u64::from(bytes), out),
+    }
+}
+
+/// Appends bytes in hexadecimal digits.
+pub fn push_hex(bytes: &[u8], out: &mut Vec<u8>) -> Result<(), AllocError>
+    requires { length bytes.now ≤ 2048 }
+    ensures { OnOk result (out.new.items ≡ out.old.items ++ encode_lower bytes.now) }
+{
+    let mut digits = [0u8; 4096];
+    let text = &mut digits[..2 * bytes.len()];
+    hex::encode_to_slice(bytes, text).unwrap();
+    out.extend_from_slice(text)
+}
+
+// Appends bytes in hexadecimal digits, or `-` where there are none.
+#[tactic(auto, unfolding(crate::specs::Show::data_text))]
+fn push_data(bytes: &[u8], out: &mut Vec<u8>) -> Result<(), AllocError>
+    requires { length bytes.now ≤ 2048 }
+    ensures { OnOk result (out.new.items ≡ out.old.items ++ data_text bytes.now) }
+{
+    match bytes {
+        [] => push_text("-", out),
+        [_, ..] => push_hex(bytes, out),
+    }
+}
+
+/// Appends number, name and values of a fault of layout.
+#[tactic(auto, unfolding(crate::specs::Show::layout_text))]
+pub fn push_layout(fault: Layout, out: &mut Vec<u8>) -> Result<(), AllocError>
+    ensures { OnOk result (out.new.items ≡ out.old.items ++ layout_text fault) }
+{
+    match fault {
+        Layout::Length(found, wanted) => {
+            push_two_numbers(
+                "1 length found ",
+                found as u64,
+                " wanted ",
+                wanted as u64,
+                out,
+            )
+        }
+        Layout::Address(found, wanted) => {
+            push_two_numbers(
+                "2 address found ",
+                found as u64,
+                " wanted ",
+                wanted as u64,
+                out,
+            )
+        }
+        Layout::BadField(place) => push_place("3 field ", place as u64, out),
+    }
+}
+
+/// Appends the fields of an MST.
+#[tactic(auto, unfolding(crate::specs::Show::mst_text))]
+pub fn push_mst(phase: u8, out: &mut Vec<u8>) -> Result<(), AllocError>
+    ensures { OnOk result (out.new.items ≡ out.old.items ++ mst_text phase) }
+{
+    push_place("mst phase ", u64::from(phase), out)
+}
+
+/// Appends the fields of an MDT of phases 1 and 2.
+#[tactic(auto, unfolding(crate::specs::Show::single_text))]
+pub fn push_single(
+    address: u8,
+    control: &Control,
+    info: u16,
+    out: &mut Vec<u8>,
+) -> Result<(), AllocError>
+    ensures { OnOk result (out.new.items ≡ out.old.items ++ single_text address control.now info) }
+{
+    push_place("single ", u64::from(address), out)?;
+    push_bits(" mhs ", control.mhs, " write ", control.write, out)?;
+    push_bit_and_number(
+        " last ",
+        control.last,
+        " element ",
+        u64::from(control.element),
+        out,
+    )?;
+    push_words(" info ", info, " cyclic ", control.cyclic, out)
+}
+
+/// Appends the fields of an AT.
+#[tactic(auto, unfolding(crate::specs::Show::at_text))]
+pub fn push_at(at: &At<'_>, out: &mut Vec<u8>) -> Result<(), AllocError>
+    requires { length at.now.values.now ≤ 2048 }
+    ensures { OnOk result (out.new.items
+        ≡ out.old.items ++ at_text at.now.address at.now.status at.now.info at.now.values.now) }
+{
+    push_place("at ", u64::from(at.address), out)?;
+    push_bits(" ahs ", at.status.ahs, " busy ", at.status.busy, out)?;
+    push_bits(
+        " error ",
+        at.status.error,
+        " change ",
+        at.status.change,
+        out,
+    )?;
+    push_words(" info ", at.info, " cyclic ", at.status.cyclic, out)?;
+    push_text(" data ", out)?;
+    push_data(at.values, out)
+}
