@@ -80,7 +80,7 @@ module _ (r : RingView) (jobs : List Job) (carry : Carry) (restarts : Restarts) 
   epoch_stop (f ∷ before) starts = ap (λ (b : Bool). (if b then new_epoch ((behind_mdt r jobs carry restarts f.sent before).cycle + 1) (still_waiting (behind_mdt r jobs carry restarts f.sent before))
       else goes_on (next_phase (known_of r) (behind_mdt r jobs carry restarts f.sent before)) (behind_mdt r jobs carry restarts f.sent before)).stop) starts
 
-  same_start : (j : List CycleView) → restarts (length j) 0 ≡ false → at_start r jobs carry restarts j ≡ looks_back r jobs (master_calls r carry restarts j)
+  pub same_start : (j : List CycleView) → restarts (length j) 0 ≡ false → at_start r jobs carry restarts j ≡ looks_back r jobs (master_calls r carry restarts j)
   same_start j stays = started r jobs (restarts (length j) 0) (master_calls r carry restarts j) ∙ ap (λ (b : Bool). begun_cycle b (looks_back r jobs (master_calls r carry restarts j))) stays
 
   ats_kept : (t : CycleView) (j : List CycleView) → (behind_ats r jobs carry restarts t.sent j).stop ≡ (at_start r jobs carry restarts j).stop

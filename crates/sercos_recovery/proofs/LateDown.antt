@@ -67,7 +67,7 @@ ats_hear r jobs carry cycle k (at ∷ ats) h on = ats_hear r jobs carry cycle k 
     by (Some content) = after_at_so (IsHeardOn k) (known_of r) content (looks_back r jobs h) on (λ i. taken_hears k i content (looks_back r jobs h) on)
 
 -- THE RING FALLS if a drive was heard neither in a cycle nor in the one before, in phases 3 and 4.
-found : (n k i : ℕ) (test : ℕ → Bool) → k ≤ i → i < k + n → test i ≡ true → is_some (first_from k n test) ≡ true
+pub found : (n k i : ℕ) (test : ℕ → Bool) → k ≤ i → i < k + n → test i ≡ true → is_some (first_from k n test) ≡ true
 found zero k i test low high passes = absurd (omega (arith, low, high))
 found (suc n) k i test low high passes = by (test k) refl (λ other. found n (k + 1) i test (omega (arith, low, other)) (omega (arith, high)) passes)
   where
@@ -89,11 +89,11 @@ lost_so k now before turns all are late unheard unheard_before =
     let is : nat_le 3 before.phase ≡ true = grind (arith, nat_tests, late) in
     ap (λ (l : List Turn). has_lost_at k (now ∷ l)) are ∙ rw (is, unheard, unheard_before) refl
 
-not_true : (b : Bool) → (b ≡ true → ⊥) → b ≡ false
+pub not_true : (b : Bool) → (b ≡ true → ⊥) → b ≡ false
 not_true true never = absurd (never refl)
 not_true false never = refl
 
-not_one : (n : ℕ) → 2 ≤ n → (n == 1) ≡ false
+pub not_one : (n : ℕ) → 2 ≤ n → (n == 1) ≡ false
 not_one n late = grind (arith, nat_tests, late)
 
 module _ (r : RingView) (jobs : List Job) (carry : Carry) (restarts : Restarts) where
@@ -128,7 +128,7 @@ module _ (r : RingView) (jobs : List Job) (carry : Carry) (restarts : Restarts) 
       on : IsHeardOn k (behind_ats r jobs carry restarts t.sent j)
       on = ats_hear r jobs carry (length j) k (ats_in t.sent) (own_mst carry (length j) (mst_in t.sent) (begins r carry restarts j)) first
 
-  phase_now : (t : CycleView) (j : List CycleView) → IsNext r jobs carry restarts t j → (behind_mdt r jobs carry restarts t.sent j).now.phase ≡ t.phase
+  pub phase_now : (t : CycleView) (j : List CycleView) → IsNext r jobs carry restarts t j → (behind_mdt r jobs carry restarts t.sent j).now.phase ≡ t.phase
   phase_now t j next = (turn_mdt (known_of r) (behind_ats r jobs carry restarts t.sent j)).phase_is ∙ (ats_leave r jobs carry restarts t j 0).phase_is ∙ sym next.phase
 
   turns_now : (t u : CycleView) (j : List CycleView) → fall_of (known_of r) (behind_mdt r jobs carry restarts u.sent j) ≡ None → restarts (length (u ∷ j)) 0 ≡ false
@@ -146,7 +146,7 @@ module _ (laws : Laws) (more : MoreLaws) (turn : WorkInTurn) (r : RingView) (job
       phase_next (drive_at r k).busy (view_of r jobs carry restarts k t (u ∷ j)) (view_of r jobs carry restarts k u j) (views_of r jobs carry restarts k j) (all_stand laws more r jobs carry restarts opened (t ∷ u ∷ j) run clear k below).sees.run
       (ap (λ (o : Option Fall). is_some o) none) stays
 
-  no_lower : (t u : CycleView) (j : List CycleView) → IsRun r jobs carry restarts (t ∷ u ∷ j) → IsClear (t ∷ u ∷ j) → fall_of (known_of r) (behind_mdt r jobs carry restarts u.sent j) ≡ None → restarts (length (u ∷ j)) 0 ≡ false
+  pub no_lower : (t u : CycleView) (j : List CycleView) → IsRun r jobs carry restarts (t ∷ u ∷ j) → IsClear (t ∷ u ∷ j) → fall_of (known_of r) (behind_mdt r jobs carry restarts u.sent j) ≡ None → restarts (length (u ∷ j)) 0 ≡ false
       → (k : ℕ) → k < length r.drives → u.phase ≤ t.phase
   no_lower t u j run clear none stays k below = elim (phase_after t u j run clear none stays k below) [ inl same ↦ omega (arith, same) | inr up ↦ omega (arith, up) ]
 
@@ -174,7 +174,7 @@ module _ (laws : Laws) (more : MoreLaws) (turn : WorkInTurn) (r : RingView) (job
       (whole_in laws more turn r jobs carry restarts opened t (u ∷ j) run clear calm k below) (passed_undisturbed laws more r jobs carry restarts opened t (u ∷ j) run clear k below calm)
       (phase_after t u j run clear none ((calm_in r carry restarts t (u ∷ j) calm).stays 0 (omega arith)) k below) up
 
-  next_up : (u : CycleView) (cycles : List CycleView) (first : CycleView) (before : List CycleView) → IsRun r jobs carry restarts (u ∷ (cycles ++ first ∷ before)) → IsClear (u ∷ (cycles ++ first ∷ before))
+  pub next_up : (u : CycleView) (cycles : List CycleView) (first : CycleView) (before : List CycleView) → IsRun r jobs carry restarts (u ∷ (cycles ++ first ∷ before)) → IsClear (u ∷ (cycles ++ first ∷ before))
       → IsUndisturbed r carry restarts u (cycles ++ first ∷ before) → IsStretch r jobs carry restarts cycles first before → (k : ℕ) → k < length r.drives → IsUpNow (views_of r jobs carry restarts k (cycles ++ first ∷ before))
       → IsUp (view_of r jobs carry restarts k u (cycles ++ first ∷ before)) (views_of r jobs carry restarts k (cycles ++ first ∷ before))
   next_up u [] first before run clear calm stretch k below up = stays_up_next u first before run clear calm stretch.first_stays k below up

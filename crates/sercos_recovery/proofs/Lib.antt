@@ -3,3 +3,17 @@ pub mod Stretches
 pub mod UpNext
 pub mod LateDown
 pub mod AfterFalls
+pub mod Limits
+pub mod Turns
+pub mod SectionCosts
+pub mod ReadsInOrder
+pub mod DownSince
+pub mod UpSections
+pub mod BeforeFall
+pub mod FallsInTime
+pub mod UpInTwo
+pub mod UpInThree
+pub mod AgesLater
+pub mod NoFallLater
+pub mod FallsSoon
+pub mod ComesBack

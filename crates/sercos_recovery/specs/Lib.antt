@@ -3,3 +3,12 @@ pub mod Stretches
 pub mod UpOrDown
 pub mod CostsAgain
 pub mod LateDown
+pub mod Limits
+pub mod Turns
+pub mod BeforeFall
+pub mod UpInTwo
+pub mod UpInThree
+pub mod AgesLater
+pub mod NoFallLater
+pub mod FallsSoon
+pub mod ComesBack

@@ -1,0 +1,140 @@
+-- Up to phase 2, where something of a drive has begun, each drive before it in the ring has been read.
+use Rattle.std.proofs.Common.{◌≡◌, inl, inr, ℕ, zero, suc, ◌+◌, ◌<◌, ◌≤◌, Bool, true, false, not, ◌&&◌, List, [], ◌∷◌, length, Option, Some, None, refl, sym, ap, ◌∙◌, subst, arith, if◌then◌else◌}
+use Rattle.std.specs.Prelude.{◌==◌, nat_le, is_none, is_some}
+use Rattle.std.specs.Option.{option_or}
+use Rattle.std.proofs.lemmas.Bool.{and_parts, cases_eq, cases_lt, or_cases, leb-true, le-leb}
+use Rattle.sercos_telegram.specs.declared.words.Status.{Status}
+use Rattle.sercos_step.specs.declared.request.Outcome.{Outcome}
+use Rattle.sercos_service_master.specs.Begun.{Begun, answers_it, answer_in, with_answer}
+use Rattle.sercos_service_master.specs.Calls.{begun_by}
+use Rattle.sercos_service_master.specs.Calls as channel
+use Rattle.sercos_seat.specs.Agenda.{reads_count, is_checked, is_read}
+use Rattle.sercos_seat.specs.Channel.{is_place, of_phase, outcomes_in, with_outcome}
+use Rattle.sercos_seat.specs.Ring.{Known, MemberView, Task, member}
+use Rattle.sercos_master.specs.Annals.{Call, HearMst, HearAt, Mdt, End, Restart, Past, outcomes, first_from, first_place, is_idle, after_taken, settled, in_turn, has_turn, next_task, begins, fall_of, is_done, goes_on, new_epoch, still_waiting, past}
+use Rattle.sercos_master.proofs.Configured.{each_passes, leaves, mdt_adds}
+use Rattle.sercos_master.proofs.Planned.{at_adds}
+use Rattle.sercos_handshake.specs.Epochs.{with_begun}
+use Rattle.sercos_handshake.specs.Moves.{with_status}
+use Rattle.sercos_agenda.proofs.OneTurn.{AtHears, SameAt, HeardAt, elsewhere_same, here_hears}
+use Rattle.sercos_views.specs.RingViews.{request_of}
+use Rattle.sercos_views.proofs.MasterSame.{begun_so, turn_mdt}
+use Rattle.sercos_undisturbed.proofs.AfterAt.{after_at_so}
+use Rattle.sercos_undisturbed.proofs.EpochCycles.{longer}
+use Rattle.sercos_undisturbed.proofs.Small.{some_is}
+use Rattle.sercos_undisturbed.proofs.StaysUp.{place_so}
+
+-- a drive that has been read stays so
+read_stays : (m : MemberView) (outs : List Outcome) (o : Option Outcome) → is_read m outs ≡ true → is_read m (with_outcome o outs) ≡ true
+read_stays m outs o read =
+    let had = leb-true (reads_count m) (length outs) read in
+    let more = longer o outs in le-leb (reads_count m) (length (with_outcome o outs)) (omega (arith, had, more))
+
+-- an answer leaves the number of requests
+same_count : (status : Status) (word : ℕ) (begun : List Begun) → length (with_status status word begun) ≡ length begun
+same_count status word begun = by (answers_it begun status) begun
+  where
+    by : (v : Bool) (l : List Begun) → length (if v then with_answer (answer_in status word) l else l) ≡ length l
+    by true [] = refl
+    by true (b ∷ l) = refl
+    by false l = refl
+
+-- those before the first place that passes a test fail it
+before_first : (k n : ℕ) (test : ℕ → Bool) (i : ℕ) → first_from k n test ≡ Some i → (j : ℕ) → k ≤ j → j < i → test j ≡ false
+before_first k zero test i found j from low = absurd (cc)
+before_first k (suc n) test i found j from low = by (test k) refl found (λ rest more. before_first (k + 1) n test i rest j more low)
+  where
+    by : (b : Bool) → test k ≡ b → (if b then Some k else first_from (k + 1) n test) ≡ Some i → (first_from (k + 1) n test ≡ Some i → k + 1 ≤ j → test j ≡ false) → test j ≡ false
+    by true here is next = let same = some_is k i is in absurd (omega (arith, same, from, low))
+    by false here is next = elim (cases_eq j k) [
+      | inl same ↦ ap test same ∙ here
+      | inr other ↦ next is (omega (arith, from, other))
+    ]
+
+not_false : (b : Bool) → not b ≡ false → b ≡ true
+not_false true e = refl
+not_false false e = sym e
+
+-- a drive that has its turn comes after drives that have been read
+turn_reads : (s : Known) (p : Past) (k : ℕ) → k < length s.drives → in_turn s p ≡ Some k → (j : ℕ) → j < k → is_read (member s j) (outcomes p j) ≡ true
+turn_reads s p k there turn j low = by (first_place s (λ i. not (is_read (member s i) (outcomes p i)))) refl turn
+  where
+    by : (o : Option ℕ) → first_place s (λ i. not (is_read (member s i) (outcomes p i))) ≡ o → option_or o (first_place s (λ i. not (is_checked (member s i) (outcomes p i)))) ≡ Some k → is_read (member s j) (outcomes p j) ≡ true
+    by None none second = each_passes (length s.drives) 0 (λ i. is_read (member s i) (outcomes p i)) (ap (λ (o : Option ℕ). is_none o) none) j (omega arith) (omega (arith, low, there))
+    by (Some i) found first =
+        let same : i ≡ k = some_is i k first in
+        not_false _ (before_first 0 (length s.drives) (λ m. not (is_read (member s m) (outcomes p m))) i found j (omega arith) (omega (arith, same, low)))
+
+module _ (s : Known) (requests : ℕ → List Task) where
+  abbrev AreReadInOrder : Past → Type 0
+  AreReadInOrder p = p.now.phase ≤ 2 → (k : ℕ) → k < length s.drives → 1 ≤ length (begun_by (p.calls k)) → (j : ℕ) → j < k → is_read (member s j) (outcomes p j) ≡ true
+
+  -- AN AT
+  taken_order : (i : ℕ) (content : List ℕ) (p : Past) → AreReadInOrder p → AreReadInOrder (after_taken i content p)
+  taken_order i content p have two k there more j low =
+      let adds = at_adds i content p j in
+      ap (is_read (member s j)) adds.1 ∙ read_stays (member s j) (outcomes p j) adds.0 (have two k there (omega (arith, more, count)) j low)
+    where
+      heard : AtHears p (after_taken i content p) i → length (begun_by ((after_taken i content p).calls i)) ≡ length (begun_by (p.calls i))
+      heard (SameAt same) = ap (λ (l : List Begun). length l) same
+      heard (HeardAt status word same) = ap (λ (l : List Begun). length l) same ∙ same_count status word (begun_by (p.calls i))
+
+      count : length (begun_by ((after_taken i content p).calls k)) ≡ length (begun_by (p.calls k))
+      count = elim (cases_eq k i) [
+        | inl same ↦ subst (λ (n : ℕ). length (begun_by ((after_taken i content p).calls n)) ≡ length (begun_by (p.calls n))) (sym same) (heard (here_hears i content p))
+        | inr other ↦ ap (λ (l : List Begun). length l) (elsewhere_same i k content p other)
+      ]
+
+  -- THE MDT
+  mdt_order : (h : List Call) → AreReadInOrder (past s requests h) → AreReadInOrder (past s requests (Mdt ∷ h))
+  mdt_order h have two k there more j low =
+      ap (is_read (member s j)) (mdt_adds s p j) ∙ elim (cases_lt 0 (length (begun_by (p.calls k)))) [
+        | inl had ↦ have before k there (omega (arith, had)) j low
+        | inr few ↦ fresh (begins s (settled s p) k) refl (omega (arith, few))
+      ]
+    where
+      p : Past
+      p = past s requests h
+
+      before : (past s requests h).now.phase ≤ 2
+      before = let same = (turn_mdt s (past s requests h)).phase_is in omega (arith, same, two)
+
+      same_outs : (i : ℕ) → outcomes (settled s (past s requests h)) i ≡ outcomes (past s requests h) i
+      same_outs i = ap (λ (calls : ℕ → List channel.Call). outcomes_in (begun_by (calls i))) (leaves s (past s requests h)).calls
+
+      fresh : (o : Option Task) → begins s (settled s (past s requests h)) k ≡ o → length (begun_by ((past s requests h).calls k)) ≤ 0 → is_read (member s j) (outcomes (past s requests h) j) ≡ true
+      fresh None none few =
+          let same = ap (λ (l : List Begun). length l) (begun_so s (past s requests h) k ∙ ap (λ (o : Option Task). with_begun (request_of o) (begun_by ((past s requests h).calls k))) none) in
+          absurd (omega (arith, few, more, same))
+      fresh (Some t) some few = ap (is_read (member s j)) (sym (same_outs j)) ∙ turn_reads s (settled s (past s requests h)) k there turn j low
+        where
+          turn : in_turn s (settled s (past s requests h)) ≡ Some k
+          turn = which (is_none (settled s (past s requests h)).stop && (is_idle (settled s (past s requests h)) k && has_turn s (settled s (past s requests h)) k)) refl some
+            where
+              which : (v : Bool) → (is_none (settled s (past s requests h)).stop && (is_idle (settled s (past s requests h)) k && has_turn s (settled s (past s requests h)) k)) ≡ v
+                  → (if v then of_phase (settled s (past s requests h)).now.phase (next_task s (settled s (past s requests h)) k) else None) ≡ Some t → in_turn s (settled s (past s requests h)) ≡ Some k
+              which false off got = absurd (cc)
+              which true on got =
+                  let rest = (and_parts (is_none (settled s (past s requests h)).stop) _ on).1 in
+                  let has = (and_parts (is_idle (settled s (past s requests h)) k) _ rest).1 in
+                  elim (or_cases (nat_le 3 (settled s (past s requests h)).now.phase) (((settled s (past s requests h)).now.phase == 2) && is_place k (in_turn s (settled s (past s requests h)))) has) [
+                    | inl late ↦ let three = leb-true 3 (settled s (past s requests h)).now.phase late in let same = (leaves s (past s requests h)).phase in let low_is = before in absurd (omega (arith, three, same, low_is))
+                    | inr same ↦ place_so k (in_turn s (settled s (past s requests h))) (and_parts ((settled s (past s requests h)).now.phase == 2) _ same).1
+                  ]
+
+  -- THE END OF A CYCLE
+  end_order : (h : List Call) → AreReadInOrder (past s requests h) → AreReadInOrder (past s requests (End ∷ h))
+  end_order h have = by (is_some (fall_of s (past s requests h))) (is_done s (past s requests h))
+    where
+      by : (fell done : Bool) → AreReadInOrder (if fell then new_epoch ((past s requests h).cycle + 1) (still_waiting (past s requests h)) else goes_on (if done then (past s requests h).now.phase + 1 else (past s requests h).now.phase) (past s requests h))
+      by true done two k there more j low = absurd (omega (arith, more))
+      by false false two k there more j low = have two k there more j low
+      by false true two k there more j low = have (omega (arith, two)) k there more j low
+
+  pub reads_in_order : (h : List Call) → AreReadInOrder (past s requests h)
+  reads_in_order [] = λ two k there more j low. absurd (omega (arith, more))
+  reads_in_order (HearMst content ∷ h) = reads_in_order h
+  reads_in_order (HearAt content ∷ h) = after_at_so AreReadInOrder s content (past s requests h) (reads_in_order h) (λ i. taken_order i content (past s requests h) (reads_in_order h))
+  reads_in_order (Mdt ∷ h) = mdt_order h (reads_in_order h)
+  reads_in_order (End ∷ h) = end_order h (reads_in_order h)
+  reads_in_order (Restart ∷ h) = λ two k there more j low. absurd (omega (arith, more))
