@@ -586,6 +586,7 @@ traced-run carry restarts bytes left left' held held' says at input written =
       run = (says d read).run;
       keeps = (says d read).keeps;
       starts = (says d read).starts;
+      recovers = (says d read).recovers;
       count = length-run_of d.setup d.jobs (carry_under d carry) (restarts_under d restarts) d.setup.cycles;
       written = rw text at written;
     }
@@ -607,6 +608,7 @@ summed-run carry restarts n bytes held held' says written =
       run = says.run;
       keeps = says.keeps;
       starts = says.starts;
+      recovers = says.recovers;
       count = length-run_of (generated n).setup (generated n).jobs (carry_under (generated n) carry) (restarts_under (generated n) restarts) (generated n).setup.cycles;
       written = written;
     }

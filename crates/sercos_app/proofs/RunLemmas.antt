@@ -11,6 +11,7 @@ use Rattle.sercos_trace.specs.Views.{CycleView}
 use Rattle.sercos_held.specs.Opened.{IsOpened}
 use Rattle.sercos_headline.specs.Headline.{Headline}
 use Rattle.sercos_undisturbed.specs.WholeRuns.{StartsUndisturbed}
+use Rattle.sercos_recovery.specs.Recovers.{Recovers}
 use Rattle.sercos_journal.specs.Runs.{IsNext, IsRun, next_record, run_of}
 use Rattle.sercos_document.specs.declared.refusal.BadDocument.{BadDocument}
 use Rattle.sercos_document.specs.declared.refusal.BadDocument.TheVariants as bads
@@ -18,7 +19,7 @@ use Rattle.sercos_document.specs.Lines.{line_of}
 use Rattle.sercos_config.specs.Views.{DocumentView}
 use Rattle.sercos_config.specs.Document.{document_of}
 use Rattle.sercos_answer.specs.Answer.{Answer}
-use Rattle.sercos_app.specs.Running.{KeepsThroughout, StartsThroughout, IsDocumentRun, RunsItsRing, carry_under, restarts_under, run_answer, run_traced, traced_answer}
+use Rattle.sercos_app.specs.Running.{KeepsThroughout, RecoversThroughout, StartsThroughout, IsDocumentRun, RunsItsRing, carry_under, restarts_under, run_answer, run_traced, traced_answer}
 use Rattle.sercos_config.specs.Generated.{generated}
 use Rattle.sercos_app.specs.Generating.{RunsGenerated, gen_answer, run_summed}
 use Rattle.sercos_app.specs.Outcome.{SinkChange, Writes, Replies}
@@ -50,11 +51,18 @@ run_starts next law r jobs carry restarts n opened later t j is calm =
     law r jobs carry restarts t j opened
     (run_before r jobs carry restarts later (t ∷ j) (subst (λ (run : List CycleView). IsRun r jobs carry restarts run) is (run_is next r jobs carry restarts n))) calm
 
-document_runs : AreNext → Headline → StartsUndisturbed → (carry : Carry) (restarts : Restarts) (d : DocumentView) → IsOpened d.setup d.jobs → IsDocumentRun carry restarts d
-document_runs next law starts carry restarts d opened = record {
+-- and it is back in time, once nothing is disturbed any more
+pub run_recovers : AreNext → Recovers → (r : RingView) (jobs : List Job) (carry : Carry) (restarts : Restarts) (n : ℕ) → IsOpened r jobs → RecoversThroughout r jobs carry restarts (run_of r jobs carry restarts n)
+run_recovers next law r jobs carry restarts n opened later t j is clear =
+    law r jobs carry restarts t j opened
+    (run_before r jobs carry restarts later (t ∷ j) (subst (λ (run : List CycleView). IsRun r jobs carry restarts run) is (run_is next r jobs carry restarts n))) clear
+
+document_runs : AreNext → Headline → StartsUndisturbed → Recovers → (carry : Carry) (restarts : Restarts) (d : DocumentView) → IsOpened d.setup d.jobs → IsDocumentRun carry restarts d
+document_runs next law starts back carry restarts d opened = record {
   run = run_is next d.setup d.jobs (carry_under d carry) (restarts_under d restarts) d.setup.cycles;
   keeps = run_keeps next law d.setup d.jobs (carry_under d carry) (restarts_under d restarts) d.setup.cycles opened;
   starts = run_starts next starts d.setup d.jobs (carry_under d carry) (restarts_under d restarts) d.setup.cycles opened;
+  recovers = run_recovers next back d.setup d.jobs (carry_under d carry) (restarts_under d restarts) d.setup.cycles opened;
 }
 
 run_answer_of : (carry : Carry) (restarts : Restarts) (bytes : List ℕ) (d : DocumentView) → document_of bytes ≡ Ok d
@@ -75,13 +83,13 @@ no_document : (read : Result DocumentView BadDocument) (bad : BadDocument) (d : 
 no_document (Ok said) bad d is too = cc
 no_document (Err other) bad d is too = cc
 
-pub run_replies : AreNext → Headline → StartsUndisturbed
+pub run_replies : AreNext → Headline → StartsUndisturbed → Recovers
     → (carry : Carry) (restarts : Restarts) (bytes : List ℕ) (d : DocumentView) (sink : SinkChange) (Unwritten : Type 0) (status : Status) → document_of bytes ≡ Ok d → IsOpened d.setup d.jobs
     → Replies (run_traced d.setup d.jobs (carry_under d carry) (restarts_under d restarts)) (Unit {0}) sink Unwritten status
     → Replies (run_answer carry restarts bytes) (RunsItsRing carry restarts bytes) sink Unwritten status
-run_replies next law starts carry restarts bytes d sink Unwritten status is opened (none_found unwritten) = none_found unwritten
-run_replies next law starts carry restarts bytes d sink Unwritten status is opened (replied ended says written) =
-    replied ended (λ other too. subst (λ (x : DocumentView). IsDocumentRun carry restarts x) (one_document (document_of bytes) d other is too) (document_runs next law starts carry restarts d opened))
+run_replies next law starts back carry restarts bytes d sink Unwritten status is opened (none_found unwritten) = none_found unwritten
+run_replies next law starts back carry restarts bytes d sink Unwritten status is opened (replied ended says written) =
+    replied ended (λ other too. subst (λ (x : DocumentView). IsDocumentRun carry restarts x) (one_document (document_of bytes) d other is too) (document_runs next law starts back carry restarts d opened))
     (subst (λ (a : Answer). Writes a.status a.output sink ended) (sym (run_answer_of carry restarts bytes d is)) written)
 
 pub run_refuses : (carry : Carry) (restarts : Restarts) (bytes : List ℕ) (bad : BadDocument) (sink : SinkChange) (Unwritten : Type 0) (status : Status) → (bad ≡ bads.Memory) ⊎ (document_of bytes ≡ Err bad)
@@ -113,12 +121,12 @@ says_too answer Says sink Unwritten status told (none_found unwritten) = none_fo
 says_too answer Says sink Unwritten status told (replied ended is written) = replied ended told written
 
 -- the summary of the run of a generated document
-pub gen_replies : AreNext → Headline → StartsUndisturbed
+pub gen_replies : AreNext → Headline → StartsUndisturbed → Recovers
     → (carry : Carry) (restarts : Restarts) (n : ℕ) (d : DocumentView) (sink : SinkChange) (Unwritten : Type 0) (status : Status) → d ≡ generated n → IsOpened d.setup d.jobs
     → Replies (run_summed n d.setup d.jobs (carry_under d carry) (restarts_under d restarts)) (Unit {0}) sink Unwritten status
     → Replies (gen_answer carry restarts n) (RunsGenerated carry restarts n) sink Unwritten status
 unfolding gen_answer
-gen_replies next law starts carry restarts n d sink Unwritten status is opened replies =
+gen_replies next law starts back carry restarts n d sink Unwritten status is opened replies =
     says_too (gen_answer carry restarts n) (RunsGenerated carry restarts n) sink Unwritten status
-    (document_runs next law starts carry restarts (generated n) (subst (λ (x : DocumentView). IsOpened x.setup x.jobs) is opened))
+    (document_runs next law starts back carry restarts (generated n) (subst (λ (x : DocumentView). IsOpened x.setup x.jobs) is opened))
     (subst (λ (x : DocumentView). Replies (run_summed n x.setup x.jobs (carry_under x carry) (restarts_under x restarts)) (Unit {0}) sink Unwritten status) is replies)

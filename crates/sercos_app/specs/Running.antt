@@ -10,6 +10,7 @@ use Rattle.sercos_trace.specs.Views.{CycleView}
 use Rattle.sercos_journal.specs.Runs.{IsRun, IsClear, run_of}
 use Rattle.sercos_headline.specs.Headline.{KeepsAll}
 use Rattle.sercos_undisturbed.specs.WholeRuns.{NeverDisturbed, StartsUp}
+use Rattle.sercos_recovery.specs.Recovers.{RecoversIn}
 use Rattle.sercos_document.specs.declared.refusal.BadDocument.{BadDocument}
 use Rattle.sercos_document.specs.Lines.{line_of}
 use Rattle.sercos_config.specs.Views.{DocumentView}
@@ -49,11 +50,17 @@ KeepsThroughout r jobs carry restarts run = (later : List CycleView) (t : CycleV
 abbrev pub StartsThroughout : RingView → List Job → Carry → Restarts → List CycleView → Type 0
 StartsThroughout r jobs carry restarts run = (later : List CycleView) (t : CycleView) (j : List CycleView) → run ≡ later ++ t ∷ j → NeverDisturbed r carry restarts (t ∷ j) → StartsUp r jobs carry restarts t j
 
+-- And in each cycle up to the first arrival that is unseen, whatever was lost or damaged, and whichever stations restarted: once no
+-- cycle is disturbed any more, the ring is back in time.
+abbrev pub RecoversThroughout : RingView → List Job → Carry → Restarts → List CycleView → Type 0
+RecoversThroughout r jobs carry restarts run = (later : List CycleView) (t : CycleView) (j : List CycleView) → run ≡ later ++ t ∷ j → IsClear (t ∷ j) → RecoversIn r jobs carry restarts t j
+
 -- The cycles of a document are a run, in which each is the next one after those before it, and they keep all this.
 pub record IsDocumentRun (carry : Carry) (restarts : Restarts) (d : DocumentView) : Type 0 where
   pub run : IsRun d.setup d.jobs (carry_under d carry) (restarts_under d restarts) (document_run carry restarts d)
   pub keeps : KeepsThroughout d.setup d.jobs (carry_under d carry) (restarts_under d restarts) (document_run carry restarts d)
   pub starts : StartsThroughout d.setup d.jobs (carry_under d carry) (restarts_under d restarts) (document_run carry restarts d)
+  pub recovers : RecoversThroughout d.setup d.jobs (carry_under d carry) (restarts_under d restarts) (document_run carry restarts d)
 
 -- what is written of a document is such a run
 abbrev pub RunsItsRing : Carry → Restarts → List ℕ → Type 0

@@ -21,7 +21,7 @@ use Rattle.sercos_trace.specs.Views.{CycleView}
 use Rattle.sercos_trace.specs.Texts.{trace_of}
 use Rattle.sercos_journal.specs.Runs.{IsRun}
 use Rattle.sercos_app.specs.Totals.{totals_of}
-use Rattle.sercos_app.specs.Running.{carry_under, restarts_under, KeepsThroughout, StartsThroughout}
+use Rattle.sercos_app.specs.Running.{carry_under, restarts_under, KeepsThroughout, RecoversThroughout, StartsThroughout}
 use Rattle.sercos_config.specs.Views.{DocumentView}
 use Rattle.sercos_config.specs.Document.{document_of}
 use Rattle.sercos_config.specs.Generated.{generated}
@@ -161,6 +161,7 @@ pub record RunTraced (carry : Carry) (restarts : Restarts) (left left' held held
   pub run : IsRun says.setup says.jobs (carry_under says carry) (restarts_under says restarts) journal
   pub keeps : KeepsThroughout says.setup says.jobs (carry_under says carry) (restarts_under says restarts) journal
   pub starts : StartsThroughout says.setup says.jobs (carry_under says carry) (restarts_under says restarts) journal
+  pub recovers : RecoversThroughout says.setup says.jobs (carry_under says carry) (restarts_under says restarts) journal
   pub count : length journal ≡ says.setup.cycles
   pub written : Appends held held' (trace_of (wishes_of says.setup) (reverse journal) (totals_of (reverse journal)))
 
@@ -171,5 +172,6 @@ pub record RunSummed (carry : Carry) (restarts : Restarts) (n : ℕ) (held held'
   pub run : IsRun (generated n).setup (generated n).jobs (carry_under (generated n) carry) (restarts_under (generated n) restarts) journal
   pub keeps : KeepsThroughout (generated n).setup (generated n).jobs (carry_under (generated n) carry) (restarts_under (generated n) restarts) journal
   pub starts : StartsThroughout (generated n).setup (generated n).jobs (carry_under (generated n) carry) (restarts_under (generated n) restarts) journal
+  pub recovers : RecoversThroughout (generated n).setup (generated n).jobs (carry_under (generated n) carry) (restarts_under (generated n) restarts) journal
   pub count : length journal ≡ (generated n).setup.cycles
   pub written : Appends held held' (gen_line n (totals_of (reverse journal)))

@@ -16,6 +16,7 @@ use sercos_config::{Document, generate};
 use sercos_headline::headline_law;
 use sercos_io::{Sink, Status, write_all};
 use sercos_journal::run_law;
+use sercos_recovery::recovery_law;
 use sercos_ring::Ring;
 use sercos_script::{BitLink, Both, Scripted};
 use sercos_step::Job;
@@ -150,6 +151,7 @@ pub fn answer_gen<L: BitLink, K: Sink>(alloc: Global, n: u8, link: L, sink: &mut
     run_law();
     headline_law();
     undisturbed_law();
+    recovery_law();
     match generate(alloc, n) {
         Ok(document) => {
             show_opened(&document);

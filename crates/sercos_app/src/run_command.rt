@@ -17,6 +17,7 @@ use sercos_config::{Document, read_ring};
 use sercos_headline::headline_law;
 use sercos_io::{Sink, Status};
 use sercos_journal::run_law;
+use sercos_recovery::recovery_law;
 use sercos_ring::Ring;
 use sercos_script::{BitLink, Both, Scripted};
 use sercos_step::Job;
@@ -113,6 +114,7 @@ pub fn answer_run<L: BitLink, K: Sink>(alloc: Global, bytes: &[u8], link: L, sin
     run_law();
     headline_law();
     undisturbed_law();
+    recovery_law();
     match read_ring(alloc, bytes) {
         Ok(document) => {
             show_opened(&document);

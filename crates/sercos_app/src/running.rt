@@ -16,7 +16,7 @@ ghost use Rattle.sercos_app.specs.Counting.{HasRoom, IsFew, with_cycle};
 ghost use Rattle.sercos_app.specs.Journals.{HasMade, IsRingOf, OfRun, WritesCycles, journal_text};
 ghost use Rattle.sercos_app.specs.Totals.{totals_of};
 ghost use Rattle.sercos_app.specs.RunWriting.{WritesRun};
-ghost use Rattle.sercos_app.specs.Running.{KeepsThroughout, StartsThroughout};
+ghost use Rattle.sercos_app.specs.Running.{KeepsThroughout, RecoversThroughout, StartsThroughout};
 
 use crate::counting::{count_made, no_totals};
 use sercos_block::ring_law;
@@ -24,6 +24,7 @@ use sercos_headline::headline_law;
 use sercos_io::{Sink, WriteFailed};
 use sercos_journal::run_law;
 use sercos_master::master_law;
+use sercos_recovery::recovery_law;
 use sercos_ring::{Ring, standing_law};
 use sercos_script::BitLink;
 use sercos_timing::Wishes;
@@ -124,7 +125,8 @@ fn write_whole<L: BitLink, K: Sink>(
 /// The ring has made no cycle, and the wishes are those of the setup with which it was opened; 1 to 50,000 cycles. After an error
 /// the sink has taken a prefix of the text, short of the whole, and its count of faults has risen. In both cases the ring stands
 /// for the cycles that it has made. If it was opened with what its types say, each cycle up to the first arrival that is unseen keeps
-/// all that `headline_law` says, and each up to the first that is disturbed all that `undisturbed_law` says of a start-up.
+/// all that `headline_law` says, and all that `recovery_law` says of what comes after faults; and each up to the first that
+/// is disturbed keeps all that `undisturbed_law` says of a start-up.
 pub fn write_run<L: BitLink, K: Sink>(
     ring: &mut Ring<L>,
     w: &Wishes,
@@ -144,12 +146,15 @@ pub fn write_run<L: BitLink, K: Sink>(
         → IsOpened r jobs → KeepsThroughout r jobs carry restarts (run_of r jobs carry restarts cycles) }
     ensures starts { (r : RingView) (jobs : List Job) (carry : Carry) (restarts : Restarts) → RingStandsFor L.carry L.restart ring.old r jobs carry restarts []
         → IsOpened r jobs → StartsThroughout r jobs carry restarts (run_of r jobs carry restarts cycles) }
+    ensures recovers { (r : RingView) (jobs : List Job) (carry : Carry) (restarts : Restarts) → RingStandsFor L.carry L.restart ring.old r jobs carry restarts []
+        → IsOpened r jobs → RecoversThroughout r jobs carry restarts (run_of r jobs carry restarts cycles) }
     ensures room { OfRun (RingStandsFor L.carry L.restart) ring.old cycles (λ run. length (journal_text w.now run) ≤ K.room sink.old → IsOk result) }
 {
     ring_law();
     run_law();
     headline_law();
     undisturbed_law();
+    recovery_law();
     standing_law::<L>();
     write_whole(ring, w, cycles, sink)
 }

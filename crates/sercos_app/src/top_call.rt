@@ -163,6 +163,10 @@ fn respond<S: Source, K: Sink, L: BitLink>(
 /// form are `BadWords`, and nothing is read. `ReadFault` is returned if a read failed, `TooLong` if the input is longer, and
 /// `Memory` if no memory was found; then nothing is written. A refused input is `Refused`, also if its line couldn't be written
 /// whole. After any other failed write the status is `WriteFault`, and the sink has taken a prefix of the output.
+///
+/// Of each run that `run` traces and `gen` sums, up to the first arrival that is unseen, whatever was lost or damaged: if no cycle after a
+/// fall is disturbed, the ring starts up again; and from the cycle on that comes twice the bound of a start-up and 200 cycles after the
+/// last disturbed one, phase 4 is commanded, or the master stands at a stop for its cause.
 #[tactic(auto, using(crate::proofs::Outcomes::at_bad_words, crate::proofs::Outcomes::at_no_form, crate::proofs::Outcomes::at_unread, crate::proofs::Outcomes::at_taken, crate::proofs::Outcomes::at_taken_few, crate::proofs::Outcomes::at_unwritten, crate::proofs::Outcomes::at_read_fault, crate::proofs::Outcomes::at_read_count, crate::proofs::Outcomes::at_read_well, crate::proofs::Outcomes::at_too_long, crate::proofs::Outcomes::at_none_fits, crate::proofs::Outcomes::at_least_plan, crate::proofs::Outcomes::at_margins, crate::proofs::Outcomes::at_chain, crate::proofs::Outcomes::at_violation, crate::proofs::Outcomes::at_clean, crate::proofs::Outcomes::at_traced, crate::proofs::Outcomes::at_no_of, crate::proofs::Outcomes::at_write_count, crate::proofs::Outcomes::at_write_well, crate::proofs::Outcomes::at_refuses, crate::proofs::Outcomes::at_exceeds, crate::proofs::Outcomes::at_room))]
 pub fn sercos<S: Source, K: Sink, L: BitLink>(
     alloc: Global,

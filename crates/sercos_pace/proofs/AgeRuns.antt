@@ -21,6 +21,7 @@ use Rattle.sercos_handshake.proofs.PhaseMoves.{Processes, Nothing, Record, proce
 use Rattle.sercos_pace.proofs.OnTimeRuns.{on_time, time_of}
 use Rattle.sercos_pace.proofs.LateRuns.{comes_in_time}
 use Rattle.sercos_pace.proofs.WholeCycles.{stays_dead}
+use Rattle.sercos_pace.proofs.EpochBegins.{none_begun}
 
 -- a cycle adds no entry to the log, or one of this cycle
 pub log_grows : (v : View) (past : List View) → v.master_restarts ≡ false → (log_in v past ≡ epoch_log past) ⊎ ((x : Entry) × (log_in v past ≡ x ∷ epoch_log past) × (x.taken.cycle ≡ length past))
@@ -43,10 +44,19 @@ log_grows v past on = by (processes v past)
         which true is = inl (is ∙ same)
         which false is = inr (record { taken = t; answer = reply_of t log }, is ∙ ap (λ (l : List Entry). (record { taken = t; answer = reply_of t log }) ∷ l) same, refl)
 
--- at the start of an epoch no step is open
-pub nothing_old : (past : List View) → BeginsEpoch past → age_in past ≡ 0
-nothing_old [] begins = refl
-nothing_old (u ∷ past) begins = cond-true u.falls 0 _ begins
+-- where nothing was begun, no step is open
+none_old : (past : List View) → epoch_begun past ≡ [] → age_in past ≡ 0
+none_old [] none = refl
+none_old (v ∷ past) none = by v.falls none
+  where
+    by : (falls : Bool) → (if falls then [] else begun_in v past) ≡ []
+        → (if falls then 0 else age_by (is_some (open_in (begun_in v past))) (length (steps_in (begun_in v past)) == length (steps_in (unless_restart v (epoch_begun past)))) (age_in past)) ≡ 0
+    by true none = refl
+    by false none = ap (λ (l : List Begun). age_by (is_some (open_in l)) (length (steps_in (begun_in v past)) == length (steps_in (unless_restart v (epoch_begun past)))) (age_in past)) none
+
+-- so it is while phase 0 is commanded
+pub nothing_old : (busy : ℕ) (past : List View) → IsRun busy past → BeginsEpoch past → age_in past ≡ 0
+nothing_old busy past run begins = none_old past (none_begun busy past run begins)
 
 module _ (busy : ℕ) where
   -- an open step is no older than its entry, but for its age before the stretch

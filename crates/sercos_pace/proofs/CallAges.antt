@@ -14,6 +14,7 @@ use Rattle.sercos_pace.specs.Passages.{AreWhole, BeginsEpoch}
 use Rattle.sercos_pace.specs.Ages.{age_by, age_in}
 use Rattle.sercos_pace.specs.ChannelCalls.{staying, StaysARun, calls_heard, calls_begun, calls_sent, calls_in, channel_calls, IsSent, AreSent, CallsBegin, age_if_open, AgesAreThose, AgesBeforeEnd, NoneLate}
 use Rattle.sercos_pace.proofs.WholeCycles.{open_late, stays_clean, hears_throughout}
+use Rattle.sercos_pace.proofs.EpochBegins.{run_after, Early, early_in}
 use Rattle.sercos_pace.proofs.AgeRuns.{nothing_old, ages_in_time}
 
 -- without its fall a cycle continues the row of MSTs that came back whole
@@ -182,11 +183,11 @@ ended start begun age found true h is aged sends c =
     by false off = refl
 
 module _ (busy : ℕ) where
-  started : (r : Bool) (past : List View) → age_of (channel_calls past) ≡ age_if_open (is_some (open_in (epoch_begun past))) (age_in past) → age_of (if r then [] else channel_calls past) ≡ age_if_open (is_some (open_in (if r then [] else epoch_begun past))) (age_in past)
+  started : (r : Bool) (past : List View) → (r ≡ false → age_of (channel_calls past) ≡ age_if_open (is_some (open_in (epoch_begun past))) (age_in past)) → age_of (if r then [] else channel_calls past) ≡ age_if_open (is_some (open_in (if r then [] else epoch_begun past))) (age_in past)
   started true past is = refl
-  started false past is = is
+  started false past is = is refl
 
-  cycle_age : (v : View) (past : List View) → IsRun busy (v ∷ past) → IsSent v past → age_of (channel_calls past) ≡ age_if_open (is_some (open_in (epoch_begun past))) (age_in past) →
+  cycle_age : (v : View) (past : List View) → IsRun busy (v ∷ past) → IsSent v past → (v.master_restarts ≡ false → age_of (channel_calls past) ≡ age_if_open (is_some (open_in (epoch_begun past))) (age_in past)) →
       option_map (λ (n : ℕ). n + 1) (age_of (calls_in v (channel_calls past))) ≡ age_if_open (is_some (open_in (begun_in v past))) (age_in (staying v ∷ past))
   cycle_age v past run sent before =
       let start = unless_restart v (channel_calls past) in
@@ -203,7 +204,7 @@ module _ (busy : ℕ) where
 
   pub ages_are_those : AgesAreThose busy
   ages_are_those [] run sent = refl
-  ages_are_those (v ∷ past) run sent = by v.falls (λ on. cycle_age v past run (sent on).1 (ages_are_those past run.0 (sent on).0)) refl
+  ages_are_those (v ∷ past) run sent = by v.falls (λ on. cycle_age v past run (sent on).1 (λ goes_on. ages_are_those past run.0 ((sent on).0 goes_on))) refl
     where
       by : (falls : Bool) → (v.falls ≡ false → option_map (λ (n : ℕ). n + 1) (age_of (calls_in v (channel_calls past))) ≡ age_if_open (is_some (open_in (begun_in v past))) (age_in (staying v ∷ past))) → v.falls ≡ falls →
           age_of (if falls then [] else EndCycle ∷ calls_in v (channel_calls past)) ≡ age_if_open (is_some (open_in (if falls then [] else begun_in v past))) (if falls then 0 else age_in (staying v ∷ past))
@@ -211,14 +212,19 @@ module _ (busy : ℕ) where
       by false is at = is at
 
   pub ages_before_end : AgesBeforeEnd busy
-  ages_before_end v past run sent now = cycle_age v past run now (ages_are_those past run.0 sent)
+  ages_before_end v past run sent now = cycle_age v past run now (λ goes_on. ages_are_those past run.0 sent)
 
   -- No fall comes from the drive.
 
-  sent_in : (cycles past : List View) → BeginsEpoch past → AreWhole cycles past → AreSent (cycles ++ past)
-  sent_in [] [] begins whole = tt
-  sent_in [] (u ∷ past) begins whole = λ on. let bad : true ≡ false = sym begins ∙ on in absurd (cc)
-  sent_in (v ∷ cycles) past begins whole = λ on. (sent_in cycles past begins whole.0, whole.1.sends)
+  sent_early : (past : List View) → IsRun busy past → BeginsEpoch past → AreSent past
+  sent_early [] run begins = tt
+  sent_early (u ∷ past) run begins = λ on.
+      let early : Early u past = early_in busy u past run begins on in
+      (λ goes_on. sent_early past run.0 (early.before goes_on), λ some. let none : open_in (begun_in u past) ≡ None = ap open_in early.begun in absurd (cc))
+
+  sent_in : (cycles past : List View) → IsRun busy (cycles ++ past) → BeginsEpoch past → AreWhole cycles past → AreSent (cycles ++ past)
+  sent_in [] past run begins whole = sent_early past run begins
+  sent_in (v ∷ cycles) past run begins whole = λ on. (λ goes_on. sent_in cycles past run.0 begins whole.0, whole.1.sends)
 
   counted : (o : Option ℕ) (is_open : Bool) (age : ℕ) → age ≤ busy + 1 → option_map (λ (n : ℕ). n + 1) o ≡ age_if_open is_open age → min (unwrap_or o 0) 64 ≤ busy
   counted None is_open age le is = omega arith
@@ -230,7 +236,7 @@ module _ (busy : ℕ) where
       let going = stays_a_run busy v (cycles ++ past) run in
       let clean = stays_clean busy (staying v ∷ cycles) past going begins (whole, now) (passed, passed_now) in
       let age = ages_in_time busy (staying v) cycles past going clean in
-      let none = nothing_old past begins in
-      let is = ages_before_end v (cycles ++ past) run (sent_in cycles past begins whole) now.sends in
+      let none = nothing_old busy past (run_after busy cycles past run.0) begins in
+      let is = ages_before_end v (cycles ++ past) run (sent_in cycles past run.0 begins whole) now.sends in
       let heard = hears_throughout busy (staying v ∷ cycles) past going begins (whole, now) (passed, passed_now) in
       (counted (age_of (calls_in v (channel_calls (cycles ++ past)))) (is_some (open_in (begun_in v (cycles ++ past)))) (age_in (staying v ∷ (cycles ++ past))) (omega (arith, age, none)) is, heard.1)

@@ -16,7 +16,7 @@ use Rattle.sercos_pace.specs.Ages.{age_in, AnswersAtAge}
 use Rattle.sercos_handshake.proofs.EpochRuns.{in_step}
 use Rattle.sercos_pace.proofs.OnTime.{one_waits}
 use Rattle.sercos_pace.proofs.OnTimeRuns.{on_time, answers_on_time}
-use Rattle.sercos_pace.proofs.WholeCycles.{none_begun}
+use Rattle.sercos_pace.proofs.EpochBegins.{run_after, none_begun, Early, early_in}
 use Rattle.sercos_pace.proofs.AgeRuns.{log_grows, begun, logged, before, aged_open, undisturbed_on}
 
 -- in an epoch that is on time all steps that were begun are accepted
@@ -87,19 +87,26 @@ module _ (busy : ℕ) where
               all_answered (Kept e log opened those s a) = absurd (cc)
 
   olds : (cycles past : List View) → IsRun busy (cycles ++ past) → BeginsEpoch past → AreClean cycles past → AreUndisturbed past → IsOld (cycles ++ past)
-  olds [] past run begins clean still = λ e log those some. let none : open_in (epoch_begun past) ≡ None = ap open_in (none_begun busy past begins) in absurd (cc)
+  olds [] past run begins clean still = λ e log those some. let none : open_in (epoch_begun past) ≡ None = ap open_in (none_begun busy past run begins) in absurd (cc)
   olds (v ∷ cycles) past run begins clean still =
       old_by v (cycles ++ past) run clean.1 (on_time busy (v ∷ (cycles ++ past)) run (undisturbed_on busy (v ∷ cycles) past clean still)) (on_time busy (cycles ++ past) run.0 (undisturbed_on busy cycles past clean.0 still))
       (λ some. olds cycles past run.0 begins clean.0 still)
 
-  -- nothing is lost yet in an epoch that is to begin
-  begins_whole : (past : List View) → BeginsEpoch past → AreUndisturbed past
-  begins_whole [] begins = tt
-  begins_whole (u ∷ past) begins = λ on. let bad : true ≡ false = sym begins ∙ on in absurd (cc)
+  -- nothing is lost before phase 1
+  begins_whole : (past : List View) → IsRun busy past → BeginsEpoch past → AreUndisturbed past
+  begins_whole [] run begins = tt
+  begins_whole (u ∷ past) run begins = λ on.
+      let early : Early u past = early_in busy u past run begins on in (
+        record {
+          hears = λ some. let none : open_in (unless_restart u (epoch_begun past)) ≡ None = ap open_in early.kept in absurd (cc);
+          takes = λ some. let none : open_in (begun_in u past) ≡ None = ap open_in early.begun in absurd (cc);
+        },
+        λ goes_on. begins_whole past run.0 (early.before goes_on),
+      )
 
   pub answers_at_age : AnswersAtAge busy
   answers_at_age v a cycles past run begins clean goes_on hears takes =
-      let still = begins_whole past begins in
+      let still = begins_whole past (run_after busy cycles past run.0) begins in
       let same : unless_restart v (epoch_begun (cycles ++ past)) ≡ epoch_begun (cycles ++ past) = cond-false v.master_restarts [] (epoch_begun (cycles ++ past)) goes_on in
       let got = answers_on_time busy v (cycles ++ past) a run (undisturbed_on busy cycles past clean still) hears (ap (λ (l : List Begun). answers_it l a.status) same ∙ takes) in
       let old = olds cycles past run.0 begins clean still got.0 got.1 got.2 (opened (is_some (open_in (epoch_begun (cycles ++ past)))) _ takes) in

@@ -9,6 +9,7 @@ use Rattle.sercos_pace.specs.Stretches.{AreClean}
 use Rattle.sercos_pace.specs.Ages.{age_in}
 use Rattle.sercos_pace.specs.StartCosts.{StartsInCost, RecoversInCost, RecoversSince}
 use Rattle.sercos_pace.proofs.WholeCycles.{stays_clean, is_clean_or_down}
+use Rattle.sercos_pace.proofs.EpochBegins.{run_after}
 use Rattle.sercos_pace.proofs.AgeRuns.{nothing_old, ages_in_time}
 use Rattle.sercos_pace.proofs.CostRuns.{opens_in_cost, opens_since_cost}
 
@@ -22,7 +23,7 @@ module _ (busy : ℕ) (said : (b : Block) → b.attribute.factor < 2 ^ 16 → sh
       let clean = stays_clean busy cycles past run begins whole passed in
       let cost = opens_in_cost said busy time longest blocks small cycles past run sound timed listed clean in
       let age = age_within cycles past run clean in
-      let none = nothing_old past begins in (omega (arith, cost), omega (arith, age, none))
+      let none = nothing_old busy past (run_after busy cycles past run) begins in (omega (arith, cost), omega (arith, age, none))
 
   pub recovers_in_cost : RecoversInCost busy
   recovers_in_cost time longest blocks cycles first past small run sound timed listed one whole = elim (is_clean_or_down busy cycles first past run one whole) [

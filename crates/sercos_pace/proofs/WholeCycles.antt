@@ -8,11 +8,12 @@ use Rattle.sercos_handshake.specs.Views.{Heard, View, Standing, afresh, before_m
 use Rattle.sercos_handshake.specs.Epochs.{command, with_heard, with_begun, unless_restart, epoch_begun, begun_in}
 use Rattle.sercos_handshake.specs.Runs.{IsShown, IsRun}
 use Rattle.sercos_pace.specs.Stretches.{IsClean, AreClean}
-use Rattle.sercos_pace.specs.Passages.{was_addressed, IsWhole, AreWhole, IsPassed, IsUp, AreUp, BeginsEpoch, StandsThroughout, StaysClean, AreHeard, HearsThroughout, IsCleanOrDown, RecoversInTime, StaysDead}
+use Rattle.sercos_pace.specs.Passages.{was_addressed, IsWhole, AreWhole, IsPassed, IsUp, AreUp, StandsThroughout, StaysClean, AreHeard, HearsThroughout, IsCleanOrDown, RecoversInTime, StaysDead}
 use Rattle.sercos_handshake.proofs.PhaseMoves.{Stands, Down, Moves, Stays, stands, ends}
 use Rattle.sercos_handshake.proofs.EpochRuns.{commanded, start, start_begun}
 use Rattle.sercos_handshake.proofs.RunFacts.{stands_as_commanded, stays_down, comes_to, moved_same}
 use Rattle.sercos_pace.proofs.LateRuns.{takes_time_since}
+use Rattle.sercos_pace.proofs.EpochBegins.{none_begun}
 
 two_ways : (p : ℕ) → (p ≤ 1) ⊎ (2 ≤ p)
 two_ways p = elim (cases_eq p 0) [ inl z ↦ inl (omega arith) | inr nz ↦ elim (cases_eq p 1) [ inl one ↦ inl (omega arith) | inr more ↦ inr (omega arith) ] ]
@@ -22,7 +23,7 @@ some_of None some = absurd (cc)
 some_of (Some x) some = (x, refl)
 
 -- a record that is sent comes to the drive
-got_some : (v : View) → v.mdt_comes ≡ true → is_some v.sent ≡ true → is_some (got_in v) ≡ true
+pub got_some : (v : View) → v.mdt_comes ≡ true → is_some v.sent ≡ true → is_some (got_in v) ≡ true
 got_some v comes sent = ap is_some (cond-true v.mdt_comes v.sent None comes) ∙ sent
 
 processed_some : (v : View) (cycle stood : ℕ) (o : Option Said) → v.mst_comes ≡ true → 2 ≤ stood → is_some o ≡ true → is_some (processed_of v cycle stood o) ≡ true
@@ -30,7 +31,7 @@ processed_some v cycle stood None came two some = absurd (cc)
 processed_some v cycle stood (Some s) came two some = ap is_some (cond-true (v.mst_comes && nat_le 2 stood) (Some (record_in v cycle stood s)) None (and_from v.mst_comes (nat_le 2 stood) came (le-leb 2 stood two)))
 
 -- the step up to the next phase
-moved_next : (checked : Bool) (p q : ℕ) → q + 1 ≡ p → (3 ≤ p → checked ≡ true) → moved checked p q ≡ p
+pub moved_next : (checked : Bool) (p q : ℕ) → q + 1 ≡ p → (3 ≤ p → checked ≡ true) → moved checked p q ≡ p
 moved_next checked p q up on =
     let other : (p == q) ≡ false = ne_eqb p q (λ same. omega arith) in
     let next : (p == q + 1) ≡ true = eq-eqb p (q + 1) (sym up) in
@@ -39,6 +40,42 @@ moved_next checked p q up on =
     allowed : (low : Bool) → nat_le p 2 ≡ low → (low || checked) ≡ true
     allowed true is = refl
     allowed false is = on (grind (arith, is))
+
+pub same_drive : (v : View) (past : List View) → v.drive_restarts ≡ false → (before_mst v (standing past)).ended ≡ (standing past).ended
+same_drive v past still = ap (λ (f : Standing). f.ended) (cond-false v.drive_restarts afresh (standing past) still)
+
+-- a drive in the commanded phase, or in the one below with its check passed, comes to it in a whole cycle and stays
+pub up_by : (v : View) (past : List View) → IsWhole v past → IsPassed v past → ((standing past).ended ≡ v.phase) ⊎ ((standing past).ended + 1 ≡ v.phase) → IsUp v past
+up_by v past whole passed was = (stood, ended)
+  where
+    stood : stood_in v (standing past) ≡ v.phase
+    stood = comes_to v (standing past) (standing past).ended whole.mst (same_drive v past whole.drive) ∙ elim was [
+      | inl e ↦ ap (moved v.checked v.phase) e ∙ moved_same v.checked v.phase
+      | inr up ↦ moved_next v.checked v.phase (standing past).ended up (λ late. passed late up)
+    ]
+
+    ended : (standing (v ∷ past)).ended ≡ v.phase
+    ended = by (nat_le 3 (stood_in v (standing past))) refl
+      where
+        took : 3 ≤ stood_in v (standing past) → takes_in v (stood_in v (standing past)) ≡ true
+        took three =
+            let sent = whole.joint (omega (arith, stood, three)) in
+            let got = got_some v (whole.mdt sent (omega (arith, three))) sent in
+            and_from v.mst_comes _ whole.mst (and_from (nat_le 1 (stood_in v (standing past))) (is_some (got_in v)) (le-leb 1 (stood_in v (standing past)) (omega (arith, three))) got)
+
+        by : (late : Bool) → nat_le 3 (stood_in v (standing past)) ≡ late → (standing (v ∷ past)).ended ≡ v.phase
+        by true on =
+            let on_time = took (leb-true 3 (stood_in v (standing past)) on) in
+            ap₂ (λ (a t : Bool). if a && (not t && (before_mst v (standing past)).missed_mdt) then 0 else stood_in v (standing past)) on on_time ∙ stood
+        by false off = ap (λ (a : Bool). if a && (not (takes_in v (stood_in v (standing past))) && (before_mst v (standing past)).missed_mdt) then 0 else stood_in v (standing past)) off ∙ stood
+
+-- the phase that is commanded after a cycle without a fall
+pub next_phase : (u : View) (past : List View) → u.falls ≡ false → (command (u ∷ past) ≡ u.phase) ⊎ (command (u ∷ past) ≡ u.phase + 1)
+next_phase u past on = by u.rises (cond-false u.falls 0 (if u.rises then u.phase + 1 else u.phase) on)
+  where
+    by : (rises : Bool) → command (u ∷ past) ≡ (if rises then u.phase + 1 else u.phase) → (command (u ∷ past) ≡ u.phase) ⊎ (command (u ∷ past) ≡ u.phase + 1)
+    by true is = inr is
+    by false is = inl is
 
 module _ (busy : ℕ) where
   no_restart : {A : Type 0} (v : View) (xs : List A) → v.master_restarts ≡ false → unless_restart v xs ≡ xs
@@ -109,33 +146,6 @@ module _ (busy : ℕ) where
 
   -- From the start of an epoch on.
 
-  same_drive : (v : View) (past : List View) → v.drive_restarts ≡ false → (before_mst v (standing past)).ended ≡ (standing past).ended
-  same_drive v past still = ap (λ (f : Standing). f.ended) (cond-false v.drive_restarts afresh (standing past) still)
-
-  up_by : (v : View) (past : List View) → IsWhole v past → IsPassed v past → ((standing past).ended ≡ v.phase) ⊎ ((standing past).ended + 1 ≡ v.phase) → IsUp v past
-  up_by v past whole passed was = (stood, ended)
-    where
-      stood : stood_in v (standing past) ≡ v.phase
-      stood = comes_to v (standing past) (standing past).ended whole.mst (same_drive v past whole.drive) ∙ elim was [
-        | inl e ↦ ap (moved v.checked v.phase) e ∙ moved_same v.checked v.phase
-        | inr up ↦ moved_next v.checked v.phase (standing past).ended up (λ late. passed late up)
-      ]
-
-      ended : (standing (v ∷ past)).ended ≡ v.phase
-      ended = by (nat_le 3 (stood_in v (standing past))) refl
-        where
-          took : 3 ≤ stood_in v (standing past) → takes_in v (stood_in v (standing past)) ≡ true
-          took three =
-              let sent = whole.joint (omega (arith, stood)) in
-              let got = got_some v (whole.mdt sent (omega arith)) sent in
-              and_from v.mst_comes _ whole.mst (and_from (nat_le 1 (stood_in v (standing past))) (is_some (got_in v)) (le-leb 1 (stood_in v (standing past)) (omega arith)) got)
-
-          by : (late : Bool) → nat_le 3 (stood_in v (standing past)) ≡ late → (standing (v ∷ past)).ended ≡ v.phase
-          by true on =
-              let on_time = took (leb-true 3 (stood_in v (standing past)) on) in
-              ap₂ (λ (a t : Bool). if a && (not t && (before_mst v (standing past)).missed_mdt) then 0 else stood_in v (standing past)) on on_time ∙ stood
-          by false off = ap (λ (a : Bool). if a && (not (takes_in v (stood_in v (standing past))) && (before_mst v (standing past)).missed_mdt) then 0 else stood_in v (standing past)) off ∙ stood
-
   -- in phase 0 only the MST is needed
   zero_up : (v : View) (past : List View) → IsWhole v past → v.phase ≡ 0 → IsUp v past
   zero_up v past whole zero =
@@ -145,36 +155,20 @@ module _ (busy : ℕ) where
   phase_is : (v : View) (past : List View) → IsRun busy (v ∷ past) → IsWhole v past → v.phase ≡ command past
   phase_is v past run whole = elim (commanded v past run.1.commanded) [ inl r ↦ absurd (let on = r.0 in let off = whole.master in cc) | inr c ↦ c.1 ]
 
-  next_phase : (u : View) (past : List View) → u.falls ≡ false → (command (u ∷ past) ≡ u.phase) ⊎ (command (u ∷ past) ≡ u.phase + 1)
-  next_phase u past on = by u.rises (cond-false u.falls 0 (if u.rises then u.phase + 1 else u.phase) on)
-    where
-      by : (rises : Bool) → command (u ∷ past) ≡ (if rises then u.phase + 1 else u.phase) → (command (u ∷ past) ≡ u.phase) ⊎ (command (u ∷ past) ≡ u.phase + 1)
-      by true is = inr is
-      by false is = inl is
-
-  begins_zero : (past : List View) → BeginsEpoch past → command past ≡ 0
-  begins_zero [] begins = refl
-  begins_zero (u ∷ past) begins = cond-true u.falls 0 (if u.rises then u.phase + 1 else u.phase) begins
-
   pub stands_throughout : StandsThroughout busy
   stands_throughout [] past run begins whole passed = tt
-  stands_throughout (v ∷ []) past run begins whole passed = (tt, zero_up v past whole.1 (phase_is v past run whole.1 ∙ begins_zero past begins))
+  stands_throughout (v ∷ []) past run begins whole passed = (tt, zero_up v past whole.1 (phase_is v past run whole.1 ∙ begins))
   stands_throughout (v ∷ u ∷ cycles) past run begins whole passed =
       let before = stands_throughout (u ∷ cycles) past run.0 begins whole.0 passed.0 in
       let is = phase_is v (u ∷ (cycles ++ past)) run whole.1 in
       (before, up_by v (u ∷ (cycles ++ past)) whole.1 passed.1 (elim (next_phase u (cycles ++ past) whole.0.1.stays) [ inl same ↦ inl (before.1.1 ∙ sym same ∙ sym is) | inr up ↦ inr (let at = before.1.1 in omega arith) ]))
-
-  -- nothing is open when an epoch begins
-  pub none_begun : (past : List View) → BeginsEpoch past → epoch_begun past ≡ []
-  none_begun [] begins = refl
-  none_begun (u ∷ past) begins = cond-true u.falls [] (begun_in u past) begins
 
   pub stays_clean : StaysClean busy
   stays_clean cycles past run begins whole passed = by cycles run whole (stands_throughout cycles past run begins whole passed)
     where
       by : (cycles : List View) → IsRun busy (cycles ++ past) → AreWhole cycles past → AreUp cycles past → AreClean cycles past
       by [] run whole up = tt
-      by (v ∷ []) run whole up = (tt, clean_so v past run whole.1 (λ two some. let none : open_in (epoch_begun past) ≡ None = ap open_in (none_begun past begins) in absurd (cc)) (λ two. up.1.0))
+      by (v ∷ []) run whole up = (tt, clean_so v past run whole.1 (λ two some. let none : open_in (epoch_begun past) ≡ None = ap open_in (none_begun busy past run.0 begins) in absurd (cc)) (λ two. up.1.0))
       by (v ∷ u ∷ cycles) run whole up = (by (u ∷ cycles) run.0 whole.0 up.0, clean_so v (u ∷ (cycles ++ past)) run whole.1 (λ two. addressed u (cycles ++ past) run.0 whole.0.1 (λ late. let same = up.0.1.0 in omega (arith, same, late))) (λ two. up.1.0))
 
   -- so the master hears it

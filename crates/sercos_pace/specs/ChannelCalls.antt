@@ -44,7 +44,7 @@ IsSent v past = is_some (open_in (begun_in v past)) ≡ true → is_some v.sent 
 
 abbrev pub AreSent : List View → Type 0
 AreSent [] = Unit {0}
-AreSent (v ∷ past) = v.falls ≡ false → AreSent past × IsSent v past
+AreSent (v ∷ past) = v.falls ≡ false → (v.master_restarts ≡ false → AreSent past) × IsSent v past
 
 -- The calls are allowed, and give the requests that were begun.
 abbrev pub CallsBegin : ℕ → Type 0
@@ -62,7 +62,7 @@ abbrev pub AgesBeforeEnd : ℕ → Type 0
 AgesBeforeEnd busy = (v : View) (past : List View) → IsRun busy (v ∷ past) → AreSent past → IsSent v past →
     option_map (λ age. age + 1) (age_of (calls_in v (channel_calls past))) ≡ age_if_open (is_some (open_in (begun_in v past))) (age_in (staying v ∷ past))
 
--- From the start of an epoch on, while every telegram comes and the checks are passed, in each cycle before its end: the channel has
+-- From phase 0 of an epoch on, while every telegram comes and the checks are passed, in each cycle before its end: the channel has
 -- counted no more than the busy time, and in phases 3 and 4 the drive is heard. So no fall comes from this drive.
 abbrev pub NoneLate : ℕ → Type 0
 NoneLate busy = (v : View) (cycles past : List View) → IsRun busy (v ∷ (cycles ++ past)) → BeginsEpoch past → AreWhole cycles past → ArePassed cycles past → IsWhole (staying v) (cycles ++ past) → IsPassed v (cycles ++ past) →

@@ -3,7 +3,7 @@
 use Rattle.std.specs.Prelude.{◌≡◌, ◌⊎◌, ℕ, ◌+◌, ◌*◌, ◌≤◌, Bool, true, false, ◌&&◌, List, [], ◌∷◌, ◌++◌, length, None, is_some}
 use Rattle.sercos_service_master.specs.Begun.{open_in, steps_in, answers_in}
 use Rattle.sercos_handshake.specs.Views.{View, got_in, standing, stood_in}
-use Rattle.sercos_handshake.specs.Epochs.{epoch_begun, begun_in, unless_restart}
+use Rattle.sercos_handshake.specs.Epochs.{command, epoch_begun, begun_in, unless_restart}
 use Rattle.sercos_handshake.specs.Runs.{IsRun}
 use Rattle.sercos_pace.specs.Stretches.{AreClean, open_since}
 
@@ -49,12 +49,12 @@ abbrev pub AreUp : List View → List View → Type 0
 AreUp [] past = Unit {0}
 AreUp (v ∷ cycles) past = AreUp cycles past × IsUp v (cycles ++ past)
 
--- An epoch begins after these cycles: there are none, or the master falls at the end of the newest.
+-- After these cycles phase 0 is commanded, unless the master restarts: an epoch begins, or is still in phase 0. So it is before the first
+-- cycle, after a fall, and after a cycle in which the master restarted.
 abbrev pub BeginsEpoch : List View → Type 0
-BeginsEpoch [] = Unit {0}
-BeginsEpoch (v ∷ past) = v.falls ≡ true
+BeginsEpoch past = command past ≡ 0
 
--- From the start of an epoch on, whatever went before: if every cycle is whole and the checks are passed, the drive stands in the
+-- From phase 0 of an epoch on, whatever went before: if every cycle is whole and the checks are passed, the drive stands in the
 -- commanded phase in every cycle ..
 abbrev pub StandsThroughout : ℕ → Type 0
 StandsThroughout busy = (cycles past : List View) → IsRun busy (cycles ++ past) → BeginsEpoch past → AreWhole cycles past → ArePassed cycles past → AreUp cycles past

@@ -11,7 +11,7 @@ use Rattle.sercos_pace.specs.Passages.{IsWhole, AreWhole, ArePassed, BeginsEpoch
 use Rattle.sercos_pace.specs.Costs.{AreTimed, AreListed, cost_of, cost_in}
 use Rattle.sercos_pace.specs.Ages.{age_in}
 
--- A start-up in which every telegram comes: from the start of an epoch on, whatever went before, the cycles with an open step are at most
+-- A start-up in which every telegram comes: from phase 0 of an epoch on, whatever went before, the cycles with an open step are at most
 -- the cost of the requests, and no step gets older than busy time and one cycle.
 abbrev pub StartsInCost : ℕ → Type 0
 StartsInCost busy = (time : ℕ) (longest : ℕ → ℕ) (blocks : List Block) (cycles past : List View) → AreSmall blocks → IsRun busy (cycles ++ past) → AreSound blocks (cycles ++ past) → AreTimed time (cycles ++ past) → AreListed longest (cycles ++ past) →

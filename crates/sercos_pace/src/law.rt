@@ -23,7 +23,7 @@ pub fn time_law()
 
 /// A law and no code, over a stretch of cycles in which nothing is lost, whatever went before. The cycles in which a step
 /// was open are at most busy time and one for each answer, and no step gets older than that, but for one that was open
-/// before the stretch. From the start of an epoch on, an answer comes exactly busy time and one cycle after its step was
+/// before the stretch. From phase 0 of an epoch on, an answer comes exactly busy time and one cycle after its step was
 /// begun, and a channel that never idles keeps time to the cycle.
 pub fn stretch_law()
     ensures in_time { (busy : ℕ) → ComesInTime busy }
@@ -34,7 +34,7 @@ pub fn stretch_law()
     ensures keeps { (busy : ℕ) → KeepsTime busy }
 {}
 
-/// A law and no code, over cycles in which every telegram comes and nothing restarts. From the start of an epoch on, the
+/// A law and no code, over cycles in which every telegram comes and nothing restarts. From phase 0 of an epoch on, the
 /// drive stands in the commanded phase if its checks are passed, nothing is lost, and the master hears it in phases 3 and
 /// 4. After whatever was lost and a first such cycle, either the drive is in phase 0 by now, or nothing was lost since. A
 /// drive in phase 0 stays there while 2 to 4 is commanded: the master hears nothing of it and takes no answer, and an open

@@ -32,22 +32,17 @@ use Rattle.sercos_headline.proofs.HeadlineRuns.{MoreLaws}
 use Rattle.sercos_undisturbed.specs.Sections.{AreInTwo}
 use Rattle.sercos_undisturbed.specs.ViewsSince.{views_since}
 use Rattle.sercos_undisturbed.proofs.JobsBegun.{begun_end}
-use Rattle.sercos_undisturbed.proofs.PhaseTwo.{sum_within}
+use Rattle.sercos_undisturbed.proofs.PhaseTwo.{shifted, sum_within}
 use Rattle.sercos_undisturbed.proofs.Sections.{none_idle}
 use Rattle.sercos_undisturbed.proofs.Small.{some_is}
-use Rattle.sercos_recovery.specs.BeforeFall.{IsSpared}
+use Rattle.sercos_recovery.specs.FallsInTime.{IsSpared}
 use Rattle.sercos_recovery.specs.Stretches.{IsDown, IsStretch}
 use Rattle.sercos_recovery.proofs.DownSince.{down_all, in_two, never_open, open_at_most}
 use Rattle.sercos_recovery.proofs.LateDown.{not_true}
-use Rattle.sercos_recovery.proofs.Limits.{ages_to_limit}
 use Rattle.sercos_recovery.proofs.Turns.{opens_in_turn, works_in_turn}
 use Rattle.sercos_recovery.proofs.UpSections.{up_section}
 
 -- A SUM over the places of all drives, with a limit of its own for one
-shifted : (n : ℕ) (f : ℕ → ℕ) → sum_below (suc n) f ≡ f 0 + sum_below n (λ i. f (suc i))
-shifted zero f = omega arith
-shifted (suc n) f = let more = shifted n f in omega (arith, more)
-
 record AreAllBut (drives : List DriveView) (total limit : ℕ) (bound : DriveView → ℕ) : Type 0 where
   earlier : List DriveView
   one : DriveView
@@ -147,8 +142,3 @@ module _ (laws : Laws) (more : MoreLaws) (turn : WorkInTurn) (early : BeginsNone
       let but = all_but (λ k. 0) section_cycles limit r.drives d there (omega arith) (λ k low other. omega arith) in
       record { earlier = but.earlier; one = but.one; later = but.later; are = but.are; few = omega arith }
   few_within limit (t ∷ cycles) first before run clear stretch two d there down aged = spared t cycles first before run clear stretch two d there down limit aged
-
-  pub few_before_fall : (cycles : List CycleView) (first : CycleView) (before : List CycleView) → IsRun r jobs carry restarts (cycles ++ first ∷ before) → IsClear (cycles ++ first ∷ before) → IsStretch r jobs carry restarts cycles first before
-      → AreInTwo r jobs carry restarts cycles (first ∷ before) → (d : ℕ) → d < length r.drives → IsDown r jobs carry restarts d (first ∷ before) → IsSpared r 64 (length cycles)
-  few_before_fall cycles first before run clear stretch two d there down =
-      few_within 64 cycles first before run clear stretch two d there down (λ k below is_down opens. ages_to_limit laws more turn r jobs carry restarts opened counts (cycles ++ first ∷ before) run clear k below)

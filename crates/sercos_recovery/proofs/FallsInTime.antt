@@ -1,11 +1,10 @@
 -- Without a stop the ring falls in time if a drive is in phase 0, in whatever phases from 2 on.
-use Rattle.std.proofs.Common.{◌≡◌, inl, inr, ℕ, suc, ◌+◌, ◌*◌, ◌<◌, ◌≤◌, Bool, true, false, List, [], ◌∷◌, ◌++◌, length, Option, None, refl, sym, ap, ◌∙◌, arith, length-append, if◌then◌else◌}
+use Rattle.std.proofs.Common.{◌≡◌, inl, inr, ℕ, suc, ◌+◌, ◌<◌, ◌≤◌, Bool, true, false, List, [], ◌∷◌, ◌++◌, length, Option, None, refl, sym, ap, ◌∙◌, arith, if◌then◌else◌}
 use Rattle.std.specs.Prelude.{is_some, slice_index_or}
 use Rattle.std.proofs.lemmas.Bool.{cases_lt, false≢true}
 use Rattle.sercos_step.specs.declared.request.Job.{Job}
-use Rattle.sercos_block.specs.Startup.{startup_bound}
 use Rattle.sercos_block.specs.Views.{DriveView, RingView}
-use Rattle.sercos_bound.specs.Bounds.{greatest, recovery_bound, slowest, AreSections, IsBackLater}
+use Rattle.sercos_bound.specs.Bounds.{greatest, AreSections}
 use Rattle.sercos_trace.specs.Views.{CycleView}
 use Rattle.sercos_trace.specs.declared.events.Fall.{Fall}
 use Rattle.sercos_seat.specs.Ring.{known_of}
@@ -27,10 +26,9 @@ use Rattle.sercos_headline.proofs.HeadlineRuns.{MoreLaws}
 use Rattle.sercos_undisturbed.specs.Sections.{AreInTwo, GoesOnInTwo}
 use Rattle.sercos_undisturbed.proofs.Comes.{calm_in}
 use Rattle.sercos_undisturbed.proofs.JobsBegun.{planned_now}
-use Rattle.sercos_undisturbed.proofs.NeverFalls.{busy_low}
 use Rattle.sercos_undisturbed.proofs.PhaseCounts.{end_kept}
 use Rattle.sercos_undisturbed.proofs.StopStays.{none_before, stop_after}
-use Rattle.sercos_recovery.specs.BeforeFall.{IsSpared}
+use Rattle.sercos_recovery.specs.FallsInTime.{IsSpared}
 use Rattle.sercos_recovery.specs.Stretches.{IsDown, IsStretch}
 use Rattle.sercos_recovery.proofs.BeforeFall.{few_within}
 use Rattle.sercos_recovery.proofs.DownSince.{shorter}
@@ -41,7 +39,7 @@ use Rattle.sercos_recovery.proofs.Stretches.{ages_down_in, stays_down_in}
 use Rattle.sercos_recovery.proofs.UpSections.{no_lower_since}
 
 -- the slowest drive is busy for at most 20 cycles
-greatest_low : (f : DriveView → ℕ) (most : ℕ) (drives : List DriveView) → ((k : ℕ) → k < length drives → f (slice_index_or drives k no_drive) ≤ most) → greatest f drives ≤ most
+pub greatest_low : (f : DriveView → ℕ) (most : ℕ) (drives : List DriveView) → ((k : ℕ) → k < length drives → f (slice_index_or drives k no_drive) ≤ most) → greatest f drives ≤ most
 greatest_low f most [] each = omega arith
 greatest_low f most (d ∷ drives) each =
     let first = each 0 (omega arith) in
@@ -59,11 +57,11 @@ module _ (laws : Laws) (more : MoreLaws) (turn : WorkInTurn) (early : BeginsNone
     (dead : (busy : ℕ) → StaysDead busy) (ages : (busy : ℕ) → AgesWhereDead busy) (counts : (busy : ℕ) → AgesBeforeEnd busy) (recovers : (busy : ℕ) → RecoversInCost busy) (since : (busy : ℕ) → RecoversSince busy) (timed : ComesTimed)
     (sections : AreSections) (reads_cost : (busy : ℕ) → ReadsCost busy) (writes_cost : (busy : ℕ) → WritesCost busy) where
   -- the phase of the newest cycle, and a drive in phase 0
-  late_now : (t : CycleView) (cycles : List CycleView) (first : CycleView) (before : List CycleView) → IsRun r jobs carry restarts (t ∷ (cycles ++ first ∷ before)) → IsClear (t ∷ (cycles ++ first ∷ before))
+  pub late_now : (t : CycleView) (cycles : List CycleView) (first : CycleView) (before : List CycleView) → IsRun r jobs carry restarts (t ∷ (cycles ++ first ∷ before)) → IsClear (t ∷ (cycles ++ first ∷ before))
       → IsStretch r jobs carry restarts (t ∷ cycles) first before → 2 ≤ first.phase → (k : ℕ) → k < length r.drives → 2 ≤ t.phase
   late_now t cycles first before run clear stretch late k below = let least = no_lower_since laws more turn early r jobs carry restarts opened t cycles first before run clear stretch k below in omega (arith, late, least)
 
-  down_late : (cycles : List CycleView) (first : CycleView) (before : List CycleView) → IsRun r jobs carry restarts (cycles ++ first ∷ before) → IsClear (cycles ++ first ∷ before) → IsStretch r jobs carry restarts cycles first before
+  pub down_late : (cycles : List CycleView) (first : CycleView) (before : List CycleView) → IsRun r jobs carry restarts (cycles ++ first ∷ before) → IsClear (cycles ++ first ∷ before) → IsStretch r jobs carry restarts cycles first before
       → 2 ≤ first.phase → (k : ℕ) → k < length r.drives → IsDown r jobs carry restarts k (first ∷ before) → IsDown r jobs carry restarts k (cycles ++ first ∷ before)
   down_late [] first before run clear stretch late k below down = down
   down_late (t ∷ cycles) first before run clear stretch late k below down =
@@ -109,7 +107,7 @@ module _ (laws : Laws) (more : MoreLaws) (turn : WorkInTurn) (early : BeginsNone
 
   module _ (d : ℕ) (there : d < length r.drives) where
     -- phase 2, up to a cycle without a fall
-    few_in_two : (u : CycleView) (cycles : List CycleView) (first : CycleView) (before : List CycleView) → IsRun r jobs carry restarts (u ∷ (cycles ++ first ∷ before)) → IsClear (u ∷ (cycles ++ first ∷ before))
+    pub few_in_two : (u : CycleView) (cycles : List CycleView) (first : CycleView) (before : List CycleView) → IsRun r jobs carry restarts (u ∷ (cycles ++ first ∷ before)) → IsClear (u ∷ (cycles ++ first ∷ before))
         → IsStretch r jobs carry restarts (u ∷ cycles) first before → 2 ≤ first.phase → u.phase ≤ 2 → (behind_mdt r jobs carry restarts u.sent (cycles ++ first ∷ before)).stop ≡ None → IsDown r jobs carry restarts d (first ∷ before)
         → IsSpared r 63 (length cycles)
     few_in_two u cycles first before run clear stretch late low none down =
@@ -121,7 +119,7 @@ module _ (laws : Laws) (more : MoreLaws) (turn : WorkInTurn) (early : BeginsNone
         (quiet u cycles first before stretch) opens).0 in
         let limit = ages_to_limit laws more turn r jobs carry restarts opened counts (u ∷ (cycles ++ first ∷ before)) run clear k below in omega (arith, older, limit))
 
-    none_spared : (first : CycleView) (before : List CycleView) → IsRun r jobs carry restarts (first ∷ before) → IsClear (first ∷ before) → IsStretch r jobs carry restarts [] first before → IsDown r jobs carry restarts d (first ∷ before)
+    pub none_spared : (first : CycleView) (before : List CycleView) → IsRun r jobs carry restarts (first ∷ before) → IsClear (first ∷ before) → IsStretch r jobs carry restarts [] first before → IsDown r jobs carry restarts d (first ∷ before)
         → IsSpared r 64 0
     none_spared first before run clear stretch down =
         few_within laws more turn early works r jobs carry restarts opened dead ages counts recovers since timed sections reads_cost writes_cost 64 [] first before run clear stretch tt d there down
@@ -152,13 +150,3 @@ module _ (laws : Laws) (more : MoreLaws) (turn : WorkInTurn) (early : BeginsNone
 
         u_none : (behind_mdt r jobs carry restarts u.sent (t ∷ (cycles ++ first ∷ before))).stop ≡ None
         u_none = sym (stop_after r jobs carry restarts u (t ∷ (cycles ++ first ∷ before)) stretch.stays.1) ∙ none
-
-    -- AND AFTER IT all is over in time.
-    pub back_after_fall : IsBackLater → (cycles : List CycleView) (first lost : CycleView) (before : List CycleView) → IsRun r jobs carry restarts (cycles ++ first ∷ lost ∷ before) → IsClear (cycles ++ first ∷ lost ∷ before)
-        → IsStretch r jobs carry restarts cycles first (lost ∷ before) → 2 ≤ first.phase → (looks_back r jobs (master_calls r carry restarts (cycles ++ first ∷ lost ∷ before))).stop ≡ None → IsDown r jobs carry restarts d (first ∷ lost ∷ before)
-        → (cycle : ℕ) → cycle ≤ length (cycles ++ first ∷ lost ∷ before) + 1 + startup_bound r + 41 * (slowest r.drives + 2) → cycle ≤ length before + recovery_bound r
-    back_after_fall later cycles first lost before run clear stretch late none down cycle within =
-        let is = falls_in_time cycles first (lost ∷ before) run clear stretch late none down in
-        let few = is.few in
-        let long = length-append cycles (first ∷ lost ∷ before) in
-        later r is.earlier is.later is.one (length before) (length (cycles ++ first ∷ lost ∷ before)) cycle is.are (greatest_low (λ x. x.busy) 20 r.drives (λ k low. busy_low r k opened.valid low)) (omega (arith, few, long)) within

@@ -19,7 +19,7 @@ use Rattle.sercos_views.specs.RingViews.{views_of}
 use Rattle.sercos_held.specs.Opened.{IsOpened}
 use Rattle.sercos_held.proofs.Runs.{Laws, drive_got}
 use Rattle.sercos_headline.proofs.HeadlineRuns.{MoreLaws}
-use Rattle.sercos_undisturbed.specs.EpochStarts.{StartsEpoch}
+use Rattle.sercos_undisturbed.specs.EpochStarts.{Falls}
 use Rattle.sercos_undisturbed.specs.Undisturbed.{IsUndisturbed}
 use Rattle.sercos_recovery.specs.Stretches.{IsDown, IsStretch}
 use Rattle.sercos_recovery.proofs.NoFallLater.{no_fall_later}
@@ -47,7 +47,7 @@ module _ (laws : Laws) (more : MoreLaws) (turn : WorkInTurn) (comes_up : (busy :
     (recovers : (busy : ℕ) → RecoversInCost busy) (timed : ComesTimed) (counts : (busy : ℕ) → AgesBeforeEnd busy) (greatest : IsBelowGreatest) where
   pub falls_soon : (t : CycleView) (cycles : List CycleView) (first : CycleView) (before : List CycleView) → IsRun r jobs carry restarts (t ∷ (cycles ++ first ∷ before)) → IsClear (t ∷ (cycles ++ first ∷ before))
       → IsStretch r jobs carry restarts cycles first before → IsUndisturbed r carry restarts t (cycles ++ first ∷ before) → 2 ≤ t.phase
-      → ((k : ℕ) → k < length r.drives → IsDown r jobs carry restarts k (cycles ++ first ∷ before) → ⊥) → StartsEpoch r jobs carry restarts (t ∷ (cycles ++ first ∷ before)) → length cycles ≤ slowest r.drives + 1
+      → ((k : ℕ) → k < length r.drives → IsDown r jobs carry restarts k (cycles ++ first ∷ before) → ⊥) → Falls r jobs carry restarts t (cycles ++ first ∷ before) → length cycles ≤ slowest r.drives + 1
   falls_soon t cycles first before run clear stretch calm late up falls = elim (cases_lt (slowest r.drives + 1) (length cycles)) [
     | inr few ↦ omega (arith, few)
     | inl many ↦ absurd (false≢true (sym (ap (λ (o : Option Fall). is_some o) (no_fall_later laws more turn comes_up r jobs carry restarts opened recovers timed counts t cycles first before run clear stretch calm late

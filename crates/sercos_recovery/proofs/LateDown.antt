@@ -18,7 +18,7 @@ use Rattle.sercos_master.specs.Annals.{Call, Past, Turn, after_taken, fall_at, f
 use Rattle.sercos_script.specs.Links.{Carry, Restarts}
 use Rattle.sercos_handshake.specs.Views.{Heard}
 use Rattle.sercos_pace.specs.ChannelCalls.{staying}
-use Rattle.sercos_pace.specs.Passages.{IsCleanOrDown, IsDead, IsUp, StaysDead}
+use Rattle.sercos_pace.specs.Passages.{IsDead, IsUp, StaysDead}
 use Rattle.sercos_journal.specs.Arrivals.{heard, passage}
 use Rattle.sercos_journal.specs.Records.{ats_in, mst_in}
 use Rattle.sercos_journal.specs.Runs.{at_calls, begins, drive_at, looks_back, master_calls, own_mst, station_of, with_at, IsClear, IsNext, IsRun}
@@ -30,7 +30,7 @@ use Rattle.sercos_views.proofs.ViewRuns.{started}
 use Rattle.sercos_held.specs.Opened.{IsOpened}
 use Rattle.sercos_held.proofs.Runs.{Laws}
 use Rattle.sercos_headline.proofs.HeadlineRuns.{MoreLaws, all_stand}
-use Rattle.sercos_undisturbed.specs.EpochStarts.{StartsEpoch}
+use Rattle.sercos_undisturbed.specs.EpochStarts.{Falls}
 use Rattle.sercos_undisturbed.specs.Undisturbed.{IsUndisturbed}
 use Rattle.sercos_undisturbed.proofs.AfterAt.{after_at_so}
 use Rattle.sercos_undisturbed.proofs.ChannelsKept.{ats_leave}
@@ -40,8 +40,7 @@ use Rattle.sercos_undisturbed.proofs.PassedCycles.{passed_undisturbed}
 use Rattle.sercos_undisturbed.proofs.PhaseCounts.{end_kept}
 use Rattle.sercos_undisturbed.proofs.WholeIn.{whole_in}
 use Rattle.sercos_recovery.specs.Stretches.{IsDown, IsStretch, IsUpNow}
-use Rattle.sercos_recovery.specs.UpOrDown.{KeepsUp}
-use Rattle.sercos_recovery.proofs.Stretches.{keeps_up, newest_up, stays_down_in}
+use Rattle.sercos_recovery.proofs.Stretches.{stays_down_in}
 use Rattle.sercos_recovery.proofs.UpNext.{phase_next, up_next}
 
 -- WHAT IS HEARD of a drive is heard on its channel, but in phase 1.
@@ -131,7 +130,7 @@ module _ (r : RingView) (jobs : List Job) (carry : Carry) (restarts : Restarts) 
   pub phase_now : (t : CycleView) (j : List CycleView) → IsNext r jobs carry restarts t j → (behind_mdt r jobs carry restarts t.sent j).now.phase ≡ t.phase
   phase_now t j next = (turn_mdt (known_of r) (behind_ats r jobs carry restarts t.sent j)).phase_is ∙ (ats_leave r jobs carry restarts t j 0).phase_is ∙ sym next.phase
 
-  turns_now : (t u : CycleView) (j : List CycleView) → fall_of (known_of r) (behind_mdt r jobs carry restarts u.sent j) ≡ None → restarts (length (u ∷ j)) 0 ≡ false
+  pub turns_now : (t u : CycleView) (j : List CycleView) → fall_of (known_of r) (behind_mdt r jobs carry restarts u.sent j) ≡ None → restarts (length (u ∷ j)) 0 ≡ false
       → (behind_mdt r jobs carry restarts t.sent (u ∷ j)).turns ≡ (behind_mdt r jobs carry restarts u.sent j).now ∷ (behind_mdt r jobs carry restarts u.sent j).turns
   turns_now t u j none stays = (turn_mdt (known_of r) (behind_ats r jobs carry restarts t.sent (u ∷ j))).turns_are ∙ (ats_leave r jobs carry restarts t (u ∷ j) 0).turns_are
       ∙ ap (λ (p : Past). p.turns) (started r jobs (restarts (length (u ∷ j)) 0) (master_calls r carry restarts (u ∷ j)))
@@ -140,7 +139,7 @@ module _ (r : RingView) (jobs : List Job) (carry : Carry) (restarts : Restarts) 
 
 module _ (laws : Laws) (more : MoreLaws) (turn : WorkInTurn) (r : RingView) (jobs : List Job) (carry : Carry) (restarts : Restarts) (opened : IsOpened r jobs) where
   -- a phase stays, or rises by one
-  phase_after : (t u : CycleView) (j : List CycleView) → IsRun r jobs carry restarts (t ∷ u ∷ j) → IsClear (t ∷ u ∷ j) → fall_of (known_of r) (behind_mdt r jobs carry restarts u.sent j) ≡ None → restarts (length (u ∷ j)) 0 ≡ false
+  pub phase_after : (t u : CycleView) (j : List CycleView) → IsRun r jobs carry restarts (t ∷ u ∷ j) → IsClear (t ∷ u ∷ j) → fall_of (known_of r) (behind_mdt r jobs carry restarts u.sent j) ≡ None → restarts (length (u ∷ j)) 0 ≡ false
       → (k : ℕ) → k < length r.drives → (u.phase ≡ t.phase) ⊎ (u.phase + 1 ≡ t.phase)
   phase_after t u j run clear none stays k below =
       phase_next (drive_at r k).busy (view_of r jobs carry restarts k t (u ∷ j)) (view_of r jobs carry restarts k u j) (views_of r jobs carry restarts k j) (all_stand laws more r jobs carry restarts opened (t ∷ u ∷ j) run clear k below).sees.run
@@ -152,7 +151,7 @@ module _ (laws : Laws) (more : MoreLaws) (turn : WorkInTurn) (r : RingView) (job
 
   -- A DRIVE IN PHASE 0 makes the ring fall.
   pub falls_if_down : ((busy : ℕ) → StaysDead busy) → (t u : CycleView) (j : List CycleView) → IsRun r jobs carry restarts (t ∷ u ∷ j) → IsClear (t ∷ u ∷ j) → fall_of (known_of r) (behind_mdt r jobs carry restarts u.sent j) ≡ None
-      → restarts (length (u ∷ j)) 0 ≡ false → 3 ≤ u.phase → (k : ℕ) → k < length r.drives → IsDown r jobs carry restarts k j → StartsEpoch r jobs carry restarts (t ∷ u ∷ j)
+      → restarts (length (u ∷ j)) 0 ≡ false → 3 ≤ u.phase → (k : ℕ) → k < length r.drives → IsDown r jobs carry restarts k j → Falls r jobs carry restarts t (u ∷ j)
   falls_if_down dead t u j run clear none stays late k below down =
       falls_so (known_of r) (behind_mdt r jobs carry restarts t.sent (u ∷ j)) k (let count = members_count r in omega (arith, below, count))
       (lost_so k (behind_mdt r jobs carry restarts t.sent (u ∷ j)).now (behind_mdt r jobs carry restarts u.sent j).now (behind_mdt r jobs carry restarts u.sent j).turns (behind_mdt r jobs carry restarts t.sent (u ∷ j)).turns
@@ -179,30 +178,3 @@ module _ (laws : Laws) (more : MoreLaws) (turn : WorkInTurn) (r : RingView) (job
       → IsUp (view_of r jobs carry restarts k u (cycles ++ first ∷ before)) (views_of r jobs carry restarts k (cycles ++ first ∷ before))
   next_up u [] first before run clear calm stretch k below up = stays_up_next u first before run clear calm stretch.first_stays k below up
   next_up u (w ∷ cycles) first before run clear calm stretch k below up = stays_up_next u w (cycles ++ first ∷ before) run clear calm stretch.stays.1 k below up
-
-  -- SO ALL ARE UP where phase 3 or 4 is commanded and the ring doesn't fall.
-  pub all_up_late : ((busy : ℕ) → IsCleanOrDown busy) → ((busy : ℕ) → StaysDead busy) → (t u : CycleView) (cycles : List CycleView) (first : CycleView) (before : List CycleView) → IsRun r jobs carry restarts (t ∷ u ∷ (cycles ++ first ∷ before))
-      → IsClear (t ∷ u ∷ (cycles ++ first ∷ before)) → IsStretch r jobs carry restarts (t ∷ u ∷ cycles) first before → 3 ≤ u.phase → (k : ℕ) → k < length r.drives → KeepsUp r jobs carry restarts k (t ∷ u ∷ cycles) first before
-  all_up_late clean dead t u cycles first before run clear stretch late k below = elim (keeps_up laws more turn r jobs carry restarts opened clean (t ∷ u ∷ cycles) first before run clear stretch k below) [
-    | inl down ↦ absurd (never down)
-    | inr keeps ↦ keeps
-  ]
-    where
-      goes_on : restarts (length (u ∷ (cycles ++ first ∷ before))) 0 ≡ false
-      goes_on = (calm_in r carry restarts t (u ∷ (cycles ++ first ∷ before)) stretch.calm.1).stays 0 (omega arith)
-
-      earlier : IsStretch r jobs carry restarts cycles first before
-      earlier = record { calm = stretch.calm.0.0; stays = stretch.stays.0.0; first_calm = stretch.first_calm; first_stays = stretch.first_stays }
-
-      not_down : IsDown r jobs carry restarts k (cycles ++ first ∷ before) → ⊥
-      not_down down = false≢true (sym (ap (λ (o : Option Fall). is_some o) stretch.stays.1) ∙ falls_if_down dead t u (cycles ++ first ∷ before) run clear stretch.stays.0.1 goes_on late k below down)
-
-      up : IsUp (view_of r jobs carry restarts k t (u ∷ (cycles ++ first ∷ before))) (views_of r jobs carry restarts k (u ∷ (cycles ++ first ∷ before)))
-      up = stays_up_next t u (cycles ++ first ∷ before) run clear stretch.calm.1 stretch.stays.0.1 k below
-          (next_up u cycles first before run.0 clear.0 stretch.calm.0.1 earlier k below (newest_up laws more turn r jobs carry restarts opened cycles first before run.0.0 clear.0.0 earlier k below not_down))
-
-      never : IsDown r jobs carry restarts k (t ∷ u ∷ (cycles ++ first ∷ before)) → ⊥
-      never down =
-          let zero_phase : t.phase ≡ 0 = sym up.1 ∙ down in
-          let least : u.phase ≤ t.phase = no_lower t u (cycles ++ first ∷ before) run clear stretch.stays.0.1 goes_on k below in
-          omega (arith, late, least, zero_phase)

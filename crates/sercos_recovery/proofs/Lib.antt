@@ -17,3 +17,7 @@ pub mod AgesLater
 pub mod NoFallLater
 pub mod FallsSoon
 pub mod ComesBack
+pub mod EarlyStops
+pub mod EarlyPhases
+pub mod SpareStops
+pub mod Recovers

@@ -1,5 +1,5 @@
 -- A step to a drive in phase 0 makes the ring fall at its limit.
-use Rattle.std.proofs.Common.{◌≡◌, ℕ, ◌+◌, ◌<◌, ◌≤◌, Bool, true, false, ◌&&◌, List, [], ◌∷◌, ◌++◌, length, Option, Some, None, refl, sym, ap, ◌∙◌, subst, arith, if◌then◌else◌}
+use Rattle.std.proofs.Common.{◌≡◌, ℕ, ◌+◌, ◌<◌, ◌≤◌, Bool, true, false, ◌&&◌, List, [], ◌∷◌, length, Option, Some, None, refl, sym, ap, ◌∙◌, subst, arith, if◌then◌else◌}
 use Rattle.std.specs.Prelude.{◌==◌, nat_le, is_some, option_map, unwrap_or, min}
 use Rattle.std.specs.Option.{option_or}
 use Rattle.std.proofs.lemmas.Bool.{cond-false, false≢true}
@@ -19,9 +19,8 @@ use Rattle.sercos_script.specs.Links.{Carry, Restarts}
 use Rattle.sercos_handshake.specs.Epochs.{begun_in, epoch_begun, unless_restart}
 use Rattle.sercos_handshake.specs.Runs.{IsRun as IsViewRun}
 use Rattle.sercos_handshake.specs.Views.{View}
-use Rattle.sercos_pace.specs.Ages.{age_by, age_in, AgesWhereDead}
+use Rattle.sercos_pace.specs.Ages.{age_by, age_in}
 use Rattle.sercos_pace.specs.ChannelCalls.{age_if_open, AgesBeforeEnd, AreSent, calls_in, channel_calls}
-use Rattle.sercos_pace.specs.Passages.{StaysDead}
 use Rattle.sercos_pace.proofs.WholeCycles.{open_late}
 use Rattle.sercos_journal.specs.Runs.{drive_at, IsClear, IsRun}
 use Rattle.sercos_agenda.specs.Turns.{WorkInTurn}
@@ -30,13 +29,9 @@ use Rattle.sercos_views.proofs.Members.{members_count}
 use Rattle.sercos_held.specs.Opened.{IsOpened}
 use Rattle.sercos_held.proofs.Runs.{Laws}
 use Rattle.sercos_headline.proofs.HeadlineRuns.{MoreLaws, all_stand}
-use Rattle.sercos_undisturbed.specs.StartUps.{NoneFalls}
 use Rattle.sercos_undisturbed.proofs.ChannelsKept.{calls_now}
 use Rattle.sercos_undisturbed.proofs.Sending.{sends_in}
-use Rattle.sercos_recovery.specs.Limits.{NoneRestarts}
-use Rattle.sercos_recovery.specs.Stretches.{IsDown}
-use Rattle.sercos_recovery.proofs.LateDown.{found, no_lower, not_one, not_true, phase_now}
-use Rattle.sercos_recovery.proofs.Stretches.{ages_down_in, stays_down_in}
+use Rattle.sercos_recovery.proofs.LateDown.{found, not_one, not_true, phase_now}
 
 -- THE RING FALLS if a step is at its limit.
 some_last : (a b c : Option Fall) → is_some c ≡ true → is_some (option_or a (option_or b c)) ≡ true
@@ -91,7 +86,7 @@ open_age (v ∷ past) opens = by v.falls opens
 module _ (laws : Laws) (more : MoreLaws) (turn : WorkInTurn) (r : RingView) (jobs : List Job) (carry : Carry) (restarts : Restarts) (opened : IsOpened r jobs) where
   pub are_sent : (j : List CycleView) → IsRun r jobs carry restarts j → IsClear j → (k : ℕ) → k < length r.drives → AreSent (views_of r jobs carry restarts k j)
   are_sent [] run clear k below = tt
-  are_sent (t ∷ j) run clear k below = λ stays. (are_sent j run.0 clear.0 k below, λ opens. sends_in laws more turn r jobs carry restarts opened t j run clear k below opens)
+  are_sent (t ∷ j) run clear k below = λ stays. (λ goes_on. are_sent j run.0 clear.0 k below, λ opens. sends_in laws more turn r jobs carry restarts opened t j run clear k below opens)
 
   -- NO STEP GETS OLDER.
   pub ages_to_limit : ((busy : ℕ) → AgesBeforeEnd busy) → (j : List CycleView) → IsRun r jobs carry restarts j → IsClear j → (k : ℕ) → k < length r.drives → age_in (views_of r jobs carry restarts k j) ≤ 64
@@ -125,42 +120,3 @@ module _ (laws : Laws) (more : MoreLaws) (turn : WorkInTurn) (r : RingView) (job
           (age_in (views_of r jobs carry restarts k j))) ≤ 64
       by (Some x) is = omega arith
       by None is = aged is (is_some (open_in (begun_in (view_of r jobs carry restarts k t j) (views_of r jobs carry restarts k j)))) refl
-
-  -- a step that is open was begun in phase 2 or later, and the phase doesn't go down
-  late_if_open : (t : CycleView) (j : List CycleView) → IsRun r jobs carry restarts (t ∷ j) → IsClear (t ∷ j) → restarts (length j) 0 ≡ false → (k : ℕ) → k < length r.drives
-      → is_some (open_in (epoch_begun (views_of r jobs carry restarts k j))) ≡ true → 2 ≤ t.phase
-  late_if_open t [] run clear on k below opens = absurd (false≢true opens)
-  late_if_open t (u ∷ j) run clear on k below opens = by (fall_of (known_of r) (behind_mdt r jobs carry restarts u.sent j)) refl opens
-    where
-      by : (o : Option Fall) → fall_of (known_of r) (behind_mdt r jobs carry restarts u.sent j) ≡ o
-          → is_some (open_in (if is_some o then [] else begun_in (view_of r jobs carry restarts k u j) (views_of r jobs carry restarts k j))) ≡ true → 2 ≤ t.phase
-      by (Some x) is some = absurd (false≢true some)
-      by None is some =
-          let first : 2 ≤ u.phase = open_late (drive_at r k).busy (view_of r jobs carry restarts k u j) (views_of r jobs carry restarts k j) (all_stand laws more r jobs carry restarts opened (u ∷ j) run.0 clear.0 k below).sees.run some in
-          let least : u.phase ≤ t.phase = no_lower laws more turn r jobs carry restarts opened t u j run clear is on k below in
-          omega (arith, first, least)
-
-  -- THE OPEN STEP of a drive in phase 0 gets older with each cycle.
-  down_on : ((busy : ℕ) → StaysDead busy) → ((busy : ℕ) → AgesWhereDead busy) → (cycles before : List CycleView) → IsRun r jobs carry restarts (cycles ++ before) → IsClear (cycles ++ before)
-      → NoneFalls r jobs carry restarts cycles before → NoneRestarts restarts cycles before → (k : ℕ) → k < length r.drives → IsDown r jobs carry restarts k before
-      → is_some (open_in (epoch_begun (views_of r jobs carry restarts k before))) ≡ true
-      → (IsDown r jobs carry restarts k (cycles ++ before)) × (is_some (open_in (epoch_begun (views_of r jobs carry restarts k (cycles ++ before)))) ≡ true)
-      × (age_in (views_of r jobs carry restarts k (cycles ++ before)) ≡ length cycles + age_in (views_of r jobs carry restarts k before))
-  down_on dead ages [] before run clear stays on k below down opens = (down, opens, omega arith)
-  down_on dead ages (t ∷ cycles) before run clear stays on k below down opens =
-      let so = down_on dead ages cycles before run.0 clear.0 stays.0 on.0 k below down opens in
-      let late : 2 ≤ t.phase = late_if_open t (cycles ++ before) run clear on.1 k below so.1 in
-      let older = ages_down_in laws more turn r jobs carry restarts opened ages t (cycles ++ before) run clear k below so.0 late stays.1 on.1 so.1 in
-      let was = so.2 in
-      let is = older.0 in
-      ((stays_down_in laws more turn r jobs carry restarts opened dead t (cycles ++ before) run clear k below so.0 late).ended, older.1, omega (arith, was, is))
-
-  pub falls_at_limit : ((busy : ℕ) → StaysDead busy) → ((busy : ℕ) → AgesWhereDead busy) → ((busy : ℕ) → AgesBeforeEnd busy) → (cycles before : List CycleView) → IsRun r jobs carry restarts (cycles ++ before) → IsClear (cycles ++ before)
-      → NoneFalls r jobs carry restarts cycles before → NoneRestarts restarts cycles before → (k : ℕ) → k < length r.drives → IsDown r jobs carry restarts k before
-      → is_some (open_in (epoch_begun (views_of r jobs carry restarts k before))) ≡ true
-      → (length cycles + age_in (views_of r jobs carry restarts k before) ≤ 64) × (1 ≤ age_in (views_of r jobs carry restarts k before))
-  falls_at_limit dead ages counts cycles before run clear stays on k below down opens =
-      let so = down_on dead ages cycles before run clear stays on k below down opens in
-      let is = so.2 in
-      let most = ages_to_limit counts (cycles ++ before) run clear k below in
-      (omega (arith, is, most), open_age (views_of r jobs carry restarts k before) opens)

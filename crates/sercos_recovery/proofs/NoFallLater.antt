@@ -48,6 +48,20 @@ young_next v past most few some = elim (age_next (staying v) past refl) [ inl yo
 
 module _ (laws : Laws) (more : MoreLaws) (turn : WorkInTurn) (comes_up : (busy : ℕ) → ComesUp busy) (r : RingView) (jobs : List Job) (carry : Carry) (restarts : Restarts) (opened : IsOpened r jobs)
     (recovers : (busy : ℕ) → RecoversInCost busy) (timed : ComesTimed) (counts : (busy : ℕ) → AgesBeforeEnd busy) where
+  -- where a step isn't old before a cycle, it isn't at its limit at the cycle's end
+  pub few_open : (t : CycleView) (j : List CycleView) → IsRun r jobs carry restarts (t ∷ j) → IsClear (t ∷ j) → (k : ℕ) → k < length r.drives → age_in (views_of r jobs carry restarts k j) ≤ 62
+      → cycles_open ((behind_mdt r jobs carry restarts t.sent j).calls k) ≤ 63
+  few_open t j run clear k below young =
+      let most = young_next (view_of r jobs carry restarts k t j) (views_of r jobs carry restarts k j) 62 young (omega arith) in
+      subst (λ (c : List channel.Call). cycles_open c ≤ 63) (calls_now laws more r jobs carry restarts opened t j run clear k below)
+      (few_counted (age_of (calls_in (view_of r jobs carry restarts k t j) (channel_calls (views_of r jobs carry restarts k j))))
+      (is_some (open_in (begun_in (view_of r jobs carry restarts k t j) (views_of r jobs carry restarts k j))))
+      (age_in (staying (view_of r jobs carry restarts k t j) ∷ views_of r jobs carry restarts k j)) (omega (arith, most))
+      (counts (drive_at r k).busy (view_of r jobs carry restarts k t j) (views_of r jobs carry restarts k j)
+      (all_stand laws more r jobs carry restarts opened (t ∷ j) run clear k below).sees.run
+      (are_sent laws more turn r jobs carry restarts opened j run.0 clear.0 k below)
+      (λ opens. sends_in laws more turn r jobs carry restarts opened t j run clear k below opens)))
+
   pub no_fall_later : (t : CycleView) (cycles : List CycleView) (first : CycleView) (before : List CycleView) → IsRun r jobs carry restarts (t ∷ (cycles ++ first ∷ before)) → IsClear (t ∷ (cycles ++ first ∷ before))
       → IsStretch r jobs carry restarts cycles first before → IsUndisturbed r carry restarts t (cycles ++ first ∷ before) → 2 ≤ t.phase → ((k : ℕ) → k < length r.drives → (drive_at r k).busy + 2 ≤ length cycles)
       → ((k : ℕ) → k < length r.drives → IsDown r jobs carry restarts k (cycles ++ first ∷ before) → ⊥) → fall_of (known_of r) (behind_mdt r jobs carry restarts t.sent (cycles ++ first ∷ before)) ≡ None
@@ -78,13 +92,4 @@ module _ (laws : Laws) (more : MoreLaws) (turn : WorkInTurn) (comes_up : (busy :
       ]
 
       short : (k : ℕ) → k < length r.drives → cycles_open ((behind_mdt r jobs carry restarts t.sent (cycles ++ first ∷ before)).calls k) ≤ 63
-      short k below =
-          let most = young_next (view_of r jobs carry restarts k t (cycles ++ first ∷ before)) (views_of r jobs carry restarts k (cycles ++ first ∷ before)) 22 (young k below) (omega arith) in
-          subst (λ (c : List channel.Call). cycles_open c ≤ 63) (calls_now laws more r jobs carry restarts opened t (cycles ++ first ∷ before) run clear k below)
-          (few_counted (age_of (calls_in (view_of r jobs carry restarts k t (cycles ++ first ∷ before)) (channel_calls (views_of r jobs carry restarts k (cycles ++ first ∷ before)))))
-          (is_some (open_in (begun_in (view_of r jobs carry restarts k t (cycles ++ first ∷ before)) (views_of r jobs carry restarts k (cycles ++ first ∷ before)))))
-          (age_in (staying (view_of r jobs carry restarts k t (cycles ++ first ∷ before)) ∷ views_of r jobs carry restarts k (cycles ++ first ∷ before))) (omega (arith, most))
-          (counts (drive_at r k).busy (view_of r jobs carry restarts k t (cycles ++ first ∷ before)) (views_of r jobs carry restarts k (cycles ++ first ∷ before))
-          (all_stand laws more r jobs carry restarts opened (t ∷ (cycles ++ first ∷ before)) run clear k below).sees.run
-          (are_sent laws more turn r jobs carry restarts opened (cycles ++ first ∷ before) run.0 clear.0 k below)
-          (λ opens. sends_in laws more turn r jobs carry restarts opened t (cycles ++ first ∷ before) run clear k below opens)))
+      short k below = few_open t (cycles ++ first ∷ before) run clear k below (let few = young k below in omega (arith, few))

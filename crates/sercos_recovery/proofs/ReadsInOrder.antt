@@ -1,26 +1,25 @@
 -- Up to phase 2, where something of a drive has begun, each drive before it in the ring has been read.
-use Rattle.std.proofs.Common.{◌≡◌, inl, inr, ℕ, zero, suc, ◌+◌, ◌<◌, ◌≤◌, Bool, true, false, not, ◌&&◌, List, [], ◌∷◌, length, Option, Some, None, refl, sym, ap, ◌∙◌, subst, arith, if◌then◌else◌}
+use Rattle.std.proofs.Common.{◌≡◌, inl, inr, ℕ, ◌+◌, ◌<◌, ◌≤◌, Bool, true, false, not, ◌&&◌, List, [], ◌∷◌, length, Option, Some, None, refl, sym, ap, ◌∙◌, subst, arith, if◌then◌else◌}
 use Rattle.std.specs.Prelude.{◌==◌, nat_le, is_none, is_some}
 use Rattle.std.specs.Option.{option_or}
 use Rattle.std.proofs.lemmas.Bool.{and_parts, cases_eq, cases_lt, or_cases, leb-true, le-leb}
-use Rattle.sercos_telegram.specs.declared.words.Status.{Status}
 use Rattle.sercos_step.specs.declared.request.Outcome.{Outcome}
-use Rattle.sercos_service_master.specs.Begun.{Begun, answers_it, answer_in, with_answer}
+use Rattle.sercos_service_master.specs.Begun.{Begun}
 use Rattle.sercos_service_master.specs.Calls.{begun_by}
 use Rattle.sercos_service_master.specs.Calls as channel
 use Rattle.sercos_seat.specs.Agenda.{reads_count, is_checked, is_read}
 use Rattle.sercos_seat.specs.Channel.{is_place, of_phase, outcomes_in, with_outcome}
 use Rattle.sercos_seat.specs.Ring.{Known, MemberView, Task, member}
-use Rattle.sercos_master.specs.Annals.{Call, HearMst, HearAt, Mdt, End, Restart, Past, outcomes, first_from, first_place, is_idle, after_taken, settled, in_turn, has_turn, next_task, begins, fall_of, is_done, goes_on, new_epoch, still_waiting, past}
+use Rattle.sercos_master.specs.Annals.{Call, HearMst, HearAt, Mdt, End, Restart, Past, outcomes, first_place, is_idle, after_taken, settled, in_turn, has_turn, next_task, begins, fall_of, is_done, goes_on, new_epoch, still_waiting, past}
 use Rattle.sercos_master.proofs.Configured.{each_passes, leaves, mdt_adds}
 use Rattle.sercos_master.proofs.Planned.{at_adds}
 use Rattle.sercos_handshake.specs.Epochs.{with_begun}
-use Rattle.sercos_handshake.specs.Moves.{with_status}
 use Rattle.sercos_agenda.proofs.OneTurn.{AtHears, SameAt, HeardAt, elsewhere_same, here_hears}
 use Rattle.sercos_views.specs.RingViews.{request_of}
 use Rattle.sercos_views.proofs.MasterSame.{begun_so, turn_mdt}
 use Rattle.sercos_undisturbed.proofs.AfterAt.{after_at_so}
 use Rattle.sercos_undisturbed.proofs.EpochCycles.{longer}
+use Rattle.sercos_undisturbed.proofs.InOrder.{before_first, not_false, same_count}
 use Rattle.sercos_undisturbed.proofs.Small.{some_is}
 use Rattle.sercos_undisturbed.proofs.StaysUp.{place_so}
 
@@ -29,31 +28,6 @@ read_stays : (m : MemberView) (outs : List Outcome) (o : Option Outcome) → is_
 read_stays m outs o read =
     let had = leb-true (reads_count m) (length outs) read in
     let more = longer o outs in le-leb (reads_count m) (length (with_outcome o outs)) (omega (arith, had, more))
-
--- an answer leaves the number of requests
-same_count : (status : Status) (word : ℕ) (begun : List Begun) → length (with_status status word begun) ≡ length begun
-same_count status word begun = by (answers_it begun status) begun
-  where
-    by : (v : Bool) (l : List Begun) → length (if v then with_answer (answer_in status word) l else l) ≡ length l
-    by true [] = refl
-    by true (b ∷ l) = refl
-    by false l = refl
-
--- those before the first place that passes a test fail it
-before_first : (k n : ℕ) (test : ℕ → Bool) (i : ℕ) → first_from k n test ≡ Some i → (j : ℕ) → k ≤ j → j < i → test j ≡ false
-before_first k zero test i found j from low = absurd (cc)
-before_first k (suc n) test i found j from low = by (test k) refl found (λ rest more. before_first (k + 1) n test i rest j more low)
-  where
-    by : (b : Bool) → test k ≡ b → (if b then Some k else first_from (k + 1) n test) ≡ Some i → (first_from (k + 1) n test ≡ Some i → k + 1 ≤ j → test j ≡ false) → test j ≡ false
-    by true here is next = let same = some_is k i is in absurd (omega (arith, same, from, low))
-    by false here is next = elim (cases_eq j k) [
-      | inl same ↦ ap test same ∙ here
-      | inr other ↦ next is (omega (arith, from, other))
-    ]
-
-not_false : (b : Bool) → not b ≡ false → b ≡ true
-not_false true e = refl
-not_false false e = sym e
 
 -- a drive that has its turn comes after drives that have been read
 turn_reads : (s : Known) (p : Past) (k : ℕ) → k < length s.drives → in_turn s p ≡ Some k → (j : ℕ) → j < k → is_read (member s j) (outcomes p j) ≡ true

@@ -18,7 +18,6 @@ use Rattle.sercos_handshake.specs.WholeRun.{AreSound}
 use Rattle.sercos_handshake.proofs.PhaseMoves.{ends}
 use Rattle.sercos_handshake.proofs.RunFacts.{stands_as_commanded}
 use Rattle.sercos_pace.specs.Ages.{age_in, AgesWhereDead}
-use Rattle.sercos_pace.specs.ChannelCalls.{staying}
 use Rattle.sercos_pace.specs.Costs.{AreListed, AreTimed, ComesTimed, cost_in, cost_of}
 use Rattle.sercos_pace.specs.Passages.{AreWhole, IsCleanOrDown, IsDead, IsUp, IsWhole, StaysDead}
 use Rattle.sercos_pace.specs.StartCosts.{RecoversInCost, RecoversSince}
@@ -34,26 +33,12 @@ use Rattle.sercos_undisturbed.specs.Undisturbed.{AreUndisturbed, IsUndisturbed}
 use Rattle.sercos_undisturbed.specs.ViewsSince.{views_since}
 use Rattle.sercos_undisturbed.proofs.Carried.{are_carried}
 use Rattle.sercos_undisturbed.proofs.CommandRuns.{first_commands}
-use Rattle.sercos_undisturbed.proofs.NeverFalls.{runs_split}
+use Rattle.sercos_undisturbed.proofs.NeverFalls.{runs_split, whole_then}
 use Rattle.sercos_undisturbed.proofs.PassedCycles.{views_split}
 use Rattle.sercos_undisturbed.proofs.PassedRuns.{commands_so}
 use Rattle.sercos_undisturbed.proofs.WholeIn.{whole_in}
 use Rattle.sercos_recovery.specs.Stretches.{IsDown, IsStretch, IsUpNow}
 use Rattle.sercos_recovery.specs.UpOrDown.{KeepsUp}
-
--- a cycle that is whole up to its end, and at whose end the ring stays up, is whole
-whole_then : (v : View) (past : List View) → IsWhole (staying v) past → v.falls ≡ false → IsWhole v past
-whole_then v past w none = record {
-  mst = w.mst;
-  drive = w.drive;
-  master = w.master;
-  stays = none;
-  sends = w.sends;
-  joint = w.joint;
-  mdt = w.mdt;
-  hears = w.hears;
-  listens = w.listens;
-}
 
 -- a drive that isn't in phase 0 at the end of a whole cycle is in the commanded phase
 pub up_in : (v : View) (past : List View) → IsWhole v past → ((standing (v ∷ past)).ended ≡ 0 → ⊥) → IsUp v past

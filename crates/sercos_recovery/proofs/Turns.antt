@@ -1,19 +1,16 @@
 -- In phase 2 a step is open to the drive whose turn it is, and to no other.
-use Rattle.std.proofs.Common.{◌≡◌, ℕ, ◌+◌, ◌<◌, ◌≤◌, true, false, List, ◌∷◌, ◌++◌, length, Some, None, sym, ap, ◌∙◌, subst, arith}
+use Rattle.std.proofs.Common.{◌≡◌, ℕ, ◌<◌, true, false, List, ◌∷◌, length, Some, sym, ap, ◌∙◌, arith}
 use Rattle.std.specs.Prelude.{is_none, is_some}
 use Rattle.sercos_step.specs.declared.request.Job.{Job}
 use Rattle.sercos_block.specs.Views.{RingView}
 use Rattle.sercos_service_master.specs.Begun.{Begun, open_in}
 use Rattle.sercos_trace.specs.Views.{CycleView}
 use Rattle.sercos_seat.specs.Ring.{known_of, member, tasks_for}
-use Rattle.sercos_master.specs.Annals.{fall_of, in_turn, is_idle}
+use Rattle.sercos_master.specs.Annals.{in_turn, is_idle}
 use Rattle.sercos_master.proofs.Laws.{tasks_wait}
 use Rattle.sercos_master.proofs.Rings.{none_of_some}
 use Rattle.sercos_script.specs.Links.{Carry, Restarts}
 use Rattle.sercos_handshake.specs.Epochs.{begun_in}
-use Rattle.sercos_pace.specs.Ages.{age_in, AgesWhereDead}
-use Rattle.sercos_pace.specs.ChannelCalls.{AgesBeforeEnd}
-use Rattle.sercos_pace.specs.Passages.{StaysDead}
 use Rattle.sercos_journal.specs.Records.{ats_in, mst_in}
 use Rattle.sercos_journal.specs.Runs.{at_calls, begin_calls, master_calls, middle, own_mst, IsClear, IsRun}
 use Rattle.sercos_agenda.specs.Turns.{WorkInTurn, WorksInTwo}
@@ -23,15 +20,8 @@ use Rattle.sercos_held.specs.Opened.{IsOpened}
 use Rattle.sercos_held.proofs.Runs.{Laws, s_known}
 use Rattle.sercos_headline.proofs.HeadlineRuns.{MoreLaws, first_store, keeps_all}
 use Rattle.sercos_undisturbed.specs.Sections.{GoesOnInTwo}
-use Rattle.sercos_undisturbed.specs.StartUps.{NoneFalls}
-use Rattle.sercos_undisturbed.proofs.JobsBegun.{begun_end}
 use Rattle.sercos_undisturbed.proofs.Sections.{some_open}
-use Rattle.sercos_undisturbed.proofs.Small.{some_is}
-use Rattle.sercos_recovery.specs.Limits.{NoneRestarts}
-use Rattle.sercos_recovery.specs.Stretches.{IsDown}
 use Rattle.sercos_recovery.proofs.LateDown.{phase_now}
-use Rattle.sercos_recovery.proofs.Limits.{falls_at_limit}
-use Rattle.sercos_recovery.proofs.Stretches.{rest_clear, rest_runs, stays_down_in}
 
 module _ (laws : Laws) (more : MoreLaws) (turn : WorkInTurn) (r : RingView) (jobs : List Job) (carry : Carry) (restarts : Restarts) (opened : IsOpened r jobs) where
   -- what is open is the turn's
@@ -56,36 +46,3 @@ module _ (laws : Laws) (more : MoreLaws) (turn : WorkInTurn) (r : RingView) (job
 
       is_open : is_some (open_in (begun_in (view_of r jobs carry restarts at_work.0 t j) (views_of r jobs carry restarts at_work.0 j))) ≡ true
       is_open = some_open _ (ap (λ (l : List Begun). is_none (open_in l)) ((keeps_all laws more r jobs carry restarts opened t j run clear).exact at_work.0 low).begun_now ∙ at_work.2)
-
-  -- THE TURN OF A DRIVE IN PHASE 0 ends with a fall.
-  pub falls_in_turn : WorksInTwo → ((busy : ℕ) → StaysDead busy) → ((busy : ℕ) → AgesWhereDead busy) → ((busy : ℕ) → AgesBeforeEnd busy) → (cycles : List CycleView) (t : CycleView) (j : List CycleView)
-      → IsRun r jobs carry restarts (cycles ++ t ∷ j) → IsClear (cycles ++ t ∷ j) → fall_of (known_of r) (behind_mdt r jobs carry restarts t.sent j) ≡ None → NoneFalls r jobs carry restarts cycles (t ∷ j)
-      → NoneRestarts restarts cycles (t ∷ j) → GoesOnInTwo r (behind_mdt r jobs carry restarts t.sent j) → (k : ℕ) → in_turn (known_of r) (behind_mdt r jobs carry restarts t.sent j) ≡ Some k → IsDown r jobs carry restarts k j
-      → length cycles ≤ 63
-  falls_in_turn two dead ages counts cycles t j run clear none stays on goes k its down = let most = within.0 in let least = within.1 in omega (arith, most, least)
-    where
-      old_run : IsRun r jobs carry restarts (t ∷ j)
-      old_run = rest_runs r jobs carry restarts cycles (t ∷ j) run
-
-      old_clear : IsClear (t ∷ j)
-      old_clear = rest_clear cycles (t ∷ j) clear
-
-      works : (i : ℕ) × (i < length r.drives) × (in_turn (known_of r) (behind_mdt r jobs carry restarts t.sent j) ≡ Some i) × (is_some (open_in (begun_in (view_of r jobs carry restarts i t j) (views_of r jobs carry restarts i j))) ≡ true)
-      works = works_in_turn two t j old_run old_clear goes
-
-      same : works.0 ≡ k
-      same = some_is works.0 k (sym works.2 ∙ its)
-
-      low : k < length r.drives
-      low = subst (λ (i : ℕ). i < length r.drives) same works.1
-
-      opens : is_some (open_in (begun_in (view_of r jobs carry restarts k t j) (views_of r jobs carry restarts k j))) ≡ true
-      opens = subst (λ (i : ℕ). is_some (open_in (begun_in (view_of r jobs carry restarts i t j) (views_of r jobs carry restarts i j))) ≡ true) same works.3
-
-      late : 2 ≤ t.phase
-      late = let now = phase_now r jobs carry restarts t j old_run.1 in let is = goes.phase in omega (arith, now, is)
-
-      within : (length cycles + age_in (views_of r jobs carry restarts k (t ∷ j)) ≤ 64) × (1 ≤ age_in (views_of r jobs carry restarts k (t ∷ j)))
-      within = falls_at_limit laws more turn r jobs carry restarts opened dead ages counts cycles (t ∷ j) run clear stays on k low
-          (stays_down_in laws more turn r jobs carry restarts opened dead t j old_run old_clear k low down late).ended
-          (ap (λ (l : List Begun). is_some (open_in l)) (begun_end laws more r jobs carry restarts opened t j old_run old_clear none k) ∙ opens)

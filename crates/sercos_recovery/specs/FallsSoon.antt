@@ -7,7 +7,7 @@ use Rattle.sercos_trace.specs.Views.{CycleView}
 use Rattle.sercos_script.specs.Links.{Carry, Restarts}
 use Rattle.sercos_journal.specs.Runs.{IsClear, IsRun}
 use Rattle.sercos_held.specs.Opened.{IsOpened}
-use Rattle.sercos_undisturbed.specs.EpochStarts.{StartsEpoch}
+use Rattle.sercos_undisturbed.specs.EpochStarts.{Falls}
 use Rattle.sercos_undisturbed.specs.Undisturbed.{IsUndisturbed}
 use Rattle.sercos_recovery.specs.Stretches.{IsDown, IsStretch}
 
@@ -16,4 +16,4 @@ use Rattle.sercos_recovery.specs.Stretches.{IsDown, IsStretch}
 abbrev pub FallsSoon : Type 0
 FallsSoon = (r : RingView) (jobs : List Job) (carry : Carry) (restarts : Restarts) (t : CycleView) (cycles : List CycleView) (first : CycleView) (before : List CycleView) → IsOpened r jobs →
     IsRun r jobs carry restarts (t ∷ (cycles ++ first ∷ before)) → IsClear (t ∷ (cycles ++ first ∷ before)) → IsStretch r jobs carry restarts cycles first before → IsUndisturbed r carry restarts t (cycles ++ first ∷ before) → 2 ≤ t.phase →
-    ((k : ℕ) → k < length r.drives → IsDown r jobs carry restarts k (cycles ++ first ∷ before) → ⊥) → StartsEpoch r jobs carry restarts (t ∷ (cycles ++ first ∷ before)) → length cycles ≤ slowest r.drives + 1
+    ((k : ℕ) → k < length r.drives → IsDown r jobs carry restarts k (cycles ++ first ∷ before) → ⊥) → Falls r jobs carry restarts t (cycles ++ first ∷ before) → length cycles ≤ slowest r.drives + 1

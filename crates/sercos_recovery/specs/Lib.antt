@@ -1,14 +1,7 @@
-pub mod AfterFalls
 pub mod Stretches
 pub mod UpOrDown
-pub mod CostsAgain
-pub mod LateDown
-pub mod Limits
-pub mod Turns
-pub mod BeforeFall
-pub mod UpInTwo
-pub mod UpInThree
-pub mod AgesLater
-pub mod NoFallLater
+pub mod FallsInTime
 pub mod FallsSoon
 pub mod ComesBack
+pub mod AfterFalls
+pub mod Recovers

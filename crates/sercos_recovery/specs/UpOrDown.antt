@@ -14,6 +14,7 @@ use Rattle.sercos_pace.specs.Stretches.{AreClean}
 use Rattle.sercos_journal.specs.Runs.{IsClear, IsRun}
 use Rattle.sercos_views.specs.RingViews.{behind_mdt, view_of, views_of}
 use Rattle.sercos_held.specs.Opened.{IsOpened}
+use Rattle.sercos_undisturbed.specs.EpochStarts.{Falls}
 use Rattle.sercos_undisturbed.specs.ViewsSince.{views_since}
 use Rattle.sercos_recovery.specs.Stretches.{IsDown, IsStretch, IsUpNow}
 
@@ -42,3 +43,15 @@ AgesDown = (r : RingView) (jobs : List Job) (carry : Carry) (restarts : Restarts
     IsDown r jobs carry restarts k j → 2 ≤ t.phase → fall_of (known_of r) (behind_mdt r jobs carry restarts t.sent j) ≡ None → restarts (length j) 0 ≡ false →
     is_some (open_in (epoch_begun (views_of r jobs carry restarts k j))) ≡ true →
     (age_in (views_of r jobs carry restarts k (t ∷ j)) ≡ age_in (views_of r jobs carry restarts k j) + 1) × (is_some (open_in (epoch_begun (views_of r jobs carry restarts k (t ∷ j)))) ≡ true)
+
+-- In every run in which nothing was unseen no step is open at the ends of more than 64 cycles: then the ring falls.
+abbrev pub AgesToLimit : Type 0
+AgesToLimit = (r : RingView) (jobs : List Job) (carry : Carry) (restarts : Restarts) (j : List CycleView) → IsOpened r jobs → IsRun r jobs carry restarts j → IsClear j → (k : ℕ) → k < length r.drives →
+    age_in (views_of r jobs carry restarts k j) ≤ 64
+
+-- A drive that is in phase 0 before a cycle of phase 3 or 4 makes the ring fall at the end of the next one at the latest, if the master
+-- doesn't restart: the master doesn't hear it in either.
+abbrev pub FallsIfDown : Type 0
+FallsIfDown = (r : RingView) (jobs : List Job) (carry : Carry) (restarts : Restarts) (t u : CycleView) (j : List CycleView) → IsOpened r jobs → IsRun r jobs carry restarts (t ∷ u ∷ j) → IsClear (t ∷ u ∷ j) →
+    fall_of (known_of r) (behind_mdt r jobs carry restarts u.sent j) ≡ None → restarts (length (u ∷ j)) 0 ≡ false → 3 ≤ u.phase → (k : ℕ) → k < length r.drives → IsDown r jobs carry restarts k j →
+    Falls r jobs carry restarts t (u ∷ j)

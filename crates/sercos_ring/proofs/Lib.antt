@@ -7,3 +7,4 @@ mod RunLemmas
 mod EventLemmas
 mod ListLemmas
 mod OpenLemmas
+mod LentRecords

@@ -13,6 +13,7 @@ use Rattle.sercos_journal.specs.Runs.{drive_at, master_calls, given_before, IsNe
 use Rattle.sercos_held.specs.Opened.{IsOpened}
 use Rattle.sercos_headline.specs.Headline.{KeepsAll}
 use Rattle.sercos_undisturbed.specs.WholeRuns.{NeverDisturbed, StartsUp}
+use Rattle.sercos_recovery.specs.Recovers.{RecoversIn}
 use Rattle.sercos_ring.specs.Stations.{AllStand, addresses_below}
 use Rattle.sercos_ring.specs.Parts.{PartsStandFor}
 use Rattle.sercos_ring.specs.declared.ring.Ring.{Ring}
@@ -25,7 +26,7 @@ abbrev pub cycles_made : {L : Type 0} → Ring L → ℕ
 cycles_made ring = ring.cycle
 
 abbrev pub newest : {L : Type 0} → Ring L → CycleView
-newest ring = ring.record.value
+newest ring = ring.made.value
 
 -- the record is that of the newest cycle, if there is one
 abbrev pub IsNewest : CycleView → List CycleView → Type 0
@@ -87,3 +88,9 @@ pub record KeepsAllOf {L : Type 0} (carry_of : L → Carry) (restart_of : L → 
 pub record StartsUpOf {L : Type 0} (carry_of : L → Carry) (restart_of : L → Restarts) (ring : Ring L) (made : CycleView) : Type 0 where
   pub starts : (r : RingView) (jobs : List Job) (carry : Carry) (restarts : Restarts) (j : List CycleView)
       → RingStandsFor carry_of restart_of ring r jobs carry restarts j → IsOpened r jobs → NeverDisturbed r carry restarts (made ∷ j) → StartsUp r jobs carry restarts made j
+
+-- And what holds of it whatever was lost or damaged, and whichever stations restarted, if nothing was unseen so far: once no cycle is
+-- disturbed any more, the ring is back in time.
+pub record RecoversOf {L : Type 0} (carry_of : L → Carry) (restart_of : L → Restarts) (ring : Ring L) (made : CycleView) : Type 0 where
+  pub recovers : (r : RingView) (jobs : List Job) (carry : Carry) (restarts : Restarts) (j : List CycleView)
+      → RingStandsFor carry_of restart_of ring r jobs carry restarts j → IsOpened r jobs → IsClear (made ∷ j) → RecoversIn r jobs carry restarts made j

@@ -30,6 +30,7 @@ use sercos_block::RingSetup;
 use sercos_drive::Drive;
 use sercos_headline::headline_law;
 use sercos_master::AnyMaster;
+use sercos_recovery::recovery_law;
 use sercos_script::BitLink;
 use sercos_step::Job;
 use sercos_trace::{CycleRecord, Events, Move, Sent};
@@ -46,7 +47,7 @@ pub struct Ring<L: BitLink> {
     master: Option<AnyMaster>,
     rate: u8,
     cycle: u32,
-    record: Box<CycleRecord>,
+    made: Box<CycleRecord>,
     desk: Box<Desk>,
 }
 
@@ -212,7 +213,7 @@ impl<L: BitLink> Ring<L> {
     ghost use Rattle.std.specs.Borrow.{follows_so};
     ghost use mathlib.Core.Option.{none};
     ghost use Rattle.sercos_ring.specs.contracts.ring.Ring.{the_row};
-    ghost use Rattle.sercos_ring.specs.Kept.{AfterCycle, AfterTurn, IsNextOf, KeepsAllOf, RingStandsFor, StartsUpOf, cycles_made, drives_in, newest};
+    ghost use Rattle.sercos_ring.specs.Kept.{AfterCycle, AfterTurn, IsNextOf, KeepsAllOf, RecoversOf, RingStandsFor, StartsUpOf, cycles_made, drives_in, newest};
 
     /// Opens a ring of a valid setup that has made no cycle, over a link, with at most 4,096 requests, each of an element that a
     /// transfer takes. A request to an address that no drive of the setup has is never begun. `AllocError` is returned if memory
@@ -232,7 +233,7 @@ impl<L: BitLink> Ring<L> {
     {
         let drives = open_drives(alloc, setup)?;
         let master = AnyMaster::open(alloc, setup, jobs)?;
-        let record = Box::new(alloc, CycleRecord::new())?;
+        let made = Box::new(alloc, CycleRecord::new())?;
         let desk = Box::new(alloc, Desk::new())?;
         Ok(Ring {
             link,
@@ -241,7 +242,7 @@ impl<L: BitLink> Ring<L> {
             master: Some(master),
             rate: setup.rate,
             cycle: 0,
-            record,
+            made,
             desk,
         })
     }
@@ -262,7 +263,7 @@ impl<L: BitLink> Ring<L> {
             return master;
         }
         let master = fill(
-            &mut self.record,
+            &mut self.made,
             &mut self.link,
             &mut self.drives,
             master,
@@ -298,17 +299,24 @@ impl<L: BitLink> Ring<L> {
     /// As long as no cycle was disturbed: no fall is told, and no request as broken. Phase 4 is commanded from the cycle on that
     /// `startup_bound` says, and stays, exactly if a plan fits, the cycle time lies within each drive's limits, and no own block of a
     /// drive was outside its limits at opening. Otherwise a stop for its cause is told at most 41 steps of the slowest drive later.
+    ///
+    /// Whatever was lost or damaged before, as long as nothing was unseen: after a fall, a restart of the master among them, after
+    /// which no cycle is disturbed, the ring starts up again as it does from its opening. From the cycle on that comes `recovery_bound`
+    /// cycles after the last disturbed one, twice the bound of a start-up and 200, phase 4 is commanded, or the master stands at a
+    /// stop for its cause.
     pub fn cycle(&mut self) -> &CycleRecord
         requires room { cycles_made self.old < 2 ^ 31 }
         ensures* after { sem 𝓛 (follows_so (the_row L.row) (the_row L.row) self.entry.ghost_name none (λ _ _. ⊤) (λ new. AfterCycle L.carry L.restart self.old new × (result.now ≡ newest new))) }
         ensures next { IsNextOf L.carry L.restart self.old result.now }
         ensures headline { KeepsAllOf L.carry L.restart self.old result.now }
         ensures undisturbed { StartsUpOf L.carry L.restart self.old result.now }
+        ensures recovers { RecoversOf L.carry L.restart self.old result.now }
     {
         headline_law();
         undisturbed_law();
+        recovery_law();
         self.go();
-        &self.record
+        &self.made
     }
 
     /// Returns the drive at a place of the ring, which is below the number of its drives; the first has place 0.

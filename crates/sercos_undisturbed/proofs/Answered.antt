@@ -24,7 +24,8 @@ use Rattle.sercos_handshake.specs.Epochs.{epoch_begun}
 use Rattle.sercos_handshake.specs.RunLaws.{ComesUp}
 use Rattle.sercos_handshake.specs.WholeRun.{AreSound}
 use Rattle.sercos_pace.specs.Stretches.{AreClean, open_since}
-use Rattle.sercos_pace.specs.Passages.{BeginsEpoch, StaysClean}
+use Rattle.sercos_pace.proofs.AgeRuns.{nothing_old}
+use Rattle.sercos_pace.specs.Passages.{StaysClean}
 use Rattle.sercos_pace.specs.Ages.{age_in, AgesInTime, AnswersAtAge}
 use Rattle.sercos_pace.specs.ChannelCalls.{NoneLate}
 use Rattle.sercos_pace.specs.Costs.{AreListed, AreTimed, ComesTimed, cost_of, cost_in}
@@ -50,11 +51,6 @@ use Rattle.sercos_undisturbed.proofs.PassedCycles.{views_split}
 use Rattle.sercos_undisturbed.proofs.NeverFalls.{begins_so, runs_split, never_falls}
 use Rattle.sercos_undisturbed.proofs.Comes.{none_below}
 use Rattle.sercos_undisturbed.proofs.Small.{both_off}
-
--- in an epoch that has just begun no step is open
-age_at_start : (past : List View) → BeginsEpoch past → age_in past ≡ 0
-age_at_start [] begins = refl
-age_at_start (v ∷ past) begins = rw begins refl
 
 young_so : (age same first most : ℕ) → age ≡ same → same ≤ first + most → first ≡ 0 → age ≤ most
 young_so age same first most is young none = omega (arith, is, young, none)
@@ -93,14 +89,17 @@ module _ (laws : Laws) (more : MoreLaws) (turn : WorkInTurn) (comes_up : (busy :
       → AreUndisturbed r carry restarts cycles before → (k : ℕ) → k < length r.drives → AreClean (views_since r jobs carry restarts k cycles before) (views_of r jobs carry restarts k before)
   clean_so clean cycles before run clear starts calm k below =
       let all = never_falls laws more turn comes_up late r jobs carry restarts opened cycles before run clear starts calm in
-      clean (drive_at r k).busy (views_since r jobs carry restarts k cycles before) (views_of r jobs carry restarts k before) (runs_split laws more r jobs carry restarts opened cycles before run clear k below) (begins_so r jobs carry restarts k before starts)
+      clean (drive_at r k).busy (views_since r jobs carry restarts k cycles before) (views_of r jobs carry restarts k before) (runs_split laws more r jobs carry restarts opened cycles before run clear k below) (begins_so laws more r jobs carry restarts opened cycles before run clear starts k below).1
       (all.whole k below) (all.passed k below)
 
   pub ages_undisturbed : ((busy : ℕ) → StaysClean busy) → ((busy : ℕ) → AgesInTime busy) → (cycles before : List CycleView) → IsRun r jobs carry restarts (cycles ++ before) → IsClear (cycles ++ before)
       → StartsEpoch r jobs carry restarts before → AreUndisturbed r carry restarts cycles before → (k : ℕ) → k < length r.drives → age_in (views_of r jobs carry restarts k (cycles ++ before)) ≤ (drive_at r k).busy + 1
-  ages_undisturbed clean ages [] before run clear starts calm k below = let none = age_at_start (views_of r jobs carry restarts k before) (begins_so r jobs carry restarts k before starts) in omega (arith, none)
+  ages_undisturbed clean ages [] before run clear starts calm k below =
+      let begins = begins_so laws more r jobs carry restarts opened [] before run clear starts k below in
+      let none = nothing_old (drive_at r k).busy (views_of r jobs carry restarts k before) begins.0 begins.1 in omega (arith, none)
   ages_undisturbed clean ages (t ∷ cycles) before run clear starts calm k below =
-      let none = age_at_start (views_of r jobs carry restarts k before) (begins_so r jobs carry restarts k before starts) in
+      let begins = begins_so laws more r jobs carry restarts opened (t ∷ cycles) before run clear starts k below in
+      let none = nothing_old (drive_at r k).busy (views_of r jobs carry restarts k before) begins.0 begins.1 in
       let young = ages (drive_at r k).busy (view_of r jobs carry restarts k t (cycles ++ before)) (views_since r jobs carry restarts k cycles before) (views_of r jobs carry restarts k before)
       (runs_split laws more r jobs carry restarts opened (t ∷ cycles) before run clear k below) (clean_so clean (t ∷ cycles) before run clear starts calm k below) in
       young_so _ _ _ _ (ap (λ (l : List View). age_in l) (views_split r jobs carry restarts k (t ∷ cycles) before)) young none
@@ -114,7 +113,7 @@ module _ (laws : Laws) (more : MoreLaws) (turn : WorkInTurn) (comes_up : (busy :
       let all = never_falls laws more turn comes_up late r jobs carry restarts opened (t ∷ cycles) before run clear starts calm in
       ap (λ (l : List View). age_in l) split
       ∙ answers (drive_at r k).busy (view_of r jobs carry restarts k t (cycles ++ before)) a (views_since r jobs carry restarts k cycles before) (views_of r jobs carry restarts k before)
-      (runs_split laws more r jobs carry restarts opened (t ∷ cycles) before run clear k below) (begins_so r jobs carry restarts k before starts) (clean_so clean cycles before run.0 clear.0 starts calm.0 k below) (all.whole k below).1.master hears
+      (runs_split laws more r jobs carry restarts opened (t ∷ cycles) before run clear k below) (begins_so laws more r jobs carry restarts opened (t ∷ cycles) before run clear starts k below).1 (clean_so clean cycles before run.0 clear.0 starts calm.0 k below) (all.whole k below).1.master hears
       (subst (λ (l : List View). answers_it (epoch_begun l) a.status ≡ true) split fits)
 
   -- No record has a fall, or an outcome of a broken request.
@@ -162,4 +161,4 @@ module _ (laws : Laws) (more : MoreLaws) (turn : WorkInTurn) (comes_up : (busy :
       (starts_in (drive_at r k).busy (drive_at r k).command longest (store_of (drive_at r k)) (views_since r jobs carry restarts k cycles before) (views_of r jobs carry restarts k before)
       (small laws r jobs carry restarts opened (first_store laws more r jobs carry restarts opened) k below) (runs_split laws more r jobs carry restarts opened cycles before run clear k below)
       (subst (λ (l : List View). AreSound (store_of (drive_at r k)) l) split stands.sound) (subst (λ (l : List View). AreTimed (drive_at r k).command l) split in_time)
-      (subst (λ (l : List View). AreListed longest l) split listed) (begins_so r jobs carry restarts k before starts) (all.whole k below) (all.passed k below)).0
+      (subst (λ (l : List View). AreListed longest l) split listed) (begins_so laws more r jobs carry restarts opened cycles before run clear starts k below).1 (all.whole k below) (all.passed k below)).0

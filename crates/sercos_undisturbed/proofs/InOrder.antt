@@ -34,7 +34,7 @@ checked_stays m outs None well = well
 checked_stays m outs (Some o) well = let there = ended_there outs (reads_count m + 11) well in ap ended_well (before_end outs o (reads_count m + 11) (λ e. omega (arith, e, there))) ∙ well
 
 -- an answer leaves the number of requests
-same_count : (status : Status) (word : ℕ) (begun : List Begun) → length (with_status status word begun) ≡ length begun
+pub same_count : (status : Status) (word : ℕ) (begun : List Begun) → length (with_status status word begun) ≡ length begun
 same_count status word begun = by (answers_it begun status) begun
   where
     by : (v : Bool) (l : List Begun) → length (if v then with_answer (answer_in status word) l else l) ≡ length l
@@ -43,7 +43,7 @@ same_count status word begun = by (answers_it begun status) begun
     by false l = refl
 
 -- THE FIRST PLACE: those before it fail the test.
-before_first : (k n : ℕ) (test : ℕ → Bool) (i : ℕ) → first_from k n test ≡ Some i → (j : ℕ) → k ≤ j → j < i → test j ≡ false
+pub before_first : (k n : ℕ) (test : ℕ → Bool) (i : ℕ) → first_from k n test ≡ Some i → (j : ℕ) → k ≤ j → j < i → test j ≡ false
 before_first k zero test i found j from low = absurd (cc)
 before_first k (suc n) test i found j from low = by (test k) refl found (λ rest more. before_first (k + 1) n test i rest j more low)
   where
@@ -54,7 +54,7 @@ before_first k (suc n) test i found j from low = by (test k) refl found (λ rest
       | inr other ↦ next is (omega (arith, from, other))
     ]
 
-not_false : (b : Bool) → not b ≡ false → b ≡ true
+pub not_false : (b : Bool) → not b ≡ false → b ≡ true
 not_false true e = refl
 not_false false e = sym e
 

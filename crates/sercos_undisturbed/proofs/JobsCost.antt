@@ -43,19 +43,19 @@ module _ (cost : Request → ℕ) where
   rest_at (x ∷ all) zero r got = let same : x ≡ r = cc in sum_by-cons cost x all ∙ ap (λ (y : Request). cost y + sum_by cost all) same
   rest_at (x ∷ all) (suc n) r got = rest_at all n r got
 
-  part_cost : (all : List Request) (recent old : List Begun) → AreAt all (recent ++ old) → cost_in cost recent + sum_by cost (drop (length (recent ++ old)) all) ≡ sum_by cost (drop (length old) all)
+  pub part_cost : (all : List Request) (recent old : List Begun) → AreAt all (recent ++ old) → cost_in cost recent + sum_by cost (drop (length (recent ++ old)) all) ≡ sum_by cost (drop (length old) all)
   part_cost all [] old are = omega arith
   part_cost all (b ∷ recent) old (before, here) =
       let more = part_cost all recent old before in
       let next = rest_at all (length (recent ++ old)) b.request here in omega (arith, more, next)
 
-  whole_cost : (all : List Request) (begun : List Begun) → AreAt all begun → cost_in cost begun + sum_by cost (drop (length begun) all) ≡ sum_by cost all
+  pub whole_cost : (all : List Request) (begun : List Begun) → AreAt all begun → cost_in cost begun + sum_by cost (drop (length begun) all) ≡ sum_by cost all
   whole_cost all [] are = omega arith
   whole_cost all (b ∷ older) (before, here) =
       let more = whole_cost all older before in
       let next = rest_at all (length older) b.request here in omega (arith, more, next)
 
-  rest_falls : (all : List Request) (m n : ℕ) → m ≤ n → sum_by cost (drop n all) ≤ sum_by cost (drop m all)
+  pub rest_falls : (all : List Request) (m n : ℕ) → m ≤ n → sum_by cost (drop n all) ≤ sum_by cost (drop m all)
   rest_falls all zero n le = let both = sum_by-take-drop cost all n in omega (arith, both)
   rest_falls [] (suc m) zero le = absurd (omega (arith, le))
   rest_falls [] (suc m) (suc n) le = omega arith
@@ -63,10 +63,10 @@ module _ (cost : Request → ℕ) where
   rest_falls (x ∷ all) (suc m) (suc n) le = rest_falls all m n (omega (arith, le))
 
   module _ (s : Known) (k : ℕ) where
-    behind : (p : PlanView) (n i : ℕ) → n ≡ reads_count (member s k) + i → drop n (jobs_of s (Some p) k) ≡ drop i (writes s p k ++ request.Command (idn 127) ∷ request.Command (idn 128) ∷ request.Read (idn 22) 7 ∷ [])
+    pub behind : (p : PlanView) (n i : ℕ) → n ≡ reads_count (member s k) + i → drop n (jobs_of s (Some p) k) ≡ drop i (writes s p k ++ request.Command (idn 127) ∷ request.Command (idn 128) ∷ request.Read (idn 22) 7 ∷ [])
     behind p n i at = let long = reads_length (member s k) in drop_behind (reads (member s k)) (writes s p k ++ request.Command (idn 127) ∷ request.Command (idn 128) ∷ request.Read (idn 22) 7 ∷ []) n i (omega (arith, at, long))
 
-    last_two : (p : PlanView) (n : ℕ) → n ≡ reads_count (member s k) + 12 → sum_by cost (drop n (jobs_of s (Some p) k)) ≡ cost (request.Command (idn 128)) + cost (request.Read (idn 22) 7)
+    pub last_two : (p : PlanView) (n : ℕ) → n ≡ reads_count (member s k) + 12 → sum_by cost (drop n (jobs_of s (Some p) k)) ≡ cost (request.Command (idn 128)) + cost (request.Read (idn 22) 7)
     last_two p n at =
         let first = sum_by-cons cost (request.Command (idn 128)) (request.Read (idn 22) 7 ∷ []) in
         let second = sum_by-cons cost (request.Read (idn 22) 7) [] in
@@ -201,12 +201,12 @@ module _ (longest : ℕ → ℕ) (d : DriveView) (rules : blocks_fault [] d.bloc
   abbrev pub cost_at : Request → ℕ
   cost_at = cost_of d.busy d.command longest (store_of d)
 
-  reads_fit : ReadsCost d.busy → (m : MemberView) → m ≡ member_of d → sum_by cost_at (reads m) ≤ read_cycles d
+  pub reads_fit : ReadsCost d.busy → (m : MemberView) → m ≡ member_of d → sum_by cost_at (reads m) ≤ read_cycles d
   reads_fit costs m is =
       let sum = costs d.command longest (store_of d) (map idn declared_times) (d.at ++ d.mdt) (time_words d rules) refl in
       subst (λ (x : MemberView). sum_by cost_at (reads x) ≤ read_cycles d) (sym is) (subst (λ (n : ℕ). sum_by cost_at (reads (member_of d)) ≤ (d.busy + 1) * (24 + 3 * n)) (length-append d.at d.mdt) sum)
 
-  writes_fit : WritesCost d.busy → (s : Known) (p : PlanView) (k : ℕ) → member s k ≡ member_of d → sum_by cost_at (writes s p k ++ request.Command (idn 127) ∷ []) ≤ write_cycles d
+  pub writes_fit : WritesCost d.busy → (s : Known) (p : PlanView) (k : ℕ) → member s k ≡ member_of d → sum_by cost_at (writes s p k ++ request.Command (idn 127) ∷ []) ≤ write_cycles d
   writes_fit costs s p k is =
       let sum = costs d.command longest (store_of d) (first_words s p k) (writes_word 89 p.t2 ∷ []) (idn 16) (idn 24) (bytes_in (map (λ i. i.raw) (member s k).at)) (bytes_in (map (λ i. i.raw) (member s k).mdt)) (length (member s k).at) (length (member s k).mdt) (idn 127)
       (early_words d s.control s.cycle (slice_index p.t1 k) p.t4 p.t3 (slice_index p.position k) p.mdt_len rules) (last_word d p.t2 rules) refl (list_16 d rules) (list_24 d rules) (short_list (member s k).at) (short_list (member s k).mdt) in

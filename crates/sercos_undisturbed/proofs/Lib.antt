@@ -24,6 +24,7 @@ pub mod ChannelsKept
 pub mod Identified
 pub mod StaysUp
 pub mod PhaseCounts
+pub mod PhaseZero
 pub mod PhaseRuns
 pub mod NeverFalls
 pub mod Carried

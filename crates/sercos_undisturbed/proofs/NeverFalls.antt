@@ -1,5 +1,5 @@
 -- In an undisturbed epoch the ring never falls, and each drive stands in the commanded phase.
-use Rattle.std.proofs.Common.{◌≡◌, ℕ, zero, suc, ◌<◌, ◌≤◌, true, false, List, [], ◌∷◌, ◌++◌, length, Option, None, sym, ap, subst, arith}
+use Rattle.std.proofs.Common.{◌≡◌, ℕ, zero, suc, ◌<◌, ◌≤◌, true, false, List, [], ◌∷◌, ◌++◌, length, Option, None, sym, ap, ◌∙◌, subst, arith}
 use Rattle.std.specs.Prelude.{nat_le, is_some, slice_index_or}
 use Rattle.std.proofs.lemmas.Bool.{and_parts}
 use Rattle.std.proofs.lemmas.Bool.Decides.{nat_tests}
@@ -32,11 +32,6 @@ use Rattle.sercos_undisturbed.proofs.WholeIn.{whole_in}
 use Rattle.sercos_undisturbed.proofs.PassedCycles.{views_split, passed_undisturbed}
 use Rattle.sercos_undisturbed.proofs.StaysUp.{stays_up}
 
--- an epoch of the ring is one of each channel
-pub begins_so : (r : RingView) (jobs : List Job) (carry : Carry) (restarts : Restarts) (k : ℕ) (before : List CycleView) → StartsEpoch r jobs carry restarts before → BeginsEpoch (views_of r jobs carry restarts k before)
-begins_so r jobs carry restarts k [] starts = tt
-begins_so r jobs carry restarts k (t ∷ j) starts = starts
-
 -- no drive is busy for more than 20 cycles
 busy_in : (before drives : List DriveView) (k : ℕ) → are_drives before drives ≡ true → k < length drives → nat_le (slice_index_or drives k no_drive).busy 20 ≡ true
 unfolding are_drives is_drive are_drive_numbers
@@ -48,7 +43,7 @@ pub busy_low : (r : RingView) (k : ℕ) → is_ring r ≡ true → k < length r.
 busy_low r k valid below = let low : nat_le (drive_at r k).busy 20 ≡ true = busy_in [] r.drives k (drives_so r valid) below in grind (arith, nat_tests, low)
 
 -- a cycle that is whole up to its end, and at whose end the ring stays up, is whole
-whole_then : (v : View) (past : List View) → IsWhole (staying v) past → v.falls ≡ false → IsWhole v past
+pub whole_then : (v : View) (past : List View) → IsWhole (staying v) past → v.falls ≡ false → IsWhole v past
 whole_then v past w none = record {
   mst = w.mst;
   drive = w.drive;
@@ -73,6 +68,12 @@ module _ (laws : Laws) (more : MoreLaws) (r : RingView) (jobs : List Job) (carry
       → IsViewRun (drive_at r k).busy (views_since r jobs carry restarts k cycles before ++ views_of r jobs carry restarts k before)
   runs_split cycles before run clear k below = subst (λ (l : List View). IsViewRun (drive_at r k).busy l) (views_split r jobs carry restarts k cycles before) (all_stand laws more r jobs carry restarts opened (cycles ++ before) run clear k below).sees.run
 
+  -- where phase 0 is commanded next, it is so for each drive with its channel
+  pub begins_so : (cycles before : List CycleView) → IsRun r jobs carry restarts (cycles ++ before) → IsClear (cycles ++ before) → StartsEpoch r jobs carry restarts before → (k : ℕ) → k < length r.drives
+      → IsViewRun (drive_at r k).busy (views_of r jobs carry restarts k before) × BeginsEpoch (views_of r jobs carry restarts k before)
+  begins_so [] before run clear starts k below = let sees = (all_stand laws more r jobs carry restarts opened before run clear k below).sees in (sees.run, sym sees.master.phase_is ∙ starts)
+  begins_so (t ∷ cycles) before run clear starts k below = begins_so cycles before run.0 clear.0 starts k below
+
 module _ (laws : Laws) (more : MoreLaws) (turn : WorkInTurn) (comes_up : (busy : ℕ) → ComesUp busy) (late : (busy : ℕ) → NoneLate busy) (r : RingView) (jobs : List Job) (carry : Carry) (restarts : Restarts) (opened : IsOpened r jobs) where
   -- the next cycle
   whole_next : (t : CycleView) (cycles before : List CycleView) → IsRun r jobs carry restarts (t ∷ (cycles ++ before)) → IsClear (t ∷ (cycles ++ before)) → StartsEpoch r jobs carry restarts before
@@ -96,7 +97,7 @@ module _ (laws : Laws) (more : MoreLaws) (turn : WorkInTurn) (comes_up : (busy :
           let is_run : IsViewRun (drive_at r k).busy (view_of r jobs carry restarts k t (cycles ++ before) ∷ views_of r jobs carry restarts k (cycles ++ before)) = (all_stand laws more r jobs carry restarts opened (t ∷ (cycles ++ before)) run clear k below).sees.run in
           let both = late (drive_at r k).busy (view_of r jobs carry restarts k t (cycles ++ before)) (views_since r jobs carry restarts k cycles before) (views_of r jobs carry restarts k before)
           (subst (λ (l : List View). IsViewRun (drive_at r k).busy (view_of r jobs carry restarts k t (cycles ++ before) ∷ l)) split is_run)
-          (begins_so r jobs carry restarts k before starts) (all.whole k below) (all.passed k below) (whole_up k below) (passes k below) in
+          (begins_so laws more r jobs carry restarts opened (t ∷ cycles) before run clear starts k below).1 (all.whole k below) (all.passed k below) (whole_up k below) (passes k below) in
           subst (λ (l : List View). (cycles_open (calls_in (view_of r jobs carry restarts k t (cycles ++ before)) (channel_calls l)) ≤ (drive_at r k).busy) × (3 ≤ t.phase → is_some (view_of r jobs carry restarts k t (cycles ++ before)).heard ≡ true))
           (sym split) both
 
@@ -116,8 +117,8 @@ module _ (laws : Laws) (more : MoreLaws) (turn : WorkInTurn) (comes_up : (busy :
   stays_throughout stand hear cycles before run clear starts calm = record {
     stays = all.stays;
     whole = all.whole;
-    stands = λ k below. stand (drive_at r k).busy (views_since r jobs carry restarts k cycles before) (views_of r jobs carry restarts k before) (runs_split laws more r jobs carry restarts opened cycles before run clear k below) (begins_so r jobs carry restarts k before starts) (all.whole k below) (all.passed k below);
-    heard = λ k below. hear (drive_at r k).busy (views_since r jobs carry restarts k cycles before) (views_of r jobs carry restarts k before) (runs_split laws more r jobs carry restarts opened cycles before run clear k below) (begins_so r jobs carry restarts k before starts) (all.whole k below) (all.passed k below);
+    stands = λ k below. stand (drive_at r k).busy (views_since r jobs carry restarts k cycles before) (views_of r jobs carry restarts k before) (runs_split laws more r jobs carry restarts opened cycles before run clear k below) (begins_so laws more r jobs carry restarts opened cycles before run clear starts k below).1 (all.whole k below) (all.passed k below);
+    heard = λ k below. hear (drive_at r k).busy (views_since r jobs carry restarts k cycles before) (views_of r jobs carry restarts k before) (runs_split laws more r jobs carry restarts opened cycles before run clear k below) (begins_so laws more r jobs carry restarts opened cycles before run clear starts k below).1 (all.whole k below) (all.passed k below);
   }
     where
       all : AllWhole r jobs carry restarts cycles before

@@ -7,7 +7,6 @@ use Rattle.sercos_seat.specs.Channel.{is_place}
 use Rattle.sercos_seat.specs.Ring.{Known}
 use Rattle.sercos_master.specs.Annals.{Past, Turn, first_from, first_place, addressed_before, has_identified, is_identified, count_addressed, whole_row, is_done, is_done_in, next_phase, goes_on, new_epoch, still_waiting, fall_of, after_end}
 use Rattle.sercos_undisturbed.proofs.NoFalls.{none_from}
-use Rattle.sercos_undisturbed.proofs.StaysUp.{IsAtStart}
 
 -- In phase 0, after n cycles: n MSTs in a row came back.
 pub record Waits (n : ℕ) (p : Past) : Type 0 where
@@ -27,14 +26,6 @@ pub record Identifies (m : ℕ) (p : Past) : Type 0 where
   pub identified : (k : ℕ) → has_identified k p.turns ≡ nat_lt (k + 1) m
   pub last : LastTo m p.turns
 
-pub first_waits : (p : Past) → IsAtStart p → Waits 0 p
-first_waits p start = record {
-  phase_is = start.phase_is;
-  row = ap whole_row start.turns_are;
-  fresh = λ k. ap (has_identified k) start.turns_are;
-  silent = ap addressed_before start.turns_are;
-}
-
 -- the end of a cycle at which the ring doesn't fall
 pub end_kept : (s : Known) (p : Past) → fall_of s p ≡ None → after_end s p ≡ goes_on (next_phase s p) p
 end_kept s p none = ap (λ o. if is_some o then new_epoch (p.cycle + 1) (still_waiting p) else goes_on (next_phase s p) p) none
@@ -43,7 +34,7 @@ end_kept s p none = ap (λ o. if is_some o then new_epoch (p.cycle + 1) (still_w
 row_more : (t : Turn) (turns : List Turn) (n : ℕ) → t.whole ≡ true → whole_row turns ≡ n → whole_row (t ∷ turns) ≡ suc n
 row_more t turns n whole row = rw whole (omega (arith, row))
 
-none_identified : (phase : ℕ) (hears before : Bool) → phase ≡ 0 → before ≡ false → (((phase == 1) && hears) || before) ≡ false
+pub none_identified : (phase : ℕ) (hears before : Bool) → phase ≡ 0 → before ≡ false → (((phase == 1) && hears) || before) ≡ false
 none_identified phase hears before none off = rw (none, off) refl
 
 closed_now : (s : Known) (p : Past) (n : ℕ) → p.now.phase ≡ 0 → p.now.whole ≡ true → whole_row p.turns ≡ n → is_done s p ≡ nat_le 10 (suc n)

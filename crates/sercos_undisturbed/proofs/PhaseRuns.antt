@@ -8,7 +8,7 @@ use Rattle.sercos_block.specs.Views.{RingView}
 use Rattle.sercos_trace.specs.Views.{CycleView}
 use Rattle.sercos_seat.specs.Channel.{is_place}
 use Rattle.sercos_seat.specs.Ring.{Known, known_of, tasks_for}
-use Rattle.sercos_master.specs.Annals.{Past, Turn, first_place, addressed_before, is_idle, addressed_in, ready_to_send, is_awaited, has_identified, is_identified, count_addressed, whole_row, after_mdt, fall_of, next_phase, goes_on, new_epoch, still_waiting, after_end}
+use Rattle.sercos_master.specs.Annals.{Past, Turn, first_place, addressed_before, is_awaited, has_identified, is_identified, count_addressed, whole_row, fall_of, next_phase, goes_on, new_epoch, still_waiting, after_end}
 use Rattle.sercos_script.specs.Links.{Carry, Restarts}
 use Rattle.sercos_handshake.specs.RunLaws.{ComesUp}
 use Rattle.sercos_journal.specs.Records.{mst_in, ats_in}
@@ -20,23 +20,14 @@ use Rattle.sercos_held.specs.Opened.{IsOpened}
 use Rattle.sercos_held.proofs.Runs.{Laws}
 use Rattle.sercos_headline.proofs.HeadlineRuns.{MoreLaws}
 use Rattle.sercos_undisturbed.specs.Undisturbed.{IsUndisturbed, AreUndisturbed}
-use Rattle.sercos_undisturbed.specs.EpochStarts.{StartsEpoch}
+use Rattle.sercos_undisturbed.specs.EpochStarts.{StartsEpoch, came_back}
 use Rattle.sercos_undisturbed.proofs.Comes.{calm_in}
 use Rattle.sercos_undisturbed.proofs.AtsTaken.{unheard_ats}
 use Rattle.sercos_undisturbed.proofs.Identified.{starts_so, goes_so, heard_next}
 use Rattle.sercos_undisturbed.proofs.NoFalls.{heard_mdt, has_risen, no_fall}
-use Rattle.sercos_undisturbed.proofs.StaysUp.{addressed_first, place_so, epoch_starts, phase_now, turns_now, whole_now, stands_so, idle_then}
-use Rattle.sercos_undisturbed.proofs.PhaseCounts.{Waits, Identifies, LastTo, IsZero, IsOne, first_waits, zero_next, tenth_next, not_twice, first_unknown, all_known, one_next, one_done}
-
--- no drive is addressed in phase 0
-none_at_zero : (s : Known) (q : Past) → q.now.phase ≡ 0 → addressed_in s q ≡ None
-none_at_zero s q zero_is = by (q.now.phase == 1) (q.now.phase == 2) (ap (λ (n : ℕ). n == 1) zero_is) (ap (λ (n : ℕ). n == 2) zero_is)
-  where
-    by : (one two : Bool) → one ≡ false → two ≡ false → (if one then first_place s (λ k. not (is_identified q k)) else (if two then first_place s (λ k. not (is_idle q k)) else None)) ≡ None
-    by one two a b = rw (a, b) refl
-
-none_addressed : (s : Known) (p : Past) → (after_mdt s p).now.phase ≡ 0 → (after_mdt s p).now.addressed ≡ None
-none_addressed s p zero_is = none_at_zero s (ready_to_send s p) zero_is
+use Rattle.sercos_undisturbed.proofs.StaysUp.{addressed_first, place_so, phase_now, turns_now, whole_now, stands_so, idle_then}
+use Rattle.sercos_undisturbed.proofs.PhaseZero.{none_addressed, few_back, zero_waits}
+use Rattle.sercos_undisturbed.proofs.PhaseCounts.{Waits, Identifies, LastTo, IsZero, IsOne, zero_next, tenth_next, not_twice, first_unknown, all_known, one_next, one_done}
 
 -- whose AT is awaited in phase 1: that of the drive addressed in the cycle before
 awaits_one : (p : Past) (k : ℕ) → p.now.phase ≡ 1 → is_awaited p k ≡ is_place k (addressed_before p.turns)
@@ -213,42 +204,59 @@ module _ (laws : Laws) (more : MoreLaws) (comes_up : (busy : ℕ) → ComesUp bu
       first : c.phase ≡ 1
       first = sym (phase_now laws more comes_up r jobs carry restarts opened c j run.0.1) ∙ last.0
 
-  -- HOW LONG THE PHASES LAST, from the start of an epoch on: after n cycles, of which there are at most nine, n MSTs in a row came back ..
+  -- HOW LONG THE PHASES LAST, from phase 0 of an epoch on: after n cycles, before which w MSTs in a row came back, n + w in a row did, if that
+  -- is at most nine ..
+  abbrev back_before : List CycleView → ℕ
+  back_before before = came_back r jobs carry restarts before
+
   pub waits_in : (cycles before : List CycleView) → IsRun r jobs carry restarts (cycles ++ before) → IsClear (cycles ++ before) → StartsEpoch r jobs carry restarts before → AreUndisturbed r carry restarts cycles before
-      → length cycles ≤ 9 → Waits (length cycles) (looks_back r jobs (master_calls r carry restarts (cycles ++ before)))
-  waits_in [] before run clear starts calm few = first_waits (looks_back r jobs (master_calls r carry restarts before)) (epoch_starts r jobs carry restarts before starts)
+      → length cycles + back_before before ≤ 9 → Waits (length cycles + back_before before) (looks_back r jobs (master_calls r carry restarts (cycles ++ before)))
+  waits_in [] before run clear starts calm few =
+      let none : back_before before ≡ 0 + back_before before = omega arith in
+      subst (λ (n : ℕ). Waits n (looks_back r jobs (master_calls r carry restarts before))) none (zero_waits r jobs carry restarts before starts)
   waits_in (t ∷ cycles) before run clear starts calm few =
-      zero_step t (cycles ++ before) run clear calm.1 (length cycles) (waits_in cycles before run.0 clear.0 starts calm.0 (omega (arith, few))) (omega (arith, few))
+      let more : suc (length cycles + back_before before) ≡ length (t ∷ cycles) + back_before before = omega arith in
+      subst (λ (n : ℕ). Waits n (looks_back r jobs (master_calls r carry restarts (t ∷ (cycles ++ before))))) more
+      (zero_step t (cycles ++ before) run clear calm.1 (length cycles + back_before before) (waits_in cycles before run.0 clear.0 starts calm.0 (omega (arith, few))) (omega (arith, few)))
 
   newest_calm : (cycles before : List CycleView) → AreUndisturbed r carry restarts cycles before → 1 ≤ length cycles → NewestUndisturbed r carry restarts (cycles ++ before)
   newest_calm [] before calm some = absurd (omega (arith, some))
   newest_calm (t ∷ cycles) before calm some = calm.1
 
-  -- .. after ten and m cycles the drives at the places below m - 1 are identified ..
+  -- .. and in the cycle before which ten came back no drive is identified ..
+  identifies_first : (t : CycleView) (cycles before : List CycleView) → IsRun r jobs carry restarts (t ∷ (cycles ++ before)) → IsClear (t ∷ (cycles ++ before)) → StartsEpoch r jobs carry restarts before
+      → AreUndisturbed r carry restarts (t ∷ cycles) before → length cycles + back_before before ≡ 9 → Identifies 0 (looks_back r jobs (master_calls r carry restarts (t ∷ (cycles ++ before))))
+  identifies_first t cycles before run clear starts calm nine =
+      tenth_step t (cycles ++ before) run clear calm.1 (length cycles + back_before before) (waits_in cycles before run.0 clear.0 starts calm.0 (omega (arith, nine))) nine
+
+  -- .. m cycles later the drives at the places below m - 1 are ..
   pub identifies_in : (m : ℕ) (cycles before : List CycleView) → IsRun r jobs carry restarts (cycles ++ before) → IsClear (cycles ++ before) → StartsEpoch r jobs carry restarts before → AreUndisturbed r carry restarts cycles before
-      → m ≤ length r.drives → length cycles ≡ 10 + m → Identifies m (looks_back r jobs (master_calls r carry restarts (cycles ++ before)))
-  identifies_in m [] before run clear starts calm most long = absurd (omega (arith, long))
-  identifies_in zero (t ∷ cycles) before run clear starts calm most long =
-      tenth_step t (cycles ++ before) run clear calm.1 (length cycles) (waits_in cycles before run.0 clear.0 starts calm.0 (omega (arith, long))) (omega (arith, long))
+      → m ≤ length r.drives → length cycles + back_before before ≡ 10 + m → Identifies m (looks_back r jobs (master_calls r carry restarts (cycles ++ before)))
+  identifies_in m [] before run clear starts calm most long = let few = few_back r jobs carry restarts before starts in absurd (omega (arith, long, few))
+  identifies_in zero (t ∷ cycles) before run clear starts calm most long = identifies_first t cycles before run clear starts calm (omega (arith, long))
   identifies_in (suc i) (t ∷ cycles) before run clear starts calm most long =
+      let few = few_back r jobs carry restarts before starts in
       let now : Identifies i (looks_back r jobs (master_calls r carry restarts (cycles ++ before))) = identifies_in i cycles before run.0 clear.0 starts calm.0 (omega (arith, most)) (omega (arith, long)) in
       let count = members_count r in
-      one_step t (cycles ++ before) run clear calm.1 i now (hears_in t (cycles ++ before) run clear calm.1 (newest_calm cycles before calm.0 (omega (arith, long))) i now (omega (arith, most))) (omega (arith, most, count))
+      one_step t (cycles ++ before) run clear calm.1 i now (hears_in t (cycles ++ before) run clear calm.1 (newest_calm cycles before calm.0 (omega (arith, long, few))) i now (omega (arith, most))) (omega (arith, most, count))
 
   -- .. and in the cycle after the one in which the last drive is identified phase 2 is commanded.
   pub second_in : (cycles before : List CycleView) → IsRun r jobs carry restarts (cycles ++ before) → IsClear (cycles ++ before) → StartsEpoch r jobs carry restarts before → AreUndisturbed r carry restarts cycles before
-      → length cycles ≡ 11 + length r.drives → (looks_back r jobs (master_calls r carry restarts (cycles ++ before))).now.phase ≡ 2
-  second_in [] before run clear starts calm long = absurd (omega (arith, long))
+      → length cycles + back_before before ≡ 11 + length r.drives → (looks_back r jobs (master_calls r carry restarts (cycles ++ before))).now.phase ≡ 2
+  second_in [] before run clear starts calm long = let few = few_back r jobs carry restarts before starts in absurd (omega (arith, long, few))
   second_in (t ∷ cycles) before run clear starts calm long =
+      let few = few_back r jobs carry restarts before starts in
       let now : Identifies (length r.drives) (looks_back r jobs (master_calls r carry restarts (cycles ++ before))) = identifies_in (length r.drives) cycles before run.0 clear.0 starts calm.0 (omega arith) (omega (arith, long)) in
       let count = members_count r in
-      last_step t (cycles ++ before) run clear calm.1 (length r.drives) now (hears_in t (cycles ++ before) run clear calm.1 (newest_calm cycles before calm.0 (omega (arith, long))) (length r.drives) now (omega arith)) (sym count)
+      last_step t (cycles ++ before) run clear calm.1 (length r.drives) now (hears_in t (cycles ++ before) run clear calm.1 (newest_calm cycles before calm.0 (omega (arith, long, few))) (length r.drives) now (omega arith)) (sym count)
 
   -- So it is told by the number of cycles before it which phase a cycle is commanded.
   pub phases_in : (t : CycleView) (cycles before : List CycleView) → IsRun r jobs carry restarts (t ∷ (cycles ++ before)) → IsClear (t ∷ (cycles ++ before)) → StartsEpoch r jobs carry restarts before
       → AreUndisturbed r carry restarts (t ∷ cycles) before
-      → (length cycles ≤ 9 → t.phase ≡ 0) × ((m : ℕ) → m ≤ length r.drives → length cycles ≡ 10 + m → t.phase ≡ 1) × (length cycles ≡ 11 + length r.drives → t.phase ≡ 2)
+      → (back_before before ≤ 9) × (length cycles + back_before before ≤ 9 → t.phase ≡ 0)
+      × ((m : ℕ) → m ≤ length r.drives → length cycles + back_before before ≡ 10 + m → t.phase ≡ 1) × (length cycles + back_before before ≡ 11 + length r.drives → t.phase ≡ 2)
   phases_in t cycles before run clear starts calm = (
+    few_back r jobs carry restarts before starts,
     λ few. next_phase_is t (cycles ++ before) run calm.1 ∙ (waits_in cycles before run.0 clear.0 starts calm.0 few).phase_is,
     λ m most long. next_phase_is t (cycles ++ before) run calm.1 ∙ (identifies_in m cycles before run.0 clear.0 starts calm.0 most long).phase_is,
     λ long. next_phase_is t (cycles ++ before) run calm.1 ∙ second_in cycles before run.0 clear.0 starts calm.0 long,

@@ -51,7 +51,7 @@ use Rattle.sercos_undisturbed.specs.Jobs.{jobs_of, AreAt}
 use Rattle.sercos_undisturbed.proofs.EpochCycles.{IsOn, AreOn, run_rest, wholes, longer, outcomes_extend, outcomes_after, on_in}
 use Rattle.sercos_undisturbed.proofs.Comes.{calm_in}
 use Rattle.sercos_undisturbed.proofs.Identified.{starts_so}
-use Rattle.sercos_undisturbed.proofs.StaysUp.{phase_now, epoch_starts}
+use Rattle.sercos_undisturbed.proofs.StaysUp.{phase_now}
 use Rattle.sercos_undisturbed.proofs.PhaseRuns.{next_phase_is}
 use Rattle.sercos_undisturbed.proofs.PhasesRise.{phase_after}
 use Rattle.sercos_undisturbed.proofs.CommandRuns.{first_commands}
@@ -187,7 +187,7 @@ module _ (laws : Laws) (more : MoreLaws) (turn : WorkInTurn) (comes_up : (busy :
   pub since_rise : (cycles before : List CycleView) → IsRun r jobs carry restarts (cycles ++ before) → IsClear (cycles ++ before) → StartsEpoch r jobs carry restarts before → AreUndisturbed r carry restarts cycles before
       → (looks_back r jobs (master_calls r carry restarts (cycles ++ before))).now.phase ≡ 3 → (looks_back r jobs (master_calls r carry restarts (cycles ++ before))).stop ≡ None
       → IsRisen laws more r jobs carry restarts opened (length cycles) (cycles ++ before)
-  since_rise [] before run clear starts calm is_three none = let start = (epoch_starts r jobs carry restarts before starts).phase_is in absurd (omega (arith, start, is_three))
+  since_rise [] before run clear starts calm is_three none = let start : (looks_back r jobs (master_calls r carry restarts before)).now.phase ≡ 0 = starts in absurd (omega (arith, start, is_three))
   since_rise (t ∷ cycles) before run clear starts calm is_three none =
       by (λ was_three. since_rise cycles before run.0 clear.0 starts calm.0 was_three none_then) (comes_three (is_done (known_of r) (behind_mdt r jobs carry restarts t.sent (cycles ++ before))) t.phase (sym (phase_after laws more comes_up r jobs carry restarts opened t (cycles ++ before) run all.stays.1) ∙ is_three))
     where

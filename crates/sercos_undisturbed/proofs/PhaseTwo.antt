@@ -45,7 +45,7 @@ use Rattle.sercos_undisturbed.proofs.JobsCost.{two_fits}
 use Rattle.sercos_undisturbed.proofs.JobsBegun.{places_now, few_now, planned_now}
 
 -- SUMS over the drives: by their places, and by the list
-shifted : (n : ℕ) (f : ℕ → ℕ) → sum_below (suc n) f ≡ f 0 + sum_below n (λ i. f (suc i))
+pub shifted : (n : ℕ) (f : ℕ → ℕ) → sum_below (suc n) f ≡ f 0 + sum_below n (λ i. f (suc i))
 shifted zero f = omega arith
 shifted (suc n) f = let more = shifted n f in omega (arith, more)
 

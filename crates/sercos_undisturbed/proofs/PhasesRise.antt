@@ -14,9 +14,10 @@ use Rattle.sercos_held.specs.Opened.{IsOpened}
 use Rattle.sercos_held.proofs.Runs.{Laws}
 use Rattle.sercos_headline.proofs.HeadlineRuns.{MoreLaws}
 use Rattle.sercos_undisturbed.specs.Undisturbed.{IsUndisturbed, AreUndisturbed}
-use Rattle.sercos_undisturbed.specs.EpochStarts.{StartsEpoch}
+use Rattle.sercos_undisturbed.specs.EpochStarts.{StartsEpoch, came_back}
 use Rattle.sercos_undisturbed.proofs.StaysUp.{phase_now}
 use Rattle.sercos_undisturbed.proofs.PhaseCounts.{end_kept}
+use Rattle.sercos_undisturbed.proofs.PhaseZero.{few_back}
 use Rattle.sercos_undisturbed.proofs.PhaseRuns.{next_phase_is, second_in}
 use Rattle.sercos_undisturbed.specs.StartUps.{NoneFalls}
 
@@ -39,14 +40,18 @@ module _ (laws : Laws) (more : MoreLaws) (comes_up : (busy : ℕ) → ComesUp bu
   rises_by t j run calm none = subst (λ (n : ℕ). n ≤ (looks_back r jobs (master_calls r carry restarts (t ∷ j))).now.phase) (next_phase_is laws more comes_up r jobs carry restarts opened t j run calm)
       (subst (λ (n : ℕ). t.phase ≤ n) (sym (phase_after t j run none)) (no_lower (is_done (known_of r) (behind_mdt r jobs carry restarts t.sent j)) t.phase))
 
-  -- from the eleventh cycle and one for each drive on, phase 2 or a later one is commanded
-  pub late_in : (cycles before : List CycleView) → IsRun r jobs carry restarts (cycles ++ before) → IsClear (cycles ++ before) → StartsEpoch r jobs carry restarts before → AreUndisturbed r carry restarts cycles before
-      → NoneFalls r jobs carry restarts cycles before → 11 + length r.drives ≤ length cycles → 2 ≤ (looks_back r jobs (master_calls r carry restarts (cycles ++ before))).now.phase
-  late_in [] before run clear starts calm stays long = absurd (omega (arith, long))
-  late_in (t ∷ cycles) before run clear starts calm stays long = elim (cases_eq (suc (length cycles)) (11 + length r.drives)) [
-    | inl same ↦ let two = second_in laws more comes_up r jobs carry restarts opened (t ∷ cycles) before run clear starts calm same in omega (arith, two)
+  -- from the eleventh cycle and one for each drive on at the latest, phase 2 or a later one is commanded
+  late_by : (cycles before : List CycleView) → IsRun r jobs carry restarts (cycles ++ before) → IsClear (cycles ++ before) → StartsEpoch r jobs carry restarts before → AreUndisturbed r carry restarts cycles before
+      → NoneFalls r jobs carry restarts cycles before → 11 + length r.drives ≤ length cycles + came_back r jobs carry restarts before → 2 ≤ (looks_back r jobs (master_calls r carry restarts (cycles ++ before))).now.phase
+  late_by [] before run clear starts calm stays long = let few = few_back r jobs carry restarts before starts in absurd (omega (arith, long, few))
+  late_by (t ∷ cycles) before run clear starts calm stays long = elim (cases_eq (suc (length cycles + came_back r jobs carry restarts before)) (11 + length r.drives)) [
+    | inl same ↦ let two = second_in laws more comes_up r jobs carry restarts opened (t ∷ cycles) before run clear starts calm (omega (arith, same)) in omega (arith, two)
     | inr other ↦
-        let late = late_in cycles before run.0 clear.0 starts calm.0 stays.0 (omega (arith, long, other)) in
+        let late = late_by cycles before run.0 clear.0 starts calm.0 stays.0 (omega (arith, long, other)) in
         let up = rises_by t (cycles ++ before) run calm.1 stays.1 in
         omega (arith, late, up)
   ]
+
+  pub late_in : (cycles before : List CycleView) → IsRun r jobs carry restarts (cycles ++ before) → IsClear (cycles ++ before) → StartsEpoch r jobs carry restarts before → AreUndisturbed r carry restarts cycles before
+      → NoneFalls r jobs carry restarts cycles before → 11 + length r.drives ≤ length cycles → 2 ≤ (looks_back r jobs (master_calls r carry restarts (cycles ++ before))).now.phase
+  late_in cycles before run clear starts calm stays long = late_by cycles before run clear starts calm stays (omega (arith, long))

@@ -14,7 +14,7 @@ use Rattle.sercos_drive.specs.Moments.{phase_in}
 use Rattle.sercos_trace.specs.Views.{CycleView}
 use Rattle.sercos_seat.specs.Channel.{is_place}
 use Rattle.sercos_seat.specs.Ring.{Known, known_of, tasks_for}
-use Rattle.sercos_master.specs.Annals.{Past, Turn, first_from, first_place, has_identified, is_identified, count_addressed, is_idle, addressed_in, ready_to_send, after_mdt, fall_of, goes_on, next_phase, new_epoch, still_waiting, after_end}
+use Rattle.sercos_master.specs.Annals.{Past, Turn, first_from, first_place, has_identified, is_identified, count_addressed, is_idle, addressed_in, ready_to_send, after_mdt, fall_of}
 use Rattle.sercos_script.specs.Links.{Carry, Restarts}
 use Rattle.sercos_handshake.specs.Views.{Heard, View}
 use Rattle.sercos_handshake.specs.Epochs.{command, with_heard, with_begun, unless_restart, epoch_begun, begun_in}
@@ -112,18 +112,6 @@ unheard_addressed s p k one to =
     sym (ap (λ (f : ℕ → Bool). f k) (heard_mdt s p))
     ∙ not_heard (after_mdt s p).now.phase ((after_mdt s p).now.heard k) (has_identified k (after_mdt s p).turns) one (found_passes 0 (length s.drives) k (λ i. not (is_identified (after_mdt s p) i)) found)
 
--- an epoch begins in phase 0, with no cycle before
-pub record IsAtStart (p : Past) : Type 0 where
-  pub phase_is : p.now.phase ≡ 0
-  pub turns_are : p.turns ≡ []
-
-end_starts : (s : Known) (p : Past) → is_some (fall_of s p) ≡ true → IsAtStart (after_end s p)
-end_starts s p falls = subst (λ (b : Bool). IsAtStart (if b then new_epoch (p.cycle + 1) (still_waiting p) else goes_on (next_phase s p) p)) (sym falls) (record { phase_is = refl; turns_are = refl })
-
-pub epoch_starts : (r : RingView) (jobs : List Job) (carry : Carry) (restarts : Restarts) (before : List CycleView) → StartsEpoch r jobs carry restarts before → IsAtStart (looks_back r jobs (master_calls r carry restarts before))
-epoch_starts r jobs carry restarts [] starts = record { phase_is = refl; turns_are = refl }
-epoch_starts r jobs carry restarts (t ∷ j) starts = end_starts (known_of r) (behind_mdt r jobs carry restarts t.sent j) starts
-
 -- what tests say of a phase
 eq_one : (n : ℕ) → (n == 1) ≡ true → n ≡ 1
 eq_one n is = grind (arith, nat_tests, is)
@@ -216,8 +204,7 @@ module _ (laws : Laws) (more : MoreLaws) (comes_up : (busy : ℕ) → ComesUp bu
       once : (cs : List CycleView) → IsRun r jobs carry restarts (t ∷ (cs ++ before)) → IsClear (t ∷ (cs ++ before)) → AreUndisturbed r carry restarts cs before → IsUndisturbed r carry restarts t (cs ++ before) → t.phase ≡ 1
           → (k : ℕ) → k < length r.drives → is_place k (behind_mdt r jobs carry restarts t.sent (cs ++ before)).now.addressed ≡ true → count_addressed k (behind_mdt r jobs carry restarts t.sent (cs ++ before)).turns ≡ 0
       once [] runs clears calms calm_now one k below to =
-          let start : IsAtStart (looks_back r jobs (master_calls r carry restarts before)) = epoch_starts r jobs carry restarts before starts in
           let same : at_start r jobs carry restarts before ≡ looks_back r jobs (master_calls r carry restarts before) = starts_so laws more r jobs carry restarts opened t before runs.1 (calm_in r carry restarts t before calm_now) in
-          let zero_is : t.phase ≡ 0 = runs.1.phase ∙ ap (λ (x : Past). x.now.phase) same ∙ start.phase_is in
+          let zero_is : t.phase ≡ 0 = runs.1.phase ∙ ap (λ (x : Past). x.now.phase) same ∙ starts in
           absurd (omega (arith, zero_is, one))
       once (c ∷ cs) runs clears calms calm_now one k below to = addressed_once t c (cs ++ before) runs clears calm_now calms.1 one k below to

@@ -33,10 +33,10 @@ neither_told (Some x) b e f restarted quiet none = absurd (cc)
 neither_told None true e f restarted quiet none = let both : None ≡ Some fall.Restart = sym none ∙ restarted in absurd (cc)
 neither_told None false e f restarted quiet none = (refl, refl)
 
-at_stops : (s : Known) (content : List ℕ) (p : Past) → (after_at s content p).now.stops ≡ p.now.stops
+pub at_stops : (s : Known) (content : List ℕ) (p : Past) → (after_at s content p).now.stops ≡ p.now.stops
 at_stops s content p = after_at_so (λ q. q.now.stops ≡ p.now.stops) s content p refl (λ k. refl)
 
-mdt_stops : (s : Known) (p : Past) → is_some p.stop ≡ true → (after_mdt s p).now.stops ≡ p.now.stops
+pub mdt_stops : (s : Known) (p : Past) → is_some p.stop ≡ true → (after_mdt s p).now.stops ≡ p.now.stops
 mdt_stops s p some = ap (λ (q : Past). (with_due_plan s q).now.stops) (stop_stays (first_trouble s p) p some) ∙ ap (λ (q : Past). q.now.stops) (due_stopped s p some)
 
 module _ (r : RingView) (jobs : List Job) (carry : Carry) (restarts : Restarts) where
@@ -59,7 +59,7 @@ module _ (r : RingView) (jobs : List Job) (carry : Carry) (restarts : Restarts) 
       by (inr there) before = let some = before there in ap (λ (o : Option Stop). is_some o) (stop_kept r jobs carry restarts t j (same_start j (no_fall t j run.1 falls.1).1) some) ∙ some
 
   -- at the end of a cycle none is new
-  none_new : (j : List CycleView) → (looks_back r jobs (master_calls r carry restarts j)).now.stops ≡ false
+  pub none_new : (j : List CycleView) → (looks_back r jobs (master_calls r carry restarts j)).now.stops ≡ false
   none_new [] = refl
   none_new (t ∷ j) = by (is_some (fall_of (known_of r) (behind_mdt r jobs carry restarts t.sent j)))
     where

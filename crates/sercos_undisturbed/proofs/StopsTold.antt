@@ -69,7 +69,7 @@ fallen_stop : (s : Known) (p : Past) (f : Fall) → fall_of s p ≡ Some f → (
 fallen_stop s p f falls = ap (λ (o : Option Fall). (if is_some o then new_epoch (p.cycle + 1) (still_waiting p) else goes_on (if is_done s p then p.now.phase + 1 else p.now.phase) p).stop) falls
 
 module _ (r : RingView) (jobs : List Job) (carry : Carry) (restarts : Restarts) where
-  ats_kept : (t : CycleView) (j : List CycleView) → (behind_ats r jobs carry restarts t.sent j).stop ≡ (at_start r jobs carry restarts j).stop
+  pub ats_kept : (t : CycleView) (j : List CycleView) → (behind_ats r jobs carry restarts t.sent j).stop ≡ (at_start r jobs carry restarts j).stop
   ats_kept t j = ats_stop r jobs carry (length j) (ats_in t.sent) (own_mst carry (length j) (mst_in t.sent) (begins r carry restarts j))
 
   begun_stop : (j : List CycleView) (x : Stop) → (at_start r jobs carry restarts j).stop ≡ Some x → (looks_back r jobs (master_calls r carry restarts j)).stop ≡ Some x
@@ -80,7 +80,7 @@ module _ (r : RingView) (jobs : List Job) (carry : Carry) (restarts : Restarts) 
       by false is = is
 
   -- a stop of this cycle
-  fresh : (t : CycleView) (j : List CycleView) (x : Stop) → IsNext r jobs carry restarts t j → (at_start r jobs carry restarts j).stop ≡ None → (behind_mdt r jobs carry restarts t.sent j).stop ≡ Some x → t.events.stop ≡ Some x
+  pub fresh : (t : CycleView) (j : List CycleView) (x : Stop) → IsNext r jobs carry restarts t j → (at_start r jobs carry restarts j).stop ≡ None → (behind_mdt r jobs carry restarts t.sent j).stop ≡ Some x → t.events.stop ≡ Some x
   fresh t j x next none is =
       ap (λ (e : EventsView). e.stop) next.events
       ∙ ap (λ (o : Option Stop). option_or o (if restarts (length j) 0 then restart_told (known_of r) (looks_back r jobs (master_calls r carry restarts j)) no_events else no_events).stop) says

@@ -31,7 +31,7 @@ use Rattle.sercos_pace.specs.StartCosts.{RecoversSince}
 use Rattle.sercos_journal.specs.Arrivals.{heard, passage}
 use Rattle.sercos_journal.specs.Records.{mst_in, ats_in}
 use Rattle.sercos_journal.specs.Runs.{station_of, with_at, at_calls, own_mst, begins, master_calls, looks_back, middle, IsRun, IsClear}
-use Rattle.sercos_agenda.specs.Channels.{channel_at}
+use Rattle.sercos_agenda.specs.Channels.{Channel, channel_at}
 use Rattle.sercos_agenda.specs.Events.{HasOutcome, HasReport}
 use Rattle.sercos_agenda.specs.Reported.{told, told_at_end, with_told, with_number, after_told, still_to_tell, task_numbers}
 use Rattle.sercos_agenda.specs.Tasks.{IsTask, OfReads, OfWrites, Checks3, Lists3, Checks4, Lists4, OfWaiting, AreBegunTasks}
@@ -50,6 +50,7 @@ use Rattle.sercos_undisturbed.proofs.EpochCycles.{IsOn, AreOn, waits_now, waits_
 use Rattle.sercos_undisturbed.proofs.EndedInTime.{have_ended}
 use Rattle.sercos_undisturbed.proofs.InFour.{ready_now, counted}
 use Rattle.sercos_undisturbed.proofs.PhaseCounts.{end_kept}
+use Rattle.sercos_undisturbed.proofs.PhaseZero.{in_zero}
 use Rattle.sercos_undisturbed.proofs.RefusedRuns.{SaysShape}
 use Rattle.sercos_undisturbed.proofs.Small.{first_is, never_both}
 use Rattle.sercos_undisturbed.proofs.StartUpEnds.{inside}
@@ -92,6 +93,15 @@ dropped (x ∷ xs) (suc m) (suc n) le few = let rest = dropped xs m n (omega (ar
 numbers_long : (tasks : List Task) → length (task_numbers tasks) ≡ length tasks
 numbers_long [] = refl
 numbers_long (t ∷ tasks) = ap suc (numbers_long tasks)
+
+-- where no task was begun, no request was, and none is told
+none_of : (s : Known) (k : ℕ) (plan : Option PlanView) (waiting : List Task) (phase : ℕ) (begun : List Begun) (tasks : List Task) → tasks ≡ [] → AreBegunTasks s k plan waiting phase begun tasks → begun ≡ []
+none_of s k plan waiting phase [] tasks none are = refl
+none_of s k plan waiting phase (b ∷ older) [] none are = absurd are
+none_of s k plan waiting phase (b ∷ older) (t ∷ tasks) none are = absurd (cc)
+
+all_left : (c : Channel) → c.report ≡ None → open_in c.begun ≡ None → c.tasks ≡ [] → still_to_tell c ≡ task_numbers c.waiting
+all_left c quiet idle none = rw (quiet, idle, none) refl
 
 -- The request at work after the start-up is one of those that wait.
 newest_waits : (s : Known) (k : ℕ) (plan : Option PlanView) (waiting : List Task) (phase : ℕ) (begun : List Begun) (tasks : List Task) → AreBegunTasks s k plan waiting phase begun tasks → is_none (open_in begun) ≡ false → is_ready (member s k) (outcomes_in begun) ≡ true
@@ -151,13 +161,23 @@ module _ (laws : Laws) (more : MoreLaws) (r : RingView) (jobs : List Job) (carry
         (subst (λ (f : Option Fall). HasReport (told_at_end (is_some f) (Some x) (broken (behind_mdt r jobs carry restarts t.sent j) k) []) x.number x.outcome) (sym on.stays) (inl (refl, refl))),
   ))
 
-  -- at the start of an epoch all that wait are left
+  -- in phase 0 of an epoch all that wait are left
+  none_reported : (before : List CycleView) → (looks_back r jobs (master_calls r carry restarts before)).now.report k ≡ None
+  none_reported [] = refl
+  none_reported (t ∷ j) = by (is_some (fall_of (known_of r) (behind_mdt r jobs carry restarts t.sent j)))
+    where
+      by : (b : Bool) → (if b then new_epoch ((behind_mdt r jobs carry restarts t.sent j).cycle + 1) (still_waiting (behind_mdt r jobs carry restarts t.sent j))
+          else goes_on (next_phase (known_of r) (behind_mdt r jobs carry restarts t.sent j)) (behind_mdt r jobs carry restarts t.sent j)).now.report k ≡ None
+      by true = refl
+      by false = refl
+
   left_first : (before : List CycleView) → StartsEpoch r jobs carry restarts before → left before ≡ task_numbers (waiting_after r jobs carry restarts before k)
-  left_first [] starts = refl
-  left_first (t ∷ j) starts =
-      let p = behind_mdt r jobs carry restarts t.sent j in
-      subst (λ (b : Bool). still_to_tell (channel_at (if b then new_epoch (p.cycle + 1) (still_waiting p) else goes_on (next_phase (known_of r) p) p) k) ≡ task_numbers ((if b then new_epoch (p.cycle + 1) (still_waiting p) else goes_on (next_phase (known_of r) p) p).waiting k))
-      (sym starts) refl
+  left_first before starts =
+      let tasks : (looks_back r jobs (master_calls r carry restarts before)).tasks k ≡ [] = (in_zero r jobs carry restarts before starts).tasks k in
+      let begun : begun_by ((looks_back r jobs (master_calls r carry restarts before)).calls k) ≡ [] =
+      none_of (known_of r) k _ _ _ (begun_by ((looks_back r jobs (master_calls r carry restarts before)).calls k)) ((looks_back r jobs (master_calls r carry restarts before)).tasks k) tasks
+      (laws.tasks (known_of r) (tasks_for (known_of r) jobs) (master_calls r carry restarts before) k (inside r k below)) in
+      all_left (channel_at (looks_back r jobs (master_calls r carry restarts before)) k) (none_reported before) (ap open_in begun) tasks
 
   -- THE REQUESTS THAT WAITED: those that were told in these cycles, and then those that are left.
   record IsTold (cycles before : List CycleView) : Type 0 where

@@ -20,7 +20,7 @@ use Rattle.sercos_agenda.specs.Events.{HasOutcome}
 use Rattle.sercos_views.specs.RingViews.{behind_mdt, view_of, views_of}
 use Rattle.sercos_held.specs.Opened.{IsOpened}
 use Rattle.sercos_undisturbed.specs.Undisturbed.{AreUndisturbed}
-use Rattle.sercos_undisturbed.specs.EpochStarts.{StartsEpoch}
+use Rattle.sercos_undisturbed.specs.EpochStarts.{StartsEpoch, came_back}
 use Rattle.sercos_undisturbed.specs.ViewsSince.{views_since}
 
 -- at the end of none of these cycles, which come after the others, does the ring fall
@@ -36,16 +36,19 @@ pub record StaysUp (r : RingView) (jobs : List Job) (carry : Carry) (restarts : 
   pub stands : (k : ℕ) → k < length r.drives → AreUp (views_since r jobs carry restarts k cycles before) (views_of r jobs carry restarts k before)
   pub heard : (k : ℕ) → k < length r.drives → AreHeard (views_since r jobs carry restarts k cycles before) (views_of r jobs carry restarts k before)
 
--- So it is from the start of an epoch on as long as nothing is disturbed, whatever was lost before, if nothing was unseen.
+-- So it is from phase 0 of an epoch on as long as nothing is disturbed, whatever was lost before, if nothing was unseen.
 abbrev pub StaysUpUndisturbed : Type 0
 StaysUpUndisturbed = (r : RingView) (jobs : List Job) (carry : Carry) (restarts : Restarts) (cycles before : List CycleView) → IsOpened r jobs → IsRun r jobs carry restarts (cycles ++ before) → IsClear (cycles ++ before) →
     StartsEpoch r jobs carry restarts before → AreUndisturbed r carry restarts cycles before → StaysUp r jobs carry restarts cycles before
 
--- In such an epoch phase 0 is commanded in the first ten cycles, then phase 1 in one cycle more than there are drives, and then phase 2.
+-- In such an epoch phase 0 is commanded until ten MSTs in a row came back, then phase 1 in one cycle more than there are drives, and then
+-- phase 2. From the opening or a fall on these are ten cycles of phase 0; where MSTs of the epoch came back before, at most nine in a row,
+-- as many fewer.
 abbrev pub ComesToPhaseTwo : Type 0
 ComesToPhaseTwo = (r : RingView) (jobs : List Job) (carry : Carry) (restarts : Restarts) (t : CycleView) (cycles before : List CycleView) → IsOpened r jobs → IsRun r jobs carry restarts (t ∷ (cycles ++ before)) →
     IsClear (t ∷ (cycles ++ before)) → StartsEpoch r jobs carry restarts before → AreUndisturbed r carry restarts (t ∷ cycles) before →
-    (length cycles ≤ 9 → t.phase ≡ 0) × ((m : ℕ) → m ≤ length r.drives → length cycles ≡ 10 + m → t.phase ≡ 1) × (length cycles ≡ 11 + length r.drives → t.phase ≡ 2)
+    (came_back r jobs carry restarts before ≤ 9) × (length cycles + came_back r jobs carry restarts before ≤ 9 → t.phase ≡ 0)
+    × ((m : ℕ) → m ≤ length r.drives → length cycles + came_back r jobs carry restarts before ≡ 10 + m → t.phase ≡ 1) × (length cycles + came_back r jobs carry restarts before ≡ 11 + length r.drives → t.phase ≡ 2)
 
 -- The record of a cycle has no fall, and tells no request as broken.
 pub record TellsNoFall (t : CycleView) : Type 0 where

@@ -15,6 +15,7 @@ use Rattle.sercos_undisturbed.proofs.InTime.{comes_to_end, comes_to_four, stays_
 use Rattle.sercos_undisturbed.proofs.OwnFit.{own_fits}
 use Rattle.sercos_undisturbed.proofs.NeverFalls.{stays_throughout}
 use Rattle.sercos_undisturbed.proofs.PhaseRuns.{phases_in}
+use Rattle.sercos_undisturbed.proofs.PhaseZero.{starts_at_fall, starts_at_opening, starts_at_restart}
 use Rattle.sercos_undisturbed.proofs.RefusedRuns.{SaysShape}
 use Rattle.sercos_undisturbed.proofs.RefusedStops.{refused_stop}
 use Rattle.sercos_undisturbed.proofs.ToldInTime.{reports_in_time}
@@ -140,6 +141,9 @@ returns c =
     record {
       clear = clear;
       quiet = quiet_runs;
+      opening = starts_at_opening;
+      fall = starts_at_fall;
+      restart = starts_at_restart;
       stays = λ r jobs carry restarts cycles before opened run clear starts calm.
           stays_throughout laws more c.agenda_law.ensures.turn c.run_law.ensures.up c.calls_law.ensures.late r jobs carry restarts opened c.passage_law.ensures.throughout c.passage_law.ensures.hears cycles before run clear starts calm;
       tells = tells;

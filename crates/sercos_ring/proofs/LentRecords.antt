@@ -1,0 +1,28 @@
+-- What the laws on runs say of the record that a cycle lends.
+use Rattle.std.proofs.Common.{◌≡◌, sym, subst}
+use Rattle.sercos_trace.specs.Views.{CycleView}
+use Rattle.sercos_script.specs.Links.{Carry, Restarts}
+use Rattle.sercos_headline.specs.Headline.{Headline}
+use Rattle.sercos_undisturbed.specs.WholeRuns.{StartsUndisturbed}
+use Rattle.sercos_recovery.specs.Recovers.{Recovers}
+use Rattle.sercos_ring.specs.Kept.{IsNextOf, KeepsAllOf, RecoversOf, StartsUpOf}
+use Rattle.sercos_ring.specs.declared.ring.Ring.{Ring}
+
+-- what is lent is what the ring keeps
+pub next_lent : {L : Type 0} (carry_of : L → Carry) (restart_of : L → Restarts) (ring : Ring L) (lent kept : CycleView) → lent ≡ kept → IsNextOf carry_of restart_of ring kept → IsNextOf carry_of restart_of ring lent
+next_lent carry_of restart_of ring lent kept is next = subst (λ (t : CycleView). IsNextOf carry_of restart_of ring t) (sym is) next
+
+pub keeps_lent : {L : Type 0} (carry_of : L → Carry) (restart_of : L → Restarts) (ring : Ring L) (lent : CycleView) → Headline → IsNextOf carry_of restart_of ring lent → KeepsAllOf carry_of restart_of ring lent
+keeps_lent carry_of restart_of ring lent law next = record {
+  keeps = λ r jobs carry restarts j stands opened clear. law r jobs carry restarts lent j opened (stands.run, next.next r jobs carry restarts j stands) clear;
+}
+
+pub starts_lent : {L : Type 0} (carry_of : L → Carry) (restart_of : L → Restarts) (ring : Ring L) (lent : CycleView) → StartsUndisturbed → IsNextOf carry_of restart_of ring lent → StartsUpOf carry_of restart_of ring lent
+starts_lent carry_of restart_of ring lent law next = record {
+  starts = λ r jobs carry restarts j stands opened calm. law r jobs carry restarts lent j opened (stands.run, next.next r jobs carry restarts j stands) calm;
+}
+
+pub recovers_lent : {L : Type 0} (carry_of : L → Carry) (restart_of : L → Restarts) (ring : Ring L) (lent : CycleView) → Recovers → IsNextOf carry_of restart_of ring lent → RecoversOf carry_of restart_of ring lent
+recovers_lent carry_of restart_of ring lent law next = record {
+  recovers = λ r jobs carry restarts j stands opened clear. law r jobs carry restarts lent j opened (stands.run, next.next r jobs carry restarts j stands) clear;
+}

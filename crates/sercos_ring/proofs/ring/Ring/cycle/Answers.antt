@@ -1,0 +1,18 @@
+use Rattle.std.proofs.Common.{refl}
+use Rattle.sercos_ring.specs.Kept.{IsNextOf, newest}
+use Rattle.sercos_ring.proofs.LentRecords.{next_lent, keeps_lent, starts_lent, recovers_lent}
+use Rattle.sercos_ring.proofs.ring.Ring.cycle.Goals as goal
+
+pub returns : goal.returns
+returns g c =
+    let next : IsNextOf g.L.BitLink.carry g.L.BitLink.restart c.args.self.now c.deref.result.now =
+    next_lent g.L.BitLink.carry g.L.BitLink.restart c.args.self.now c.deref.result.now (newest c.go.new.self) c.deref.ensures c.go.ensures.next in (
+      (refl, λ other. tt, (c.go.ensures.after, c.deref.ensures)),
+      record {
+        after = tt;
+        next = next;
+        headline = keeps_lent g.L.BitLink.carry g.L.BitLink.restart c.args.self.now c.deref.result.now c.headline_law.ensures next;
+        undisturbed = starts_lent g.L.BitLink.carry g.L.BitLink.restart c.args.self.now c.deref.result.now c.undisturbed_law.ensures.starts next;
+        recovers = recovers_lent g.L.BitLink.carry g.L.BitLink.restart c.args.self.now c.deref.result.now c.recovery_law.ensures.recovers next;
+      },
+    )
