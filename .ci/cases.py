@@ -12,7 +12,8 @@ begins no other line of the output; nor does a word of the file `only`. No line 
 
 The folder `refusals` has sheets of ring documents that are refused, by each command that reads one: a part begins with
 a line `== NAME`, its refusal follows, and then the document. The folder `captures` has sheets of captures for `check` in
-the same form, each with its answer. What a case of `run` writes is clean for `check`. Ends with 0 where each case passed.
+the same form, each with its answer, and `frames` sheets of lines for `show`. What a case of `run` writes is clean for
+`check`. Ends with 0 where each case passed.
 """
 import fnmatch
 import pathlib
@@ -74,7 +75,7 @@ def folder_case(case):
 
 def parts(sheet):
     """The name, the answer and the input of each part of a sheet."""
-    for part in ("\n" + sheet.read_text(encoding="utf-8")).split("\n== ")[1:]:
+    for part in ("\n" + sheet.read_bytes().decode()).split("\n== ")[1:]:
         name, _, text = part.partition("\n")
         answer, _, source = text.partition("\n")
         yield name, answer, source
@@ -94,7 +95,13 @@ def capture_cases(sheet):
         yield f"{sheet.stem} {name}", b"", [b"check"], source.encode(), other_output(answer.encode() + b"\n"), status
 
 
-SHEETS = {"refusals": refusal_cases, "captures": capture_cases}
+def frame_cases(sheet):
+    for name, answer, line in parts(sheet):
+        status = 3 if answer.startswith("refused ") else 0
+        yield f"{sheet.stem} {name}", b"", [b"show"], line.encode(), other_output(answer.encode() + b"\n"), status
+
+
+SHEETS = {"refusals": refusal_cases, "captures": capture_cases, "frames": frame_cases}
 
 
 def cases(folder):

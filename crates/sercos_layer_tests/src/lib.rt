@@ -18,14 +18,8 @@ mod layers;
 #[cfg(test)]
 mod links;
 #[cfg(test)]
-mod masters;
-#[cfg(test)]
-mod rings;
-#[cfg(test)]
 mod station;
 #[cfg(test)]
 mod steps;
 #[cfg(test)]
 mod stores;
-#[cfg(test)]
-mod traces;

@@ -143,22 +143,6 @@ fn refusal_cut_short(rt: HostRuntime) -> Result<(), Fail> {
     Ok(())
 }
 
-// The status of `show` over so many line feeds, and how many bytes it writes.
-fn feeds(alloc: Global, count: usize) -> Result<(Status, usize), Fail> {
-    let words = words_of(alloc, "show")?;
-    let mut source = PlainSource::new(vec![in alloc; 10u8; count]?);
-    let mut sink = MemorySink::new(Vec::with_capacity(alloc, 64)?, 64, Vec::new(alloc));
-    let status = sercos(alloc, &words, &mut source, &mut sink, Clean);
-    Ok((status, sink.as_slice().len()))
-}
-
-#[test]
-fn longest_input(rt: HostRuntime) -> Result<(), Fail> {
-    assert_eq!(rt; feeds(rt.alloc(), 1_048_577)?, (Status::TooLong, 0));
-    assert_eq!(rt; feeds(rt.alloc(), 1_048_576)?, (Status::Refused, 24));
-    Ok(())
-}
-
 // Where the words and the input are there and an allocation then fails, the status is Memory and nothing is written.
 // With ample memory the other tests compare the answer; this one is for runs in which each allocation fails in turn.
 #[test]

@@ -1,9 +1,6 @@
-// Ring documents and their plans: the layers below the top call, and the top call where source or sink fail.
-use crate::show::words_of;
+// Ring documents and their plans, by the layers below the top call.
 use arrayvec::ArrayVec;
-use sercos_app::{Clean, sercos};
-use sercos_config::{BadDocument, read_ring, write_refusal};
-use sercos_io::{MemorySink, MemorySource, PlainSource, Status};
+use sercos_config::read_ring;
 use sercos_plan::{Chain, Link, check_chain, plan};
 use sercos_timing::{Broken, Plan, Wishes, fits, valid, wire};
 use std::alloc::{AllocError, Global};
@@ -54,12 +51,6 @@ idn = \"S-0-0051\"
 attribute = 0x00220001
 data = 64500
 step = 10
-";
-
-// What `plan` answers in a cycle of 250 microseconds.
-const ANSWER: &[u8] = b"plan t2 83 t3 153 t4 230 mdt 16
-slot 1 t1 10 position 1
-slot 2 t1 46 position 9
 ";
 
 // The document with a cycle time.
@@ -119,26 +110,6 @@ fn read_with_ample_memory(rt: HostRuntime) -> Result<(), Fail> {
             assert_eq!(rt; (block.value.as_slice(), block.step), (value, step));
         }
     }
-    Ok(())
-}
-
-// A refusal with a path, over a sink in memory.
-#[test]
-fn refusal(rt: HostRuntime) -> Result<(), Fail> {
-    let text = document(rt.alloc(), "251")?;
-    let mut sink = MemorySink::new(Vec::with_capacity(rt.alloc(), 64)?, 7, Vec::new(rt.alloc()));
-    match read_ring(rt.alloc(), text.as_slice()) {
-        Ok(_) => assert!(rt; false),
-        Err(bad) => {
-            if !matches!(&bad, BadDocument::Memory) {
-                assert!(rt; write_refusal(&bad, &mut sink).is_ok());
-            }
-        }
-    }
-    assert_eq!(rt;
-        sink.as_slice(),
-        b"refused 4 range ring.cycle 251\n".as_slice()
-    );
     Ok(())
 }
 
@@ -241,47 +212,4 @@ fn wires(rt: HostRuntime) {
     ] {
         assert_eq!(rt; wire(bytes), bits);
     }
-}
-
-// A source that is too long, and one whose first read fails: nothing is written.
-#[test]
-fn bad_sources(rt: HostRuntime) -> Result<(), Fail> {
-    let alloc = rt.alloc();
-    let words = words_of(alloc, "plan")?;
-    let mut sink = MemorySink::new(Vec::with_capacity(alloc, 64)?, 64, Vec::new(alloc));
-    let mut long = PlainSource::new(vec![in alloc; 10u8; 1_048_577]?);
-    assert_eq!(rt;
-        sercos(alloc, &words, &mut long, &mut sink, Clean),
-        Status::TooLong
-    );
-    let failing = Vec::from_slice(alloc, &[1u32])?;
-    let mut source = MemorySource::new(document(alloc, "250")?, 64, failing);
-    assert_eq!(rt;
-        sercos(alloc, &words, &mut source, &mut sink, Clean),
-        Status::ReadFault
-    );
-    assert_eq!(rt; sink.as_slice().len(), 0);
-    Ok(())
-}
-
-// A sink of eight bytes a call holds a prefix of the answer where one of its calls fails, and all of it where none does.
-#[test]
-fn bad_sinks(rt: HostRuntime) -> Result<(), Fail> {
-    let alloc = rt.alloc();
-    let words = words_of(alloc, "plan")?;
-    for call in 1..12u32 {
-        let mut source = PlainSource::new(document(alloc, "250")?);
-        let failing = Vec::from_slice(alloc, &[call])?;
-        let mut sink = MemorySink::new(Vec::with_capacity(alloc, 128)?, 8, failing);
-        let status = sercos(alloc, &words, &mut source, &mut sink, Clean);
-        let held = (8 * (call as usize - 1)).min(ANSWER.len());
-        let wanted = if held < ANSWER.len() {
-            Status::WriteFault
-        } else {
-            Status::Done
-        };
-        assert_eq!(rt; status, wanted, "write {call}");
-        assert_eq!(rt; sink.as_slice(), &ANSWER[..held], "write {call}");
-    }
-    Ok(())
 }

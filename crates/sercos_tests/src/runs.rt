@@ -1,6 +1,4 @@
 // Runs: the whole answer of a short one, sinks that fail within a trace, and links handed in.
-ghost use Rattle.std.specs.Prelude.{◌≤◌};
-
 use crate::show::words_of;
 use sercos_app::{Clean, answer_in_memory, sercos};
 use sercos_io::{MemorySink, PlainSource, Status};
@@ -103,21 +101,6 @@ fn run(
     Ok((status, sink))
 }
 
-// The same with a request, into a sink that takes at most a piece of this size a call, and of which one call fails.
-fn run_by(alloc: Global, piece: u32, failing: u32) -> Result<(Status, MemorySink), AllocError>
-    requires { 1 ≤ piece }
-{
-    let words = words_of(alloc, "run")?;
-    let mut source = PlainSource::new(document(alloc, "300", READ)?);
-    let mut sink = MemorySink::new(
-        Vec::with_capacity(alloc, 65536)?,
-        piece,
-        Vec::from_slice(alloc, &[failing])?,
-    );
-    let status = sercos(alloc, &words, &mut source, &mut sink, Clean);
-    Ok((status, sink))
-}
-
 // Whether the text has this line.
 fn has_line(text: &[u8], wanted: &str) -> bool {
     text.split(|byte| *byte == b'\n')
@@ -164,22 +147,6 @@ fn sinks_that_fail_within_a_trace(rt: HostRuntime) -> Result<(), Fail> {
         assert_eq!(rt; status.code(), 5);
         assert_eq!(rt; sink.as_slice(), held.as_bytes(), "write {call}");
     }
-    Ok(())
-}
-
-// A sink that takes one byte a call gets the same bytes as one that takes many; if its tenth call fails, it holds the first nine.
-#[test]
-fn sinks_of_single_bytes(rt: HostRuntime) -> Result<(), Fail> {
-    let alloc = rt.alloc();
-    let (wide, whole) = run_by(alloc, 1000, 1_000_000)?;
-    let (narrow, bytes) = run_by(alloc, 1, 1_000_000)?;
-    let (cut, held) = run_by(alloc, 1, 10)?;
-    assert_eq!(rt; wide, Status::Done);
-    assert_eq!(rt; narrow, Status::Done);
-    assert_eq!(rt; bytes.as_slice(), whole.as_slice());
-    assert!(rt; has_line(whole.as_slice(), "r 105 1 complete faff0000"));
-    assert_eq!(rt; cut, Status::WriteFault);
-    assert_eq!(rt; held.as_slice(), b"sercos 1\n".as_slice());
     Ok(())
 }
 
