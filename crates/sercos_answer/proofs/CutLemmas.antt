@@ -41,7 +41,7 @@ first_line-cases byte bytes true e = lines_of-feed byte bytes e
 first_line-cases byte bytes false e =
     lines_of-more byte bytes e ∙ rest_line byte bytes ∙ rw (before_first-more byte bytes e, after_first-more byte bytes e) refl
 
--- the first line of a text that isn't empty, and the lines behind it
+-- the first line of a text that isn't empty, and the lines after it
 pub lines_of-first : (bytes : List ℕ) → 0 < length bytes → lines_of bytes ≡ before_first is_feed bytes ∷ lines_of (after_first is_feed bytes)
 lines_of-first [] some = absurd (omega arith)
 lines_of-first (byte ∷ bytes) some = first_line-cases byte bytes (is_feed byte) refl

@@ -11,7 +11,7 @@ pub record Answer : Type 0 where
 abbrev pub line_feed : List ℕ
 line_feed = 10 ∷ []
 
--- two numbers, each behind its name
+-- two numbers, each after its name
 unfoldable pub two_numbers : List ℕ → ℕ → List ℕ → ℕ → List ℕ
 two_numbers first a second b = first ++ decimal a ++ second ++ decimal b
 

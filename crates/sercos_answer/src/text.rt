@@ -20,7 +20,7 @@ pub fn push_number(number: u64, out: &mut Vec<u8>) -> Result<(), AllocError>
     out.extend_from_slice(buffer.format(number).as_bytes())
 }
 
-/// Appends two numbers, each behind its name.
+/// Appends two numbers, each after its name.
 #[tactic(auto, unfolding(crate::specs::Answer::two_numbers))]
 pub fn push_two_numbers(
     first: &str,

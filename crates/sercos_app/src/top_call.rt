@@ -181,7 +181,7 @@ pub fn sercos<S: Source, K: Sink, L: BitLink>(
     ensures no_form { form_of words.now ≡ None → (result ≡ Status.Memory) ⊎ (result ≡ Status.BadWords) }
     ensures unread { reads_input (form_of words.now) ≡ false → source.new ≡ source.old }
 
-    // What is taken from the source is lost: at most 1,048,577 bytes, and so many only where the answer is TooLong.
+    // What is taken from the source is lost: at most 1,048,577 bytes, and that number only if the answer is TooLong.
     ensures taken { TakesAtMost 1048577 (S.left source.old) (S.left source.new) }
     ensures taken_few { result ≢ Status.TooLong → TakesAtMost 1048576 (S.left source.old) (S.left source.new) }
 

@@ -38,7 +38,7 @@ added_swap (x ∷ xs) [] zs = refl
 added_swap (x ∷ xs) (y ∷ ys) [] = refl
 added_swap (x ∷ xs) (y ∷ ys) (z ∷ zs) = rw (sum_of_swap x y z, added_swap xs ys zs)
 
--- what is added behind the coefficients that are divided is added to the rest
+-- what is added after the coefficients that are divided is added to the rest
 divided_added : (n : ℕ) (y p : List Bool) → divided n (added (raised n y) p) ≡ added y (divided n p)
 unfolding divided added raised sum_of
 divided_added zero y p = refl
@@ -56,7 +56,7 @@ low_bits-mod (suc k) n =
     let others : n % 2 ^ suc k / 2 ≡ n / 2 % 2 ^ k = omega (arith, e) in
     rw (lowest, others, low_bits-mod k (n / 2))
 
-low_bits-halves : (n : ℕ) → low_bits 16 n ≡ low_bits 8 n ++ low_bits 8 (n / 256)
+pub low_bits-halves : (n : ℕ) → low_bits 16 n ≡ low_bits 8 n ++ low_bits 8 (n / 256)
 unfolding low_bits
 low_bits-halves n = let upper : n / 2 / 2 / 2 / 2 / 2 / 2 / 2 / 2 ≡ n / 256 = omega arith in rw upper
 

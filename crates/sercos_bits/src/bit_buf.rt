@@ -66,7 +66,7 @@ impl BitBuf {
         self.bits.as_slice()
     }
 
-    /// Puts a bit behind the others. `Full` where there are [`MAX_BITS`] already, which then stay.
+    /// Appends a bit. Returns `Full` if there are [`MAX_BITS`] bits already, which then stay as they are.
     pub fn push(&mut self, bit: bool) -> Result<(), Full>
         ensures full { IsErr result ↔ (length self.old ≡ 19696) }
         ensures ok { OnOk result (self.new ≡ self.old ++ bit ∷ []) }
@@ -75,7 +75,7 @@ impl BitBuf {
         self.bits.try_push(bit).map_err(|_| Full)
     }
 
-    /// Puts a bit behind the others, where there is room for it.
+    /// Appends a bit, where there is room for it.
     pub fn push_within(&mut self, bit: bool)
         requires { length self.old < 19696 }
         ensures { self.new ≡ self.old ++ bit ∷ [] }

@@ -8,7 +8,7 @@ mod register;
 mod spelling;
 
 pub use bit_buf::{BitBuf, MAX_BITS};
-pub use byte_list::{ByteList, Bytes, Content, Full, MAX_CONTENT, Text};
+pub use byte_list::{ByteList, Bytes, Content, Full, MAX_CONTENT, Text, byte_at};
 pub use check_sequence::{division_law, fcs};
 pub use register::Register;
 pub use spelling::{BadBits, bits_of, bytes_of, number_of, push_number};

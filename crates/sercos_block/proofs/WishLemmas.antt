@@ -6,10 +6,11 @@ use Rattle.std.proofs.lemmas.Bool.Decides.{nat_tests}
 use Rattle.std.proofs.lemmas.List.Elements.{All-tail}
 use Rattle.sercos_timing.specs.declared.wishes.Wish.{Wish}
 use Rattle.sercos_timing.specs.Order.{no_wish, record_bytes}
-use Rattle.sercos_timing.specs.Valid.{AreDistinct, addresses, IsWish, AreDrives, IsOrder, is_rate, AreCycles, IsValid}
+use Rattle.sercos_timing.specs.Limits.{most_drives, most_address, most_records, most_cycle, most_gap}
+use Rattle.sercos_timing.specs.Valid.{AreDistinct, addresses, IsWish, AreDrives, IsOrder, is_rate, AreCycles, IsValid, is_cycle, is_control, is_address}
 use Rattle.sercos_block.proofs.OpenLemmas.{either_none}
 use Rattle.sercos_block.specs.Views.{DriveView, RingView}
-use Rattle.sercos_block.specs.Rings.{HasLens, is_cycle, is_control, are_ring_numbers, has_ring_numbers, is_address, are_drive_numbers, has_drive_numbers, has_address, is_drive, are_drives, is_turn, are_turns, is_order, has_drives, is_ring, mdt_len, record_len, wish_of, wishes_of}
+use Rattle.sercos_block.specs.Rings.{HasLens, are_ring_numbers, has_ring_numbers, are_drive_numbers, has_drive_numbers, has_address, is_drive, are_drives, is_turn, are_turns, is_order, has_drives, is_ring, mdt_len, record_len, wish_of, wishes_of}
 
 not_false : (b : Bool) → not b ≡ true → b ≡ false
 not_false false h = refl
@@ -81,7 +82,7 @@ drive_at before (d ∷ drives) ok lens zero in' =
     let (_, numbers) = and_parts (not (has_address d.address before)) _ here in
     let (numbers', _) = and_parts (has_drive_numbers d) _ numbers in
     let (address, _) = and_parts (is_address d.address) _ numbers' in
-    let (low, high) = and_parts (nat_le 1 d.address) (nat_le d.address 254) address in
+    let (low, high) = and_parts (nat_le 1 d.address) (nat_le d.address most_address) address in
     let lens' : HasLens (wish_of d) = lens 0 no_wish (omega arith) in
     record { address = (grind (arith, nat_tests), grind (arith, nat_tests)); at_len = (lens'.0, lens'.1); record_len = (lens'.2, lens'.3) }
 drive_at before (d ∷ drives) ok lens (suc k) in' =
@@ -130,9 +131,9 @@ AreCycles-has_ring_numbers r ok =
     let (rate, rest) = and_parts (is_rate r.rate) _ ok in
     let (cycle, rest2) = and_parts (is_cycle r.cycle) _ rest in
     let (control, rest3) = and_parts (is_control r.cycle r.control) _ rest2 in
-    let (gap, _) = and_parts (nat_le r.gap 1000) _ rest3 in
-    let (some, rest4) = and_parts (nat_le 1 r.control) _ control in
-    let (_, multiple) = and_parts (nat_le r.control 64000) (r.control % r.cycle == 0) rest4 in
+    let (_, rest4) = and_parts (nat_le r.control most_cycle) _ rest3 in
+    let (gap, _) = and_parts (nat_le r.gap most_gap) _ rest4 in
+    let (some, multiple) = and_parts (nat_le 1 r.control) (r.control % r.cycle == 0) control in
     record {
       rate = rates r.rate (or_cases (r.rate == 2) _ rate);
       cycle = cycles r.cycle (or_cases (r.cycle == 125) _ cycle);
@@ -164,11 +165,11 @@ AreDrives-has_drives : (r : RingView) → has_drives r ≡ true → All HasLens 
 unfolding has_drives mdt_len wishes_of
 AreDrives-has_drives r ok lens =
     let (some, rest) = and_parts (nat_le 1 (length r.drives)) _ ok in
-    let (few, rest2) = and_parts (nat_le (length r.drives) 64) _ rest in
-    let (drives, len) = and_parts (are_drives [] r.drives) (nat_le (mdt_len r.drives) 2047) rest2 in
+    let (few, rest2) = and_parts (nat_le (length r.drives) most_drives) _ rest in
+    let (drives, len) = and_parts (are_drives [] r.drives) (nat_le (mdt_len r.drives) most_records) rest2 in
     let count = length_wishes r.drives in
     let sum = sum_wishes r.drives in
-    let most : sum_by record_len r.drives ≤ 2047 = grind (arith, nat_tests) in
+    let most : sum_by record_len r.drives ≤ most_records = grind (arith, nat_tests) in
     record {
       some = rw count (grind (arith, nat_tests));
       few = rw count (grind (arith, nat_tests));

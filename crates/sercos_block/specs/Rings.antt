@@ -1,5 +1,5 @@
 -- The rules that a ring and its drives keep, and what a ring asks of its plan.
-use Rattle.std.specs.Prelude.{ℕ, ◌+◌, ◌≤◌, ◌%◌, ◌==◌, nat_lt, nat_le, Bool, true, false, not, ◌&&◌, ◌||◌, if◌then◌else◌, List, [], ◌∷◌, ◌++◌, length, map, Option, Some, None, is_some, is_none, unwrap_or, option_map, option_and_then}
+use Rattle.std.specs.Prelude.{ℕ, ◌+◌, ◌≤◌, ◌==◌, nat_lt, nat_le, Bool, true, false, not, ◌&&◌, if◌then◌else◌, List, [], ◌∷◌, ◌++◌, length, map, Option, Some, None, is_some, is_none, unwrap_or, option_map, option_and_then}
 use Rattle.std.specs.List.{list_all, list_any, find, sum_by}
 use Rattle.std.specs.Option.{option_or}
 use Rattle.sercos_idn.specs.declared.idn.Idn.{Idn}
@@ -9,10 +9,12 @@ use Rattle.sercos_idn.specs.Attributes.{attribute_of}
 use Rattle.sercos_timing.specs.declared.wishes.Times.{Times}
 use Rattle.sercos_timing.specs.declared.wishes.Wish.{Wish}
 use Rattle.sercos_timing.specs.Views.{WishesView}
-use Rattle.sercos_timing.specs.Valid.{is_rate}
+use Rattle.sercos_timing.specs.Limits.{most_drives, most_records, most_cycle, most_gap, most_t1min, most_tatmt, most_t4min, most_tatat, most_tmtsy, most_tmtsg}
+use Rattle.sercos_timing.specs.Valid.{is_address, is_rate, is_cycle, is_control}
 use Rattle.sercos_block.specs.declared.block.Block.{Block}
 use Rattle.sercos_block.specs.declared.built_in.BuiltIn.{BuiltIn}
 use Rattle.sercos_block.specs.BuiltIns.{built_ins}
+use Rattle.sercos_block.specs.Limits.{most_blocks, most_busy, most_command, most_cycles}
 use Rattle.sercos_block.specs.Views.{DriveView, RingView}
 use Rattle.sercos_block.specs.Blocks.{is_number}
 use Rattle.sercos_block.specs.Rules.{blocks_fault}
@@ -64,19 +66,11 @@ record_len d = listed_len d.blocks d.mdt
 unfoldable pub mdt_len : List DriveView → ℕ
 mdt_len drives = sum_by record_len drives
 
--- the cycle times of this profile, in microseconds: 125, 250 and multiples of 250 up to 64000
-unfoldable pub is_cycle : ℕ → Bool
-is_cycle cycle = (cycle == 125) || (nat_le 250 cycle && (nat_le cycle 64000 && (cycle % 250 == 0)))
-
--- the control unit cycle time is a positive multiple of the cycle time, at most 64000
-unfoldable pub is_control : ℕ → ℕ → Bool
-is_control cycle control = nat_le 1 control && (nat_le control 64000 && (control % cycle == 0))
-
 -- the ring's own numbers: the rate, the cycle time, the control unit cycle time, the gap, and how many cycles it runs
 unfoldable pub are_ring_numbers : ℕ → ℕ → ℕ → ℕ → ℕ → Bool
 are_ring_numbers rate cycle control gap cycles =
-    is_rate rate && (is_cycle cycle && (is_control cycle control
-    && (nat_le gap 1000 && (nat_le 1 cycles && nat_le cycles 50000))))
+    is_rate rate && (is_cycle cycle && (is_control cycle control && (nat_le control most_cycle
+    && (nat_le gap most_gap && (nat_le 1 cycles && nat_le cycles most_cycles)))))
 
 abbrev pub has_ring_numbers : RingView → Bool
 has_ring_numbers r = are_ring_numbers r.rate r.cycle r.control r.gap r.cycles
@@ -84,25 +78,21 @@ has_ring_numbers r = are_ring_numbers r.rate r.cycle r.control r.gap r.cycles
 -- the times that a drive declares, in microseconds
 unfoldable pub are_times : Times → Bool
 are_times t =
-    nat_le t.t1min 300 && (nat_le t.tatmt 300 && (nat_le t.t4min 64000 && (nat_le t.tatat 64000
-    && (nat_le t.tmtsy 250 && nat_le t.tmtsg 64000))))
-
--- an address of a drive or a slave
-abbrev pub is_address : ℕ → Bool
-is_address n = nat_le 1 n && nat_le n 254
+    nat_le t.t1min most_t1min && (nat_le t.tatmt most_tatmt && (nat_le t.t4min most_t4min && (nat_le t.tatat most_tatat
+    && (nat_le t.tmtsy most_tmtsy && nat_le t.tmtsg most_tmtsg))))
 
 -- a drive's own numbers: busy and command are cycles
 unfoldable pub are_drive_numbers : ℕ → ℕ → ℕ → ℕ → Times → ℕ → ℕ → Bool
 are_drive_numbers address slave busy command times cycle_min cycle_max =
-    is_address address && (is_address slave && (nat_le busy 20 && (nat_le command 200 && (are_times times
-    && (nat_le cycle_min 64000 && nat_le cycle_max 64000)))))
+    is_address address && (is_address slave && (nat_le busy most_busy && (nat_le command most_command && (are_times times
+    && (nat_le cycle_min most_cycle && nat_le cycle_max most_cycle)))))
 
 abbrev pub has_drive_numbers : DriveView → Bool
 has_drive_numbers d = are_drive_numbers d.address d.slave d.busy d.command d.times d.cycle_min d.cycle_max
 
--- at most 36 data blocks, which keep their rules
+-- not too many data blocks, which keep their rules
 unfoldable pub has_blocks : DriveView → Bool
-has_blocks d = nat_le (length d.blocks) 36 && is_none (blocks_fault [] d.blocks)
+has_blocks d = nat_le (length d.blocks) most_blocks && is_none (blocks_fault [] d.blocks)
 
 -- what its telegrams carry can stand in them
 unfoldable pub are_cyclic : List Block → List Idn → Bool
@@ -144,10 +134,11 @@ are_turns drives before (place ∷ order) = is_turn drives before place && are_t
 unfoldable pub is_order : ℕ → List ℕ → Bool
 is_order drives order = (length order == drives) && are_turns drives [] order
 
--- 1 to 64 drives, whose data records fit into an MDT of 2048 bytes of content
+-- at least one drive, and not too many, whose data records fit into an MDT
 unfoldable pub has_drives : RingView → Bool
 has_drives r =
-    nat_le 1 (length r.drives) && (nat_le (length r.drives) 64 && (are_drives [] r.drives && nat_le (mdt_len r.drives) 2047))
+    nat_le 1 (length r.drives)
+    && (nat_le (length r.drives) most_drives && (are_drives [] r.drives && nat_le (mdt_len r.drives) most_records))
 
 unfoldable pub is_ring : RingView → Bool
 is_ring r = has_ring_numbers r && (has_drives r && is_order (length r.drives) r.order)

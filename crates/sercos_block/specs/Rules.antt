@@ -9,6 +9,7 @@ use Rattle.sercos_block.specs.declared.block.Block.{Block}
 use Rattle.sercos_block.specs.declared.check.Field.{Field}
 use Rattle.sercos_block.specs.declared.check.Field.TheVariants.{Idn, Name, Unit, Min, Max, MaxLen, Value, Step, Fails}
 use Rattle.sercos_block.specs.declared.check.BadBlock.{BadBlock}
+use Rattle.sercos_block.specs.Limits.{most_name, most_unit, most_data}
 use Rattle.sercos_block.specs.Blocks.{is_number, number_end}
 use Rattle.sercos_block.specs.BuiltIns.{is_built_in}
 
@@ -30,9 +31,9 @@ abbrev pub is_limit : Attribute → Option ℕ → Bool
 is_limit a None = true
 is_limit a (Some bits) = is_number a && nat_lt bits (number_end a.length)
 
--- the most bytes of a list are 1 to 1024 and whole items; what is no list has none
+-- the most bytes of a list are at least 1, not too many, and whole items; what is no list has none
 abbrev pub is_max_len : Attribute → ℕ → Bool
-is_max_len a most = if is_list a.length then nat_le 1 most && (nat_le most 1024 && (most % item_len a.length == 0)) else most == 0
+is_max_len a most = if is_list a.length then nat_le 1 most && (nat_le most most_data && (most % item_len a.length == 0)) else most == 0
 
 -- The operation data of a list has at most its most bytes, in whole items; that of a number has the number's bytes; that
 -- of a procedure command is 0.
@@ -50,8 +51,8 @@ is_step b = (b.step == 0) || (is_number b.attribute && (is_none b.min && is_none
 unfoldable pub block_fault : List Block → Block → Option Field
 block_fault before b =
     option_or (then_some (is_built_in b.idn.raw || has_block b.idn.raw before) Idn)
-    (option_or (then_some (not (is_text 60 b.name)) Name)
-    (option_or (then_some (not (is_text 12 b.unit)) Unit)
+    (option_or (then_some (not (is_text most_name b.name)) Name)
+    (option_or (then_some (not (is_text most_unit b.unit)) Unit)
     (option_or (then_some (not (is_limit b.attribute b.min)) Min)
     (option_or (then_some (not (is_limit b.attribute b.max)) Max)
     (option_or (then_some (not (is_max_len b.attribute b.max_len)) MaxLen)

@@ -1,15 +1,16 @@
 // The rules that a drive's own data blocks keep.
-ghost use Rattle.std.specs.Prelude.{◌≡◌, ◌==◌, []};
+ghost use Rattle.std.specs.Prelude.{◌≡◌, ◌≤◌, ◌==◌, true, [], length, Some};
 ghost use Rattle.std.specs.Result.{result_err};
 ghost use Rattle.std.specs.List.{list_all};
-ghost use Rattle.sercos_block.specs.Blocks.{is_number};
 ghost use Rattle.sercos_block.specs.Rules.{has_block, is_printable, is_text, is_limit, is_max_len, is_value, is_step, block_fault, blocks_fault};
 
 use crate::block::Block;
 use crate::built_in::is_built_in;
+use crate::limits::{MOST_DATA, MOST_NAME, MOST_UNIT};
 use crate::setup::DriveSetup;
+use crate::value::{is_number, number_end};
 use sercos_bits::Text;
-use sercos_idn::{Attribute, Idn, Length};
+use sercos_idn::{Attribute, Idn};
 
 /// Which part of a data block breaks a rule.
 #[derive(Clone, Copy, Debug, PartialEq, Eq)]
@@ -44,8 +45,8 @@ pub struct BadBlock {
     pub field: Field,
 }
 
-// Whether one of the blocks has the identifier number.
-fn has_block(blocks: &[Block], idn: Idn) -> bool
+/// Returns whether one of the blocks has the identifier number.
+pub fn has_block(blocks: &[Block], idn: Idn) -> bool
     ensures { result ≡ has_block idn.raw blocks.now }
 {
     blocks.iter().any(|block| block.idn == idn)
@@ -58,24 +59,25 @@ fn are_printable(bytes: &[u8]) -> bool
     bytes.iter().all(|byte| 0x20 <= *byte && *byte <= 0x7e)
 }
 
-// Whether a name or a unit can stand.
-fn is_text(text: &Option<Text>, most: usize) -> bool
+/// Returns whether a text can be a name or a unit: it has 1 to `most` bytes, all of them printable ASCII (this profile).
+pub fn is_text(text: &[u8], most: usize) -> bool
+    ensures value { result ≡ is_text most (Some text.now) }
+    ensures short { result ≡ true → length text.now ≤ most }
+{
+    let some = 1 <= text.len();
+    let few = text.len() <= most;
+    let plain = are_printable(text);
+    some && few && plain
+}
+
+// Whether a name or a unit can stand, of which there may be none.
+fn is_text_or_none(text: &Option<Text>, most: usize) -> bool
     ensures { result ≡ is_text most text.now }
 {
     match text {
         None => true,
-        Some(text) => {
-            let bytes = text.as_slice();
-            1 <= bytes.len() && bytes.len() <= most && are_printable(bytes)
-        }
+        Some(text) => is_text(text.as_slice(), most),
     }
-}
-
-// Whether the operation data is one number.
-pub(crate) fn is_number(attribute: &Attribute) -> bool
-    ensures { result ≡ is_number attribute.now }
-{
-    !attribute.length.is_list() && !attribute.command
 }
 
 // Whether a minimum or a maximum can stand.
@@ -84,7 +86,7 @@ fn is_limit(attribute: &Attribute, limit: Option<u32>) -> bool
 {
     match limit {
         None => true,
-        Some(bits) => is_number(attribute) && (attribute.length != Length::Two || bits < 0x1_0000),
+        Some(bits) => is_number(attribute) && u64::from(bits) < number_end(attribute.length),
     }
 }
 
@@ -93,7 +95,7 @@ fn is_max_len(attribute: &Attribute, most: u16) -> bool
     ensures { result ≡ is_max_len attribute.now most }
 {
     if attribute.length.is_list() {
-        1 <= most && most <= 1024 && usize::from(most) % attribute.length.item_len() == 0
+        1 <= most && most <= MOST_DATA && usize::from(most) % attribute.length.item_len() == 0
     } else {
         most == 0
     }
@@ -134,10 +136,10 @@ fn block_fault(before: &[Block], block: &Block) -> Option<Field>
     if is_built_in(block.idn) || has_block(before, block.idn) {
         return Some(Field::Idn);
     }
-    if !is_text(&block.name, 60) {
+    if !is_text_or_none(&block.name, MOST_NAME) {
         return Some(Field::Name);
     }
-    if !is_text(&block.unit, 12) {
+    if !is_text_or_none(&block.unit, MOST_UNIT) {
         return Some(Field::Unit);
     }
     if !is_limit(&block.attribute, block.min) {

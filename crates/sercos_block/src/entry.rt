@@ -5,6 +5,7 @@ ghost use Rattle.sercos_block.specs.Blocks.{bytes_for, element_of};
 
 use crate::block::Block;
 use sercos_bits::Text;
+use sercos_idn::element::{ATTRIBUTE, MAXIMUM, MINIMUM, NAME, UNIT};
 use sercos_idn::{Attribute, Length};
 use std::marker::Model;
 
@@ -91,15 +92,15 @@ impl Entry {
         ensures value { option_map (λ b. b.now) result ≡ element_of self.now element }
         ensures bound { IfSome result (λ b. length b.now ≤ 1024) }
     {
-        if element == 2 {
+        if element == NAME {
             text_bytes(&self.block.name)
-        } else if element == 3 {
+        } else if element == ATTRIBUTE {
             Some(&self.attribute)
-        } else if element == 4 {
+        } else if element == UNIT {
             text_bytes(&self.block.unit)
-        } else if element == 5 {
+        } else if element == MINIMUM {
             limit_bytes(&self.block.attribute, self.block.min, &self.min)
-        } else if element == 6 {
+        } else if element == MAXIMUM {
             limit_bytes(&self.block.attribute, self.block.max, &self.max)
         } else {
             Some(self.block.value.as_slice())

@@ -3,22 +3,25 @@
 
 mod block;
 mod built_in;
+mod carried;
 mod check;
 mod entry;
 mod law;
+pub mod limits;
 pub mod numbers;
 mod ring;
 mod setup;
 mod store;
+mod value;
+mod wishes;
 mod write;
 
 pub use block::Block;
 pub use built_in::{BUILT_IN, BuiltIn, Opening, is_built_in};
-pub use check::{BadBlock, Field, check_blocks};
+pub use carried::{attribute_in, block_attribute, cyclic_len, mdt_len, number_len};
+pub use check::{BadBlock, Field, check_blocks, has_block, is_text};
 pub use law::{ring_law, store_law};
-pub use ring::{
-    attribute_in, block_attribute, cyclic_len, has_address, has_other_data, is_cycle, mdt_len,
-    number_len,
-};
+pub use ring::{has_address, has_other_data};
 pub use setup::{DriveSetup, RingSetup};
 pub use store::Store;
+pub use value::{bits_in, bytes_for, is_number, number_end};

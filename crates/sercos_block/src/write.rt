@@ -1,12 +1,13 @@
 // Why operation data can't be written.
-ghost use Rattle.std.specs.Prelude.{◌≡◌, ◌≤◌, ◌<◌, ◌||◌, IfSome, int_lt, length, option_map, true, false, None};
+ghost use Rattle.std.specs.Prelude.{◌≡◌, ◌<◌, ◌||◌, IfSome, length, option_map, true, false, None};
 ghost use Rattle.sercos_idn.specs.Codes.{is_list, item_len};
-ghost use Rattle.sercos_block.specs.Blocks.{bits_in, number_end, meant, is_fixed, is_protected};
+ghost use Rattle.sercos_block.specs.Blocks.{number_end, is_fixed, is_protected};
 ghost use Rattle.sercos_block.specs.Stores.{is_short, is_long, is_invalid, is_below, is_above, write_fault, data_fault, is_sound};
 
 use crate::block::Block;
-use crate::check::is_number;
-use sercos_idn::{Attribute, Code, Form, Length};
+use crate::value::{bits_in, is_less, is_number};
+use sercos_idn::command::{CANCEL, SET};
+use sercos_idn::{Attribute, Code};
 
 // Whether the operation data can never be written.
 fn is_fixed(block: &Block) -> bool
@@ -61,45 +62,6 @@ fn is_long(block: &Block, bytes: &[u8]) -> bool
     bytes.len() > most
 }
 
-// The bits of the number that the bytes of a value are.
-fn bits_in(attribute: &Attribute, bytes: &[u8]) -> u32
-    requires value { is_list attribute.now.length ≡ false }
-    requires len { length bytes.now ≡ item_len attribute.now.length }
-    ensures value { result ≡ bits_in attribute.now bytes.now }
-    ensures bound { result < number_end attribute.now.length }
-{
-    if attribute.length == Length::Two {
-        u32::from(u16::from_le_bytes([bytes[0], bytes[1]]))
-    } else {
-        u32::from_le_bytes([bytes[0], bytes[1], bytes[2], bytes[3]])
-    }
-}
-
-// The number that bits mean.
-fn meant(attribute: &Attribute, bits: u32) -> i64
-    requires { bits < number_end attribute.now.length }
-    ensures { result ≡ meant attribute.now bits }
-{
-    if attribute.form == Form::Signed {
-        if attribute.length == Length::Two {
-            i64::from((bits as u16).cast_signed())
-        } else {
-            i64::from(bits.cast_signed())
-        }
-    } else {
-        i64::from(bits)
-    }
-}
-
-// Whether one number is less than another, each given by its bits.
-fn is_less(attribute: &Attribute, first: u32, second: u32) -> bool
-    requires first { first < number_end attribute.now.length }
-    requires second { second < number_end attribute.now.length }
-    ensures { result ≡ int_lt (meant attribute.now first) (meant attribute.now second) }
-{
-    meant(attribute, first) < meant(attribute, second)
-}
-
 // Whether the bytes, of which there are as many as a value has, are no value.
 fn is_invalid(block: &Block, bytes: &[u8]) -> bool
     requires { is_list block.now.attribute.length ≡ false → length bytes.now ≡ item_len block.now.attribute.length }
@@ -110,7 +72,7 @@ fn is_invalid(block: &Block, bytes: &[u8]) -> bool
         return bytes.len() % attribute.length.item_len() != 0;
     }
     let bits = bits_in(attribute, bytes);
-    attribute.command && !(bits == 0 || bits == 3)
+    attribute.command && !(bits == u32::from(CANCEL) || bits == u32::from(SET))
 }
 
 // Whether the number lies below the minimum, if there is one.

@@ -8,6 +8,7 @@ use Rattle.sercos_telegram.specs.declared.layout.Kind.{Kind}
 use Rattle.sercos_telegram.specs.declared.layout.Kind.TheVariants as telegram
 use Rattle.sercos_telegram.specs.Faults.{mst_fault, joint_fault}
 use Rattle.sercos_timing.specs.Views.{WishesView}
+use Rattle.sercos_timing.specs.Limits.{early_at, early_mdt}
 use Rattle.sercos_timing.specs.Order.{record_bytes}
 use Rattle.sercos_timing.specs.Inequalities.{bound_9, greatest_tmtsy}
 use Rattle.sercos_trace.specs.Views.{SentView}
@@ -85,13 +86,13 @@ is_next_phase (Some c) phase = (phase == c.phase) || ((phase == c.phase + 1) || 
 abbrev pub keeps_phase : Option Command → SentView → Bool
 keeps_phase command s = not (is_mst s.kind) || is_next_phase command (slice_index s.content 1)
 
--- 5, start: an MST ends at 0. In phases 1 and 2 an AT starts at 300 microseconds and an MDT at 650; in phases 3 and 4 an AT starts
--- at its drive's T1min or later.
+-- 5, start: an MST ends at 0. In phases 1 and 2 ATs and MDTs have starts of their own; in phases 3 and 4 an AT starts at its
+-- drive's T1min or later.
 abbrev pub start_of : Kind → WishesView → ℕ → SentView → Bool
 start_of telegram.Mst w phase s = int_eq (end_of (mark_of s)) (pos 0)
 start_of telegram.At w phase s =
-    if nat_lt phase 3 then int_eq s.start (pos (w.rate * 300)) else le_z (pos (w.rate * (wish_for w (address_of s)).times.t1min)) s.start
-start_of telegram.Mdt w phase s = not (nat_lt phase 3) || int_eq s.start (pos (w.rate * 650))
+    if nat_lt phase 3 then int_eq s.start (pos (w.rate * early_at)) else le_z (pos (w.rate * (wish_for w (address_of s)).times.t1min)) s.start
+start_of telegram.Mdt w phase s = not (nat_lt phase 3) || int_eq s.start (pos (w.rate * early_mdt))
 
 abbrev pub keeps_start : WishesView → ℕ → SentView → Bool
 keeps_start w phase s = start_of s.kind w phase s
@@ -144,11 +145,11 @@ abbrev pub keeps_transition : WishesView → List Told → SentView → Bool
 keeps_transition w before s = not (is_cyclic_mdt (phase_before before) s.kind) || is_after_all w before s.start
 
 -- 9, end: after an MDT there is room for the gap, or for the greatest TMTSY if that is longer, before the next MST.
-abbrev pub has_turn : WishesView → SentView → Bool
-has_turn w s = le_z (end_of (mark_of s) +ℤ pos (w.rate * max w.gap (greatest_tmtsy w))) (pos (bound_9 w))
+abbrev pub has_room : WishesView → SentView → Bool
+has_room w s = le_z (end_of (mark_of s) +ℤ pos (w.rate * max w.gap (greatest_tmtsy w))) (pos (bound_9 w))
 
 abbrev pub keeps_end : WishesView → ℕ → SentView → Bool
-keeps_end w phase s = not (is_cyclic_mdt phase s.kind) || has_turn w s
+keeps_end w phase s = not (is_cyclic_mdt phase s.kind) || has_room w s
 
 -- the number of the first rule that is not kept, counted from 1
 abbrev pub first_broken : List Bool → Option ℕ

@@ -2,6 +2,7 @@
 use Rattle.std.specs.Prelude.{◌≡◌, ℕ, ◌-◌, ◌==◌, nat_le, Bool, true, false, if◌then◌else◌, List, [], ◌∷◌, ◌++◌, length, map}
 use Rattle.std.specs.List.{position_or_len}
 use Rattle.sercos_timing.specs.declared.wishes.Wish.{Wish}
+use Rattle.sercos_timing.specs.Limits.{most_drives}
 use Rattle.sercos_timing.specs.Views.{WishesView}
 use Rattle.sercos_timing.specs.Valid.{IsValid}
 use Rattle.sercos_trace.specs.declared.reading.Line.{Line}
@@ -29,13 +30,13 @@ awaited_after (line.Drive wish ∷ before) = drive_or_order (drives_left before 
 awaited_after (line.End ∷ before) = awaited.Nothing
 awaited_after (_ ∷ before) = awaited.Cycle
 
--- the place of a line in a capture
-abbrev pub place_of : Line → Awaited
-place_of line.Version = awaited.Version
-place_of (line.Ring rate cycle control gap drives) = awaited.Ring
-place_of (line.Drive wish) = awaited.Drive
-place_of (line.Order addresses) = awaited.Order
-place_of _ = awaited.Cycle
+-- the part of a capture to which a line belongs
+abbrev pub part_of : Line → Awaited
+part_of line.Version = awaited.Version
+part_of (line.Ring rate cycle control gap drives) = awaited.Ring
+part_of (line.Drive wish) = awaited.Drive
+part_of (line.Order addresses) = awaited.Order
+part_of _ = awaited.Cycle
 
 -- the place of the drive with an address; the number of drives, which is no place, if there is none
 abbrev pub drive_place : List Wish → ℕ → ℕ
@@ -63,7 +64,7 @@ IsHeadValid before _ = Unit {0}
 
 -- a line can follow those before it
 abbrev pub CanFollow : List Line → Line → Type 0
-CanFollow before line = (awaited_after before ≡ place_of line) × IsHeadValid before line
+CanFollow before line = (awaited_after before ≡ part_of line) × IsHeadValid before line
 
 -- each line can follow those before it
 abbrev pub HasShape : List Line → Type 0
@@ -79,7 +80,8 @@ is_past_head _ = false
 abbrev pub has_head : List Line → Bool
 has_head lines = is_past_head (awaited_after lines)
 
--- What is kept of the head: `fits` says that the drives so far are at most 64, and then `wishes` are those that the lines spell.
+-- What is kept of the head: `fits` says that a ring can have as many drives as came so far, and then `wishes` are those that
+-- the lines spell.
 pub record HeadView : Type 0 where
   pub awaited : Awaited
   pub left : ℕ
@@ -89,7 +91,7 @@ pub record HeadView : Type 0 where
 pub record HeadStandsFor (v : HeadView) (lines : List Line) : Type 0 where
   pub awaited_is : v.awaited ≡ awaited_after lines
   pub left_is : v.left ≡ drives_left lines
-  pub fits_is : v.fits ≡ nat_le (length (wishes_by lines).drives) 64
+  pub fits_is : v.fits ≡ nat_le (length (wishes_by lines).drives) most_drives
   pub wishes_are : v.fits ≡ true → v.wishes ≡ wishes_by lines
 
 -- once the order has come, the wishes are valid

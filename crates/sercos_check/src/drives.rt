@@ -1,19 +1,13 @@
 // What drives ask of the plan, by their addresses.
-ghost use Rattle.std.specs.Prelude.{◌≡◌, ◌*◌, if◌then◌else◌, Some, None, slice_index};
+ghost use Rattle.std.specs.Prelude.{◌≡◌, ◌*◌, if◌then◌else◌, Some, None};
 ghost use Rattle.sercos_check.specs.Seen.{drive_with, is_at, address_of, mark_of};
 ghost use Rattle.sercos_check.specs.Found.{found_for};
 
 use crate::marks::{Mark, Note};
+use sercos_bits::byte_at;
 use sercos_telegram::Kind;
 use sercos_timing::{Wish, Wishes};
 use sercos_trace::Sent;
-
-// The byte at a place, 0 past the end.
-pub fn byte_at(bytes: &[u8], place: usize) -> u8
-    ensures { result ≡ slice_index bytes.now place }
-{
-    if place < bytes.len() { bytes[place] } else { 0 }
-}
 
 // The address of a telegram.
 pub fn address_of(sent: &Sent) -> u8

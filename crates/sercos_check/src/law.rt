@@ -1,6 +1,9 @@
 // How the shape of a capture and its rules go together.
-ghost use Rattle.sercos_check.specs.Tests.{TellsValid, TellsFollowing};
+ghost use Rattle.sercos_timing.specs.Tests.{TellsValid};
+ghost use Rattle.sercos_check.specs.Tests.{TellsFollowing};
 ghost use Rattle.sercos_check.specs.Verdicts.{ArePlainClean, ArePlainFaults, IsPlainHead, BreakRules};
+
+use sercos_timing::valid_law;
 
 /// A law: if each telegram of a capture is handed to a checker as [`Line::Other`](sercos_trace::Line::Other), what the checker
 /// says is the verdict on the shape of the capture alone; and lines of the right shape have no trouble but rules. So a first pass
@@ -18,4 +21,6 @@ pub fn shape_law()
 pub fn test_law()
     ensures valid { TellsValid }
     ensures follows { TellsFollowing }
-{}
+{
+    valid_law();
+}

@@ -1,4 +1,4 @@
-// Where telegrams stand in a cycle.
+// When telegrams are sent in a cycle.
 ghost use Rattle.std.specs.Prelude.{◌≡◌, ◌+ℤ◌, pos};
 ghost use Rattle.std.specs.Ordering.{int_eq};
 ghost use Rattle.sercos_check.specs.Seen.{end_of};
@@ -13,7 +13,7 @@ pub struct Command {
     pub phase: u8,
 }
 
-/// The place of a telegram in its cycle.
+/// When a telegram is sent in its cycle.
 #[derive(Clone, Copy, Debug, PartialEq, Eq)]
 pub struct Mark {
     /// Its start, in bit times after the MST's end.
@@ -22,19 +22,19 @@ pub struct Mark {
     pub bits: u32,
 }
 
-/// The place of a telegram, and the round in which it was noted.
+/// When a telegram was sent, and the round in which it was noted.
 #[derive(Clone, Copy)]
 pub struct Noted {
     /// The round.
     pub round: u8,
-    /// The place.
+    /// Its start and its length.
     pub mark: Mark,
 }
 
 /// What the rules for the next telegram need of a telegram.
 #[derive(Clone, Copy, Debug, PartialEq, Eq)]
 pub struct Note {
-    /// Its place in the cycle.
+    /// When it was sent in the cycle.
     pub mark: Mark,
     /// The slave that sent it, if it is an AT.
     pub sender: Option<u8>,
@@ -55,7 +55,7 @@ impl Mark {
         self.after(bits) <= time
     }
 
-    // Whether the telegram ends with the MST's place.
+    // Whether the telegram ends at bit time 0, as an MST does.
     pub fn ends_at_zero(self) -> bool
         ensures { result ≡ int_eq (end_of self) (pos 0) }
     {

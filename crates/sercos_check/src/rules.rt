@@ -5,21 +5,17 @@ ghost use Rattle.sercos_timing.specs.Valid.{IsValid};
 ghost use Rattle.sercos_timing.specs.Views.{WishesView};
 ghost use Rattle.sercos_check.specs.Seen.{phase_of};
 ghost use Rattle.sercos_check.specs.Found.{found_for};
-ghost use Rattle.sercos_check.specs.Rules.{is_next_cycle, is_same_cycle, starts_later, goes_on, keeps_frame, is_single, is_whole_at, is_joint, keeps_layout, is_next_phase, keeps_phase, start_of, keeps_start, is_cyclic, is_cyclic_at, is_cyclic_mdt, is_same_sender, gap_between, is_after_gap, keeps_gap, has_turn, keeps_end, first_broken};
+ghost use Rattle.sercos_check.specs.Rules.{is_next_cycle, is_same_cycle, starts_later, goes_on, keeps_frame, is_single, is_whole_at, is_joint, keeps_layout, is_next_phase, keeps_phase, start_of, keeps_start, is_cyclic, is_cyclic_at, is_cyclic_mdt, is_same_sender, gap_between, is_after_gap, keeps_gap, has_room, keeps_end, first_broken};
 ghost use Rattle.sercos_hdlc.specs.Stuffed.{frame_of};
 
-use crate::drives::{Found, address_of, bit_times, byte_at, mark_of};
+use crate::drives::{Found, address_of, bit_times, mark_of};
 use crate::marks::{Command, Note};
-use sercos_bits::{Content, MAX_CONTENT};
+use sercos_bits::{Content, MAX_CONTENT, byte_at};
 use sercos_hdlc::frame_len;
 use sercos_telegram::{Kind, read_mst};
 use sercos_timing::Wishes;
+use sercos_timing::limits::{EARLY_AT, EARLY_MDT};
 use sercos_trace::Sent;
-
-// When ATs and MDTs start in phases 1 and 2, in microseconds after the MST's end.
-const EARLY_AT: u16 = 300;
-
-const EARLY_MDT: u16 = 650;
 
 // The bytes of an AT or MDT in phases 1 and 2, with the address.
 const SINGLE_LEN: usize = 5;
@@ -250,9 +246,9 @@ pub fn keeps_gap(w: &Wishes, phase: u8, newest: Option<Note>, sent: &Sent, found
 }
 
 // Whether there is room for the gap, and for each drive's TMTSY, between an MDT and the next MST.
-fn has_turn(w: &Wishes, sent: &Sent) -> bool
+fn has_room(w: &Wishes, sent: &Sent) -> bool
     requires { IsValid w.now }
-    ensures { result ≡ has_turn w.now sent.now }
+    ensures { result ≡ has_room w.now sent.now }
 {
     let pause = w.gap().max(w.greatest_tmtsy()) as u16;
     mark_of(sent).is_after(bit_times(w, pause), i64::from(w.recovered_by() as u32))
@@ -263,10 +259,10 @@ pub fn keeps_end(w: &Wishes, phase: u8, sent: &Sent) -> bool
     requires { IsValid w.now }
     ensures { result ≡ keeps_end w.now phase sent.now }
 {
-    !is_cyclic_mdt(phase, sent.kind) || has_turn(w, sent)
+    !is_cyclic_mdt(phase, sent.kind) || has_room(w, sent)
 }
 
-// The place of the first rule that isn't kept.
+// The index of the first rule that isn't kept.
 fn first_place(kept: &[bool]) -> Option<usize>
     ensures value { result ≡ position not kept.now }
     ensures within { IfSome result (λ place. place < length kept.now) }

@@ -10,12 +10,13 @@ ghost use Rattle.sercos_check.specs.Kept.{is_from, heard_in, mark_in, SeenStands
 ghost use Rattle.sercos_check.specs.Rounds.{is_no_later, was_noted};
 ghost use Rattle.sercos_check.specs.Found.{found_for};
 
-use crate::drives::{Found, address_of, bit_times, byte_at};
+use crate::drives::{Found, address_of, bit_times};
 use crate::marks::{Command, Mark, Note, Noted, is_after_mark};
 use crate::rules::{
     first_broken, goes_on, is_cyclic_at, is_cyclic_mdt, is_next_cycle, keeps_end, keeps_frame,
     keeps_gap, keeps_layout, keeps_phase, keeps_start, phase_of,
 };
+use sercos_bits::byte_at;
 use sercos_telegram::Kind;
 use sercos_timing::Wishes;
 use sercos_trace::Sent;

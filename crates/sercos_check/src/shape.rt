@@ -1,6 +1,7 @@
 // The shape of a capture.
 ghost use Rattle.std.specs.Prelude.{◌≡◌, ◌-◌, ◌<◌, ◌≤◌, ◌==◌, ◌↔◌, nat_lt, ◌&&◌, true, false, IsTrue, if◌then◌else◌, List, [], ◌∷◌, ◌++◌, length};
 ghost use Rattle.std.specs.List.{position};
+ghost use Rattle.sercos_timing.specs.Limits.{most_drives};
 ghost use Rattle.sercos_timing.specs.Valid.{IsValid};
 ghost use Rattle.sercos_trace.specs.declared.reading.Line.{Line};
 ghost use Rattle.sercos_check.specs.declared.awaited.Awaited.TheVariants as awaited;
@@ -62,8 +63,8 @@ fn place(drives: &[Wish], address: u8) -> usize
 
 // The place of each address among the drives.
 fn places(drives: &[Wish], addresses: &[u8]) -> ArrayVec<u8, 64>
-    requires drives { length drives.now ≤ 64 }
-    requires addresses { length addresses.now ≤ 64 }
+    requires drives { length drives.now ≤ most_drives }
+    requires addresses { length addresses.now ≤ most_drives }
     ensures { result.items ≡ places drives.now addresses.now }
 {
     let mut order = ArrayVec::new();
@@ -148,8 +149,8 @@ impl Head {
         ensures same { result ≡ false → self.new ≡ self.old }
         ensures awaited { result ≡ true → self.new.awaited ≡ drive_or_order (self.old.left - 1) }
         ensures left { result ≡ true → self.new.left ≡ self.old.left - 1 }
-        ensures fits { result ≡ true → self.new.fits ≡ (self.old.fits && nat_lt (length self.old.wishes.drives) 64) }
-        ensures wishes { result ≡ true → length self.old.wishes.drives < 64 → self.new.wishes ≡ record self.old.wishes { drives = self.old.wishes.drives ++ wish.now ∷ [] } }
+        ensures fits { result ≡ true → self.new.fits ≡ (self.old.fits && nat_lt (length self.old.wishes.drives) most_drives) }
+        ensures wishes { result ≡ true → length self.old.wishes.drives < most_drives → self.new.wishes ≡ record self.old.wishes { drives = self.old.wishes.drives ++ wish.now ∷ [] } }
     {
         if self.awaited != Awaited::Drive {
             return false;
@@ -166,7 +167,7 @@ impl Head {
 
     // The line of the order.
     fn order(&mut self, addresses: &[u8]) -> bool
-        requires { length addresses.now ≤ 64 }
+        requires { length addresses.now ≤ most_drives }
         ensures can { IsTrue result ↔ ((self.old.awaited ≡ awaited.Order) × (self.old.fits ≡ true)
             × IsValid (record self.old.wishes { order = places self.old.wishes.drives addresses.now })) }
         ensures new { self.new ≡ (if result then record self.old { awaited = awaited.Cycle; wishes = record self.old.wishes { order = places self.old.wishes.drives addresses.now } } else self.old) }

@@ -5,7 +5,7 @@ use Rattle.sercos_idn.specs.Attributes.{attribute_of}
 use Rattle.sercos_block.specs.declared.block.Block.{Block}
 use Rattle.sercos_block.specs.Views.{DriveView}
 use Rattle.sercos_block.specs.BuiltIns.{built_in}
-use Rattle.sercos_block.specs.Rings.{is_cycle}
+use Rattle.sercos_timing.specs.Valid.{is_cycle}
 use Rattle.sercos_block.specs.Stores.{inserted, with_own, store_of, with_data}
 use Rattle.sercos_command.specs.Checks.{number_at, idns_at, carried_len, breaks_1, breaks_2, breaks_6, breaks_7, breaks_8, breaks_9, breaks_10, breaks_15, breaks_list, breaks_89, unfit_for_phase_3, unfit_for_phase_4, list_bytes}
 use Rattle.sercos_command.specs.Settings.{CommandsView, with_lists}

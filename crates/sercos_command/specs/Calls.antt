@@ -1,6 +1,7 @@
 -- What the calls on a drive's procedure commands come to. The newest call stands first.
 use Rattle.std.specs.Prelude.{◌≡◌, ℕ, ◌+◌, ◌≤◌, ◌==◌, nat_le, Bool, false, ◌&&◌, ◌||◌, if◌then◌else◌, List, [], ◌∷◌, min, is_none}
 use Rattle.std.specs.List.{list_any}
+use Rattle.sercos_idn.specs.Commands.{to_cancel}
 use Rattle.sercos_block.specs.declared.block.Block.{Block}
 use Rattle.sercos_command.specs.declared.commands.SetCommand.{SetCommand}
 use Rattle.sercos_command.specs.Settings.{CommandsView, find_set, without, with_set, ends_well, has_ended, status_by, is_from}
@@ -17,7 +18,7 @@ settings rate [] = []
 settings rate (Reset ∷ h) = []
 settings rate (Other cycle ∷ h) = settings rate h
 settings rate (Wrote raw value cycle blocks ∷ h) =
-    if value == 0 then without raw (settings rate h)
+    if value == to_cancel then without raw (settings rate h)
     else with_set (record { idn = record { raw = raw }; cycle = cycle; well = ends_well rate raw blocks }) (settings rate h)
 
 -- Whether a check, S-0-0127 or S-0-0128, counts as passed in a cycle: it was set while it wasn't, ended well by this cycle,
@@ -28,7 +29,7 @@ is_passed rate time check (Reset ∷ h) cycle = false
 is_passed rate time check (Other c ∷ h) cycle = false
 is_passed rate time check (Wrote raw value c blocks ∷ h) cycle =
     if raw == check
-    then (if value == 0 then is_passed rate time check h (min cycle c)
+    then (if value == to_cancel then is_passed rate time check h (min cycle c)
     else ((is_none (find_set check (settings rate h)) && (ends_well rate check blocks && nat_le (c + time) cycle)) || is_passed rate time check h cycle))
     else is_passed rate time check h cycle
 

@@ -4,7 +4,8 @@ use Rattle.std.specs.List.{list_all, sum_by, filter}
 use Rattle.sercos_model.specs.Frames.{wire_bits}
 use Rattle.sercos_idn.specs.declared.idn.Idn.{Idn}
 use Rattle.sercos_block.specs.declared.block.Block.{Block}
-use Rattle.sercos_block.specs.Rings.{is_cycle, number_len}
+use Rattle.sercos_timing.specs.Valid.{is_cycle}
+use Rattle.sercos_block.specs.Rings.{number_len}
 use Rattle.sercos_block.specs.Stores.{find_block, is_below, is_above}
 
 -- the operation data of the block with an identifier number, none where there is no such block
@@ -32,7 +33,7 @@ cyclic_len blocks raw = option_and_then (λ b. number_len b.attribute) (find_blo
 abbrev pub is_cyclic : List Block → Idn → Bool
 is_cyclic blocks idn = is_some (cyclic_len blocks idn.raw)
 
--- how many bytes a telegram has behind its address, or a data record, by the list of what it carries
+-- how many bytes a telegram has after its address, or a data record, by the list of what it carries
 unfoldable pub carried_len : List Block → ℕ → ℕ
 carried_len blocks list = 4 + sum_by (λ (idn : Idn). unwrap_or (cyclic_len blocks idn.raw) 0) (idns_at blocks list)
 
@@ -52,7 +53,7 @@ breaks_2 blocks = not (is_cycle (number_at blocks 2))
 unfoldable pub breaks_6 : List Block → Bool
 breaks_6 blocks = nat_lt (number_at blocks 6) (number_at blocks 3)
 
--- behind T4 there is the drive's time until the end of the cycle
+-- after T4 there is the drive's time until the end of the cycle
 unfoldable pub breaks_7 : List Block → Bool
 breaks_7 blocks = nat_lt (number_at blocks 2) (number_at blocks 7 + number_at blocks 5)
 
@@ -76,7 +77,7 @@ breaks_15 blocks = not (number_at blocks 15 == 7)
 unfoldable pub breaks_list : ℕ → List Block → Bool
 breaks_list list blocks = not (list_all (is_cyclic blocks) (idns_at blocks list))
 
--- the drive has its time between its AT, of so many bits at the most, and T2
+-- the drive has its time between its AT, at the longest that it can be on the link, and T2
 unfoldable pub breaks_89 : ℕ → List Block → Bool
 breaks_89 rate blocks =
     nat_lt (rate * number_at blocks 89) (rate * number_at blocks 6 + wire_bits (1 + carried_len blocks 16) + rate * number_at blocks 4)

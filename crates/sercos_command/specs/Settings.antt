@@ -1,6 +1,7 @@
 -- Which procedure commands are set, and what the checks are worth.
 use Rattle.std.specs.Prelude.{ℕ, ◌+◌, ◌==◌, nat_le, Bool, true, false, not, ◌&&◌, if◌then◌else◌, List, [], ◌∷◌, ◌++◌, length, min, Option, Some, None, is_some, is_none, option_map, unwrap_or}
 use Rattle.std.specs.List.{find, filter, list_all, list_any}
+use Rattle.sercos_idn.specs.Commands.{to_cancel, not_set_status, ended_well_status, running_status, error_status}
 use Rattle.sercos_block.specs.declared.block.Block.{Block}
 use Rattle.sercos_block.specs.Stores.{find_block, with_data}
 use Rattle.sercos_command.specs.declared.commands.SetCommand.{SetCommand}
@@ -45,8 +46,8 @@ has_ended time cycle s = nat_le (s.cycle + time) cycle
 
 -- the data status of a command in a cycle: 0 not set, 7 running, 3 ended well, 15 ended with an error
 abbrev pub status_by : ℕ → Option SetCommand → ℕ → ℕ
-status_by time None cycle = 0
-status_by time (Some s) cycle = if has_ended time cycle s then (if s.well then 3 else 15) else 7
+status_by time None cycle = not_set_status
+status_by time (Some s) cycle = if has_ended time cycle s then (if s.well then ended_well_status else error_status) else running_status
 
 abbrev pub status_in : CommandsView → ℕ → ℕ → ℕ
 status_in c raw cycle = status_by c.time (find_set raw c.set) cycle
@@ -74,7 +75,7 @@ from_cancel cycle (Some first) = if nat_le first cycle then Some first else None
 abbrev pub from_write : CommandsView → ℕ → ℕ → ℕ → ℕ → List Block → Option ℕ → Option ℕ
 from_write c check raw value cycle blocks first =
     if raw == check
-    then (if value == 0 then from_cancel cycle first
+    then (if value == to_cancel then from_cancel cycle first
     else (if is_none (find_set raw c.set) && ends_well c.rate raw blocks then from_setting (cycle + c.time) first else first))
     else first
 
@@ -83,7 +84,7 @@ unfoldable pub with_write : ℕ → ℕ → ℕ → List Block → CommandsView 
 with_write raw value cycle blocks c = record {
   rate = c.rate;
   time = c.time;
-  set = if value == 0 then without raw c.set else with_set (record { idn = record { raw = raw }; cycle = cycle; well = ends_well c.rate raw blocks }) c.set;
+  set = if value == to_cancel then without raw c.set else with_set (record { idn = record { raw = raw }; cycle = cycle; well = ends_well c.rate raw blocks }) c.set;
   passed_127 = from_write c 127 raw value cycle blocks c.passed_127;
   passed_128 = from_write c 128 raw value cycle blocks c.passed_128;
 }
@@ -100,7 +101,7 @@ without_settings c = record { rate = c.rate; time = c.time; set = []; passed_127
 -- S-0-0128 into S-0-0022.
 unfoldable pub with_lists : CommandsView → ℕ → ℕ → List Block → List Block
 with_lists c raw value blocks =
-    if not (value == 0) && is_none (find_set raw c.set)
+    if not (value == to_cancel) && is_none (find_set raw c.set)
     then (if raw == 127 then with_data 21 (list_bytes (unfit_for_phase_3 c.rate blocks)) blocks
     else (if raw == 128 then with_data 22 (list_bytes (unfit_for_phase_4 blocks)) blocks else blocks))
     else blocks

@@ -1,21 +1,15 @@
 // Numbers and lists of identifier numbers among the operation data of a store.
-ghost use Rattle.std.specs.Prelude.{◌≡◌, ◌≤◌, ◌<◌, ◌⊎◌, ◌+◌, length, slice_index, unwrap_or, IfSome};
+ghost use Rattle.std.specs.Prelude.{◌≡◌, ◌≤◌, ◌<◌, ◌⊎◌, ◌+◌, length, unwrap_or, IfSome};
 ghost use Rattle.std.specs.List.{list_all, sum_by};
 ghost use Rattle.sercos_command.specs.Checks.{number_at, idns_in, idns_at, cyclic_len, is_cyclic, carried_len, breaks_list};
 
 use arrayvec::ArrayVec;
+use sercos_bits::byte_at;
 use sercos_block::{Store, number_len};
 use sercos_idn::Idn;
 
 // The bytes of the two words that a telegram or a data record begins with.
 pub(crate) const WORDS: u32 = 4;
-
-// The byte at a place, 0 where there is none.
-fn byte_at(bytes: &[u8], place: usize) -> u8
-    ensures { result ≡ slice_index bytes.now place }
-{
-    if place < bytes.len() { bytes[place] } else { 0 }
-}
 
 /// Returns the first two bytes of the operation data of a block as a number, the low byte first. A missing byte is 0.
 #[tactic(auto, unfolding(crate::specs::Checks::number_at))]

@@ -1,5 +1,6 @@
 // The procedure commands of a drive.
 ghost use Rattle.std.specs.Prelude.{◌≡◌, ℕ, ◌==◌, ◌<◌, ◌≤◌, ◌⊎◌, List, [], ◌∷◌, length, None, true, is_some};
+ghost use Rattle.sercos_idn.specs.Commands.{to_cancel, to_set};
 ghost use Rattle.sercos_block.specs.declared.block.Block.{Block};
 ghost use Rattle.sercos_command.specs.Settings.{find_set, is_command, ends_well, status_in, change_in, is_from, with_write, without_checks, without_settings, with_lists, are_commands_of};
 ghost use Rattle.sercos_command.specs.Calls.{Call, Wrote, Other, Reset, newest, is_passed, CommandsStandFor, status_of, change_of};
@@ -11,6 +12,7 @@ use arrayvec::ArrayVec;
 use sercos_block::Store;
 use sercos_block::numbers::{PHASE_3_CHECK, PHASE_4_CHECK};
 use sercos_idn::Idn;
+use sercos_idn::command::CANCEL;
 use std::marker::Model;
 
 /// A procedure command that is set.
@@ -47,7 +49,7 @@ impl Model for Commands {
 }
 
 impl Commands {
-    /// The commands of a drive in a ring of a rate, in Mbit/s, each of which runs for so many cycles. No command is set.
+    /// The commands of a drive in a ring of a rate, in Mbit/s, each of which runs for `time` cycles. No command is set.
     #[tactic(auto, unfolding(crate::specs::Settings::are_distinct))]
     pub fn new(rate: u8, time: u16) -> Commands
         ensures view { result ≡ record { rate = rate; time = time; set = []; passed_127 = None; passed_128 = None } }
@@ -65,7 +67,7 @@ impl Commands {
     // Takes a cancel of a command.
     #[tactic(auto, using(crate::proofs::SetLemmas::distinct_without), unfolding(crate::specs::Settings::with_write))]
     fn cancel(&mut self, idn: Idn, cycle: u32)
-        ensures { (blocks : List Block) → self.new ≡ with_write idn.raw 0 cycle blocks self.old }
+        ensures { (blocks : List Block) → self.new ≡ with_write idn.raw to_cancel cycle blocks self.old }
     {
         self.passed_127 = after_cancel(self.passed_127, PHASE_3_CHECK, idn, cycle);
         self.passed_128 = after_cancel(self.passed_128, PHASE_4_CHECK, idn, cycle);
@@ -77,7 +79,7 @@ impl Commands {
     fn set(&mut self, idn: Idn, cycle: u32, well: bool)
         requires new { find_set idn.raw self.old.set ≡ None }
         requires room { length self.old.set < 64 }
-        ensures { (blocks : List Block) → well ≡ ends_well self.old.rate idn.raw blocks → self.new ≡ with_write idn.raw 3 cycle blocks self.old }
+        ensures { (blocks : List Block) → well ≡ ends_well self.old.rate idn.raw blocks → self.new ≡ with_write idn.raw to_set cycle blocks self.old }
     {
         let end = u64::from(cycle) + u64::from(self.time);
         self.passed_127 = after_setting(self.passed_127, PHASE_3_CHECK, idn, end, well);
@@ -88,12 +90,12 @@ impl Commands {
     // A write to a command: the commands and the blocks after it.
     #[tactic(auto, unfolding(crate::specs::Settings::with_write, crate::specs::Settings::with_lists))]
     fn take(&mut self, idn: Idn, value: u16, cycle: u32, store: &mut Store)
-        requires value { (value ≡ 0) ⊎ (value ≡ 3) }
+        requires value { (value ≡ to_cancel) ⊎ (value ≡ to_set) }
         requires set { are_commands_of store.old self.old ≡ true }
         ensures view { self.new ≡ with_write idn.raw value cycle store.old self.old }
         ensures blocks { store.new ≡ with_lists self.old idn.raw value store.old }
     {
-        if value == 0 {
+        if value == CANCEL {
             self.cancel(idn, cycle);
             return;
         }
@@ -111,7 +113,7 @@ impl Commands {
     /// that it fails.
     pub fn write(&mut self, idn: Idn, value: u16, cycle: u32, store: &mut Store)
         requires command { is_command store.old idn.raw ≡ true }
-        requires value { (value ≡ 0) ⊎ (value ≡ 3) }
+        requires value { (value ≡ to_cancel) ⊎ (value ≡ to_set) }
         requires set { are_commands_of store.old self.old ≡ true }
         ensures view { self.new ≡ with_write idn.raw value cycle store.old self.old }
         ensures blocks { store.new ≡ with_lists self.old idn.raw value store.old }

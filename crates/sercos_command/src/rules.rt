@@ -3,12 +3,12 @@ ghost use Rattle.std.specs.Prelude.{◌≡◌, ◌≤◌};
 ghost use Rattle.sercos_command.specs.Checks.{breaks_1, breaks_2, breaks_6, breaks_7, breaks_8, breaks_9, breaks_10, breaks_15, breaks_89};
 
 use crate::carried::{WORDS, carried_len, number_at};
+use sercos_block::Store;
 use sercos_block::numbers::{
     AT_LIST, CONTROL_CYCLE_TIME, CYCLE_TIME, MDT_LENGTH, MDT_LIST, POSITION, T1, T1MIN, T2, T3, T4,
     T4MIN, TATMT, TELEGRAM_TYPE,
 };
-use sercos_block::{Store, is_cycle};
-use sercos_timing::wire;
+use sercos_timing::{is_cycle, wire};
 
 // The telegram type of this profile.
 const CONFIGURED: u32 = 7;
@@ -28,7 +28,7 @@ pub(crate) fn breaks_1(store: &Store) -> bool
 pub(crate) fn breaks_2(store: &Store) -> bool
     ensures { result ≡ breaks_2 store.now }
 {
-    !is_cycle(number_at(store, CYCLE_TIME))
+    !is_cycle(number_at(store, CYCLE_TIME) as u16)
 }
 
 // The drive can't send at T1.
@@ -39,7 +39,7 @@ pub(crate) fn breaks_6(store: &Store) -> bool
     number_at(store, T1) < number_at(store, T1MIN)
 }
 
-// Behind T4 the drive has too little time until the end of the cycle.
+// After T4 the drive has too little time until the end of the cycle.
 #[tactic(auto, unfolding(crate::specs::Checks::breaks_7))]
 pub(crate) fn breaks_7(store: &Store) -> bool
     ensures { result ≡ breaks_7 store.now }

@@ -6,15 +6,7 @@ ghost use Rattle.sercos_command.specs.Settings.{find_set, without, has_ended, st
 use crate::commands::SetCommand;
 use arrayvec::ArrayVec;
 use sercos_idn::Idn;
-
-// The data status of a command that isn't set, that runs, that has ended well, and that has ended with an error.
-const NOT_SET: u16 = 0;
-
-const RUNNING: u16 = 7;
-
-const ENDED_WELL: u16 = 3;
-
-const ENDED_WITH_ERROR: u16 = 15;
+use sercos_idn::command::{ENDED_WELL, ENDED_WITH_ERROR, NOT_SET, RUNNING};
 
 // The setting of a command.
 pub(crate) fn find_set(set: &[SetCommand], idn: Idn) -> Option<SetCommand>

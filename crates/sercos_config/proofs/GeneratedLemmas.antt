@@ -8,13 +8,13 @@ use Rattle.std.proofs.lemmas.List.Folds.{list_any-append}
 use Rattle.std.specs.List.{All, list_any, range_with_len, sum_by}
 use Rattle.sercos_idn.specs.Attributes.{attribute_of}
 use Rattle.sercos_idn.specs.Codes.{is_list, attribute_fault}
-use Rattle.sercos_timing.specs.Valid.{is_rate}
+use Rattle.sercos_timing.specs.Valid.{is_rate, is_cycle, is_control}
 use Rattle.sercos_step.specs.Jobs.{IsJob, AreJobs}
 use Rattle.sercos_block.specs.Views.{DriveView}
 use Rattle.sercos_block.specs.Blocks.{number_end}
 use Rattle.sercos_block.specs.Rules.{block_fault, blocks_fault}
 use Rattle.sercos_block.specs.Startup.{startup_of}
-use Rattle.sercos_block.specs.Rings.{attribute_in, row_in, built_in_attribute, own_attribute, block_attribute, cyclic_len, listed_len, is_ring, are_ring_numbers, is_cycle, is_control, has_drives, mdt_len, record_len, is_drive, are_drives, has_address, has_other_data, are_drive_numbers, has_drive_numbers, are_times, has_blocks, are_cyclic, is_order}
+use Rattle.sercos_block.specs.Rings.{attribute_in, row_in, built_in_attribute, own_attribute, block_attribute, cyclic_len, listed_len, is_ring, are_ring_numbers, has_drives, mdt_len, record_len, is_drive, are_drives, has_address, has_other_data, are_drive_numbers, has_drive_numbers, are_times, has_blocks, are_cyclic, is_order}
 use Rattle.sercos_config.specs.Ring.{places_below}
 use Rattle.sercos_config.specs.Views.{DocumentView}
 use Rattle.sercos_config.specs.Generated.{generated_times, generated_drive, generated_job, generated_fault, generated_ring, generated_cycles, generated}

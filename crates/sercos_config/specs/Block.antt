@@ -5,6 +5,7 @@ use Rattle.sercos_idn.specs.declared.idn.Idn.{Idn}
 use Rattle.sercos_idn.specs.declared.attribute.Attribute.{Attribute}
 use Rattle.sercos_idn.specs.Idns.{idn_fault, spelled_raw}
 use Rattle.sercos_block.specs.declared.block.Block.{Block}
+use Rattle.sercos_block.specs.Limits.{most_name, most_unit}
 use Rattle.sercos_block.specs.Blocks.{is_number}
 use Rattle.sercos_block.specs.BuiltIns.{is_built_in}
 use Rattle.sercos_block.specs.Rules.{has_block, is_text}
@@ -69,8 +70,8 @@ block_of before t = do
   idn ← idn_under t (codes "idn")
   demand (not (is_built_in idn.raw || has_block idn.raw before)) (bad.Twice (path t.place (codes "idn")))
   attribute ← attribute_under t
-  name ← text_under t (codes "name") 60
-  unit ← text_under t (codes "unit") 12
+  name ← text_under t (codes "name") most_name
+  unit ← text_under t (codes "unit") most_unit
   min ← limit_of t (codes "min") attribute
   max ← limit_of t (codes "max") attribute
   max_len ← max_len_of attribute t

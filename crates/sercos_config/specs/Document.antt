@@ -4,6 +4,7 @@ use Rattle.std.specs.Prelude.{ℕ, pos, nat_le, List, [], ◌∷◌, codes, if�
 use Rattle.std.specs.Str.{is_utf8}
 use Rattle.toml.specs.Data.{Members, as_table}
 use Rattle.toml.specs.Parse.{parse_document}
+use Rattle.sercos_timing.specs.Limits.{most_drives, most_records}
 use Rattle.sercos_block.specs.Views.{RingView}
 use Rattle.sercos_block.specs.Rings.{mdt_len}
 use Rattle.sercos_document.specs.declared.path.Place.TheVariants as place
@@ -33,7 +34,7 @@ unfoldable pub ring_of : Members → List Members → Answer RingView
 ring_of ring tables = do
   head ← head_of (of_ring ring)
   drives ← drives_onto [] tables
-  demand (nat_le (mdt_len drives) 2047) (bad.Range (path place.Top (codes "ring")) (pos (mdt_len drives)))
+  demand (nat_le (mdt_len drives) most_records) (bad.Range (path place.Top (codes "ring")) (pos (mdt_len drives)))
   order ← order_of drives (of_ring ring)
   Ok (record { rate = head.rate; cycle = head.cycle; control = head.control; gap = head.gap; cycles = head.cycles; order = order; drives = drives })
 
@@ -42,7 +43,7 @@ unfoldable pub document_in : Members → Answer DocumentView
 document_in members = do
   known (top members) top_keys
   ring ← required as_table (top members) (codes "ring")
-  drives ← required_tables (top members) (codes "drive") 1 64
+  drives ← required_tables (top members) (codes "drive") 1 most_drives
   requests ← tables (top members) (codes "request") 0 4096
   faults ← tables (top members) (codes "fault") 0 4096
   setup ← ring_of ring drives

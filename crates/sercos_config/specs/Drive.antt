@@ -3,7 +3,9 @@ use Rattle.std.specs.Prelude.{ℕ, pos, ◌++◌, not, List, [], ◌∷◌, leng
 use Rattle.toml.specs.Data.{Members, Items, as_str}
 use Rattle.sercos_idn.specs.declared.idn.Idn.{Idn}
 use Rattle.sercos_timing.specs.declared.wishes.Times.{Times}
+use Rattle.sercos_timing.specs.Limits.{most_address, least_cycle, most_cycle, most_t1min, most_tatmt, most_t4min, most_tatat, most_tmtsy, most_tmtsg}
 use Rattle.sercos_block.specs.declared.block.Block.{Block}
+use Rattle.sercos_block.specs.Limits.{most_blocks, most_busy, most_command, most_carried}
 use Rattle.sercos_block.specs.Views.{DriveView}
 use Rattle.sercos_block.specs.Rings.{is_cyclic, has_address}
 use Rattle.sercos_document.specs.declared.path.Place.{Place}
@@ -36,12 +38,12 @@ idns_of blocks place key items = all_onto as_str place key [] items >>= idns_ont
 -- the times that a drive declares, in microseconds
 unfoldable pub times_of : Located → Answer Times
 times_of t = do
-  t1min ← number t (codes "t1min") 0 300
-  tatmt ← number t (codes "tatmt") 0 300
-  t4min ← number t (codes "t4min") 0 64000
-  tatat ← number t (codes "tatat") 0 64000
-  tmtsy ← number t (codes "tmtsy") 0 250
-  tmtsg ← number t (codes "tmtsg") 0 64000
+  t1min ← number t (codes "t1min") 0 most_t1min
+  tatmt ← number t (codes "tatmt") 0 most_tatmt
+  t4min ← number t (codes "t4min") 0 most_t4min
+  tatat ← number t (codes "tatat") 0 most_tatat
+  tmtsy ← number t (codes "tmtsy") 0 most_tmtsy
+  tmtsg ← number t (codes "tmtsg") 0 most_tmtsg
   Ok (record { t1min = t1min; tatmt = tatmt; t4min = t4min; tatat = tatat; tmtsy = tmtsy; tmtsg = tmtsg })
 
 -- a drive with these numbers
@@ -57,7 +59,7 @@ drive_keys =
 -- an address that none of these drives has
 unfoldable pub new_address : List DriveView → Located → Answer ℕ
 new_address before t = do
-  address ← number t (codes "address") 1 254
+  address ← number t (codes "address") 1 most_address
   demand (not (has_address address before)) (bad.Twice (path t.place (codes "address")))
   Ok address
 
@@ -65,12 +67,12 @@ new_address before t = do
 unfoldable pub drive_numbers_of : List DriveView → Located → Answer DriveNumbers
 drive_numbers_of before t = do
   address ← new_address before t
-  slave ← number_or t (codes "slave") 1 254 address
-  busy ← number_or t (codes "busy") 0 20 0
-  command ← number_or t (codes "command") 0 200 0
+  slave ← number_or t (codes "slave") 1 most_address address
+  busy ← number_or t (codes "busy") 0 most_busy 0
+  command ← number_or t (codes "command") 0 most_command 0
   times ← times_of t
-  cycle_min ← number_or t (codes "cycle_min") 0 64000 125
-  cycle_max ← number_or t (codes "cycle_max") 0 64000 64000
+  cycle_min ← number_or t (codes "cycle_min") 0 most_cycle least_cycle
+  cycle_max ← number_or t (codes "cycle_max") 0 most_cycle most_cycle
   Ok (record { address = address; slave = slave; busy = busy; command = command; times = times; cycle_min = cycle_min; cycle_max = cycle_max })
 
 -- The drive of a table, behind these drives. Its blocks come after its own keys, and the items of `at` and `mdt` after the
@@ -79,9 +81,9 @@ unfoldable pub drive_of : List DriveView → Located → Answer DriveView
 drive_of before t = do
   known t drive_keys
   numbers ← drive_numbers_of before t
-  tables ← tables t (codes "block") 0 36
-  at_items ← short_list t (codes "at") 16
-  mdt_items ← short_list t (codes "mdt") 16
+  tables ← tables t (codes "block") 0 most_blocks
+  at_items ← short_list t (codes "at") most_carried
+  mdt_items ← short_list t (codes "mdt") most_carried
   blocks ← blocks_onto (length before) [] tables
   at ← idns_of blocks t.place (codes "at") at_items
   mdt ← idns_of blocks t.place (codes "mdt") mdt_items

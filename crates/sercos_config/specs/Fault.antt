@@ -1,10 +1,11 @@
 -- A fault of a document.
-use Rattle.std.specs.Prelude.{ℕ, suc, ℤ, pos, ◌==◌, ◌++◌, not, Bool, true, false, List, [], ◌∷◌, length, codes, if◌then◌else◌, Option, Some, None, option_map, Ok}
+use Rattle.std.specs.Prelude.{ℕ, suc, ◌-◌, ℤ, pos, ◌==◌, ◌++◌, not, Bool, true, false, List, [], ◌∷◌, length, codes, if◌then◌else◌, Option, Some, None, option_map, Ok}
 use Rattle.std.specs.Str.{bytes_eq}
 use Rattle.std.specs.Ordering.{int_eq}
 use Rattle.toml.specs.Data.{Members, as_integer}
 use Rattle.sercos_telegram.specs.declared.layout.Kind.{Kind}
 use Rattle.sercos_telegram.specs.declared.layout.Kind.TheVariants.{Mst, At, Mdt}
+use Rattle.sercos_block.specs.Limits.{most_cycles}
 use Rattle.sercos_block.specs.Views.{DriveView}
 use Rattle.sercos_script.specs.declared.fault.Damage.{Damage}
 use Rattle.sercos_script.specs.declared.fault.Damage.TheVariants as damage
@@ -18,6 +19,13 @@ use Rattle.sercos_document.specs.Answers.{Answer, ◌>>=◌, ◌>>◌, demand, o
 use Rattle.sercos_document.specs.Tables.{Located, required, number, number_or, known}
 use Rattle.sercos_config.specs.Ring.{place_from}
 use Rattle.sercos_config.specs.Words.{glimpse, word, key_if}
+
+-- the last cycle of the longest run, and the last bit of the longest frame
+abbrev pub last_cycle : ℕ
+last_cycle = most_cycles - 1
+
+abbrev pub last_bit : ℕ
+last_bit = 19695
 
 -- the words of `kind`, and those of `telegram`
 unfoldable pub fault_kind : List ℕ → Option FaultKind
@@ -132,11 +140,11 @@ damage_of drives Lose telegram t = do
   Ok (damage.Lose link)
 damage_of drives Flip telegram t = do
   link ← link_of drives t
-  bit ← number t (codes "bit") 0 19695
+  bit ← number t (codes "bit") 0 last_bit
   Ok (damage.Flip link bit)
 damage_of drives Cut telegram t = do
   link ← link_of drives t
-  bit ← number t (codes "bit") 0 19695
+  bit ← number t (codes "bit") 0 last_bit
   Ok (damage.Cut link bit)
 damage_of drives Deaf telegram t = do
   station ← station_of drives telegram t
@@ -150,9 +158,9 @@ unfoldable pub fault_of : List DriveView → Located → Answer Fault
 fault_of drives t = do
   known t (fault_keys (glimpse fault_kind t (codes "kind")) (glimpse telegram_kind t (codes "telegram")))
   kind ← word fault_kind t (codes "kind")
-  cycle ← number t (codes "cycle") 0 49999
-  last ← number_or t (codes "last") cycle 49999 cycle
-  every ← number_or t (codes "every") 1 50000 1
+  cycle ← number t (codes "cycle") 0 last_cycle
+  last ← number_or t (codes "last") cycle last_cycle cycle
+  every ← number_or t (codes "every") 1 most_cycles 1
   telegram ← telegram_of kind t
   from ← from_of drives telegram t
   damage ← damage_of drives kind telegram t

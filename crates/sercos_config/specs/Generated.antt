@@ -4,6 +4,7 @@ use Rattle.std.specs.List.{range_with_len}
 use Rattle.sercos_idn.specs.declared.idn.Idn.{Idn}
 use Rattle.sercos_idn.specs.Attributes.{attribute_of}
 use Rattle.sercos_telegram.specs.declared.layout.Kind.TheVariants.{At}
+use Rattle.sercos_timing.specs.Limits.{least_cycle, most_cycle}
 use Rattle.sercos_timing.specs.declared.wishes.Times.{Times}
 use Rattle.sercos_block.specs.declared.block.Block.{Block}
 use Rattle.sercos_block.specs.Blocks.{bytes_for}
@@ -52,8 +53,8 @@ generated_drive k = record {
   busy = k % 3;
   command = k % 4;
   times = generated_times k;
-  cycle_min = 125;
-  cycle_max = 64000;
+  cycle_min = least_cycle;
+  cycle_max = most_cycle;
   at = position_feedback ∷ [];
   mdt = position_command ∷ [];
   blocks = position_block position_command 0 0 ∷ position_block position_feedback 64500 10 ∷ [];

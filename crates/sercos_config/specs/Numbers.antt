@@ -7,6 +7,7 @@ use Rattle.hex.specs.Hex.{decode_of}
 use Rattle.toml.specs.Data.{as_integer, as_str}
 use Rattle.sercos_idn.specs.declared.attribute.Attribute.{Attribute}
 use Rattle.sercos_idn.specs.Codes.{is_list, item_len}
+use Rattle.sercos_block.specs.Limits.{most_data}
 use Rattle.sercos_block.specs.Blocks.{is_number, is_signed, number_end, bytes_for}
 use Rattle.sercos_document.specs.declared.refusal.BadDocument.TheVariants as bad
 use Rattle.sercos_document.specs.Paths.{path}
@@ -36,7 +37,7 @@ limit_of t key a = optional as_integer t key >>= limit_or_none a (path t.place k
 -- the most bytes of a list, whole items; what is no list has none
 unfoldable pub list_max_len : Attribute → Located → Answer ℕ
 list_max_len a t = do
-  most ← number t (codes "max_len") 1 1024
+  most ← number t (codes "max_len") 1 most_data
   demand (most % item_len a.length == 0) (bad.Range (path t.place (codes "max_len")) (pos most))
   Ok most
 

@@ -1,10 +1,11 @@
 -- A request of a document.
-use Rattle.std.specs.Prelude.{ℕ, pos, ◌++◌, nat_le, not, Bool, true, false, List, [], ◌∷◌, length, codes, if◌then◌else◌, Option, Some, None, Ok}
+use Rattle.std.specs.Prelude.{ℕ, pos, ◌++◌, ◌*◌, nat_le, not, Bool, true, false, List, [], ◌∷◌, length, codes, if◌then◌else◌, Option, Some, None, Ok}
 use Rattle.std.specs.Str.{bytes_eq}
 use Rattle.std.specs.Result.{result_ok}
 use Rattle.hex.specs.Hex.{decode_of}
 use Rattle.toml.specs.Data.{Members, as_str}
 use Rattle.sercos_idn.specs.declared.idn.Idn.{Idn}
+use Rattle.sercos_block.specs.Limits.{most_data}
 use Rattle.sercos_block.specs.Views.{DriveView}
 use Rattle.sercos_block.specs.Rings.{has_other_data}
 use Rattle.sercos_step.specs.declared.request.Request.{Request}
@@ -44,9 +45,9 @@ keys_if element bytes = codes "drive" ∷ codes "kind" ∷ codes "idn" ∷ key_i
 unfoldable pub request_keys : Option RequestKind → List (List ℕ)
 request_keys kind = keys_if (has_element kind) (has_data kind)
 
--- the bytes that a text spells, at most 1024 of them: two hexadecimal digits of either case a byte
+-- the bytes that a text spells, not too many: two hexadecimal digits of either case a byte
 unfoldable pub bytes_spelled : List ℕ → Option (List ℕ)
-bytes_spelled text = if nat_le (length text) 2048 then result_ok (decode_of text) else None
+bytes_spelled text = if nat_le (length text) (2 * most_data) then result_ok (decode_of text) else None
 
 -- what is written; else Range with the number of the text's own bytes
 unfoldable pub bytes_under : Located → List ℕ → Answer (List ℕ)

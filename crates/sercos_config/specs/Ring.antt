@@ -4,8 +4,9 @@ use Rattle.std.specs.List.{list_any}
 use Rattle.std.specs.Ordering.{int_eq}
 use Rattle.toml.specs.Data.{Items, as_integer, as_array}
 use Rattle.sercos_block.specs.Views.{DriveView}
-use Rattle.sercos_timing.specs.Valid.{is_rate}
-use Rattle.sercos_block.specs.Rings.{is_cycle}
+use Rattle.sercos_timing.specs.Limits.{least_cycle, most_cycle, most_gap}
+use Rattle.sercos_timing.specs.Valid.{is_rate, is_cycle}
+use Rattle.sercos_block.specs.Limits.{most_cycles}
 use Rattle.sercos_config.specs.declared.ring.Head.{Head}
 use Rattle.sercos_document.specs.declared.path.Place.{Place}
 use Rattle.sercos_document.specs.declared.refusal.BadDocument.TheVariants as bad
@@ -23,12 +24,12 @@ head_of t = do
   known t ring_keys
   rate ← number t (codes "rate") 2 16
   demand (is_rate rate) (bad.Range (path t.place (codes "rate")) (pos rate))
-  cycle ← number t (codes "cycle") 125 64000
+  cycle ← number t (codes "cycle") least_cycle most_cycle
   demand (is_cycle cycle) (bad.Range (path t.place (codes "cycle")) (pos cycle))
-  control ← number_or t (codes "control") 1 64000 cycle
+  control ← number_or t (codes "control") 1 most_cycle cycle
   demand (control % cycle == 0) (bad.Range (path t.place (codes "control")) (pos control))
-  gap ← number_or t (codes "gap") 0 1000 5
-  cycles ← number t (codes "cycles") 1 50000
+  gap ← number_or t (codes "gap") 0 most_gap 5
+  cycles ← number t (codes "cycles") 1 most_cycles
   Ok (record { rate = rate; cycle = cycle; control = control; gap = gap; cycles = cycles })
 
 -- the place of the first drive that has this address, the places being counted from here

@@ -1,6 +1,7 @@
 -- Keys whose values are words or addresses of drives.
 use Rattle.std.specs.Prelude.{ℕ, pos, List, length, codes, if◌then◌else◌, Bool, Option, option_and_then, Ok}
 use Rattle.toml.specs.Data.{get_member, as_str}
+use Rattle.sercos_timing.specs.Limits.{most_address}
 use Rattle.sercos_block.specs.Views.{DriveView}
 use Rattle.sercos_block.specs.Rings.{has_address}
 use Rattle.sercos_document.specs.declared.refusal.BadDocument.TheVariants as bad
@@ -23,9 +24,9 @@ word meaning t key = do
 unfoldable pub key_if : Bool → List ℕ → List ℕ
 key_if counts key = if counts then key else codes "kind"
 
--- the address of one of the drives, each of which is from 1 to 254
+-- the address of one of the drives
 unfoldable pub address_under : List DriveView → Located → List ℕ → Answer ℕ
 address_under drives t key = do
-  address ← number t key 1 254
+  address ← number t key 1 most_address
   demand (has_address address drives) (bad.Range (path t.place key) (pos address))
   Ok address

@@ -1,10 +1,9 @@
 // The data blocks of a drive.
 ghost use Rattle.std.specs.Prelude.{◌≡◌, ◌<◌, ◌≤◌, ◌^◌, true, None, Some, [], ◌==◌, ◌&&◌, ◌||◌, not, is_none, length, map, IfOk};
-ghost use Rattle.std.specs.List.{list_all};
 ghost use Rattle.toml.specs.View.{table_view};
 ghost use Rattle.sercos_block.specs.Blocks.{is_number};
 ghost use Rattle.sercos_block.specs.BuiltIns.{is_built_in};
-ghost use Rattle.sercos_block.specs.Rules.{has_block, is_printable, is_text, block_fault, blocks_fault};
+ghost use Rattle.sercos_block.specs.Rules.{has_block, is_text, block_fault, blocks_fault};
 ghost use Rattle.sercos_document.specs.Paths.{path};
 ghost use Rattle.sercos_document.specs.Answers.{Gives, Shows};
 ghost use Rattle.sercos_document.specs.Tables.{known};
@@ -13,7 +12,8 @@ ghost use Rattle.sercos_config.specs.Block.{idn_of, idn_in, idn_under, attribute
 
 use crate::data::{read_data, read_limit, read_max_len, text_of};
 use sercos_bits::Text;
-use sercos_block::{Block, attribute_in, is_built_in};
+use sercos_block::limits::{MOST_NAME, MOST_UNIT};
+use sercos_block::{Block, attribute_in, has_block, is_built_in, is_number, is_text};
 use sercos_document::{BadDocument, Keys, Place};
 use sercos_idn::{Attribute, Idn};
 use std::alloc::Global;
@@ -56,8 +56,8 @@ fn read_block(keys: &Keys<'_>, before: &[Block]) -> Result<Block, BadDocument>
     let taken = is_taken(idn, before);
     keys.demand_once(!taken, "idn")?;
     let attribute = read_attribute(keys)?;
-    let name = read_text(keys, "name", 60)?;
-    let unit = read_text(keys, "unit", 12)?;
+    let name = read_text(keys, "name", MOST_NAME)?;
+    let unit = read_text(keys, "unit", MOST_UNIT)?;
     let min = read_limit(keys, "min", attribute)?;
     let max = read_limit(keys, "max", attribute)?;
     let max_len = read_max_len(keys, attribute)?;
@@ -127,14 +127,8 @@ fn is_taken(idn: Idn, blocks: &[Block]) -> bool
     ensures { result ≡ (is_built_in idn.raw || has_block idn.raw blocks.now) }
 {
     let built_in = is_built_in(idn);
-    let own = has_block(idn, blocks);
+    let own = has_block(blocks, idn);
     built_in || own
-}
-
-fn has_block(idn: Idn, blocks: &[Block]) -> bool
-    ensures { result ≡ has_block idn.raw blocks.now }
-{
-    blocks.iter().any(|block| block.idn == idn)
 }
 
 // The attribute whose word stands under its key.
@@ -167,23 +161,6 @@ fn read_text(keys: &Keys<'_>, key: &str, most: usize) -> Result<Option<Text>, Ba
     }
 }
 
-// Whether a name or a unit can be this text.
-fn is_text(text: &[u8], most: usize) -> bool
-    ensures value { result ≡ is_text most (Some text.now) }
-    ensures short { result ≡ true → length text.now ≤ most }
-{
-    let some = 1 <= text.len();
-    let few = text.len() <= most;
-    let plain = are_printable(text);
-    some && few && plain
-}
-
-fn are_printable(bytes: &[u8]) -> bool
-    ensures { result ≡ list_all is_printable bytes.now }
-{
-    bytes.iter().all(|byte| 0x20 <= *byte && *byte <= 0x7e)
-}
-
 // The step under its key, or 0.
 #[tactic(auto, unfolding(crate::specs::Block::step_under))]
 fn read_step(
@@ -196,7 +173,7 @@ fn read_step(
     ensures valid { IfOk result (λ step. ((step == 0) || (is_number attribute && (is_none min && is_none max))) ≡ true) }
 {
     let step = keys.number_or("step", 0, u32::MAX, 0)?;
-    let number = !attribute.length.is_list() && !attribute.command;
+    let number = is_number(&attribute);
     let free = min.is_none() && max.is_none();
     keys.demand(step == 0 || number && free, "step", i64::from(step))?;
     Ok(step)

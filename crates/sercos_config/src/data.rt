@@ -1,32 +1,19 @@
 // The numbers and lists that a data block's keys give.
-ghost use Rattle.std.specs.Prelude.{◌≡◌, ◌≤◌, ◌<◌, ◌⊎◌, ◌/◌, ◌%◌, ◌==◌, pos, true, false, length, IfOk, IfSome};
-ghost use Rattle.std.specs.List.{list_all};
+ghost use Rattle.std.specs.Prelude.{◌≡◌, ◌≤◌, ◌<◌, ◌/◌, ◌%◌, ◌==◌, true, false, length, IfOk, IfSome};
 ghost use Rattle.std.specs.Result.{result_ok};
 ghost use Rattle.hex.specs.Hex.{decode_of};
 ghost use Rattle.sercos_idn.specs.Codes.{is_list, item_len};
-ghost use Rattle.sercos_block.specs.Blocks.{is_number, is_signed, number_end, bytes_for};
+ghost use Rattle.sercos_block.specs.Blocks.{is_signed, number_end};
 ghost use Rattle.sercos_block.specs.Rules.{is_limit, is_max_len};
 ghost use Rattle.sercos_document.specs.Answers.{Gives};
 ghost use Rattle.sercos_document.specs.Located.{located};
 ghost use Rattle.sercos_config.specs.Numbers.{is_in_range, bits_of, limit_of, list_max_len, max_len_of, list_bytes, list_data, is_data, number_data, fits_data, data_of};
 
 use sercos_bits::Text;
+use sercos_block::limits::MOST_DATA;
+use sercos_block::{bytes_for, is_number, number_end};
 use sercos_document::{BadDocument, Keys};
-use sercos_idn::{Attribute, Form, Length};
-
-// The most bytes of a list.
-const MOST: usize = 1024;
-
-// The number below which all numbers of a length lie.
-fn number_end(length: Length) -> i64
-    ensures value { result ≡ pos (number_end length) }
-    ensures two { (result ≡ pos 65536) ⊎ (result ≡ pos 4294967296) }
-{
-    match length {
-        Length::Two => 0x1_0000,
-        Length::Four | Length::List1 | Length::List2 | Length::List4 => 0x1_0000_0000,
-    }
-}
+use sercos_idn::{Attribute, Form};
 
 fn is_signed(form: Form) -> bool
     ensures { result ≡ is_signed form }
@@ -37,18 +24,12 @@ fn is_signed(form: Form) -> bool
     }
 }
 
-fn is_number(attribute: Attribute) -> bool
-    ensures { result ≡ is_number attribute }
-{
-    !attribute.length.is_list() && !attribute.command
-}
-
 // Whether the number is one of the block.
 #[tactic(auto, unfolding(crate::specs::Numbers::is_in_range))]
 fn is_in_range(attribute: Attribute, number: i64) -> bool
     ensures { result ≡ is_in_range attribute number }
 {
-    let end = number_end(attribute.length);
+    let end = number_end(attribute.length) as i64;
     if is_signed(attribute.form) {
         -(end / 2) <= number && number <= end / 2 - 1
     } else {
@@ -63,7 +44,7 @@ fn bits_of(attribute: Attribute, number: i64) -> u32
     ensures value { result ≡ bits_of attribute number }
     ensures bound { result < number_end attribute.length }
 {
-    let end = number_end(attribute.length);
+    let end = number_end(attribute.length) as i64;
     if number < 0 {
         (end + number) as u32
     } else {
@@ -85,7 +66,7 @@ pub(crate) fn read_limit(
         None => Ok(None),
         Some(number) => {
             let within = is_in_range(attribute, number);
-            keys.demand(is_number(attribute) && within, key, number)?;
+            keys.demand(is_number(&attribute) && within, key, number)?;
             Ok(Some(bits_of(attribute, number)))
         }
     }
@@ -98,7 +79,7 @@ fn read_list_max_len(keys: &Keys<'_>, attribute: Attribute) -> Result<u16, BadDo
     ensures value { Gives result (list_max_len attribute (located keys.now)) }
     ensures valid { IfOk result (λ most. is_max_len attribute most ≡ true) }
 {
-    let most = keys.number("max_len", 1, 1024)?;
+    let most = keys.number("max_len", 1, u32::from(MOST_DATA))?;
     let whole = most % attribute.length.item_len() as u32 == 0;
     keys.demand(whole, "max_len", i64::from(most))?;
     Ok(most as u16)
@@ -125,7 +106,7 @@ pub(crate) fn decoded(digits: &[u8]) -> Option<Text>
     ensures value { result ≡ result_ok (decode_of digits.now) }
     ensures count { IfSome result (λ bytes. length bytes ≡ length digits.now / 2) }
 {
-    let mut bytes = [0u8; MOST];
+    let mut bytes = [0u8; MOST_DATA as usize];
     let room = &mut bytes[..digits.len() / 2];
     match hex::decode_to_slice(digits, room) {
         Ok(()) => Some(text_of(room)),
@@ -173,20 +154,6 @@ fn read_list_data(keys: &Keys<'_>, most: u16, attribute: Attribute) -> Result<Te
             Some(bytes) => Ok(bytes),
             None => Err(keys.range("data", text.len() as i64)),
         },
-    }
-}
-
-// The bytes of a number, low byte first.
-pub(crate) fn bytes_for(attribute: Attribute, bits: u32) -> Text
-    requires bits { bits < number_end attribute.length }
-    requires number { is_list attribute.length ≡ false }
-    ensures value { result ≡ bytes_for attribute bits }
-    ensures count { length result ≡ item_len attribute.length }
-    ensures zero { bits ≡ 0 → list_all (λ byte. byte == 0) result ≡ true }
-{
-    match attribute.length {
-        Length::Two => text_of(&(bits as u16).to_le_bytes()),
-        _ => text_of(&bits.to_le_bytes()),
     }
 }
 

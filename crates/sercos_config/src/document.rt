@@ -17,6 +17,7 @@ use sercos_block::{RingSetup, mdt_len};
 use sercos_document::{BadDocument, Keys, Place};
 use sercos_script::Fault;
 use sercos_step::Job;
+use sercos_timing::limits::{MOST_DRIVES, MOST_RECORDS};
 use std::alloc::Global;
 use std::marker::Model;
 use toml::Table;
@@ -82,7 +83,7 @@ fn read_table(alloc: Global, table: &Table) -> Result<Document, BadDocument>
     };
     known(&keys)?;
     let ring = keys.required_table("ring")?;
-    let drives = keys.required_tables("drive", 1, 64)?;
+    let drives = keys.required_tables("drive", 1, MOST_DRIVES)?;
     let requests = keys.tables("request", 0, 4096)?;
     let faults = keys.tables("fault", 0, 4096)?;
     let setup = read_setup(alloc, ring, drives.as_slice())?;
@@ -124,7 +125,7 @@ fn read_setup(alloc: Global, ring: &Table, tables: &[&Table]) -> Result<RingSetu
     let head = read_head(&keys)?;
     let drives = read_drives(alloc, tables)?;
     let len = mdt_len(drives.as_slice());
-    top.demand(len <= 2047, "ring", i64::from(len))?;
+    top.demand(len <= MOST_RECORDS, "ring", i64::from(len))?;
     let order = read_order(&keys, drives.as_slice())?;
     Ok(RingSetup {
         rate: head.rate,

@@ -11,10 +11,15 @@ ghost use Rattle.sercos_config.specs.Drive.{idn_at, idns_onto, idns_of, times_of
 
 use crate::block::{idn_of, read_blocks};
 use arrayvec::ArrayVec;
+use sercos_block::limits::{MOST_BLOCKS, MOST_BUSY, MOST_CARRIED, MOST_COMMAND};
 use sercos_block::{Block, DriveSetup, cyclic_len, has_address};
 use sercos_document::{BadDocument, Keys, Place};
 use sercos_idn::Idn;
 use sercos_timing::Times;
+use sercos_timing::limits::{
+    LEAST_CYCLE, MOST_ADDRESS, MOST_CYCLE, MOST_T1MIN, MOST_T4MIN, MOST_TATAT, MOST_TATMT,
+    MOST_TMTSG, MOST_TMTSY,
+};
 use std::alloc::Global;
 use toml::{Table, Value};
 
@@ -60,9 +65,9 @@ fn read_drive(keys: &Keys<'_>, before: &[DriveSetup]) -> Result<DriveSetup, BadD
 {
     known(keys)?;
     let numbers = read_numbers(keys, before)?;
-    let tables = keys.tables("block", 0, 36)?;
-    let at_items = keys.short_list("at", 16)?;
-    let mdt_items = keys.short_list("mdt", 16)?;
+    let tables = keys.tables("block", 0, MOST_BLOCKS)?;
+    let at_items = keys.short_list("at", MOST_CARRIED)?;
+    let mdt_items = keys.short_list("mdt", MOST_CARRIED)?;
     let blocks = read_blocks(keys.alloc, before.len(), tables.as_slice())?;
     let at = read_idns(keys, blocks.as_slice(), "at", at_items)?;
     let mdt = read_idns(keys, blocks.as_slice(), "mdt", mdt_items)?;
@@ -87,7 +92,7 @@ fn read_new_address(keys: &Keys<'_>, before: &[DriveSetup]) -> Result<u8, BadDoc
     ensures within { IfOk result (λ address. (1 ≤ address) × (address ≤ 254)) }
     ensures once { IfOk result (λ address. has_address address before.now ≡ false) }
 {
-    let address = keys.number("address", 1, 254)?;
+    let address = keys.number("address", 1, u32::from(MOST_ADDRESS))?;
     let taken = has_address(address as u8, before);
     keys.demand_once(!taken, "address")?;
     Ok(address as u8)
@@ -102,12 +107,13 @@ fn read_numbers(keys: &Keys<'_>, before: &[DriveSetup]) -> Result<DriveNumbers, 
         are_drive_numbers n.address n.slave n.busy n.command n.times n.cycle_min n.cycle_max ≡ true) }
 {
     let address = read_new_address(keys, before)?;
-    let slave = keys.number_or("slave", 1, 254, u32::from(address))?;
-    let busy = keys.number_or("busy", 0, 20, 0)?;
-    let command = keys.number_or("command", 0, 200, 0)?;
+    let slave = keys.number_or("slave", 1, u32::from(MOST_ADDRESS), u32::from(address))?;
+    let busy = keys.number_or("busy", 0, u32::from(MOST_BUSY), 0)?;
+    let command = keys.number_or("command", 0, u32::from(MOST_COMMAND), 0)?;
     let times = read_times(keys)?;
-    let cycle_min = keys.number_or("cycle_min", 0, 64000, 125)?;
-    let cycle_max = keys.number_or("cycle_max", 0, 64000, 64000)?;
+    let most_cycle = u32::from(MOST_CYCLE);
+    let cycle_min = keys.number_or("cycle_min", 0, most_cycle, u32::from(LEAST_CYCLE))?;
+    let cycle_max = keys.number_or("cycle_max", 0, most_cycle, most_cycle)?;
     Ok(DriveNumbers {
         address,
         slave: slave as u8,
@@ -148,12 +154,12 @@ fn read_times(keys: &Keys<'_>) -> Result<Times, BadDocument>
     ensures value { Gives result (times_of (located keys.now)) }
     ensures valid { IfOk result (λ times. are_times times ≡ true) }
 {
-    let t1min = keys.number("t1min", 0, 300)?;
-    let tatmt = keys.number("tatmt", 0, 300)?;
-    let t4min = keys.number("t4min", 0, 64000)?;
-    let tatat = keys.number("tatat", 0, 64000)?;
-    let tmtsy = keys.number("tmtsy", 0, 250)?;
-    let tmtsg = keys.number("tmtsg", 0, 64000)?;
+    let t1min = keys.number("t1min", 0, u32::from(MOST_T1MIN))?;
+    let tatmt = keys.number("tatmt", 0, u32::from(MOST_TATMT))?;
+    let t4min = keys.number("t4min", 0, u32::from(MOST_T4MIN))?;
+    let tatat = keys.number("tatat", 0, u32::from(MOST_TATAT))?;
+    let tmtsy = keys.number("tmtsy", 0, u32::from(MOST_TMTSY))?;
+    let tmtsg = keys.number("tmtsg", 0, u32::from(MOST_TMTSG))?;
     Ok(Times {
         t1min: t1min as u16,
         tatmt: tatmt as u16,

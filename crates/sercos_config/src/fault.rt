@@ -11,11 +11,18 @@ ghost use Rattle.sercos_config.specs.Fault.{fault_kind, telegram_kind, has_teleg
 use crate::ring::place_of;
 use crate::words::{glance, key_if};
 use sercos_block::DriveSetup;
+use sercos_block::limits::MOST_CYCLES;
 use sercos_document::{BadDocument, Keys, Place};
 use sercos_script::{Damage, Fault};
 use sercos_telegram::Kind;
 use std::alloc::Global;
 use toml::Table;
+
+// The last cycle of the longest run.
+const LAST_CYCLE: u32 = MOST_CYCLES - 1;
+
+// The last bit of the longest frame.
+const LAST_BIT: u32 = 19_695;
 
 // What a fault does, without where.
 #[derive(Clone, Copy, Debug, PartialEq, Eq)]
@@ -66,9 +73,9 @@ fn read_fault(keys: &Keys<'_>, drives: &[DriveSetup]) -> Result<Fault, BadDocume
         glimpsed_telegram(keys, "telegram"),
     )?;
     let kind = read_kind(keys, "kind")?;
-    let cycle = keys.number("cycle", 0, 49999)?;
-    let last = keys.number_or("last", cycle, 49999, cycle)?;
-    let every = keys.number_or("every", 1, 50000, 1)?;
+    let cycle = keys.number("cycle", 0, LAST_CYCLE)?;
+    let last = keys.number_or("last", cycle, LAST_CYCLE, cycle)?;
+    let every = keys.number_or("every", 1, MOST_CYCLES, 1)?;
     let telegram = read_telegram(keys, kind)?;
     let from = read_from(keys, drives, telegram)?;
     let damage = read_damage(keys, drives, kind, telegram)?;
@@ -360,12 +367,12 @@ fn read_damage(
         }
         FaultKind::Flip => {
             let link = read_link(keys, drives)?;
-            let bit = keys.number("bit", 0, 19695)?;
+            let bit = keys.number("bit", 0, LAST_BIT)?;
             Ok(Damage::Flip { link, bit })
         }
         FaultKind::Cut => {
             let link = read_link(keys, drives)?;
-            let bit = keys.number("bit", 0, 19695)?;
+            let bit = keys.number("bit", 0, LAST_BIT)?;
             Ok(Damage::Cut { link, bit })
         }
         FaultKind::Deaf => {

@@ -9,16 +9,17 @@ ghost use Rattle.sercos_block.specs.Startup.{startup_of};
 ghost use Rattle.sercos_step.specs.Jobs.{AreJobs};
 ghost use Rattle.sercos_config.specs.Generated.{position_command, position_feedback, position_block, generated_times, generated_drive, generated_job, generated_fault, generated_ring, generated_cycles, generated};
 
-use crate::data::bytes_for;
 use crate::document::Document;
 use crate::ring::all_drives;
 use arrayvec::ArrayVec;
-use sercos_block::{Block, DriveSetup, RingSetup, attribute_in};
+use sercos_block::{Block, DriveSetup, RingSetup, attribute_in, bytes_for};
+use sercos_idn::element::DATA;
 use sercos_idn::{Attribute, Idn};
 use sercos_script::{Damage, Fault};
 use sercos_step::{Job, Request};
 use sercos_telegram::Kind;
 use sercos_timing::Times;
+use sercos_timing::limits::{LEAST_CYCLE, MOST_CYCLE};
 use std::alloc::{AllocError, Global};
 
 // S-0-0047 and S-0-0051.
@@ -105,8 +106,8 @@ fn generated_drive(alloc: Global, k: u8) -> Result<DriveSetup, AllocError>
         busy: k % 3,
         command: u16::from(k % 4),
         times: times_of(k),
-        cycle_min: 125,
-        cycle_max: 64000,
+        cycle_min: LEAST_CYCLE,
+        cycle_max: MOST_CYCLE,
         at: one(POSITION_FEEDBACK),
         mdt: one(POSITION_COMMAND),
         blocks,
@@ -136,7 +137,7 @@ fn generated_job(k: u8) -> Job
         drive: k,
         request: Request::Read {
             idn: POSITION_FEEDBACK,
-            element: 7,
+            element: DATA,
         },
     }
 }

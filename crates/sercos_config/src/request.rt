@@ -15,6 +15,7 @@ use crate::block::read_idn;
 use crate::data::decoded;
 use crate::words::{glance, key_if, read_address};
 use sercos_bits::Bytes;
+use sercos_block::limits::MOST_DATA;
 use sercos_block::{DriveSetup, has_other_data};
 use sercos_document::{BadDocument, Keys, Place};
 use sercos_idn::Idn;
@@ -241,7 +242,7 @@ fn read_bytes(keys: &Keys<'_>, key: &str) -> Result<Bytes, BadDocument>
 fn bytes_spelled(digits: &[u8]) -> Option<Bytes>
     ensures { result ≡ bytes_spelled digits.now }
 {
-    if digits.len() <= 2048 {
+    if digits.len() <= 2 * usize::from(MOST_DATA) {
         decoded(digits)
     } else {
         None

@@ -9,9 +9,11 @@ ghost use Rattle.sercos_document.specs.Located.{located};
 ghost use Rattle.sercos_config.specs.Ring.{ring_keys, head_of, place_from, turn_of, turns_onto, listed_order, places_below, order_of};
 
 use arrayvec::ArrayVec;
-use sercos_block::{DriveSetup, is_cycle};
+use sercos_block::DriveSetup;
+use sercos_block::limits::MOST_CYCLES;
 use sercos_document::{BadDocument, Keys};
-use sercos_timing::is_rate;
+use sercos_timing::limits::{LEAST_CYCLE, MOST_CYCLE, MOST_GAP};
+use sercos_timing::{is_cycle, is_rate};
 use toml::Value;
 
 /// The numbers of a ring: times in microseconds, and how many cycles it runs.
@@ -25,7 +27,7 @@ pub(crate) struct Head {
 }
 
 /// The numbers of the ring's table.
-#[tactic(auto, unfolding(crate::specs::Ring::head_of, sercos_block::specs::Rings::are_ring_numbers, sercos_block::specs::Rings::is_control))]
+#[tactic(auto, unfolding(crate::specs::Ring::head_of, sercos_block::specs::Rings::are_ring_numbers, sercos_timing::specs::Valid::is_control))]
 pub(crate) fn read_head(keys: &Keys<'_>) -> Result<Head, BadDocument>
     ensures value { Gives result (head_of (located keys.now)) }
     ensures valid { IfOk result (λ h. are_ring_numbers h.rate h.cycle h.control h.gap h.cycles ≡ true) }
@@ -33,12 +35,13 @@ pub(crate) fn read_head(keys: &Keys<'_>) -> Result<Head, BadDocument>
     known(keys)?;
     let rate = keys.number("rate", 2, 16)?;
     keys.demand(is_rate(rate as u8), "rate", i64::from(rate))?;
-    let cycle = keys.number("cycle", 125, 64000)?;
-    keys.demand(is_cycle(cycle), "cycle", i64::from(cycle))?;
-    let control = keys.number_or("control", 1, 64000, cycle)?;
+    let most_cycle = u32::from(MOST_CYCLE);
+    let cycle = keys.number("cycle", u32::from(LEAST_CYCLE), most_cycle)?;
+    keys.demand(is_cycle(cycle as u16), "cycle", i64::from(cycle))?;
+    let control = keys.number_or("control", 1, most_cycle, cycle)?;
     keys.demand(control % cycle == 0, "control", i64::from(control))?;
-    let gap = keys.number_or("gap", 0, 1000, 5)?;
-    let cycles = keys.number("cycles", 1, 50000)?;
+    let gap = keys.number_or("gap", 0, u32::from(MOST_GAP), 5)?;
+    let cycles = keys.number("cycles", 1, MOST_CYCLES)?;
     Ok(Head {
         rate: rate as u8,
         cycle: cycle as u16,

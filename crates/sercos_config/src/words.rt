@@ -8,6 +8,7 @@ ghost use Rattle.sercos_config.specs.Words.{key_if, address_under};
 
 use sercos_block::{DriveSetup, has_address};
 use sercos_document::{BadDocument, Keys};
+use sercos_timing::limits::MOST_ADDRESS;
 
 /// The text under a key, where the key has a text. Nothing is refused.
 pub(crate) fn glance<'a>(keys: &Keys<'a>, key: &str) -> Option<&'a str>
@@ -37,7 +38,7 @@ pub(crate) fn read_address(
     ensures value { Gives result (address_under drives.now (located keys.now) key.now) }
     ensures has { IfOk result (λ address. has_address address drives.now ≡ true) }
 {
-    let address = keys.number(key, 1, 254)?;
+    let address = keys.number(key, 1, u32::from(MOST_ADDRESS))?;
     let stands = has_address(address as u8, drives);
     keys.demand(stands, key, i64::from(address))?;
     Ok(address as u8)

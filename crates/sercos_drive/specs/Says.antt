@@ -4,6 +4,7 @@ use Rattle.std.specs.List.{flat_map}
 use Rattle.sercos_idn.specs.declared.idn.Idn.{Idn}
 use Rattle.sercos_telegram.specs.Words.{status_word, status_rest_low, status_rest}
 use Rattle.sercos_telegram.specs.Spells.{fields}
+use Rattle.sercos_timing.specs.Limits.{early_at}
 use Rattle.sercos_block.specs.declared.block.Block.{Block}
 use Rattle.sercos_block.specs.Blocks.{is_number}
 use Rattle.sercos_block.specs.Views.{DriveView}
@@ -40,7 +41,7 @@ values_in cycle phase blocks = if nat_le 3 phase then flat_map (value_in cycle b
 
 -- when the AT starts, in microseconds after the MST's end: 300 in phases 1 and 2, S-0-0006 in phases 3 and 4
 abbrev pub start_in : ℕ → List Block → ℕ
-start_in phase blocks = if nat_le 3 phase then number_at blocks 6 else 300
+start_in phase blocks = if nat_le 3 phase then number_at blocks 6 else early_at
 
 -- An AT is sent if this cycle's MST was got, in phases 1 and 2 only if an MDT was taken in the cycle before.
 abbrev pub sends : List Moment → Bool

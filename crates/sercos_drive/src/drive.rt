@@ -24,11 +24,9 @@ use sercos_block::{DriveSetup, Store};
 use sercos_command::Commands;
 use sercos_service_drive::{DriveChannel, writes_law};
 use sercos_telegram::{At, write_at};
+use sercos_timing::limits::EARLY_AT;
 use std::alloc::{AllocError, Global};
 use std::marker::Model;
-
-// When an AT starts in phases 1 and 2, in microseconds after the MST's end.
-const EARLY_START: u16 = 300;
 
 /// A drive of a ring (IEC 61491:1995; the rules of its falls and of the checks are this profile's). It stands for the calls
 /// of [`hear_mst`](Drive::hear_mst), [`hear_mdt`](Drive::hear_mdt) and [`restart`](Drive::restart) since it was opened, and
@@ -176,7 +174,7 @@ impl Drive {
         if 3 <= self.phase {
             self.slot.start
         } else {
-            EARLY_START
+            EARLY_AT
         }
     }
 
@@ -186,7 +184,7 @@ impl Drive {
         ensures { self.now.slot ≡ slot_of self.now.blocks → values.new ≡ values_in self.now.cycle self.now.phase self.now.blocks }
     {
         if 3 <= self.phase {
-            put_feedback(&self.store, self.slot.at.as_slice(), self.cycle, values);
+            put_feedback(&self.store, self.slot.listed.as_slice(), self.cycle, values);
         }
     }
 

@@ -20,7 +20,7 @@ pub(crate) struct Slot {
     /// The bytes of the record.
     pub record_len: u16,
     /// What the AT carries.
-    pub at: ArrayVec<Idn, 16>,
+    pub listed: ArrayVec<Idn, 16>,
 }
 
 /// The slot that the data blocks give.
@@ -33,7 +33,7 @@ pub(crate) fn slot_of(store: &Store) -> Slot
         mdt_len: number_at(store, MDT_LENGTH) as u16,
         position: number_at(store, POSITION) as u16,
         record_len: carried_len(store, MDT_LIST) as u16,
-        at: idns_at(store, AT_LIST),
+        listed: idns_at(store, AT_LIST),
     }
 }
 

@@ -1,8 +1,8 @@
 -- A complete setting of a procedure command gives the data status of the last poll, the step that reads it.
-use Rattle.std.proofs.Common.{◌≡◌, ℕ, zero, suc, ◌-◌, ◌/◌, ◌%◌, ◌<◌, ◌≤◌, Bool, true, false, not, ◌&&◌, List, [], ◌∷◌, ◌++◌, length, drop, refl, sym, ap, ap₂, ◌∙◌, arith, if◌then◌else◌, length-append}
+use Rattle.std.proofs.Common.{◌≡◌, ℕ, suc, ◌-◌, ◌/◌, ◌%◌, ◌<◌, ◌≤◌, Bool, true, false, not, ◌&&◌, List, [], ◌∷◌, ◌++◌, length, drop, refl, sym, ap, ap₂, ◌∙◌, arith, if◌then◌else◌, length-append}
 use Rattle.std.specs.Prelude.{◌==◌, Option, Some, None, slice_get, slice_index}
 use Rattle.std.specs.List.{list_all}
-use Rattle.std.proofs.lemmas.Bool.{cond-true, and_parts, leb-true}
+use Rattle.std.proofs.lemmas.Bool.{cond-true, leb-true}
 use mathlib.Core.Bool.{beq}
 use Rattle.sercos_idn.specs.declared.idn.Idn.{Idn}
 use Rattle.sercos_step.specs.declared.step.Step.{Step}
@@ -21,7 +21,8 @@ use Rattle.sercos_handshake.specs.InStep.{replies_of}
 use Rattle.sercos_handshake.specs.Transfers.{IsTransfer, is_complete}
 use Rattle.sercos_handshake.specs.CommandTransfers.{GivesStatus, EndsWithStatus, idn_of}
 use Rattle.sercos_handshake.proofs.AttributeReplies.{reply-read}
-use Rattle.sercos_handshake.proofs.TransferSteps.{all-slice_get, newest_step, without_newest, length-replies_of, length-answer_words, complete-outcome_of, goes_on-outcome_of}
+use Rattle.sercos_step.proofs.Ends.{length-answer_words}
+use Rattle.sercos_handshake.proofs.TransferSteps.{all-slice_get, newest_step, without_newest, length-replies_of, complete-outcome_of, goes_on-outcome_of}
 use Rattle.sercos_handshake.proofs.UnknownBlocks.{refuses_unknown}
 use Rattle.sercos_handshake.proofs.ElementReads.{status_small}
 use Rattle.sercos_handshake.proofs.CommandStages.{Poll, Reads, Cancels, Stage, AtOpening, AtSetting, AtPoll, next_poll, whole_cancels, stage_before}

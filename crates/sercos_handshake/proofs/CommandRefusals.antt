@@ -72,7 +72,7 @@ module _ (idn : Idn) (blocks : List Block) (b : Block) (found : find_block idn.r
           set_allows idn.raw d.taken ((o ∷ []) ++ log) blocks b (next_setting idn b words d.taken.step w is next) opened before alike found well
       by words next well alike (AtPoll d o past w v polled those is opened before two) = absurd (cc)
 
-  -- so behind it: the phase is that of the second entry
+  -- so after it: the phase is that of the second entry
   set_before : (e d o : Entry) (past log : List Entry) → IsTransfer asked blocks e (d ∷ o ∷ past) log → (phase : ℕ) × Allows b phase × (AreProtected b.attribute (d ∷ o ∷ past) → is_protected b.attribute phase ≡ true)
   set_before e d o [] log is = (d.taken.phase, second_allows e d o log is, λ all. all.1)
   set_before e d o (p ∷ past) log is =

@@ -20,15 +20,13 @@ use Rattle.sercos_handshake.specs.CommandTransfers.{SetsAndCancels, setting, sec
 use Rattle.sercos_handshake.proofs.TransferSteps.{newest_step, without_newest, complete-outcome_of, goes_on-outcome_of, adds_none, effect_by}
 use Rattle.sercos_handshake.proofs.SettingReplies.{two_bytes, set_allows}
 use Rattle.sercos_handshake.proofs.UnknownBlocks.{writes_nowhere, only_opening}
+use Rattle.sercos_handshake.proofs.ReadRows.{some_same}
 use Rattle.sercos_handshake.proofs.WriteRuns.{run_starts, open_by, last_word}
 
--- The next step behind these data statuses reads one more, or cancels the command and is the last.
+-- The next step after these data statuses reads one more, or cancels the command and is the last.
 pub data Poll (polled : List ℕ) (s : Step) : Type 0 where
   Reads : s ≡ a_step false true 1 0 → ((x : ℕ) → length (polling (polled ++ x ∷ [])) ≡ suc (suc (length polled))) → Poll polled s
   Cancels : s ≡ a_step true true 7 0 → ((x : ℕ) → length (polling (polled ++ x ∷ [])) ≡ suc (length polled)) → Poll polled s
-
-some_same : {A : Type 0} (x y : A) → Some x ≡ Some y → y ≡ x
-some_same x y is = cc
 
 one_status : (status : ℕ) → length (polling (status ∷ [])) ≡ 2
 one_status status = by (status == 7)
@@ -54,7 +52,7 @@ polls (status ∷ polled) s next = by (status == 7) refl next (polls polled s)
     by true seven got again = poll_more status polled s seven (again got)
     by false other got again = poll_last status polled s other got
 
--- Behind these entries, with these words answered: the next step is the opening, the setting, or one of those behind it.
+-- After these entries, with these words answered: the next step is the opening, the setting, or one of those after it.
 pub data Stage (idn : Idn) (b : Block) (words : List ℕ) (entries all : List Entry) : Type 0 where
   AtOpening : entries ≡ [] → words ≡ [] → Stage idn b words entries all
   AtSetting : (o : Entry) (w : ℕ) → entries ≡ o ∷ [] → words ≡ w ∷ [] → open_idn all ≡ Some idn.raw → run_before true 7 all ≡ [] → Stage idn b words entries all

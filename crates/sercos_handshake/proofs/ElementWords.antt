@@ -15,7 +15,7 @@ use Rattle.sercos_step.specs.Words.{words_of, bytes_in, bytes_read, words_in, sh
 use Rattle.sercos_block.specs.Blocks.{width_of, bytes_for}
 use Rattle.sercos_block.specs.Rules.{is_text, is_printable, is_limit}
 use Rattle.sercos_service_drive.specs.Replies.{list_words}
-use Rattle.sercos_handshake.proofs.StoredBytes.{bytes_again, low_byte, high_byte}
+use Rattle.sercos_step.proofs.ReadBack.{low_back, high_back, bytes_back}
 use Rattle.sercos_handshake.proofs.ReadRows.{row, row-all}
 
 -- the bytes that these words give, as many of them as the first says
@@ -36,13 +36,13 @@ list_read bytes longest few are =
     let half : (min (length bytes) 1024 + 1) / 2 ≡ length (words_of bytes) = ap (λ (n : ℕ). (n + 1) / 2) least ∙ sym (length-words_of bytes) in
     let count : 2 + (min (length bytes) 1024 + 1) / 2 ≡ length (list_words longest bytes) = omega (arith, half) in
     ap (λ (n : ℕ). bytes_read shape.List (row n (list_words longest bytes))) count ∙ ap (bytes_read shape.List) (row-all (list_words longest bytes))
-    ∙ ap (λ (n : ℕ). take n (bytes_in (words_of bytes))) least ∙ bytes_again bytes are
+    ∙ ap (λ (n : ℕ). take n (bytes_in (words_of bytes))) least ∙ bytes_back bytes are
 
 two_read : (bytes : List ℕ) → length bytes ≡ 2 → AreBytes bytes → read_from shape.One (words_of bytes) ≡ bytes
 unfolding AreBytes
 two_read [] is are = absurd (omega arith)
 two_read (a ∷ []) is are = absurd (omega arith)
-two_read (a ∷ b ∷ []) is are = rw (low_byte a b are.0, high_byte a b are.0) refl
+two_read (a ∷ b ∷ []) is are = rw (low_back a b are.0, high_back a b are.0) refl
 two_read (a ∷ b ∷ c ∷ bytes) is are = absurd (omega arith)
 
 four_read : (bytes : List ℕ) → length bytes ≡ 4 → AreBytes bytes → read_from shape.Two (words_of bytes) ≡ bytes
@@ -51,7 +51,7 @@ four_read [] is are = absurd (omega arith)
 four_read (a ∷ []) is are = absurd (omega arith)
 four_read (a ∷ b ∷ []) is are = absurd (omega arith)
 four_read (a ∷ b ∷ c ∷ []) is are = absurd (omega arith)
-four_read (a ∷ b ∷ c ∷ d ∷ []) is are = rw (low_byte a b are.0, high_byte a b are.0, low_byte c d are.1.1.0, high_byte c d are.1.1.0) refl
+four_read (a ∷ b ∷ c ∷ d ∷ []) is are = rw (low_back a b are.0, high_back a b are.0, low_back c d are.1.1.0, high_back c d are.1.1.0) refl
 four_read (a ∷ b ∷ c ∷ d ∷ e ∷ bytes) is are = absurd (omega arith)
 
 are_two : (n : ℕ) → AreBytes (to_le_bytes w16 n)

@@ -26,7 +26,8 @@ use Rattle.sercos_handshake.proofs.UnknownBlocks.{writes_nowhere}
 use Rattle.sercos_handshake.proofs.QuietSteps.{writes_nothing}
 use Rattle.sercos_handshake.proofs.CommandStages.{sets_and_cancels}
 use Rattle.sercos_handshake.proofs.CommandRefusals.{refused_adds_nothing}
-use Rattle.sercos_handshake.proofs.TransferSteps.{length-replies_of, length-answer_words, complete-outcome_of, goes_on-outcome_of}
+use Rattle.sercos_step.proofs.Ends.{length-answer_words}
+use Rattle.sercos_handshake.proofs.TransferSteps.{length-replies_of, complete-outcome_of, goes_on-outcome_of}
 use Rattle.sercos_handshake.specs.WholeRun.{IsSound, AreSmall}
 use Rattle.sercos_handshake.specs.Exact.{Given, given_of, gives, written_to, given_by, AreWrites, Complete, Refused, Broken, AreInPhase, ReadsExactly, EndsExactly, IsExact}
 use Rattle.sercos_handshake.proofs.CommandEnds.{one_long, unknown_incomplete, ends_with_status}

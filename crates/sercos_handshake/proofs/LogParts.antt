@@ -71,7 +71,7 @@ answers_split (a ∷ answers) more (e ∷ log) is =
     let split = answers_split answers more log tail in
     (ap₂ (λ (x : Answer) (l : List Answer). x ∷ l) (sym head) split.0, split.1)
 
--- a front of the log has these steps and these answers, and what is behind it the others
+-- a front of the log has these steps and these answers, and what is after it the others
 record IsFront (some more : List Step) (answers others : List Answer) (part rest : List Entry) : Type 0 where
   steps : steps_of part ≡ some
   replies : replies_of part ≡ answers

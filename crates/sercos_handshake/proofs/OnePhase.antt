@@ -1,5 +1,5 @@
 -- The entries of a transfer are of one phase, since the master doesn't rise while a step is open.
-use Rattle.std.proofs.Common.{◌≡◌, ◌⊎◌, inl, inr, ⊎_elim, ℕ, zero, suc, ◌+◌, ◌*◌, ◌≤◌, Bool, true, false, not, ◌&&◌, List, [], ◌∷◌, ◌++◌, length, drop, replicate, refl, sym, ap, ◌∙◌, subst, arith, if◌then◌else◌, length-append}
+use Rattle.std.proofs.Common.{◌≡◌, ◌⊎◌, inl, inr, ⊎_elim, ℕ, suc, ◌+◌, ◌*◌, ◌≤◌, Bool, true, false, not, ◌&&◌, List, [], ◌∷◌, ◌++◌, length, drop, replicate, refl, sym, ap, ◌∙◌, subst, arith, if◌then◌else◌, length-append}
 use Rattle.std.specs.Prelude.{◌==◌, Option, Some, None, is_some, slice_get}
 use Rattle.std.specs.List.{list_all}
 use Rattle.std.proofs.lemmas.Bool.{not-true}
@@ -129,7 +129,7 @@ heard_level phase begun log status word h bit l = by (answers_it begun status) r
     by false off = l
     by true takes = let all = all_accepted begun log status h bit takes in record { steady = l.steady; level = λ some which. l.level all.0 (inr all.1) }
 
-no_longer : {A : Type 0} (x : A) (xs : List A) → x ∷ xs ≡ xs → ⊥
+pub no_longer : {A : Type 0} (x : A) (xs : List A) → x ∷ xs ≡ xs → ⊥
 no_longer x xs is = let long : suc (length xs) ≡ length xs = ap length is in omega arith
 
 idle_steps : (begun : List Begun) (log : List Entry) → AreInStep begun log → open_in begun ≡ None → steps_in begun ≡ log_steps log

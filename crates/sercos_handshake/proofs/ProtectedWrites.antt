@@ -12,6 +12,7 @@ use Rattle.sercos_block.specs.Stores.{find_block, write_fault, data_fault, put_f
 use Rattle.sercos_service_drive.specs.Log.{Taken, Entry, ahs, opens, open_idn, run_before, in_order}
 use Rattle.sercos_service_drive.specs.Replies.{answer_by, selects, bytes_written, write_cause, write_cause_in, reply_at, reply_of, log_of}
 use Rattle.sercos_service_drive.specs.Writes.{Write, AreAlike, AreThose, without_data, written_by, with_added, adds, added_on}
+use Rattle.sercos_service_drive.proofs.AllowedWrites.{those_moved}
 use Rattle.sercos_handshake.proofs.AttributeReplies.{find-alike}
 use Rattle.sercos_handshake.specs.Views.{View, standing, stood_in, record_in, processed_in, with_record, kept_in_phase, kept_unless, since_reset, kept_in}
 use Rattle.sercos_handshake.specs.WholeRun.{write_of, all_writes, AreSound}
@@ -112,10 +113,6 @@ stays_quiet v past low = by (processes v past)
 -- what the law on a drive's writes says: a write was allowed
 abbrev pub AreAllowed : Type 0
 AreAllowed = (t : Taken) (h : List Taken) → AreThose t.blocks h → IfSome (added_on t h) (λ w. put_fault (find_block w.raw t.blocks) t.phase w.bytes ≡ None)
-
-pub those_moved : (blocks others : List Block) (h : List Taken) → AreAlike others blocks → AreThose blocks h → AreThose others h
-those_moved blocks others [] same those = tt
-those_moved blocks others (t ∷ h) same those = (those.0 ∙ sym same, those_moved blocks others h same those.1)
 
 free_of : (o : Option Block) (phase : ℕ) (bytes : List ℕ) (b : Block) → option_map without_data o ≡ Some (without_data b) → put_fault o phase bytes ≡ None → is_fixed b ≡ false
 free_of None phase bytes b same none = absurd (cc)

@@ -7,7 +7,7 @@ use Rattle.sercos_step.specs.declared.shape.Shape.{Shape}
 use Rattle.sercos_step.specs.declared.shape.Shape.TheVariants as shape
 use Rattle.sercos_step.specs.Words.{words_in, words_in_list}
 use Rattle.sercos_step.specs.Steps.{a_step, run, reading}
-use Rattle.sercos_handshake.proofs.WriteRuns.{length-run}
+use Rattle.sercos_step.proofs.Runs.{length-run}
 
 -- the first words of a list, filled up with zeros
 abbrev pub row : ℕ → List ℕ → List ℕ
@@ -27,7 +27,7 @@ pub row-all : (words : List ℕ) → row (length words) words ≡ words
 row-all [] = refl
 row-all (word ∷ words) = ap (λ (l : List ℕ). word ∷ l) (row-all words)
 
-some_same : {A : Type 0} (x y : A) → Some x ≡ Some y → y ≡ x
+pub some_same : {A : Type 0} (x y : A) → Some x ≡ Some y → y ≡ x
 some_same x y is = cc
 
 pub below_length : {A : Type 0} (xs : List A) (k : ℕ) (x : A) → slice_get xs k ≡ Some x → k < length xs

@@ -20,9 +20,10 @@ use Rattle.sercos_service_drive.specs.Writes.{AreAlike}
 use Rattle.sercos_handshake.specs.InStep.{replies_of}
 use Rattle.sercos_handshake.specs.Transfers.{IsTransfer}
 use Rattle.sercos_handshake.specs.ReadTransfers.{entry_behind}
-use Rattle.sercos_handshake.proofs.TransferSteps.{length-answer_words, newest_step, without_newest, goes_on-outcome_of, length-replies_of}
+use Rattle.sercos_step.proofs.Ends.{length-answer_words}
+use Rattle.sercos_handshake.proofs.TransferSteps.{newest_step, without_newest, goes_on-outcome_of, length-replies_of}
 use Rattle.sercos_handshake.proofs.AttributeReplies.{attribute_words, IsRead, IsRead-alike, reply-read, reply_low, reply_high}
-use Rattle.sercos_handshake.proofs.ReadRows.{row, row-more, reading_next, reading_full, some_reading}
+use Rattle.sercos_handshake.proofs.ReadRows.{some_same, row, row-more, reading_next, reading_full, some_reading}
 use Rattle.sercos_handshake.proofs.WriteRuns.{run_grows, run_starts, open_by}
 
 abbrev pub low_of : Block → ℕ
@@ -31,9 +32,6 @@ low_of b = slice_index (attribute_words b.attribute) 0
 abbrev pub high_of : Block → ℕ
 high_of b = slice_index (attribute_words b.attribute) 1
 
-some_same : {A : Type 0} (x y : A) → Some x ≡ Some y → y ≡ x
-some_same x y is = cc
-
 -- the layout that the master reads by
 abbrev pub shape_asked : ℕ → Bool → Block → Shape
 shape_asked e v b = shape_of e (if v then low_of b + 65536 * high_of b else 0)
@@ -41,7 +39,7 @@ shape_asked e v b = shape_of e (if v then low_of b + 65536 * high_of b else 0)
 abbrev pub shape_read : ℕ → Block → Shape
 shape_read e b = shape_asked e (asks_attribute e) b
 
--- The words of the element stand behind the word that answered the opening, and behind the two of the attribute where it is read.
+-- The words of the element stand after the word that answered the opening, and after the two of the attribute where it is read.
 pub data Behind (b : Block) (asks : Bool) (words own : List ℕ) : Type 0 where
   Short : (asks ≡ false) → (w : ℕ) → (words ≡ w ∷ own) → Behind b asks words own
   Long : (asks ≡ true) → (w : ℕ) → (words ≡ w ∷ low_of b ∷ high_of b ∷ own) → Behind b asks words own
@@ -119,7 +117,7 @@ module _ (idn : Idn) (e : ℕ) (b : Block) (blocks : List Block) (found : find_b
     pub element : x.taken.step.element ≡ e → entry.taken.step.element ≡ e
     pub alike : AreAlike x.taken.blocks blocks → AreAlike entry.taken.blocks blocks
 
-  -- Behind these entries, with these words answered: the next step is the opening, one of the two that read the attribute, or
+  -- After these entries, with these words answered: the next step is the opening, one of the two that read the attribute, or
   -- the one that reads a word.
   pub data Stage (words : List ℕ) (entries log : List Entry) : Type 0 where
     AtOpening : (words ≡ []) → Stage words entries log
@@ -147,7 +145,7 @@ module _ (idn : Idn) (e : ℕ) (b : Block) (blocks : List Block) (found : find_b
       reading_next (shape_read e b) e own s x (sym (placed idn e b (asks_attribute e) words own behind).next ∙ next)
       ∙ ap (λ (v : Bool). a_step false v e 0) (sym (placed idn e b (asks_attribute e) (words ++ x ∷ []) (own ++ x ∷ []) (behind_more b (asks_attribute e) words own x behind)).whole)
 
-  -- no entry stands behind itself
+  -- no entry stands after itself
   first_chosen : (entries : List Entry) (x : Entry) → length entries ≡ steps_before e → Chosen [] [] entries x
   first_chosen entries x count = record {
     entry = x;

@@ -19,6 +19,7 @@ use Rattle.sercos_block.specs.Stores.{find_block, is_below, is_above}
 use Rattle.sercos_service_drive.specs.Log.{Taken, Entry, opens, open_idn, run_before}
 use Rattle.sercos_service_drive.specs.Replies.{answer_by, selects, ends_early, is_over, is_uneven, is_no_setting, bytes_written, write_cause, write_cause_in, reply_of, reply_at}
 use Rattle.sercos_service_drive.specs.Writes.{AreAlike, without_data}
+use Rattle.sercos_service_drive.proofs.AllowedWrites.{no_cause}
 use Rattle.sercos_handshake.proofs.AttributeReplies.{find-alike}
 
 -- A block that takes one word as the last has two bytes.
@@ -59,10 +60,6 @@ unfolding bytes_written
 two_bytes b word small two = let low : word % 256 ≡ word = omega arith in let high : word / 256 ≡ 0 = omega arith in rw (two, low, high) refl
 
 -- where the setting isn't refused, the block has two bytes
-good_cause : (o : Option ℕ) (word : ℕ) → (answer_by o word).error ≡ false → o ≡ None
-good_cause None word well = refl
-good_cause (Some code) word well = absurd (cc)
-
 allows_by : (raw : ℕ) (t : Taken) (b : Block) → option_map without_data (find_block raw t.blocks) ≡ Some (without_data b) → write_cause_in (find_block raw t.blocks) t.phase true (3 ∷ []) ≡ None → Allows b t.phase
 allows_by raw t b found none = by (find_block raw t.blocks) found none
   where
@@ -89,7 +86,7 @@ reply-word raw word t all is opened before =
 pub set_allows : (raw : ℕ) (t : Taken) (all : List Entry) (blocks : List Block) (b : Block) → t.step ≡ a_step true true 7 3 → open_idn all ≡ Some raw → run_before true 7 all ≡ [] → AreAlike t.blocks blocks → find_block raw blocks ≡ Some b →
     (reply_of t all).error ≡ false → Allows b t.phase
 set_allows raw t all blocks b is opened before alike found well =
-    allows_by raw t b (find-alike raw t.blocks blocks b alike found) (good_cause _ 0 (ap (λ (a : Answer). a.error) (sym (reply-word raw 3 t all is opened before)) ∙ well))
+    allows_by raw t b (find-alike raw t.blocks blocks b alike found) (no_cause _ 0 (ap (λ (a : Answer). a.error) (sym (reply-word raw 3 t all is opened before)) ∙ well))
 
 -- there is no cause against a cancel
 or_none : (o p : Option ℕ) → o ≡ None → p ≡ None → option_or o p ≡ None

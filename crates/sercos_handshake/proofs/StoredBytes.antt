@@ -1,5 +1,5 @@
 -- What the words of a write leave as operation data.
-use Rattle.std.proofs.Common.{◌≡◌, ℕ, ◌+◌, ◌*◌, ◌/◌, ◌%◌, ◌<◌, List, [], ◌∷◌, length, take, drop, refl, ap, arith, if◌then◌else◌}
+use Rattle.std.proofs.Common.{◌≡◌, ℕ, List, take, drop, refl, if◌then◌else◌}
 use Rattle.std.specs.Prelude.{slice_index}
 use Rattle.sercos_model.specs.Bits.{AreBytes}
 use Rattle.sercos_idn.specs.declared.kinds.Length.{Length}
@@ -8,30 +8,16 @@ use Rattle.sercos_idn.specs.Codes.{is_list}
 use Rattle.sercos_step.specs.Words.{words_of, bytes_in, shape_by, words_told, at_least_one}
 use Rattle.sercos_block.specs.declared.block.Block.{Block}
 use Rattle.sercos_service_drive.specs.Replies.{bytes_written}
+use Rattle.sercos_step.proofs.ReadBack.{bytes_back}
 use Rattle.sercos_handshake.specs.Transfers.{stored}
-
-pub low_byte : (low high : ℕ) → low < 256 → (low + 256 * high) % 256 ≡ low
-low_byte low high is = omega arith
-
-pub high_byte : (low high : ℕ) → low < 256 → (low + 256 * high) / 256 ≡ high
-high_byte low high is = omega arith
-
--- the words of bytes give them back
-pub bytes_again : (bytes : List ℕ) → AreBytes bytes → take (length bytes) (bytes_in (words_of bytes)) ≡ bytes
-unfolding AreBytes
-bytes_again [] are = refl
-bytes_again (low ∷ []) are = let small : low < 256 = are.0 in let e : low % 256 ≡ low = omega arith in ap (λ (n : ℕ). n ∷ []) e
-bytes_again (low ∷ high ∷ bytes) are =
-    let again = bytes_again bytes are.1.1 in
-    rw (low_byte low high are.0, high_byte low high are.0, again) refl
 
 stored_by : (l : Length) (bytes : List ℕ) → AreBytes bytes → (let words = words_told (shape_by l) bytes in
     (if is_list l then take (slice_index words 0) (bytes_in (drop 2 words)) else bytes_in words) ≡ (if is_list l then bytes else bytes_in (at_least_one (words_of bytes))))
 stored_by len.Two bytes are = refl
 stored_by len.Four bytes are = refl
-stored_by len.List1 bytes are = bytes_again bytes are
-stored_by len.List2 bytes are = bytes_again bytes are
-stored_by len.List4 bytes are = bytes_again bytes are
+stored_by len.List1 bytes are = bytes_back bytes are
+stored_by len.List2 bytes are = bytes_back bytes are
+stored_by len.List4 bytes are = bytes_back bytes are
 
 pub bytes_written-told : (b : Block) (bytes : List ℕ) → AreBytes bytes → bytes_written b (words_told (shape_by b.attribute.length) bytes) ≡ stored b bytes
 unfolding bytes_written

@@ -1,5 +1,5 @@
 -- The steps of the entries of a transfer, one by one.
-use Rattle.std.proofs.Common.{◌≡◌, ℕ, zero, suc, ◌≤◌, Bool, true, false, not, ◌&&◌, List, [], ◌∷◌, ◌++◌, length, refl, sym, ap, ◌∙◌, arith, if◌then◌else◌, length-append}
+use Rattle.std.proofs.Common.{◌≡◌, ℕ, zero, suc, ◌≤◌, Bool, true, false, not, ◌&&◌, List, [], ◌∷◌, ◌++◌, length, refl, sym, ap, ◌∙◌, arith, if◌then◌else◌}
 use Rattle.std.specs.Prelude.{◌==◌, Option, Some, None, is_some, slice_get}
 use Rattle.std.specs.List.{list_all}
 use Rattle.std.proofs.lemmas.Bool.{and_parts, cond-false}
@@ -22,10 +22,6 @@ length-steps_of (e ∷ entries) = ap suc (length-steps_of entries)
 pub length-replies_of : (entries : List Entry) → length (replies_of entries) ≡ length entries
 length-replies_of [] = refl
 length-replies_of (e ∷ entries) = ap suc (length-replies_of entries)
-
-pub length-answer_words : (h : List Answer) → length (answer_words h) ≡ length h
-length-answer_words [] = refl
-length-answer_words (a ∷ h) = let more = length-answer_words h in omega (arith, length-append (answer_words h) (a.word ∷ []))
 
 -- what holds of all steps holds of each
 pub all-slice_get : (p : Step → Bool) (steps : List Step) (k : ℕ) (s : Step) → list_all p steps ≡ true → slice_get steps k ≡ Some s → p s ≡ true
@@ -56,7 +52,7 @@ next-step_at r h s at = next (is_some (outcome_of r h)) at
     next false at = at
 
 module _ (r : Request) (blocks : List Block) (log : List Entry) where
-  -- the newest step is the next one behind the others
+  -- the newest step is the next one after the others
   pub newest_step : (e : Entry) (entries : List Entry) → IsTransfer r blocks e entries log → next_step r (replies_of entries) ≡ Some e.taken.step
   newest_step e [] is = next-step_at r [] e.taken.step (begun_last (step_at r []) e.taken.step [] [] is.steps (omega arith)).0
   newest_step e (d ∷ entries) is =

@@ -15,16 +15,7 @@ use Rattle.sercos_service_drive.specs.Writes.{Write, AreAlike, without_data, wri
 use Rattle.sercos_handshake.proofs.AttributeReplies.{find-alike}
 use Rattle.sercos_handshake.proofs.TransferSteps.{effect_by}
 
-pub length-run : (write : Bool) (e : ℕ) (words : List ℕ) → length (run write e words) ≡ length words
-length-run write e [] = refl
-length-run write e (word ∷ []) = refl
-length-run write e (word ∷ next ∷ words) = ap suc (length-run write e (next ∷ words))
-
-pub length-in_order : (taken : List Taken) (words : List ℕ) → length (in_order taken words) ≡ length taken + length words
-length-in_order [] words = omega arith
-length-in_order (t ∷ taken) words = let more = length-in_order taken (t.step.word ∷ words) in omega arith
-
--- the steps behind those of a run are those of the words that are left
+-- the steps after those of a run are those of the words that are left
 run-get : (taken : List Taken) (word : ℕ) (rest : List ℕ) (k j : ℕ) → k ≡ length taken + j →
     slice_get (run true 7 (in_order taken (word ∷ rest))) k ≡ slice_get (run true 7 (word ∷ rest)) j
 run-get [] word rest k j is = let same : k ≡ j = omega arith in ap (slice_get (run true 7 (word ∷ rest))) same
@@ -58,7 +49,7 @@ run_starts s write element e all is other =
     not_all true false c d off = refl
     not_all false b c d off = refl
 
--- the identifier number that is open behind a step
+-- the identifier number that is open after a step
 pub open_by : (s : Step) (e : Entry) (all : List Entry) → e.taken.step ≡ s → e.answer.error ≡ false →
     open_idn (e ∷ all) ≡ (if opens s then Some s.word else (if s.element == 0 then None else open_idn all))
 open_by s e all is well =

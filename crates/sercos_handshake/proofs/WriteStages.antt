@@ -22,7 +22,10 @@ use Rattle.sercos_handshake.specs.Transfers.{IsTransfer, is_complete, stored}
 use Rattle.sercos_handshake.proofs.TransferSteps.{newest_step, without_newest, complete-outcome_of, goes_on-outcome_of, adds_none, effect_by}
 use Rattle.sercos_handshake.proofs.StoredBytes.{bytes_written-told}
 use Rattle.sercos_handshake.proofs.AttributeReplies.{attribute_words, IsRead, IsRead-alike, reply_low, reply_high}
-use Rattle.sercos_handshake.proofs.WriteRuns.{length-run, length-in_order, run_next, run_grows, run_starts, open_by, last_word}
+use Rattle.sercos_step.proofs.Runs.{length-run}
+use Rattle.sercos_service_drive.proofs.WriteAnswers.{length-in_order}
+use Rattle.sercos_handshake.proofs.ReadRows.{some_same}
+use Rattle.sercos_handshake.proofs.WriteRuns.{run_next, run_grows, run_starts, open_by, last_word}
 
 abbrev pub low_of : Block → ℕ
 low_of b = slice_index (attribute_words b.attribute) 0
@@ -43,8 +46,8 @@ told_parts shape.One bytes = parts (words_of bytes)
 told_parts shape.Two bytes = parts (words_of bytes)
 told_parts shape.List bytes = refl
 
--- Behind these entries, with these words answered: the next step is the opening, one of the two that read the attribute, or
--- the one that writes a word, with others behind it.
+-- After these entries, with these words answered: the next step is the opening, one of the two that read the attribute, or
+-- the one that writes a word, with others after it.
 pub data Stage (idn : Idn) (bytes : List ℕ) (b : Block) (words : List ℕ) (all : List Entry) : Type 0 where
   AtOpening : words ≡ [] → Stage idn bytes b words all
   AtLow : (w : ℕ) → words ≡ w ∷ [] → open_idn all ≡ Some idn.raw → run_before false 3 all ≡ [] → Stage idn bytes b words all
@@ -55,9 +58,6 @@ pub data Stage (idn : Idn) (bytes : List ℕ) (b : Block) (words : List ℕ) (al
 abbrev pub is_nil : List ℕ → Bool
 is_nil [] = true
 is_nil (w ∷ ws) = false
-
-some_same : {A : Type 0} (x y : A) → Some x ≡ Some y → y ≡ x
-some_same x y is = cc
 
 none_of : (a b : Bool) (x y : List Write) → b ≡ false → (if a && b then x else y) ≡ y
 none_of true true x y off = absurd (cc)

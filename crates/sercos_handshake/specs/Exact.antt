@@ -3,6 +3,8 @@
 use Rattle.std.specs.Prelude.{◌≡◌, ℕ, ◌==◌, if◌then◌else◌, List, [], ◌∷◌, ◌++◌, map, drop, Option, Some, None}
 use Rattle.sercos_idn.specs.declared.code.Code.{Code}
 use Rattle.sercos_idn.specs.declared.idn.Idn.{Idn}
+use Rattle.sercos_idn.specs.Elements.{data_element}
+use Rattle.sercos_idn.specs.Commands.{to_cancel, to_set}
 use Rattle.sercos_step.specs.declared.request.Request.{Request}
 use Rattle.sercos_step.specs.declared.request.Request.TheVariants as request
 use Rattle.sercos_step.specs.declared.request.Outcome.TheVariants as outcome
@@ -39,8 +41,8 @@ written_to raw bytes (Some b) = gives raw (stored b bytes) ∷ []
 
 abbrev pub given_by : List Block → Request → List Given
 given_by blocks (request.Read idn e) = []
-given_by blocks (request.Write idn e bytes) = if e == 7 then written_to idn.raw bytes (find_block idn.raw blocks) else []
-given_by blocks (request.Command idn) = gives idn.raw (0 ∷ 0 ∷ []) ∷ gives idn.raw (3 ∷ 0 ∷ []) ∷ []
+given_by blocks (request.Write idn e bytes) = if e == data_element then written_to idn.raw bytes (find_block idn.raw blocks) else []
+given_by blocks (request.Command idn) = gives idn.raw (to_cancel ∷ 0 ∷ []) ∷ gives idn.raw (to_set ∷ 0 ∷ []) ∷ []
 
 -- These are the writes of a transfer. A complete one writes all that it gives, a refused one nothing. One that is open or was
 -- broken has written the first of it: without these last ones, which stand first.

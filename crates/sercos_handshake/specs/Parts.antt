@@ -30,7 +30,7 @@ pub data IsPart (b : Begun) (part : List Entry) : Type 0 where
   Heard : (e : Entry) (entries : List Entry) → (part ≡ e ∷ entries) → IsRow b e entries → (b.answers ≡ replies_of (e ∷ entries)) → IsPart b part
   Unheard : (e : Entry) (entries : List Entry) → (part ≡ e ∷ entries) → IsRow b e entries → (b.answers ≡ replies_of entries) → IsPart b part
 
--- the log is the parts of all requests, one behind the other
+-- the log is the parts of all requests, one after the other
 abbrev pub AreParts : List Begun → List Entry → Type 0
 AreParts [] log = log ≡ []
 AreParts (b ∷ past) log = (part : List Entry) × (rest : List Entry) × (log ≡ part ++ rest) × IsPart b part × AreParts past rest
@@ -39,7 +39,7 @@ AreParts (b ∷ past) log = (part : List Entry) × (rest : List Entry) × (log �
 abbrev pub FallIntoParts : Type 0
 FallIntoParts = (begun : List Begun) (log : List Entry) → AreInTurn begun → AreInStep begun log → AreParts begun log
 
--- Each entry of a part of the log has the reply to its step, behind those before it.
+-- Each entry of a part of the log has the reply to its step, after those before it.
 abbrev pub HaveReplies : Type 0
 HaveReplies = (h : List Taken) (part rest : List Entry) → answered h ≡ part ++ rest → AreReplies part rest
 

@@ -1,6 +1,7 @@
 -- What a complete read gives. Each list has its newest item first.
 use Rattle.std.specs.Prelude.{◌≡◌, ℕ, ◌^◌, ◌<◌, ◌≤◌, ◌==◌, false, not, ◌&&◌, if◌then◌else◌, List, [], ◌∷◌, length, Option, Some, None, unwrap_or}
 use Rattle.sercos_idn.specs.declared.idn.Idn.{Idn}
+use Rattle.sercos_idn.specs.Elements.{identifier_element, data_element}
 use Rattle.sercos_idn.specs.Codes.{is_list}
 use Rattle.sercos_step.specs.declared.request.Request.TheVariants as request
 use Rattle.sercos_step.specs.declared.request.Outcome.TheVariants as outcome
@@ -15,18 +16,18 @@ use Rattle.sercos_service_drive.specs.Writes.{without_data}
 use Rattle.sercos_handshake.specs.InStep.{replies_of}
 use Rattle.sercos_handshake.specs.Transfers.{IsTransfer}
 
--- the entry behind so many others
+-- the entry with `count` older ones before it
 abbrev pub entry_behind : ℕ → List Entry → Option Entry
 entry_behind count [] = None
 entry_behind count (e ∷ entries) = if length entries == count then Some e else entry_behind count entries
 
 -- the bytes of an element from 2 to 7 of a block in a cycle
 abbrev pub element_in : ℕ → ℕ → Block → List ℕ
-element_in e cycle c = if (e == 7) && not (is_list c.attribute.length) then data_in cycle c else unwrap_or (element_of c e) []
+element_in e cycle c = if (e == data_element) && not (is_list c.attribute.length) then data_in cycle c else unwrap_or (element_of c e) []
 
 -- the bytes of an element when the drive accepts a step and has this block: the data status as two bytes, or those of the block
 abbrev pub bytes_at : ℕ → ℕ → Block → Taken → List ℕ
-bytes_at raw e c t = if e == 1 then status_in t.commands raw t.cycle ∷ 0 ∷ [] else element_in e t.cycle c
+bytes_at raw e c t = if e == identifier_element then status_in t.commands raw t.cycle ∷ 0 ∷ [] else element_in e t.cycle c
 
 -- A step reads the element, the drive then has the block, alike but for its operation data, and the block has the element;
 -- and these are its bytes then, if the drive's blocks keep the rules of a store. A data status doesn't need that.
@@ -40,7 +41,7 @@ pub record IsReadAt (raw e : ℕ) (b : Block) (bytes : List ℕ) (t : Taken) : T
   pub gives : (2 ≤ e → IsStore t.blocks) → bytes ≡ bytes_at raw e block t
 
 -- A complete read gives the element's bytes as they stood when the drive accepted the selection, which is the first step
--- behind the opening and, where the attribute is read, the two steps that read it.
+-- after the opening and, where the attribute is read, the two steps that read it.
 abbrev pub ReadsOnce : Type 0
 ReadsOnce = (idn : Idn) (e : ℕ) (bytes : List ℕ) (blocks : List Block) (b : Block) (s : Entry) (entries log : List Entry) → 1 ≤ e → e ≤ 7 →
     find_block idn.raw blocks ≡ Some b → b.attribute.factor < 2 ^ 16 → IsTransfer (request.Read idn e) blocks s entries log →

@@ -11,7 +11,7 @@ pub record IsShown (busy : ℕ) (a : Heard) (v : View) (past : List View) : Type
   pub stands : 1 ≤ stood_in v (standing past)
   pub says : shown_by a.status a.word ≡ drive_says busy (length past) v.showing (kept_in v past)
 
--- A cycle follows these, if the drive is busy with each step for so many cycles.
+-- A cycle follows these, if the drive is busy with each step for `busy` cycles.
 pub record IsNext (busy : ℕ) (v : View) (past : List View) : Type 0 where
   -- the commanded phase is that of the cycles before, and 0 if the master restarts
   pub commanded : v.phase ≡ command_in v past

@@ -2,6 +2,7 @@
 use Rattle.std.specs.Prelude.{◌≡◌, ℕ, ◌^◌, ◌<◌, ◌==◌, if◌then◌else◌, Bool, true, false, not, List, [], ◌∷◌, ◌++◌, Option, Some, None}
 use Rattle.sercos_model.specs.Bits.{AreBytes}
 use Rattle.sercos_idn.specs.declared.idn.Idn.{Idn}
+use Rattle.sercos_idn.specs.Elements.{data_element}
 use Rattle.sercos_idn.specs.Codes.{is_list}
 use Rattle.sercos_step.specs.declared.request.Request.{Request}
 use Rattle.sercos_step.specs.declared.request.Request.TheVariants as request
@@ -17,7 +18,7 @@ use Rattle.sercos_service_drive.specs.Replies.{reply_of}
 use Rattle.sercos_service_drive.specs.Writes.{AreAlike, writes_of}
 use Rattle.sercos_handshake.specs.InStep.{steps_of, replies_of}
 
--- each of these entries has the reply to its step, behind those before it and the log
+-- each of these entries has the reply to its step, after those before it and the log
 abbrev pub AreReplies : List Entry → List Entry → Type 0
 AreReplies [] log = Unit {0}
 AreReplies (e ∷ entries) log = AreReplies entries log × (e.answer ≡ reply_of e.taken (entries ++ log))
@@ -51,15 +52,15 @@ is_complete _ = false
 abbrev pub WritesOnce : Type 0
 WritesOnce = (idn : Idn) (bytes : List ℕ) (blocks : List Block) (b : Block) (e : Entry) (entries log : List Entry) →
     AreBytes bytes → find_block idn.raw blocks ≡ Some b → b.attribute.factor < 2 ^ 16 →
-    IsTransfer (request.Write idn 7 bytes) blocks e entries log →
+    IsTransfer (request.Write idn data_element bytes) blocks e entries log →
     writes_of ((e ∷ entries) ++ log) ≡
-    (if is_complete (outcome_of (request.Write idn 7 bytes) (replies_of (e ∷ entries)))
+    (if is_complete (outcome_of (request.Write idn data_element bytes) (replies_of (e ∷ entries)))
     then (record { cycle = e.taken.cycle; raw = idn.raw; bytes = stored b bytes }) ∷ writes_of log else writes_of log)
 
 -- A read, and a write of another element, adds none.
 abbrev pub is_silent : Request → Bool
 is_silent (request.Read idn e) = true
-is_silent (request.Write idn e bytes) = not (e == 7)
+is_silent (request.Write idn e bytes) = not (e == data_element)
 is_silent (request.Command idn) = false
 
 abbrev pub WritesNothing : Type 0

@@ -2,6 +2,7 @@
 use Rattle.std.specs.Prelude.{◌≡◌, ℕ, ◌≤◌, ◌==◌, Bool, true, not, ◌&&◌, if◌then◌else◌, List, [], ◌∷◌, ◌++◌, Option, Some, None, unwrap_or}
 use Rattle.std.specs.List.{list_all}
 use Rattle.sercos_idn.specs.declared.idn.Idn.{Idn}
+use Rattle.sercos_idn.specs.Elements.{data_element}
 use Rattle.sercos_step.specs.declared.request.Request.TheVariants as request
 use Rattle.sercos_step.specs.declared.request.Outcome.TheVariants as outcome
 use Rattle.sercos_step.specs.Steps.{outcome_of}
@@ -59,5 +60,5 @@ GiveElsewhere raw blocks (b ∷ begun) = GiveElsewhere raw blocks begun × (list
 -- whether or not the drive has fallen or restarted since.
 abbrev pub StaysWritten : ℕ → Type 0
 StaysWritten busy = (blocks : List Block) (past : List View) (newer older : List Begun) (b : Begun) (idn : Idn) (bytes whole : List ℕ) (block : Block) → AreSmall blocks → IsRun busy past → AreSound blocks past →
-    epoch_begun past ≡ newer ++ b ∷ older → b.request ≡ request.Write idn 7 bytes → outcome_of b.request b.answers ≡ Some (outcome.Complete whole) → find_block idn.raw blocks ≡ Some block → GiveElsewhere idn.raw blocks newer →
+    epoch_begun past ≡ newer ++ b ∷ older → b.request ≡ request.Write idn data_element bytes → outcome_of b.request b.answers ≡ Some (outcome.Complete whole) → find_block idn.raw blocks ≡ Some block → GiveElsewhere idn.raw blocks newer →
     newest_to idn.raw (all_writes past) ≡ Some (stored block bytes)

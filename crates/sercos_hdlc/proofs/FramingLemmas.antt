@@ -10,13 +10,13 @@ use Rattle.sercos_model.specs.Frames.{flag, IsStuffed, IsFrame, plain_of, wire_b
 use Rattle.sercos_model.specs.Frames.IsStuffed.{both_end, zero_kept, one_kept, zero_inserted}
 use Rattle.sercos_model.proofs.BitLemmas.{bits_of-next, bits_of-none}
 use Rattle.sercos_model.proofs.FrameLemmas.{length-plain_of}
-use Rattle.sercos_bits.specs.Register.{fed}
+use Rattle.sercos_bits.proofs.TableLemmas.{low_bits-halves}
 use Rattle.sercos_hdlc.specs.Reason.{six_place, plain, content_of}
 use Rattle.sercos_hdlc.specs.Stuffed.{sent_for, ones_behind, stuffed}
 use Rattle.sercos_hdlc.proofs.StuffLemmas.{six_place-IsStuffed}
 use Rattle.sercos_hdlc.proofs.ReasonLemmas.{reason_of-IsFrame}
 
--- a one behind fewer than four, and the fifth one
+-- a one after fewer than four, and the fifth one
 IsStuffed-one_kept : (ones : ℕ) (bits : List Bool) → ones < 5 → (suc ones < 5 → IsStuffed (suc ones) bits (stuffed (suc ones) bits)) → IsStuffed 0 bits (stuffed 0 bits) → IsStuffed ones (true ∷ bits) (stuffed ones (true ∷ bits))
 unfolding stuffed
 IsStuffed-one_kept zero bits below more none = one_kept below (more (omega arith))
@@ -53,7 +53,7 @@ length-IsStuffed (zero_kept below rest) = omega (arith, length-IsStuffed rest)
 length-IsStuffed (one_kept below rest) = omega (arith, length-IsStuffed rest)
 length-IsStuffed (zero_inserted rest) = omega (arith, length-IsStuffed rest)
 
--- what is sent for a list and another one behind it
+-- what is sent for a list and another one after it
 pub stuffed-append : (ones : ℕ) (xs ys : List Bool) → stuffed ones (xs ++ ys) ≡ stuffed ones xs ++ stuffed (fold ones_behind ones xs) ys
 unfolding stuffed
 stuffed-append ones [] ys = refl
@@ -83,7 +83,7 @@ no_bits : (bits : List Bool) → length bits ≡ 0 → bits ≡ []
 no_bits [] none = refl
 no_bits (bit ∷ bits) none = absurd (omega arith)
 
--- the closing flag has the first six ones behind the opening flag, so a frame ends where any frame that it begins ends
+-- the closing flag has the first six ones after the opening flag, so a frame ends where any frame that it begins ends
 pub no_longer_frame : (content other : List ℕ) (bits more : List Bool) → IsFrame content bits → IsFrame other (bits ++ more) → (more ≡ []) × (content ≡ other)
 no_longer_frame content other bits more is also =
     let rest : is.out ++ (flag ++ more) ≡ also.out ++ flag = sym (append_assoc is.out flag more) ∙ ap (drop 8) (sym (ap (λ b. b ++ more) is.whole) ∙ also.whole) in
@@ -115,13 +115,6 @@ stuffed_no_byte ones bytes i past = ap (stuffed ones) (bits_of-none bytes i past
 pub ones_no_byte : (ones : ℕ) (bytes : List ℕ) (i : ℕ) → length bytes ≤ i → fold ones_behind ones (bits_of (drop i bytes)) ≡ ones
 ones_no_byte ones bytes i past = ap (fold ones_behind ones) (bits_of-none bytes i past)
 
-pub fed_next_byte : (register : List Bool) (bytes : List ℕ) (i : ℕ) → i < length bytes → fold fed register (bits_of (drop i bytes)) ≡ fold fed (fold fed register (low_bits 8 (get_or bytes i 0))) (bits_of (drop (i + 1) bytes))
-fed_next_byte register bytes i inside =
-    ap (fold fed register) (bits_of-next bytes i inside) ∙ fold-append fed register (low_bits 8 (get_or bytes i 0)) (bits_of (drop (i + 1) bytes))
-
-pub fed_no_byte : (register : List Bool) (bytes : List ℕ) (i : ℕ) → length bytes ≤ i → fold fed register (bits_of (drop i bytes)) ≡ register
-fed_no_byte register bytes i past = ap (fold fed register) (bits_of-none bytes i past)
-
 -- nothing is left
 pub sent_all : (out all : List Bool) {whole : List Bool} → whole ≡ [] → out ++ whole ≡ all → out ≡ all
 sent_all out all none before = rw (none, append-nil) at before
@@ -147,14 +140,10 @@ low_bits_low_byte n =
     let h : n % 256 / 2 / 2 / 2 / 2 / 2 / 2 / 2 % 2 ≡ n / 2 / 2 / 2 / 2 / 2 / 2 / 2 % 2 = omega arith in
     rw (a, b, c, d, e, f, g, h)
 
-low_bits_two : (n : ℕ) → low_bits 16 n ≡ low_bits 8 n ++ low_bits 8 (n / 256)
-unfolding low_bits
-low_bits_two n = let high : n / 2 / 2 / 2 / 2 / 2 / 2 / 2 / 2 ≡ n / 256 = omega arith in rw high
-
 pub bits_of_two : (n : ℕ) → bits_of (to_le_bytes w16 n) ≡ low_bits 16 n
 unfolding bits_of
 bits_of_two n =
-    rw (low_bits_low_byte n, low_bits_low_byte (n / 256), append-nil (low_bits 8 (n / 256))) (sym (low_bits_two n))
+    rw (low_bits_low_byte n, low_bits_low_byte (n / 256), append-nil (low_bits 8 (n / 256))) (sym (low_bits-halves n))
 
 -- the bits of a frame, counted flag by flag and byte by byte
 pub length_framed : (content : List ℕ) → length (flag ++ stuffed 0 (plain_of content) ++ flag) ≡ 16 + length (stuffed 0 (bits_of content)) + length (stuffed (fold ones_behind 0 (bits_of content)) (low_bits 16 (fcs_of content)))

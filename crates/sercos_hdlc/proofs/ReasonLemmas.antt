@@ -46,7 +46,7 @@ opens_is : (bits : List Bool) → opens bits ≡ true → bits ≡ flag ++ drop 
 opens_is (false ∷ true ∷ true ∷ true ∷ true ∷ true ∷ true ∷ false ∷ bits) h = refl
 opens_is _ h = cc
 
--- six ones and a zero, behind a bit with which they make no longer run, are the flag
+-- six ones and a zero, after a bit with which they make no longer run, are the flag
 flag_is : (bit : Bool) (bits : List Bool) → begins_with_six (bit ∷ bits) ≡ false → begins_with_six bits ≡ true → length bits ≡ 7 → get_or bits 6 false ≡ false → bit ∷ bits ≡ flag
 unfolding begins_with_six
 flag_is false (true ∷ true ∷ true ∷ true ∷ true ∷ true ∷ false ∷ []) before six seven last = refl

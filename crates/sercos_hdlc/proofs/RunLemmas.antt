@@ -70,7 +70,7 @@ ends_in_five-five = refl
 pub drop-read : (bits : List Bool) (place : ℕ) (bit : Bool) → place < length bits → get_or bits place false ≡ bit → drop place bits ≡ bit ∷ drop (place + 1) bits
 drop-read bits place bit inside is = rw (drop_more bits place false inside, is)
 
--- The search for six ones has read the bits before a place, of which the last ones are a run: what is left behind that
+-- The search for six ones has read the bits before a place, of which the last ones are a run: what is left after that
 -- run has its six ones where the whole list has them.
 pub record IsSearched (bits : List Bool) (place run : ℕ) : Type 0 where
   pub behind : run ≤ place

@@ -8,7 +8,7 @@ use Rattle.sercos_model.specs.Frames.IsStuffed.{both_end, zero_kept, one_kept, z
 use Rattle.sercos_hdlc.specs.Reason.{begins_with_six, ends_in_five, six_place, plain_for, unstuffed}
 use Rattle.sercos_hdlc.proofs.RunLemmas.{ones_then, ones_then-true, drop-read, six_place-ones_then_false, six_place-six, ends_in_five-ones_then_false, ends_in_five-few, ends_in_five-five}
 
--- a zero behind k ones
+-- a zero after k ones
 unstuffed-kept : (k : ℕ) (bits : List Bool) → k ≢ 5 → unstuffed k (false ∷ bits) ≡ false ∷ unstuffed 0 bits
 unfolding unstuffed
 unstuffed-kept k bits h = cond-false _ (unstuffed 0 bits) (false ∷ unstuffed 0 bits) (ne_eqb k 5 h)
@@ -23,7 +23,7 @@ unstuffed-IsStuffed {k = k} (zero_kept {plain = plain} {out = out} below rest) =
 unstuffed-IsStuffed (one_kept below rest) = ap (λ x. true ∷ x) (unstuffed-IsStuffed rest)
 unstuffed-IsStuffed (zero_inserted rest) = unstuffed-IsStuffed rest
 
--- the closing flag has the first six ones behind a stuffed list, which doesn't end in five, whatever stands behind it
+-- the closing flag has the first six ones after a stuffed list, which doesn't end in five, whatever stands after it
 pub six_place-IsStuffed : {k : ℕ} {plain out : List Bool} (more : List Bool) → IsStuffed k plain out → six_place (ones_then k (out ++ (flag ++ more))) ≡ k + length out + 1
 unfolding six_place begins_with_six
 six_place-IsStuffed {k = k} more (both_end below) =
@@ -47,7 +47,7 @@ ends_in_five-IsStuffed {k = k} (one_kept {out = out} below rest) =
 ends_in_five-IsStuffed (zero_inserted {out = out} rest) =
     ends_in_five-ones_then_false 5 out (omega arith) ∙ ends_in_five-IsStuffed rest
 
--- a zero behind at most five ones is inserted or sent
+-- a zero after at most five ones is inserted or sent
 IsStuffed-zero : (k : ℕ) (bits : List Bool) → k ≤ 5 → IsStuffed 0 (unstuffed 0 bits) bits → IsStuffed k (unstuffed k (false ∷ bits)) (false ∷ bits)
 unfolding unstuffed
 IsStuffed-zero k bits few rest =

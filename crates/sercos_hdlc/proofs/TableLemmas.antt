@@ -10,7 +10,7 @@ use Rattle.sercos_model.proofs.BitLemmas.{length-low_bits, low_bits-number_of}
 use Rattle.sercos_hdlc.specs.Stuffed.{sent_for, ones_behind, stuffed}
 use Rattle.sercos_hdlc.specs.declared.tables.TheConstants.{COUNTS, SENT}
 
--- bits after so many ones in a row are sent as `len` bits, which end in `behind` ones
+-- bits after `ones` ones in a row are sent as `len` bits, which end in `behind` ones
 record IsCounted (ones : ℕ) (bits : List Bool) (len behind : ℕ) : Type 0 where
   few : behind < 5
   room : 5 * len + behind ≤ ones + 6 * length bits

@@ -31,7 +31,7 @@ unfoldable pub six_place : List Bool → ℕ
 six_place [] = 0
 six_place (bit ∷ bits) = cond (begins_with_six (bit ∷ bits)) 0 (suc (six_place bits))
 
--- the bits without the inserted zeros, after k ones in a row: a zero behind five ones is left out
+-- the bits without the inserted zeros, after k ones in a row: a zero after five ones is left out
 unfoldable pub unstuffed : ℕ → List Bool → List Bool
 unstuffed k [] = []
 unstuffed k (true ∷ bits) = true ∷ unstuffed (suc k) bits
@@ -41,7 +41,7 @@ unstuffed k (false ∷ bits) = cond (k == 5) (unstuffed 0 bits) (false ∷ unstu
 abbrev pub plain_for : ℕ → Bool → List Bool
 plain_for k bit = if bit || not (k == 5) then bit ∷ [] else []
 
--- where the first six ones behind the opening flag stand, or the list's length where there are none
+-- where the first six ones after the opening flag are, or the list's length if there are none
 abbrev pub ones_at : List Bool → ℕ
 ones_at bits = 8 + six_place (drop 8 bits)
 
@@ -57,7 +57,7 @@ body bits = take (closing_at bits - 8) (drop 8 bits)
 abbrev pub plain : List Bool → List Bool
 plain bits = unstuffed 0 (body bits)
 
--- of the plain bits: the content, and the check sequence behind it, which has the last sixteen
+-- of the plain bits: the content, and the check sequence after it, which has the last sixteen
 abbrev pub content_of : List Bool → List ℕ
 content_of bits = bytes_of (take (length bits - 16) bits)
 
@@ -72,7 +72,7 @@ given test reason = cond test (Some reason) None
 abbrev pub no_open : List Bool → Option BadFrame
 no_open bits = given (not (opens bits)) bad.NoOpen
 
--- there are no six ones, or the list ends behind them
+-- there are no six ones, or the list ends after them
 abbrev pub no_close : List Bool → Option BadFrame
 no_close bits = given (nat_le (length bits) (ones_at bits + 6)) (bad.NoClose (length bits))
 
@@ -80,7 +80,7 @@ no_close bits = given (nat_le (length bits) (ones_at bits + 6)) (bad.NoClose (le
 abbrev pub runs_on : List Bool → Option BadFrame
 runs_on bits = given ((ones_at bits == 8) || slice_index_or bits (ones_at bits + 6) false) (bad.Abort (ones_at bits))
 
--- the body ends in five ones, and the zero behind them belongs to the closing flag
+-- the body ends in five ones, and the zero after them belongs to the closing flag
 abbrev pub zero_missing : List Bool → Option BadFrame
 zero_missing bits = given (ends_in_five (body bits)) (bad.Abort (closing_at bits))
 

@@ -2,7 +2,7 @@
 use Rattle.sercos_model.specs.Frames.{flag, plain_of}
 use Rattle.std.specs.Prelude.{ℕ, suc, ◌==◌, Bool, false, not, ◌&&◌, cond, List, [], ◌∷◌, ◌++◌}
 
--- whether a bit, behind so many ones in a row, is the fifth of them
+-- whether a bit after `ones` ones in a row is the fifth of them
 abbrev pub is_fifth : ℕ → Bool → Bool
 is_fifth ones bit = bit && (ones == 4)
 
@@ -14,7 +14,7 @@ sent_for ones bit = cond (is_fifth ones bit) (bit ∷ false ∷ []) (bit ∷ [])
 abbrev pub ones_behind : ℕ → Bool → ℕ
 ones_behind ones bit = cond (bit && not (is_fifth ones bit)) (suc ones) 0
 
--- what is sent for bits, behind so many ones in a row
+-- what is sent for bits after `ones` ones in a row
 unfoldable pub stuffed : ℕ → List Bool → List Bool
 stuffed ones [] = []
 stuffed ones (bit ∷ bits) = sent_for ones bit ++ stuffed (ones_behind ones bit) bits

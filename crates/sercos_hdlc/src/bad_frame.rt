@@ -15,7 +15,7 @@ pub enum BadFrame {
     Short(u32),
     /// The check sequence that was found, and the one that was wanted.
     Check(u16, u16),
-    /// The place of the first bit behind the closing flag.
+    /// The place of the first bit after the closing flag.
     After(u32),
     /// More than 2050 bytes between the flags: their number.
     Long(u32),

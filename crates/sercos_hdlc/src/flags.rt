@@ -10,7 +10,7 @@ pub const FLAG_BITS: usize = 8;
 // 01111110
 const FLAG: [bool; FLAG_BITS] = [false, true, true, true, true, true, true, false];
 
-// Five ones in a row, behind which a zero is inserted.
+// Five ones in a row, after which a zero is inserted.
 const FIVE: [bool; 5] = [true; 5];
 
 // The ones of a flag.

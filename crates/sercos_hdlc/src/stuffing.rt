@@ -7,16 +7,16 @@ ghost use Rattle.sercos_hdlc.specs.Stuffed.{ones_behind, stuffed};
 use crate::tables::{counts_of, sent_for};
 use sercos_bits::{BitBuf, Register, push_number};
 
-// Behind so many ones in a row a zero is inserted.
-const INSERTED_BEHIND: usize = 5;
+// After five ones in a row a zero is inserted.
+const INSERTED_AFTER: usize = 5;
 
-// Appends a bit, behind so many ones in a row, unless it is an inserted zero.
+// Appends a bit that comes after `run` ones in a row, unless it is an inserted zero.
 fn push_plain(bit: bool, run: usize, plain: &mut BitBuf)
     requires { length plain.old < 19696 }
     ensures bits { plain.new ≡ plain.old ++ plain_for run bit }
     ensures room { length plain.new ≤ length plain.old + 1 }
 {
-    if bit || run != INSERTED_BEHIND {
+    if bit || run != INSERTED_AFTER {
         plain.push_within(bit);
     }
 }
@@ -33,7 +33,7 @@ pub fn unstuff(bits: &[bool], plain: &mut BitBuf)
     }
 }
 
-// Appends what is sent for a byte behind so many ones in a row, and answers how many then end it.
+// Appends what is sent for a byte after `ones` ones in a row, and returns how many ones then end it.
 fn push_byte(byte: u8, ones: usize, out: &mut BitBuf) -> usize
     requires few { ones < 5 }
     requires room { 5 * length out.old + ones + 48 ≤ 5 * 19696 }
@@ -47,8 +47,8 @@ fn push_byte(byte: u8, ones: usize, out: &mut BitBuf) -> usize
     usize::from(counts % 16)
 }
 
-/// Appends what is sent for bytes behind so many ones in a row, and answers how many then end it. Room is left for a zero
-/// behind each five bits.
+/// Appends what is sent for bytes after `ones` ones in a row, and returns how many ones then end it. There is room for a
+/// zero after each five bits.
 pub fn push_bytes(bytes: &[u8], ones: usize, out: &mut BitBuf) -> usize
     requires few { ones < 5 }
     requires room { 5 * length out.old + ones + 48 * length bytes.now ≤ 5 * 19696 }
@@ -64,7 +64,7 @@ pub fn push_bytes(bytes: &[u8], ones: usize, out: &mut BitBuf) -> usize
     run
 }
 
-// Counts what is sent for a byte behind so many ones in a row, and answers how many then end it.
+// Counts what is sent for a byte after `ones` ones in a row, and returns how many ones then end it.
 fn count_byte(byte: u8, ones: usize, len: &mut u32) -> usize
     requires few { ones < 5 }
     requires room { len.old + 16 < 2 ^ 32 }
@@ -78,8 +78,8 @@ fn count_byte(byte: u8, ones: usize, len: &mut u32) -> usize
     usize::from(counts % 16)
 }
 
-/// Counts what is sent for bytes behind so many ones in a row, as [`push_bytes`] appends it, and answers how many then end
-/// it.
+/// Counts what is sent for bytes after `ones` ones in a row, as [`push_bytes`] appends it, and returns how many ones then
+/// end it.
 pub fn count_bytes(bytes: &[u8], ones: usize, len: &mut u32) -> usize
     requires few { ones < 5 }
     requires room { len.old + 16 * length bytes.now < 2 ^ 32 }

@@ -74,7 +74,7 @@ const COUNTS: [u8; 1280] = [
     160, 144, 160, 145, 161, 146, 162,
 ];
 
-/// Sixteen times the number of bits that are sent for a byte after so many ones in a row, plus the number of ones in a row
+/// Sixteen times the number of bits that are sent for a byte after `ones` ones in a row, plus the number of ones in a row
 /// that these then end in.
 pub fn counts_of(ones: usize, byte: u8) -> u8
     requires { ones < 5 }
@@ -189,7 +189,7 @@ const SENT: [u16; 1280] = [
     0x0fa, 0x1f5, 0x17c, 0x2f9, 0x1be, 0x37d,
 ];
 
-/// The bits that are sent for a byte after so many ones in a row, at most ten, the first of them as the least significant.
+/// The bits that are sent for a byte after `ones` ones in a row, at most ten, the first of them as the least significant.
 pub fn sent_for(ones: usize, byte: u8) -> u16
     requires { ones < 5 }
     ensures { result ≡ number_of (stuffed ones (low_bits 8 byte)) }

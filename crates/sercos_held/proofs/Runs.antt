@@ -299,7 +299,7 @@ module _ (laws : Laws) (r : RingView) (jobs : List Job) (carry : Carry) (restart
     pub rests : (k : ℕ) → k < length r.drives → is_done (known_of r) (behind_mdt r jobs carry restarts t.sent j) ≡ true → open_in (begun_by ((behind_mdt r jobs carry restarts t.sent j).calls k)) ≡ None
     rests k below = rests_so (known_of r) (behind_mdt r jobs carry restarts t.sent j) k (inside k below) (jobs_waiting (known_of r) jobs (middle r carry restarts t.sent j) k) (tasks_then k below)
 
-    -- what the drive keeps behind the MST's place
+    -- what the drive keeps after the MST's place
     pub kept_at_mst : (k : ℕ) → k < length r.drives → IsSame (drive_at r k) (after_mst r carry restarts t.sent j k)
         (standing_at (view_of r jobs carry restarts k t j) (before_mst (view_of r jobs carry restarts k t j) (standing (views_of r jobs carry restarts k j)))) (kept_in (view_of r jobs carry restarts k t j) (views_of r jobs carry restarts k j))
         (all_writes (views_of r jobs carry restarts k j)) (store_in (store_of (drive_at r k)) (views_of r jobs carry restarts k j))

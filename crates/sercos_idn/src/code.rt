@@ -9,12 +9,9 @@ const PROTECTED: u16 = 4;
 
 /// Why a drive refuses a step of the service channel: the code that it sends as information word. The codes are this
 /// profile's.
-///
-/// The elements of a data block are 1 the identifier number, 2 the name, 3 the attribute, 4 the unit, 5 the minimum, 6
-/// the maximum and 7 the operation data.
 #[derive(Clone, Copy, Debug, PartialEq, Eq)]
 pub struct Code {
-    /// The sixteen bits of the information word. Bits 15 to 12 are the element that the code is on.
+    /// The sixteen bits of the information word. Bits 15 to 12 are the [`element`](crate::element) that the code is on.
     pub raw: u16,
 }
 

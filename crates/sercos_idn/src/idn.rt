@@ -13,8 +13,8 @@ enum Slot {
     Decimal,
 }
 
-// The greatest number of an identifier number, which has twelve bits.
-const MOST: u16 = 4095;
+// The largest number of an identifier number, which has twelve bits.
+const MOST_NUMBER: u16 = 4095;
 
 // How many bytes the text of an identifier number has.
 const LENGTH: usize = 8;
@@ -102,7 +102,7 @@ fn digit_at(text: &[u8], place: usize) -> u16
     u16::from(text[place].saturating_sub(b'0'))
 }
 
-// The number that the four digits spell, which may be above the greatest one.
+// The number that the four digits spell, which may be above the largest one.
 fn spelled_number(text: &[u8]) -> u32
     requires { 8 ≤ length text.now }
     ensures { result ≡ spelled_number text.now }
@@ -127,7 +127,7 @@ pub fn idn_fault(text: &[u8]) -> Option<usize>
     if let Some(place) = digits_fault(text) {
         return Some(place);
     }
-    if spelled_number(text) > u32::from(MOST) {
+    if spelled_number(text) > u32::from(MOST_NUMBER) {
         return Some(NUMBER);
     }
     if text.len() > LENGTH {
@@ -165,7 +165,7 @@ pub struct Idn {
 #[derive(Clone, Copy, Debug, PartialEq, Eq)]
 pub struct BadIdn {
     /// The place of the first byte that can't stand, from 0 on, in bytes. It is the text's length where a byte is missing,
-    /// 4 where the number is above 4095, and 8 where the text goes on behind the number.
+    /// 4 where the number is above 4095, and 8 where the text goes on after the number.
     pub place: usize,
 }
 

@@ -1,8 +1,10 @@
-//! Identifier numbers of data blocks, their attributes, and the codes of the service channel's errors.
+//! Identifier numbers of data blocks, their elements, attributes and procedure commands, and the codes of the service channel's errors.
 #![tactic(auto)]
 
 mod attribute;
 mod code;
+pub mod command;
+pub mod element;
 mod idn;
 mod kinds;
 mod law;

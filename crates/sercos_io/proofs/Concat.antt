@@ -14,7 +14,7 @@ concat-next f (x ∷ xs) zero d h = append-nil (f x)
 concat-next f (x ∷ xs) (suc i) d h =
     rw (suc_plus i 1) (ap (λ t. f x ++ t) (concat-next f xs i d (omega arith)) ∙ sym (append_assoc (f x) (concat (map f (take i xs))) (f (get_or xs i d))))
 
--- the pieces before a place, the piece there, and those behind it
+-- the pieces before a place, the piece there, and those after it
 pub concat-at : {A : Type 0} (f : A → List ℕ) (xs : List A) (i : ℕ) (d : A) → i < length xs
     → concat (map f xs) ≡ concat (map f (take i xs)) ++ (f (get_or xs i d) ++ concat (map f (drop (i + 1) xs)))
 concat-at f [] i d h = absurd (omega arith)

@@ -9,12 +9,12 @@ use Rattle.sercos_model.specs.Frames.{wire_bits}
 use Rattle.sercos_timing.specs.Views.{WishesView, PlanView}
 use Rattle.sercos_timing.specs.Order.{no_wish, wish, times, same_slave, sent, neighbor, previous, at_bits, mdt_bits, record_bytes, bits_of}
 use Rattle.sercos_timing.specs.Inequalities.{asked_1, asked_2, asked_3, asked_4, asked_5, asked_6, asked_7, asked_10, sum_9, greatest_tmtsy, positions, Meets, Keeps, Fits}
-use Rattle.sercos_timing.specs.Valid.{AreDistinct, IsOrder, IsWish, IsValid, addresses}
+use Rattle.sercos_timing.specs.Valid.{IsCycle, AreDistinct, IsOrder, IsWish, IsValid, addresses}
 use Rattle.sercos_timing.specs.declared.wishes.Times.{Times}
 use Rattle.sercos_timing.specs.declared.wishes.Wish.{Wish}
 use Rattle.sercos_plan.specs.Least.{IsLeast}
 use Rattle.sercos_plan.proofs.PlanLemmas.{greatest_rises}
-use Rattle.sercos_margin.specs.Margins.{time_in, declared, changed, changed_wish, with_time, with_cycle, HasPlan, IsCycle}
+use Rattle.sercos_margin.specs.Margins.{time_in, declared, changed, changed_wish, with_time, with_cycle, HasPlan}
 use Rattle.sercos_margin.specs.declared.changes.Time.{Time}
 use Rattle.sercos_margin.specs.declared.changes.Time.TheVariants.{T1min, Tatmt, T4min, Tatat, Tmtsy, Tmtsg}
 

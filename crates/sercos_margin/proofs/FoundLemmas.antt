@@ -1,17 +1,17 @@
 -- The bounds found one by one are the bounds.
-use Rattle.std.proofs.Common.{◌≡◌, ◌⊎◌, inl, inr, ℕ, zero, suc, ◌+◌, ◌-◌, ◌*◌, ◌/◌, ◌%◌, ◌<◌, ◌≤◌, Bool, true, false, cond, List, [], ◌∷◌, map, length, refl, sym, ap, subst, ◌∙◌, arith, if◌then◌else◌}
+use Rattle.std.proofs.Common.{◌≡◌, ◌⊎◌, inl, inr, ℕ, zero, suc, ◌+◌, ◌-◌, ◌*◌, ◌/◌, ◌<◌, ◌≤◌, Bool, true, false, ◌∷◌, map, refl, sym, ap, ◌∙◌, arith, if◌then◌else◌}
 use Rattle.std.specs.Prelude.{Option, Some, None}
 use Rattle.std.specs.List.{find, range_with_len}
 use Rattle.std.proofs.lemmas.Bool.{cases_eq, cases_lt, cond-true, cond-false}
-use Rattle.sercos_timing.specs.Views.{WishesView, PlanView}
-use Rattle.sercos_timing.specs.Valid.{IsValid}
+use Rattle.sercos_timing.specs.Views.{WishesView}
+use Rattle.sercos_timing.specs.Valid.{IsCycle, IsValid}
 use Rattle.sercos_plan.specs.Least.{NoneFits}
 use Rattle.sercos_plan.specs.LeastTimes.{is_roomy, least_plan}
 use Rattle.sercos_plan.proofs.PlanLemmas.{is_least, none_fits, roomy}
 use Rattle.sercos_plan.proofs.AnswerLemmas.{roomy_test, test_roomy, is_of_least}
-use Rattle.sercos_margin.specs.Margins.{greatest, declared, with_time, with_cycle, HasPlan, IsMargin, IsCycle, IsLeastOf, IsLeastCycle, highest, margin_of, all_cycles, least_cycle_of}
+use Rattle.sercos_margin.specs.Margins.{greatest, declared, with_time, with_cycle, HasPlan, IsMargin, IsLeastOf, IsLeastCycle, highest, margin_of, all_cycles, least_cycle_of}
 use Rattle.sercos_margin.specs.declared.changes.Time.{Time}
-use Rattle.sercos_margin.proofs.EasierLemmas.{less_time, longer_cycle, declared_plan, valid_time, valid_cycle}
+use Rattle.sercos_margin.proofs.EasierLemmas.{less_time, declared_plan, valid_time, valid_cycle}
 
 -- the test of the least times decides whether a plan fits
 plan_by : (w : WishesView) → IsValid w → is_roomy w ≡ true → HasPlan w

@@ -1,8 +1,9 @@
 -- The bounds that the halving keeps.
 use Rattle.std.proofs.Common.{◌≡◌, ℕ, ◌+◌, ◌*◌, ◌<◌, ◌≤◌, inl, inr, refl, subst, arith}
 use Rattle.sercos_timing.specs.Views.{WishesView}
+use Rattle.sercos_timing.specs.Valid.{IsCycle}
 use Rattle.sercos_plan.specs.Least.{NoneFits}
-use Rattle.sercos_margin.specs.Margins.{greatest, declared, with_time, with_cycle, HasPlan, IsMargin, IsBetween, IsCycle, IsLeastOf}
+use Rattle.sercos_margin.specs.Margins.{greatest, declared, with_time, with_cycle, HasPlan, IsMargin, IsBetween, IsLeastOf}
 use Rattle.sercos_margin.specs.declared.changes.Time.{Time}
 use Rattle.sercos_margin.proofs.EasierLemmas.{less_time, longer_cycle, declared_plan}
 

@@ -1,7 +1,9 @@
 -- Wishes with another time of one drive or another cycle time, and how far each can go while a plan still fits.
-use Rattle.std.specs.Prelude.{◌≡◌, ℕ, zero, suc, ◌+◌, ◌-◌, ◌*◌, ◌<◌, ◌≤◌, ◌%◌, ◌⊎◌, Bool, if◌then◌else◌, List, ◌∷◌, map, Option, Some, None, slice_set}
+use Rattle.std.specs.Prelude.{ℕ, zero, suc, ◌+◌, ◌-◌, ◌*◌, ◌<◌, ◌≤◌, Bool, if◌then◌else◌, List, ◌∷◌, map, Option, Some, None, slice_set}
 use Rattle.std.specs.List.{find, range_with_len}
 use Rattle.sercos_timing.specs.Views.{WishesView, PlanView}
+use Rattle.sercos_timing.specs.Limits.{least_cycle, cycle_unit, most_t1min, most_tatmt, most_t4min, most_tatat, most_tmtsy, most_tmtsg}
+use Rattle.sercos_timing.specs.Valid.{IsCycle}
 use Rattle.sercos_timing.specs.Order.{wish, times}
 use Rattle.sercos_timing.specs.Inequalities.{Fits}
 use Rattle.sercos_timing.specs.declared.wishes.Times.{Times}
@@ -22,12 +24,12 @@ time_in Tmtsg ts = ts.tmtsg
 
 -- the greatest that a drive may declare, in microseconds
 abbrev pub greatest : Time → ℕ
-greatest T1min = 300
-greatest Tatmt = 300
-greatest T4min = 64000
-greatest Tatat = 64000
-greatest Tmtsy = 250
-greatest Tmtsg = 64000
+greatest T1min = most_t1min
+greatest Tatmt = most_tatmt
+greatest T4min = most_t4min
+greatest Tatat = most_tatat
+greatest Tmtsy = most_tmtsy
+greatest Tmtsg = most_tmtsg
 
 -- the time t that the drive k declares
 abbrev pub declared : WishesView → ℕ → Time → ℕ
@@ -74,10 +76,6 @@ pub record IsBetween (w : WishesView) (k : ℕ) (t : Time) (low high : ℕ) : Ty
   pub fits : HasPlan (with_time w k t low)
   pub none : (v : ℕ) → high < v → v ≤ greatest t → NoneFits (with_time w k t v)
 
--- a ring can have this cycle time: 125 microseconds, or a multiple of 250 up to 64,000
-abbrev pub IsCycle : ℕ → Type 0
-IsCycle c = (c ≡ 125) ⊎ ((250 ≤ c) × (c ≤ 64000) × (c % 250 ≡ 0))
-
 -- from the cycle time n on a plan fits with each that a ring can have, and below it none does
 pub record IsLeastOf (w : WishesView) (n : ℕ) : Type 0 where
   pub cycle : IsCycle n
@@ -100,7 +98,7 @@ margin_of w k t = highest (λ v. is_roomy (with_time w k t v)) (declared w k t) 
 
 -- all cycle times that a ring can have, ascending
 unfoldable pub all_cycles : List ℕ
-all_cycles = 125 ∷ map (λ m. 250 * m) (range_with_len 1 256)
+all_cycles = least_cycle ∷ map (λ m. cycle_unit * m) (range_with_len 1 256)
 
 -- the least cycle time with which a plan fits, found one by one
 unfoldable pub least_cycle_of : WishesView → Option ℕ

@@ -4,6 +4,9 @@ ghost use Rattle.sercos_timing.specs.Order.{wish};
 ghost use Rattle.sercos_margin.specs.Margins.{time_in, greatest, declared, changed, changed_wish, with_time, with_cycle};
 
 use arrayvec::ArrayVec;
+use sercos_timing::limits::{
+    MOST_T1MIN, MOST_T4MIN, MOST_TATAT, MOST_TATMT, MOST_TMTSG, MOST_TMTSY,
+};
 use sercos_timing::{Times, Wish, Wishes};
 
 /// One of the six times that a drive declares, under its symbol of IEC 61491:1995.
@@ -29,9 +32,12 @@ pub fn greatest(t: Time) -> u16
     ensures limit { result ≤ 64_000 }
 {
     match t {
-        Time::T1min | Time::Tatmt => 300,
-        Time::Tmtsy => 250,
-        Time::T4min | Time::Tatat | Time::Tmtsg => 64_000,
+        Time::T1min => MOST_T1MIN,
+        Time::Tatmt => MOST_TATMT,
+        Time::T4min => MOST_T4MIN,
+        Time::Tatat => MOST_TATAT,
+        Time::Tmtsy => MOST_TMTSY,
+        Time::Tmtsg => MOST_TMTSG,
     }
 }
 

@@ -1,12 +1,14 @@
 // The bounds, found by halving.
 ghost use Rattle.std.specs.Prelude.{◌≡◌, ◌<◌, ◌≤◌, length, true, false};
-ghost use Rattle.sercos_timing.specs.Valid.{IsValid};
+ghost use Rattle.sercos_timing.specs.Limits.{least_cycle as shortest, most_cycle};
+ghost use Rattle.sercos_timing.specs.Valid.{IsCycle, IsValid};
 ghost use Rattle.sercos_plan.specs.Least.{NoneFits};
-ghost use Rattle.sercos_margin.specs.Margins.{greatest, declared, with_time, with_cycle, HasPlan, IsMargin, IsBetween, IsCycle, IsLeastOf, IsLeastCycle, margin_of, least_cycle_of};
+ghost use Rattle.sercos_margin.specs.Margins.{greatest, declared, with_time, with_cycle, HasPlan, IsMargin, IsBetween, IsLeastOf, IsLeastCycle, margin_of, least_cycle_of};
 
 use crate::changes::{Time, declared, greatest, with_cycle, with_time};
 use sercos_plan::plan;
 use sercos_timing::Wishes;
+use sercos_timing::limits::{CYCLE_UNIT, LEAST_CYCLE, MOST_CYCLE};
 
 // Whether a plan fits.
 #[tactic(auto, using(crate::proofs::EasierLemmas::some_plan))]
@@ -82,21 +84,21 @@ pub fn margin(w: &Wishes, index: usize, t: Time) -> u16
 // The least cycle time that is a multiple of 250 microseconds, where a plan fits with the longest and none with 125.
 fn least_multiple(w: &Wishes) -> u16
     requires valid { IsValid w.now }
-    requires short { NoneFits (with_cycle w.now 125) }
-    requires long { HasPlan (with_cycle w.now 64_000) }
+    requires short { NoneFits (with_cycle w.now shortest) }
+    requires long { HasPlan (with_cycle w.now most_cycle) }
     ensures { IsLeastOf w.now result }
 {
     let mut low = 1u16;
-    let mut high = 256u16;
+    let mut high = MOST_CYCLE / CYCLE_UNIT;
     while low < high {
         let middle = (low + high) / 2;
-        if has_with_cycle(w, 250 * middle) {
+        if has_with_cycle(w, CYCLE_UNIT * middle) {
             high = middle;
         } else {
             low = middle + 1;
         }
     }
-    250 * low
+    CYCLE_UNIT * low
 }
 
 /// The least cycle time, in microseconds, with which a plan fits where it is also the control unit cycle time: 125, or a
@@ -107,10 +109,10 @@ pub fn least_cycle(w: &Wishes) -> Option<u16>
     ensures cycle { IsLeastCycle w.now result }
     ensures value { result ≡ least_cycle_of w.now }
 {
-    if has_with_cycle(w, 125) {
-        return Some(125);
+    if has_with_cycle(w, LEAST_CYCLE) {
+        return Some(LEAST_CYCLE);
     }
-    if has_with_cycle(w, 64_000) {
+    if has_with_cycle(w, MOST_CYCLE) {
         Some(least_multiple(w))
     } else {
         None

@@ -1,4 +1,4 @@
--- Laws on what the master looks back on, behind any calls.
+-- Laws on what the master looks back on, after any calls.
 use Rattle.std.proofs.Common.{◌≡◌, ℕ, zero, suc, ◌+◌, ◌==◌, Bool, true, false, List, [], ◌∷◌, Option, Some, None, Result, Ok, Err, ap, subst, refl, sym, ◌∙◌, arith, if◌then◌else◌}
 use Rattle.std.specs.Prelude.{is_some, nat_le, slice_get, slice_index, drop}
 use Rattle.sercos_step.specs.declared.request.Job.{Job}

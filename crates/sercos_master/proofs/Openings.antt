@@ -77,7 +77,7 @@ pub lists_all : (drives : List DriveView) (n : ℕ) → length drives ≤ n →
 lists_all drives n over all k d below = all k d (let l = mapped_length drives in omega (arith, l, below, over))
 
 -- THE REQUESTS
--- so many are left of all, and the others were given, from the last one on
+-- n are left of all, and the others were given, from the last one on
 pub record AreDealt (all : List Job) (seats0 : List SeatView) (jobs : List Job) (seats : List SeatView) (done : ℕ) : Type 0 where
   pub more : List Job
   pub whole : jobs ++ more ≡ all

@@ -274,7 +274,7 @@ same_test i k other = elim (chosen (nat_lt k i)) [
   | inr e ↦ let f : nat_lt k (i + 1) ≡ false = grind (arith, nat_tests, e, other) in f ∙ sym e
 ]
 
--- what is kept behind the end of a cycle
+-- what is kept after the end of a cycle
 seen_ended : (p : Past) (phase k : ℕ) → seen_at (goes_on phase p) k ≡ ended_in p.now.phase (seen_at p k)
 seen_ended p phase k = ap (λ b. record { calls = EndCycle ∷ p.calls k; tasks = p.tasks k; heard = false; missed = nat_le 3 p.now.phase && not (p.now.heard k); identified = b; report = None; stopped = is_some p.stop; waiting = p.waiting k }) (nothing_new (phase == 1) (is_identified p k))
   where

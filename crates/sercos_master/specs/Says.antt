@@ -3,6 +3,7 @@ use Rattle.std.specs.Prelude.{ℕ, zero, suc, ◌+◌, ◌==◌, nat_le, false, 
 use Rattle.sercos_telegram.specs.Spells.{all_drives, mst_content}
 use Rattle.sercos_service_master.specs.Begun.{Said, no_step, master_says}
 use Rattle.sercos_service_master.specs.Calls.{begun_by}
+use Rattle.sercos_timing.specs.Limits.{early_mdt}
 use Rattle.sercos_timing.specs.Views.{PlanView}
 use Rattle.sercos_master.specs.Annals.{Past, outcomes}
 use Rattle.sercos_seat.specs.Agenda.{mdt_attributes}
@@ -33,7 +34,7 @@ abbrev pub idle : Said
 idle = record { mhs = false; step = no_step }
 
 abbrev pub single : Known → Said → ℕ → Sent
-single s said k = record { start = 650; content = (member s k).address ∷ record_said said [] }
+single s said k = record { start = early_mdt; content = (member s k).address ∷ record_said said [] }
 
 abbrev pub joint : Known → Past → PlanView → Sent
 joint s p plan = record { start = plan.t2; content = all_drives ∷ records_from s p 0 (length s.drives) }

@@ -12,6 +12,7 @@ use Rattle.sercos_step.specs.declared.shape.Shape.TheVariants as shape
 use Rattle.sercos_step.specs.declared.request.Request.{Request}
 use Rattle.sercos_step.specs.declared.request.Request.TheVariants as request
 use Rattle.sercos_step.specs.Words.{shape_of, shape_by, words_of, words_told}
+use Rattle.sercos_step.proofs.AnswerCounts.{times_le}
 use Rattle.sercos_step.proofs.WrittenWords.{few_told, length-words_of, length-at_least_one}
 use Rattle.sercos_block.specs.declared.block.Block.{Block}
 use Rattle.sercos_block.specs.Stores.{find_block}
@@ -23,9 +24,6 @@ costs_requests cost [] = refl
 costs_requests cost (b ∷ begun) =
     let more = costs_requests cost begun in
     let first = sum_by-cons cost b.request (map request_of begun) in omega (arith, more, first)
-
-times_le : (p n k : ℕ) → n ≤ k → p * n ≤ p * k
-times_le p n k le = grind arith
 
 list_shape : (l : Length) → is_list l ≡ true → shape_by l ≡ shape.List
 list_shape len.Two is = absurd (cc)

@@ -1,7 +1,7 @@
 -- In a stretch in which nothing is lost, whatever went before, the answers come in time.
 use Rattle.std.proofs.Common.{◌≡◌, ℕ, ◌+◌, ◌-◌, ◌<◌, ◌≤◌, Bool, true, false, not, ◌&&◌, List, [], ◌∷◌, refl, sym, ap, ◌∙◌, subst, arith, if◌then◌else◌}
 use Rattle.std.specs.Prelude.{nat_le, Option, Some, None, IsSome, is_some}
-use Rattle.std.proofs.lemmas.Bool.{cond-true, cond-false, leb-true}
+use Rattle.std.proofs.lemmas.Bool.{cond-true, cond-false}
 use mathlib.Core.Bool.{beq}
 use Rattle.sercos_telegram.specs.declared.words.Status.{Status}
 use Rattle.sercos_step.specs.declared.step.Step.{Step}
@@ -17,9 +17,10 @@ use Rattle.sercos_handshake.specs.Moves.{with_status, said_in, with_taken}
 use Rattle.sercos_handshake.proofs.HandshakeMoves.{ahs-shown, quiet_bit, said_step, parity, ahs-log}
 use Rattle.sercos_handshake.specs.Epochs.{with_begun}
 use Rattle.sercos_pace.specs.Times.{time_for}
-use Rattle.sercos_pace.proofs.OnTime.{no_longer, answered-answers, one_waits, dropped, joins}
+use Rattle.sercos_handshake.proofs.OnePhase.{no_longer}
+use Rattle.sercos_pace.proofs.OnTime.{answered-answers, shown_busy, one_waits, dropped, joins}
 
--- At the start of cycle c, with so many cycles spent before it: no step is open; or one that the drive hasn't accepted; or one that it
+-- At the start of cycle c, with `spent` cycles before it: no step is open; or one that the drive hasn't accepted; or one that it
 -- has accepted.
 pub data StartsLate (busy c spent : ℕ) (begun : List Begun) (log : List Entry) : Type 0 where
   LateFree : open_in begun ≡ None → spent ≤ time_for busy (answers_in begun) → StartsLate busy c spent begun log
@@ -60,9 +61,6 @@ none_of false b = refl
 same_bit : (b : Bool) → (true && (beq b b && not false)) ≡ true
 same_bit true = refl
 same_bit false = refl
-
-shown_busy : (busy c cycle : ℕ) → nat_le (c - cycle) busy ≡ true → c ≤ cycle + busy
-shown_busy busy c cycle is = let le = leb-true (c - cycle) busy is in omega arith
 
 module _ (busy c spent : ℕ) (showing : CommandsView) (status : Status) (word : ℕ) (begun : List Begun) (taken : List Taken) (says : shown_by status word ≡ drive_says busy c showing taken) where
   quiet : answers_it begun status ≡ false → with_status status word begun ≡ begun

@@ -16,7 +16,7 @@ use Rattle.sercos_pace.specs.Times.{time_for, one_more}
 use Rattle.sercos_pace.specs.Stretches.{IsClean, open_since, spent_since, IsInTime, RestsNow, WaitsNow, ComesInTime, TakesTimeSince}
 use Rattle.sercos_handshake.proofs.PhaseMoves.{Processes, Nothing, Record, processes}
 use Rattle.sercos_handshake.proofs.EpochRuns.{joined, restarted, shown_of, heard_of, begun_of, said_of, in_step}
-use Rattle.sercos_pace.proofs.OnTime.{nothing_answers}
+use Rattle.sercos_handshake.proofs.HandshakeMoves.{quiet_none}
 use Rattle.sercos_pace.proofs.OnTimeRuns.{in_step_counts, waiting_counts, time_of}
 use Rattle.sercos_pace.proofs.LateMoves.{StartsLate, LateFree, LateNew, LateBusy, WorksLate, FreeLate, EndsLate, RestsLate, WaitsLate, any_start, new_late, heard_late, taken_late, silent_late, begun_late}
 
@@ -63,7 +63,7 @@ module _ (busy : ℕ) where
   heard_so v past spent run None shown after hears (LateNew s opened more is) = let lost = hears (ap is_some opened) in absurd (cc)
   heard_so v past spent run None shown after hears (LateBusy e log those opened all earlier soon sum) = let lost = hears (ap is_some opened) in absurd (cc)
   heard_so v past spent run (Some a) shown after hears (LateFree none is) =
-      let off : answers_it (unless_restart v (epoch_begun past)) a.status ≡ false = nothing_answers (unless_restart v (epoch_begun past)) a.status none in
+      let off : answers_it (unless_restart v (epoch_begun past)) a.status ≡ false = quiet_none (unless_restart v (epoch_begun past)) a.status none in
       subst (λ (l : List Begun). WorksLate busy (length past) spent l (log_of (unless_restart v (epoch_taken past)))) (sym (cond-false (answers_it (unless_restart v (epoch_begun past)) a.status) _ _ off)) (FreeLate none is)
   heard_so v past spent run (Some a) shown after hears (LateNew s opened more is) = elim (shown_of busy v past run (joined busy past run.0) a shown) [
     | inl none ↦ let free : open_in (unless_restart v (epoch_begun past)) ≡ None = ap open_in none in absurd (cc)

@@ -1,5 +1,5 @@
 -- If nothing is lost, each answer comes busy time and one cycle after its step.
-use Rattle.std.proofs.Common.{◌≡◌, ℕ, suc, ◌+◌, ◌-◌, ◌<◌, ◌≤◌, Bool, true, false, not, ◌&&◌, List, [], ◌∷◌, length, refl, sym, ap, ap₂, ◌∙◌, subst, arith, if◌then◌else◌}
+use Rattle.std.proofs.Common.{◌≡◌, ℕ, ◌+◌, ◌-◌, ◌<◌, ◌≤◌, Bool, true, false, not, ◌&&◌, List, [], ◌∷◌, refl, sym, ap, ap₂, ◌∙◌, subst, arith, if◌then◌else◌}
 use Rattle.std.specs.Prelude.{nat_le, Option, Some, None, IsSome, is_some}
 use Rattle.std.proofs.lemmas.Bool.{cond-true, cond-false, leb-true}
 use Rattle.std.proofs.lemmas.Bool.Decides.{nat_tests}
@@ -16,18 +16,16 @@ use Rattle.sercos_service_master.specs.Begun.{Begun, open_in, steps_in, answers_
 use Rattle.sercos_handshake.specs.InStep.{AreInStep, Idle, Sent, Kept, steps_of, replies_of}
 use Rattle.sercos_handshake.specs.Moves.{with_status, said_in, with_taken}
 use Rattle.sercos_handshake.proofs.HandshakeMoves.{said_bit, said_step, parity, parity_sent, ahs-log}
+use Rattle.sercos_handshake.proofs.OnePhase.{no_longer}
 use Rattle.sercos_handshake.specs.Epochs.{with_begun}
 use Rattle.sercos_pace.specs.Times.{time_for}
 
--- At a place in cycle c, with so many cycles of the epoch spent before it: no step is open; or one that the drive hasn't accepted; or one
+-- At a place in cycle c, with `spent` cycles of the epoch before it: no step is open; or one that the drive hasn't accepted; or one
 -- that it has accepted and shows as busy.
 pub data Works (busy c spent : ℕ) (begun : List Begun) (log : List Entry) : Type 0 where
   Free : open_in begun ≡ None → spent ≡ time_for busy (answers_in begun) → Works busy c spent begun log
   New : (s : Step) → open_in begun ≡ Some s → steps_in begun ≡ s ∷ steps_of log → spent ≡ time_for busy (answers_in begun) → Works busy c spent begun log
   Busy : (e : Entry) (past : List Entry) → log ≡ e ∷ past → open_in begun ≡ Some e.taken.step → steps_in begun ≡ steps_of log → e.taken.cycle ≤ c → c ≤ e.taken.cycle + busy → spent + e.taken.cycle ≡ time_for busy (answers_in begun) + c → Works busy c spent begun log
-
-pub no_longer : {A : Type 0} (x : A) (xs : List A) → x ∷ xs ≡ xs → ⊥
-no_longer x xs is = let long : suc (length xs) ≡ length xs = ap length is in omega arith
 
 -- if every accepted step has its answer, none is busy
 settled : (busy c spent : ℕ) (begun : List Begun) (log : List Entry) → AreInStep begun log → answers_in begun ≡ replies_of log → spent ≡ time_for busy (answers_in begun) → Works busy c spent begun log
@@ -40,8 +38,8 @@ answered-answers a [] s opened = absurd (cc)
 answered-answers a (b ∷ past) s opened = refl
 
 -- the master hears what the drive shows of an accepted step
-shown_busy : (busy c cycle : ℕ) → nat_le (c - cycle) busy ≡ true → cycle ≤ c → c ≤ cycle + busy
-shown_busy busy c cycle is before = let le = leb-true (c - cycle) busy is in omega arith
+pub shown_busy : (busy c cycle : ℕ) → nat_le (c - cycle) busy ≡ true → c ≤ cycle + busy
+shown_busy busy c cycle is = let le = leb-true (c - cycle) busy is in omega arith
 
 shown_free : (busy c cycle : ℕ) → nat_le (c - cycle) busy ≡ false → cycle ≤ c → cycle + (busy + 1) ≤ c
 shown_free busy c cycle is before = grind (arith, nat_tests)
@@ -71,7 +69,7 @@ module _ (busy c spent : ℕ) (begun : List Begun) (log : List Entry) (h : AreIn
       by true is shows =
           let on : status.busy ≡ true = ap (λ (s : Shown). s.busy) shows in
           let off : answers_it begun status ≡ false = ap (λ (b : Bool). is_some (open_in begun) && (beq status.ahs (is_odd (steps_in begun)) && not b)) on ∙ none (is_some (open_in begun)) (beq status.ahs (is_odd (steps_in begun))) in
-          subst (λ (l : List Begun). Works busy c spent l log) (sym (quiet off)) (Busy e past those opened all (omega arith) (shown_busy busy c e.taken.cycle is (omega arith)) sum)
+          subst (λ (l : List Begun). Works busy c spent l log) (sym (quiet off)) (Busy e past those opened all (omega arith) (shown_busy busy c e.taken.cycle is) sum)
         where
           none : (a b : Bool) → (a && (b && false)) ≡ false
           none true true = refl
@@ -143,10 +141,6 @@ begun_works busy c spent (Some r) begun log shut h after w = settled busy c spen
     rests (Free none is) = is
     rests (New s opened more is) = is
     rests (Busy e past those opened all earlier late sum) = let off = shut refl in absurd (cc)
-
--- if no step is open, no status is an answer
-pub nothing_answers : (begun : List Begun) (status : Status) → open_in begun ≡ None → answers_it begun status ≡ false
-nothing_answers begun status none = rw none refl
 
 -- a status that is an answer shows that the drive is no longer busy
 pub late_answer : (busy c : ℕ) (showing : CommandsView) (status : Status) (word : ℕ) (begun : List Begun) (taken : List Taken) (e : Entry) (past : List Entry) → shown_by status word ≡ drive_says busy c showing taken → log_of taken ≡ e ∷ past →

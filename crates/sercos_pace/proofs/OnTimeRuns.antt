@@ -16,7 +16,8 @@ use Rattle.sercos_handshake.specs.Runs.{IsShown, IsRun}
 use Rattle.sercos_pace.specs.Times.{time_for, one_more, open_cycles, IsUndisturbed, AreUndisturbed, IsOnTime, Rests, Waits, AreOnTime, AnswersOnTime, TakesTime}
 use Rattle.sercos_handshake.proofs.PhaseMoves.{Processes, Nothing, Record, processes}
 use Rattle.sercos_handshake.proofs.EpochRuns.{joined, restarted, shown_of, heard_of, begun_of, said_of, in_step}
-use Rattle.sercos_pace.proofs.OnTime.{one_waits, Works, Free, heard_works, EndsSo, RestsSo, WaitsSo, taken_works, silent_works, begun_works, nothing_answers, late_answer}
+use Rattle.sercos_handshake.proofs.HandshakeMoves.{quiet_none}
+use Rattle.sercos_pace.proofs.OnTime.{one_waits, Works, Free, heard_works, EndsSo, RestsSo, WaitsSo, taken_works, silent_works, begun_works, late_answer}
 
 -- there are as many steps as answers or more, and one more if one waits
 pub in_step_counts : (begun : List Begun) (log : List Entry) → AreInStep begun log → length (answers_in begun) ≤ length (steps_in begun)
@@ -58,7 +59,7 @@ module _ (busy : ℕ) where
   heard_so v past run None shown after hears (StartsFree none is) = Free none is
   heard_so v past run None shown after hears (StartsBusy e log those opened all earlier late sum) = let lost = hears (ap is_some opened) in absurd (cc)
   heard_so v past run (Some a) shown after hears (StartsFree none is) =
-      let off : answers_it (unless_restart v (epoch_begun past)) a.status ≡ false = nothing_answers (unless_restart v (epoch_begun past)) a.status none in
+      let off : answers_it (unless_restart v (epoch_begun past)) a.status ≡ false = quiet_none (unless_restart v (epoch_begun past)) a.status none in
       subst (λ (l : List Begun). Works busy (length past) (spent_before v past) l (log_of (unless_restart v (epoch_taken past)))) (sym (cond-false (answers_it (unless_restart v (epoch_begun past)) a.status) _ _ off)) (Free none is)
   heard_so v past run (Some a) shown after hears (StartsBusy e log those opened all earlier late sum) = elim (shown_of busy v past run (joined busy past run.0) a shown) [
     | inl none ↦ let free : open_in (unless_restart v (epoch_begun past)) ≡ None = ap open_in none in absurd (cc)
@@ -148,7 +149,7 @@ module _ (busy : ℕ) where
       shown = subst (λ (o : Option Heard). IfSome o (λ x. IsShown busy x v past)) hears run.1.heard
 
       by : IsOnTime busy past → (e : Entry) × (log : List Entry) × (epoch_log past ≡ e ∷ log) × (length past ≡ e.taken.cycle + (busy + 1))
-      by (Rests none is) = absurd (both (answers_it (unless_restart v (epoch_begun past)) a.status) takes (nothing_answers (unless_restart v (epoch_begun past)) a.status (ap open_in begun ∙ none)))
+      by (Rests none is) = absurd (both (answers_it (unless_restart v (epoch_begun past)) a.status) takes (quiet_none (unless_restart v (epoch_begun past)) a.status (ap open_in begun ∙ none)))
         where
           both : (v : Bool) → v ≡ true → v ≡ false → ⊥
           both true on off = cc

@@ -17,7 +17,8 @@ use Rattle.sercos_handshake.specs.Runs.{IsShown, IsRun}
 use Rattle.sercos_pace.specs.Costs.{AreSpaced, SpacesSteps}
 use Rattle.sercos_handshake.proofs.PhaseMoves.{Processes, Nothing, Record, processes}
 use Rattle.sercos_handshake.proofs.EpochRuns.{joined, restarted, shown_of, heard_of, begun_of, said_of, in_step}
-use Rattle.sercos_pace.proofs.OnTime.{no_longer, late_answer}
+use Rattle.sercos_handshake.proofs.OnePhase.{no_longer}
+use Rattle.sercos_pace.proofs.OnTime.{late_answer}
 use Rattle.sercos_pace.proofs.LateRuns.{head_before, taken_before}
 
 -- These steps are apart; and if all answers were taken, the last step is as long ago.

@@ -16,6 +16,7 @@ use Rattle.sercos_step.specs.declared.request.Request.TheVariants as request
 use Rattle.sercos_step.specs.Words.{shape_of, shape_by, words_in, words_told}
 use Rattle.sercos_step.specs.Steps.{steps_of, answer_words}
 use Rattle.sercos_step.specs.Counts.{polls, count_of}
+use Rattle.sercos_service_drive.proofs.WordLemmas.{length-drop_two}
 use Rattle.sercos_step.proofs.Ends.{read_ends, length-answer_words}
 use Rattle.sercos_step.proofs.AnswerCounts.{steps_most, get_below, polls_by, times_le, times_more}
 use Rattle.sercos_block.specs.declared.block.Block.{Block}
@@ -201,11 +202,6 @@ drop_two : (words : List ℕ) (x : ℕ) → 2 ≤ length words → drop 2 (words
 drop_two [] x le = absurd (omega arith)
 drop_two (a ∷ []) x le = absurd (omega arith)
 drop_two (a ∷ b ∷ words) x le = refl
-
-length-drop_two : (words : List ℕ) → 2 ≤ length words → length (drop 2 words) + 2 ≡ length words
-length-drop_two [] le = absurd (omega arith)
-length-drop_two (a ∷ []) le = absurd (omega arith)
-length-drop_two (a ∷ b ∷ words) le = omega arith
 
 -- a word 7 at a place is the last one, or one of those before it
 seven_at : (words : List ℕ) (x k : ℕ) → slice_index (words ++ x ∷ []) k ≡ 7 → (slice_index words k ≡ 7) ⊎ ((k ≡ length words) × (x ≡ 7))

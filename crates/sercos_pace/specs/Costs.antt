@@ -1,6 +1,8 @@
 -- In how many cycles the requests of an epoch have an open step, at most. Each list has its newest item first.
 use Rattle.std.specs.Prelude.{◌≡◌, ◌⊎◌, true, ℕ, ◌+◌, ◌*◌, ◌<◌, ◌≤◌, ◌==◌, if◌then◌else◌, List, [], ◌∷◌, ◌++◌, length, Option, Some, None}
 use Rattle.sercos_idn.specs.Codes.{is_list}
+use Rattle.sercos_idn.specs.Elements.{attribute_element, data_element}
+use Rattle.sercos_idn.specs.Commands.{running_status}
 use Rattle.sercos_step.specs.declared.shape.Shape.{Shape}
 use Rattle.sercos_step.specs.declared.shape.Shape.TheVariants as shape
 use Rattle.sercos_step.specs.declared.request.Request.{Request}
@@ -34,16 +36,16 @@ abbrev pub newest_at : ℕ → List Write → Option ℕ
 newest_at raw [] = None
 newest_at raw (w ∷ writes) = if w.raw == raw then Some w.cycle else newest_at raw writes
 
--- A procedure command that runs in a cycle, with the data status 7, was set by the newest write to it, and runs no longer than `time`
+-- A procedure command that runs in a cycle, with the data status of a running command, was set by the newest write to it, and runs no longer than `time`
 -- cycles.
 abbrev pub IsTimed : ℕ → View → List View → Type 0
-IsTimed time v past = (raw : ℕ) → status_in v.commands raw (length past) ≡ 7 → (at : ℕ) × (newest_at raw (all_writes past) ≡ Some at) × (length past < at + time)
+IsTimed time v past = (raw : ℕ) → status_in v.commands raw (length past) ≡ running_status → (set : ℕ) × (newest_at raw (all_writes past) ≡ Some set) × (length past < set + time)
 
 abbrev pub AreTimed : ℕ → List View → Type 0
 AreTimed time [] = Unit {0}
 AreTimed time (v ∷ past) = AreTimed time past × IsTimed time v past
 
--- It is so if what is set when an MDT comes was set at the end of the cycle before, and a command runs for so many cycles.
+-- It is so if what is set when an MDT comes was set at the end of the cycle before, and a command runs for `time` cycles.
 abbrev pub set_after : List View → List SetCommand
 set_after [] = []
 set_after (v ∷ past) = (commands_with (write_of (processed_in v past) (kept_in v past)) v.blocks v.commands).set
@@ -70,13 +72,13 @@ value_steps longest shape.List = 5 + longest
 
 abbrev pub read_steps : ℕ → ℕ → Option Block → ℕ
 read_steps longest e None = 1
-read_steps longest e (Some b) = if e == 3 then 3 else (if e == 7 then value_steps longest (shape_by b.attribute.length) else 517)
+read_steps longest e (Some b) = if e == attribute_element then 3 else (if e == data_element then value_steps longest (shape_by b.attribute.length) else 517)
 
 abbrev pub write_steps : ℕ → List ℕ → Option Block → ℕ
 write_steps e bytes None = 1
-write_steps e bytes (Some b) = if e == 7 then 3 + length (words_told (shape_by b.attribute.length) bytes) else 1 + length (words_told (shape_of e 0) bytes)
+write_steps e bytes (Some b) = if e == data_element then 3 + length (words_told (shape_by b.attribute.length) bytes) else 1 + length (words_told (shape_of e 0) bytes)
 
--- Each list holds at most so many words as `longest` says of its identifier number, or that is as many as any list may hold.
+-- Each list has at most as many words as `longest` says of its identifier number, or `longest` says as many as any list has.
 abbrev pub IsListed : (ℕ → ℕ) → List Block → Type 0
 IsListed longest blocks = (raw : ℕ) (b : Block) → find_block raw blocks ≡ Some b → is_list b.attribute.length ≡ true → (length b.value ≤ 2 * longest raw) ⊎ (512 ≤ longest raw)
 

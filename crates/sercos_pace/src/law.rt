@@ -13,8 +13,8 @@ ghost use Rattle.sercos_pace.specs.Passes.{PassesBySetting, PassesLast, StaysPas
 use sercos_idn::attribute_law;
 
 /// A law and no code, over an epoch in which nothing is lost. An answer comes busy time and one cycle after the cycle in
-/// which the drive accepted its step. So the cycles in which a step was open are so many for each answer, and those since
-/// the open step was accepted: at most so many for each step.
+/// which the drive accepted its step. So the cycles in which a step was open are the busy time and one for each answer,
+/// and those since the open step was accepted: at most the busy time and one for each step.
 pub fn time_law()
     ensures on_time { (busy : ℕ) → AreOnTime busy }
     ensures answers { (busy : ℕ) → AnswersOnTime busy }

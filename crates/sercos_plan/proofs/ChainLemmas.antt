@@ -7,18 +7,18 @@ use Rattle.std.proofs.lemmas.Bool.{cases_Bool, cases_order, cond-true, cond-fals
 use Rattle.std.proofs.lemmas.Option.{same_Some}
 use Rattle.sercos_timing.specs.Views.{WishesView, PlanView}
 use Rattle.sercos_timing.specs.Order.{wish, times, sent, first_sent, at_bits, mdt_bits}
-use Rattle.sercos_timing.specs.Inequalities.{asked_5, asked_6, asked_7, greatest, greatest_tmtsy, sum_9, bound_9}
+use Rattle.sercos_timing.specs.Inequalities.{of_number, asked_5, asked_6, asked_7, greatest, greatest_tmtsy, sum_9, bound_9}
 use Rattle.sercos_timing.specs.Valid.{IsValid}
 use Rattle.sercos_timing.specs.declared.wishes.Wish.{Wish}
 use Rattle.sercos_plan.specs.LeastTimes.{round_up, least_t2, least_t3, greatest_t4min, is_roomy}
 use Rattle.sercos_plan.specs.Views.{ChainView}
-use Rattle.sercos_plan.specs.Chains.{rule_of, place_of, is_start, is_turn, up_to, last_place, is_start_of, given_if, asked_after, Linked, last_link, head_of, pause_of, ended_if, ends, IsChain}
-use Rattle.sercos_plan.specs.ChainOf.{is_tight, link_of, first_tight, trail, starts, bits_of_starts, by_turn, trail_t2, trail_t3, first_greatest, records_drive, turn_chain, cycle_chain, capture_chain, chain_of, planned}
+use Rattle.sercos_plan.specs.Chains.{moment_of, is_t1, is_t2, up_to, last_place, is_t1_of, given_if, asked_after, Linked, last_link, head_of, pause_of, ended_if, ends, IsChain}
+use Rattle.sercos_plan.specs.ChainOf.{is_tight, link_of, first_tight, trail, starts, bits_of_starts, trail_by_master, trail_t2, trail_t3, first_greatest, records_drive, mst_chain, cycle_chain, capture_chain, chain_of, planned}
 use Rattle.sercos_plan.specs.declared.chain.Link.{Link}
-use Rattle.sercos_plan.specs.declared.chain.Rule.TheVariants.{Turn, Cycle}
+use Rattle.sercos_timing.specs.declared.inequality.Inequality.TheVariants.{NextMst, Cycle}
 use Rattle.sercos_plan.proofs.LeastLemmas.{Among}
 use Rattle.sercos_plan.proofs.PlanLemmas.{among_first, among_greatest, length_first, rate_some}
-use Rattle.sercos_plan.proofs.TurnLemmas.{five_some}
+use Rattle.sercos_plan.proofs.T2Lemmas.{five_some}
 use Rattle.sercos_plan.proofs.ListedLemmas.{up_to_at, IsFirstGreatest, first_greatest_at, greatest_within}
 use Rattle.sercos_plan.proofs.ReachLemmas.{linked_more, last_more, gives_time, tight_is, one_of, Reaches, after_from, start_reaches}
 
@@ -86,10 +86,10 @@ none_tight w b t2 x (k ∷ before) h (inr e) =
     none_tight w b t2 x before parts.0 e
 
 -- links that follow from the wishes and end at T2
-pub record Turns (w : WishesView) (links : List Link) : Type 0 where
+pub record ReachesT2 (w : WishesView) (links : List Link) : Type 0 where
   pub linked : Linked w None links
   pub link : Link
-  pub ends : is_turn (place_of (rule_of link.rule)) ≡ true
+  pub ends : is_t2 (moment_of (of_number link.rule)) ≡ true
   pub at : link.at ≡ w.rate * least_t2 w
   pub last : last_link None links ≡ Some link
 
@@ -107,14 +107,14 @@ module _ (w : WishesView) (valid : IsValid w) where
       let some = valid.drives.some in
       omega arith
 
-  turns_through : (rule at asked : ℕ) (links : List Link) → at < length w.order → (reach : Reaches w links (slice_index w.order at)) → is_turn (place_of (rule_of rule)) ≡ true →
-      asked_after w (rule_of rule) (Some (link_of w (reach.rule) (slice_index w.order at) (starts w (slice_index w.order at)))) (slice_index w.order at ∷ first_sent w.order at) ≡ Some asked →
-      round_up w.rate asked ≡ least_t2 w → Turns w (links ++ link_of w rule (slice_index w.order at) (least_t2 w) ∷ [])
-  turns_through rule at asked links within reach ends is tight =
+  t2_through : (rule at asked : ℕ) (links : List Link) → at < length w.order → (reach : Reaches w links (slice_index w.order at)) → is_t2 (moment_of (of_number rule)) ≡ true →
+      asked_after w (of_number rule) (Some (link_of w (reach.rule) (slice_index w.order at) (starts w (slice_index w.order at)))) (slice_index w.order at ∷ first_sent w.order at) ≡ Some asked →
+      round_up w.rate asked ≡ least_t2 w → ReachesT2 w (links ++ link_of w rule (slice_index w.order at) (least_t2 w) ∷ [])
+  t2_through rule at asked links within reach ends is tight =
       let k = slice_index w.order at in
-      let step : asked_after w (rule_of rule) (last_link None links) (up_to w (wish w (slice_index w.order at)).address (sent w)) ≡ Some asked =
-      ap (λ from. asked_after w (rule_of rule) from (up_to w (wish w (slice_index w.order at)).address (sent w))) reach.last
-      ∙ ap (asked_after w (rule_of rule) (Some (link_of w (reach.rule) (slice_index w.order at) (starts w (slice_index w.order at))))) (up_to_at w valid at within) ∙ is in
+      let step : asked_after w (of_number rule) (last_link None links) (up_to w (wish w (slice_index w.order at)).address (sent w)) ≡ Some asked =
+      ap (λ from. asked_after w (of_number rule) from (up_to w (wish w (slice_index w.order at)).address (sent w))) reach.last
+      ∙ ap (asked_after w (of_number rule) (Some (link_of w (reach.rule) (slice_index w.order at) (starts w (slice_index w.order at))))) (up_to_at w valid at within) ∙ is in
       record {
         linked = linked_more w None links (link_of w rule k (least_t2 w)) reach.linked (gives_time w _ asked (least_t2 w) step tight);
         link = link_of w rule k (least_t2 w);
@@ -124,31 +124,31 @@ module _ (w : WishesView) (valid : IsValid w) where
       }
 
   -- by 5, of the last AT
-  by_last : is_tight w (asked_5 w (bits_of_starts w) (sent w)) (least_t2 w) ≡ true → Turns w (trail w (starts w) (sent w) (last_place w) ++ link_of w 5 (last_place w) (least_t2 w) ∷ [])
+  by_last : is_tight w (asked_5 w (bits_of_starts w) (sent w)) (least_t2 w) ≡ true → ReachesT2 w (trail w (starts w) (sent w) (last_place w) ++ link_of w 5 (last_place w) (least_t2 w) ∷ [])
   by_last tight =
       let is = tight_is w (asked_5 w (bits_of_starts w) (sent w)) (least_t2 w) tight in
       let some = some_order in
       let within : length w.order - 1 < length w.order = omega arith in
       let reach = start_reaches w valid (length w.order - 1) within in
       let l : Link = link_of w (reach.rule) (last_place w) (starts w (last_place w)) in
-      let here : is_start_of w l (Some (last_place w)) ≡ true = and_from (is_start (place_of (rule_of (reach.rule)))) ((wish w (last_place w)).address == (wish w (last_place w)).address) reach.ends (eq-eqb _ _ refl) in
-      let both : (is_start_of w l (Some (last_place w)) && (last_place w == last_place w)) ≡ true = and_from _ _ here (eq-eqb (last_place w) (last_place w) refl) in
+      let here : is_t1_of w l (Some (last_place w)) ≡ true = and_from (is_t1 (moment_of (of_number (reach.rule)))) ((wish w (last_place w)).address == (wish w (last_place w)).address) reach.ends (eq-eqb _ _ refl) in
+      let both : (is_t1_of w l (Some (last_place w)) && (last_place w == last_place w)) ≡ true = and_from _ _ here (eq-eqb (last_place w) (last_place w) refl) in
       let five : asked_5 w (λ _. l.at) (sent w) ≡ asked_5 w (bits_of_starts w) (sent w) = five_some w (λ _. l.at) w.order (length w.order) some ∙ sym (five_some w (bits_of_starts w) w.order (length w.order) some) in
-      turns_through 5 (length w.order - 1) is.0 (trail w (starts w) (sent w) (last_place w)) within reach refl
+      t2_through 5 (length w.order - 1) is.0 (trail w (starts w) (sent w) (last_place w)) within reach refl
       (ap (λ c. given_if c (asked_5 w (λ _. l.at) (sent w))) both ∙ five ∙ is.1) is.2
 
   -- by 6, of the first AT that gives T2
-  by_master : (k : ℕ) → first_tight w (bits_of_starts w) (least_t2 w) (sent w) ≡ Some k → Turns w (by_turn w (Some k))
+  by_master : (k : ℕ) → first_tight w (bits_of_starts w) (least_t2 w) (sent w) ≡ Some k → ReachesT2 w (trail_by_master w (Some k))
   by_master k first =
       let parts = some_tight w (bits_of_starts w) (least_t2 w) k (sent w) first in
       let is = tight_is w (asked_6 w (bits_of_starts w) k []) (least_t2 w) parts.1 in
       let found = among_first w.order (length w.order) k parts.0 in
-      let P : ℕ → Type 0 = λ i. Turns w (trail w (starts w) (sent w) i ++ link_of w 6 i (least_t2 w) ∷ []) in
+      let P : ℕ → Type 0 = λ i. ReachesT2 w (trail w (starts w) (sent w) i ++ link_of w 6 i (least_t2 w) ∷ []) in
       let Q : ℕ → Type 0 = λ i. asked_6 w (bits_of_starts w) i [] ≡ Some (is.0) in
       let reach = start_reaches w valid found.0 found.1 in
       let at = slice_index w.order found.0 in
       subst P (sym found.2)
-      (turns_through 6 found.0 is.0 (trail w (starts w) (sent w) (slice_index w.order found.0)) found.1 reach refl
+      (t2_through 6 found.0 is.0 (trail w (starts w) (sent w) (slice_index w.order found.0)) found.1 reach refl
       (after_from w (Some at) at (reach.rule) (λ j. at_bits w j + w.rate * (times w j).tatmt) refl reach.ends ∙ subst Q found.2 is.1) is.2)
 
   one_tight : is_tight w (asked_5 w (bits_of_starts w) (sent w)) (least_t2 w) ≡ false → first_tight w (bits_of_starts w) (least_t2 w) (sent w) ≡ None → ⊥
@@ -168,28 +168,28 @@ module _ (w : WishesView) (valid : IsValid w) where
       five_tight None v t is e h = cc
       five_tight (Some a) v t is e h = false≢true (sym h ∙ eq-eqb (round_up w.rate a) t (sym e))
 
-  pub t2_turns : Turns w (trail_t2 w)
+  pub t2_reached : ReachesT2 w (trail_t2 w)
   unfolding trail_t2
-  t2_turns =
-      let P : List Link → Type 0 = λ ls. Turns w ls in
+  t2_reached =
+      let P : List Link → Type 0 = λ ls. ReachesT2 w ls in
       elim (cases_Bool (is_tight w (asked_5 w (bits_of_starts w) (sent w)) (least_t2 w))) [
         | inl tight ↦ subst P (sym (cond-true _ _ _ tight)) (by_last tight)
         | inr loose ↦ subst P (sym (cond-false _ _ _ loose)) (through (first_tight w (bits_of_starts w) (least_t2 w) (sent w)) refl loose)
       ]
     where
-      through : (o : Option ℕ) → first_tight w (bits_of_starts w) (least_t2 w) (sent w) ≡ o → is_tight w (asked_5 w (bits_of_starts w) (sent w)) (least_t2 w) ≡ false → Turns w (by_turn w o)
+      through : (o : Option ℕ) → first_tight w (bits_of_starts w) (least_t2 w) (sent w) ≡ o → is_tight w (asked_5 w (bits_of_starts w) (sent w)) (least_t2 w) ≡ false → ReachesT2 w (trail_by_master w o)
       through None is loose = absurd (one_tight loose is)
       through (Some k) is loose = by_master k is
 
   -- the chain to 9
-  turn_ends : (drive s : ℕ) → pause_of w drive ≡ Some s → max w.gap s ≡ max w.gap (greatest_tmtsy w) →
-      ends w Turn drive (last_link None (trail_t2 w)) ≡ Some (sum_9 w (w.rate * least_t2 w) (greatest_tmtsy w), bound_9 w)
-  turn_ends drive s pause same =
-      let turns = t2_turns in
-      ap (ends w Turn drive) turns.last
-      ∙ ap (λ c. ended_if c (option_map {U = ℕ × ℕ} (λ x. (sum_9 w (turns.link).at x, bound_9 w)) (pause_of w drive))) turns.ends
-      ∙ ap (option_map {U = ℕ × ℕ} (λ x. (sum_9 w (turns.link).at x, bound_9 w))) pause
-      ∙ ap (λ x. Some (x + (mdt_bits w + w.rate * max w.gap s), bound_9 w)) turns.at
+  mst_ends : (drive s : ℕ) → pause_of w drive ≡ Some s → max w.gap s ≡ max w.gap (greatest_tmtsy w) →
+      ends w (Some NextMst) drive (last_link None (trail_t2 w)) ≡ Some (sum_9 w (w.rate * least_t2 w) (greatest_tmtsy w), bound_9 w)
+  mst_ends drive s pause same =
+      let reached = t2_reached in
+      ap (ends w (Some NextMst) drive) reached.last
+      ∙ ap (λ c. ended_if c (option_map {U = ℕ × ℕ} (λ x. (sum_9 w (reached.link).at x, bound_9 w)) (pause_of w drive))) reached.ends
+      ∙ ap (option_map {U = ℕ × ℕ} (λ x. (sum_9 w (reached.link).at x, bound_9 w))) pause
+      ∙ ap (λ x. Some (x + (mdt_bits w + w.rate * max w.gap s), bound_9 w)) reached.at
       ∙ ap (λ x. Some (w.rate * least_t2 w + (mdt_bits w + w.rate * x), bound_9 w)) same
 
   -- the time of the drive that is named
@@ -199,18 +199,18 @@ module _ (w : WishesView) (valid : IsValid w) where
       ap (λ a. option_map (λ k. f (wish w k)) (head_of (up_to w a (sent w)))) first.address
       ∙ ap (λ ats. option_map (λ k. f (wish w k)) (head_of ats)) (up_to_at w valid at first.within) ∙ ap Some first.value
 
-  turn_is_chain : nat_le (sum_9 w (w.rate * least_t2 w) (greatest_tmtsy w)) (bound_9 w) ≡ false → IsChain w (turn_chain w)
-  turn_is_chain broken = record {
-    links = (t2_turns).linked;
+  mst_is_chain : nat_le (sum_9 w (w.rate * least_t2 w) (greatest_tmtsy w)) (bound_9 w) ≡ false → IsChain w (mst_chain w)
+  mst_is_chain broken = record {
+    links = (t2_reached).linked;
     end = elim (cases_Bool (nat_le (greatest_tmtsy w) w.gap)) [
       | inl within ↦
-          let P : ℕ → Type 0 = λ d. ends w Turn d (last_link None (trail_t2 w)) ≡ Some (sum_9 w (w.rate * least_t2 w) (greatest_tmtsy w), bound_9 w) in
+          let P : ℕ → Type 0 = λ d. ends w (Some NextMst) d (last_link None (trail_t2 w)) ≡ Some (sum_9 w (w.rate * least_t2 w) (greatest_tmtsy w), bound_9 w) in
           let less = leb-true (greatest_tmtsy w) w.gap within in
-          subst P (sym (cond-true (nat_le (greatest_tmtsy w) w.gap) 0 (first_greatest (λ d. d.times.tmtsy) w.drives) within)) (turn_ends 0 w.gap refl (omega arith))
+          subst P (sym (cond-true (nat_le (greatest_tmtsy w) w.gap) 0 (first_greatest (λ d. d.times.tmtsy) w.drives) within)) (mst_ends 0 w.gap refl (omega arith))
       | inr above ↦
-          let P : ℕ → Type 0 = λ d. ends w Turn d (last_link None (trail_t2 w)) ≡ Some (sum_9 w (w.rate * least_t2 w) (greatest_tmtsy w), bound_9 w) in
+          let P : ℕ → Type 0 = λ d. ends w (Some NextMst) d (last_link None (trail_t2 w)) ≡ Some (sum_9 w (w.rate * least_t2 w) (greatest_tmtsy w), bound_9 w) in
           subst P (sym (cond-false (nat_le (greatest_tmtsy w) w.gap) 0 (first_greatest (λ d. d.times.tmtsy) w.drives) above))
-          (turn_ends (first_greatest (λ d. d.times.tmtsy) w.drives) (greatest_tmtsy w) (named_pause) refl)
+          (mst_ends (first_greatest (λ d. d.times.tmtsy) w.drives) (greatest_tmtsy w) (named_pause) refl)
     ];
     above = leb-false _ _ broken;
   }
@@ -225,33 +225,33 @@ module _ (w : WishesView) (valid : IsValid w) where
           cond-false (first_greatest (λ d. d.times.tmtsy) w.drives == 0) _ _ (ne_eqb (first_greatest (λ d. d.times.tmtsy) w.drives) 0 some) ∙ named_time (λ d. d.times.tmtsy) first.0 found
 
   -- the chain to 8
-  third_linked : Linked w None (trail_t3 w)
+  t3_linked : Linked w None (trail_t3 w)
   unfolding trail_t3 least_t3
-  third_linked =
-      let turns = t2_turns in
+  t3_linked =
+      let reached = t2_reached in
       let first = first_greatest_at w valid (λ d. d.times.tmtsg) in
       let found = first.1 in
       let k = slice_index w.order first.0 in
       let asked : ℕ = w.rate * least_t2 w + (mdt_bits w + w.rate * (times w (slice_index w.order first.0)).tmtsg) in
-      let step : asked_after w (rule_of 7) (last_link None (trail_t2 w)) (up_to w (records_drive w) (sent w)) ≡ Some (w.rate * least_t2 w + (mdt_bits w + w.rate * (times w (slice_index w.order first.0)).tmtsg)) =
-      ap (λ from. asked_after w (rule_of 7) from (up_to w (records_drive w) (sent w))) turns.last
-      ∙ ap (λ a. asked_after w (rule_of 7) (Some (turns.link)) (up_to w a (sent w))) found.address
-      ∙ ap (asked_after w (rule_of 7) (Some (turns.link))) (up_to_at w valid first.0 found.within)
-      ∙ ap (λ c. given_if c (asked_7 w (turns.link).at (slice_index w.order first.0) (first_sent w.order first.0))) turns.ends
-      ∙ ap (λ x. Some (x + (mdt_bits w + w.rate * (times w (slice_index w.order first.0)).tmtsg))) turns.at in
+      let step : asked_after w (of_number 7) (last_link None (trail_t2 w)) (up_to w (records_drive w) (sent w)) ≡ Some (w.rate * least_t2 w + (mdt_bits w + w.rate * (times w (slice_index w.order first.0)).tmtsg)) =
+      ap (λ from. asked_after w (of_number 7) from (up_to w (records_drive w) (sent w))) reached.last
+      ∙ ap (λ a. asked_after w (of_number 7) (Some (reached.link)) (up_to w a (sent w))) found.address
+      ∙ ap (asked_after w (of_number 7) (Some (reached.link))) (up_to_at w valid first.0 found.within)
+      ∙ ap (λ c. given_if c (asked_7 w (reached.link).at (slice_index w.order first.0) (first_sent w.order first.0))) reached.ends
+      ∙ ap (λ x. Some (x + (mdt_bits w + w.rate * (times w (slice_index w.order first.0)).tmtsg))) reached.at in
       let most : w.rate * least_t2 w + (mdt_bits w + w.rate * (times w (slice_index w.order first.0)).tmtsg) ≡ greatest (λ j. w.rate * least_t2 w + (mdt_bits w + w.rate * (times w j).tmtsg)) (sent w) =
       ap (λ x. w.rate * least_t2 w + (mdt_bits w + w.rate * x)) found.value ∙ sym (greatest_shift (λ j. (times w j).tmtsg) (w.rate * least_t2 w) (mdt_bits w) w.rate (sent w) some_sent) in
-      linked_more w None (trail_t2 w) _ turns.linked (gives_time w _ (w.rate * least_t2 w + (mdt_bits w + w.rate * (times w (slice_index w.order first.0)).tmtsg)) _ step (ap (round_up w.rate) most))
+      linked_more w None (trail_t2 w) _ reached.linked (gives_time w _ (w.rate * least_t2 w + (mdt_bits w + w.rate * (times w (slice_index w.order first.0)).tmtsg)) _ step (ap (round_up w.rate) most))
 
-  third_last : last_link None (trail_t3 w) ≡ Some (record { rule = 7; drive = records_drive w; at = w.rate * least_t3 w })
+  t3_last : last_link None (trail_t3 w) ≡ Some (record { rule = 7; drive = records_drive w; at = w.rate * least_t3 w })
   unfolding trail_t3
-  third_last = last_more None (trail_t2 w) _
+  t3_last = last_more None (trail_t2 w) _
 
   cycle_is_chain : nat_le (least_t3 w) w.cycle ≡ false → IsChain w (cycle_chain w)
   cycle_is_chain broken = record {
-    links = third_linked;
+    links = t3_linked;
     end =
-        ap (ends w Cycle (records_drive w)) third_last
+        ap (ends w (Some Cycle) (records_drive w)) t3_last
         ∙ ap (λ c. ended_if c (Some (w.rate * least_t3 w, w.rate * w.cycle))) (eq-eqb (records_drive w) (records_drive w) refl);
     above = mul-lt-mul_of_pos_left (leb-false _ _ broken) (rate_some w valid);
   }
@@ -279,7 +279,7 @@ module _ (w : WishesView) (valid : IsValid w) where
           | inl eight ↦ subst P (sym (cond-true _ _ _ nine ∙ cond-true _ _ _ eight)) (capture_is_chain (third_false _ _ _ nine eight full))
           | inr eight ↦ subst P (sym (cond-true _ _ _ nine ∙ cond-false _ _ _ eight)) (cycle_is_chain eight)
         ]
-        | inr nine ↦ subst P (sym (cond-false _ _ _ nine)) (turn_is_chain nine)
+        | inr nine ↦ subst P (sym (cond-false _ _ _ nine)) (mst_is_chain nine)
       ]
     where
       third_false : (a b c : Bool) → a ≡ true → b ≡ true → (a && b && c) ≡ false → c ≡ false

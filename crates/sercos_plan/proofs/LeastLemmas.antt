@@ -6,8 +6,8 @@ use Rattle.std.proofs.lemmas.Bool.{cases_Bool, cond_both, eqb-true, cond-true, c
 use Rattle.sercos_timing.specs.Views.{WishesView}
 use Rattle.sercos_timing.specs.Order.{times, neighbor, previous, same_slave, at_bits}
 use Rattle.sercos_timing.specs.Inequalities.{asked_1, asked_2, asked_3, asked_4, asked_of_start, Meets, Keeps}
-use Rattle.sercos_timing.specs.declared.asked.StartRule.{StartRule}
-use Rattle.sercos_timing.specs.declared.asked.StartRule.TheVariants.{Own, Gap, Neighbor, Slave}
+use Rattle.sercos_timing.specs.declared.inequality.Inequality.{Inequality}
+use Rattle.sercos_timing.specs.declared.inequality.Inequality.TheVariants.{Own, Gap, Neighbor, Slave}
 use Rattle.sercos_plan.specs.LeastTimes.{round_up, needed, least_t1, least_bits}
 
 -- rounding up
@@ -200,8 +200,9 @@ pub needed_same : (w : WishesView) (b c : ℕ → ℕ) (k : ℕ) (before : List 
 needed_same w b c k before same = needed_local w b c k before (λ j among. same j)
 
 -- what is asked of a start depends on the values of the times alone
-pub asked_same : (w : WishesView) (rule : StartRule) (b c : ℕ → ℕ) (k : ℕ) (before : List ℕ) → ((j : ℕ) → b j ≡ c j) → asked_of_start w rule b k before ≡ asked_of_start w rule c k before
+pub asked_same : (w : WishesView) (rule : Inequality) (b c : ℕ → ℕ) (k : ℕ) (before : List ℕ) → ((j : ℕ) → b j ≡ c j) → asked_of_start w rule b k before ≡ asked_of_start w rule c k before
 asked_same w Own b c k before same = refl
 asked_same w Gap b c k before same = local_2 w b c k before (λ j among. same j)
 asked_same w Neighbor b c k before same = local_3 w b c k before (λ j among. same j)
 asked_same w Slave b c k before same = local_4 w b c k before (λ j among. same j)
+asked_same w _ b c k before same = refl

@@ -1,7 +1,7 @@
 pub mod LeastLemmas
 pub mod PlanLemmas
 pub mod StartLemmas
-pub mod TurnLemmas
+pub mod T2Lemmas
 pub mod AnswerLemmas
 pub mod SoundLemmas
 pub mod TestLemmas

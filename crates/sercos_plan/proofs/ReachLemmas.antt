@@ -5,10 +5,10 @@ use Rattle.std.proofs.lemmas.Bool.{cases_Bool, cases_eq, cases_order, cond-true,
 use Rattle.std.proofs.lemmas.Option.{same_Some}
 use Rattle.sercos_timing.specs.Views.{WishesView}
 use Rattle.sercos_timing.specs.Order.{wish, times, sent, first_sent, neighbor, previous, at_bits}
-use Rattle.sercos_timing.specs.Inequalities.{asked_1, asked_2, asked_3, asked_4}
+use Rattle.sercos_timing.specs.Inequalities.{of_number, asked_1, asked_2, asked_3, asked_4}
 use Rattle.sercos_timing.specs.Valid.{IsValid}
 use Rattle.sercos_plan.specs.LeastTimes.{round_up, needed, least_t1, least_bits}
-use Rattle.sercos_plan.specs.Chains.{rule_of, place_of, is_start, up_to, is_start_of, given_if, asked_after, Gives, Linked, last_link}
+use Rattle.sercos_plan.specs.Chains.{moment_of, is_t1, up_to, is_t1_of, given_if, asked_after, Gives, Linked, last_link}
 use Rattle.sercos_plan.specs.ChainOf.{is_tight, link_of, back_of, trail_at, trail, starts, bits_of_starts}
 use Rattle.sercos_plan.specs.declared.chain.Link.{Link}
 use Rattle.sercos_plan.proofs.LeastLemmas.{Among, AgreeOn, IsFrom, neighbor-from, previous-from, least_here, needed_local}
@@ -18,7 +18,7 @@ use Rattle.sercos_plan.proofs.ListedLemmas.{up_to_at}
 
 -- one more link
 pub linked_more : (w : WishesView) (from : Option Link) (links : List Link) (l : Link) → Linked w from links →
-    Gives w (asked_after w (rule_of l.rule) (last_link from links) (up_to w l.drive (sent w))) l.at → Linked w from (links ++ l ∷ [])
+    Gives w (asked_after w (of_number l.rule) (last_link from links) (up_to w l.drive (sent w))) l.at → Linked w from (links ++ l ∷ [])
 linked_more w from [] l linked given = (given, tt)
 linked_more w from (l' ∷ links) l linked given = (linked.0, linked_more w (Some l') links l linked.1 given)
 
@@ -121,28 +121,28 @@ start_is w valid at within =
 pub record Reaches (w : WishesView) (links : List Link) (k : ℕ) : Type 0 where
   pub linked : Linked w None links
   pub rule : ℕ
-  pub ends : is_start (place_of (rule_of rule)) ≡ true
+  pub ends : is_t1 (moment_of (of_number rule)) ≡ true
   pub last : last_link None links ≡ Some (link_of w rule k (starts w k))
 
-reaches_first : (w : WishesView) → IsValid w → (rule at asked : ℕ) → at < length w.order → is_start (place_of (rule_of rule)) ≡ true →
-    asked_after w (rule_of rule) None (slice_index w.order at ∷ first_sent w.order at) ≡ Some asked → round_up w.rate asked ≡ starts w (slice_index w.order at) →
+reaches_first : (w : WishesView) → IsValid w → (rule at asked : ℕ) → at < length w.order → is_t1 (moment_of (of_number rule)) ≡ true →
+    asked_after w (of_number rule) None (slice_index w.order at ∷ first_sent w.order at) ≡ Some asked → round_up w.rate asked ≡ starts w (slice_index w.order at) →
     Reaches w (link_of w rule (slice_index w.order at) (starts w (slice_index w.order at)) ∷ []) (slice_index w.order at)
 reaches_first w valid rule at asked within ends is tight = record {
-  linked = (gives_time w _ asked (starts w (slice_index w.order at)) (ap (asked_after w (rule_of rule) None) (up_to_at w valid at within) ∙ is) tight, tt);
+  linked = (gives_time w _ asked (starts w (slice_index w.order at)) (ap (asked_after w (of_number rule) None) (up_to_at w valid at within) ∙ is) tight, tt);
   rule = rule;
   ends = ends;
   last = refl;
 }
 
-reaches_more : (w : WishesView) → IsValid w → (rule at asked j : ℕ) (links : List Link) → at < length w.order → (back : Reaches w links j) → is_start (place_of (rule_of rule)) ≡ true →
-    asked_after w (rule_of rule) (Some (link_of w (back.rule) j (starts w j))) (slice_index w.order at ∷ first_sent w.order at) ≡ Some asked →
+reaches_more : (w : WishesView) → IsValid w → (rule at asked j : ℕ) (links : List Link) → at < length w.order → (back : Reaches w links j) → is_t1 (moment_of (of_number rule)) ≡ true →
+    asked_after w (of_number rule) (Some (link_of w (back.rule) j (starts w j))) (slice_index w.order at ∷ first_sent w.order at) ≡ Some asked →
     round_up w.rate asked ≡ starts w (slice_index w.order at) →
     Reaches w (links ++ link_of w rule (slice_index w.order at) (starts w (slice_index w.order at)) ∷ []) (slice_index w.order at)
 reaches_more w valid rule at asked j links within back ends is tight =
     let k = slice_index w.order at in
-    let step : asked_after w (rule_of rule) (last_link None links) (up_to w (wish w (slice_index w.order at)).address (sent w)) ≡ Some asked =
-    ap (λ from. asked_after w (rule_of rule) from (up_to w (wish w (slice_index w.order at)).address (sent w))) back.last
-    ∙ ap (asked_after w (rule_of rule) (Some (link_of w (back.rule) j (starts w j)))) (up_to_at w valid at within) ∙ is in
+    let step : asked_after w (of_number rule) (last_link None links) (up_to w (wish w (slice_index w.order at)).address (sent w)) ≡ Some asked =
+    ap (λ from. asked_after w (of_number rule) from (up_to w (wish w (slice_index w.order at)).address (sent w))) back.last
+    ∙ ap (asked_after w (of_number rule) (Some (link_of w (back.rule) j (starts w j)))) (up_to_at w valid at within) ∙ is in
     record {
       linked = linked_more w None links (link_of w rule k (starts w k)) back.linked (gives_time w _ asked (starts w k) step tight);
       rule = rule;
@@ -150,14 +150,14 @@ reaches_more w valid rule at asked j links within back ends is tight =
       last = last_more None links (link_of w rule k (starts w k));
     }
 
--- what is asked behind a link to T1 of the drive j is what is asked where all stand at their least T1
-pub after_from : (w : WishesView) (o : Option ℕ) (j rule : ℕ) (d : ℕ → ℕ) → o ≡ Some j → is_start (place_of (rule_of rule)) ≡ true →
-    given_if (is_start_of w (link_of w rule j (starts w j)) o) (option_map (λ i. bits_of_starts w j + d i) o) ≡ option_map (λ i. bits_of_starts w i + d i) o
+-- what is asked after a link to T1 of the drive j is what is asked where all stand at their least T1
+pub after_from : (w : WishesView) (o : Option ℕ) (j rule : ℕ) (d : ℕ → ℕ) → o ≡ Some j → is_t1 (moment_of (of_number rule)) ≡ true →
+    given_if (is_t1_of w (link_of w rule j (starts w j)) o) (option_map (λ i. bits_of_starts w j + d i) o) ≡ option_map (λ i. bits_of_starts w i + d i) o
 after_from w None j rule d is ends = refl
 after_from w (Some i) j rule d is ends =
     let same = same_Some i j is in
-    let here : is_start_of w (link_of w rule j (starts w j)) (Some i) ≡ true =
-    and_from (is_start (place_of (rule_of rule))) ((wish w i).address == (wish w j).address) ends (eq-eqb _ _ (ap (λ x. (wish w x).address) same)) in
+    let here : is_t1_of w (link_of w rule j (starts w j)) (Some i) ≡ true =
+    and_from (is_t1 (moment_of (of_number rule))) ((wish w i).address == (wish w j).address) ends (eq-eqb _ _ (ap (λ x. (wish w x).address) same)) in
     rw here (ap (λ x. Some (bits_of_starts w x + d i)) (sym same))
 
 mapped_from : (f : ℕ → ℕ) (o : Option ℕ) (a : ℕ) → option_map f o ≡ Some a → (j : ℕ) × (o ≡ Some j)
@@ -181,8 +181,8 @@ module _ (w : WishesView) (valid : IsValid w) (at : ℕ) (within : at < length w
   from_among (Some i) j is from = let P : ℕ → Type 0 = λ x. Among x (first_sent w.order at) in subst P (same_Some i j is) from
 
   -- by way of an earlier AT, which the inequality names
-  by_earlier : (rule asked : ℕ) (o : Option ℕ) (d : ℕ → ℕ) → IsFrom o (first_sent w.order at) → is_start (place_of (rule_of rule)) ≡ true →
-      ((l : Link) → asked_after w (rule_of rule) (Some l) (slice_index w.order at ∷ first_sent w.order at) ≡ given_if (is_start_of w l o) (option_map (λ i. l.at + d i) o)) →
+  by_earlier : (rule asked : ℕ) (o : Option ℕ) (d : ℕ → ℕ) → IsFrom o (first_sent w.order at) → is_t1 (moment_of (of_number rule)) ≡ true →
+      ((l : Link) → asked_after w (of_number rule) (Some l) (slice_index w.order at ∷ first_sent w.order at) ≡ given_if (is_t1_of w l o) (option_map (λ i. l.at + d i) o)) →
       option_map (λ i. bits_of_starts w i + d i) o ≡ Some asked → round_up w.rate asked ≡ starts w (slice_index w.order at) →
       Reaches w (back_of (trail w (starts w) (first_sent w.order at)) o ++ link_of w rule (slice_index w.order at) (starts w (slice_index w.order at)) ∷ []) (slice_index w.order at)
   by_earlier rule asked o d from ends after is tight =

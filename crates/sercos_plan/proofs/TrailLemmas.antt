@@ -9,7 +9,7 @@ use Rattle.sercos_plan.specs.LeastTimes.{least_t2}
 use Rattle.sercos_plan.specs.Chains.{last_place}
 use Rattle.std.specs.Option.{option_or}
 use Rattle.sercos_timing.specs.Valid.{IsValid}
-use Rattle.sercos_plan.specs.ChainOf.{trail_t2, by_turn, is_tight, first_tight, is_tight_at, link_of, back_of, trail_at, trail, starts, bits_of_starts, trail_to, trail_to_some}
+use Rattle.sercos_plan.specs.ChainOf.{trail_t2, trail_by_master, is_tight, first_tight, is_tight_at, link_of, back_of, trail_at, trail, starts, bits_of_starts, trail_to, trail_to_some}
 use Rattle.sercos_plan.specs.declared.chain.Link.{Link}
 
 pub apart : (w : WishesView) → IsValid w → (i j : ℕ) → (i ≡ j → ⊥) → i < length w.order → j < length w.order → slice_index w.order i ≡ slice_index w.order j → ⊥
@@ -84,16 +84,16 @@ pub tight_at : (w : WishesView) (b : ℕ → ℕ) (t2 i n : ℕ) → first_tight
 tight_at w b t2 i n none tight below = tight_stays w b t2 (suc i) n (slice_index w.order i) (rw (none, tight) refl) (omega arith)
 
 -- the links to T2
-pub turn_last : (w : WishesView) (t2 : ℕ) → t2 ≡ least_t2 w → is_tight w (asked_5 w (bits_of_starts w) (sent w)) t2 ≡ true →
+pub t2_last : (w : WishesView) (t2 : ℕ) → t2 ≡ least_t2 w → is_tight w (asked_5 w (bits_of_starts w) (sent w)) t2 ≡ true →
     trail w (starts w) (sent w) (last_place w) ++ link_of w 5 (last_place w) t2 ∷ [] ≡ trail_t2 w
 unfolding trail_t2
-turn_last w t2 same tight =
+t2_last w t2 same tight =
     let here : is_tight w (asked_5 w (bits_of_starts w) (sent w)) (least_t2 w) ≡ true = rw (← same) tight in
     ap (λ t. trail w (starts w) (sent w) (last_place w) ++ link_of w 5 (last_place w) t ∷ []) same ∙ sym (cond-true _ _ _ here)
 
-pub turn_master : (w : WishesView) (t2 : ℕ) (o : Option ℕ) (links : List Link) → t2 ≡ least_t2 w → is_tight w (asked_5 w (bits_of_starts w) (sent w)) t2 ≡ false →
-    o ≡ first_tight w (bits_of_starts w) t2 (sent w) → links ≡ by_turn w o → links ≡ trail_t2 w
+pub t2_master : (w : WishesView) (t2 : ℕ) (o : Option ℕ) (links : List Link) → t2 ≡ least_t2 w → is_tight w (asked_5 w (bits_of_starts w) (sent w)) t2 ≡ false →
+    o ≡ first_tight w (bits_of_starts w) t2 (sent w) → links ≡ trail_by_master w o → links ≡ trail_t2 w
 unfolding trail_t2
-turn_master w t2 o links same loose is built =
+t2_master w t2 o links same loose is built =
     let here : is_tight w (asked_5 w (bits_of_starts w) (sent w)) (least_t2 w) ≡ false = rw (← same) loose in
-    built ∙ ap (by_turn w) (is ∙ ap (λ t. first_tight w (bits_of_starts w) t (sent w)) same) ∙ sym (cond-false _ _ _ here)
+    built ∙ ap (trail_by_master w) (is ∙ ap (λ t. first_tight w (bits_of_starts w) t (sent w)) same) ∙ sym (cond-false _ _ _ here)

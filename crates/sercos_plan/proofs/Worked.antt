@@ -52,9 +52,9 @@ chain links rule drive sum bound = record { links = links; rule = rule; drive = 
 abbrev two_links : List Link
 two_links = link 1 1 40 ∷ link 3 2 184 ∷ link 6 2 332 ∷ []
 
-late_turn : planned (two_drives 250 105) ≡ Err (chain two_links 9 1 950 946)
+late_mst : planned (two_drives 250 105) ≡ Err (chain two_links 9 1 950 946)
 unfolding chain_of trail_t2 trail_t3 trail trail_at least_plan least_t2 least_t3
-late_turn = refl
+late_mst = refl
 
 short_cycle : planned (two_drives 125 10) ≡ Err (chain two_links 9 1 570 446)
 unfolding chain_of trail_t2 trail_t3 trail trail_at least_plan least_t2 least_t3

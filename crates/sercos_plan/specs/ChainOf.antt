@@ -3,7 +3,8 @@ use Rattle.std.specs.Prelude.{◌≡◌, ◌≤◌, ℕ, suc, ◌*◌, max, Bool
 use Rattle.std.specs.Option.{option_or}
 use Rattle.sercos_timing.specs.Views.{WishesView, PlanView}
 use Rattle.sercos_timing.specs.Order.{wish, sent, first_sent, neighbor, previous}
-use Rattle.sercos_timing.specs.Inequalities.{asked_1, asked_2, asked_3, asked_5, asked_6, sum_9, bound_9, greatest_tmtsy}
+use Rattle.sercos_timing.specs.declared.inequality.Inequality.TheVariants.{Own, Gap, Neighbor, Slave, Last, Master, Records, Cycle, NextMst, Capture}
+use Rattle.sercos_timing.specs.Inequalities.{number_of, asked_1, asked_2, asked_3, asked_5, asked_6, sum_9, bound_9, greatest_tmtsy}
 use Rattle.sercos_timing.specs.declared.wishes.Wish.{Wish}
 use Rattle.sercos_plan.specs.LeastTimes.{round_up, least_t1, least_t2, least_t3, greatest_t4min, is_roomy, least_plan}
 use Rattle.sercos_plan.specs.Views.{ChainView}
@@ -25,15 +26,15 @@ abbrev pub back_of : (ℕ → List Link) → Option ℕ → List Link
 back_of back None = []
 back_of back (Some j) = back j
 
--- The links to T1 of the drive k, where each drive j has the T1 `t j`: the tight inequality of least number, behind the
--- links to its earlier place. One of 1 to 4 is tight at the least times
+-- The links to T1 of the drive k, where each drive j has the T1 `t j`: the tight inequality of least number, after the
+-- links to the earlier time in it. One of 1 to 4 is tight at the least times
 unfoldable pub trail_at : WishesView → (ℕ → ℕ) → ℕ → List ℕ → (ℕ → List Link) → List Link
 trail_at w t k before back =
     let b : ℕ → ℕ = λ j. w.rate * t j in
-    if is_tight w (asked_1 w b k before) (t k) then link_of w 1 k (t k) ∷ []
-    else (if is_tight w (asked_2 w b k before) (t k) then link_of w 2 k (t k) ∷ []
-    else (if is_tight w (asked_3 w b k before) (t k) then back_of back (neighbor w k before) ++ link_of w 3 k (t k) ∷ []
-    else back_of back (previous w k before) ++ link_of w 4 k (t k) ∷ []))
+    if is_tight w (asked_1 w b k before) (t k) then link_of w (number_of Own) k (t k) ∷ []
+    else (if is_tight w (asked_2 w b k before) (t k) then link_of w (number_of Gap) k (t k) ∷ []
+    else (if is_tight w (asked_3 w b k before) (t k) then back_of back (neighbor w k before) ++ link_of w (number_of Neighbor) k (t k) ∷ []
+    else back_of back (previous w k before) ++ link_of w (number_of Slave) k (t k) ∷ []))
 
 unfoldable pub trail : WishesView → (ℕ → ℕ) → List ℕ → ℕ → List Link
 trail w t [] j = []
@@ -50,16 +51,16 @@ starts w = least_t1 w (sent w)
 abbrev pub bits_of_starts : WishesView → ℕ → ℕ
 bits_of_starts w j = w.rate * starts w j
 
-abbrev pub by_turn : WishesView → Option ℕ → List Link
-by_turn w None = []
-by_turn w (Some k) = trail w (starts w) (sent w) k ++ link_of w 6 k (least_t2 w) ∷ []
+abbrev pub trail_by_master : WishesView → Option ℕ → List Link
+trail_by_master w None = []
+trail_by_master w (Some k) = trail w (starts w) (sent w) k ++ link_of w (number_of Master) k (least_t2 w) ∷ []
 
 -- the links to T2, and to T3
 unfoldable pub trail_t2 : WishesView → List Link
 trail_t2 w =
     if is_tight w (asked_5 w (bits_of_starts w) (sent w)) (least_t2 w)
-    then trail w (starts w) (sent w) (last_place w) ++ link_of w 5 (last_place w) (least_t2 w) ∷ []
-    else by_turn w (first_tight w (bits_of_starts w) (least_t2 w) (sent w))
+    then trail w (starts w) (sent w) (last_place w) ++ link_of w (number_of Last) (last_place w) (least_t2 w) ∷ []
+    else trail_by_master w (first_tight w (bits_of_starts w) (least_t2 w) (sent w))
 
 -- the address of the first drive of the ring with the greatest time
 abbrev pub greatest_of : (Wish → ℕ) → List Wish → ℕ
@@ -77,13 +78,13 @@ abbrev pub records_drive : WishesView → ℕ
 records_drive w = first_greatest (λ d. d.times.tmtsg) w.drives
 
 unfoldable pub trail_t3 : WishesView → List Link
-trail_t3 w = trail_t2 w ++ (record { rule = 7; drive = records_drive w; at = w.rate * least_t3 w }) ∷ []
+trail_t3 w = trail_t2 w ++ (record { rule = number_of Records; drive = records_drive w; at = w.rate * least_t3 w }) ∷ []
 
 -- the chains to each bound
-abbrev pub turn_chain : WishesView → ChainView
-turn_chain w = record {
+abbrev pub mst_chain : WishesView → ChainView
+mst_chain w = record {
   links = trail_t2 w;
-  rule = 9;
+  rule = number_of NextMst;
   drive = if nat_le (greatest_tmtsy w) w.gap then 0 else first_greatest (λ d. d.times.tmtsy) w.drives;
   sum = sum_9 w (w.rate * least_t2 w) (greatest_tmtsy w);
   bound = bound_9 w;
@@ -91,12 +92,12 @@ turn_chain w = record {
 
 abbrev pub cycle_chain : WishesView → ChainView
 cycle_chain w =
-    record { links = trail_t3 w; rule = 8; drive = records_drive w; sum = w.rate * least_t3 w; bound = w.rate * w.cycle }
+    record { links = trail_t3 w; rule = number_of Cycle; drive = records_drive w; sum = w.rate * least_t3 w; bound = w.rate * w.cycle }
 
 abbrev pub capture_chain : WishesView → ChainView
 capture_chain w = record {
   links = [];
-  rule = 10;
+  rule = number_of Capture;
   drive = first_greatest (λ d. d.times.t4min) w.drives;
   sum = w.rate * greatest_t4min w;
   bound = w.rate * w.cycle;
@@ -107,7 +108,7 @@ unfoldable pub chain_of : WishesView → ChainView
 chain_of w =
     if nat_le (sum_9 w (w.rate * least_t2 w) (greatest_tmtsy w)) (bound_9 w)
     then (if nat_le (least_t3 w) w.cycle then capture_chain w else cycle_chain w)
-    else turn_chain w
+    else mst_chain w
 
 -- the answer to wishes
 abbrev pub planned : WishesView → Result PlanView ChainView

@@ -1,19 +1,18 @@
 // Chains that prove that no plan fits.
 ghost use Rattle.std.specs.Prelude.{◌≡◌, ◌≤◌, length};
-ghost use Rattle.sercos_plan.specs.Chains.{rule_of};
 
 use arrayvec::ArrayVec;
 use std::marker::Model;
 
-/// One step of a chain: an inequality, and the bit time that it gives its place.
+/// One step of a chain: an inequality, and the bit time that it gives a time of the plan.
 #[derive(Clone, Copy, Debug, Default, PartialEq, Eq)]
 pub struct Link {
     /// The number of the inequality, 1 to 7.
     pub rule: u8,
     /// The address of its drive.
     pub drive: u8,
-    /// The bit time, after the MST's end, that its place has at least, rounded up to a whole microsecond. The place is T1 of
-    /// the drive in 1 to 4, T2 in 5 and 6, and T3 in 7.
+    /// The bit time, after the MST's end, that a time of the plan has at least, rounded up to a whole microsecond: T1 of the
+    /// drive in 1 to 4, T2 in 5 and 6, and T3 in 7.
     pub at: u32,
 }
 
@@ -21,7 +20,7 @@ pub struct Link {
 /// its fields, the links as a list.
 #[derive(Clone, Debug, PartialEq, Eq, Drop)]
 pub struct Chain {
-    /// The links, each with the place of the one before as its earlier place.
+    /// The links, each of which follows from the one before.
     pub links: ArrayVec<Link, 66>,
     /// The number of the inequality that is broken: 8, 9 or 10.
     pub rule: u8,
@@ -90,50 +89,5 @@ impl Chain {
         ensures { result ≡ self.now.bound }
     {
         self.bound
-    }
-}
-
-// The inequalities that stand in a chain.
-#[derive(Clone, Copy, Debug, PartialEq, Eq)]
-pub enum Rule {
-    // 1: T1 is at least T1min
-    Own,
-    // 2: the first AT begins at least the gap after the MST
-    Gap,
-    // 3: an AT begins at least the gap after the end of the one before it, where another slave sends that
-    Neighbor,
-    // 4: and at least TATAT after the end of the previous one of its slave
-    Slave,
-    // 5: the MDT begins at least the gap after the end of the last AT
-    Last,
-    // 6: and at least TATMT after the end of each
-    Master,
-    // 7: T3 is at least TMTSG after the end of the MDT
-    Records,
-    // 8: T3 lies within the cycle
-    Cycle,
-    // 9: after the MDT there is room for the gap and TMTSY before the next MST
-    Turn,
-    // 10: T4min lies within the cycle
-    Capture,
-    // another number
-    Unknown,
-}
-
-pub fn rule_of(number: u8) -> Rule
-    ensures { result ≡ rule_of number }
-{
-    match number {
-        1 => Rule::Own,
-        2 => Rule::Gap,
-        3 => Rule::Neighbor,
-        4 => Rule::Slave,
-        5 => Rule::Last,
-        6 => Rule::Master,
-        7 => Rule::Records,
-        8 => Rule::Cycle,
-        9 => Rule::Turn,
-        10 => Rule::Capture,
-        _ => Rule::Unknown,
     }
 }

@@ -1,16 +1,16 @@
 // The chain of the least times.
 ghost use Rattle.std.specs.Prelude.{◌≡◌, ℕ, ◌+◌, ◌*◌, ◌^◌, ◌<◌, ◌≤◌, [], ◌∷◌, ◌++◌, length, slice_index, IfSome};
 ghost use Rattle.sercos_timing.specs.Order.{first_sent, sent, place_at, at_bits};
-ghost use Rattle.sercos_timing.specs.Inequalities.{asked_of_start, asked_5, asked_6};
+ghost use Rattle.sercos_timing.specs.Inequalities.{number_of, asked_of_start, asked_5, asked_6};
 ghost use Rattle.sercos_timing.specs.Valid.{IsValid};
 ghost use Rattle.sercos_plan.specs.LeastTimes.{least_t2, least_t3};
-ghost use Rattle.sercos_plan.specs.ChainOf.{is_tight, link_of, starts, bits_of_starts, is_tight_at, AreStarts, trail, trail_to, trail_to_some, time_of, greatest_of, first_with, first_greatest, first_tight, trail_t2, trail_t3, chain_of, turn_chain, cycle_chain, capture_chain};
+ghost use Rattle.sercos_plan.specs.ChainOf.{is_tight, link_of, starts, bits_of_starts, is_tight_at, AreStarts, trail, trail_to, trail_to_some, time_of, greatest_of, first_with, first_greatest, first_tight, trail_t2, trail_t3, chain_of, mst_chain, cycle_chain, capture_chain};
 
 use crate::chain::{Chain, Link};
 use crate::least::{greatest_t4min, round_up};
-use crate::planning::is_turn_roomy;
+use crate::planning::is_mst_roomy;
 use arrayvec::ArrayVec;
-use sercos_timing::{StartRule, Wish, Wishes, asked_of_start, bits_after};
+use sercos_timing::{Inequality, Wish, Wishes, asked_of_start, bits_after};
 
 // So many microseconds in bit times, as a number of 32 bits.
 fn bits(w: &Wishes, micros: u32) -> u32
@@ -35,7 +35,7 @@ fn is_tight(w: &Wishes, asked: Option<u64>, t: u32) -> bool
 }
 
 // Whether an inequality gives the T1 of the AT at a place of the order.
-fn is_start_tight(w: &Wishes, t1: &[u32], rule: StartRule, at: usize) -> bool
+fn is_start_tight(w: &Wishes, t1: &[u32], rule: Inequality, at: usize) -> bool
     requires valid { IsValid w.now }
     requires starts { AreStarts w.now t1.now }
     requires within { at < length w.now.order }
@@ -49,16 +49,16 @@ fn is_start_tight(w: &Wishes, t1: &[u32], rule: StartRule, at: usize) -> bool
 }
 
 // The link to the T1 of the AT at a place of the order.
-fn start_link(w: &Wishes, t1: &[u32], rule: u8, at: usize) -> Link
+fn start_link(w: &Wishes, t1: &[u32], rule: Inequality, at: usize) -> Link
     requires valid { IsValid w.now }
     requires starts { AreStarts w.now t1.now }
     requires within { at < length w.now.order }
     ensures { result
-        ≡ link_of w.now rule (slice_index w.now.order at) (starts w.now (slice_index w.now.order at)) }
+        ≡ link_of w.now (number_of rule) (slice_index w.now.order at) (starts w.now (slice_index w.now.order at)) }
 {
     let place = usize::from(w.order()[at]);
     Link {
-        rule,
+        rule: rule.number(),
         drive: w.wish(place).address,
         at: bits(w, t1[place]),
     }
@@ -72,19 +72,22 @@ fn step(w: &Wishes, t1: &[u32], at: usize) -> (Option<usize>, Link)
     ensures value { trail_to w.now at ≡ trail_to_some w.now result.0 ++ result.1 ∷ [] }
     ensures before { IfSome result.0 (λ earlier. earlier < at) }
 {
-    let own = is_start_tight(w, t1, StartRule::Own, at);
-    let gap = is_start_tight(w, t1, StartRule::Gap, at);
-    let neighbor = is_start_tight(w, t1, StartRule::Neighbor, at);
+    let own = is_start_tight(w, t1, Inequality::Own, at);
+    let gap = is_start_tight(w, t1, Inequality::Gap, at);
+    let neighbor = is_start_tight(w, t1, Inequality::Neighbor, at);
     if own {
-        return (None, start_link(w, t1, 1, at));
+        return (None, start_link(w, t1, Inequality::Own, at));
     }
     if gap {
-        return (None, start_link(w, t1, 2, at));
+        return (None, start_link(w, t1, Inequality::Gap, at));
     }
     if neighbor {
-        return (w.neighbor_at(at), start_link(w, t1, 3, at));
+        return (
+            w.neighbor_at(at),
+            start_link(w, t1, Inequality::Neighbor, at),
+        );
     }
-    (w.previous_at(at), start_link(w, t1, 4, at))
+    (w.previous_at(at), start_link(w, t1, Inequality::Slave, at))
 }
 
 // Appends the links to the T1 of the AT at a place of the order.
@@ -201,39 +204,39 @@ fn first_tight(w: &Wishes, t1: &[u32], t2: u32) -> Option<usize>
 }
 
 // The link to T2 of the drive at a place of the order.
-fn turn_link(w: &Wishes, rule: u8, at: usize, t2: u32) -> Link
+fn t2_link(w: &Wishes, rule: Inequality, at: usize, t2: u32) -> Link
     requires valid { IsValid w.now }
     requires within { at < length w.now.order }
     requires t2 { t2 ≤ 10_000_000 }
-    ensures { result ≡ link_of w.now rule (slice_index w.now.order at) t2 }
+    ensures { result ≡ link_of w.now (number_of rule) (slice_index w.now.order at) t2 }
 {
     Link {
-        rule,
+        rule: rule.number(),
         drive: w.wish(usize::from(w.order()[at])).address,
         at: bits(w, t2),
     }
 }
 
 // The links to T2 by way of the T1 of the AT at a place of the order.
-fn links_through(w: &Wishes, t1: &[u32], at: usize, rule: u8, t2: u32) -> ArrayVec<Link, 66>
+fn links_through(w: &Wishes, t1: &[u32], at: usize, rule: Inequality, t2: u32) -> ArrayVec<Link, 66>
     requires valid { IsValid w.now }
     requires starts { AreStarts w.now t1.now }
     requires within { at < length w.now.order }
     requires t2 { t2 ≤ 10_000_000 }
     ensures links { result.items
         ≡ trail w.now (starts w.now) (sent w.now) (slice_index w.now.order at)
-        ++ link_of w.now rule (slice_index w.now.order at) t2 ∷ [] }
+        ++ link_of w.now (number_of rule) (slice_index w.now.order at) t2 ∷ [] }
     ensures room { length result.items ≤ 65 }
 {
     let mut links = ArrayVec::new();
     push_trail(w, t1, at, &mut links);
-    let link = turn_link(w, rule, at, t2);
+    let link = t2_link(w, rule, at, t2);
     links.push(link);
     links
 }
 
 // The links to T2.
-fn turn_links(w: &Wishes, t1: &[u32], t2: u32) -> ArrayVec<Link, 66>
+fn t2_links(w: &Wishes, t1: &[u32], t2: u32) -> ArrayVec<Link, 66>
     requires valid { IsValid w.now }
     requires starts { AreStarts w.now t1.now }
     requires t2 { t2 ≡ least_t2 w.now }
@@ -242,10 +245,10 @@ fn turn_links(w: &Wishes, t1: &[u32], t2: u32) -> ArrayVec<Link, 66>
     ensures room { length result.items ≤ 65 }
 {
     if is_last_tight(w, t1, t2) {
-        links_through(w, t1, w.order().len() - 1, 5, t2)
+        links_through(w, t1, w.order().len() - 1, Inequality::Last, t2)
     } else {
         match first_tight(w, t1, t2) {
-            Some(at) => links_through(w, t1, at, 6, t2),
+            Some(at) => links_through(w, t1, at, Inequality::Master, t2),
             None => ArrayVec::new(),
         }
     }
@@ -253,7 +256,7 @@ fn turn_links(w: &Wishes, t1: &[u32], t2: u32) -> ArrayVec<Link, 66>
 
 // The links to T3.
 #[tactic(auto, unfolding(crate::specs::ChainOf::trail_t3))]
-fn third_links(w: &Wishes, t1: &[u32], t2: u32, t3: u32) -> ArrayVec<Link, 66>
+fn t3_links(w: &Wishes, t1: &[u32], t2: u32, t3: u32) -> ArrayVec<Link, 66>
     requires valid { IsValid w.now }
     requires starts { AreStarts w.now t1.now }
     requires t2 { t2 ≡ least_t2 w.now }
@@ -262,9 +265,9 @@ fn third_links(w: &Wishes, t1: &[u32], t2: u32, t3: u32) -> ArrayVec<Link, 66>
     requires end { t3 ≤ 10_000_000 }
     ensures { result.items ≡ trail_t3 w.now }
 {
-    let mut links = turn_links(w, t1, t2);
+    let mut links = t2_links(w, t1, t2);
     let link = Link {
-        rule: 7,
+        rule: Inequality::Records.number(),
         drive: first_greatest(Time::Tmtsg, w.drives()),
         at: bits(w, t3),
     };
@@ -273,12 +276,12 @@ fn third_links(w: &Wishes, t1: &[u32], t2: u32, t3: u32) -> ArrayVec<Link, 66>
 }
 
 // The chain to the bound of 9.
-fn turn_chain(w: &Wishes, links: ArrayVec<Link, 66>, t2: u32) -> Chain
+fn mst_chain(w: &Wishes, links: ArrayVec<Link, 66>, t2: u32) -> Chain
     requires valid { IsValid w.now }
     requires t2 { t2 ≡ least_t2 w.now }
     requires limit { t2 ≤ 10_000_000 }
     requires links { links.items ≡ trail_t2 w.now }
-    ensures { result ≡ turn_chain w.now }
+    ensures { result ≡ mst_chain w.now }
 {
     let tmtsy = w.greatest_tmtsy();
     let most = w.gap().max(tmtsy);
@@ -289,7 +292,7 @@ fn turn_chain(w: &Wishes, links: ArrayVec<Link, 66>, t2: u32) -> Chain
     };
     Chain {
         links,
-        rule: 9,
+        rule: Inequality::NextMst.number(),
         drive,
         sum: bits(w, t2) + (w.mdt_bits() as u32 + bits(w, most)),
         bound: w.recovered_by() as u32,
@@ -306,7 +309,7 @@ fn cycle_chain(w: &Wishes, links: ArrayVec<Link, 66>, t3: u32) -> Chain
 {
     Chain {
         links,
-        rule: 8,
+        rule: Inequality::Cycle.number(),
         drive: first_greatest(Time::Tmtsg, w.drives()),
         sum: bits(w, t3),
         bound: bits(w, w.cycle()),
@@ -320,7 +323,7 @@ fn capture_chain(w: &Wishes) -> Chain
 {
     Chain {
         links: ArrayVec::new(),
-        rule: 10,
+        rule: Inequality::Capture.number(),
         drive: first_greatest(Time::T4min, w.drives()),
         sum: bits(w, greatest_t4min(w)),
         bound: bits(w, w.cycle()),
@@ -338,10 +341,10 @@ pub fn chain_of(w: &Wishes, t1: &[u32], t2: u32, t3: u32) -> Chain
     requires end { t3 ≤ 10_000_000 }
     ensures { result ≡ chain_of w.now }
 {
-    if !is_turn_roomy(w, t2) {
-        turn_chain(w, turn_links(w, t1, t2), t2)
+    if !is_mst_roomy(w, t2) {
+        mst_chain(w, t2_links(w, t1, t2), t2)
     } else if t3 > w.cycle() {
-        cycle_chain(w, third_links(w, t1, t2, t3), t3)
+        cycle_chain(w, t3_links(w, t1, t2, t3), t3)
     } else {
         capture_chain(w)
     }

@@ -1,14 +1,14 @@
 // Whether a chain proves that no plan fits, from the wishes and the chain alone.
 ghost use Rattle.std.specs.Prelude.{◌≡◌, ℕ, ◌+◌, ◌*◌, ◌^◌, ◌<◌, ◌≤◌, ◌↔◌, length, slice_index, IsTrue, IfSome, Some, None, option_map, ◌&&◌, ◌==◌};
 ghost use Rattle.sercos_timing.specs.Order.{at_bits, first_sent, sent, place_at};
-ghost use Rattle.sercos_timing.specs.Inequalities.{asked_5, asked_7};
+ghost use Rattle.sercos_timing.specs.Inequalities.{of_number, asked_5, asked_7};
 ghost use Rattle.sercos_timing.specs.Valid.{IsValid};
 ghost use Rattle.sercos_plan.specs.Least.{NoneFits};
-ghost use Rattle.sercos_plan.specs.Chains.{rule_of, place_of, is_start, is_turn, is_third, up_to, last_place, is_start_of, given_if, asked_after, last_link, pause_of, ends, IsChain, gives, are_linked, ats_at};
-ghost use Rattle.sercos_plan.specs.declared.chain.Rule.TheVariants.{Cycle, Turn, Capture};
+ghost use Rattle.sercos_plan.specs.Chains.{moment_of, is_t1, is_t2, is_t3, up_to, last_place, is_t1_of, given_if, asked_after, last_link, pause_of, ends, IsChain, gives, are_linked, ats_at};
+ghost use Rattle.sercos_timing.specs.declared.inequality.Inequality.TheVariants.{Cycle, NextMst, Capture};
 
-use crate::chain::{Chain, Link, Rule, rule_of};
-use sercos_timing::Wishes;
+use crate::chain::{Chain, Link};
+use sercos_timing::{Inequality, Wishes};
 
 // The place in the order of the AT of the drive with this address.
 fn find(w: &Wishes, address: u8) -> Option<usize>
@@ -27,27 +27,30 @@ fn find(w: &Wishes, address: u8) -> Option<usize>
 }
 
 // Whether a link with this number says something of T1 of its drive.
-fn is_start(number: u8) -> bool
-    ensures { result ≡ is_start (place_of (rule_of number)) }
+fn is_t1(number: u8) -> bool
+    ensures { result ≡ is_t1 (moment_of (of_number number)) }
 {
     matches!(
-        rule_of(number),
-        Rule::Own | Rule::Gap | Rule::Neighbor | Rule::Slave
+        Inequality::of_number(number),
+        Some(Inequality::Own | Inequality::Gap | Inequality::Neighbor | Inequality::Slave)
     )
 }
 
 // Whether it says something of T2.
-fn is_turn(number: u8) -> bool
-    ensures { result ≡ is_turn (place_of (rule_of number)) }
+fn is_t2(number: u8) -> bool
+    ensures { result ≡ is_t2 (moment_of (of_number number)) }
 {
-    matches!(rule_of(number), Rule::Last | Rule::Master)
+    matches!(
+        Inequality::of_number(number),
+        Some(Inequality::Last | Inequality::Master)
+    )
 }
 
 // Whether it says something of T3.
-fn is_third(number: u8) -> bool
-    ensures { result ≡ is_third (place_of (rule_of number)) }
+fn is_t3(number: u8) -> bool
+    ensures { result ≡ is_t3 (moment_of (of_number number)) }
 {
-    matches!(rule_of(number), Rule::Records)
+    matches!(Inequality::of_number(number), Some(Inequality::Records))
 }
 
 // The drive at a place of the order.
@@ -64,13 +67,13 @@ fn place(w: &Wishes, at: Option<usize>) -> Option<usize>
 }
 
 // Whether the link says something of T1 of the drive at this place of the ring.
-fn is_start_of(w: &Wishes, link: Link, place: Option<usize>) -> bool
+fn is_t1_of(w: &Wishes, link: Link, place: Option<usize>) -> bool
     requires valid { IsValid w.now }
     requires within { IfSome place (λ j. j < length w.now.drives) }
-    ensures { result ≡ is_start_of w.now link place }
+    ensures { result ≡ is_t1_of w.now link place }
 {
     match place {
-        Some(j) => is_start(link.rule) && w.wish(j).address == link.drive,
+        Some(j) => is_t1(link.rule) && w.wish(j).address == link.drive,
         None => false,
     }
 }
@@ -81,12 +84,12 @@ fn after_start(w: &Wishes, link: Link, place: Option<usize>, micros: u32) -> Opt
     requires within { IfSome place (λ j. j < length w.now.drives) }
     requires micros { micros < 65536 }
     ensures value { result
-        ≡ given_if (is_start_of w.now link place) (option_map (λ j. link.at + (at_bits w.now j + w.now.rate * micros)) place) }
+        ≡ given_if (is_t1_of w.now link place) (option_map (λ j. link.at + (at_bits w.now j + w.now.rate * micros)) place) }
     ensures limit { IfSome result (λ asked. asked < 2 ^ 42) }
 {
     match place {
         Some(j) => {
-            if is_start_of(w, link, Some(j)) {
+            if is_t1_of(w, link, Some(j)) {
                 Some(u64::from(link.at) + (w.at_bits(j) + w.bits(micros)))
             } else {
                 None
@@ -96,35 +99,35 @@ fn after_start(w: &Wishes, link: Link, place: Option<usize>, micros: u32) -> Opt
     }
 }
 
-// What 5 asks behind the link.
+// What 5 asks after the link.
 fn after_last(w: &Wishes, link: Link, at: usize) -> Option<u64>
     requires valid { IsValid w.now }
     requires within { at < length w.now.order }
     ensures value { let k = slice_index w.now.order at in
         result
-        ≡ given_if (is_start_of w.now link (Some k) && (k == last_place w.now)) (asked_5 w.now (λ _. link.at) (sent w.now)) }
+        ≡ given_if (is_t1_of w.now link (Some k) && (k == last_place w.now)) (asked_5 w.now (λ _. link.at) (sent w.now)) }
     ensures limit { IfSome result (λ asked. asked < 2 ^ 42) }
 {
     let order = w.order();
     let place = usize::from(order[at]);
     let last = usize::from(order[order.len() - 1]);
-    if is_start_of(w, link, Some(place)) && place == last {
+    if is_t1_of(w, link, Some(place)) && place == last {
         Some(u64::from(link.at) + (w.at_bits(last) + w.bits(w.gap())))
     } else {
         None
     }
 }
 
-// What 7 asks behind the link.
+// What 7 asks after the link.
 fn after_records(w: &Wishes, link: Link, at: usize) -> Option<u64>
     requires valid { IsValid w.now }
     requires within { at < length w.now.order }
     ensures value { result
-        ≡ given_if (is_turn (place_of (rule_of link.rule)))
+        ≡ given_if (is_t2 (moment_of (of_number link.rule)))
         (asked_7 w.now link.at (slice_index w.now.order at) (first_sent w.now.order at)) }
     ensures limit { IfSome result (λ asked. asked < 2 ^ 42) }
 {
-    if is_turn(link.rule) {
+    if is_t2(link.rule) {
         let tmtsg = u32::from(w.wish(usize::from(w.order()[at])).times.tmtsg);
         Some(u64::from(link.at) + (w.mdt_bits() + w.bits(tmtsg)))
     } else {
@@ -133,7 +136,7 @@ fn after_records(w: &Wishes, link: Link, at: usize) -> Option<u64>
 }
 
 // What the inequality of the first link asks.
-fn asked_first(w: &Wishes, rule: Rule, at: usize) -> Option<u64>
+fn asked_first(w: &Wishes, rule: Option<Inequality>, at: usize) -> Option<u64>
     requires valid { IsValid w.now }
     requires within { at < length w.now.order }
     ensures value { result ≡ asked_after w.now rule None (ats_at w.now.order (Some at)) }
@@ -141,14 +144,14 @@ fn asked_first(w: &Wishes, rule: Rule, at: usize) -> Option<u64>
 {
     let t1min = u32::from(w.wish(usize::from(w.order()[at])).times.t1min);
     match rule {
-        Rule::Own => Some(w.bits(t1min)),
-        Rule::Gap => { if at == 0 { Some(w.bits(w.gap())) } else { None } }
+        Some(Inequality::Own) => Some(w.bits(t1min)),
+        Some(Inequality::Gap) => { if at == 0 { Some(w.bits(w.gap())) } else { None } }
         _ => None,
     }
 }
 
-// What the inequality of a later link asks behind this one.
-fn asked_next(w: &Wishes, rule: Rule, link: Link, at: usize) -> Option<u64>
+// What the inequality of a later link asks after this one.
+fn asked_next(w: &Wishes, rule: Option<Inequality>, link: Link, at: usize) -> Option<u64>
     requires valid { IsValid w.now }
     requires within { at < length w.now.order }
     ensures value { result ≡ asked_after w.now rule (Some link) (ats_at w.now.order (Some at)) }
@@ -157,24 +160,29 @@ fn asked_next(w: &Wishes, rule: Rule, link: Link, at: usize) -> Option<u64>
     let own = usize::from(w.order()[at]);
     let times = w.wish(own).times;
     match rule {
-        Rule::Neighbor => after_start(w, link, place(w, w.neighbor_at(at)), w.gap()),
-        Rule::Slave => after_start(w, link, place(w, w.previous_at(at)), u32::from(times.tatat)),
-        Rule::Last => after_last(w, link, at),
-        Rule::Master => after_start(w, link, Some(own), u32::from(times.tatmt)),
-        Rule::Records => after_records(w, link, at),
+        Some(Inequality::Neighbor) => after_start(w, link, place(w, w.neighbor_at(at)), w.gap()),
+        Some(Inequality::Slave) => after_start(
+            w,
+            link,
+            place(w, w.previous_at(at)),
+            u32::from(times.tatat),
+        ),
+        Some(Inequality::Last) => after_last(w, link, at),
+        Some(Inequality::Master) => after_start(w, link, Some(own), u32::from(times.tatmt)),
+        Some(Inequality::Records) => after_records(w, link, at),
         _ => None,
     }
 }
 
 // Whether the bit time is what is asked, rounded up to a microsecond.
-fn gives(w: &Wishes, asked: Option<u64>, at: u32) -> bool
+fn gives(w: &Wishes, asked: Option<u64>, time: u32) -> bool
     requires valid { IsValid w.now }
     requires limit { IfSome asked (λ bits. bits < 2 ^ 42) }
-    ensures { result ≡ gives w.now asked at }
+    ensures { result ≡ gives w.now asked time }
 {
     let rate = w.bits(1);
     match asked {
-        Some(bits) => u64::from(at) == rate * ((bits + (rate - 1)) / rate),
+        Some(bits) => u64::from(time) == rate * ((bits + (rate - 1)) / rate),
         None => false,
     }
 }
@@ -183,9 +191,9 @@ fn gives(w: &Wishes, asked: Option<u64>, at: u32) -> bool
 fn follows(w: &Wishes, from: Option<Link>, link: Link) -> bool
     requires { IsValid w.now }
     ensures { result
-        ≡ gives w.now (asked_after w.now (rule_of link.rule) from (up_to w.now link.drive (sent w.now))) link.at }
+        ≡ gives w.now (asked_after w.now (of_number link.rule) from (up_to w.now link.drive (sent w.now))) link.at }
 {
-    let rule = rule_of(link.rule);
+    let rule = Inequality::of_number(link.rule);
     match find(w, link.drive) {
         Some(at) => match from {
             Some(before) => gives(w, asked_next(w, rule, before, at), link.at),
@@ -235,14 +243,14 @@ fn pause(w: &Wishes, drive: u8) -> Option<u32>
     }
 }
 
-// The sum and the bound of 9 behind this last link.
-fn end_turn(w: &Wishes, drive: u8, last: Option<Link>) -> Option<(u64, u64)>
+// The sum and the bound of 9 after this last link.
+fn end_mst(w: &Wishes, drive: u8, last: Option<Link>) -> Option<(u64, u64)>
     requires { IsValid w.now }
-    ensures { result ≡ ends w.now Turn drive last }
+    ensures { result ≡ ends w.now (Some NextMst) drive last }
 {
     match last {
         Some(link) => {
-            if is_turn(link.rule) {
+            if is_t2(link.rule) {
                 match pause(w, drive) {
                     Some(micros) => {
                         let most = w.gap().max(micros);
@@ -259,14 +267,14 @@ fn end_turn(w: &Wishes, drive: u8, last: Option<Link>) -> Option<(u64, u64)>
     }
 }
 
-// The sum and the bound of 8 behind this last link.
+// The sum and the bound of 8 after this last link.
 fn end_cycle(w: &Wishes, drive: u8, last: Option<Link>) -> Option<(u64, u64)>
     requires { IsValid w.now }
-    ensures { result ≡ ends w.now Cycle drive last }
+    ensures { result ≡ ends w.now (Some Cycle) drive last }
 {
     match last {
         Some(link) => {
-            if is_third(link.rule) && drive == link.drive {
+            if is_t3(link.rule) && drive == link.drive {
                 Some((u64::from(link.at), w.bits(w.cycle())))
             } else {
                 None
@@ -276,10 +284,10 @@ fn end_cycle(w: &Wishes, drive: u8, last: Option<Link>) -> Option<(u64, u64)>
     }
 }
 
-// The sum and the bound of 10, which stands behind no link.
+// The sum and the bound of 10, which follows no link.
 fn end_capture(w: &Wishes, drive: u8, last: Option<Link>) -> Option<(u64, u64)>
     requires { IsValid w.now }
-    ensures { result ≡ ends w.now Capture drive last }
+    ensures { result ≡ ends w.now (Some Capture) drive last }
 {
     match last {
         Some(_) => None,
@@ -293,15 +301,15 @@ fn end_capture(w: &Wishes, drive: u8, last: Option<Link>) -> Option<(u64, u64)>
     }
 }
 
-// The sum and the bound of an inequality behind this last link.
-fn end(w: &Wishes, rule: Rule, drive: u8, last: Option<Link>) -> Option<(u64, u64)>
+// The sum and the bound of an inequality after this last link.
+fn end(w: &Wishes, rule: Option<Inequality>, drive: u8, last: Option<Link>) -> Option<(u64, u64)>
     requires { IsValid w.now }
     ensures { result ≡ ends w.now rule drive last }
 {
     match rule {
-        Rule::Cycle => end_cycle(w, drive, last),
-        Rule::Turn => end_turn(w, drive, last),
-        Rule::Capture => end_capture(w, drive, last),
+        Some(Inequality::Cycle) => end_cycle(w, drive, last),
+        Some(Inequality::NextMst) => end_mst(w, drive, last),
+        Some(Inequality::Capture) => end_capture(w, drive, last),
         _ => None,
     }
 }
@@ -309,10 +317,10 @@ fn end(w: &Wishes, rule: Rule, drive: u8, last: Option<Link>) -> Option<(u64, u6
 fn is_ended(w: &Wishes, c: &Chain) -> bool
     requires { IsValid w.now }
     ensures { IsTrue result
-        ↔ (ends w.now (rule_of c.now.rule) c.now.drive (last_link None c.now.links) ≡ Some (c.now.sum, c.now.bound)) }
+        ↔ (ends w.now (of_number c.now.rule) c.now.drive (last_link None c.now.links) ≡ Some (c.now.sum, c.now.bound)) }
 {
     let last = last_link(c.links());
-    match end(w, rule_of(c.rule()), c.drive(), last) {
+    match end(w, Inequality::of_number(c.rule()), c.drive(), last) {
         Some((sum, bound)) => sum == u64::from(c.sum()) && bound == u64::from(c.bound()),
         None => false,
     }

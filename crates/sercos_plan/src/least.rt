@@ -1,12 +1,13 @@
 // The least times, in one pass through the order.
 ghost use Rattle.std.specs.Prelude.{◌≡◌, ℕ, ◌+◌, ◌*◌, ◌^◌, ◌<◌, ◌≤◌, length, slice_index, unwrap_or};
+ghost use Rattle.sercos_timing.specs.Limits.{most_drives};
 ghost use Rattle.sercos_timing.specs.Order.{first_sent, sent, times, mdt_bits, bits_of};
 ghost use Rattle.sercos_timing.specs.Inequalities.{asked_of_start, asked_5};
 ghost use Rattle.sercos_timing.specs.Valid.{IsValid};
 ghost use Rattle.sercos_plan.specs.LeastTimes.{round_up, needed, least_t1, least_t2, least_t3, greatest_t4min};
 
 use arrayvec::ArrayVec;
-use sercos_timing::{StartRule, Wishes, asked_of_start, bits_after};
+use sercos_timing::{Inequality, Wishes, asked_of_start, bits_after};
 
 // The least number of microseconds that has so many bit times.
 pub fn round_up(w: &Wishes, bits: u64) -> u64
@@ -19,8 +20,8 @@ pub fn round_up(w: &Wishes, bits: u64) -> u64
 }
 
 // What an inequality asks of the start of the AT at a place of the order, in bit times; 0 where it asks nothing. Each AT
-// takes at most 66,300 microseconds with what is asked behind it, and `t1` has the least T1 of the ATs before.
-fn start_bits(w: &Wishes, t1: &[u32], rule: StartRule, at: usize) -> u64
+// takes at most 66,300 microseconds with what is asked after it, and `t1` has the least T1 of the ATs before.
+fn start_bits(w: &Wishes, t1: &[u32], rule: Inequality, at: usize) -> u64
     requires valid { IsValid w.now }
     requires within { at < length w.now.order }
     requires count { length t1.now ≡ length w.now.drives }
@@ -45,10 +46,10 @@ fn start(w: &Wishes, t1: &[u32], at: usize) -> u32
         ≡ round_up w.now.rate (needed w.now (bits_of w.now t1.now) (slice_index w.now.order at) (first_sent w.now.order at)) }
     ensures limit { result ≤ 66_300 * at + 66_300 }
 {
-    let own = start_bits(w, t1, StartRule::Own, at);
-    let gap = start_bits(w, t1, StartRule::Gap, at);
-    let neighbor = start_bits(w, t1, StartRule::Neighbor, at);
-    let slave = start_bits(w, t1, StartRule::Slave, at);
+    let own = start_bits(w, t1, Inequality::Own, at);
+    let gap = start_bits(w, t1, Inequality::Gap, at);
+    let neighbor = start_bits(w, t1, Inequality::Neighbor, at);
+    let slave = start_bits(w, t1, Inequality::Slave, at);
     round_up(w, own.max(gap.max(neighbor.max(slave)))) as u32
 }
 
@@ -68,7 +69,7 @@ fn fill_starts(w: &Wishes, t1: &mut [u32])
 }
 
 fn blank(count: usize) -> ArrayVec<u32, 64>
-    requires { count ≤ 64 }
+    requires { count ≤ most_drives }
     ensures count { length result.items ≡ count }
     ensures blank { (j : ℕ) → slice_index result.items j ≡ 0 }
 {
@@ -104,7 +105,7 @@ pub fn last_bits(w: &Wishes, t1: &[u32]) -> u64
 }
 
 // The least T2, in microseconds, from the least T1 of each drive.
-pub fn turn(w: &Wishes, t1: &[u32]) -> u32
+pub fn least_t2(w: &Wishes, t1: &[u32]) -> u32
     requires valid { IsValid w.now }
     requires count { length t1.now ≡ length w.now.drives }
     requires value { (j : ℕ) → slice_index t1.now j ≡ least_t1 w.now (sent w.now) j }
@@ -134,7 +135,7 @@ fn record_bits(w: &Wishes, t2: u32, place: usize) -> u64
 }
 
 // The least T3, in microseconds, from the least T2.
-pub fn records(w: &Wishes, t2: u32) -> u32
+pub fn least_t3(w: &Wishes, t2: u32) -> u32
     requires valid { IsValid w.now }
     requires value { t2 ≡ least_t2 w.now }
     requires limit { t2 ≤ 66_300 * 65 }

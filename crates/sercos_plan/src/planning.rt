@@ -1,6 +1,7 @@
 // The least plan, or the chain that proves that none fits.
 ghost use Rattle.std.specs.Prelude.{◌≡◌, ℕ, ◌+◌, ◌*◌, ◌<◌, ◌≤◌, length, slice_index, true, IfOk, IfErr, OnErr, Ok, nat_le};
 ghost use Rattle.sercos_timing.specs.Views.{PlanView};
+ghost use Rattle.sercos_timing.specs.Limits.{most_drives, most_records};
 ghost use Rattle.sercos_timing.specs.Order.{sent, record_bytes};
 ghost use Rattle.sercos_timing.specs.Inequalities.{positions, sum_9, bound_9, greatest_tmtsy};
 ghost use Rattle.sercos_timing.specs.Valid.{IsValid};
@@ -11,14 +12,14 @@ ghost use Rattle.sercos_plan.specs.ChainOf.{chain_of, planned};
 
 use crate::chain::Chain;
 use crate::chaining::chain_of;
-use crate::least::{greatest_t4min, records, starts, turn};
+use crate::least::{greatest_t4min, least_t2, least_t3, starts};
 use arrayvec::ArrayVec;
 use sercos_timing::{Plan, Wish, Wishes};
 
 // The positions of the data records in the MDT.
 fn positions(drives: &[Wish]) -> ArrayVec<u16, 64>
-    requires count { length drives.now ≤ 64 }
-    requires sum { record_bytes drives.now ≤ 2047 }
+    requires count { length drives.now ≤ most_drives }
+    requires sum { record_bytes drives.now ≤ most_records }
     ensures { result.items ≡ positions 1 drives.now }
 {
     let mut places = ArrayVec::new();
@@ -32,7 +33,7 @@ fn positions(drives: &[Wish]) -> ArrayVec<u16, 64>
 
 // These numbers as they are, in 16 bits.
 fn narrowed(times: &[u32]) -> ArrayVec<u16, 64>
-    requires count { length times.now ≤ 64 }
+    requires count { length times.now ≤ most_drives }
     requires limit { (k : ℕ) → slice_index times.now k < 65536 }
     ensures { result.items ≡ times.now }
 {
@@ -44,7 +45,7 @@ fn narrowed(times: &[u32]) -> ArrayVec<u16, 64>
 }
 
 // Whether 9 holds at the least T2.
-pub fn is_turn_roomy(w: &Wishes, t2: u32) -> bool
+pub fn is_mst_roomy(w: &Wishes, t2: u32) -> bool
     requires valid { IsValid w.now }
     requires value { t2 ≡ least_t2 w.now }
     ensures { result ≡ nat_le (sum_9 w.now (w.now.rate * least_t2 w.now) (greatest_tmtsy w.now)) (bound_9 w.now) }
@@ -60,7 +61,7 @@ fn is_roomy(w: &Wishes, t2: u32, t3: u32) -> bool
     requires t3 { t3 ≡ least_t3 w.now }
     ensures { result ≡ is_roomy w.now }
 {
-    is_turn_roomy(w, t2) && t3 <= w.cycle() && greatest_t4min(w) <= w.cycle()
+    is_mst_roomy(w, t2) && t3 <= w.cycle() && greatest_t4min(w) <= w.cycle()
 }
 
 // The plan of the least times.
@@ -91,8 +92,8 @@ fn planned(w: &Wishes) -> Result<Plan, Chain>
 {
     let starts = starts(w);
     let t1 = starts.as_slice();
-    let t2 = turn(w, t1);
-    let t3 = records(w, t2);
+    let t2 = least_t2(w, t1);
+    let t3 = least_t3(w, t2);
     if is_roomy(w, t2, t3) {
         Ok(least_plan(w, t1, t2, t3))
     } else {

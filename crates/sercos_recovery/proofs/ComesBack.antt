@@ -44,6 +44,7 @@ use Rattle.sercos_undisturbed.proofs.PhaseTwo.{section_two}
 use Rattle.sercos_undisturbed.proofs.StopStays.{none_before, stop_after}
 use Rattle.sercos_recovery.specs.Stretches.{IsDown, IsStretch}
 use Rattle.sercos_recovery.proofs.DownSince.{shorter, up_all}
+use Rattle.sercos_recovery.proofs.EarlyStops.{no_less}
 use Rattle.sercos_recovery.proofs.EpochStops.{same_start}
 use Rattle.sercos_recovery.proofs.FallsSoon.{busy_slowest}
 use Rattle.sercos_recovery.proofs.LateDown.{not_true, phase_now}
@@ -59,10 +60,6 @@ unready_then m old new (o, is) unready = not_true (is_ready m old) (λ on. false
 stays_so : (done : Bool) (n : ℕ) → (if done then n + 1 else n) ≡ n → done ≡ false
 stays_so true n same = absurd (omega (arith, same))
 stays_so false n same = refl
-
-no_less : (done : Bool) (n : ℕ) → n ≤ (if done then n + 1 else n)
-no_less true n = omega arith
-no_less false n = omega arith
 
 module _ (laws : Laws) (more : MoreLaws) (turn : WorkInTurn) (early : BeginsNoneEarly) (works : WorksInTwo) (works_three : WorksInThree) (r : RingView) (jobs : List Job) (carry : Carry) (restarts : Restarts) (opened : IsOpened r jobs)
     (dead : (busy : ℕ) → StaysDead busy) (ages : (busy : ℕ) → AgesWhereDead busy) (counts : (busy : ℕ) → AgesBeforeEnd busy) (recovers : (busy : ℕ) → RecoversInCost busy) (since : (busy : ℕ) → RecoversSince busy) (timed : ComesTimed)

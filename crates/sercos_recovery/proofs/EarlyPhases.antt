@@ -19,6 +19,7 @@ use Rattle.sercos_held.specs.Opened.{IsOpened}
 use Rattle.sercos_held.proofs.Runs.{Laws}
 use Rattle.sercos_headline.proofs.HeadlineRuns.{MoreLaws, all_stand}
 use Rattle.sercos_undisturbed.specs.Undisturbed.{IsUndisturbed}
+use Rattle.sercos_undisturbed.proofs.Arrivals.{not_false}
 use Rattle.sercos_undisturbed.proofs.Comes.{calm_in}
 use Rattle.sercos_undisturbed.proofs.Identified.{heard_next, phase_comes}
 use Rattle.sercos_undisturbed.proofs.NoFalls.{heard_mdt, none_from}
@@ -30,7 +31,7 @@ use Rattle.sercos_recovery.proofs.EpochStops.{same_start}
 use Rattle.sercos_recovery.proofs.LateDown.{next_up, phase_after, phase_now, turns_now}
 use Rattle.sercos_recovery.proofs.Stretches.{newest_up}
 
--- THE FIRST PLACE that passes a test: none before it does; and if there is none, none does.
+-- THE FIRST PLACE that passes a test: none before it does; and if there is no such place, none does.
 fails_before : (k n m i : ℕ) (test : ℕ → Bool) → first_from k n test ≡ Some m → k ≤ i → i < m → i < k + n → test i ≡ false
 fails_before k zero m i test found low less high = absurd (omega (arith, low, high))
 fails_before k (suc n) m i test found low less high = by (test k) refl found (λ rest later. fails_before (k + 1) n m i test rest later less (omega (arith, high)))
@@ -48,10 +49,6 @@ none_fails k (suc n) i test none low high = by (test k) refl none (λ rest later
     by false off is next = elim (cases_eq k i) [ inl same ↦ sym (ap test same) ∙ off | inr other ↦ next is (omega (arith, low, other)) ]
 
 -- A DRIVE THAT WAS IDENTIFIED stays so.
-not_false : (b : Bool) → not b ≡ false → b ≡ true
-not_false true is = refl
-not_false false is = absurd (false≢true (sym is))
-
 either : (a b : Bool) → b ≡ true → (a || b) ≡ true
 either true b is = refl
 either false b is = is

@@ -55,7 +55,7 @@ mdt_none s p none early empty = ap (λ (o : Option Stop). (with_due_plan s (with
     due true is = absurd (false≢true (sym never ∙ is))
     due false is = none
 
-no_less : (done : Bool) (n : ℕ) → n ≤ (if done then n + 1 else n)
+pub no_less : (done : Bool) (n : ℕ) → n ≤ (if done then n + 1 else n)
 no_less true n = omega arith
 no_less false n = omega arith
 

@@ -19,7 +19,8 @@ use Rattle.sercos_views.specs.RingViews.{request_of}
 use Rattle.sercos_views.proofs.MasterSame.{begun_so, turn_mdt}
 use Rattle.sercos_undisturbed.proofs.AfterAt.{after_at_so}
 use Rattle.sercos_undisturbed.proofs.EpochCycles.{longer}
-use Rattle.sercos_undisturbed.proofs.InOrder.{before_first, not_false, same_count}
+use Rattle.sercos_undisturbed.proofs.Arrivals.{not_false}
+use Rattle.sercos_undisturbed.proofs.InOrder.{before_first, same_count}
 use Rattle.sercos_undisturbed.proofs.Small.{some_is}
 use Rattle.sercos_undisturbed.proofs.StaysUp.{place_so}
 

@@ -41,7 +41,7 @@ use Rattle.sercos_undisturbed.specs.Undisturbed.{IsUndisturbed}
 use Rattle.sercos_undisturbed.proofs.Comes.{calm_in}
 use Rattle.sercos_undisturbed.proofs.JobsBegun.{begun_end}
 use Rattle.sercos_undisturbed.proofs.NeverFalls.{busy_low}
-use Rattle.sercos_undisturbed.proofs.NoFalls.{none_from}
+use Rattle.sercos_undisturbed.proofs.NoFalls.{mst_kept, none_from}
 use Rattle.sercos_undisturbed.proofs.Small.{some_is}
 use Rattle.sercos_undisturbed.proofs.StaysUp.{whole_now}
 use Rattle.sercos_undisturbed.proofs.StopStays.{stop_after, stop_kept}
@@ -92,10 +92,6 @@ some_above f limit (suc n) = elim (cases_lt limit (f n)) [
 ]
 
 -- NO FALL, up to the second cycle of phase 3, if the MST came back whole and no step is at its limit.
-never : (a : Bool) → (a && false) ≡ false
-never true = refl
-never false = refl
-
 no_fall_yet : (s : Known) (p : Past) (before : Turn) (turns : List Turn) → p.turns ≡ before ∷ turns → before.phase ≤ 2 → p.now.whole ≡ true → 2 ≤ p.now.phase → ((k : ℕ) → k < length s.drives → cycles_open (p.calls k) ≤ 63) → fall_of s p ≡ None
 no_fall_yet s p before turns are low whole late short =
     ap (λ (b : Bool). option_or (if b then Some fall.MstLost else None) (option_or (fall_at fall.AtLost s (first_place s (λ k. has_lost_at k (p.now ∷ p.turns)))) (fall_at fall.StepLimit s (first_place s (is_at_limit p))))) mst
@@ -103,7 +99,7 @@ no_fall_yet s p before turns are low whole late short =
     ∙ ap (λ (o : Option ℕ). option_or None (option_or None (fall_at fall.StepLimit s o))) limit
   where
     mst : has_lost_mst (p.now ∷ p.turns) ≡ false
-    mst = ap (λ (l : List Turn). has_lost_mst (p.now ∷ l)) are ∙ rw whole (never (nat_le 1 before.phase))
+    mst = mst_kept p.now p.turns whole
 
     early : nat_le 3 before.phase ≡ false
     early = grind (arith, nat_tests, low)

@@ -118,7 +118,7 @@ fn in_bits(rate: u8, start: u16) -> i32
     i32::from(rate) * i32::from(start)
 }
 
-// Puts a telegram behind those that were sent; its frame has so many bits.
+// Appends a telegram to those that were sent; `bits` is the length of its frame.
 fn push_timed(
     list: &mut ArrayVec<Sent, 66>,
     count: &mut usize,
@@ -146,7 +146,7 @@ fn before(bits: u32) -> i32
     -(bits as i32)
 }
 
-/// Puts the MST behind those that were sent; its frame has so many bits.
+/// Appends the MST to those that were sent; `bits` is the length of its frame.
 pub(crate) fn push_mst(list: &mut ArrayVec<Sent, 66>, count: &mut usize, said: &Content, bits: u32)
     requires room { count.old < 66 }
     requires within { count.old ≤ length list.old.items }

@@ -19,7 +19,7 @@ reads_length d =
     let f : length (d.at ++ d.mdt) ≡ length d.at + length d.mdt = length_append d.at d.mdt in
     omega (arith, e, f)
 
--- all that comes behind the reads
+-- all that comes after the reads
 abbrev behind_reads : Known → Option PlanView → List Task → ℕ → List Outcome → List Task
 behind_reads s plan waiting k outcomes =
     unwrap_or (option_map (λ p.
@@ -35,7 +35,7 @@ next_read s plan waiting k outcomes i h =
     get_left (map (startup 2) (reads (member s k))) (behind_reads s plan waiting k outcomes) i (rw l h)
     ∙ get_map (startup 2) (reads (member s k)) i
 
--- behind them it is one of what comes behind
+-- after them it is one of those that come after
 pub next_behind : (s : Known) (plan : Option PlanView) (waiting : List Task) (k : ℕ) (outcomes : List Outcome) (i j : ℕ) → i ≡ reads_count (member s k) + j →
     slice_get (agenda s plan waiting k outcomes) i ≡ slice_get (behind_reads s plan waiting k outcomes) j
 next_behind s plan waiting k outcomes i j e =
@@ -69,7 +69,7 @@ none_waiting waiting phase i all n = by (slice_get waiting i) refl
     by None e = rw e refl
     by (Some t) e = rw e (other_phase phase t (λ f. n (sym f ∙ all i t e)))
 
--- what is behind the writes
+-- what comes after the writes
 abbrev pub checks : ℕ → List Task → List Outcome → List Task
 checks r waiting outcomes = checking 2 127 21 (slice_get outcomes (r + 11)) (checking 3 128 22 (slice_get outcomes (r + 12)) waiting)
 
@@ -82,7 +82,7 @@ some_below [] i h = absurd (omega (arith, h))
 some_below (o ∷ outcomes) zero h = (o, refl)
 some_below (o ∷ outcomes) (suc i) h = some_below outcomes i (omega (arith, h))
 
--- the first task behind the writes
+-- the first task after the writes
 first_check : (r : ℕ) (waiting : List Task) (outcomes : List Outcome) → slice_get (checks r waiting outcomes) 0 ≡ Some (startup 2 (request.Command (idn 127)))
 first_check r waiting outcomes = by (slice_get outcomes (r + 11))
   where
@@ -108,7 +108,7 @@ second_check r waiting outcomes well l e = by (some_below outcomes (r + 11) (ome
         either true = refl
         either false = refl
 
--- none behind belongs to phase 2
+-- none after it belongs to phase 2
 later_check : (r j : ℕ) (waiting : List Task) (outcomes : List Outcome) → AreWaiting waiting → 2 ≤ j → requests_of 2 (slice_get (checks r waiting outcomes) j) ≡ None
 later_check r j waiting outcomes all h = by_first (slice_get outcomes (r + 11)) (j - 2) (omega (arith, h))
   where
@@ -132,7 +132,7 @@ later_check r j waiting outcomes all h = by_first (slice_get outcomes (r + 11)) 
         either true = by_second (slice_get outcomes (r + 12)) i
         either false = refl
 
--- behind the reads, where there is a plan
+-- after the reads, if there is a plan
 pub planned_task : (s : Known) (p : PlanView) (waiting : List Task) (k : ℕ) (outcomes : List Outcome) (i j : ℕ) → i ≡ reads_count (member s k) + j →
     slice_get (agenda s (Some p) waiting k outcomes) i ≡ slice_get (map (startup 2) (writes s p k) ++ checks (reads_count (member s k)) waiting outcomes) j
 planned_task s p waiting k outcomes i j e = next_behind s (Some p) waiting k outcomes i j e
@@ -140,7 +140,7 @@ planned_task s p waiting k outcomes i j e = next_behind s (Some p) waiting k out
 writes_length : (s : Known) (p : PlanView) (k : ℕ) → length (map (startup 2) (writes s p k)) ≡ 11
 writes_length s p k = refl
 
--- the task behind the reads, by its number there
+-- the task after the reads, by its number there
 at_write : (s : Known) (p : PlanView) (waiting : List Task) (k j : ℕ) (outcomes : List Outcome) → j < 11 →
     requests_of 2 (slice_get (map (startup 2) (writes s p k) ++ checks (reads_count (member s k)) waiting outcomes) j) ≡ option_map (startup 2) (slice_get (writes s p k) j)
 at_write s p waiting k j outcomes h =

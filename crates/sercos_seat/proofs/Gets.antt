@@ -39,7 +39,7 @@ pub length_append : {A : Type 0} (xs ys : List A) → length (xs ++ ys) ≡ leng
 length_append [] ys = omega arith
 length_append (x ∷ xs) ys = let e : length (xs ++ ys) ≡ length xs + length ys = length_append xs ys in rw e (omega arith)
 
--- behind the six times the attributes are read, those of the AT first
+-- after the six times the attributes are read, those of the AT first
 behind_six : {A : Type 0} (a b c d e f : A) (xs : List A) (i : ℕ) → 6 ≤ i → slice_get (a ∷ b ∷ c ∷ d ∷ e ∷ f ∷ xs) i ≡ slice_get xs (i - 6)
 behind_six a b c d e f xs i h =
     let six : i ≡ suc (suc (suc (suc (suc (suc (i - 6)))))) = omega (arith, h) in

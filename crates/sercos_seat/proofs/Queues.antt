@@ -1,4 +1,4 @@
--- The requests that wait, behind what a channel hears and begins.
+-- The requests that wait, after what a channel hears and begins.
 use Rattle.std.proofs.Common.{◌≡◌, ℕ, zero, suc, ◌+◌, ◌<◌, ◌≤◌, ◌==◌, Bool, true, false, List, [], ◌∷◌, ◌++◌, Option, Some, None, length, ap, refl, sym, ◌∙◌, arith, subst, if◌then◌else◌, inl, inr, ◌⊎◌}
 use Rattle.std.proofs.lemmas.Bool.Decides.{nat_tests}
 use Rattle.std.specs.Prelude.{◌-◌, min, nat_lt, is_some, is_none, map, drop, reverse, slice_get, ◌&&◌, option_map, unwrap_or}
@@ -29,7 +29,7 @@ both_well d outcomes e = by (ended_well (given outcomes (reads_count d + 11))) (
     by true false e = absurd (false≢true e)
     by false b e = absurd (false≢true e)
 
--- both checks stand behind the start-up
+-- both checks come after the start-up
 pub ready_long : (d : MemberView) (outcomes : List Outcome) → is_ready d outcomes ≡ true → reads_count d + 12 < length outcomes
 ready_long d outcomes e = ended_there outcomes (reads_count d + 12) (both_well d outcomes e).1
 

@@ -1,4 +1,4 @@
--- What a seat stands for behind a status that it heard.
+-- What a seat stands for after a status that it heard.
 use Rattle.std.proofs.Common.{◌≡◌, ℕ, zero, suc, ◌+◌, ◌<◌, ◌≤◌, ◌==◌, Bool, true, false, List, [], ◌∷◌, ◌++◌, Option, Some, None, length, ap, refl, sym, ◌∙◌, arith, if◌then◌else◌}
 use Rattle.std.specs.Prelude.{is_some, is_none, not, map, take, min, nat_lt, option_map, ◌&&◌}
 use Rattle.std.specs.Option.{option_or}
@@ -35,7 +35,7 @@ take_none : {A : Type 0} (n : ℕ) → take {A = A} n [] ≡ []
 take_none zero = refl
 take_none (suc n) = refl
 
--- the first so many of a list with one more
+-- the first n of a list with one more
 take_short : {A : Type 0} (xs : List A) (x : A) (n : ℕ) → length xs < n → take n (xs ++ x ∷ []) ≡ take n xs ++ x ∷ []
 take_short [] x zero h = absurd (omega (arith, h))
 take_short [] x (suc n) h = rw (take_none n) refl

@@ -6,9 +6,10 @@ ghost use Rattle.sercos_seat.specs.Records.{value_said, values_said};
 ghost use Rattle.sercos_seat.specs.Seats.{long_of, low_at, words_in, words_of, len_of_words, listed_len};
 
 use arrayvec::ArrayVec;
+use sercos_bits::byte_at;
 use sercos_block::{attribute_in, number_len};
 use sercos_idn::Idn;
-use sercos_step::{Outcome, Request, byte_at};
+use sercos_step::{Outcome, Request};
 use sercos_trace::Stop;
 
 /// The two words of up to four bytes.

@@ -8,6 +8,7 @@ ghost use Rattle.sercos_seat.specs.Agenda.{reads_count, reads, idn, writes_word,
 use arrayvec::ArrayVec;
 use sercos_bits::Bytes;
 use sercos_idn::Idn;
+use sercos_idn::element::DATA;
 use sercos_step::Request;
 use std::marker::Model;
 
@@ -162,7 +163,7 @@ pub fn write_word(raw: u16, value: u16) -> Request
     bytes.push_within((value / 256) as u8);
     Request::Write {
         idn: Idn { raw },
-        element: 7,
+        element: DATA,
         bytes,
     }
 }
@@ -188,7 +189,7 @@ pub fn write_list(raw: u16, idns: &[Idn]) -> Request
 {
     Request::Write {
         idn: Idn { raw },
-        element: 7,
+        element: DATA,
         bytes: list_bytes(idns),
     }
 }

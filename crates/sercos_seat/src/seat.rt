@@ -34,7 +34,7 @@ use std::alloc::{AllocError, Global};
 use std::marker::Model;
 
 // The most outcomes that are counted: more than the start-up has.
-const MOST: u8 = 100;
+const MOST_OUTCOMES: u8 = 100;
 
 // The places of the checks after the reads and the eleven writes.
 const CHECK_127: usize = 11;
@@ -87,7 +87,11 @@ impl Model for Seat {
 fn one_more(done: u8) -> u8
     ensures { result ≡ min (done + 1) 100 }
 {
-    if done < MOST { done + 1 } else { MOST }
+    if done < MOST_OUTCOMES {
+        done + 1
+    } else {
+        MOST_OUTCOMES
+    }
 }
 
 impl Seat {

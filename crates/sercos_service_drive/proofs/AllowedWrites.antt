@@ -69,7 +69,7 @@ no_error : (e : Bool) → not e ≡ true → e ≡ false
 no_error true is = cc
 no_error false is = refl
 
-no_cause : (code : Option ℕ) (word : ℕ) → (answer_by code word).error ≡ false → code ≡ None
+pub no_cause : (code : Option ℕ) (word : ℕ) → (answer_by code word).error ≡ false → code ≡ None
 no_cause None word well = refl
 no_cause (Some code) word well = cc
 

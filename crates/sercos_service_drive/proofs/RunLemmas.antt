@@ -89,7 +89,7 @@ place_some t run = by (length (t ∷ run)) (omega arith)
 pub place_more : (t : Taken) (run : List Taken) (place : ℕ) → place ≡ place_of run → min (place + 1) 65535 ≡ place_of (t ∷ run)
 place_more t run place h = omega arith
 
--- a word behind the copy is 0, at whichever place
+-- a word after the copy is 0, at whichever place
 pub word_within : (words : List ℕ) (count : ℕ) → length words ≤ 65535 → slice_index words (min count 65535) ≡ slice_index words count
 word_within words count few = by (nat_le count 65535) refl
   where

@@ -11,7 +11,8 @@ use Rattle.sercos_command.specs.Calls.{Call, newest, CommandsStandFor}
 use Rattle.sercos_service_drive.specs.Replies.{bytes_written}
 use Rattle.sercos_service_drive.specs.Writes.{Write, unless, blocks_with, commands_with, calls_with}
 use Rattle.sercos_service_drive.specs.Partial.{place_cause, IsStarted, IsEffect, IsWord, write_by}
-use Rattle.sercos_service_drive.proofs.WordLemmas.{bytes_in-append, length-bytes_in, written-is, room, cause_is, has_passed, goes_on}
+use Rattle.sercos_step.proofs.ReadWords.{bytes_in-append}
+use Rattle.sercos_service_drive.proofs.WordLemmas.{length-bytes_in, written-is, room, cause_is, has_passed, goes_on}
 
 halves : (word : ℕ) → word % 256 + 256 * (word / 256) ≡ word
 halves word = omega arith

@@ -25,10 +25,6 @@ pub words_of-bytes_in : (ws : List ℕ) → words_of (bytes_in ws) ≡ ws
 words_of-bytes_in [] = refl
 words_of-bytes_in (w ∷ ws) = let same : w % 256 + 256 * (w / 256) ≡ w = omega arith in rw (same, words_of-bytes_in ws) refl
 
-pub bytes_in-append : (ws : List ℕ) (w : ℕ) → bytes_in (ws ++ w ∷ []) ≡ bytes_in ws ++ (w % 256) ∷ (w / 256) ∷ []
-bytes_in-append [] w = refl
-bytes_in-append (v ∷ ws) w = ap (λ (l : List ℕ). (v % 256) ∷ (v / 256) ∷ l) (bytes_in-append ws w)
-
 pub length-bytes_in : (ws : List ℕ) → length (bytes_in ws) ≡ 2 * length ws
 length-bytes_in [] = refl
 length-bytes_in (w ∷ ws) = let more = length-bytes_in ws in omega (arith, more)
@@ -154,14 +150,14 @@ list_bytes : (b : Block) (words : List ℕ) → is_list b.attribute.length ≡ t
 unfolding bytes_written
 list_bytes b words h = rw h refl
 
-behind : (ws : List ℕ) → 2 ≤ length ws → length (drop 2 ws) + 2 ≡ length ws
-behind [] h = absurd (omega arith)
-behind (v ∷ []) h = absurd (omega arith)
-behind (v ∷ w ∷ ws) h = omega arith
+pub length-drop_two : (ws : List ℕ) → 2 ≤ length ws → length (drop 2 ws) + 2 ≡ length ws
+length-drop_two [] h = absurd (omega arith)
+length-drop_two (v ∷ []) h = absurd (omega arith)
+length-drop_two (v ∷ w ∷ ws) h = omega arith
 
 list_len : (ws : List ℕ) (first : ℕ) → 2 + (first + 1) / 2 ≤ length ws → length (take first (bytes_in (drop 2 ws))) ≡ first
 list_len ws first h =
-    let more = behind ws (omega arith) in
+    let more = length-drop_two ws (omega arith) in
     let bytes = length-bytes_in (drop 2 ws) in
     rw length-take (omega (arith, more, bytes))
 

@@ -56,7 +56,7 @@ writes cycle last word = taken cycle 4 true (a_step true last 7 word)
 abbrev words : List Taken → List ℕ
 words h = map (λ (e : Entry). e.answer.word) (answered h)
 
--- The value of cycle 103, both words of it, though the second is read in 104; behind them there is 0.
+-- The value of cycle 103, both words of it, though the second is read in 104; after them there is 0.
 rising : words (reads 105 7 true ∷ reads 104 7 false ∷ reads 103 7 false ∷ reads 102 3 true ∷ reads 101 3 false ∷ opens 100 51 ∷ [])
     ≡ 0 ∷ 0 ∷ 65530 ∷ 34 ∷ 1 ∷ 0 ∷ []
 unfolding attribute_of element_words data_in element_of

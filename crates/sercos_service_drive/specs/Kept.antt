@@ -3,6 +3,7 @@ use Rattle.std.specs.Prelude.{◌≡◌, ℕ, ◌+◌, ◌<◌, ◌≤◌, ◌%�
 use mathlib.Core.Bool.{beq}
 use Rattle.sercos_idn.specs.declared.idn.Idn.{Idn}
 use Rattle.sercos_idn.specs.Codes.{is_list, item_len}
+use Rattle.sercos_idn.specs.Elements.{data_element}
 use Rattle.sercos_step.specs.declared.step.Step.{Step}
 use Rattle.sercos_step.specs.declared.step.Answer.{Answer}
 use Rattle.sercos_step.specs.Words.{words_of, bytes_in}
@@ -15,7 +16,7 @@ use Rattle.sercos_service_drive.specs.Log.{Taken, Entry, ahs, opens, open_idn, r
 use Rattle.sercos_service_drive.specs.Replies.{words_wanted, copy, read_cause, reply_of, log_of}
 use Rattle.sercos_service_drive.specs.Writes.{AreAlike}
 
--- The run that a next step may go on: none behind an opening, a step of element 0, a last word or an error.
+-- The run that a next step may go on: none after an opening, a step of element 0, a last word or an error.
 abbrev pub ends_run : Entry → Bool
 ends_run e = (opens e.taken.step || (e.taken.step.element == 0)) || (e.taken.step.last || e.answer.error)
 
@@ -65,7 +66,7 @@ pub record IsMidway (b : Block) (words : List ℕ) : Type 0 where
 
 -- a write run keeps the bytes of its words
 pub record IsWriting (raw : ℕ) (t : Taken) (run : List Taken) (buffer : List ℕ) : Type 0 where
-  pub element : t.step.element ≡ 7
+  pub element : t.step.element ≡ data_element
   pub bytes : buffer ≡ bytes_in (in_order (t ∷ run) [])
   pub midway : IfSome (find_block raw t.blocks) (λ b. IsMidway b (in_order (t ∷ run) []))
 

@@ -2,6 +2,7 @@
 use Rattle.std.specs.Prelude.{ℕ, ◌==◌, Bool, false, not, ◌&&◌, if◌then◌else◌, List, [], ◌∷◌, Option, Some, None}
 use mathlib.Core.Bool.{beq}
 use Rattle.sercos_telegram.specs.declared.words.Control.{Control}
+use Rattle.sercos_idn.specs.Elements.{identifier_element}
 use Rattle.sercos_step.specs.declared.step.Step.{Step}
 use Rattle.sercos_step.specs.declared.step.Answer.{Answer}
 use Rattle.sercos_block.specs.declared.block.Block.{Block}
@@ -40,9 +41,9 @@ pub record Entry : Type 0 where
   pub taken : Taken
   pub answer : Answer
 
--- a step that writes element 1 opens the identifier number that is its word
+-- a step that writes the element of the identifier number opens the one that is its word
 abbrev pub opens : Step → Bool
-opens s = s.write && (s.element == 1)
+opens s = s.write && (s.element == identifier_element)
 
 -- the identifier number that is open: that of the last opening, if the drive has it and no step of element 0 came since
 abbrev pub open_idn : List Entry → Option ℕ
@@ -64,7 +65,7 @@ abbrev pub selection : Taken → List Taken → Taken
 selection t [] = t
 selection t (s ∷ run) = selection s run
 
--- the words of a run in their order, with these behind them
+-- the words of a run in their order, with these after them
 abbrev pub in_order : List Taken → List ℕ → List ℕ
 in_order [] words = words
 in_order (t ∷ run) words = in_order run (t.step.word ∷ words)

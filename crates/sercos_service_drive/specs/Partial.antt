@@ -13,8 +13,8 @@ use Rattle.sercos_service_drive.specs.Replies.{words_by, bytes_written, write_ca
 use Rattle.sercos_service_drive.specs.Writes.{Write, unless, blocks_with, commands_with, calls_with}
 use Rattle.sercos_service_drive.specs.Kept.{IsMidway}
 
--- The first cause for which a word of operation data is refused by its place and the block alone, where with it so many
--- words are there, the first of which is this.
+-- The first cause for which a word of operation data is refused by its place and the block alone, where with it there are
+-- `count` words, the first of which is this.
 unfoldable pub length_cause : Attribute → ℕ → Bool → ℕ → ℕ → Option ℕ
 length_cause a most last count first =
     option_or (then_some (last && nat_lt count (words_by a first)) 0x7002)

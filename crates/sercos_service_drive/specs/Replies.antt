@@ -4,6 +4,8 @@ use Rattle.std.specs.Bool.{then_some}
 use Rattle.std.specs.Option.{option_or}
 use Rattle.sercos_idn.specs.declared.attribute.Attribute.{Attribute}
 use Rattle.sercos_idn.specs.Codes.{is_list, item_len}
+use Rattle.sercos_idn.specs.Elements.{identifier_element, name_element, unit_element, data_element}
+use Rattle.sercos_idn.specs.Commands.{to_cancel, to_set}
 use Rattle.sercos_step.specs.declared.step.Answer.{Answer}
 use Rattle.sercos_step.specs.Words.{words_of, bytes_in}
 use Rattle.sercos_block.specs.declared.block.Block.{Block}
@@ -38,22 +40,22 @@ list_words longest bytes = length bytes ∷ longest ∷ words_of bytes
 -- the words of an element from 2 to 7 of a block in a cycle: name and unit are lists of at most 60 and 12 bytes
 unfoldable pub element_words : ℕ → ℕ → Block → List ℕ
 element_words e cycle b =
-    if e == 2 then list_words 60 (unwrap_or (element_of b e) [])
-    else (if e == 4 then list_words 12 (unwrap_or (element_of b e) [])
-    else (if e == 7 then (if is_list b.attribute.length then list_words b.max_len b.value else words_of (data_in cycle b))
+    if e == name_element then list_words 60 (unwrap_or (element_of b e) [])
+    else (if e == unit_element then list_words 12 (unwrap_or (element_of b e) [])
+    else (if e == data_element then (if is_list b.attribute.length then list_words b.max_len b.value else words_of (data_in cycle b))
     else words_of (unwrap_or (element_of b e) [])))
 
 -- what a selection of an element copies in a cycle: the data status, or the words of the element as they then stand
 abbrev pub words_at : ℕ → ℕ → ℕ → List Block → CommandsView → List ℕ
 words_at raw e cycle blocks commands =
-    if e == 1 then status_in commands raw cycle ∷ [] else unwrap_or (option_map (element_words e cycle) (find_block raw blocks)) []
+    if e == identifier_element then status_in commands raw cycle ∷ [] else unwrap_or (option_map (element_words e cycle) (find_block raw blocks)) []
 
 abbrev pub copy : ℕ → Taken → List ℕ
 copy raw t = words_at raw t.step.element t.cycle t.blocks t.commands
 
 -- the cause for which it can't be read: the element is missing
 abbrev pub missing : ℕ → ℕ → List Block → Option ℕ
-missing raw e blocks = if e == 1 then None else read_fault (find_block raw blocks) e
+missing raw e blocks = if e == identifier_element then None else read_fault (find_block raw blocks) e
 
 abbrev pub read_cause : ℕ → Taken → Option ℕ
 read_cause raw t = missing raw t.step.element t.blocks
@@ -88,10 +90,10 @@ is_over b last words =
 abbrev pub is_uneven : Block → List ℕ → Bool
 is_uneven b words = is_list b.attribute.length && (selects words && not (slice_index words 0 % item_len b.attribute.length == 0))
 
--- a procedure command is written with another number than 0 and 3, at the last word
+-- a procedure command is written with a number that neither cancels nor sets it, at the last word
 abbrev pub is_no_setting : Block → Bool → List ℕ → Bool
 is_no_setting b last words =
-    b.attribute.command && (last && not ((bits_in b.attribute (bytes_written b words) == 0) || (bits_in b.attribute (bytes_written b words) == 3)))
+    b.attribute.command && (last && not ((bits_in b.attribute (bytes_written b words) == to_cancel) || (bits_in b.attribute (bytes_written b words) == to_set)))
 
 -- The first cause for which a step that writes a word of operation data is refused: the block is fixed (0x7004), at the
 -- first word; it is protected in the phase of the step (0x7005), at any word; the last word comes too early (0x7002); the
@@ -114,12 +116,12 @@ write_cause_in (Some b) phase last words = write_cause b phase last words
 
 -- The replies.
 
--- to a step on the identifier number that is open, behind these steps of its run: a read step gives the next word of the
--- copy that the selection made, and 0 behind it; an element from 2 to 6 can't be written (0x2004 to 0x6004)
+-- to a step on the identifier number that is open, after these steps of its run: a read step gives the next word of the
+-- copy that the selection made, and 0 after its end; an element from 2 to 6 can't be written (0x2004 to 0x6004)
 abbrev pub reply_on : ℕ → Taken → List Taken → Answer
 reply_on raw t run =
     if t.step.write
-    then answer_by (if t.step.element == 7 then write_cause_in (find_block raw t.blocks) t.phase t.step.last (in_order run (t.step.word ∷ []))
+    then answer_by (if t.step.element == data_element then write_cause_in (find_block raw t.blocks) t.phase t.step.last (in_order run (t.step.word ∷ []))
     else Some (0x1000 * t.step.element + 4)) 0
     else answer_by (read_cause raw (selection t run)) (slice_index (copy raw (selection t run)) (length run))
 
@@ -128,7 +130,7 @@ abbrev pub reply_at : Option ℕ → Taken → List Taken → Answer
 reply_at None t run = refused 1
 reply_at (Some raw) t run = reply_on raw t run
 
--- The reply to a step behind these: an opening is refused where the drive hasn't the identifier number (0x1001); a step of
+-- The reply to a step after these: an opening is refused where the drive hasn't the identifier number (0x1001); a step of
 -- element 0 closes it.
 abbrev pub reply_of : Taken → List Entry → Answer
 reply_of t log =

@@ -2,6 +2,7 @@
 use Rattle.std.specs.Prelude.{◌≡◌, ℕ, ◌==◌, Bool, true, not, ◌&&◌, if◌then◌else◌, List, [], ◌∷◌, map, Option, Some, None, option_map, option_and_then}
 use Rattle.std.specs.Int.{w16, from_le_bytes}
 use mathlib.Core.Bool.{beq}
+use Rattle.sercos_idn.specs.Elements.{data_element}
 use Rattle.sercos_block.specs.declared.block.Block.{Block}
 use Rattle.sercos_block.specs.Stores.{find_block, with_data}
 use Rattle.sercos_command.specs.Settings.{CommandsView, is_command, with_write, with_lists, without_checks}
@@ -17,16 +18,16 @@ pub record Write : Type 0 where
 
 -- a step takes effect where it writes the last word of operation data and isn't refused
 abbrev pub takes_effect : Entry → Bool
-takes_effect e = e.taken.step.write && ((e.taken.step.element == 7) && (e.taken.step.last && not e.answer.error))
+takes_effect e = e.taken.step.write && ((e.taken.step.element == data_element) && (e.taken.step.last && not e.answer.error))
 
 -- what the words of a run write
 abbrev pub written_by : Taken → List Taken → ℕ → Option Write
 written_by t run raw =
     option_map (λ (b : Block). record { cycle = t.cycle; raw = raw; bytes = bytes_written b (in_order run (t.step.word ∷ [])) }) (find_block raw t.blocks)
 
--- the write that an entry adds behind these
+-- the write that an entry adds to those of these
 abbrev pub added_by : Entry → List Entry → Option Write
-added_by e log = if takes_effect e then option_and_then (written_by e.taken (run_before true 7 log)) (open_idn log) else None
+added_by e log = if takes_effect e then option_and_then (written_by e.taken (run_before true data_element log)) (open_idn log) else None
 
 abbrev pub with_added : Option Write → List Write → List Write
 with_added None writes = writes
@@ -37,7 +38,7 @@ abbrev pub writes_of : List Entry → List Write
 writes_of [] = []
 writes_of (e ∷ log) = with_added (added_by e log) (writes_of log)
 
--- the write that a step adds behind these
+-- the write that a step adds to those of these
 abbrev pub adds : Taken → List Entry → Option Write
 adds t log = added_by (record { taken = t; answer = reply_of t log }) log
 
@@ -80,6 +81,6 @@ abbrev pub unless : Option ℕ → Write → Option Write
 unless None w = Some w
 unless (Some code) w = None
 
--- the write that a record adds behind these: none where it isn't accepted
+-- the write that a record adds to those of these: none where it isn't accepted
 abbrev pub added_on : Taken → List Taken → Option Write
 added_on t h = if beq t.mhs (ahs h) then None else adds t (log_of h)

@@ -36,7 +36,7 @@ fn is_uneven(attribute: &Attribute, count: u32, first: u16) -> bool
         && usize::from(first) % attribute.length.item_len() != 0
 }
 
-// The first cause against a word by its place, where with it so many words are there.
+// The first cause against a word by its place, where with it there are `count` words.
 #[tactic(auto, unfolding(crate::specs::Partial::length_cause))]
 fn length_cause(
     attribute: &Attribute,

@@ -1,5 +1,6 @@
 // The drive's end of a channel.
 ghost use Rattle.std.specs.Prelude.{◌≡◌, ℕ, ◌≤◌, ◌-◌, nat_le, List, [], ◌∷◌, ◌<◌, ◌==◌, ◌&&◌, not, true, is_some};
+ghost use Rattle.sercos_idn.specs.Elements.{data_element};
 ghost use Rattle.sercos_command.specs.Settings.{are_commands_of};
 ghost use Rattle.sercos_command.specs.Calls.{Call, newest, CommandsStandFor};
 ghost use Rattle.sercos_service_drive.specs.Log.{Taken, record_of};
@@ -10,6 +11,7 @@ ghost use Rattle.sercos_service_drive.specs.Kept.{ChannelStandsFor};
 use crate::session::Session;
 use sercos_block::Store;
 use sercos_command::Commands;
+use sercos_idn::element::DATA;
 use sercos_step::{Answer, Step};
 use sercos_telegram::{Control, Status};
 use std::marker::Model;
@@ -58,9 +60,9 @@ fn step_of(control: &Control, info: u16) -> Step
 
 // Whether a step that got this reply writes operation data.
 fn adds(step: Step, answer: Answer) -> bool
-    ensures { result ≡ (step.write && ((step.element == 7) && (step.last && not answer.error))) }
+    ensures { result ≡ (step.write && ((step.element == data_element) && (step.last && not answer.error))) }
 {
-    step.write && step.element == 7 && step.last && !answer.error
+    step.write && step.element == DATA && step.last && !answer.error
 }
 
 // Whether the drive is busy in a cycle with a step of an earlier one.
@@ -71,7 +73,7 @@ fn is_busy(cycle: u32, since: u32, busy: u8) -> bool
 }
 
 impl DriveChannel {
-    /// A channel that has taken no record, of a drive that is busy with each step for so many cycles.
+    /// A channel that has taken no record, of a drive that is busy with each step for `busy` cycles.
     pub fn new(busy: u8) -> DriveChannel
         ensures { ChannelStandsFor result busy [] }
     {

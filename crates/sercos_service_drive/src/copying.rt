@@ -1,5 +1,5 @@
 // The copy of an element that a selection makes.
-ghost use Rattle.std.specs.Prelude.{◌≡◌, ◌≤◌, ◌/◌, ◌%◌, [], ◌∷◌, ◌++◌, length, Some, None, MatchResult};
+ghost use Rattle.std.specs.Prelude.{◌≡◌, ◌≤◌, [], ◌∷◌, length, Some, None, MatchResult};
 ghost use Rattle.sercos_step.specs.Words.{words_of};
 ghost use Rattle.sercos_block.specs.declared.block.Block.{Block};
 ghost use Rattle.sercos_block.specs.Blocks.{element_of};
@@ -9,6 +9,7 @@ use crate::data::push_data;
 use sercos_bits::ByteList;
 use sercos_block::Store;
 use sercos_command::Commands;
+use sercos_idn::element::{DATA, IDENTIFIER, NAME, UNIT};
 use sercos_idn::{Attribute, Code, Idn};
 
 /// The most bytes of an element's words: a list of 1024 bytes, and its two lengths before it.
@@ -17,26 +18,16 @@ pub(crate) const CAPACITY: usize = 1028;
 pub(crate) type Buffer = ByteList<CAPACITY>;
 
 // The most bytes of a name and of a unit.
-const NAME: u16 = 60;
+const MOST_NAME_BYTES: u16 = 60;
 
-const UNIT: u16 = 12;
-
-// Puts a word behind the bytes, the low byte first, where there is room.
-pub(crate) fn push_word(buffer: &mut Buffer, word: u16)
-    ensures { length buffer.old ≤ 1026 → buffer.new ≡ buffer.old ++ (word % 256) ∷ (word / 256) ∷ [] }
-{
-    if buffer.len() + 1 < CAPACITY {
-        buffer.push_within((word % 256) as u8);
-        buffer.push_within((word / 256) as u8);
-    }
-}
+const MOST_UNIT_BYTES: u16 = 12;
 
 // Copies a word.
 fn copy_word(buffer: &mut Buffer, word: u16)
     ensures { words_of buffer.new ≡ word ∷ [] }
 {
     buffer.clear();
-    push_word(buffer, word);
+    buffer.push_word_within(word);
 }
 
 // Copies a list with its two lengths.
@@ -45,8 +36,8 @@ fn copy_list(buffer: &mut Buffer, longest: u16, bytes: &[u8])
     ensures { words_of buffer.new ≡ list_words longest bytes.now }
 {
     buffer.clear();
-    push_word(buffer, bytes.len() as u16);
-    push_word(buffer, longest);
+    buffer.push_word_within(bytes.len() as u16);
+    buffer.push_word_within(longest);
     buffer.append_within(bytes);
 }
 
@@ -74,11 +65,11 @@ fn copy_found(
     ensures { (b : Block) → b.attribute ≡ attribute.now → b.max_len ≡ most → b.step ≡ step → element_of b element ≡ Some bytes.now →
         words_of buffer.new ≡ element_words element cycle b }
 {
-    if element == 2 {
-        copy_list(buffer, NAME, bytes);
-    } else if element == 4 {
-        copy_list(buffer, UNIT, bytes);
-    } else if element != 7 {
+    if element == NAME {
+        copy_list(buffer, MOST_NAME_BYTES, bytes);
+    } else if element == UNIT {
+        copy_list(buffer, MOST_UNIT_BYTES, bytes);
+    } else if element != DATA {
         buffer.assign(bytes);
     } else if attribute.length.is_list() {
         copy_list(buffer, most, bytes);
@@ -101,7 +92,7 @@ pub(crate) fn copy_element(
         (λ _. (missing idn.raw element store.now ≡ None) × (words_of buffer.new ≡ words_at idn.raw element cycle store.now commands.now))
         (λ code. missing idn.raw element store.now ≡ Some code.raw) }
 {
-    if element == 1 {
+    if element == IDENTIFIER {
         copy_word(buffer, commands.status(idn, cycle));
         return Ok(());
     }

@@ -1,28 +1,12 @@
 // Operation data as it is in a cycle.
 ghost use Rattle.std.specs.Prelude.{◌≡◌, ◌≤◌, ◌<◌, ◌+◌, ◌*◌, ◌%◌, ◌++◌, length};
 ghost use Rattle.sercos_block.specs.declared.block.Block.{Block};
-ghost use Rattle.sercos_block.specs.Blocks.{number_end, bits_in, bytes_for};
+ghost use Rattle.sercos_block.specs.Blocks.{number_end, bytes_for};
 ghost use Rattle.sercos_service_drive.specs.Replies.{data_in};
 
 use sercos_bits::ByteList;
+use sercos_block::bits_in;
 use sercos_idn::{Attribute, Length};
-use sercos_step::byte_at;
-
-// The bits of the number that bytes are.
-fn bits_in(attribute: &Attribute, bytes: &[u8]) -> u32
-    ensures { result ≡ bits_in attribute.now bytes.now }
-{
-    if attribute.length == Length::Two {
-        u32::from(u16::from_le_bytes([byte_at(bytes, 0), byte_at(bytes, 1)]))
-    } else {
-        u32::from_le_bytes([
-            byte_at(bytes, 0),
-            byte_at(bytes, 1),
-            byte_at(bytes, 2),
-            byte_at(bytes, 3),
-        ])
-    }
-}
 
 // The bits of a number that grows by a step in each cycle.
 fn grown(attribute: &Attribute, bits: u32, step: u32, cycle: u32) -> u32

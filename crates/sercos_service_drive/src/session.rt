@@ -1,5 +1,5 @@
 // What the drive keeps between the steps of the service channel.
-ghost use Rattle.std.specs.Prelude.{◌≡◌, ℕ, ◌+◌, ◌≤◌, ◌<◌, ◌==◌, ◌&&◌, [], ◌∷◌, ◌++◌, List, length, take, drop, slice_index, min, if◌then◌else◌, true, false, Bool, Option, Some, None, is_some, option_map};
+ghost use Rattle.std.specs.Prelude.{◌≡◌, ℕ, ◌+◌, ◌/◌, ◌%◌, ◌≤◌, ◌<◌, ◌==◌, ◌&&◌, [], ◌∷◌, ◌++◌, List, length, take, drop, slice_index, min, if◌then◌else◌, true, false, Bool, Option, Some, None, is_some, option_map};
 ghost use Rattle.sercos_idn.specs.Codes.{is_list};
 ghost use Rattle.sercos_step.specs.Words.{bytes_in, words_of};
 ghost use Rattle.sercos_block.specs.declared.block.Block.{Block};
@@ -12,18 +12,14 @@ ghost use Rattle.sercos_service_drive.specs.Kept.{run_of, place_in, selected, Go
 ghost use Rattle.sercos_service_drive.specs.Partial.{IsStarted, IsEffect, IsWord};
 
 use crate::causes::place_cause;
-use crate::copying::{Buffer, copy_element, push_word};
+use crate::copying::{Buffer, CAPACITY, copy_element};
 use crate::writing::write_data;
 use sercos_block::Store;
 use sercos_command::Commands;
+use sercos_idn::element::{DATA, IDENTIFIER};
 use sercos_idn::{Code, Idn};
 use sercos_step::{Answer, Step, word_at};
 use std::marker::Model;
-
-// The elements of the identifier number and of operation data.
-const IDENTIFIER: u8 = 1;
-
-const OPERATION_DATA: u8 = 7;
 
 /// The run of steps that a next step may go on.
 #[derive(Clone, Copy, Debug, PartialEq, Eq)]
@@ -32,7 +28,7 @@ pub struct Selection {
     pub write: bool,
     /// The element of its steps.
     pub element: u8,
-    /// How many steps it has, counted up to 65535.
+    /// The place of its next word, which is the number of its steps so far, counted up to 65535.
     pub place: u16,
 }
 
@@ -93,7 +89,7 @@ fn place_in(selection: Option<Selection>, write: bool, element: u8) -> u16
     }
 }
 
-// The run behind a step that goes on at a place.
+// The run after a step that goes on at a place.
 fn selected(step: Step, place: u16) -> Option<Selection>
     ensures { result ≡ selected step.last step place }
 {
@@ -152,15 +148,15 @@ fn first_word(buffer: &Buffer, place: u16, word: u16) -> u16
     }
 }
 
-// The bytes that words write: those of a list stand behind its two lengths.
+// The bytes that words write: those of a list come after its two lengths.
 fn written(bytes: &[u8], list: bool, count: u16) -> &[u8]
     ensures { result.now ≡ (if list then take count (drop 4 bytes.now) else bytes.now) }
 {
     if !list {
         return bytes;
     }
-    let behind = &bytes[bytes.len().min(4)..];
-    &behind[..behind.len().min(usize::from(count))]
+    let items = &bytes[bytes.len().min(4)..];
+    &items[..items.len().min(usize::from(count))]
 }
 
 // Whether the operation data of a block is a list.
@@ -173,7 +169,16 @@ fn is_list(store: &Store, idn: Idn) -> bool
     }
 }
 
-// Puts a word behind the others of a run, where its block has room for it.
+// Appends a word, the low byte first, if there is room.
+fn push_word(buffer: &mut Buffer, word: u16)
+    ensures { length buffer.old ≤ 1026 → buffer.new ≡ buffer.old ++ (word % 256) ∷ (word / 256) ∷ [] }
+{
+    if buffer.len() + 2 <= CAPACITY {
+        buffer.push_word_within(word);
+    }
+}
+
+// Appends a word to the others of a run, where its block has room for it.
 fn keep_word(buffer: &mut Buffer, word: u16, store: &Store, idn: Idn)
     ensures { (b : Block) (words : List ℕ) → find_block idn.raw store.now ≡ Some b → buffer.old ≡ bytes_in words → IsStarted b words → buffer.new ≡ bytes_in (words ++ word ∷ []) }
 {
@@ -315,10 +320,10 @@ impl Session {
             IsEffect (adds (taken cycle phase mhs step store.old commands.old) log) cycle store.old store.new commands.old commands.new }
         ensures set { are_commands_of store.new commands.new ≡ true }
     {
-        if step.element != OPERATION_DATA {
+        if step.element != DATA {
             return self.refuse(Code::protected(step.element));
         }
-        let place = place_in(self.selection, true, OPERATION_DATA);
+        let place = place_in(self.selection, true, DATA);
         start(&mut self.buffer, place);
         match write_word(
             &mut self.buffer,

@@ -1,15 +1,16 @@
 // Operation data that came whole is written.
 ghost use Rattle.std.specs.Prelude.{◌≡◌, ℕ, ◌≤◌, ◌==◌, ◌⊎◌, if◌then◌else◌, true, List, ◌∷◌, option_map};
 ghost use Rattle.std.specs.Int.{w16, from_le_bytes};
+ghost use Rattle.sercos_idn.specs.Commands.{to_cancel, to_set};
 ghost use Rattle.sercos_block.specs.Stores.{find_block, put_fault};
 ghost use Rattle.sercos_command.specs.Settings.{is_command, with_write, with_lists, without_checks, are_commands_of};
 ghost use Rattle.sercos_command.specs.Calls.{Call, Wrote, Other, newest, CommandsStandFor};
 ghost use Rattle.sercos_service_drive.specs.Writes.{unless, blocks_with, commands_with, calls_with};
 
+use sercos_bits::byte_at;
 use sercos_block::Store;
 use sercos_command::{Commands, is_command, stored_law};
 use sercos_idn::{Code, Idn};
-use sercos_step::byte_at;
 
 // What is written to a procedure command.
 fn setting_in(bytes: &[u8]) -> u16
@@ -28,7 +29,7 @@ fn tell(
     store: &mut Store,
 )
     requires command { command ≡ true → is_command store.old idn.raw ≡ true }
-    requires setting { command ≡ true → (from_le_bytes w16 bytes.now ≡ 0) ⊎ (from_le_bytes w16 bytes.now ≡ 3) }
+    requires setting { command ≡ true → (from_le_bytes w16 bytes.now ≡ to_cancel) ⊎ (from_le_bytes w16 bytes.now ≡ to_set) }
     requires set { are_commands_of store.old commands.old ≡ true }
     ensures blocks { store.new ≡ (if command then with_lists commands.old idn.raw (from_le_bytes w16 bytes.now) store.old else store.old) }
     ensures commands { commands.new ≡ (if command then with_write idn.raw (from_le_bytes w16 bytes.now) cycle store.old commands.old else without_checks commands.old) }

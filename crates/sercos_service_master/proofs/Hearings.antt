@@ -34,7 +34,7 @@ module _ (next : (r : Request) (answers : List Answer) → is_some (outcome_of r
   opens : (r : Request) (answers : List Answer) → is_some (step_at r answers) ≡ not (is_some (outcome_of r answers))
   opens r answers = goes_on (outcome_of r answers) (next_step r answers) (next r answers)
 
-  -- behind an answer a step is open where the transfer goes on
+  -- after an answer a step is open where the transfer goes on
   open_behind : (a : Answer) (past : List Begun) → is_some (open_in past) ≡ true → is_some (open_in (with_answer a past)) ≡ not (is_some (outcome_with a past))
   open_behind a [] e = cc
   open_behind a (b ∷ past) e = opens b.request (a ∷ b.answers)

@@ -14,7 +14,7 @@ pub record Begun : Type 0 where
   pub request : Request
   pub answers : List Answer
 
--- the step that a request waits at, behind these answers: the first that has none, unless they ended the transfer
+-- the step that a request waits at, after these answers: the first that has none, unless they ended the transfer
 abbrev pub step_at : Request → List Answer → Option Step
 step_at r answers = if is_some (outcome_of r answers) then None else next_step r answers
 
@@ -81,7 +81,7 @@ step_or_none (Some s) = s
 abbrev pub master_says : List Begun → Said
 master_says past = record { mhs = mhs_in past; step = step_or_none (open_in past) }
 
--- what a control word and the information word behind it say
+-- what a control word and the information word after it say
 abbrev pub said_by : Control → ℕ → Said
 said_by control word =
     record { mhs = control.mhs; step = record { write = control.write; last = control.last; element = control.element; word = word } }

@@ -5,7 +5,7 @@ use Rattle.sercos_step.specs.declared.request.Request.{Request}
 use Rattle.sercos_step.specs.declared.request.Outcome.{Outcome}
 use Rattle.sercos_service_master.specs.Begun.{Begun, open_in, answers_it, answer_in, with_answer, outcome_with}
 
--- a request is begun; the record is sent; a status is heard, with the information word behind it; the cycle ends
+-- a request is begun; the record is sent; a status is heard, with the information word after it; the cycle ends
 pub data Call : Type 0 where
   Begin : Request → Call
   Send : Call

@@ -13,17 +13,21 @@ use sercos_telegram::{Control, Status};
 use std::marker::Model;
 
 // The most cycles that are counted.
-const MOST: u8 = 64;
+const MOST_CYCLES_COUNTED: u8 = 64;
 
 // The count of cycles with one more.
 fn one_more(age: u8) -> u8
     ensures { result ≡ min (age + 1) 64 }
 {
-    if age < MOST { age + 1 } else { MOST }
+    if age < MOST_CYCLES_COUNTED {
+        age + 1
+    } else {
+        MOST_CYCLES_COUNTED
+    }
 }
 
-// The count of cycles behind a record with the open step, or behind an idle one.
-fn age_behind(at_work: bool, age: Option<u8>) -> Option<u8>
+// The count of cycles after a record with the open step, or after an idle one.
+fn age_after(at_work: bool, age: Option<u8>) -> Option<u8>
     ensures { result ≡ (if at_work then Some (unwrap_or age 0) else None) }
 {
     if at_work {
@@ -33,8 +37,8 @@ fn age_behind(at_work: bool, age: Option<u8>) -> Option<u8>
     }
 }
 
-// The handshake bit behind an answer: it changes with the next step, if there is one.
-fn mhs_behind(mhs: bool, ended: bool) -> bool
+// The handshake bit after an answer: it changes with the next step, if there is one.
+fn mhs_after(mhs: bool, ended: bool) -> bool
     ensures { result ≡ (if ended then mhs else not mhs) }
 {
     if ended { mhs } else { !mhs }
@@ -134,7 +138,7 @@ impl MasterChannel {
         ensures cyclic { result.0.cyclic ≡ 0 }
         ensures idle { is_none self.new.transfer ≡ is_none self.old.transfer }
     {
-        self.age = age_behind(self.transfer.is_some(), self.age);
+        self.age = age_after(self.transfer.is_some(), self.age);
         let step = step_of(&self.transfer);
         let control = Control {
             mhs: self.mhs,
@@ -163,12 +167,12 @@ impl MasterChannel {
     {
         steps_law();
         let outcome = answer_with(&mut self.transfer, answer);
-        self.mhs = mhs_behind(self.mhs, outcome.is_some());
+        self.mhs = mhs_after(self.mhs, outcome.is_some());
         self.age = None;
         outcome
     }
 
-    /// Hears a status and the information word behind it. Where it answers the open step, the next step is open, or the
+    /// Hears a status and the information word after it. Where it answers the open step, the next step is open, or the
     /// transfer ends: then this says how.
     pub fn hear(&mut self, status: &Status, info: u16) -> Option<Outcome>
         ensures stands { (h : List Call) → MasterStandsFor self.old h → MasterStandsFor self.new (Hear status.now info ∷ h) }

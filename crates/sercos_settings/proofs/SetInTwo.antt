@@ -25,7 +25,8 @@ use Rattle.sercos_handshake.proofs.EpochRuns.{said_of}
 use Rattle.sercos_handshake.proofs.WholeRuns.{written, kept_same}
 use Rattle.sercos_handshake.proofs.ExactTransfers.{Laws}
 use Rattle.sercos_handshake.proofs.ExactRuns.{cycle_exact}
-use Rattle.sercos_handshake.proofs.ProtectedWrites.{AreAllowed, those_moved, those_kept, those_since}
+use Rattle.sercos_service_drive.proofs.AllowedWrites.{those_moved}
+use Rattle.sercos_handshake.proofs.ProtectedWrites.{AreAllowed, those_kept, those_since}
 use Rattle.sercos_startup.specs.Later.{IsProtectedLater}
 use Rattle.sercos_settings.proofs.Givers.{IsGiven, gives_newest, given_heard}
 

@@ -16,7 +16,7 @@ use Rattle.sercos_model.proofs.FaultLemmas.{none_of-or, none_of-then, at_least, 
 use Rattle.sercos_show.proofs.HexPairs.{pair_bytes, pair_bytes-at, byte_of-least, AllPass-prefix_len, prefix_len-AllPass, decode_of-pair_bytes, ArePairs-decoded}
 use Rattle.sercos_show.proofs.SpareBits.{spare_zeros, last_below}
 
--- how many bytes stand before the last one of so many bits
+-- how many bytes come before the last one of n bits
 abbrev pub bytes_before : ℕ → ℕ
 bytes_before count = (count + 7) / 8 - 1
 
@@ -28,7 +28,7 @@ pub small-has_spare : (count byte : ℕ) → byte < 2 ^ (count - 8 * bytes_befor
 unfolding has_spare
 small-has_spare count byte small = grind (arith, nat_tests)
 
--- the digits of so many bits, without a fault
+-- the digits of n bits, without a fault
 pub record AreGoodDigits (count : ℕ) (text : List ℕ) : Type 0 where
   pub long : length text ≡ wanted_digits count
   pub all : prefix_len is_ascii_hexdigit text ≡ length text

@@ -427,7 +427,7 @@ count_judged text p is = elim (either (number_fault 19696 text) _ p is) [
 has_digit_behind : (m p : ℕ) (text : List ℕ) → HasDigit (drop m text) p → HasDigit text (m + p)
 has_digit_behind m p text digit = ap is_ascii_hexdigit (sym (get_or-drop m text p 0)) ∙ digit
 
--- a part behind m bytes
+-- a part after m bytes
 placed_behind : (f g : List ℕ → Option ℕ) (m p : ℕ) (text : List ℕ) → ((q : ℕ) → Splits f (drop m text) q → Splits g text (m + q)) → Placed f (drop m text) p → Placed g text (m + p)
 placed_behind f g m _ text lift (placed p s) = placed (m + p) (lift p s)
 placed_behind f g m _ text lift (later p first second s) =

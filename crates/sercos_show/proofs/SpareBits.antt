@@ -1,4 +1,4 @@
--- Bits that do not fill their last byte: zeros stand behind them exactly where the last byte is small.
+-- Bits that do not fill their last byte: zeros follow them exactly if the last byte is small.
 use Rattle.std.proofs.Common.{◌≡◌, ℕ, zero, suc, ◌+◌, ◌-◌, ◌*◌, ◌/◌, ◌^◌, ◌<◌, ◌≤◌, Bool, false, List, [], ◌∷◌, ◌++◌, length, replicate, take, drop, get_or, refl, sym, ap, ◌∙◌, arith, append_assoc, append-nil, length-append, length-drop}
 use Rattle.std.proofs.Math.Nat.{pow-suc}
 use Rattle.std.proofs.lemmas.List.{length-take-le, take-append-drop, drop_at, drop-append-le}
@@ -42,7 +42,7 @@ bits_of-last bytes before last =
 length-before : (bytes : List ℕ) (before : ℕ) → length bytes ≡ before + 1 → length (bits_of (take before bytes)) ≡ 8 * before
 length-before bytes before last = omega (arith, length-bits_of (take before bytes), length-take-le before bytes (omega arith))
 
--- behind the bits that a small last byte leaves used there are zeros
+-- after the bits that a small last byte uses there are zeros
 pub spare_zeros : (bytes : List ℕ) (before used spare : ℕ) → length bytes ≡ before + 1 → used + spare ≡ 8 → get_or bytes before 0 < 2 ^ used
     → bits_of bytes ≡ take (8 * before + used) (bits_of bytes) ++ replicate spare false
 spare_zeros bytes before used spare last eight below =
@@ -56,7 +56,7 @@ spare_zeros bytes before used spare last eight below =
     ap (drop (8 * before + used)) whole ∙ drop_at (front ++ low_bits used byte) (replicate spare false) (8 * before + used) long in
     sym (take-append-drop (8 * before + used) (bits_of bytes)) ∙ ap (λ rest. take (8 * before + used) (bits_of bytes) ++ rest) behind
 
--- zeros behind the bits keep the last byte small
+-- zeros after the bits keep the last byte small
 pub last_below : (bytes : List ℕ) (bits : List Bool) (before spare : ℕ) → length bytes ≡ before + 1 → get_or bytes before 0 < 256 → 8 * before ≤ length bits
     → bits_of bytes ≡ bits ++ replicate spare false → get_or bytes before 0 < 2 ^ (length bits - 8 * before)
 last_below bytes bits before spare last byte_fits inside filled =

@@ -26,7 +26,7 @@ use Rattle.sercos_show.specs.Line.{kind_of, line_fault, line_bits}
 unfoldable pub word_text : ℕ → List ℕ
 word_text word = codes "0x" ++ encode_lower (to_be_bytes w16 word)
 
--- the texts of two bits, of a bit and a number, and of two words, each behind its name
+-- the texts of two bits, of a bit and a number, and of two words, each after its name
 abbrev pub bit_text : Bool → List ℕ
 bit_text bit = cond bit (codes "1") (codes "0")
 
@@ -86,7 +86,7 @@ at_text address status info values =
 unfoldable pub wanted_address : List ℕ → ℕ
 wanted_address content = let found = slice_index content 0 in if nat_lt 0 found && nat_lt found 255 then found else 1
 
--- how many bytes are wanted behind the address of an AT: those found, where they are at least four, and else four
+-- how many bytes an AT should have after its address: as many as were found, but at least four
 unfoldable pub wanted_len : List ℕ → ℕ
 wanted_len content = max (length content - 1) 4
 

@@ -6,7 +6,7 @@ use Rattle.sercos_show.specs.declared.line.LineKind.{LineKind}
 use Rattle.sercos_show.specs.Line.{kind_text}
 
 -- Hexadecimal digits of either case spell bits: two digits a byte, the bytes' bits from the least significant one of
--- the first byte on, and fewer than eight zeros behind the last bit
+-- the first byte on, and fewer than eight zeros after the last bit
 pub record AreDigitsOf (digits : List ℕ) (bits : List Bool) : Type 0 where
   pub bytes : List ℕ
   pub decoded : decode_of digits ≡ Ok bytes

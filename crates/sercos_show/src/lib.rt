@@ -1,4 +1,4 @@
-//! `show`: what lines of frames say, or where a line is none.
+//! `show`: what lines of frames say, or the place at which a line is wrong.
 #![tactic(auto)]
 
 mod law;

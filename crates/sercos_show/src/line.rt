@@ -24,7 +24,7 @@ pub enum LineKind {
 }
 
 /// The largest COUNT.
-const MOST: u32 = 19696;
+const MOST_BITS: u32 = 19696;
 
 // How many bytes of a text a line begins with.
 fn shared_with(line: &[u8], text: &[u8]) -> usize
@@ -181,7 +181,7 @@ fn read_count(text: &[u8]) -> Result<(usize, usize), usize>
     ensures most { IfOk result (λ r. r.1 ≤ 19696) }
     ensures bound { IfErr result (λ place. place ≤ length text.now) }
 {
-    let (len, count) = sercos_text::read_number(text, MOST)?;
+    let (len, count) = sercos_text::read_number(text, MOST_BITS)?;
     if text.get(len) != Some(&b' ') {
         return Err(len);
     }

@@ -97,7 +97,7 @@ fn show_single(content: &[u8], out: &mut Vec<u8>) -> Result<(), AllocError>
     }
 }
 
-// How many bytes are wanted behind the address of an AT: those found, where they are at least four, and else four.
+// How many bytes an AT should have after its address: as many as were found, but at least four.
 #[tactic(auto, unfolding(crate::specs::Show::wanted_len))]
 fn wanted_len(content: &[u8]) -> u16
     requires { length content.now ≤ 2048 }

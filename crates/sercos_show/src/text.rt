@@ -34,7 +34,7 @@ fn push_bit(bit: bool, out: &mut Vec<u8>) -> Result<(), AllocError>
     push_text(if bit { "1" } else { "0" }, out)
 }
 
-// Appends two bits, each behind its name.
+// Appends two bits, each after its name.
 #[tactic(auto, unfolding(crate::specs::Show::two_bits))]
 fn push_bits(
     first: &str,
@@ -51,7 +51,7 @@ fn push_bits(
     push_bit(b, out)
 }
 
-// Appends a bit and a number, each behind its name.
+// Appends a bit and a number, each after its name.
 #[tactic(auto, unfolding(crate::specs::Show::bit_and_number))]
 fn push_bit_and_number(
     first: &str,
@@ -69,7 +69,7 @@ fn push_bit_and_number(
     push_number(number, out)
 }
 
-// Appends two words, each behind its name.
+// Appends two words, each after its name.
 #[tactic(auto, unfolding(crate::specs::Show::two_words))]
 fn push_words(
     first: &str,

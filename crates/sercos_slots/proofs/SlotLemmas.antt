@@ -11,7 +11,7 @@ use Rattle.sercos_timing.specs.Inequalities.{greatest_tmtsy, positions, Fits}
 use Rattle.sercos_timing.specs.Valid.{IsValid}
 use Rattle.sercos_plan.proofs.LeastLemmas.{Among}
 use Rattle.sercos_plan.proofs.PlanLemmas.{among_greatest}
-use Rattle.sercos_slots.specs.Slots.{AtSlot, MdtSlot, Held, mdt_content, record_of, record_place, end_of, HasPause, HasRecovered, IsAtItsTime, IsServed}
+use Rattle.sercos_slots.specs.Slots.{AtSlot, MdtSlot, Held, mdt_content, record_of, record_start, end_of, HasPause, HasRecovered, IsAtItsTime, IsServed}
 use Rattle.sercos_slots.specs.OnPlan.{held_of, IsSentBefore, AreOnPlan, PlanKeepsApart}
 use Rattle.sercos_slots.proofs.Spacing.{IsSpaced, AreSpaced, spaced, either_first, after_mst, before_mdt, kept_at}
 use Rattle.sercos_slots.proofs.Places.{has_turn, place_from, place_within, places_apart, record_place_is, length_records, length_record, record_there}
@@ -82,7 +82,7 @@ le_start x a a' e h = omega arith
 count : (records : List (List ℕ)) (ds : List Wish) → map length records ≡ map (λ (d : Wish). d.record_len) ds → length records ≡ length ds
 count records ds same = sym (length-map records length) ∙ ap length same ∙ length-map ds (λ d. d.record_len)
 
-there_at : (m : MdtSlot) (k place len : ℕ) → place ≡ record_place m k → length (record_of m k) ≡ len → k < length m.records → take len (drop place (mdt_content m)) ≡ record_of m k
+there_at : (m : MdtSlot) (k place len : ℕ) → place ≡ record_start m k → length (record_of m k) ≡ len → k < length m.records → take len (drop place (mdt_content m)) ≡ record_of m k
 there_at m k place len e f within =
     let next : 1 + length (concat (take k m.records)) ≡ suc (length (concat (take k m.records))) = omega arith in
     rw (e, next, ← f) (record_there m.records k within)
@@ -96,7 +96,7 @@ served w p held ats mdt valid fits on k h within is =
     let seven : w.rate * p.t2 + (mdt_bits w + w.rate * (times w k).tmtsg) ≤ w.rate * p.t3 =
     kept_at _ (λ k. w.rate * p.t2 + (mdt_bits w + w.rate * (times w k).tmtsg)) (λ k. w.rate * p.t3) (sent w) (λ k before. refl) fits.rule_7 k turn in
     let ten : p.t4 + (times w k).t4min ≤ w.cycle = kept_at _ (λ k. p.t4 + (times w k).t4min) (λ k. w.cycle) (sent w) (λ k before. refl) fits.rule_10 k turn in
-    let place : (j : ℕ) → j < length w.drives → record_place mdt j ≡ slice_index (positions 1 w.drives) j = λ j in'. record_place_is 1 mdt.records w.drives j on.records in' in
+    let place : (j : ℕ) → j < length w.drives → record_start mdt j ≡ slice_index (positions 1 w.drives) j = λ j in'. record_place_is 1 mdt.records w.drives j on.records in' in
     let position : h.position ≡ slice_index (positions 1 w.drives) k = ap (λ (g : Held). g.position) same ∙ ap (λ (ps : List ℕ). slice_index ps k) fits.rule_12.0 in
     let first = place_from 1 w.drives k within in
     let last = place_within 1 w.drives k within in

@@ -1,5 +1,5 @@
 -- The telegrams of a cycle as its record has them, and that they are apart.
-use Rattle.std.specs.Prelude.{◌≡◌, ℕ, ◌==◌, ◌<◌, Bool, true, false, List, [], ◌∷◌, ◌++◌, length, map, Option, slice_index, ℤ, pos, ◌+ℤ◌}
+use Rattle.std.specs.Prelude.{◌≡◌, ℕ, ◌==◌, ◌<◌, List, [], ◌∷◌, ◌++◌, length, map, Option, slice_index, ℤ, pos, ◌+ℤ◌}
 use Rattle.std.specs.List.{All, filter, position_or_len}
 use Rattle.sercos_telegram.specs.Kinds.{is_mst, is_at, is_mdt}
 use Rattle.sercos_telegram.specs.declared.layout.Kind.{Kind}

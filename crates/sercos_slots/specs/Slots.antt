@@ -34,8 +34,8 @@ mdt_content m = all_drives ∷ concat m.records
 abbrev pub record_of : MdtSlot → ℕ → List ℕ
 record_of m k = slice_index_or m.records k []
 
-abbrev pub record_place : MdtSlot → ℕ → ℕ
-record_place m k = 1 + length (concat (take k m.records))
+abbrev pub record_start : MdtSlot → ℕ → ℕ
+record_start m k = 1 + length (concat (take k m.records))
 
 -- What a drive holds of the plan: T1 (S-0-0006), T4 (S-0-0007), T3 (S-0-0008), the position of its data record (S-0-0009), the
 -- length of the MDT (S-0-0010) and T2 (S-0-0089).
@@ -63,7 +63,7 @@ abbrev pub HasRecovered : WishesView → AtSlot → AtSlot → Type 0
 HasRecovered w earlier later =
     same_slave w earlier.drive later.drive ≡ true → end_of earlier + w.rate * (times w later.drive).tatat ≤ later.start
 
--- Two data records, given by place and length, share no byte.
+-- Two data records, given by their first byte and length, share no byte.
 abbrev pub AreSeparate : ℕ → ℕ → ℕ → ℕ → Type 0
 AreSeparate a a_len b b_len = (a + a_len ≤ b) ⊎ (b + b_len ≤ a)
 
@@ -77,14 +77,14 @@ pub record IsServed (w : WishesView) (mdt : MdtSlot) (k : ℕ) (h : Held) : Type
   -- from the capture of feedback values to the end of the cycle, the drive has its time
   pub t4 : h.t4 + (times w k).t4min ≤ w.cycle
   -- its data record begins at the position that it holds, and there it reads the whole record
-  pub position : h.position ≡ record_place mdt k
+  pub position : h.position ≡ record_start mdt k
   pub there : take (wish w k).record_len (drop h.position (mdt_content mdt)) ≡ record_of mdt k
   -- the MDT has the length that the drive holds, and the record lies within it
   pub mdt_len : h.mdt_len + 1 ≡ length (mdt_content mdt)
   pub inside : (1 ≤ h.position) × (h.position + (wish w k).record_len ≤ h.mdt_len + 1)
   -- no other drive's data record shares a byte with it
   pub apart : (j : ℕ) → j < length w.drives → (j ≡ k → ⊥) →
-      AreSeparate h.position (wish w k).record_len (record_place mdt j) (wish w j).record_len
+      AreSeparate h.position (wish w k).record_len (record_start mdt j) (wish w j).record_len
 
 -- The ATs of a cycle, in the order sent, and its MDT are apart. Here w has the ring's times and lengths, and `held` is what each
 -- drive holds that is in phase 3 or 4.

@@ -9,12 +9,13 @@ use Rattle.sercos_timing.specs.declared.wishes.Times.{Times}
 use Rattle.sercos_timing.specs.Views.{WishesView, PlanView}
 use Rattle.sercos_timing.specs.Order.{no_wish, wish, times}
 use Rattle.sercos_timing.specs.Inequalities.{Fits}
-use Rattle.sercos_timing.specs.Valid.{IsValid}
+use Rattle.sercos_timing.specs.Limits.{most_cycle}
+use Rattle.sercos_timing.specs.Valid.{IsValid, is_cycle, is_control, is_address}
 use Rattle.sercos_block.specs.declared.block.Block.{Block}
 use Rattle.sercos_block.specs.declared.check.BadBlock.{BadBlock}
 use Rattle.sercos_block.specs.Rules.{blocks_fault}
 use Rattle.sercos_block.specs.Views.{DriveView, RingView}
-use Rattle.sercos_block.specs.Rings.{is_cycle, is_control, are_ring_numbers, has_ring_numbers, are_times, is_address, are_drive_numbers, has_drive_numbers, has_blocks, are_cyclic, has_address, is_drive, are_drives, has_drives, is_ring, is_order, at_len, record_len, wish_of, wishes_of}
+use Rattle.sercos_block.specs.Rings.{are_ring_numbers, has_ring_numbers, are_times, are_drive_numbers, has_drive_numbers, has_blocks, are_cyclic, has_address, is_drive, are_drives, has_drives, is_ring, is_order, at_len, record_len, wish_of, wishes_of}
 use Rattle.sercos_block.proofs.WishLemmas.{length_wishes}
 use Rattle.sercos_command.specs.Checks.{number_at, carried_len, breaks_1, breaks_2, breaks_6, breaks_7, breaks_8, breaks_9, breaks_10, breaks_15, breaks_89, named, unfit_for_phase_3}
 use Rattle.sercos_startup.specs.StartUp.{PlanPassesCheck}
@@ -69,14 +70,15 @@ ring_drive r k d ok at =
     let (are, _) = and_parts (are_drives [] r.drives) _ d2 in
     drive_keeps [] r.drives k d are at
 
-pub ring_cycles : (r : RingView) → is_ring r ≡ true → (is_cycle r.cycle ≡ true) × (is_control r.cycle r.control ≡ true)
+pub ring_cycles : (r : RingView) → is_ring r ≡ true → (is_cycle r.cycle ≡ true) × (is_control r.cycle r.control ≡ true) × (nat_le r.control most_cycle ≡ true)
 unfolding is_ring are_ring_numbers
 ring_cycles r ok =
     let (numbers, _) = and_parts (has_ring_numbers r) _ ok in
     let (_, n1) = and_parts _ _ numbers in
     let (cycle, n2) = and_parts (is_cycle r.cycle) _ n1 in
-    let (control, _) = and_parts (is_control r.cycle r.control) _ n2 in
-    (cycle, control)
+    let (control, n3) = and_parts (is_control r.cycle r.control) _ n2 in
+    let (most, _) = and_parts (nat_le r.control most_cycle) _ n3 in
+    (cycle, control, most)
 
 wish_from : (drives : List DriveView) (k : ℕ) (d : DriveView) → slice_get drives k ≡ Some d → slice_index_or (map wish_of drives) k no_wish ≡ wish_of d
 wish_from [] k d at = cc
@@ -152,16 +154,12 @@ small_times t ok =
 keeps_1 : (cycle control : ℕ) → 1 ≤ cycle → is_control cycle control ≡ true → ((cycle == 0) || ((control == 0) || not (control % cycle == 0))) ≡ false
 unfolding is_control
 keeps_1 cycle control some ok =
-    let (low, rest) = and_parts (nat_le 1 control) _ ok in
-    let (_, whole) = and_parts (nat_le control 64000) _ rest in
+    let (low, whole) = and_parts (nat_le 1 control) (control % cycle == 0) ok in
     let low' : 1 ≤ control = leb-true 1 control low in
     or_from _ _ (ne_eqb cycle 0 (λ e. omega arith)) (or_from _ _ (ne_eqb control 0 (λ e. omega arith)) (rw whole refl))
 
-pub small_control : (cycle control : ℕ) → is_control cycle control ≡ true → control < 65536
-unfolding is_control
-small_control cycle control ok =
-    let (_, rest) = and_parts (nat_le 1 control) _ ok in
-    let (high, _) = and_parts (nat_le control 64000) _ rest in
+pub small_control : (control : ℕ) → nat_le control most_cycle ≡ true → control < 65536
+small_control control high =
     let most : control ≤ 64000 = leb-true _ _ high in
     omega arith
 
@@ -241,7 +239,7 @@ plan_passes_check r p k d blocks ok valid fits at is holds =
     let h_16 = holds.1.1.1.1.1.1.1.1.0 in
     let h_24 = holds.1.1.1.1.1.1.1.1.1.0 in
     let h_89 = holds.1.1.1.1.1.1.1.1.1.1.0 in
-    let n_1 = number_is blocks 1 r.control h_1 (small_control r.cycle r.control cycles.1) in
+    let n_1 = number_is blocks 1 r.control h_1 (small_control r.control cycles.2) in
     let n_2 = number_is blocks 2 r.cycle h_2 (omega arith) in
     let n_6 = number_is blocks 6 (slice_index p.t1 k) h_6 (omega arith) in
     let n_7 = number_is blocks 7 p.t4 h_7 (omega arith) in

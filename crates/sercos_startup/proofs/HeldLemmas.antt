@@ -75,7 +75,7 @@ writes_start_up r p k d ok valid fits at =
     let at_list : bytes_in (map (λ (i : Idn). i.raw) (member (known_of r) k).at) ≡ list_bytes d.at = ap (λ (m : MemberView). bytes_in (map (λ (i : Idn). i.raw) m.at)) is ∙ list_told d.at in
     let mdt_list : bytes_in (map (λ (i : Idn). i.raw) (member (known_of r) k).mdt) ≡ list_bytes d.mdt = ap (λ (m : MemberView). bytes_in (map (λ (i : Idn). i.raw) m.mdt)) is ∙ list_told d.mdt in
     eleven
-    (two_bytes 1 r.control (small_control r.cycle r.control cycles.1))
+    (two_bytes 1 r.control (small_control r.control cycles.2))
     (two_bytes 2 r.cycle small.cycle)
     (two_bytes 6 (slice_index p.t1 k) small.t1)
     (two_bytes 7 p.t4 small.t4)

@@ -18,7 +18,7 @@ use Rattle.sercos_startup.specs.Own.{OwnStay, OwnAtOpening}
 use Rattle.sercos_startup.proofs.BlockFinds.{first_is_new}
 use Rattle.sercos_startup.proofs.LaterLemmas.{after_check}
 
--- a built-in block is none of them
+-- a built-in block isn't one of them
 no_own : (b : Block) (blocks : List Block) → is_built_in b.idn.raw ≡ true → filter is_own_outside (b ∷ blocks) ≡ filter is_own_outside blocks
 no_own b blocks built = by (is_built_in b.idn.raw) built
   where

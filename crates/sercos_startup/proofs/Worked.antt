@@ -11,7 +11,7 @@ use Rattle.sercos_step.specs.declared.request.Request.TheVariants as request
 use Rattle.sercos_step.specs.declared.request.Outcome.{Outcome}
 use Rattle.sercos_step.specs.declared.request.Outcome.TheVariants as outcome
 use Rattle.sercos_timing.specs.Views.{PlanView}
-use Rattle.sercos_timing.specs.Valid.{is_rate, IsValid}
+use Rattle.sercos_timing.specs.Valid.{is_rate, IsValid, is_cycle, is_control}
 use Rattle.sercos_timing.specs.FirstBroken.{first_broken, broken_by, broken_position}
 use Rattle.sercos_timing.specs.Inequalities.{Fits}
 use Rattle.sercos_timing.proofs.BreakLemmas.{fits_from}
@@ -20,7 +20,7 @@ use Rattle.sercos_block.specs.BuiltIns.{built_in}
 use Rattle.sercos_block.specs.Rules.{block_fault, blocks_fault}
 use Rattle.sercos_block.specs.Stores.{inserted, with_own, with_data, store_of}
 use Rattle.sercos_block.specs.Views.{DriveView, RingView}
-use Rattle.sercos_block.specs.Rings.{is_cycle, is_control, are_ring_numbers, are_times, are_drive_numbers, has_blocks, attribute_in, row_in, built_in_attribute, own_attribute, block_attribute, cyclic_len, are_cyclic, has_address, is_drive, are_drives, is_turn, are_turns, is_order, mdt_len, record_len, listed_len, has_drives, is_ring, wishes_of}
+use Rattle.sercos_block.specs.Rings.{are_ring_numbers, are_times, are_drive_numbers, has_blocks, attribute_in, row_in, built_in_attribute, own_attribute, block_attribute, cyclic_len, are_cyclic, has_address, is_drive, are_drives, is_turn, are_turns, is_order, mdt_len, record_len, listed_len, has_drives, is_ring, wishes_of}
 use Rattle.sercos_command.specs.Checks.{number_at, idns_at, carried_len, unfit_for_phase_3}
 use Rattle.sercos_seat.specs.Ring.{member_of, known_of}
 use Rattle.sercos_seat.specs.Agenda.{idn, declared_times, reads, wishes_given}

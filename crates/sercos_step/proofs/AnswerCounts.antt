@@ -34,7 +34,7 @@ times_le p n k le = grind arith
 pub times_more : (p n : ℕ) → p * (3 + n) ≡ p * n + 3 * p
 times_more p n = grind arith
 
--- The steps are at most as many as counted, from any words, and exactly so many where they all have a word.
+-- The steps are at most as many as counted, from any words, and exactly as many if they all have a word.
 
 reading_most : (s : Shape) (e : ℕ) (words : List ℕ) → length (reading s e words) ≤ words_in s (slice_index words 0)
 reading_most shape.One e [] = omega arith

@@ -38,7 +38,7 @@ last_by n k h = grind (arith, nat_tests)
 pub last_by-behind : (n k : ℕ) → 1 ≤ k → (nat_lt 0 k && nat_le (n - 1) k) ≡ nat_le n (suc k)
 last_by-behind n k h = grind (arith, nat_tests)
 
--- behind the opening, and behind the attribute, there are more steps
+-- after the opening, and after the attribute, there are more steps
 pub not_yet_1 : (n : ℕ) → 0 < n → false ≡ nat_le (suc n) 1
 not_yet_1 n h = grind (arith, nat_tests)
 

@@ -5,13 +5,13 @@ use Rattle.sercos_step.specs.declared.shape.Shape.{Shape}
 use Rattle.sercos_step.specs.declared.shape.Shape.TheVariants as shape
 use Rattle.sercos_step.specs.Words.{words_of, bytes_in, at_least_one, words_told, bytes_read}
 
-low_back : (low high : ℕ) → low < 256 → (low + 256 * high) % 256 ≡ low
+pub low_back : (low high : ℕ) → low < 256 → (low + 256 * high) % 256 ≡ low
 low_back low high h = omega arith
 
-high_back : (low high : ℕ) → low < 256 → (low + 256 * high) / 256 ≡ high
+pub high_back : (low high : ℕ) → low < 256 → (low + 256 * high) / 256 ≡ high
 high_back low high h = omega arith
 
-bytes_back : (bytes : List ℕ) → AreBytes bytes → take (length bytes) (bytes_in (words_of bytes)) ≡ bytes
+pub bytes_back : (bytes : List ℕ) → AreBytes bytes → take (length bytes) (bytes_in (words_of bytes)) ≡ bytes
 unfolding AreBytes
 bytes_back [] are = refl
 bytes_back (x ∷ []) are = let e : x % 256 ≡ x = omega (arith, are.0) in rw e refl

@@ -14,7 +14,7 @@ use Rattle.sercos_step.proofs.ReadWords.{few_read, some_read, none_kept}
 
 -- the next step, from the one that the element's own words give
 module _ (idn : Idn) (e : ℕ) (p : ProgressView) (s : Shape) (r : Step) (laid : s ≡ shape_of e (p.low + 65536 * p.high)) where
-  -- the step is the next of the element's own, behind so many others
+  -- the step is the next of the element's own, after `before` others
   abbrev IsNextBehind : ℕ → Type 0
   IsNextBehind before = (ws : List ℕ) → p.count - before ≡ length ws → p.first ≡ slice_index ws 0 → length ws < length (reading s e ws) → Some r ≡ slice_get (reading s e ws) (length ws)
 
@@ -51,7 +51,7 @@ module _ (idn : Idn) (e : ℕ) (p : ProgressView) (s : Shape) (r : Step) (laid :
   ]
 
 module _ (idn : Idn) (e word : ℕ) (p : ProgressView) (s : Shape) (first : ℕ) (bytes : List ℕ) (whole : Bool) (count : ℕ) (counted : count ≡ min (p.count + 1) 65535) (laid : s ≡ shape_of e (p.low + 65536 * p.high)) where
-  -- one more of the element's own words is kept, behind so many others
+  -- one more of the element's own words is kept, after `before` others
   abbrev IsAfterBehind : ℕ → Type 0
   IsAfterBehind before = (ws : List ℕ) → p.count - before ≡ length ws → p.first ≡ slice_index ws 0 → p.bytes ≡ bytes_read s ws → length ws < length (reading s e ws) → IsAfterWord s e (ws ++ word ∷ []) first bytes whole
 
@@ -83,7 +83,7 @@ module _ (idn : Idn) (e word : ℕ) (p : ProgressView) (s : Shape) (first : ℕ)
         rw (asks, leb-suc-suc, ← laid0) a.whole_is,
       )
 
-  -- behind an attribute
+  -- after an attribute
   deep : asks_attribute e ≡ true → (words : List ℕ) → IsAtRead p e words → is_whole (request.Read idn e) words ≡ false → 3 ≤ p.count →
       IsAfterBehind 3 →
       IsAtRead next e (words ++ word ∷ []) × (whole ≡ is_whole (request.Read idn e) (words ++ word ∷ []))

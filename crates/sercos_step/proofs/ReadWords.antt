@@ -45,7 +45,7 @@ take_nil : (n : ℕ) → [] ≡ take {A = ℕ} n []
 take_nil zero = refl
 take_nil (suc n) = refl
 
-bytes_in-append : (words : List ℕ) (w : ℕ) → bytes_in (words ++ w ∷ []) ≡ bytes_in words ++ (w % 256) ∷ (w / 256) ∷ []
+pub bytes_in-append : (words : List ℕ) (w : ℕ) → bytes_in (words ++ w ∷ []) ≡ bytes_in words ++ (w % 256) ∷ (w / 256) ∷ []
 bytes_in-append [] w = refl
 bytes_in-append (x ∷ words) w = ap (λ (l : List ℕ). (x % 256) ∷ (x / 256) ∷ l) (bytes_in-append words w)
 

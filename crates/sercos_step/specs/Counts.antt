@@ -1,6 +1,8 @@
 -- How many answers a transfer has. Answers are listed newest first, their words oldest first.
 use Rattle.std.specs.Prelude.{◌≡◌, ℕ, ◌+◌, ◌*◌, ◌/◌, ◌<◌, ◌≤◌, ◌==◌, if◌then◌else◌, List, [], ◌∷◌, length, drop, slice_index, Some}
 use Rattle.sercos_idn.specs.declared.idn.Idn.{Idn}
+use Rattle.sercos_idn.specs.Elements.{attribute_element, minimum_element, data_element}
+use Rattle.sercos_idn.specs.Commands.{running_status}
 use Rattle.sercos_step.specs.declared.step.Answer.{Answer}
 use Rattle.sercos_step.specs.declared.shape.Shape.TheVariants as shape
 use Rattle.sercos_step.specs.declared.request.Request.{Request}
@@ -9,10 +11,10 @@ use Rattle.sercos_step.specs.declared.request.Outcome.TheVariants as outcome
 use Rattle.sercos_step.specs.Words.{shape_of, words_in, words_told}
 use Rattle.sercos_step.specs.Steps.{steps_before, attribute_read, answer_words, outcome_of, AreAnswers}
 
--- How often the data status of a command is read: once, and once more after each status that is 7 (running).
+-- How often the data status of a command is read: once, and once more after each status of a running command.
 abbrev pub polls : List ℕ → ℕ
 polls [] = 1
-polls (status ∷ words) = 1 + (if status == 7 then polls words else 0)
+polls (status ∷ words) = 1 + (if status == running_status then polls words else 0)
 
 -- How many answers a transfer has when it is complete, as far as the words so far tell. One answers the opening. In a read before
 -- minimum, maximum and operation data, and in a write before operation data, two answer the reads of the attribute. Then there is
@@ -20,7 +22,7 @@ polls (status ∷ words) = 1 + (if status == 7 then polls words else 0)
 -- one the cancel.
 abbrev pub count_of : Request → List ℕ → ℕ
 count_of (request.Read idn e) words = steps_before e + words_in (shape_of e (attribute_read e words)) (slice_index words (steps_before e))
-count_of (request.Write idn e bytes) words = if e == 7 then 3 + length (words_told (shape_of 7 (attribute_read 7 words)) bytes) else 1 + length (words_told (shape_of e 0) bytes)
+count_of (request.Write idn e bytes) words = if e == data_element then 3 + length (words_told (shape_of data_element (attribute_read data_element words)) bytes) else 1 + length (words_told (shape_of e 0) bytes)
 count_of (request.Command idn) words = 3 + polls (drop 2 words)
 
 -- A complete transfer has exactly as many answers as are counted.
@@ -33,30 +35,30 @@ HasAtMost = (r : Request) (h : List Answer) → AreAnswers r h → length h ≤ 
 
 -- A read of an attribute has at most three answers.
 abbrev pub AttributeTakes : Type 0
-AttributeTakes = (idn : Idn) (h : List Answer) → AreAnswers (request.Read idn 3) h → length h ≤ 3
+AttributeTakes = (idn : Idn) (h : List Answer) → AreAnswers (request.Read idn attribute_element) h → length h ≤ 3
 
 -- A read of a minimum, a maximum or operation data has at most four answers if the attribute says that it is one word. The
 -- attribute is known after three answers.
 abbrev pub ValueTakes : Type 0
-ValueTakes = (idn : Idn) (e : ℕ) (h : List Answer) → 5 ≤ e → AreAnswers (request.Read idn e) h → (3 ≤ length h → shape_of e (attribute_read e (answer_words h)) ≡ shape.One) → length h ≤ 4
+ValueTakes = (idn : Idn) (e : ℕ) (h : List Answer) → minimum_element ≤ e → AreAnswers (request.Read idn e) h → (3 ≤ length h → shape_of e (attribute_read e (answer_words h)) ≡ shape.One) → length h ≤ 4
 
 -- A read of operation data has at most 5 + k answers if the attribute says that it is a list, and the list has at most 2k bytes,
 -- as its first word says.
 abbrev pub ListTakes : Type 0
-ListTakes = (idn : Idn) (k : ℕ) (h : List Answer) → AreAnswers (request.Read idn 7) h → (3 ≤ length h → shape_of 7 (attribute_read 7 (answer_words h)) ≡ shape.List) → slice_index (answer_words h) 3 ≤ 2 * k → length h ≤ 5 + k
+ListTakes = (idn : Idn) (k : ℕ) (h : List Answer) → AreAnswers (request.Read idn data_element) h → (3 ≤ length h → shape_of data_element (attribute_read data_element (answer_words h)) ≡ shape.List) → slice_index (answer_words h) 3 ≤ 2 * k → length h ≤ 5 + k
 
 -- A write of at most two bytes to operation data of one word has at most four answers.
 abbrev pub ValueWriteTakes : Type 0
-ValueWriteTakes = (idn : Idn) (bytes : List ℕ) (h : List Answer) → length bytes ≤ 2 → AreAnswers (request.Write idn 7 bytes) h → (3 ≤ length h → shape_of 7 (attribute_read 7 (answer_words h)) ≡ shape.One) → length h ≤ 4
+ValueWriteTakes = (idn : Idn) (bytes : List ℕ) (h : List Answer) → length bytes ≤ 2 → AreAnswers (request.Write idn data_element bytes) h → (3 ≤ length h → shape_of data_element (attribute_read data_element (answer_words h)) ≡ shape.One) → length h ≤ 4
 
 -- A write of at most 2k bytes to operation data that is a list has at most 5 + k answers.
 abbrev pub ListWriteTakes : Type 0
-ListWriteTakes = (idn : Idn) (bytes : List ℕ) (k : ℕ) (h : List Answer) → length bytes ≤ 2 * k → AreAnswers (request.Write idn 7 bytes) h → (3 ≤ length h → shape_of 7 (attribute_read 7 (answer_words h)) ≡ shape.List) → length h ≤ 5 + k
+ListWriteTakes = (idn : Idn) (bytes : List ℕ) (k : ℕ) (h : List Answer) → length bytes ≤ 2 * k → AreAnswers (request.Write idn data_element bytes) h → (3 ≤ length h → shape_of data_element (attribute_read data_element (answer_words h)) ≡ shape.List) → length h ≤ 5 + k
 
 -- The data statuses of a command are read a period apart, the first of them a period after the setting, or later. The command
--- takes a time from the setting on, so no status that is read at its end or later is 7: each status that is 7 was read before.
+-- takes a time from the setting on, so each status of a running command was read before its end.
 abbrev pub EndsInTime : ℕ → ℕ → List Answer → Type 0
-EndsInTime period time h = (k : ℕ) → k < polls (drop 2 (answer_words h)) → slice_index (drop 2 (answer_words h)) k ≡ 7 → (k + 1) * period < time
+EndsInTime period time h = (k : ℕ) → k < polls (drop 2 (answer_words h)) → slice_index (drop 2 (answer_words h)) k ≡ running_status → (k + 1) * period < time
 
 -- Then its answers, a period each, take its time and four periods at most.
 abbrev pub CommandTakes : Type 0

@@ -1,6 +1,8 @@
 -- What a transfer keeps of the answers it was given, and how that stands for them.
 use Rattle.std.specs.Prelude.{◌≡◌, ℕ, ◌-◌, ◌%◌, ◌/◌, ◌==◌, nat_le, nat_lt, Bool, true, false, ◌&&◌, ◌||◌, if◌then◌else◌, List, [], ◌∷◌, ◌++◌, length, take, drop, min, slice_index, is_some}
 use Rattle.sercos_idn.specs.declared.idn.Idn.{Idn}
+use Rattle.sercos_idn.specs.Elements.{data_element}
+use Rattle.sercos_idn.specs.Commands.{running_status}
 use Rattle.sercos_step.specs.declared.step.Answer.{Answer}
 use Rattle.sercos_step.specs.declared.shape.Shape.{Shape}
 use Rattle.sercos_step.specs.declared.shape.Shape.TheVariants as shape
@@ -58,7 +60,7 @@ pub record IsAtWrite (p : ProgressView) (words : List ℕ) : Type 0 where
 -- all data statuses so far say that the command is running
 abbrev pub is_running : List ℕ → Bool
 is_running [] = true
-is_running (status ∷ words) = (status == 7) && is_running words
+is_running (status ∷ words) = (status == running_status) && is_running words
 
 -- the answers to a command, where those that give the data status count as one, and that only once the command has ended
 abbrev pub command_count : List ℕ → ℕ
@@ -73,7 +75,7 @@ pub record IsAtCommand (p : ProgressView) (words : List ℕ) : Type 0 where
 
 -- the count of a command after one more word
 abbrev pub count_with : ℕ → ℕ → ℕ
-count_with count word = if count == 0 then 1 else (if (count == 1) || (word == 7) then 2 else 3)
+count_with count word = if count == 0 then 1 else (if (count == 1) || (word == running_status) then 2 else 3)
 
 -- after these words of a command: whether they are all, and what is kept
 pub record IsAfterCommand (idn : Idn) (p : ProgressView) (words : List ℕ) (whole : Bool) : Type 0 where
@@ -88,7 +90,7 @@ with_attribute p word = record p { low = if p.count == 1 then word else p.low; h
 -- whether one more answer ends a write, from the answers before it and the word of the attribute
 abbrev pub ends_write : ℕ → ℕ → List ℕ → ℕ → Bool
 ends_write e attribute bytes count =
-    if e == 7 then nat_le 3 count && nat_le (length (words_told (shape_of 7 attribute) bytes)) (count - 2)
+    if e == data_element then nat_le 3 count && nat_le (length (words_told (shape_of data_element attribute) bytes)) (count - 2)
     else nat_le (length (words_told (shape_of e 0) bytes)) count
 
 -- what is kept while a request goes on, after these words

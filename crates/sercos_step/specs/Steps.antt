@@ -1,6 +1,8 @@
 -- The steps of a transfer, as far as the answers so far determine them, and how it ends.
 use Rattle.std.specs.Prelude.{◌≡◌, ℕ, ◌+◌, ◌-◌, ◌*◌, ◌≤◌, ◌==◌, nat_le, Bool, true, false, if◌then◌else◌, List, [], ◌∷◌, ◌++◌, length, drop, replicate, slice_index, slice_get, Option, Some, None}
 use Rattle.sercos_idn.specs.declared.idn.Idn.{Idn}
+use Rattle.sercos_idn.specs.Elements.{identifier_element, attribute_element, minimum_element, data_element}
+use Rattle.sercos_idn.specs.Commands.{to_cancel, to_set, running_status}
 use Rattle.sercos_step.specs.declared.step.Step.{Step}
 use Rattle.sercos_step.specs.declared.step.Answer.{Answer}
 use Rattle.sercos_step.specs.declared.shape.Shape.{Shape}
@@ -16,7 +18,7 @@ a_step write last element word = record { write = write; last = last; element = 
 
 -- opens an identifier number
 abbrev pub opening : Idn → Step
-opening idn = a_step true true 1 idn.raw
+opening idn = a_step true true identifier_element idn.raw
 
 -- the words of an element one by one, the last of them marked
 abbrev pub run : Bool → ℕ → List ℕ → List Step
@@ -37,26 +39,26 @@ writing s e bytes = run true e (words_told s bytes)
 
 -- the two words of the attribute, and then what depends on it and on the words that come after
 abbrev pub attribute_then : (ℕ → List ℕ → List Step) → List ℕ → List Step
-attribute_then rest (low ∷ high ∷ words) = a_step false false 3 0 ∷ a_step false true 3 0 ∷ rest (low + 65536 * high) words
-attribute_then rest _ = a_step false false 3 0 ∷ a_step false true 3 0 ∷ []
+attribute_then rest (low ∷ high ∷ words) = a_step false false attribute_element 0 ∷ a_step false true attribute_element 0 ∷ rest (low + 65536 * high) words
+attribute_then rest _ = a_step false false attribute_element 0 ∷ a_step false true attribute_element 0 ∷ []
 
--- the data status is read until it isn't 7 (running), and then the command is cancelled
+-- the data status is read until it isn't that of a running command, and then the command is cancelled
 abbrev pub polling : List ℕ → List Step
-polling [] = a_step false true 1 0 ∷ []
-polling (status ∷ words) = a_step false true 1 0 ∷ (if status == 7 then polling words else a_step true true 7 0 ∷ [])
+polling [] = a_step false true identifier_element 0 ∷ []
+polling (status ∷ words) = a_step false true identifier_element 0 ∷ (if status == running_status then polling words else a_step true true data_element to_cancel ∷ [])
 
 -- Whether the attribute is read before an element's own words: in a read before minimum, maximum and operation data, in a
 -- write before operation data.
 abbrev pub asks_attribute : ℕ → Bool
-asks_attribute e = nat_le 5 e
+asks_attribute e = nat_le minimum_element e
 
 -- all steps of a request that are known from the words that answered the first ones
 abbrev pub steps_of : Request → List ℕ → List Step
 steps_of (request.Read idn e) words =
     opening idn ∷ (if asks_attribute e then attribute_then (λ attribute after. reading (shape_of e attribute) e after) (drop 1 words) else reading (shape_of e 0) e (drop 1 words))
 steps_of (request.Write idn e bytes) words =
-    opening idn ∷ (if e == 7 then attribute_then (λ attribute after. writing (shape_of 7 attribute) 7 bytes) (drop 1 words) else writing (shape_of e 0) e bytes)
-steps_of (request.Command idn) words = opening idn ∷ a_step true true 7 3 ∷ polling (drop 2 words)
+    opening idn ∷ (if e == data_element then attribute_then (λ attribute after. writing (shape_of data_element attribute) data_element bytes) (drop 1 words) else writing (shape_of e 0) e bytes)
+steps_of (request.Command idn) words = opening idn ∷ a_step true true data_element to_set ∷ polling (drop 2 words)
 
 -- the steps before an element's own words, and the word of the attribute that they read
 abbrev pub steps_before : ℕ → ℕ

@@ -4,6 +4,7 @@ use Rattle.sercos_idn.specs.declared.kinds.Length.{Length}
 use Rattle.sercos_idn.specs.declared.kinds.Length.TheVariants as len
 use Rattle.sercos_idn.specs.Codes.{attribute_fault}
 use Rattle.sercos_idn.specs.Attributes.{attribute_of}
+use Rattle.sercos_idn.specs.Elements.{identifier_element, name_element, attribute_element, unit_element, data_element}
 use Rattle.sercos_step.specs.declared.shape.Shape.{Shape}
 use Rattle.sercos_step.specs.declared.shape.Shape.TheVariants as shape
 
@@ -35,10 +36,10 @@ as_value s = s
 -- name and unit are lists, and minimum, maximum and operation data are as the attribute says.
 abbrev pub shape_of : ℕ → ℕ → Shape
 shape_of e word =
-    if e == 1 then shape.One
-    else (if e == 3 then shape.Two
-    else (if (e == 2) || (e == 4) then shape.List
-    else (if e == 7 then shape_by (length_said word) else as_value (shape_by (length_said word)))))
+    if e == identifier_element then shape.One
+    else (if e == attribute_element then shape.Two
+    else (if (e == name_element) || (e == unit_element) then shape.List
+    else (if e == data_element then shape_by (length_said word) else as_value (shape_by (length_said word)))))
 
 -- A list has its length in bytes, its greatest length and then its bytes. One that is read is cut to 1024 bytes.
 abbrev pub words_in_list : ℕ → ℕ

@@ -15,4 +15,4 @@ pub use request::{Job, Outcome, Request};
 pub use shape::Shape;
 pub use step::{Answer, Step};
 pub use transfer::Transfer;
-pub use writing::{byte_at, word_at};
+pub use writing::word_at;

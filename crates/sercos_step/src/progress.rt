@@ -1,23 +1,20 @@
 // What is kept between the steps of a transfer.
 ghost use Rattle.std.specs.Prelude.{◌≡◌, ℕ, ◌+◌, ◌*◌, ◌/◌, ◌%◌, ◌<◌, ◌≤◌, ◌==◌, List, [], ◌∷◌, ◌++◌, length, Some, slice_get, true, false};
+ghost use Rattle.sercos_idn.specs.Elements.{identifier_element, attribute_element, data_element};
 ghost use Rattle.sercos_step.specs.Steps.{a_step, opening, steps_before, steps_of, is_whole};
 ghost use Rattle.sercos_step.specs.Kept.{IsAtRead, IsAtWrite, IsAtCommand, IsAfterCommand, with_attribute, ends_write, count_with};
 
-use crate::reading::{keep_word, push_word, reading_step};
+use crate::reading::{keep_word, reading_step};
 use crate::request::Request;
 use crate::shape::shape_of;
 use crate::step::Step;
 use crate::writing::{told_count, writing_step};
 use sercos_bits::Bytes;
 use sercos_idn::Idn;
+use sercos_idn::command::{CANCEL, RUNNING, SET};
+use sercos_idn::element::{ATTRIBUTE, DATA, IDENTIFIER, MINIMUM};
 use std::marker::Model;
 use std::mem;
-
-// The data status that says that a procedure command is running.
-const RUNNING: u16 = 7;
-
-// What a procedure command is set to.
-const SET: u16 = 3;
 
 // The step that opens an identifier number.
 fn opening(idn: Idn) -> Step
@@ -26,43 +23,43 @@ fn opening(idn: Idn) -> Step
     Step {
         write: true,
         last: true,
-        element: 1,
+        element: IDENTIFIER,
         word: idn.raw,
     }
 }
 
 // The step that reads a word of the attribute, the first one or the last.
 fn attribute_step(last: bool) -> Step
-    ensures { result ≡ a_step false last 3 0 }
+    ensures { result ≡ a_step false last attribute_element 0 }
 {
     Step {
         write: false,
         last,
-        element: 3,
+        element: ATTRIBUTE,
         word: 0,
     }
 }
 
 // The step that reads the data status.
 fn status_step() -> Step
-    ensures { result ≡ a_step false true 1 0 }
+    ensures { result ≡ a_step false true identifier_element 0 }
 {
     Step {
         write: false,
         last: true,
-        element: 1,
+        element: IDENTIFIER,
         word: 0,
     }
 }
 
 // The step that sets a procedure command or cancels it.
 fn command_word(word: u16) -> Step
-    ensures { result ≡ a_step true true 7 word }
+    ensures { result ≡ a_step true true data_element word }
 {
     Step {
         write: true,
         last: true,
-        element: 7,
+        element: DATA,
         word,
     }
 }
@@ -71,7 +68,7 @@ fn command_word(word: u16) -> Step
 fn steps_before(element: u8) -> u16
     ensures { result ≡ steps_before element }
 {
-    if element >= 5 { 3 } else { 1 }
+    if element >= MINIMUM { 3 } else { 1 }
 }
 
 // Whether one more answer ends a write, from the answers before it and the word of the attribute.
@@ -79,8 +76,8 @@ fn ends_write(element: u8, attribute: u32, bytes: &[u8], count: u16) -> bool
     requires { length bytes.now ≤ 1024 }
     ensures { result ≡ ends_write element attribute bytes.now count }
 {
-    if element == 7 {
-        count >= 3 && told_count(shape_of(7, attribute), bytes) <= count - 2
+    if element == DATA {
+        count >= 3 && told_count(shape_of(DATA, attribute), bytes) <= count - 2
     } else {
         told_count(shape_of(element, 0), bytes) <= count
     }
@@ -145,7 +142,7 @@ impl Progress {
         ensures { result ≡ (self.now.status % 256) ∷ (self.now.status / 256) ∷ [] }
     {
         let mut bytes = Bytes::new();
-        push_word(&mut bytes, self.status, 1024);
+        bytes.push_word_within(self.status);
         bytes
     }
 
@@ -196,7 +193,7 @@ impl Progress {
         if self.count == 0 {
             return opening(idn);
         }
-        if element != 7 {
+        if element != DATA {
             return writing_step(
                 shape_of(element, 0),
                 element,
@@ -208,8 +205,8 @@ impl Progress {
             return attribute_step(self.count == 2);
         }
         writing_step(
-            shape_of(7, self.attribute()),
-            7,
+            shape_of(DATA, self.attribute()),
+            DATA,
             bytes.as_slice(),
             self.count - 3,
         )
@@ -230,7 +227,7 @@ impl Progress {
         if self.count == 2 {
             return status_step();
         }
-        command_word(0)
+        command_word(CANCEL)
     }
 
     // Keeps an answer to a read, and says whether it was the last.

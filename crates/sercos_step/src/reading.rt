@@ -4,7 +4,7 @@ ghost use Rattle.sercos_step.specs.Words.{bytes_read};
 ghost use Rattle.sercos_step.specs.Steps.{reading};
 ghost use Rattle.sercos_step.specs.Kept.{is_last_read, most_kept, kept_with, IsAfterWord};
 
-use crate::shape::{MOST, Shape, words_in};
+use crate::shape::{MOST_LIST_BYTES, Shape, words_in};
 use crate::step::Step;
 use sercos_bits::Bytes;
 
@@ -19,7 +19,7 @@ fn is_last_read(shape: Shape, place: u16, first: u16) -> bool
     }
 }
 
-// The step that reads the word at a place, behind words of which the first is known.
+// The step that reads the word at a place, after words of which the first is known.
 pub fn reading_step(shape: Shape, element: u8, place: u16, first: u16) -> Step
     ensures next { (words : List ℕ) → place ≡ length words → first ≡ slice_index words 0 → length words < length (reading shape element words) →
         Some result ≡ slice_get (reading shape element words) (length words) }
@@ -33,8 +33,8 @@ pub fn reading_step(shape: Shape, element: u8, place: u16, first: u16) -> Step
     }
 }
 
-// Adds the bytes of a word, the low byte first, up to a limit.
-pub fn push_word(bytes: &mut Bytes, word: u16, limit: usize)
+// Appends the bytes of a word, the low byte first, as long as there are fewer bytes than a limit.
+fn push_limited(bytes: &mut Bytes, word: u16, limit: usize)
     requires { limit ≤ 1024 }
     ensures { length bytes.old ≤ limit → bytes.new ≡ take limit (bytes.old ++ (word % 256) ∷ (word / 256) ∷ []) }
 {
@@ -46,17 +46,17 @@ pub fn push_word(bytes: &mut Bytes, word: u16, limit: usize)
     }
 }
 
-// Keeps the bytes of the word at a place. Those of a list stand behind its two lengths.
+// Keeps the bytes of the word at a place. Those of a list come after its two lengths.
 fn keep_bytes(bytes: &mut Bytes, shape: Shape, place: u16, first: u16, word: u16)
     ensures { length bytes.old ≤ most_kept shape first → bytes.new ≡ kept_with shape place first word bytes.old }
 {
     match shape {
         Shape::List => {
             if place >= 2 {
-                push_word(bytes, word, first.min(MOST) as usize);
+                push_limited(bytes, word, first.min(MOST_LIST_BYTES) as usize);
             }
         }
-        _ => push_word(bytes, word, MOST as usize),
+        _ => push_limited(bytes, word, MOST_LIST_BYTES as usize),
     }
 }
 

@@ -2,6 +2,7 @@
 ghost use Rattle.std.specs.Prelude.{◌≡◌, ℕ, ◌≤◌};
 ghost use Rattle.sercos_step.specs.Words.{length_said, shape_by, as_value, shape_of, words_in};
 
+use sercos_idn::element::{ATTRIBUTE, DATA, IDENTIFIER, NAME, UNIT};
 use sercos_idn::{Attribute, Length};
 
 /// How the words of an element are laid out.
@@ -11,12 +12,12 @@ pub enum Shape {
     One,
     /// Two words, the low word first.
     Two,
-    /// The length in bytes, the greatest length, and then the bytes two by two.
+    /// The length in bytes, the longest length, and then the bytes two by two.
     List,
 }
 
 // The most bytes of a list that are read.
-pub const MOST: u16 = 1024;
+pub const MOST_LIST_BYTES: u16 = 1024;
 
 // The length that the word of an attribute says. A word that is none is handled as that of a value of two bytes.
 fn length_said(word: u32) -> Length
@@ -54,10 +55,10 @@ pub fn shape_of(element: u8, word: u32) -> Shape
     ensures { result ≡ shape_of element word }
 {
     match element {
-        1 => Shape::One,
-        3 => Shape::Two,
-        2 | 4 => Shape::List,
-        7 => shape_by(length_said(word)),
+        IDENTIFIER => Shape::One,
+        ATTRIBUTE => Shape::Two,
+        NAME | UNIT => Shape::List,
+        DATA => shape_by(length_said(word)),
         _ => as_value(shape_by(length_said(word))),
     }
 }
@@ -70,6 +71,6 @@ pub fn words_in(shape: Shape, first: u16) -> u16
     match shape {
         Shape::One => 1,
         Shape::Two => 2,
-        Shape::List => 2 + (first.min(MOST) + 1) / 2,
+        Shape::List => 2 + (first.min(MOST_LIST_BYTES) + 1) / 2,
     }
 }

@@ -5,13 +5,7 @@ ghost use Rattle.sercos_step.specs.Steps.{writing};
 
 use crate::shape::Shape;
 use crate::step::Step;
-
-/// A byte, or 0 behind the last.
-pub fn byte_at(bytes: &[u8], place: usize) -> u8
-    ensures { result ≡ slice_index bytes.now place }
-{
-    if place < bytes.len() { bytes[place] } else { 0 }
-}
+use sercos_bits::byte_at;
 
 // The word of two bytes, the low byte first.
 fn word_of(low: u8, high: u8) -> u16
@@ -20,8 +14,8 @@ fn word_of(low: u8, high: u8) -> u16
     u16::from(low) + 256 * u16::from(high)
 }
 
-/// The word at a place of the bytes taken two by two, the low byte first. A last odd byte is filled up with 0, and behind it
-/// there is 0.
+/// The word at a place of the bytes taken two by two, the low byte first. A last odd byte is filled up with 0, and after the
+/// last word there is 0.
 pub fn word_at(bytes: &[u8], place: u16) -> u16
     ensures { result ≡ slice_index (words_of bytes.now) place }
 {

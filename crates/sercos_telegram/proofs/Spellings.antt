@@ -61,7 +61,7 @@ single-whole address word info (value ∷ values) content five there rest =
     let lengths = ap length (whole ∙ ap (λ xs. address ∷ xs) rest) in
     absurd (omega (arith, lengths))
 
--- the words behind an address
+-- the words after an address
 pub word_at-first : (content : List ℕ) → word_at (drop 1 content) 0 ≡ word_at content 1
 unfolding word_at
 word_at-first [] = refl

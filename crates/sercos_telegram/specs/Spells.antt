@@ -22,7 +22,7 @@ word_at content place = slice_index content place + 256 * slice_index content (p
 abbrev pub mst_content : ℕ → List ℕ
 mst_content phase = all_drives ∷ phase ∷ []
 
--- what stands behind the address, or in a record: a control or status word, an information word, and values
+-- what follows the address, or is in a record: a control or status word, an information word, and values
 unfoldable pub fields : ℕ → ℕ → List ℕ → List ℕ
 fields word info values = word_bytes word ++ word_bytes info ++ values
 
@@ -38,13 +38,13 @@ at_content address status info values = address ∷ fields (status_word status) 
 abbrev pub record_bytes : Control → ℕ → List ℕ → List ℕ
 record_bytes control info values = fields (control_word control) info values
 
--- an AT of an address with so many bytes behind it
+-- an AT of an address with `len` bytes after it
 pub record SpellsAt (address len : ℕ) (status : Status) (info : ℕ) (values content : List ℕ) : Type 0 where
   pub long : length content ≡ 1 + len
   pub whole : content ≡ at_content address status info values
 
--- A joint MDT with so many bytes behind the address, whose record of a length stands at a position. Position 1 is that
--- of the first byte behind the address. The record has no other length, so it ends within the content.
+-- A joint MDT with `mdt_len` bytes after the address, whose record of `len` bytes is at a position. Position 1 is that
+-- of the first byte after the address. The record has no other length, so it ends within the content.
 pub record SpellsRecord (mdt_len position len : ℕ) (control : Control) (info : ℕ) (values content : List ℕ) : Type 0 where
   pub long : length content ≡ 1 + mdt_len
   pub address : slice_index content 0 ≡ all_drives

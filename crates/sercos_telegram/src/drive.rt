@@ -23,7 +23,7 @@ pub struct At<'a> {
     pub values: &'a [u8],
 }
 
-/// Reads the AT of an address with `len` bytes behind it. The first of a wrong length and a wrong address is the error.
+/// Reads the AT of an address with `len` bytes after it. The first of a wrong length and a wrong address is the error.
 /// The values are part of the content.
 pub fn read_at(address: u8, len: u16, content: &[u8]) -> Result<At<'_>, Layout>
     requires { 4 ≤ len }

@@ -1,4 +1,4 @@
-// What stands behind an address, or in a record: two words and values.
+// What follows an address, or is in a record: two words and values.
 ghost use Rattle.std.specs.Prelude.{◌≡◌, ℕ, ◌+◌, ◌^◌, ◌<◌, ◌≤◌, ◌++◌, length, drop};
 ghost use Rattle.sercos_telegram.specs.Spells.{word_bytes, word_at, fields};
 
@@ -29,18 +29,6 @@ pub fn read_fields(bytes: &[u8]) -> Fields<'_>
     }
 }
 
-// Appends the bytes of a word.
-#[tactic(auto, unfolding(crate::specs::Spells::word_bytes))]
-fn push_word(word: u16, out: &mut Content)
-    requires { length out.old + 2 ≤ 2048 }
-    ensures value { out.new ≡ out.old ++ word_bytes word }
-    ensures len { length out.new ≡ length out.old + 2 }
-{
-    let [low, high] = word.to_le_bytes();
-    out.push_within(low);
-    out.push_within(high);
-}
-
 // Appends bytes.
 fn push_bytes(bytes: &[u8], out: &mut Content)
     requires { length out.old + length bytes.now ≤ 2048 }
@@ -52,12 +40,12 @@ fn push_bytes(bytes: &[u8], out: &mut Content)
 }
 
 /// Appends two words and values.
-#[tactic(auto, unfolding(crate::specs::Spells::fields))]
+#[tactic(auto, unfolding(crate::specs::Spells::fields, crate::specs::Spells::word_bytes))]
 pub fn push_fields(word: u16, info: u16, values: &[u8], out: &mut Content)
     requires { length out.old + 4 + length values.now ≤ 2048 }
     ensures { out.new ≡ out.old ++ fields word info values.now }
 {
-    push_word(word, out);
-    push_word(info, out);
+    out.push_word_within(word);
+    out.push_word_within(info);
     push_bytes(values, out);
 }

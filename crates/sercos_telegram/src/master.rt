@@ -19,7 +19,7 @@ const LAST_PHASE: u8 = 4;
 /// An MST: the master's synchronisation telegram.
 #[derive(Clone, Copy, Debug, PartialEq, Eq)]
 pub struct Mst {
-    /// The phase that is commanded, 0 to 4. It is the byte behind the address, so its bits 7 to 3 are sent as 0, and
+    /// The phase that is commanded, 0 to 4. It is the byte after the address, so its bits 7 to 3 are sent as 0, and
     /// refused otherwise (this profile).
     pub phase: u8,
     ghost phase_in_range: { phase ≤ 4 },
@@ -99,8 +99,8 @@ fn record_part(position: u16, len: u16, content: &[u8]) -> &[u8]
     &content[begin..begin + usize::from(len)]
 }
 
-/// Reads one record of the MDT of phases 3 and 4, which has `mdt_len` bytes behind its address: the one of `len` bytes
-/// from `position` on, 1 being that of the first byte behind the address. The first of a wrong length and a wrong
+/// Reads one record of the MDT of phases 3 and 4, which has `mdt_len` bytes after its address: the one of `len` bytes
+/// from `position` on, 1 being that of the first byte after the address. The first of a wrong length and a wrong
 /// address is the error. The values are part of the content.
 pub fn read_joint(
     mdt_len: u16,

@@ -91,7 +91,7 @@ impl Control {
     }
 }
 
-/// The status word, with which an AT begins behind its address (IEC 61491:1995; the places of the bits are this
+/// The status word, with which an AT begins after its address (IEC 61491:1995; the places of the bits are this
 /// profile's).
 #[derive(Clone, Copy, Debug, PartialEq, Eq)]
 pub struct Status {

@@ -91,7 +91,7 @@ space_stands : field_of 32 ≡ None
 unfolding field_of
 space_stands = refl
 
--- behind a field stands a space or nothing
+-- after a field there is a space or nothing
 rest_of : (tail : Tail) (template items text : List ℕ) (values : List Value) → get_or template 0 32 ≡ 32 → IsLine tail template values items text → IsRest text
 rest_of tail [] items _ _ ends (line_ends is) = tail_rest tail items
 rest_of tail (letter ∷ template) items (_ ∷ text) values ends (byte_stands is rest) = ends

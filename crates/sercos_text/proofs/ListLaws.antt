@@ -63,7 +63,7 @@ space_is : (text : List ℕ) → (get_or text 0 0 == 32) ≡ true → text ≡ 3
 space_is [] is = cc
 space_is (c ∷ text) is = let e : c ≡ 32 = grind (arith, nat_tests) in ap (λ b. b ∷ text) e
 
--- one item and what is behind it
+-- one item and what comes after it
 record Listed (item : Item) (text : List ℕ) : Type 0 where
   is : IsItem item (item_of item (drop 1 text))
   text_is : text ≡ 32 ∷ (item_text item (item_of item (drop 1 text)) ++ drop (listed_len item text) text)
@@ -129,7 +129,7 @@ listed_passes : (item : Item) (text : List ℕ) → item_fault item text ≡ Non
 unfolding listed_fault
 listed_passes item text none = rw none refl
 
--- what stands behind the first item
+-- what comes after the first item
 front_gone : (item : Item) (value : ℕ) (rest : List ℕ) → ItemReads item value rest → drop (listed_len item (32 ∷ (item_text item value ++ rest))) (32 ∷ (item_text item value ++ rest)) ≡ rest
 front_gone item value rest reads =
     let size : listed_len item (32 ∷ (item_text item value ++ rest)) ≡ suc (length (item_text item value)) = omega (arith, reads.len) in

@@ -25,7 +25,7 @@ use Rattle.sercos_text.specs.declared.template.Field.{Field}
 use Rattle.sercos_text.specs.declared.template.Field.TheVariants.{Number, Signed, Hex}
 use Rattle.sercos_text.specs.Fields.{behind, is_negative, is_hex, number_len, number_of, number_fault, negative_fault, signed_fault, signed_len, signed_of, hex_fault, hex_len, hex_of, pairs_fault, pairs_of, is_dash, digit_of, low_pairs, all_hex}
 
--- what stands behind a field: nothing, or a space
+-- what comes after a field: nothing, or a space
 abbrev pub IsRest : List ℕ → Type 0
 IsRest text = get_or text 0 32 ≡ 32
 
@@ -96,7 +96,7 @@ pub number_spelled : (most : ℕ) (text : List ℕ) → most < 2 ^ 64 → IsGood
 number_spelled most text fits good =
     sym (take-append-drop (number_len text) text) ∙ ap (λ front. front ++ drop (number_len text) text) (sym (number_front most text fits good))
 
--- what a number and what is behind it are read as
+-- what a number and the text after it are read as
 pub record ReadsNumber (text : List ℕ) (n : ℕ) : Type 0 where
   pub len : number_len text ≡ length (decimal n)
   pub number : number_of text ≡ n
@@ -349,7 +349,7 @@ unfolding all_hex
 taken_are_hex [] = refl
 taken_are_hex (c ∷ text) = taken_by c text (is_hex c) refl (taken_are_hex text)
 
--- the first so many are digits
+-- the first n are digits
 more_digits : (c k : ℕ) (text : List ℕ) (test : Bool) → is_hex c ≡ test → suc k ≤ cond test (1 + prefix_len is_hex text) 0 → (k ≤ prefix_len is_hex text → all_hex (take k text) ≡ true)
     → all_hex (c ∷ take k text) ≡ true
 unfolding all_hex

@@ -9,9 +9,8 @@ use Rattle.sercos_timing.specs.Inequalities.{positions, Meets, Keeps, Fits}
 use Rattle.sercos_timing.specs.FirstBroken.{asked_by, has_by, is_met, first_unmet, first_misplaced, broken_by, broken_position, first_broken}
 use Rattle.sercos_timing.specs.Valid.{IsValid}
 use Rattle.sercos_timing.specs.declared.wishes.Wish.{Wish}
-use Rattle.sercos_timing.specs.declared.fitting.AtRule.{AtRule}
-use Rattle.sercos_timing.specs.declared.fitting.AtRule.TheVariants.{Start, Master, Records, Capture}
-use Rattle.sercos_timing.specs.declared.asked.StartRule.TheVariants.{Own, Gap, Neighbor, Slave}
+use Rattle.sercos_timing.specs.declared.inequality.Inequality.{Inequality}
+use Rattle.sercos_timing.specs.declared.inequality.Inequality.TheVariants.{Own, Gap, Neighbor, Slave, Master, Records, Capture}
 
 pub meets-met : (o : Option ℕ) (has : ℕ) → is_met o has ≡ true → Meets o has
 meets-met None has h = tt
@@ -75,13 +74,13 @@ misplaced : (next : ℕ) (ds : List Wish) → first_misplaced next ds (positions
 misplaced next [] = refl
 misplaced next (d ∷ ds) = rw (eq-eqb next next refl) (misplaced (next + d.record_len) ds)
 
-by_none : (w : WishesView) (p : PlanView) (n : ℕ) (rule : AtRule) → broken_by w p n rule ≡ None → Keeps (asked_by w p rule) (has_by w p rule) (sent w)
+by_none : (w : WishesView) (p : PlanView) (rule : Inequality) → broken_by w p rule ≡ None → Keeps (asked_by w p rule) (has_by w p rule) (sent w)
 unfolding broken_by
-by_none w p n rule h = keeps-unmet (asked_by w p rule) (has_by w p rule) (sent w) (mapped_none _ _ h)
+by_none w p rule h = keeps-unmet (asked_by w p rule) (has_by w p rule) (sent w) (mapped_none _ _ h)
 
-none_by : (w : WishesView) (p : PlanView) (n : ℕ) (rule : AtRule) → Keeps (asked_by w p rule) (has_by w p rule) (sent w) → broken_by w p n rule ≡ None
+none_by : (w : WishesView) (p : PlanView) (rule : Inequality) → Keeps (asked_by w p rule) (has_by w p rule) (sent w) → broken_by w p rule ≡ None
 unfolding broken_by
-none_by w p n rule h = none_mapped _ _ (unmet-keeps (asked_by w p rule) (has_by w p rule) (sent w) h)
+none_by w p rule h = none_mapped _ _ (unmet-keeps (asked_by w p rule) (has_by w p rule) (sent w) h)
 
 pub fits_from : (w : WishesView) (p : PlanView) → IsValid w → length p.t1 ≡ length w.drives → length p.position ≡ length w.drives → first_broken w p ≡ None → Fits w p
 unfolding first_broken broken_position
@@ -100,16 +99,16 @@ fits_from w p valid times places h =
     record {
       times = times;
       places = places;
-      rule_1 = by_none w p 1 (Start Own) r1.0;
-      rule_2 = by_none w p 2 (Start Gap) r2.0;
-      rule_3 = by_none w p 3 (Start Neighbor) r3.0;
-      rule_4 = by_none w p 4 (Start Slave) r4.0;
+      rule_1 = by_none w p Own r1.0;
+      rule_2 = by_none w p Gap r2.0;
+      rule_3 = by_none w p Neighbor r3.0;
+      rule_4 = by_none w p Slave r4.0;
       rule_5 = meets-met _ _ (if_none _ _ r5.0);
-      rule_6 = by_none w p 6 Master r6.0;
-      rule_7 = by_none w p 7 Records r7.0;
+      rule_6 = by_none w p Master r6.0;
+      rule_7 = by_none w p Records r7.0;
       rule_8 = leb-true _ _ (if_none _ _ r8.0);
       rule_9 = leb-true _ _ (if_none _ _ r9.0);
-      rule_10 = by_none w p 10 Capture r10.0;
+      rule_10 = by_none w p Capture r10.0;
       rule_11 = valid.cycles.control;
       rule_12 = (placed 1 w.drives p.position places (mapped_none _ _ r12.0), eqb-true _ _ (if_none _ _ r12.1));
     }
@@ -117,10 +116,10 @@ fits_from w p valid times places h =
 pub from_fits : (w : WishesView) (p : PlanView) → Fits w p → first_broken w p ≡ None
 unfolding first_broken broken_position
 from_fits w p fits =
-    either_none _ _ (none_by w p 1 (Start Own) fits.rule_1) (either_none _ _ (none_by w p 2 (Start Gap) fits.rule_2) (either_none _ _ (none_by w p 3 (Start Neighbor) fits.rule_3) (either_none _ _ (none_by w p 4 (Start Slave) fits.rule_4)
-    (either_none _ _ (none_if _ _ (met-meets _ _ fits.rule_5)) (either_none _ _ (none_by w p 6 Master fits.rule_6) (either_none _ _ (none_by w p 7 Records fits.rule_7)
+    either_none _ _ (none_by w p Own fits.rule_1) (either_none _ _ (none_by w p Gap fits.rule_2) (either_none _ _ (none_by w p Neighbor fits.rule_3) (either_none _ _ (none_by w p Slave fits.rule_4)
+    (either_none _ _ (none_if _ _ (met-meets _ _ fits.rule_5)) (either_none _ _ (none_by w p Master fits.rule_6) (either_none _ _ (none_by w p Records fits.rule_7)
     (either_none _ _ (none_if _ _ (le-leb _ _ fits.rule_8)) (either_none _ _ (none_if _ _ (le-leb _ _ fits.rule_9))
-    (either_none _ _ (none_by w p 10 Capture fits.rule_10) (either_none _ _ (none_mapped _ _ (rw (fits.rule_12.0) (misplaced 1 w.drives))) (none_if _ _ (eq-eqb _ _ fits.rule_12.1))))))))))))
+    (either_none _ _ (none_by w p Capture fits.rule_10) (either_none _ _ (none_mapped _ _ (rw (fits.rule_12.0) (misplaced 1 w.drives))) (none_if _ _ (eq-eqb _ _ fits.rule_12.1))))))))))))
 
 -- the first AT for which it isn't met stays the first in the whole order
 or_some : {A : Type 0} (o p : Option A) (x : A) → o ≡ Some x → option_or o p ≡ Some x

@@ -6,7 +6,7 @@ use Rattle.std.proofs.lemmas.Bool.{leb-true, eqb-true, eq-eqb, cases_eq, false�
 use Rattle.std.proofs.lemmas.Bool.Decides.{nat_tests}
 use Rattle.sercos_timing.specs.Views.{WishesView, PlanView}
 use Rattle.sercos_timing.specs.Order.{wish, no_wish, sent, record_bytes}
-use Rattle.sercos_timing.specs.Inequalities.{positions, Meets, Keeps}
+use Rattle.sercos_timing.specs.Inequalities.{number_of, positions, Meets, Keeps}
 use Rattle.sercos_timing.specs.FirstBroken.{asked_by, has_by, is_met, first_unmet, first_misplaced, broken_by, broken_unless, broken_position, first_broken}
 use Rattle.sercos_timing.specs.Named.{IsKept, FailsFirstAt, IsBroken, IsFirstBroken}
 use Rattle.sercos_timing.specs.Named.IsKept.{kept_1, kept_2, kept_3, kept_4, kept_5, kept_6, kept_7, kept_8, kept_9, kept_10, kept_11}
@@ -14,9 +14,8 @@ use Rattle.sercos_timing.specs.Named.IsBroken.{broken_1, broken_2, broken_3, bro
 use Rattle.sercos_timing.specs.Valid.{IsValid}
 use Rattle.sercos_timing.specs.declared.wishes.Wish.{Wish}
 use Rattle.sercos_timing.specs.declared.fitting.Broken.{Broken}
-use Rattle.sercos_timing.specs.declared.fitting.AtRule.{AtRule}
-use Rattle.sercos_timing.specs.declared.fitting.AtRule.TheVariants.{Start, Master, Records, Capture}
-use Rattle.sercos_timing.specs.declared.asked.StartRule.TheVariants.{Own, Gap, Neighbor, Slave}
+use Rattle.sercos_timing.specs.declared.inequality.Inequality.{Inequality}
+use Rattle.sercos_timing.specs.declared.inequality.Inequality.TheVariants.{Own, Gap, Neighbor, Slave, Last, Master, Records, Cycle, NextMst, Capture, Positions}
 use Rattle.sercos_timing.proofs.BreakLemmas.{meets-met, met-meets, keeps-unmet, placed}
 
 -- the first AT for which what is asked isn't met
@@ -75,25 +74,25 @@ first_is : (w : WishesView) (p : PlanView) (number drive : ℕ) (b : Broken) →
 first_is w p number drive b kept broken is = let same : record { rule = number; drive = drive } ≡ b = cc in rw (← same) (record { smaller = kept; broken = broken })
 
 -- an inequality is the one that is named, or it is kept, and a later one is named
-by_ats : (w : WishesView) (p : PlanView) (number : ℕ) (rule : AtRule) (rest : Option Broken) (b : Broken)
-    → ((k : ℕ) → FailsFirstAt (asked_by w p rule) (has_by w p rule) (sent w) k → IsBroken w p number (wish w k).address)
-    → (Keeps (asked_by w p rule) (has_by w p rule) (sent w) → IsKept w p number)
-    → AreKept w p number → option_or (broken_by w p number rule) rest ≡ Some b
-    → (AreKept w p (suc number) → rest ≡ Some b → IsFirstBroken w p b) → IsFirstBroken w p b
+by_ats : (w : WishesView) (p : PlanView) (rule : Inequality) (rest : Option Broken) (b : Broken)
+    → ((k : ℕ) → FailsFirstAt (asked_by w p rule) (has_by w p rule) (sent w) k → IsBroken w p (number_of rule) (wish w k).address)
+    → (Keeps (asked_by w p rule) (has_by w p rule) (sent w) → IsKept w p (number_of rule))
+    → AreKept w p (number_of rule) → option_or (broken_by w p rule) rest ≡ Some b
+    → (AreKept w p (suc (number_of rule)) → rest ≡ Some b → IsFirstBroken w p b) → IsFirstBroken w p b
 unfolding broken_by
-by_ats w p number rule rest b breaks keeps kept is later = cases (first_unmet (asked_by w p rule) (has_by w p rule) (sent w)) refl is
+by_ats w p rule rest b breaks keeps kept is later = cases (first_unmet (asked_by w p rule) (has_by w p rule) (sent w)) refl is
   where
     cases : (o : Option ℕ) → first_unmet (asked_by w p rule) (has_by w p rule) (sent w) ≡ o
-        → option_or (option_map (λ k. record { rule = number; drive = (wish w k).address }) o) rest ≡ Some b → IsFirstBroken w p b
-    cases None found is = later (one_more w p number kept (keeps (keeps-unmet (asked_by w p rule) (has_by w p rule) (sent w) found))) is
-    cases (Some k) found is = first_is w p number (wish w k).address b kept (breaks k (unmet_first (asked_by w p rule) (has_by w p rule) (sent w) k found)) is
+        → option_or (option_map (λ k. record { rule = number_of rule; drive = (wish w k).address }) o) rest ≡ Some b → IsFirstBroken w p b
+    cases None found is = later (one_more w p (number_of rule) kept (keeps (keeps-unmet (asked_by w p rule) (has_by w p rule) (sent w) found))) is
+    cases (Some k) found is = first_is w p (number_of rule) (wish w k).address b kept (breaks k (unmet_first (asked_by w p rule) (has_by w p rule) (sent w) k found)) is
 
-by_test : (w : WishesView) (p : PlanView) (number : ℕ) (test : Bool) (rest : Option Broken) (b : Broken)
-    → (test ≡ false → IsBroken w p number 0) → (test ≡ true → IsKept w p number)
-    → AreKept w p number → option_or (broken_unless number test) rest ≡ Some b
-    → (AreKept w p (suc number) → rest ≡ Some b → IsFirstBroken w p b) → IsFirstBroken w p b
-by_test w p number true rest b breaks keeps kept is later = later (one_more w p number kept (keeps refl)) is
-by_test w p number false rest b breaks keeps kept is later = first_is w p number 0 b kept (breaks refl) is
+by_test : (w : WishesView) (p : PlanView) (rule : Inequality) (test : Bool) (rest : Option Broken) (b : Broken)
+    → (test ≡ false → IsBroken w p (number_of rule) 0) → (test ≡ true → IsKept w p (number_of rule))
+    → AreKept w p (number_of rule) → option_or (broken_unless rule test) rest ≡ Some b
+    → (AreKept w p (suc (number_of rule)) → rest ≡ Some b → IsFirstBroken w p b) → IsFirstBroken w p b
+by_test w p rule true rest b breaks keeps kept is later = later (one_more w p (number_of rule) kept (keeps refl)) is
+by_test w p rule false rest b breaks keeps kept is later = first_is w p (number_of rule) 0 b kept (breaks refl) is
 
 not_met : (asked : Option ℕ) (has : ℕ) → is_met asked has ≡ false → Meets asked has → ⊥
 not_met asked has fails meets = absurd (false≢true (sym fails ∙ met-meets asked has meets))
@@ -102,12 +101,12 @@ above : (a b : ℕ) → nat_le a b ≡ false → b < a
 above a b fails = grind (arith, nat_tests)
 
 by_places : (w : WishesView) (p : PlanView) (b : Broken) → length p.position ≡ length w.drives → AreKept w p 12
-    → option_or (broken_position w p) (broken_unless 12 (p.mdt_len == record_bytes w.drives)) ≡ Some b → IsFirstBroken w p b
+    → option_or (broken_position w p) (broken_unless Positions (p.mdt_len == record_bytes w.drives)) ≡ Some b → IsFirstBroken w p b
 unfolding broken_position
 by_places w p b places kept is = cases (first_misplaced 1 w.drives p.position) (p.mdt_len == record_bytes w.drives) refl refl is
   where
     cases : (o : Option ℕ) (right : Bool) → first_misplaced 1 w.drives p.position ≡ o → (p.mdt_len == record_bytes w.drives) ≡ right
-        → option_or (option_map (λ a. record { rule = 12; drive = a }) o) (broken_unless 12 right) ≡ Some b → IsFirstBroken w p b
+        → option_or (option_map (λ a. record { rule = 12; drive = a }) o) (broken_unless Positions right) ≡ Some b → IsFirstBroken w p b
     cases (Some address) right found tests is =
         let first = misplaced_first 1 w.drives p.position address places found in
         first_is w p 12 (wish w first.k).address b kept (misplaced first.k first.within first.same first.differs) (rw (first.named) is)
@@ -118,14 +117,14 @@ by_places w p b places kept is = cases (first_misplaced 1 w.drives p.position) (
 pub named_first : (w : WishesView) (p : PlanView) (b : Broken) → IsValid w → length p.t1 ≡ length w.drives → length p.position ≡ length w.drives → first_broken w p ≡ Some b → IsFirstBroken w p b
 unfolding first_broken
 named_first w p b valid times places is =
-    by_ats w p 1 (Start Own) _ b broken_1 kept_1 (none_below w p) is (λ kept is.
-    by_ats w p 2 (Start Gap) _ b broken_2 kept_2 kept is (λ kept is.
-    by_ats w p 3 (Start Neighbor) _ b broken_3 kept_3 kept is (λ kept is.
-    by_ats w p 4 (Start Slave) _ b broken_4 kept_4 kept is (λ kept is.
-    by_test w p 5 _ _ b (λ fails. broken_5 (not_met _ _ fails)) (λ met. kept_5 (meets-met _ _ met)) kept is (λ kept is.
-    by_ats w p 6 Master _ b broken_6 kept_6 kept is (λ kept is.
-    by_ats w p 7 Records _ b broken_7 kept_7 kept is (λ kept is.
-    by_test w p 8 _ _ b (λ fails. broken_8 (above _ _ fails)) (λ met. kept_8 (leb-true _ _ met)) kept is (λ kept is.
-    by_test w p 9 _ _ b (λ fails. broken_9 (above _ _ fails)) (λ met. kept_9 (leb-true _ _ met)) kept is (λ kept is.
-    by_ats w p 10 Capture _ b broken_10 kept_10 kept is (λ kept is.
+    by_ats w p Own _ b broken_1 kept_1 (none_below w p) is (λ kept is.
+    by_ats w p Gap _ b broken_2 kept_2 kept is (λ kept is.
+    by_ats w p Neighbor _ b broken_3 kept_3 kept is (λ kept is.
+    by_ats w p Slave _ b broken_4 kept_4 kept is (λ kept is.
+    by_test w p Last _ _ b (λ fails. broken_5 (not_met _ _ fails)) (λ met. kept_5 (meets-met _ _ met)) kept is (λ kept is.
+    by_ats w p Master _ b broken_6 kept_6 kept is (λ kept is.
+    by_ats w p Records _ b broken_7 kept_7 kept is (λ kept is.
+    by_test w p Cycle _ _ b (λ fails. broken_8 (above _ _ fails)) (λ met. kept_8 (leb-true _ _ met)) kept is (λ kept is.
+    by_test w p NextMst _ _ b (λ fails. broken_9 (above _ _ fails)) (λ met. kept_9 (leb-true _ _ met)) kept is (λ kept is.
+    by_ats w p Capture _ b broken_10 kept_10 kept is (λ kept is.
     by_places w p b places (one_more w p 11 kept (kept_11 valid.cycles.control.0 valid.cycles.control.1)) is))))))))))

@@ -75,13 +75,13 @@ unfolding first_broken broken_by broken_position
 breaks_cycle = refl
 
 -- with a TMTSY of 104 microseconds the MST just keeps its time, with 105 it doesn't
-keeps_turn : first_broken (two_drives 250 104) (plan (10 ∷ 46 ∷ []) 83 153 230 (1 ∷ 9 ∷ []) 16) ≡ None
+keeps_next_mst : first_broken (two_drives 250 104) (plan (10 ∷ 46 ∷ []) 83 153 230 (1 ∷ 9 ∷ []) 16) ≡ None
 unfolding first_broken broken_by broken_position
-keeps_turn = refl
+keeps_next_mst = refl
 
-breaks_turn : first_broken (two_drives 250 105) (plan (10 ∷ 46 ∷ []) 83 153 230 (1 ∷ 9 ∷ []) 16) ≡ broken 9 0
+breaks_next_mst : first_broken (two_drives 250 105) (plan (10 ∷ 46 ∷ []) 83 153 230 (1 ∷ 9 ∷ []) 16) ≡ broken 9 0
 unfolding first_broken broken_by broken_position
-breaks_turn = refl
+breaks_next_mst = refl
 
 breaks_capture : first_broken (two_drives 250 10) (plan (10 ∷ 46 ∷ []) 83 153 231 (1 ∷ 9 ∷ []) 16) ≡ broken 10 1
 unfolding first_broken broken_by broken_position

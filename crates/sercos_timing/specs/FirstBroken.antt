@@ -3,25 +3,25 @@ use Rattle.std.specs.Prelude.{ℕ, ◌+◌, ◌*◌, Bool, true, List, [], ◌�
 use Rattle.std.specs.Option.{option_or}
 use Rattle.sercos_timing.specs.Views.{WishesView, PlanView}
 use Rattle.sercos_timing.specs.Order.{wish, sent, bits_of, record_bytes}
-use Rattle.sercos_timing.specs.Inequalities.{asked_of_start, asked_5, asked_6, asked_7, asked_10, sum_9, bound_9, greatest_tmtsy}
+use Rattle.sercos_timing.specs.Inequalities.{number_of, asked_of_start, asked_5, asked_6, asked_7, asked_10, sum_9, bound_9, greatest_tmtsy}
 use Rattle.sercos_timing.specs.declared.wishes.Wish.{Wish}
-use Rattle.sercos_timing.specs.declared.asked.StartRule.TheVariants.{Own, Gap, Neighbor, Slave}
 use Rattle.sercos_timing.specs.declared.fitting.Broken.{Broken}
-use Rattle.sercos_timing.specs.declared.fitting.AtRule.{AtRule}
-use Rattle.sercos_timing.specs.declared.fitting.AtRule.TheVariants.{Start, Master, Records, Capture}
+use Rattle.sercos_timing.specs.declared.inequality.Inequality.{Inequality}
+use Rattle.sercos_timing.specs.declared.inequality.Inequality.TheVariants.{Own, Gap, Neighbor, Slave, Last, Master, Records, Cycle, NextMst, Capture, Positions}
 
--- what an inequality asks of an AT where the plan's times stand, and what stands at the place of which it is asked
-abbrev pub asked_by : WishesView → PlanView → AtRule → ℕ → List ℕ → Option ℕ
-asked_by w p (Start rule) = asked_of_start w rule (bits_of w p.t1)
+-- What an inequality asks of an AT at the times of the plan, and what the plan has at the time of which it is asked: that
+-- of 1 to 4 is the start of the AT
+abbrev pub asked_by : WishesView → PlanView → Inequality → ℕ → List ℕ → Option ℕ
 asked_by w p Master = asked_6 w (bits_of w p.t1)
 asked_by w p Records = asked_7 w (w.rate * p.t2)
 asked_by w p Capture = asked_10 w p.t4
+asked_by w p rule = asked_of_start w rule (bits_of w p.t1)
 
-abbrev pub has_by : WishesView → PlanView → AtRule → ℕ → ℕ
-has_by w p (Start rule) = bits_of w p.t1
+abbrev pub has_by : WishesView → PlanView → Inequality → ℕ → ℕ
 has_by w p Master = λ k. w.rate * p.t2
 has_by w p Records = λ k. w.rate * p.t3
 has_by w p Capture = λ k. w.cycle
+has_by w p rule = bits_of w p.t1
 
 abbrev pub is_met : Option ℕ → ℕ → Bool
 is_met None has = true
@@ -40,25 +40,25 @@ first_misplaced next (d ∷ drives) [] = Some d.address
 first_misplaced next (d ∷ drives) (place ∷ places) =
     if place == next then first_misplaced (next + d.record_len) drives places else Some d.address
 
-unfoldable pub broken_by : WishesView → PlanView → ℕ → AtRule → Option Broken
-broken_by w p number rule =
-    option_map (λ k. record { rule = number; drive = (wish w k).address }) (first_unmet (asked_by w p rule) (has_by w p rule) (sent w))
+unfoldable pub broken_by : WishesView → PlanView → Inequality → Option Broken
+broken_by w p rule =
+    option_map (λ k. record { rule = number_of rule; drive = (wish w k).address }) (first_unmet (asked_by w p rule) (has_by w p rule) (sent w))
 
 -- an inequality that is no drive's own
-abbrev pub broken_unless : ℕ → Bool → Option Broken
-broken_unless number kept = if kept then None else Some (record { rule = number; drive = 0 })
+abbrev pub broken_unless : Inequality → Bool → Option Broken
+broken_unless rule kept = if kept then None else Some (record { rule = number_of rule; drive = 0 })
 
 unfoldable pub broken_position : WishesView → PlanView → Option Broken
-broken_position w p = option_map (λ a. record { rule = 12; drive = a }) (first_misplaced 1 w.drives p.position)
+broken_position w p = option_map (λ a. record { rule = number_of Positions; drive = a }) (first_misplaced 1 w.drives p.position)
 
 -- 11 is kept by every valid wish
 unfoldable pub first_broken : WishesView → PlanView → Option Broken
 first_broken w p =
-    option_or (broken_by w p 1 (Start Own)) (option_or (broken_by w p 2 (Start Gap))
-    (option_or (broken_by w p 3 (Start Neighbor)) (option_or (broken_by w p 4 (Start Slave))
-    (option_or (broken_unless 5 (is_met (asked_5 w (bits_of w p.t1) (sent w)) (w.rate * p.t2)))
-    (option_or (broken_by w p 6 Master) (option_or (broken_by w p 7 Records)
-    (option_or (broken_unless 8 (nat_le p.t3 w.cycle))
-    (option_or (broken_unless 9 (nat_le (sum_9 w (w.rate * p.t2) (greatest_tmtsy w)) (bound_9 w)))
-    (option_or (broken_by w p 10 Capture) (option_or (broken_position w p)
-    (broken_unless 12 (p.mdt_len == record_bytes w.drives))))))))))))
+    option_or (broken_by w p Own) (option_or (broken_by w p Gap)
+    (option_or (broken_by w p Neighbor) (option_or (broken_by w p Slave)
+    (option_or (broken_unless Last (is_met (asked_5 w (bits_of w p.t1) (sent w)) (w.rate * p.t2)))
+    (option_or (broken_by w p Master) (option_or (broken_by w p Records)
+    (option_or (broken_unless Cycle (nat_le p.t3 w.cycle))
+    (option_or (broken_unless NextMst (nat_le (sum_9 w (w.rate * p.t2) (greatest_tmtsy w)) (bound_9 w)))
+    (option_or (broken_by w p Capture) (option_or (broken_position w p)
+    (broken_unless Positions (p.mdt_len == record_bytes w.drives))))))))))))

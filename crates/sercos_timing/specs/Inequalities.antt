@@ -1,11 +1,33 @@
 -- The twelve inequalities between wishes and a plan. What each asks is written once, in bit times after the MST's end.
-use Rattle.std.specs.Prelude.{◌≡◌, ℕ, ◌+◌, ◌-◌, ◌*◌, ◌%◌, ◌<◌, ◌≤◌, max, List, [], ◌∷◌, length, Option, Some, None, option_map}
+use Rattle.std.specs.Prelude.{◌≡◌, ℕ, ◌+◌, ◌-◌, ◌*◌, ◌%◌, ◌<◌, ◌≤◌, ◌==◌, if◌then◌else◌, max, List, [], ◌∷◌, length, Option, Some, None, option_map}
 use Rattle.sercos_model.specs.Frames.{wire_bits}
 use Rattle.sercos_timing.specs.Views.{WishesView, PlanView}
 use Rattle.sercos_timing.specs.Order.{times, sent, neighbor, previous, at_bits, mdt_bits, record_bytes, bits_of}
 use Rattle.sercos_timing.specs.declared.wishes.Wish.{Wish}
-use Rattle.sercos_timing.specs.declared.asked.StartRule.{StartRule}
-use Rattle.sercos_timing.specs.declared.asked.StartRule.TheVariants.{Own, Gap, Neighbor, Slave}
+use Rattle.sercos_timing.specs.declared.inequality.Inequality.{Inequality}
+use Rattle.sercos_timing.specs.declared.inequality.Inequality.TheVariants.{Own, Gap, Neighbor, Slave, Last, Master, Records, Cycle, NextMst, Capture, Control, Positions}
+
+-- the number of an inequality, and the inequality with a number
+abbrev pub number_of : Inequality → ℕ
+number_of Own = 1
+number_of Gap = 2
+number_of Neighbor = 3
+number_of Slave = 4
+number_of Last = 5
+number_of Master = 6
+number_of Records = 7
+number_of Cycle = 8
+number_of NextMst = 9
+number_of Capture = 10
+number_of Control = 11
+number_of Positions = 12
+
+abbrev pub of_number : ℕ → Option Inequality
+of_number n =
+    if n == 1 then Some Own else (if n == 2 then Some Gap else (if n == 3 then Some Neighbor else (if n == 4 then Some Slave
+    else (if n == 5 then Some Last else (if n == 6 then Some Master else (if n == 7 then Some Records else (if n == 8 then Some Cycle
+    else (if n == 9 then Some NextMst else (if n == 10 then Some Capture else (if n == 11 then Some Control
+    else (if n == 12 then Some Positions else None)))))))))))
 
 -- What inequalities 1 to 4 ask of T1 of the drive k, whose AT is sent after those of `before`, where each AT begins at
 -- the bit time `b` of its drive. None where one asks nothing of this AT.
@@ -26,11 +48,13 @@ asked_3 w b k before = option_map (λ j. b j + (at_bits w j + w.rate * w.gap)) (
 abbrev pub asked_4 : WishesView → (ℕ → ℕ) → ℕ → List ℕ → Option ℕ
 asked_4 w b k before = option_map (λ j. b j + (at_bits w j + w.rate * (times w k).tatat)) (previous w k before)
 
-abbrev pub asked_of_start : WishesView → StartRule → (ℕ → ℕ) → ℕ → List ℕ → Option ℕ
+-- the others ask nothing of the start of an AT
+abbrev pub asked_of_start : WishesView → Inequality → (ℕ → ℕ) → ℕ → List ℕ → Option ℕ
 asked_of_start w Own = asked_1 w
 asked_of_start w Gap = asked_2 w
 asked_of_start w Neighbor = asked_3 w
 asked_of_start w Slave = asked_4 w
+asked_of_start w _ = λ b k before. None
 
 -- What 5 and 6 ask of T2. 5: the MDT begins at least the gap after the end of the last AT
 abbrev pub asked_5 : WishesView → (ℕ → ℕ) → List ℕ → Option ℕ

@@ -30,8 +30,8 @@ abbrev pub first_sent : List ℕ → ℕ → List ℕ
 first_sent order zero = []
 first_sent order (suc n) = slice_index order n ∷ first_sent order n
 
--- all of them, the last AT of the order first. In what follows `before` is what stands behind k in this list: the ATs
--- that are sent before that of the drive k, the nearest first
+-- all of them, the last AT of the order first. From here on `before` is what comes after k in this list: the ATs that are
+-- sent before that of the drive k, the nearest first
 abbrev pub sent : WishesView → List ℕ
 sent w = first_sent w.order (length w.order)
 

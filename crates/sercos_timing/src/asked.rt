@@ -4,20 +4,8 @@ ghost use Rattle.sercos_timing.specs.Order.{first_sent, place_at, at_bits, bits_
 ghost use Rattle.sercos_timing.specs.Inequalities.{asked_of_start};
 ghost use Rattle.sercos_timing.specs.Valid.{IsValid};
 
+use crate::inequality::Inequality;
 use crate::wishes::Wishes;
-
-/// The inequalities that ask something of the starting time T1 of one drive.
-#[derive(Clone, Copy, Debug, PartialEq, Eq)]
-pub enum StartRule {
-    /// 1: T1 is at least the drive's T1min.
-    Own,
-    /// 2: the first AT of the order begins at least the gap after the MST.
-    Gap,
-    /// 3: an AT begins at least the gap after the end of the AT right before it, where another slave sends that.
-    Neighbor,
-    /// 4: an AT begins at least the drive's TATAT after the end of the previous AT of the same slave.
-    Slave,
-}
 
 /// The bit time at which the AT of the drive at a place of the ring has ended, where it starts at its T1, and so many
 /// microseconds more have passed, below 65,536. `t1` has the T1 of each drive in microseconds, in the order of the ring.
@@ -51,9 +39,10 @@ fn bits_after_at(w: &Wishes, t1: &[u32], at: Option<usize>, micros: u32) -> Opti
     }
 }
 
-/// What an inequality asks of the start of the AT at a place of the order, in bit times after the MST's end; None where it
-/// asks nothing. `t1` has the T1 of each drive in microseconds, in the order of the ring.
-pub fn asked_of_start(w: &Wishes, t1: &[u32], rule: StartRule, at: usize) -> Option<u64>
+/// What an inequality asks of the start of the AT at a place of the order, in bit times after the MST's end. `None` if it
+/// asks nothing of it: only 1 to 4 ask something of the start of an AT, and not of each. `t1` has the T1 of each drive in
+/// microseconds, in the order of the ring.
+pub fn asked_of_start(w: &Wishes, t1: &[u32], rule: Inequality, at: usize) -> Option<u64>
     requires valid { IsValid w.now }
     requires count { length t1.now ≡ length w.now.drives }
     requires within { at < length w.now.order }
@@ -65,9 +54,10 @@ pub fn asked_of_start(w: &Wishes, t1: &[u32], rule: StartRule, at: usize) -> Opt
 {
     let times = w.wish(usize::from(w.order()[at])).times;
     match rule {
-        StartRule::Own => Some(w.bits(u32::from(times.t1min))),
-        StartRule::Gap => { if at == 0 { Some(w.bits(w.gap())) } else { None } }
-        StartRule::Neighbor => bits_after_at(w, t1, w.neighbor_at(at), w.gap()),
-        StartRule::Slave => bits_after_at(w, t1, w.previous_at(at), u32::from(times.tatat)),
+        Inequality::Own => Some(w.bits(u32::from(times.t1min))),
+        Inequality::Gap => { if at == 0 { Some(w.bits(w.gap())) } else { None } }
+        Inequality::Neighbor => bits_after_at(w, t1, w.neighbor_at(at), w.gap()),
+        Inequality::Slave => bits_after_at(w, t1, w.previous_at(at), u32::from(times.tatat)),
+        _ => None,
     }
 }

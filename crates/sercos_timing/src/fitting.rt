@@ -5,7 +5,8 @@ ghost use Rattle.sercos_timing.specs.Inequalities.{asked_5, sum_9, bound_9, grea
 ghost use Rattle.sercos_timing.specs.FirstBroken.{asked_by, has_by, is_met, first_unmet, first_misplaced, broken_by, broken_unless, broken_position, first_broken};
 ghost use Rattle.sercos_timing.specs.Valid.{IsValid};
 
-use crate::asked::{StartRule, asked_of_start, bits_after};
+use crate::asked::{asked_of_start, bits_after};
+use crate::inequality::Inequality;
 use crate::plan::Plan;
 use crate::wishes::Wishes;
 use arrayvec::ArrayVec;
@@ -19,21 +20,9 @@ pub struct Broken {
     pub drive: u8,
 }
 
-// The inequalities that are asked of each AT of the order.
-#[derive(Clone, Copy, Debug, PartialEq, Eq)]
-enum AtRule {
-    // 1 to 4, of its start
-    Start(StartRule),
-    // 6: the MDT begins at least TATMT after its end
-    Master,
-    // 7: T3 is at least TMTSG after the end of the MDT
-    Records,
-    // 10: T4 is at least T4min before the end of the cycle
-    Capture,
-}
-
-// What an inequality asks of the AT at a place of the order; `t1` has the T1 of the plan.
-fn asked(w: &Wishes, p: &Plan, t1: &[u32], rule: AtRule, at: usize) -> Option<u64>
+// What an inequality asks of the AT at a place of the order, None if it asks nothing of an AT alone; `t1` has the T1 of the
+// plan.
+fn asked(w: &Wishes, p: &Plan, t1: &[u32], rule: Inequality, at: usize) -> Option<u64>
     requires valid { IsValid w.now }
     requires count { length p.now.t1 ≡ length w.now.drives }
     requires t1 { t1.now ≡ p.now.t1 }
@@ -43,25 +32,27 @@ fn asked(w: &Wishes, p: &Plan, t1: &[u32], rule: AtRule, at: usize) -> Option<u6
     let place = usize::from(w.order()[at]);
     let times = w.wish(place).times;
     match rule {
-        AtRule::Start(start) => asked_of_start(w, t1, start, at),
-        AtRule::Master => Some(bits_after(w, t1, place, u32::from(times.tatmt))),
-        AtRule::Records => Some(w.bits(p.t2()) + (w.mdt_bits() + w.bits(u32::from(times.tmtsg)))),
-        AtRule::Capture => Some(u64::from(p.t4()) + u64::from(times.t4min)),
+        Inequality::Master => Some(bits_after(w, t1, place, u32::from(times.tatmt))),
+        Inequality::Records => Some(
+            w.bits(p.t2()) + (w.mdt_bits() + w.bits(u32::from(times.tmtsg))),
+        ),
+        Inequality::Capture => Some(u64::from(p.t4()) + u64::from(times.t4min)),
+        _ => asked_of_start(w, t1, rule, at),
     }
 }
 
-// What stands at the place of which it is asked.
-fn has(w: &Wishes, p: &Plan, rule: AtRule, at: usize) -> u64
+// What the plan has at the time of which it is asked: that of an inequality 1 to 4 is the start of the AT.
+fn has(w: &Wishes, p: &Plan, rule: Inequality, at: usize) -> u64
     requires valid { IsValid w.now }
     requires count { length p.now.t1 ≡ length w.now.drives }
     requires within { at < length w.now.order }
     ensures { result ≡ has_by w.now p.now rule (slice_index w.now.order at) }
 {
     match rule {
-        AtRule::Start(_) => w.bits(u32::from(p.t1()[usize::from(w.order()[at])])),
-        AtRule::Master => w.bits(p.t2()),
-        AtRule::Records => w.bits(p.t3()),
-        AtRule::Capture => u64::from(w.cycle()),
+        Inequality::Master => w.bits(p.t2()),
+        Inequality::Records => w.bits(p.t3()),
+        Inequality::Capture => u64::from(w.cycle()),
+        _ => w.bits(u32::from(p.t1()[usize::from(w.order()[at])])),
     }
 }
 
@@ -87,7 +78,7 @@ fn widened(times: &[u16]) -> ArrayVec<u32, 64>
 }
 
 // The place in the ring of the drive of the first AT for which an inequality isn't kept.
-fn unmet(w: &Wishes, p: &Plan, t1: &[u32], rule: AtRule) -> Option<usize>
+fn unmet(w: &Wishes, p: &Plan, t1: &[u32], rule: Inequality) -> Option<usize>
     requires valid { IsValid w.now }
     requires count { length p.now.t1 ≡ length w.now.drives }
     requires t1 { t1.now ≡ p.now.t1 }
@@ -104,29 +95,29 @@ fn unmet(w: &Wishes, p: &Plan, t1: &[u32], rule: AtRule) -> Option<usize>
 }
 
 #[tactic(auto, unfolding(crate::specs::FirstBroken::broken_by))]
-fn broken_by(w: &Wishes, p: &Plan, t1: &[u32], number: u8, rule: AtRule) -> Option<Broken>
+fn broken_by(w: &Wishes, p: &Plan, t1: &[u32], rule: Inequality) -> Option<Broken>
     requires valid { IsValid w.now }
     requires count { length p.now.t1 ≡ length w.now.drives }
     requires t1 { t1.now ≡ p.now.t1 }
-    ensures { result ≡ broken_by w.now p.now number rule }
+    ensures { result ≡ broken_by w.now p.now rule }
 {
     match unmet(w, p, t1, rule) {
         Some(place) => Some(Broken {
-            rule: number,
+            rule: rule.number(),
             drive: w.wish(place).address,
         }),
         None => None,
     }
 }
 
-fn broken_unless(number: u8, kept: bool) -> Option<Broken>
-    ensures { result ≡ broken_unless number kept }
+fn broken_unless(rule: Inequality, kept: bool) -> Option<Broken>
+    ensures { result ≡ broken_unless rule kept }
 {
     if kept {
         None
     } else {
         Some(Broken {
-            rule: number,
+            rule: rule.number(),
             drive: 0,
         })
     }
@@ -145,7 +136,7 @@ fn is_last_kept(w: &Wishes, p: &Plan, t1: &[u32]) -> bool
 }
 
 // Whether 9 is kept: after the MDT there is room for the gap and the recovery of each drive before the next MST.
-fn is_turn_kept(w: &Wishes, p: &Plan) -> bool
+fn is_mst_kept(w: &Wishes, p: &Plan) -> bool
     requires valid { IsValid w.now }
     ensures { result ≡ nat_le (sum_9 w.now (w.now.rate * p.now.t2) (greatest_tmtsy w.now)) (bound_9 w.now) }
 {
@@ -153,7 +144,7 @@ fn is_turn_kept(w: &Wishes, p: &Plan) -> bool
     w.bits(p.t2()) + (w.mdt_bits() + w.bits(pause)) <= w.recovered_by()
 }
 
-// The address of the first drive of the ring whose position isn't right behind the record before it.
+// The address of the first drive of the ring whose position isn't right after the record before it.
 fn misplaced(w: &Wishes, p: &Plan) -> Option<u8>
     requires valid { IsValid w.now }
     requires count { length p.now.position ≡ length w.now.drives }
@@ -179,7 +170,7 @@ fn broken_position(w: &Wishes, p: &Plan) -> Option<Broken>
 {
     match misplaced(w, p) {
         Some(address) => Some(Broken {
-            rule: 12,
+            rule: Inequality::Positions.number(),
             drive: address,
         }),
         None => None,
@@ -196,19 +187,19 @@ fn first_broken(w: &Wishes, p: &Plan) -> Option<Broken>
 {
     let starts = widened(p.t1());
     let t1 = starts.as_slice();
-    let own = broken_by(w, p, t1, 1, AtRule::Start(StartRule::Own));
-    let gap = broken_by(w, p, t1, 2, AtRule::Start(StartRule::Gap));
-    let neighbor = broken_by(w, p, t1, 3, AtRule::Start(StartRule::Neighbor));
-    let slave = broken_by(w, p, t1, 4, AtRule::Start(StartRule::Slave));
-    let last = broken_unless(5, is_last_kept(w, p, t1));
-    let master = broken_by(w, p, t1, 6, AtRule::Master);
-    let records = broken_by(w, p, t1, 7, AtRule::Records);
-    let cycle = broken_unless(8, p.t3() <= w.cycle());
-    let turn = broken_unless(9, is_turn_kept(w, p));
-    let capture = broken_by(w, p, t1, 10, AtRule::Capture);
+    let own = broken_by(w, p, t1, Inequality::Own);
+    let gap = broken_by(w, p, t1, Inequality::Gap);
+    let neighbor = broken_by(w, p, t1, Inequality::Neighbor);
+    let slave = broken_by(w, p, t1, Inequality::Slave);
+    let last = broken_unless(Inequality::Last, is_last_kept(w, p, t1));
+    let master = broken_by(w, p, t1, Inequality::Master);
+    let records = broken_by(w, p, t1, Inequality::Records);
+    let cycle = broken_unless(Inequality::Cycle, p.t3() <= w.cycle());
+    let next = broken_unless(Inequality::NextMst, is_mst_kept(w, p));
+    let capture = broken_by(w, p, t1, Inequality::Capture);
     let position = broken_position(w, p);
-    let length = broken_unless(12, p.mdt_len() == w.record_bytes());
-    let of_cycle = cycle.or(turn.or(capture.or(position.or(length))));
+    let length = broken_unless(Inequality::Positions, p.mdt_len() == w.record_bytes());
+    let of_cycle = cycle.or(next.or(capture.or(position.or(length))));
     own.or(gap.or(neighbor.or(slave.or(last.or(master.or(records.or(of_cycle)))))))
 }
 

@@ -1,9 +1,10 @@
-// A law on the inequality that is named.
+// Laws on the inequality that is named, and on valid wishes.
 ghost use Rattle.std.specs.Prelude.{◌≡◌, Some, length};
 ghost use Rattle.sercos_timing.specs.Views.{WishesView, PlanView};
 ghost use Rattle.sercos_timing.specs.Valid.{IsValid};
 ghost use Rattle.sercos_timing.specs.FirstBroken.{first_broken};
 ghost use Rattle.sercos_timing.specs.Named.{IsFirstBroken};
+ghost use Rattle.sercos_timing.specs.Tests.{TellsValid};
 ghost use Rattle.sercos_timing.specs.declared.fitting.Broken.{Broken};
 
 /// A law and no code: where `fits` names an inequality and a drive, that inequality fails for that drive, each AT sent
@@ -11,4 +12,9 @@ ghost use Rattle.sercos_timing.specs.declared.fitting.Broken.{Broken};
 pub fn first_broken_law()
     ensures { (w : WishesView) (p : PlanView) (b : Broken) → IsValid w → length p.t1 ≡ length w.drives → length p.position ≡ length w.drives
         → first_broken w p ≡ Some b → IsFirstBroken w p b }
+{}
+
+/// A law and no code: a test of wishes, which can be computed, tells whether a plan may be asked for them.
+pub fn valid_law()
+    ensures { TellsValid }
 {}

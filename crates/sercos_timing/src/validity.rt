@@ -1,22 +1,23 @@
 // Wishes for which a plan may be asked.
-ghost use Rattle.std.specs.Prelude.{◌≡◌, ℕ, ◌+◌, ◌<◌, ◌≤◌, ◌↔◌, ◌⊎◌, ◌%◌, length, slice_index_or, IsTrue};
+ghost use Rattle.std.specs.Prelude.{◌≡◌, ℕ, ◌+◌, ◌<◌, ◌≤◌, ◌↔◌, length, slice_index_or, IsTrue};
 ghost use Rattle.sercos_timing.specs.Order.{no_wish};
-ghost use Rattle.sercos_timing.specs.Valid.{AreDistinct, AreBelow, addresses, IsWish, AreDrives, IsOrder, is_rate, AreCycles, IsValid};
+ghost use Rattle.sercos_timing.specs.Valid.{AreDistinct, AreBelow, addresses, is_address, IsWish, AreDrives, IsOrder, is_rate, is_cycle, is_control, AreCycles, IsValid};
 
+use crate::limits::{CYCLE_UNIT, LEAST_CYCLE, MOST_ADDRESS, MOST_CYCLE, MOST_GAP, MOST_RECORDS};
 use crate::wishes::{Wish, Wishes};
 use arrayvec::ArrayVec;
 
-// The greatest length of all data records together: the address and they are the content of one frame.
-const MDT_LEN: u32 = 2047;
-
-const CYCLE: u16 = 64_000;
-
-const GAP: u16 = 1_000;
+/// Returns whether a drive or a slave can have the address: 1 to 254 (this profile).
+pub fn is_address(address: u8) -> bool
+    ensures { result ≡ is_address address }
+{
+    1 <= address && address <= MOST_ADDRESS
+}
 
 fn is_wish(wish: &Wish) -> bool
     ensures { IsTrue result ↔ IsWish wish.now }
 {
-    let address = 1 <= wish.address && wish.address <= 254;
+    let address = is_address(wish.address);
     let at_len = 4 <= wish.at_len && wish.at_len <= 68;
     let record_len = 4 <= wish.record_len && wish.record_len <= 68;
     address && at_len && record_len
@@ -66,17 +67,20 @@ fn addresses(drives: &[Wish]) -> ArrayVec<u8, 64>
     addresses
 }
 
-// Whether a cycle time, in microseconds, is one of this profile.
-fn is_cycle(cycle: u16) -> bool
-    ensures { IsTrue result ↔ ((cycle ≡ 125) ⊎ ((250 ≤ cycle) × (cycle ≤ 64000) × (cycle % 250 ≡ 0))) }
+/// Returns whether a ring can have the cycle time, in microseconds: 125, or a multiple of 250 from 250 to 64,000 (this
+/// profile).
+#[tactic(auto, unfolding(crate::specs::Valid::is_cycle))]
+pub fn is_cycle(cycle: u16) -> bool
+    ensures { result ≡ is_cycle cycle }
 {
-    cycle == 125 || (250 <= cycle && cycle <= CYCLE && cycle % 250 == 0)
+    cycle == LEAST_CYCLE || CYCLE_UNIT <= cycle && cycle <= MOST_CYCLE && cycle % CYCLE_UNIT == 0
 }
 
-// Whether a control unit cycle time is a positive multiple of the cycle time.
-fn is_control(control: u16, cycle: u16) -> bool
+/// Returns whether a control unit cycle time goes with a cycle time: it is a positive multiple of it (this profile).
+#[tactic(auto, unfolding(crate::specs::Valid::is_control))]
+pub fn is_control(cycle: u16, control: u16) -> bool
     requires { 0 < cycle }
-    ensures { IsTrue result ↔ ((1 ≤ control) × (control % cycle ≡ 0)) }
+    ensures { result ≡ is_control cycle control }
 {
     1 <= control && control % cycle == 0
 }
@@ -88,7 +92,7 @@ fn are_drives(w: &Wishes) -> bool
     let some = 1 <= drives.len();
     let wishes = are_wishes(drives);
     let apart = are_distinct(addresses(drives).as_slice());
-    let fit = w.record_bytes() <= MDT_LEN;
+    let fit = w.record_bytes() <= MOST_RECORDS;
     some && wishes && apart && fit
 }
 
@@ -106,11 +110,11 @@ pub fn is_rate(rate: u8) -> bool
     rate == 2 || rate == 4 || rate == 8 || rate == 16
 }
 
-#[tactic(auto, unfolding(crate::specs::Valid::is_rate))]
+#[tactic(auto, unfolding(crate::specs::Valid::is_rate, crate::specs::Valid::is_cycle, crate::specs::Valid::is_control))]
 fn are_cycles(w: &Wishes) -> bool
     ensures { IsTrue result ↔ AreCycles w.now }
 {
-    is_rate(w.rate) && w.gap <= GAP && is_cycle(w.cycle) && is_control(w.control, w.cycle)
+    is_rate(w.rate) && w.gap <= MOST_GAP && is_cycle(w.cycle) && is_control(w.cycle, w.control)
 }
 
 /// Whether a plan may be asked for: 1 to 64 drives with addresses of their own from 1 to 254, an order that lists the place

@@ -1,5 +1,5 @@
 -- The kinds of lines, one after the other; after each field of a kind's template comes a space, or nothing.
-use Rattle.std.proofs.Common.{◌≡◌, ℕ, ◌+◌, ◌<◌, ◌≤◌, max, cond, Bool, true, false, List, [], ◌∷◌, length, get_or, drop, Option, Some, None, is_none, refl, sym, ap, ◌∙◌, arith}
+use Rattle.std.proofs.Common.{◌≡◌, ℕ, ◌+◌, ◌<◌, ◌≤◌, max, cond, true, List, [], ◌∷◌, length, get_or, drop, Option, Some, None, is_none, refl, sym, ap, ◌∙◌, arith}
 use Rattle.std.proofs.lemmas.List.{at_drop_more, at_drop_all}
 use Rattle.sercos_text.specs.Templates.{line_fault, is_template, field_of}
 use Rattle.sercos_trace.specs.Kinds.{template_of, tail_for, later, kinds_fault, first_kind}

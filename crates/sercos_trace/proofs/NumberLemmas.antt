@@ -1,5 +1,5 @@
 -- Numbers within the bounds of their fields.
-use Rattle.std.proofs.Common.{◌≡◌, ℕ, zero, suc, ◌+◌, ◌<◌, ◌≤◌, List, [], ◌∷◌, ◌++◌, length, slice_index, Option, Some, None, arith}
+use Rattle.std.proofs.Common.{ℕ, zero, suc, ◌<◌, List, [], ◌∷◌, ◌++◌, length, slice_index, Option, Some, None, arith}
 use Rattle.sercos_trace.specs.Lines.{AreWithin, IsNumber, bound_by, bounds_of}
 use Rattle.sercos_text.specs.declared.template.Field.{Field}
 use Rattle.sercos_text.specs.declared.template.Field.TheVariants.{Number, Signed, Hex, Digits, Ident}

@@ -1,13 +1,11 @@
 -- No text is a line of two kinds, so a line that is written is read back as its kind.
-use Rattle.std.proofs.Common.{◌≡◌, ℕ, suc, ◌+◌, ◌==◌, ◌&&◌, not, nat_lt, cond, Bool, true, false, List, [], ◌∷◌, ◌++◌, length, slice_index, take, drop, get_or, Option, Some, None, is_none, refl, sym, ap, ◌∙◌, arith}
-use Rattle.std.specs.Bool.{then_some}
+use Rattle.std.proofs.Common.{◌≡◌, ℕ, ◌==◌, ◌&&◌, not, nat_lt, cond, Bool, true, false, List, [], ◌∷◌, ◌++◌, length, slice_index, take, drop, Option, Some, None, is_none, refl, sym, ap, ◌∙◌, arith}
 use Rattle.std.specs.List.{list_all}
 use Rattle.std.specs.Prelude.{pos, option_map}
 use Rattle.std.proofs.lemmas.Bool.{and_parts}
 use Rattle.std.proofs.lemmas.Bool.Decides.{nat_tests}
 use Rattle.sercos_model.proofs.FaultLemmas.{none_of-or, none_of-then, none_of-map}
 use Rattle.sercos_text.specs.declared.tail.Tail.{Tail}
-use Rattle.sercos_text.specs.declared.template.Field.{Field}
 use Rattle.sercos_text.specs.Tails.{tail_text, addresses_in, IsTail}
 use Rattle.sercos_text.specs.Templates.{field_of, byte_fault, part_fault, part_len, line_fault, line_text, Value, AreOf, IsLine, is_template, values_of, items_of, numbers_in, signed_by, bytes_by}
 use Rattle.sercos_trace.specs.declared.kind.LineKind.{LineKind}

@@ -12,7 +12,6 @@ use Rattle.sercos_trace.specs.declared.kind.LineKind.TheVariants as kind
 use Rattle.sercos_trace.specs.declared.reading.Line.{Line}
 use Rattle.sercos_trace.specs.declared.reading.Line.TheVariants as line
 use Rattle.sercos_trace.specs.Kinds.{template_of, tail_for, all_kinds, first_kind}
-use Rattle.sercos_trace.specs.Views.{SentView}
 
 -- what a drive asks of the plan, by the ten numbers of its line
 abbrev pub wish_by : List ℕ → Wish
@@ -79,9 +78,9 @@ unfoldable pub bounds_of : List ℕ → List ℕ
 bounds_of [] = []
 bounds_of (letter ∷ template) = bound_by (field_of letter) ++ bounds_of template
 
--- there is a number at a place, and it is within a bound
+-- there is a number at an index, and it is within a bound
 abbrev pub IsNumber : List ℕ → ℕ → ℕ → Type 0
-IsNumber numbers place bound = (place < length numbers) × (slice_index numbers place ≤ bound)
+IsNumber numbers index bound = (index < length numbers) × (slice_index numbers index ≤ bound)
 
 -- A line that is written of values of its kind's fields, and of items of its tail, is read back as that kind, with these values.
 abbrev pub ReadsBack : Type 0

@@ -55,28 +55,28 @@ pub struct BadLine {
     pub column: usize,
 }
 
-// The number at a place, which has 32 bits.
-pub(crate) fn long(told: &Told, place: usize) -> u32
-    requires { IsNumber told.now.numbers.items place 4294967295 }
-    ensures { result ≡ slice_index told.now.numbers.items place }
+// The number at an index, which has 32 bits.
+pub(crate) fn long(told: &Told, index: usize) -> u32
+    requires { IsNumber told.now.numbers.items index 4294967295 }
+    ensures { result ≡ slice_index told.now.numbers.items index }
 {
-    told.numbers.as_slice()[place]
+    told.numbers.as_slice()[index]
 }
 
-// The number at a place, which has 16 bits.
-fn short(told: &Told, place: usize) -> u16
-    requires { IsNumber told.now.numbers.items place 65535 }
-    ensures { result ≡ slice_index told.now.numbers.items place }
+// The number at an index, which has 16 bits.
+fn short(told: &Told, index: usize) -> u16
+    requires { IsNumber told.now.numbers.items index 65535 }
+    ensures { result ≡ slice_index told.now.numbers.items index }
 {
-    told.numbers.as_slice()[place] as u16
+    told.numbers.as_slice()[index] as u16
 }
 
-// The number at a place, which has 8 bits.
-fn byte(told: &Told, place: usize) -> u8
-    requires { IsNumber told.now.numbers.items place 255 }
-    ensures { result ≡ slice_index told.now.numbers.items place }
+// The number at an index, which has 8 bits.
+fn byte(told: &Told, index: usize) -> u8
+    requires { IsNumber told.now.numbers.items index 255 }
+    ensures { result ≡ slice_index told.now.numbers.items index }
 {
-    told.numbers.as_slice()[place] as u8
+    told.numbers.as_slice()[index] as u8
 }
 
 // The line of the ring's numbers.

@@ -108,7 +108,7 @@ pub fn push_sent(
     sent[place].fill(kind, start, bits, content.as_slice());
 }
 
-/// Puts a telegram behind the first `count` of a list and counts it, as [`push_sent`] appends it. If one stands there, it is
+/// Puts a telegram after the first `count` of a list and counts it, as [`push_sent`] appends it. If one stands there, it is
 /// replaced in its place, so that a record which is used again copies only as many bytes as the content has.
 pub fn put_sent(
     sent: &mut ArrayVec<Sent, 66>,

@@ -11,7 +11,8 @@ use Rattle.sercos_telegram.specs.Spells.{word_at}
 use Rattle.sercos_telegram.specs.Faults.{single_fault, joint_fault}
 use Rattle.sercos_block.specs.declared.block.Block.{Block}
 use Rattle.sercos_block.specs.Rules.{blocks_fault}
-use Rattle.sercos_block.specs.Rings.{is_ring, is_drive, are_drives, are_drive_numbers, are_times, has_blocks, is_address}
+use Rattle.sercos_timing.specs.Valid.{is_address}
+use Rattle.sercos_block.specs.Rings.{is_ring, is_drive, are_drives, are_drive_numbers, are_times, has_blocks}
 use Rattle.sercos_block.specs.Stores.{find_block, store_of, put_fault, is_typed, IsStore}
 use Rattle.sercos_block.specs.Views.{DriveView, RingView}
 use Rattle.sercos_command.specs.Checks.{number_at, carried_len}

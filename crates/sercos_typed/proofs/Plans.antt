@@ -13,7 +13,7 @@ use Rattle.sercos_step.specs.declared.request.Outcome.{Outcome}
 use Rattle.sercos_timing.specs.Views.{WishesView, PlanView}
 use Rattle.sercos_timing.specs.Order.{record_bytes}
 use Rattle.sercos_timing.specs.Inequalities.{Fits}
-use Rattle.sercos_timing.specs.Valid.{IsValid, is_rate}
+use Rattle.sercos_timing.specs.Valid.{IsValid, is_rate, is_cycle, is_control}
 use Rattle.sercos_plan.specs.LeastTimes.{is_roomy, least_plan}
 use Rattle.sercos_plan.specs.ChainOf.{planned, chain_of}
 use Rattle.sercos_plan.proofs.AnswerLemmas.{roomy_test, is_of_least}
@@ -21,7 +21,7 @@ use Rattle.sercos_plan.proofs.PlanLemmas.{least_fits}
 use Rattle.sercos_block.specs.declared.block.Block.{Block}
 use Rattle.sercos_block.specs.declared.built_in.BuiltIn.{BuiltIn}
 use Rattle.sercos_block.specs.BuiltIns.{built_ins}
-use Rattle.sercos_block.specs.Rings.{is_ring, has_address, has_drive_numbers, has_blocks, has_ring_numbers, are_ring_numbers, is_cycle, is_control, is_drive, are_drives, attribute_in, row_in, built_in_attribute, own_attribute, block_attribute, number_len, cyclic_len, is_cyclic, are_cyclic}
+use Rattle.sercos_block.specs.Rings.{is_ring, has_address, has_drive_numbers, has_blocks, has_ring_numbers, are_ring_numbers, is_drive, are_drives, attribute_in, row_in, built_in_attribute, own_attribute, block_attribute, number_len, cyclic_len, is_cyclic, are_cyclic}
 use Rattle.sercos_block.specs.Stores.{is_typed}
 use Rattle.sercos_block.specs.ValidRings.{IsRing}
 use Rattle.sercos_block.specs.Views.{DriveView, RingView}
@@ -46,14 +46,13 @@ pub record IsTimed (s : Known) : Type 0 where
   pub control : s.control < 65536
 
 pub ring_timed : (r : RingView) → IsKnown (known_of r) → is_ring r ≡ true → IsTimed (known_of r)
-unfolding is_ring are_ring_numbers is_control
+unfolding is_ring are_ring_numbers
 ring_timed r known valid =
     let numbers : has_ring_numbers r ≡ true = (and_parts (has_ring_numbers r) _ valid).0 in
     let after_rate = (and_parts (is_rate r.rate) _ numbers).1 in
     let after_cycle = (and_parts (is_cycle r.cycle) _ after_rate).1 in
-    let control : is_control r.cycle r.control ≡ true = (and_parts (is_control r.cycle r.control) _ after_cycle).0 in
-    let after_one = (and_parts (nat_le 1 r.control) _ control).1 in
-    let top : r.control ≤ 64000 = leb-true r.control 64000 (and_parts (nat_le r.control 64000) _ after_one).0 in
+    let after_control = (and_parts (is_control r.cycle r.control) _ after_cycle).1 in
+    let top : r.control ≤ 64000 = leb-true r.control 64000 (and_parts (nat_le r.control 64000) _ after_control).0 in
     record { cycle = short known.cycles.cycle; control = omega (arith, top) }
   where
     short : (r.cycle ≡ 125) ⊎ ((250 ≤ r.cycle) × (r.cycle ≤ 64000) × (r.cycle % 250 ≡ 0)) → r.cycle < 65536

@@ -6,10 +6,10 @@ use Rattle.sercos_idn.specs.Codes.{attribute_fault}
 use Rattle.sercos_idn.specs.Attributes.{attribute_of}
 use Rattle.sercos_step.specs.declared.request.Job.{Job}
 use Rattle.sercos_step.specs.declared.request.Request.TheVariants as request
-use Rattle.sercos_timing.specs.Valid.{is_rate}
+use Rattle.sercos_timing.specs.Valid.{is_rate, is_cycle, is_control}
 use Rattle.sercos_block.specs.declared.block.Block.{Block}
 use Rattle.sercos_block.specs.Rules.{blocks_fault, block_fault}
-use Rattle.sercos_block.specs.Rings.{is_ring, are_ring_numbers, is_cycle, is_control, has_drives, are_drives, is_drive, has_address, are_drive_numbers, are_times, has_blocks, are_cyclic, cyclic_len, block_attribute, built_in_attribute, row_in, own_attribute, attribute_in, mdt_len, listed_len, is_order, are_turns, is_turn}
+use Rattle.sercos_block.specs.Rings.{is_ring, are_ring_numbers, has_drives, are_drives, is_drive, has_address, are_drive_numbers, are_times, has_blocks, are_cyclic, cyclic_len, block_attribute, built_in_attribute, row_in, own_attribute, attribute_in, mdt_len, listed_len, is_order, are_turns, is_turn}
 use Rattle.sercos_block.specs.Stores.{is_typed}
 use Rattle.sercos_block.specs.Views.{DriveView, RingView}
 use Rattle.sercos_typed.specs.Typed.{IsTypedRequest, AreTyped, AreTypedJobs}

@@ -23,6 +23,7 @@ use Rattle.sercos_handshake.specs.Moves.{with_status}
 use Rattle.sercos_agenda.specs.Tasks.{BeginsTasks, BeginsNoneEarly, AreBegunTasks}
 use Rattle.sercos_agenda.proofs.OneTurn.{AtHears, SameAt, HeardAt, elsewhere_same, here_hears}
 use Rattle.sercos_views.specs.RingViews.{request_of}
+use Rattle.sercos_undisturbed.proofs.Arrivals.{not_false}
 use Rattle.sercos_undisturbed.proofs.StaysUp.{found_passes, place_so}
 use Rattle.sercos_views.proofs.MasterSame.{begun_so, turn_mdt}
 use Rattle.sercos_undisturbed.proofs.AfterAt.{after_at_so}
@@ -53,10 +54,6 @@ before_first k (suc n) test i found j from low = by (test k) refl found (λ rest
       | inl same ↦ ap test same ∙ here
       | inr other ↦ next is (omega (arith, from, other))
     ]
-
-pub not_false : (b : Bool) → not b ≡ false → b ≡ true
-not_false true e = refl
-not_false false e = sym e
 
 -- a drive that has been read and has its turn comes after drives that are checked
 turn_after : (s : Known) (p : Past) (k : ℕ) → in_turn s p ≡ Some k → is_read (member s k) (outcomes p k) ≡ true → (j : ℕ) → j < k → is_checked (member s j) (outcomes p j) ≡ true

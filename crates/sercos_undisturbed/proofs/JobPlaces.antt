@@ -53,7 +53,7 @@ module _ (s : Known) (k : ℕ) where
   some_plan None begun are more = let most = at_most (jobs_of s None k) begun are in let long = reads_length (member s k) in absurd (omega (arith, most, long, more))
   some_plan (Some p) begun are more = (p, refl)
 
-  -- A TASK, behind n others that have ended
+  -- A TASK, after n others that have ended
   task_at : (plan : Option PlanView) (waiting : List Task) (by_then : Option PlanView) (outs : List Outcome) (n : ℕ) (t : Task) → AreWaiting waiting → length outs ≡ n → t.phase ≤ 3 → (by_then ≡ None) ⊎ (by_then ≡ plan)
       → (n ≡ reads_count (member s k) + 12 → is_checked (member s k) outs ≡ true) → n ≤ length (jobs_of s plan k) → IsTask s k by_then waiting outs t → slice_get (jobs_of s plan k) n ≡ Some t.request
   task_at plan waiting by_then outs n t wait long early same checked few (OfReads r less got is) =

@@ -135,7 +135,7 @@ module _ (sets : SetsAndCancels) (ends : EndsWithStatus) (reads : ReadsOnce) (bu
       on : is_some (find_set 128 poll.poll.taken.commands.set) ≡ true
       on = set_at_entry 128 busy past (front ++ e ∷ []) poll.poll (poll.before ++ rest) (3 ∷ 0 ∷ []) run follow commands at_poll poll.newest refl
 
-  -- THE READ behind it
+  -- THE READ after it
   pub list_read : (list : Block) → find_block 22 (store_of d) ≡ Some list → list.attribute.factor < 2 ^ 16 → (newer older : List Begun) (b c : Begun) (bytes status : List ℕ) → epoch_begun past ≡ newer ++ b ∷ c ∷ older
       → b.request ≡ request.Read (idn 22) 7 → outcome_of b.request b.answers ≡ Some (outcome.Complete bytes) → c.request ≡ request.Command (idn 128) → outcome_of c.request c.answers ≡ Some (outcome.Complete status) → IsListRead d such bytes
   list_read list there small newer older b c bytes status split asks complete sets_it ended = by at.of_later

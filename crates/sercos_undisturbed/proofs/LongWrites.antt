@@ -28,9 +28,10 @@ use Rattle.sercos_handshake.specs.InStep.{replies_of}
 use Rattle.sercos_handshake.specs.Transfers.{IsTransfer}
 use Rattle.sercos_handshake.specs.WholeRun.{AreSmall}
 use Rattle.sercos_handshake.proofs.AttributeReplies.{find-alike}
-use Rattle.sercos_handshake.proofs.TransferSteps.{length-answer_words, length-replies_of, goes_on-outcome_of, newest_step, without_newest}
+use Rattle.sercos_step.proofs.Ends.{length-answer_words}
+use Rattle.sercos_handshake.proofs.TransferSteps.{length-replies_of, goes_on-outcome_of, newest_step, without_newest}
 use Rattle.sercos_handshake.proofs.UnknownBlocks.{only_opening}
-use Rattle.sercos_handshake.proofs.WriteRuns.{length-in_order}
+use Rattle.sercos_service_drive.proofs.WriteAnswers.{length-in_order}
 use Rattle.sercos_handshake.proofs.WriteStages.{low_of, high_of, told, is_nil}
 use Rattle.sercos_handshake.proofs.WriteStages as write
 use Rattle.sercos_undisturbed.proofs.RefusedRuns.{SaysShape}
@@ -67,7 +68,7 @@ over_value c a d off = by c.attribute.length off
     by len.List2 off = absurd (false≢true (sym off))
     by len.List4 off = absurd (false≢true (sym off))
 
--- THE WORDS of so many bytes
+-- THE WORDS of n bytes
 told_list : (l : Length) (bytes : List ℕ) → is_list l ≡ true → words_told (shape_by l) bytes ≡ length bytes ∷ 0 ∷ words_of bytes
 told_list len.Two bytes list = absurd (false≢true list)
 told_list len.Four bytes list = absurd (false≢true list)

@@ -90,7 +90,7 @@ never : (a : Bool) → (a && false) ≡ false
 never true = refl
 never false = refl
 
-mst_kept : (now : Turn) (turns : List Turn) → now.whole ≡ true → has_lost_mst (now ∷ turns) ≡ false
+pub mst_kept : (now : Turn) (turns : List Turn) → now.whole ≡ true → has_lost_mst (now ∷ turns) ≡ false
 mst_kept now [] whole = refl
 mst_kept now (before ∷ turns) whole = rw whole (never (nat_le 1 before.phase))
 

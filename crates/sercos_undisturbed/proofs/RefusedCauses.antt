@@ -25,7 +25,7 @@ use Rattle.sercos_startup.specs.StartUp.{IsStoreOf}
 use Rattle.sercos_startup.proofs.BlockFinds.{find_store_of}
 use Rattle.sercos_startup.proofs.CauseLemmas.{causes_alike, cycle_cause, number_has_no_cause, list_has_no_cause}
 use Rattle.sercos_handshake.proofs.SettingReplies.{Allows}
-use Rattle.sercos_handshake.proofs.WriteRuns.{length-in_order}
+use Rattle.sercos_service_drive.proofs.WriteAnswers.{length-in_order}
 use Rattle.sercos_handshake.proofs.WriteStages.{told}
 use Rattle.sercos_undisturbed.proofs.RefusedSteps.{IsCaused}
 use Rattle.sercos_handshake.proofs.WriteStages.{is_nil}

@@ -31,7 +31,8 @@ use Rattle.sercos_handshake.specs.Views.{View, standing, stood_in, record_in, pr
 use Rattle.sercos_handshake.specs.WholeRun.{write_of}
 use Rattle.sercos_handshake.proofs.AttributeReplies.{find-alike}
 use Rattle.sercos_handshake.proofs.PhaseMoves.{Processes, Nothing, Record, processes, processed_phase}
-use Rattle.sercos_handshake.proofs.ProtectedWrites.{those_moved, those_kept, those_since}
+use Rattle.sercos_service_drive.proofs.AllowedWrites.{those_moved}
+use Rattle.sercos_handshake.proofs.ProtectedWrites.{those_kept, those_since}
 use Rattle.sercos_journal.specs.Runs.{drive_at, given_mst, IsRun, IsClear}
 use Rattle.sercos_views.specs.RingViews.{view_of, views_of}
 use Rattle.sercos_held.specs.Opened.{IsOpened}

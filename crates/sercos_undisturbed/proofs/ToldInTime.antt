@@ -82,7 +82,7 @@ same_after : (reports : List Report) (xs ys : List (Option ℕ)) → after_told 
 same_after [] xs ys same = same
 same_after (r ∷ reports) xs ys same = (first_is (Some r.number) (Some r.number) xs ys (same_after reports (Some r.number ∷ xs) (Some r.number ∷ ys) same)).1
 
--- how many wait after so many
+-- how many wait after n
 dropped : (xs : List Task) (m n : ℕ) → m ≤ n → m ≤ length xs → length (drop n xs) + m ≤ length xs
 dropped [] m zero le few = omega (arith, few)
 dropped [] m (suc n) le few = omega (arith, few)

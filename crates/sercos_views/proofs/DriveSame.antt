@@ -32,7 +32,7 @@ pub record IsSame (d : DriveView) (past : List Moment) (f : Standing) (h : List 
 pub same_first : (d : DriveView) (rate : ℕ) → IsSame d (annals d rate []) afresh [] [] (store_of d)
 same_first d rate = record { ended = refl; got = refl; missed = refl; taken = refl; writes = refl; blocks = refl }
 
--- behind a restart
+-- after a restart
 pub same_restarted : (d : DriveView) (rate : ℕ) (restarts : Bool) (calls : List DriveCall) (f : Standing) (h : List Taken) (w : List Write) (b : List Block)
     → IsSame d (annals d rate calls) f h w b → IsSame d (annals d rate (with_restart restarts calls)) (if restarts then afresh else f) (kept_unless restarts h) w b
 same_restarted d rate true calls f h w b s = record { ended = refl; got = refl; missed = refl; taken = refl; writes = s.writes; blocks = s.blocks }

@@ -28,7 +28,7 @@ use Rattle.sercos_handshake.specs.Epochs.{command, command_in, whole_row, with_h
 use Rattle.sercos_handshake.specs.Runs.{IsShown, IsNext}
 use Rattle.sercos_views.specs.RingViews.{heard_last, told_to, is_told, request_of}
 
--- At the end of a cycle, and at the start of one behind a restart: the phase commanded next, what was begun on the channel, and in phase
+-- At the end of a cycle, and at the start of one after a restart: the phase commanded next, what was begun on the channel, and in phase
 -- 0 how many MSTs in a row came back whole. Nothing was heard since the last cycle ended.
 pub record IsSame (p : Past) (k phase row : ℕ) (b : List Begun) : Type 0 where
   pub phase_is : p.now.phase ≡ phase
@@ -40,7 +40,7 @@ pub record IsSame (p : Past) (k phase row : ℕ) (b : List Begun) : Type 0 where
 abbrev pub StandsAs : Past → ℕ → List View → Type 0
 StandsAs p k past = IsSame p k (command past) (whole_row past) (epoch_begun past)
 
--- behind a restart of the master
+-- after a restart of the master
 abbrev pub begun_cycle : Bool → Past → Past
 begun_cycle restarts p = if restarts then after_restart p else p
 

@@ -9,7 +9,8 @@ use Rattle.sercos_telegram.specs.Spells.{all_drives, fields, word_bytes}
 use Rattle.sercos_telegram.specs.Faults.{head_fault, single_fault, joint_fault}
 use Rattle.sercos_block.specs.declared.block.Block.{Block}
 use Rattle.sercos_block.specs.Views.{DriveView, RingView}
-use Rattle.sercos_block.specs.Rings.{is_ring, is_address, is_drive, are_drives, are_drive_numbers}
+use Rattle.sercos_timing.specs.Valid.{is_address}
+use Rattle.sercos_block.specs.Rings.{is_ring, is_drive, are_drives, are_drive_numbers}
 use Rattle.sercos_command.specs.Checks.{number_at, carried_len}
 use Rattle.sercos_service_master.specs.Begun.{Said, master_says}
 use Rattle.sercos_service_master.specs.Calls.{begun_by}
@@ -29,7 +30,7 @@ use Rattle.sercos_views.proofs.Codecs.{single_clear, single_other, joint_clear}
 use Rattle.sercos_views.proofs.DriveSame.{said_to as said_by_told}
 use Rattle.sercos_views.proofs.Members.{member_is, members_count, same_drive}
 
--- an address of a drive is none of the master's
+-- the address of a drive isn't one of the master's
 address_in : (before drives : List DriveView) (k : ℕ) → are_drives before drives ≡ true → k < length drives → is_address (slice_index_or drives k no_drive).address ≡ true
 unfolding are_drives is_drive are_drive_numbers
 address_in before [] k are below = absurd (omega arith)
@@ -60,7 +61,7 @@ wrong_head : (wanted address : ℕ) (content : List ℕ) → (slice_index conten
 unfolding head_fault
 wrong_head wanted address content off = rw off (fault_later (not (length content == wanted)) _ _)
 
--- a telegram to another is none
+-- a telegram to another drive is not heard
 single_late : (said : Said) (address other phase : ℕ) (blocks : List Block) → 3 ≤ phase → (other == all_drives) ≡ false → mdt_got address phase blocks (Some (other ∷ record_said said [])) ≡ None
 unfolding joint_in
 single_late said address other phase blocks late off =
@@ -119,7 +120,7 @@ single_got r k i said phase blocks valid below low small = elim (cases_eq k i) [
     elsewhere true early other = let differs = foreign other in single_other said (drive_at r k).address (member (known_of r) i).address phase blocks (grind (arith, nat_tests, early)) (grind (arith, nat_tests, differs))
     elsewhere false late other = let high = high_of in single_late said (drive_at r k).address (member (known_of r) i).address phase blocks (grind (arith, nat_tests, late)) (grind (arith, nat_tests, high))
 
--- AN MDT TO ALL: the record of a place stands behind those of the places before
+-- AN MDT TO ALL: the record of a place comes after those of the places before
 record_among : (s : Known) (p : Past) (base i n : ℕ) → i < n → (rest : List ℕ) × (records_from s p base n ≡ records_from s p base i ++ (record_to s p (base + i) ++ rest))
 record_among s p base i zero below = absurd (omega (arith, below))
 record_among s p base zero (suc n) below = (records_from s p (base + 1) n, let e : base ≡ base + 0 = omega arith in ap (λ (j : ℕ). record_to s p j ++ records_from s p (base + 1) n) e)

@@ -47,7 +47,7 @@ is_told p k = (nat_le 3 p.now.phase && is_some p.plan) || is_place k p.now.addre
 abbrev pub told_to : Past → ℕ → Option Said
 told_to p k = if is_told p k then Some (master_says (begun_by (p.calls k))) else None
 
--- the moments of a drive before the MST's place of a cycle, and behind it
+-- the moments of a drive before the MST's place of a cycle, and after it
 abbrev pub before_mst : RingView → Carry → Restarts → List CycleView → ℕ → List Moment
 before_mst r carry restarts j k = annals (drive_at r k) r.rate (with_restart (restarts (length j) (k + 1)) (given_before carry restarts j k))
 

@@ -2,7 +2,7 @@ use Rattle.std.proofs.Common.{rules, ◌≡◌, ◌+◌, ◌*◌, ◌-◌, ◌<�
 use Rattle.std.specs.Prelude.{Some}
 use Rattle.sercos_timing.specs.Order.{at_bits}
 use Rattle.sercos_plan.specs.ChainOf.{is_tight, bits_of_starts}
-use Rattle.sercos_plan.proofs.TurnLemmas.{five_some}
+use Rattle.sercos_plan.proofs.T2Lemmas.{five_some}
 use Rattle.sercos_plan.proofs.chaining.is_last_tight.Goals as goal
 
 pub returns : goal.returns

@@ -10,4 +10,4 @@ returns-clause-links c =
     let k = slice_index w.order c.args.at in
     let built : c.push_trail.new.links.items ≡ trail w (starts w) (sent w) k =
     c.push_trail.ensures.links ∙ ap (λ ls. ls ++ trail_to w c.args.at) c.new-links.ensures ∙ sym (trail_stays w c.requires.valid (starts w) (length w.order) c.args.at c.requires.within (omega arith)) in
-    c.push.ensures.items ∙ ap (λ ls. ls ++ c.turn_link-link.result ∷ []) built ∙ ap (λ l. trail w (starts w) (sent w) k ++ l ∷ []) c.turn_link-link.ensures
+    c.push.ensures.items ∙ ap (λ ls. ls ++ c.t2_link-link.result ∷ []) built ∙ ap (λ l. trail w (starts w) (sent w) k ++ l ∷ []) c.t2_link-link.ensures

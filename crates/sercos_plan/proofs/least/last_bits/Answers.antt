@@ -1,5 +1,5 @@
 use Rattle.std.proofs.Common.{rules, ◌*◌, ◌<◌, length, slice_index}
-use Rattle.sercos_plan.proofs.TurnLemmas.{five_at}
+use Rattle.sercos_plan.proofs.T2Lemmas.{five_at}
 use Rattle.sercos_plan.proofs.least.last_bits.Goals as goal
 
 pub returns-clause-value : goal.returns-clause-value

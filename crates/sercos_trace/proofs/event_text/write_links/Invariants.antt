@@ -1,5 +1,4 @@
-use Rattle.std.proofs.Common.{◌≡◌, ℕ, ◌++◌, List, [], drop, if◌then◌else◌}
-use mathlib.Core.Bool.{beq}
+use Rattle.std.proofs.Common.{◌≡◌, ℕ, ◌++◌, List, drop}
 use Rattle.std.specs.List.{flat_map}
 use Rattle.sercos_trace.specs.Texts.{link_text}
 use Rattle.sercos_trace.specs.Written.{seen, HasTaken}

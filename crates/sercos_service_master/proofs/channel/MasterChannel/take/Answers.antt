@@ -10,4 +10,4 @@ returns-clause-stands c = λ h status word stood it answer_is.
     answered c.steps_law.ensures.next _ _ h status word c.answer_with-outcome.result s it c.answer_with-outcome.ensures.left
     (rw (← answer_is) (c.answer_with-outcome.ensures.work (begun_by h) s.work_is))
     (rw (← answer_is) (c.answer_with-outcome.ensures.outcome (begun_by h) some s.work_is))
-    (rw (← c.is_some.ensures) c.mhs_behind-self-inside.ensures) refl
+    (rw (← c.is_some.ensures) c.mhs_after-self-inside.ensures) refl

@@ -1,0 +1,31 @@
+-- The limits of this profile for a drive's setup, its data blocks and a run.
+use Rattle.std.specs.Prelude.{ℕ}
+
+-- a drive has at most so many data blocks beside the built-in ones
+abbrev pub most_blocks : ℕ
+most_blocks = 36
+
+-- for at most so many cycles a drive is busy with a step of the service channel, and a procedure command runs
+abbrev pub most_busy : ℕ
+most_busy = 20
+
+abbrev pub most_command : ℕ
+most_command = 200
+
+-- an AT, or a data record of the MDT, carries at most so many identifier numbers
+abbrev pub most_carried : ℕ
+most_carried = 16
+
+-- a run has 1 to so many cycles
+abbrev pub most_cycles : ℕ
+most_cycles = 50000
+
+-- the most bytes of a name, of a unit and of a list
+abbrev pub most_name : ℕ
+most_name = 60
+
+abbrev pub most_unit : ℕ
+most_unit = 12
+
+abbrev pub most_data : ℕ
+most_data = 1024

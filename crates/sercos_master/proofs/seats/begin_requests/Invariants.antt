@@ -1,0 +1,15 @@
+use Rattle.std.proofs.Common.{◌≡◌, ℕ, Option, length, if◌then◌else◌}
+use Rattle.std.specs.Prelude.{nat_lt, is_some}
+use Rattle.sercos_timing.specs.Views.{PlanView}
+use Rattle.sercos_seat.specs.Ring.{Known}
+use Rattle.sercos_seat.specs.Seats.{Seen, AreWaiting, with_begun, begun_task}
+use Rattle.sercos_master.specs.Kept.{SeatsStandFor}
+use Rattle.sercos_master.proofs.seats.begin_requests.Given as goal
+
+-- the seats so far have begun their tasks, and the others not yet
+abbrev pub invariant-loop-place : goal.invariant-loop-place
+invariant-loop-place l = record {
+  count : length l.seats.items ≡ length l.initial.seats.items;
+  stand : (s : Known) (seen : ℕ → Seen) (plan : Option PlanView) → ((k : ℕ) → AreWaiting (seen k).waiting) → is_some plan ≡ l.planned →
+      SeatsStandFor l.initial.seats.items s seen → SeatsStandFor l.seats.items s (λ k. if nat_lt k l.place then with_begun (begun_task 4 s plan (seen k).waiting k (seen k)) (seen k) else seen k);
+}

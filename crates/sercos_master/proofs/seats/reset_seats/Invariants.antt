@@ -1,0 +1,16 @@
+use Rattle.std.proofs.Common.{◌≡◌, ◌≤◌, ◌+◌, ℕ, length, if◌then◌else◌}
+use Rattle.std.specs.Prelude.{nat_lt}
+use Rattle.sercos_master.specs.Reports.{with_reports}
+use Rattle.sercos_seat.specs.Ring.{Known}
+use Rattle.sercos_seat.specs.Seats.{Seen, forgotten, broken_in}
+use Rattle.sercos_master.specs.Kept.{SeatsStandFor}
+use Rattle.sercos_master.proofs.seats.reset_seats.Given as goal
+
+-- of the seats so far nothing was seen, and the others are as before
+abbrev pub invariant-loop-place : goal.invariant-loop-place
+invariant-loop-place l = record {
+  count : length l.seats.items ≡ length l.initial.seats.items;
+  stand : (s : Known) (seen : ℕ → Seen) → SeatsStandFor l.initial.seats.items s seen → SeatsStandFor l.seats.items s (λ k. if nat_lt k l.place then forgotten (seen k) else seen k);
+  told : (s : Known) (seen : ℕ → Seen) → SeatsStandFor l.initial.seats.items s seen → length l.initial.reports.items + length l.initial.seats.items ≤ 128 →
+      l.reports.items ≡ with_reports (λ k. broken_in (seen k)) l.place l.initial.reports.items;
+}

@@ -1,0 +1,216 @@
+// The end of a cycle: a fall, or the phase of the next one; and the begin of an epoch.
+ghost use Rattle.std.specs.Prelude.{◌≡◌, ◌+◌, ◌<◌, ◌≤◌, ◌==◌, ◌&&◌, false, ◌∷◌, length, Option, Some, None, IfSome, if◌then◌else◌};
+ghost use Rattle.std.specs.List.{position};
+ghost use Rattle.sercos_master.specs.Reports.{with_reports, with_broken, outcomes_told, stop_told, plan_told};
+ghost use Rattle.sercos_seat.specs.Ring.{Known, member};
+ghost use Rattle.sercos_master.specs.Annals.{Past, is_done, has_lost_mst, fall_of, first_place, is_at_limit, goes_on, new_epoch, still_waiting, after_end, next_phase};
+ghost use Rattle.sercos_seat.specs.Channel.{is_place};
+ghost use Rattle.sercos_master.specs.Kept.{waited_with, CoreStandsFor};
+
+use crate::counts::{is_place, lost_with, row_with, waited_with};
+use crate::ring::Ring;
+use crate::seats::{
+    end_seats, first_lost, first_stuck, first_unchecked, first_unidentified, first_unready,
+    reset_seats,
+};
+use arrayvec::ArrayVec;
+use sercos_timing::Plan;
+use sercos_trace::{Fall, Reported, Stop};
+
+impl Ring {
+    // Whether all that belongs to the phase is done.
+    pub fn is_done(&self) -> bool
+        ensures { (s : Known) (p : Past) → CoreStandsFor self.now s p → result ≡ is_done s p }
+    {
+        match self.phase {
+            0 => self.whole && self.row >= 9,
+            1 => first_unidentified(self.seats.as_slice()).is_none(),
+            2 => first_unchecked(self.seats.as_slice()).is_none(),
+            3 => first_unready(self.seats.as_slice()).is_none(),
+            _ => false,
+        }
+    }
+
+    // The cycle ends, and the next one is of this phase.
+    fn go_on(&mut self, next: u8, reports: &mut ArrayVec<Reported, 128>) -> Option<Stop>
+        ensures stop { result ≡ self.old.stop }
+        ensures told { (s : Known) (p : Past) → CoreStandsFor self.old s p → length reports.old.items + length s.drives ≤ 128 →
+            reports.new.items ≡ with_reports p.now.report (length s.drives) reports.old.items }
+        ensures stands { (s : Known) (p : Past) → CoreStandsFor self.old s p → CoreStandsFor self.new s (goes_on next p) }
+        ensures phase { self.new.phase ≡ next }
+    {
+        end_seats(self.phase, &mut self.seats, reports);
+        self.row = row_with(self.whole, self.row);
+        self.lost = lost_with(self.phase, self.whole);
+        self.waited = waited_with(self.phase, self.addressed, self.before, self.waited);
+        self.before = self.addressed;
+        self.addressed = None;
+        self.whole = false;
+        self.plans = false;
+        self.count = self.count.wrapping_add(1);
+        self.phase = next;
+        let stop = self.stop.take();
+        self.stop = None;
+        stop
+    }
+
+    // An epoch begins.
+    pub fn begin_epoch(&mut self, reports: &mut ArrayVec<Reported, 128>)
+        ensures told { (s : Known) (p : Past) → CoreStandsFor self.old s p → length reports.old.items + length s.drives ≤ 128 →
+            reports.new.items ≡ with_broken s p reports.old.items }
+        ensures phase { self.new.phase ≡ 0 }
+        ensures stands { (s : Known) (p : Past) → CoreStandsFor self.old s p → CoreStandsFor self.new s (new_epoch p.cycle (still_waiting p)) }
+    {
+        reset_seats(&mut self.seats, reports);
+        self.phase = 0;
+        self.whole = false;
+        self.row = 0;
+        self.lost = false;
+        self.addressed = None;
+        self.before = None;
+        self.waited = 0;
+        self.plan = None;
+        self.plans = false;
+        self.stopped = false;
+        self.stop = None;
+    }
+
+    // The plan of the cycle.
+    pub fn plan_told(&self) -> Option<Plan>
+        ensures { (s : Known) (p : Past) → CoreStandsFor self.now s p → result ≡ plan_told p }
+    {
+        if self.plans {
+            copy_of(&self.plan)
+        } else {
+            None
+        }
+    }
+
+    // Ends the cycle: the ring falls, or goes on, in the next phase if all that belongs to this one is done.
+    pub fn end_cycle(
+        &mut self,
+        reports: &mut ArrayVec<Reported, 128>,
+    ) -> (Option<Fall>, Option<Stop>)
+        ensures stands { (s : Known) (p : Past) → CoreStandsFor self.old s p → CoreStandsFor self.new s (after_end s p) }
+        ensures fall { (s : Known) (p : Past) → CoreStandsFor self.old s p → result.0 ≡ fall_of s p }
+        ensures stop { (s : Known) (p : Past) → CoreStandsFor self.old s p → result.1 ≡ stop_told p }
+        ensures told { (s : Known) (p : Past) → CoreStandsFor self.old s p → length reports.old.items + length s.drives ≤ 128 →
+            length (with_reports p.now.report (length s.drives) reports.old.items) + length s.drives ≤ 128 →
+            reports.new.items ≡ outcomes_told s p reports.old.items }
+        ensures phase { self.old.phase ≤ 4 → self.new.phase ≤ 4 }
+    {
+        let fall = self.fall();
+        let next = self.next_phase();
+        let stop = self.go_on(next, reports);
+        if fall.is_some() {
+            self.begin_epoch(reports);
+            return (fall, stop);
+        }
+        (fall, stop)
+    }
+
+    // The phase of the next cycle, if there is no fall.
+    fn next_phase(&self) -> u8
+        ensures value { (s : Known) (p : Past) → CoreStandsFor self.now s p → result ≡ next_phase s p }
+        ensures bound { self.now.phase ≤ 4 → result ≤ 4 }
+    {
+        if self.phase < 4 && self.is_done() {
+            self.phase + 1
+        } else {
+            self.phase
+        }
+    }
+
+    // The fall at the end of a cycle, if there is one.
+    fn fall(&self) -> Option<Fall>
+        ensures { (s : Known) (p : Past) → CoreStandsFor self.now s p → result ≡ fall_of s p }
+    {
+        if self.is_mst_lost() {
+            return Some(Fall::MstLost);
+        }
+        if let Some(place) = first_lost(self.seats.as_slice()) {
+            return Some(Fall::AtLost(self.address_at(place)));
+        }
+        match self.first_at_limit() {
+            Some(place) => Some(Fall::StepLimit(self.address_at(place))),
+            None => None,
+        }
+    }
+
+    // The address of the drive at a place.
+    fn address_at(&self, place: usize) -> u8
+        requires { place < length self.now.seats }
+        ensures { (s : Known) (p : Past) → CoreStandsFor self.now s p → result ≡ (member s place).address }
+    {
+        self.seats[place].member().address()
+    }
+
+    // The drive whose open step or identification has no answer up to the limit.
+    fn first_at_limit(&self) -> Option<usize>
+        ensures value { (s : Known) (p : Past) → CoreStandsFor self.now s p → result ≡ first_place s (is_at_limit p) }
+        ensures bound { IfSome result (λ k. k < length self.now.seats) }
+    {
+        if self.phase == 1 {
+            return self.waited_too_long();
+        }
+        first_stuck(self.seats.as_slice())
+    }
+
+    // The drive that wasn't identified for 64 cycles.
+    fn waited_too_long(&self) -> Option<usize>
+        ensures value { (s : Known) (p : Past) → CoreStandsFor self.now s p → p.now.phase ≡ 1 → result ≡ first_place s (is_at_limit p) }
+        ensures bound { IfSome result (λ k. k < length self.now.seats) }
+    {
+        let Some(place) = self.addressed else {
+            return None;
+        };
+        if place >= self.seats.len() {
+            return None;
+        }
+        if !is_place(place, self.before) {
+            return None;
+        }
+        if self.waited < 64 {
+            return None;
+        }
+        Some(place)
+    }
+
+    // The fall that the own MST brings.
+    fn is_mst_lost(&self) -> bool
+        ensures { (s : Known) (p : Past) → CoreStandsFor self.now s p → result ≡ has_lost_mst (p.now ∷ p.turns) }
+    {
+        self.lost && !self.whole
+    }
+}
+
+fn numbers_of(numbers: &[u16]) -> ArrayVec<u16, 64>
+    requires { length numbers.now ≤ 64 }
+    ensures { result.items ≡ numbers.now }
+{
+    let mut copy = ArrayVec::new();
+    let _fits = copy.try_extend_from_slice(numbers);
+    copy
+}
+
+fn plan_copy(plan: &Plan) -> Plan
+    ensures { result ≡ plan.now }
+{
+    Plan {
+        t1: numbers_of(plan.t1()),
+        t2: plan.t2,
+        t3: plan.t3,
+        t4: plan.t4,
+        position: numbers_of(plan.position()),
+        mdt_len: plan.mdt_len,
+    }
+}
+
+fn copy_of(plan: &Option<Plan>) -> Option<Plan>
+    ensures { result ≡ plan.now }
+{
+    match plan {
+        Some(found) => Some(plan_copy(found)),
+        None => None,
+    }
+}

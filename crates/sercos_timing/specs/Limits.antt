@@ -1,0 +1,55 @@
+-- The limits of this profile for a ring, its drives and the times that they declare, and the starts in phases 1 and 2, where no
+-- plan holds yet. Times are in microseconds.
+use Rattle.std.specs.Prelude.{ℕ}
+
+-- a ring has 1 to so many drives
+abbrev pub most_drives : ℕ
+most_drives = 64
+
+-- a drive and a slave have an address from 1 to this one
+abbrev pub most_address : ℕ
+most_address = 254
+
+-- The most bytes of all data records of an MDT together: they and the address are the content of one frame.
+abbrev pub most_records : ℕ
+most_records = 2047
+
+-- the shortest cycle time, what all others are multiples of, and the longest
+abbrev pub least_cycle : ℕ
+least_cycle = 125
+
+abbrev pub cycle_unit : ℕ
+cycle_unit = 250
+
+abbrev pub most_cycle : ℕ
+most_cycle = 64000
+
+-- the longest gap between telegrams
+abbrev pub most_gap : ℕ
+most_gap = 1000
+
+-- the greatest of each time that a drive declares
+abbrev pub most_t1min : ℕ
+most_t1min = 300
+
+abbrev pub most_tatmt : ℕ
+most_tatmt = 300
+
+abbrev pub most_t4min : ℕ
+most_t4min = 64000
+
+abbrev pub most_tatat : ℕ
+most_tatat = 64000
+
+abbrev pub most_tmtsy : ℕ
+most_tmtsy = 250
+
+abbrev pub most_tmtsg : ℕ
+most_tmtsg = 64000
+
+-- when an AT and an MDT start in phases 1 and 2, after the end of the MST
+abbrev pub early_at : ℕ
+early_at = 300
+
+abbrev pub early_mdt : ℕ
+early_mdt = 650

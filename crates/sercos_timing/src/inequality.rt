@@ -1,0 +1,77 @@
+// The twelve inequalities between the wishes of a ring and its plan, by name and by number.
+ghost use Rattle.std.specs.Prelude.{◌≡◌, Some};
+ghost use Rattle.sercos_timing.specs.Inequalities.{number_of, of_number};
+
+/// An inequality between the wishes of a ring and its plan (this profile).
+#[derive(Clone, Copy, Debug, PartialEq, Eq)]
+pub enum Inequality {
+    /// 1: T1 of a drive is at least its T1min.
+    Own,
+    /// 2: the first AT of the order begins at least the gap after the MST.
+    Gap,
+    /// 3: an AT begins at least the gap after the end of the AT right before it, if another slave sends that.
+    Neighbor,
+    /// 4: an AT begins at least the drive's TATAT after the end of the previous AT of the same slave.
+    Slave,
+    /// 5: the MDT begins at least the gap after the end of the last AT.
+    Last,
+    /// 6: the MDT begins at least a drive's TATMT after the end of its AT.
+    Master,
+    /// 7: T3 is at least a drive's TMTSG after the end of the MDT.
+    Records,
+    /// 8: T3 is within the cycle.
+    Cycle,
+    /// 9: between the end of the MDT and the next MST there is room for the gap and for each drive's TMTSY.
+    NextMst,
+    /// 10: between T4 and the end of the cycle there is at least a drive's T4min.
+    Capture,
+    /// 11: the control unit cycle time is a positive multiple of the cycle time. Valid wishes keep it.
+    Control,
+    /// 12: the data records follow one another in the MDT, the first one at position 1, and its length is that of all of
+    /// them.
+    Positions,
+}
+
+impl Inequality {
+    /// Returns its number, 1 to 12.
+    pub fn number(self) -> u8
+        ensures value { result ≡ number_of self }
+        ensures back { of_number result ≡ Some self }
+    {
+        match self {
+            Inequality::Own => 1,
+            Inequality::Gap => 2,
+            Inequality::Neighbor => 3,
+            Inequality::Slave => 4,
+            Inequality::Last => 5,
+            Inequality::Master => 6,
+            Inequality::Records => 7,
+            Inequality::Cycle => 8,
+            Inequality::NextMst => 9,
+            Inequality::Capture => 10,
+            Inequality::Control => 11,
+            Inequality::Positions => 12,
+        }
+    }
+
+    /// Returns the inequality with a number, None if the number isn't one from 1 to 12.
+    pub fn of_number(number: u8) -> Option<Inequality>
+        ensures { result ≡ of_number number }
+    {
+        match number {
+            1 => Some(Inequality::Own),
+            2 => Some(Inequality::Gap),
+            3 => Some(Inequality::Neighbor),
+            4 => Some(Inequality::Slave),
+            5 => Some(Inequality::Last),
+            6 => Some(Inequality::Master),
+            7 => Some(Inequality::Records),
+            8 => Some(Inequality::Cycle),
+            9 => Some(Inequality::NextMst),
+            10 => Some(Inequality::Capture),
+            11 => Some(Inequality::Control),
+            12 => Some(Inequality::Positions),
+            _ => None,
+        }
+    }
+}
