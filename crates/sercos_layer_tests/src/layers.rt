@@ -1,5 +1,5 @@
 // Worked examples of the layers below the top call.
-use sercos_bits::{BadBits, BitBuf, Bytes, Content, Text, bits_of, bytes_of, fcs};
+use sercos_bits::{BitBuf, Content, bits_of, fcs};
 use sercos_hdlc::{BadFrame, TooLong, frame, frame_len, unframe};
 use sercos_io::{PlainSource, Words, read_all};
 use std::test::Fail;
@@ -8,42 +8,6 @@ use std::test::Fail;
 #[test]
 fn check_value(rt: HostRuntime) {
     assert_eq!(rt; fcs(b"123456789"), 0x906e);
-}
-
-#[test]
-fn bits(rt: HostRuntime) -> Result<(), Fail> {
-    let mut bits = BitBuf::new();
-    assert!(rt; bits_of(b"\x05", &mut bits).is_ok());
-    assert!(rt; bits.push(true).is_ok());
-    assert_eq!(rt;
-        bits.as_slice(),
-        [true, false, true, false, false, false, false, false, true].as_slice()
-    );
-    let mut other = BitBuf::new();
-    other.assign(&bits);
-    assert_eq!(rt; other.len(), 9);
-    other.flip(1);
-    other.cut(8);
-    let mut content = Content::new();
-    assert_eq!(rt; bytes_of(&bits, &mut content), Err(BadBits::Ragged(1)));
-    assert_eq!(rt; bytes_of(&other, &mut content), Ok(1));
-    assert_eq!(rt; content.as_slice(), b"\x07".as_slice());
-    Ok(())
-}
-
-#[test]
-fn byte_lists(rt: HostRuntime) {
-    let mut bytes = Bytes::new();
-    let mut text = Text::new();
-    for _ in 0..1024u32 {
-        assert!(rt; bytes.push(7).is_ok());
-        assert!(rt; text.push(b'A').is_ok());
-    }
-    assert!(rt; bytes.push(7).is_err());
-    assert!(rt; text.push(b'A').is_err());
-    assert_eq!(rt; text.as_slice().len(), 1024);
-    bytes.clear();
-    assert_eq!(rt; bytes.as_slice().len(), 0);
 }
 
 // A frame of more than 2050 bytes: a flag, zeros and a flag.
@@ -74,14 +38,6 @@ fn frame_and_content(rt: HostRuntime) -> Result<(), Fail> {
     assert_eq!(rt; unframe(&bits, &mut content), Ok(2));
     assert_eq!(rt; content.as_slice(), b"\xff\x00".as_slice());
     Ok(())
-}
-
-#[test]
-fn frame_lengths(rt: HostRuntime) {
-    assert_eq!(rt; frame_len(b"\xff\x02"), 49);
-    assert_eq!(rt; frame_len(b"\xff\x03"), 50);
-    assert_eq!(rt; frame_len(b"\x88"), 41);
-    assert_eq!(rt; frame_len(b"\x01\x0f\x00\x03\x00"), 72);
 }
 
 // The longest content, all ones, and one byte more.

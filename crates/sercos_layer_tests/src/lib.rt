@@ -12,11 +12,7 @@ mod checks;
 #[cfg(test)]
 mod drives;
 #[cfg(test)]
-mod identifiers;
-#[cfg(test)]
 mod layers;
-#[cfg(test)]
-mod links;
 #[cfg(test)]
 mod station;
 #[cfg(test)]
