@@ -1,5 +1,5 @@
 -- Eight steps of the register at once, by the table.
-use Rattle.std.proofs.Common.{◌≡◌, ℕ, zero, suc, ◌+◌, ◌*◌, ◌/◌, ◌%◌, ◌^◌, ◌<◌, Bool, true, false, List, [], ◌∷◌, ◌++◌, map, get_or, replicate, refl, sym, ap, ◌∙◌, add-one, arith}
+use Rattle.std.proofs.Common.{◌≡◌, ℕ, zero, suc, ◌+◌, ◌*◌, ◌/◌, ◌%◌, ◌^◌, ◌<◌, ◌≤◌, Bool, true, false, cond, List, [], ◌∷◌, ◌++◌, map, get_or, replicate, refl, length, sym, ap, ◌∙◌, add-one, arith, length-append}
 use Rattle.std.specs.Prelude.{fold}
 use Rattle.std.specs.List.{range_with_len}
 use Rattle.std.specs.Int.Bits.{bit_xor}
@@ -8,10 +8,10 @@ use Rattle.std.proofs.lemmas.List.FromFn.{get_or-map-range_with_len}
 use Rattle.std.proofs.lemmas.Nat.{mod-pow-add}
 use Rattle.sercos_model.specs.Bits.{is_odd, low_bits}
 use Rattle.sercos_model.specs.CheckSequence.{sum_of, added, divided, generator, sixteen_zeros, raised}
-use Rattle.sercos_model.proofs.BitLemmas.{low_bits-xor}
+use Rattle.sercos_model.proofs.BitLemmas.{low_bits-xor, length-low_bits}
 use Rattle.sercos_bits.specs.Register.{fed}
-use Rattle.sercos_bits.specs.declared.check_sequence.TheConstants.{REMAINDERS}
-use Rattle.sercos_bits.proofs.Division.{register_divides}
+use Rattle.sercos_bits.specs.declared.check_sequence.TheConstants.{REMAINDERS, LATER}
+use Rattle.sercos_bits.proofs.Division.{register_divides, added-added, added_twice, added-zeros, length-fed}
 
 -- what the register holds after a byte
 abbrev after_byte : ℕ → List Bool
@@ -79,3 +79,87 @@ by_halves u v w =
 pub byte_by_table : (r byte entry : ℕ) → r < 2 ^ 16 → low_bits 16 entry ≡ fold fed sixteen_zeros (low_bits 8 (bit_xor (r % 256) byte)) → low_bits 16 (bit_xor (r / 256) entry) ≡ fold fed (low_bits 16 r) (low_bits 8 byte)
 byte_by_table r byte entry below is =
     rw (low_bits-xor, low_bits-shifted r below, is, low_bits-xor, low_bits-mod 8 r, low_bits-halves r) (sym (by_halves r (r / 256) byte))
+
+-- The division is linear: what is added to the register goes its own way.
+added_append : (xs ys : List Bool) → length xs ≡ length ys → added xs ys ++ false ∷ [] ≡ added (xs ++ false ∷ []) (ys ++ false ∷ [])
+unfolding added sum_of
+added_append [] [] same = refl
+added_append [] (y ∷ ys) same = absurd (omega arith)
+added_append (x ∷ xs) [] same = absurd (omega arith)
+added_append (x ∷ xs) (y ∷ ys) same = ap (λ zs. sum_of x y ∷ zs) (added_append xs ys (omega arith))
+
+step_added : (p q : Bool) (xs ys : List Bool) → 16 ≤ length xs → cond (sum_of p q) (added generator (added xs ys)) (added xs ys) ≡ added (cond p (added generator xs) xs) (cond q (added generator ys) ys)
+unfolding sum_of
+step_added false false xs ys long = refl
+step_added true false xs ys long = added-added generator xs ys long
+step_added false true xs ys long = added_swap generator xs ys
+step_added true true xs ys long =
+    sym (added_twice generator (added xs ys)) ∙ ap (added generator) (added_swap generator xs ys) ∙ added-added generator xs (added generator ys) long
+
+sum_of_parts : (x y bit : Bool) → sum_of (sum_of x y) bit ≡ sum_of (sum_of x bit) (sum_of y false)
+unfolding sum_of
+sum_of_parts false false bit = sum_end bit
+  where
+    sum_end : (bit : Bool) → bit ≡ sum_of bit false
+    sum_end true = refl
+    sum_end false = refl
+sum_of_parts false true true = refl
+sum_of_parts false true false = refl
+sum_of_parts true false true = refl
+sum_of_parts true false false = refl
+sum_of_parts true true true = refl
+sum_of_parts true true false = refl
+
+fed_added : (xs ys : List Bool) (bit : Bool) → length xs ≡ 16 → length ys ≡ 16 → fed (added xs ys) bit ≡ added (fed xs bit) (fed ys false)
+unfolding fed added
+fed_added [] ys bit one two = absurd (omega arith)
+fed_added (x ∷ xs) [] bit one two = absurd (omega arith)
+fed_added (x ∷ xs) (y ∷ ys) bit one two =
+    rw (added_append xs ys (omega arith), sum_of_parts x y bit) (step_added (sum_of x bit) (sum_of y false) (xs ++ false ∷ []) (ys ++ false ∷ []) (omega (arith, length-append xs (false ∷ []))))
+
+fold_added : (bits xs ys : List Bool) → length xs ≡ 16 → length ys ≡ 16 → fold fed (added xs ys) bits ≡ added (fold fed xs bits) (fold fed ys (replicate (length bits) false))
+fold_added [] xs ys one two = refl
+fold_added (bit ∷ bits) xs ys one two =
+    ap (λ r. fold fed r bits) (fed_added xs ys bit one two) ∙ fold_added bits (fed xs bit) (fed ys false) (length-fed xs bit ∙ one) (length-fed ys false ∙ two)
+
+-- what the register holds after a byte and eight zeros
+abbrev after_zeros : ℕ → List Bool
+after_zeros byte = fold fed (fold fed sixteen_zeros (low_bits 8 byte)) (replicate 8 false)
+
+later_entries : map (low_bits 16) LATER ≡ map after_zeros (range_with_len 0 256)
+unfolding low_bits is_odd fed sum_of added
+later_entries = refl
+
+pub later_entry : (byte : ℕ) → byte < 256 → low_bits 16 (get_or LATER byte 0) ≡ fold fed (fold fed sixteen_zeros (low_bits 8 byte)) (replicate 8 false)
+later_entry byte below =
+    sym (get_or-map (low_bits 16) LATER byte 0 [] below) ∙ ap (λ r. get_or r byte []) later_entries ∙ get_or-map-range_with_len after_zeros 0 256 byte byte [] below (omega arith)
+
+zeros-bits : low_bits 16 0 ≡ replicate 16 false
+unfolding low_bits is_odd
+zeros-bits = refl
+
+-- a byte by the table, where the register has eight bits
+short_by_table : (r byte entry : ℕ) → r < 256 → low_bits 16 entry ≡ fold fed sixteen_zeros (low_bits 8 (bit_xor r byte)) → low_bits 16 entry ≡ fold fed (low_bits 16 r) (low_bits 8 byte)
+short_by_table r byte entry below is =
+    let lower : r % 256 ≡ r = omega arith in
+    let upper : r / 256 ≡ 0 = omega arith in
+    let whole : low_bits 16 (bit_xor (r / 256) entry) ≡ fold fed (low_bits 16 r) (low_bits 8 byte) = byte_by_table r byte entry (omega arith) (rw lower is) in
+    let none : low_bits 16 (bit_xor (r / 256) entry) ≡ low_bits 16 entry = rw upper (low_bits-xor 16 0 entry ∙ ap (λ bits. added bits (low_bits 16 entry)) zeros-bits ∙ added-zeros 16 (low_bits 16 entry)) in
+    sym none ∙ whole
+
+-- two bytes by the tables
+pub two_by_table : (r first second now later : ℕ) → r < 2 ^ 16 → bit_xor (r % 256) first < 256 → low_bits 16 now ≡ fold fed sixteen_zeros (low_bits 8 (bit_xor (r / 256) second))
+    → low_bits 16 later ≡ fold fed (fold fed sixteen_zeros (low_bits 8 (bit_xor (r % 256) first))) (replicate 8 false)
+    → low_bits 16 (bit_xor now later) ≡ fold fed (fold fed (low_bits 16 r) (low_bits 8 first)) (low_bits 8 second)
+two_by_table r first second now later below fits now_is later_is =
+    let one : ℕ = get_or REMAINDERS (bit_xor (r % 256) first) 0 in
+    let one_is = entry (bit_xor (r % 256) first) fits in
+    let upper : List Bool = low_bits 16 (r / 256) in
+    let step : fold fed (low_bits 16 r) (low_bits 8 first) ≡ added upper (low_bits 16 one) = sym (byte_by_table r first one below one_is) ∙ low_bits-xor 16 (r / 256) one in
+    let eight : length (low_bits 8 second) ≡ 8 = length-low_bits 8 second in
+    let split : fold fed (added upper (low_bits 16 one)) (low_bits 8 second) ≡ added (fold fed upper (low_bits 8 second)) (fold fed (low_bits 16 one) (replicate (length (low_bits 8 second)) false)) =
+    fold_added (low_bits 8 second) upper (low_bits 16 one) (length-low_bits 16 (r / 256)) (length-low_bits 16 one) in
+    let zeros : fold fed (low_bits 16 one) (replicate (length (low_bits 8 second)) false) ≡ low_bits 16 later = ap (λ n. fold fed (low_bits 16 one) (replicate n false)) eight ∙ ap (λ r. fold fed r (replicate 8 false)) one_is ∙ sym later_is in
+    let front : fold fed upper (low_bits 8 second) ≡ low_bits 16 now = sym (short_by_table (r / 256) second now (omega arith) now_is) in
+    low_bits-xor 16 now later ∙ ap (λ bits. added bits (low_bits 16 later)) (sym front) ∙ ap (λ bits. added (fold fed upper (low_bits 8 second)) bits) (sym zeros) ∙ sym split
+    ∙ ap (λ r. fold fed r (low_bits 8 second)) (sym step)

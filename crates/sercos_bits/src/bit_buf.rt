@@ -1,28 +1,56 @@
-ghost use Rattle.std.specs.Prelude.{◌≡◌, ℕ, ◌+◌, ◌<◌, ◌≤◌, ◌↔◌, ◌==◌, Bool, false, not, List, [], ◌∷◌, ◌++◌, length, take, IsErr, OnOk, OnErr, slice_index_or, slice_set};
+ghost use Rattle.std.specs.Prelude.{◌≡◌, ℕ, ◌+◌, ◌%◌, ◌^◌, ◌<◌, ◌≤◌, ◌↔◌, ◌==◌, Bool, true, false, not, List, [], ◌∷◌, ◌++◌, length, take, drop, replicate, IsErr, OnOk, OnErr, slice_index_or, slice_set};
+ghost use Rattle.sercos_model.specs.Bits.{low_bits, number_of};
 
 use crate::byte_list::Full;
-use arrayvec::ArrayVec;
+use crate::words::{
+    WORD_BITS, are_same_words, bit_in, byte_at, clear_from, copy_words, flip_in, put_number,
+};
 use std::marker::Model;
 
 /// The most bits that a [`BitBuf`] holds, which the longest frame can have: sixteen of its flags, 16400 of its 2050 bytes,
 /// and an inserted zero for each five of those.
 pub const MAX_BITS: usize = 19696;
 
+// The words of the most bits.
+const WORDS: usize = 308;
+
+// Words of zeros.
+fn zeros() -> [u64; WORDS]
+    ensures { result ≡ replicate 308 0 }
+{
+    [0; WORDS]
+}
+
+// The lowest bits of a number, `len` of them, with zeros above them.
+fn lowest(number: u16, len: usize) -> u16
+    ensures value { result ≡ number % 2 ^ len }
+    ensures few { result < 2 ^ len }
+{
+    if len < 16 {
+        number % (1 << len)
+    } else {
+        number
+    }
+}
+
 /// A list of at most [`MAX_BITS`] bits, in the order in which they stand on the link.
-#[derive(Clone, Debug, Default, PartialEq, Eq, Drop)]
+#[derive(Debug, Drop)]
 pub struct BitBuf {
-    bits: ArrayVec<bool, MAX_BITS>,
+    // Bit n is bit n % 64 of word n / 64. Those after the last are zeros.
+    words: [u64; WORDS],
+    len: usize,
 }
 
 // Clauses see the list of the bits.
 impl Model for BitBuf {
     ghost use Rattle.std.specs.Prelude.{List, Bool};
+    ghost use Rattle.sercos_bits.specs.Packed.{packed, IsPacked};
 
     ghost Value = { List Bool };
 
-    ghost view = { λ buf. buf.bits.items };
+    ghost view = { λ buf. packed buf.words buf.len };
 
-    ghost inverse = { λ bits. record { bits = record { items = bits } } };
+    ghost invariant = { λ buf. IsPacked buf.words buf.len };
 }
 
 impl BitBuf {
@@ -31,7 +59,8 @@ impl BitBuf {
         ensures { result ≡ [] }
     {
         BitBuf {
-            bits: ArrayVec::new(),
+            words: zeros(),
+            len: 0,
         }
     }
 
@@ -40,14 +69,14 @@ impl BitBuf {
         ensures value { result ≡ length self.now }
         ensures bound { result ≤ 19696 }
     {
-        self.bits.len()
+        self.len
     }
 
     /// Whether there is no bit.
     pub fn is_empty(&self) -> bool
         ensures { result ≡ (length self.now == 0) }
     {
-        self.bits.is_empty()
+        self.len == 0
     }
 
     /// The bit at a place, the first being at 0.
@@ -55,15 +84,25 @@ impl BitBuf {
         requires { place < length self.now }
         ensures { result ≡ slice_index_or self.now place false }
     {
-        self.bits[place]
+        bit_in(&self.words, place)
     }
 
-    /// The bits as a slice.
-    pub fn as_slice(&self) -> &[bool]
-        ensures value { result.now ≡ self.now }
-        ensures bound { length result.now ≤ 19696 }
+    /// Returns the byte that eight bits spell, the least significant first. The first of them is at `place`, which need not
+    /// be a multiple of eight.
+    pub fn byte_at(&self, place: usize) -> u8
+        requires within { place + 8 ≤ length self.now }
+        ensures bits { low_bits 8 result ≡ take 8 (drop place self.now) }
+        ensures value { result ≡ number_of (take 8 (drop place self.now)) }
     {
-        self.bits.as_slice()
+        byte_at(&self.words, place)
+    }
+
+    /// Returns whether another list has the same bits. Takes 64 bits at a time.
+    pub fn is_same(&self, other: &BitBuf) -> bool
+        ensures { result ≡ true ↔ self.now ≡ other.now }
+    {
+        self.len == other.len
+            && are_same_words(&self.words, &other.words, self.len.div_ceil(WORD_BITS))
     }
 
     /// Appends a bit. Returns `Full` if there are [`MAX_BITS`] bits already, which then stay as they are.
@@ -72,7 +111,11 @@ impl BitBuf {
         ensures ok { OnOk result (self.new ≡ self.old ++ bit ∷ []) }
         ensures err { OnErr result (self.new ≡ self.old) }
     {
-        self.bits.try_push(bit).map_err(|_| Full)
+        if self.len() == MAX_BITS {
+            return Err(Full);
+        }
+        self.push_within(bit);
+        Ok(())
     }
 
     /// Appends a bit, where there is room for it.
@@ -80,7 +123,16 @@ impl BitBuf {
         requires { length self.old < 19696 }
         ensures { self.new ≡ self.old ++ bit ∷ [] }
     {
-        self.bits.push(bit);
+        self.push_lowest(u16::from(bit), 1);
+    }
+
+    // Appends the lowest bits of a number, `len` of them, the least significant first, where there is room for them.
+    pub(crate) fn push_lowest(&mut self, number: u16, len: usize)
+        requires { length self.old + len ≤ 19696 }
+        ensures { self.new ≡ self.old ++ low_bits len number }
+    {
+        put_number(&mut self.words, self.len, lowest(number, len), len);
+        self.len += len;
     }
 
     /// Complements the bit at a place.
@@ -88,29 +140,32 @@ impl BitBuf {
         requires { place < length self.old }
         ensures { self.new ≡ slice_set self.old place (not (slice_index_or self.old place false)) }
     {
-        let bit = self.bits[place];
-        self.bits[place] = !bit;
+        flip_in(&mut self.words, place);
     }
 
     /// Keeps the first `len` bits, or all where there are fewer.
     pub fn cut(&mut self, len: usize)
         ensures { self.new ≡ take len self.old }
     {
-        self.bits.truncate(len);
+        if len < self.len {
+            clear_from(&mut self.words, len, self.len);
+            self.len = len;
+        }
     }
 
     /// Drops all bits.
     pub fn clear(&mut self)
         ensures { self.new ≡ [] }
     {
-        self.bits.clear();
+        self.cut(0);
     }
 
-    /// Makes this list the same as another.
+    /// Makes this list the same as another. Only words in use are written.
     pub fn assign(&mut self, other: &BitBuf)
         ensures { self.new ≡ other.now }
     {
-        self.clear();
-        self.bits.try_extend_from_slice(other.as_slice()).unwrap();
+        clear_from(&mut self.words, other.len, self.len);
+        copy_words(&mut self.words, &other.words, other.len.div_ceil(WORD_BITS));
+        self.len = other.len;
     }
 }

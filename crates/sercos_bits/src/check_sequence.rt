@@ -1,6 +1,6 @@
-ghost use Rattle.std.specs.Prelude.{◌≡◌, ℕ, Bool, List, fold};
-ghost use Rattle.sercos_model.specs.Bits.{low_bits};
-ghost use Rattle.sercos_model.specs.CheckSequence.{fcs_of, remainder, dividend, sixteen_zeros, IsRest};
+ghost use Rattle.std.specs.Prelude.{◌≡◌, ℕ, ◌*◌, ◌≤◌, Bool, false, List, length, drop, replicate, fold};
+ghost use Rattle.sercos_model.specs.Bits.{low_bits, bits_of};
+ghost use Rattle.sercos_model.specs.CheckSequence.{fcs_of, remainder, dividend, sixteen_ones, sixteen_zeros, IsRest};
 ghost use Rattle.sercos_bits.specs.Register.{fed};
 
 /// The register before the first bit: all ones.
@@ -33,6 +33,32 @@ const REMAINDERS: [u16; 256] = [
     0x3de3, 0x2c6a, 0x1ef1, 0x0f78,
 ];
 
+// For each byte, what the register holds after its eight bits and eight zeros, if it was zero before.
+const LATER: [u16; 256] = [
+    0x0000, 0x19d8, 0x33b0, 0x2a68, 0x6760, 0x7eb8, 0x54d0, 0x4d08, 0xcec0, 0xd718, 0xfd70, 0xe4a8,
+    0xa9a0, 0xb078, 0x9a10, 0x83c8, 0x9591, 0x8c49, 0xa621, 0xbff9, 0xf2f1, 0xeb29, 0xc141, 0xd899,
+    0x5b51, 0x4289, 0x68e1, 0x7139, 0x3c31, 0x25e9, 0x0f81, 0x1659, 0x2333, 0x3aeb, 0x1083, 0x095b,
+    0x4453, 0x5d8b, 0x77e3, 0x6e3b, 0xedf3, 0xf42b, 0xde43, 0xc79b, 0x8a93, 0x934b, 0xb923, 0xa0fb,
+    0xb6a2, 0xaf7a, 0x8512, 0x9cca, 0xd1c2, 0xc81a, 0xe272, 0xfbaa, 0x7862, 0x61ba, 0x4bd2, 0x520a,
+    0x1f02, 0x06da, 0x2cb2, 0x356a, 0x4666, 0x5fbe, 0x75d6, 0x6c0e, 0x2106, 0x38de, 0x12b6, 0x0b6e,
+    0x88a6, 0x917e, 0xbb16, 0xa2ce, 0xefc6, 0xf61e, 0xdc76, 0xc5ae, 0xd3f7, 0xca2f, 0xe047, 0xf99f,
+    0xb497, 0xad4f, 0x8727, 0x9eff, 0x1d37, 0x04ef, 0x2e87, 0x375f, 0x7a57, 0x638f, 0x49e7, 0x503f,
+    0x6555, 0x7c8d, 0x56e5, 0x4f3d, 0x0235, 0x1bed, 0x3185, 0x285d, 0xab95, 0xb24d, 0x9825, 0x81fd,
+    0xccf5, 0xd52d, 0xff45, 0xe69d, 0xf0c4, 0xe91c, 0xc374, 0xdaac, 0x97a4, 0x8e7c, 0xa414, 0xbdcc,
+    0x3e04, 0x27dc, 0x0db4, 0x146c, 0x5964, 0x40bc, 0x6ad4, 0x730c, 0x8ccc, 0x9514, 0xbf7c, 0xa6a4,
+    0xebac, 0xf274, 0xd81c, 0xc1c4, 0x420c, 0x5bd4, 0x71bc, 0x6864, 0x256c, 0x3cb4, 0x16dc, 0x0f04,
+    0x195d, 0x0085, 0x2aed, 0x3335, 0x7e3d, 0x67e5, 0x4d8d, 0x5455, 0xd79d, 0xce45, 0xe42d, 0xfdf5,
+    0xb0fd, 0xa925, 0x834d, 0x9a95, 0xafff, 0xb627, 0x9c4f, 0x8597, 0xc89f, 0xd147, 0xfb2f, 0xe2f7,
+    0x613f, 0x78e7, 0x528f, 0x4b57, 0x065f, 0x1f87, 0x35ef, 0x2c37, 0x3a6e, 0x23b6, 0x09de, 0x1006,
+    0x5d0e, 0x44d6, 0x6ebe, 0x7766, 0xf4ae, 0xed76, 0xc71e, 0xdec6, 0x93ce, 0x8a16, 0xa07e, 0xb9a6,
+    0xcaaa, 0xd372, 0xf91a, 0xe0c2, 0xadca, 0xb412, 0x9e7a, 0x87a2, 0x046a, 0x1db2, 0x37da, 0x2e02,
+    0x630a, 0x7ad2, 0x50ba, 0x4962, 0x5f3b, 0x46e3, 0x6c8b, 0x7553, 0x385b, 0x2183, 0x0beb, 0x1233,
+    0x91fb, 0x8823, 0xa24b, 0xbb93, 0xf69b, 0xef43, 0xc52b, 0xdcf3, 0xe999, 0xf041, 0xda29, 0xc3f1,
+    0x8ef9, 0x9721, 0xbd49, 0xa491, 0x2759, 0x3e81, 0x14e9, 0x0d31, 0x4039, 0x59e1, 0x7389, 0x6a51,
+    0x7c08, 0x65d0, 0x4fb8, 0x5660, 0x1b68, 0x02b0, 0x28d8, 0x3100, 0xb2c8, 0xab10, 0x8178, 0x98a0,
+    0xd5a8, 0xcc70, 0xe618, 0xffc0,
+];
+
 /// What the register holds after the eight bits of a byte, if it was zero before.
 fn remainder_of(byte: u8) -> u16
     ensures { low_bits 16 result ≡ fold fed sixteen_zeros (low_bits 8 byte) }
@@ -48,16 +74,46 @@ pub fn with_byte(register: u16, byte: u8) -> u16
     (register >> 8) ^ remainder_of(low ^ byte)
 }
 
+// What the register holds after the eight bits of a byte and eight zeros, if it was zero before.
+fn later_of(byte: u8) -> u16
+    ensures { low_bits 16 result ≡ fold fed (fold fed sixteen_zeros (low_bits 8 byte)) (replicate 8 false) }
+{
+    LATER[usize::from(byte)]
+}
+
+// The register after the bits of two bytes. The tables are looked up beside each other, and not one after the other.
+fn with_two(register: u16, first: u8, second: u8) -> u16
+    ensures { low_bits 16 result ≡ fold fed (fold fed (low_bits 16 register) (low_bits 8 first)) (low_bits 8 second) }
+{
+    let low = (register % 256) as u8;
+    let high = (register / 256) as u8;
+    remainder_of(high ^ second) ^ later_of(low ^ first)
+}
+
+// The register after the first pairs of bytes, `count` of them.
+fn with_pairs(bytes: &[u8], count: usize) -> u16
+    requires { 2 * count ≤ length bytes.now }
+    ensures { fold fed (low_bits 16 result) (bits_of (drop (2 * count) bytes.now)) ≡ fold fed sixteen_ones (bits_of bytes.now) }
+{
+    let mut register = START;
+    for place in 0..count {
+        register = with_two(register, bytes[2 * place], bytes[2 * place + 1]);
+    }
+    register
+}
+
 /// The frame check sequence of ISO/IEC 3309: the complement of the remainder by the generator x^16 + x^12 + x^5 + 1, the
 /// bits taken least significant first and the first sixteen complemented. A frame carries its low byte first.
 pub fn fcs(bytes: &[u8]) -> u16
     ensures { result ≡ fcs_of bytes.now }
 {
-    let mut register = START;
-    for byte in bytes {
-        register = with_byte(register, *byte);
+    let pairs = bytes.len() / 2;
+    let register = with_pairs(bytes, pairs);
+    if bytes.len() % 2 == 0 {
+        !register
+    } else {
+        !with_byte(register, bytes[2 * pairs])
     }
-    !register
 }
 
 /// A law and no code: what the long division by the generator leaves is a rest of that division, and the only one.

@@ -18,16 +18,13 @@ pub enum BadBits {
 }
 
 /// Appends the lowest bits of a number, `len` of them, the least significant first, where there is room for them.
+/// Those from the seventeenth on are zeros.
 pub fn push_number(number: u16, len: usize, out: &mut BitBuf)
     requires { length out.old + len ≤ 19696 }
     ensures bits { out.new ≡ out.old ++ low_bits len number }
     ensures len { length out.new ≡ length out.old + len }
 {
-    let mut rest = number;
-    for _ in 0..len {
-        out.push_within(rest % 2 == 1);
-        rest /= 2;
-    }
+    out.push_lowest(number, len);
 }
 
 /// Appends the bits of bytes, the least significant of each byte first. `Full` exactly where they have no room, and then
@@ -47,19 +44,6 @@ pub fn bits_of(bytes: &[u8], out: &mut BitBuf) -> Result<(), Full>
     Ok(())
 }
 
-/// The number that at most sixteen bits spell, the least significant first.
-pub fn number_of(bits: &[bool]) -> u16
-    requires { length bits.now ≤ 16 }
-    ensures value { result ≡ number_of bits.now }
-    ensures bound { result < 2 ^ length bits.now }
-{
-    let mut number = 0u16;
-    for place in (0..bits.len()).rev() {
-        number = 2 * number + u16::from(bits[place]);
-    }
-    number
-}
-
 /// Replaces the content by the bytes that bits spell, eight bits each, and answers their number. A refusal leaves the
 /// content as it was: `Ragged` where the number of bits is no multiple of eight, else `Long` where there are more than
 /// 2048 bytes.
@@ -72,19 +56,17 @@ pub fn bytes_of(bits: &BitBuf, out: &mut Content) -> Result<usize, BadBits>
     ensures bad { IfErr result (λ bad. bad_bits_of bits.now ≡ Some bad) }
     ensures err { OnErr result (out.new ≡ out.old) }
 {
-    let list = bits.as_slice();
-    let rest = list.len() % 8;
+    let rest = bits.len() % 8;
     if rest != 0 {
         return Err(BadBits::Ragged(rest));
     }
-    let count = list.len() / 8;
+    let count = bits.len() / 8;
     if count > MAX_CONTENT {
         return Err(BadBits::Long);
     }
     out.clear();
     for place in 0..count {
-        let number = number_of(&list[8 * place..8 * place + 8]);
-        out.push_within(number as u8);
+        out.push_within(bits.byte_at(8 * place));
     }
     Ok(count)
 }

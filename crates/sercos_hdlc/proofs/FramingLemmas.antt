@@ -127,7 +127,7 @@ pub stuffed_then : (out more all : List Bool) (content : List ℕ) (ones : ℕ) 
 stuffed_then out more all content ones first is second = rw (second, first, is, append_assoc, stuffed-append)
 
 -- a number of two bytes, the low one first
-low_bits_low_byte : (n : ℕ) → low_bits 8 (n % 256) ≡ low_bits 8 n
+pub low_bits_low_byte : (n : ℕ) → low_bits 8 (n % 256) ≡ low_bits 8 n
 unfolding low_bits is_odd
 low_bits_low_byte n =
     let a : n % 256 % 2 ≡ n % 2 = omega arith in

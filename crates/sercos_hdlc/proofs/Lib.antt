@@ -1,6 +1,13 @@
+pub mod ClosingLemmas
+pub mod ContentLemmas
+pub mod FedLemmas
 pub mod FramingLemmas
+pub mod GivenLemmas
+pub mod KeptLemmas
 pub mod ReasonLemmas
 pub mod RunLemmas
+pub mod ScanLemmas
+pub mod SoughtLemmas
 pub mod StuffLemmas
 pub mod TableLemmas
 mod Worked

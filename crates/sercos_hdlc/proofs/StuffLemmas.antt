@@ -1,12 +1,11 @@
 -- Inserted zeros, and the runs of ones that they break.
-use mir.Val.{bool_byte}
-use Rattle.std.proofs.Common.{◌≡◌, ◌≢◌, ℕ, suc, ◌+◌, ◌*◌, ◌<◌, ◌≤◌, ◌==◌, Bool, true, false, not, cond, List, [], ◌∷◌, ◌++◌, length, drop, get_or, refl, sym, ap, subst, ◌∙◌, arith, ⊎_elim}
-use Rattle.std.proofs.lemmas.List.{append-nil, append_assoc, drop_all}
+use Rattle.std.proofs.Common.{◌≡◌, ◌≢◌, ℕ, suc, ◌+◌, ◌<◌, ◌≤◌, Bool, true, false, List, [], ◌∷◌, ◌++◌, length, refl, sym, ap, subst, ◌∙◌, arith, ⊎_elim}
 use Rattle.std.proofs.lemmas.Bool.{cond-false, ne_eqb, cases_eq, true≢false}
 use Rattle.sercos_model.specs.Frames.{flag, IsStuffed}
 use Rattle.sercos_model.specs.Frames.IsStuffed.{both_end, zero_kept, one_kept, zero_inserted}
-use Rattle.sercos_hdlc.specs.Reason.{begins_with_six, ends_in_five, six_place, plain_for, unstuffed}
-use Rattle.sercos_hdlc.proofs.RunLemmas.{ones_then, ones_then-true, drop-read, six_place-ones_then_false, six_place-six, ends_in_five-ones_then_false, ends_in_five-few, ends_in_five-five}
+use Rattle.sercos_hdlc.specs.Reason.{begins_with_six, ends_in_five, six_place, unstuffed}
+use Rattle.sercos_hdlc.specs.Sought.{ones_then}
+use Rattle.sercos_hdlc.proofs.RunLemmas.{ones_then-true, six_place-ones_then_false, six_place-six, ends_in_five-ones_then_false, ends_in_five-few, ends_in_five-five}
 
 -- a zero after k ones
 unstuffed-kept : (k : ℕ) (bits : List Bool) → k ≢ 5 → unstuffed k (false ∷ bits) ≡ false ∷ unstuffed 0 bits
@@ -73,38 +72,3 @@ IsStuffed-unstuffed k (true ∷ bits) few none ends =
 IsStuffed-unstuffed k (false ∷ bits) few none ends =
     let none_in_rest : six_place bits ≡ length bits = omega (arith, six_place-ones_then_false k bits few) in
     IsStuffed-zero k bits few (IsStuffed-unstuffed 0 bits (omega arith) (omega arith) (sym (ends_in_five-ones_then_false k bits few) ∙ ends))
-
-without_zero : (five : Bool) (bits : List Bool) → cond five bits (false ∷ bits) ≡ cond (not five) (false ∷ []) [] ++ bits
-without_zero true bits = refl
-without_zero false bits = refl
-
--- one bit, and the others after it
-unstuffed-cons : (k : ℕ) (bit : Bool) (bits : List Bool) → unstuffed k (bit ∷ bits) ≡ plain_for k bit ++ unstuffed ((k + 1) * bool_byte bit) bits
-unfolding unstuffed
-unstuffed-cons k true bits = let next : (k + 1) * 1 ≡ suc k = omega arith in rw next
-unstuffed-cons k false bits = let next : (k + 1) * 0 ≡ 0 = omega arith in rw next (without_zero (k == 5) (unstuffed 0 bits))
-
-next_run : (k : ℕ) (bit : Bool) → (k + 1) * bool_byte bit ≤ k + 1
-next_run k true = omega arith
-next_run k false = omega arith
-
--- The zeros are taken out: the bits before a place, of which the last ones are a run, have given the plain bits so far.
--- With what the others give they are the whole.
-pub record IsUnstuffed (bits : List Bool) (place run : ℕ) (plain whole : List Bool) : Type 0 where
-  pub behind : run ≤ place
-  pub room : length plain + length bits ≤ place + 19696
-  pub kept : plain ++ unstuffed run (drop place bits) ≡ whole
-
-pub IsUnstuffed-next : {bits : List Bool} {place run unit : ℕ} {plain more whole : List Bool} → IsUnstuffed bits place run plain whole → place < length bits → unit ≡ bool_byte (get_or bits place false) → more ≡ plain ++ plain_for run (get_or bits place false) → length more ≤ length plain + 1 → IsUnstuffed bits (place + 1) ((run + 1) * unit) more whole
-IsUnstuffed-next {bits = bits} {place = place} {run = run} {plain = plain} h inside is grown room =
-    let bit = get_or bits place false in
-    rw is (record {
-      behind = omega (arith, h.behind, next_run run bit);
-      room = omega (arith, h.room);
-      kept = rw (grown, append_assoc, ← unstuffed-cons run bit (drop (place + 1) bits), ← drop-read bits place bit inside refl) h.kept;
-    })
-
-pub IsUnstuffed-end : {bits : List Bool} {place run : ℕ} {plain whole : List Bool} → IsUnstuffed bits place run plain whole → length bits ≤ place → plain ≡ whole
-unfolding unstuffed
-IsUnstuffed-end {bits = bits} {place = place} {run = run} {plain = plain} h past =
-    sym (append-nil plain) ∙ ap (λ b. plain ++ unstuffed run b) (sym (drop_all place bits past)) ∙ h.kept

@@ -1,5 +1,5 @@
 -- Why a list of bits is no frame: the first of nine rules that applies. The rules speak of the whole list.
-use Rattle.std.specs.Prelude.{ℕ, suc, ◌+◌, ◌-◌, ◌/◌, ◌%◌, ◌==◌, nat_lt, nat_le, Bool, true, false, not, ◌||◌, cond, List, [], ◌∷◌, length, take, drop, slice_index_or, Option, Some, None, if◌then◌else◌}
+use Rattle.std.specs.Prelude.{ℕ, suc, ◌+◌, ◌-◌, ◌/◌, ◌%◌, ◌==◌, nat_lt, nat_le, Bool, true, false, not, ◌||◌, cond, List, [], ◌∷◌, length, take, drop, slice_index_or, Option, Some, None}
 use Rattle.std.specs.Option.{option_or}
 use Rattle.sercos_model.specs.Bits.{number_of, bytes_of}
 use Rattle.sercos_model.specs.CheckSequence.{fcs_of}
@@ -36,10 +36,6 @@ unfoldable pub unstuffed : ℕ → List Bool → List Bool
 unstuffed k [] = []
 unstuffed k (true ∷ bits) = true ∷ unstuffed (suc k) bits
 unstuffed k (false ∷ bits) = cond (k == 5) (unstuffed 0 bits) (false ∷ unstuffed 0 bits)
-
--- what a bit is without the inserted zeros, after k ones in a row
-abbrev pub plain_for : ℕ → Bool → List Bool
-plain_for k bit = if bit || not (k == 5) then bit ∷ [] else []
 
 -- where the first six ones after the opening flag are, or the list's length if there are none
 abbrev pub ones_at : List Bool → ℕ

@@ -5,15 +5,13 @@ ghost use Rattle.sercos_model.specs.Frames.{flag, plain_of, wire_bits, IsFrame};
 ghost use Rattle.sercos_bits.specs.Register.{fed};
 ghost use Rattle.sercos_hdlc.specs.Stuffed.{stuffed, frame_of};
 
+use crate::flags::FLAG_BYTE;
 use crate::stuffing::{count_bytes, count_taken, push_bytes};
 use sercos_bits::{BitBuf, MAX_CONTENT, Register, bits_of, fcs};
 
 /// A content has more than 2048 bytes.
 #[derive(Clone, Copy, Debug, PartialEq, Eq)]
 pub struct TooLong;
-
-// 01111110
-const FLAG_BYTE: u8 = 0x7e;
 
 // The bits of two flags.
 const FLAGS_BITS: u32 = 16;

@@ -1,13 +1,19 @@
-//! Frames of ISO/IEC 3309: the bits that a content is sent as, and what a list of bits says, or why it is no frame.
+//! Frames of ISO/IEC 3309: the bits that a content is sent as, and what bits contain, whole or in pieces, or why they are not a
+//! frame.
 #![tactic(auto)]
 
 mod bad_frame;
+mod deframer;
 mod flags;
 mod framing;
+mod given;
+mod kept;
 mod reading;
+mod scan;
 mod stuffing;
 mod tables;
 
 pub use bad_frame::BadFrame;
+pub use deframer::Deframer;
 pub use framing::{TooLong, frame, frame_len, framing_law};
 pub use reading::{frame_law, unframe};

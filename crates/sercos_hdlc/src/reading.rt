@@ -1,53 +1,52 @@
-ghost use Rattle.std.specs.Prelude.{◌≡◌, ◌≢◌, ℕ, Bool, ◌+◌, ◌-◌, ◌%◌, ◌≤◌, List, [], length, take, Some, None, Ok, OnOk, OnErr, IfOk, IfErr};
+ghost use Rattle.std.specs.Prelude.{◌≡◌, ◌≢◌, ℕ, Bool, ◌%◌, ◌≤◌, List, [], length, Some, None, Ok, OnOk, OnErr, IfOk, IfErr};
 ghost use Rattle.std.specs.Result.{result_err};
+ghost use Rattle.sercos_model.specs.Bits.{bits_of};
 ghost use Rattle.sercos_model.specs.Frames.{IsFrame};
 ghost use Rattle.sercos_hdlc.specs.Reason.{content_of, plain, found_in, check_differs, unreadable, reason_of};
+ghost use Rattle.sercos_hdlc.specs.Scanned.{IsScan};
+ghost use Rattle.sercos_hdlc.specs.Held.{IsKept};
 
 use crate::bad_frame::BadFrame;
-use crate::flags::{FLAG_BITS, closing, ends_with_five};
-use crate::stuffing::unstuff;
-use sercos_bits::{BitBuf, Content, bytes_of, fcs, number_of};
+use crate::deframer::Deframer;
+use crate::kept::Kept;
+use crate::scan::Scan;
+use sercos_bits::{BitBuf, Content, byte_at, fcs};
 
-// The bits of the check sequence, and the least and the most bytes between two flags.
-const CHECK_BITS: usize = 16;
+// The bytes of the check sequence, and the least and the most bytes between two flags.
+const CHECK_BYTES: usize = 2;
 
-const LEAST_BYTES: usize = 3;
+const LEAST_BYTES: u32 = 3;
 
-const MOST_BYTES: usize = 2050;
+const MOST_BYTES: u32 = 2050;
 
-// Tests that the plain bits are whole bytes, as many as a frame has. Then the check sequence alone is left to test.
+// Tests that so many plain bits are whole bytes, as many as a frame has. Then the check sequence alone is left to test.
 #[tactic(auto, unfolding(crate::specs::Reason::unreadable, crate::specs::Reason::given))]
-fn test_size(plain: &[bool]) -> Result<(), BadFrame>
-    requires { length plain.now ≤ 19696 }
-    ensures reason { IfErr result (λ reason. unreadable plain.now ≡ Some reason) }
-    ensures check { OnOk result (unreadable plain.now ≡ check_differs plain.now) }
-    ensures whole { OnOk result (length plain.now % 8 ≡ 0) }
-    ensures low { OnOk result (24 ≤ length plain.now) }
-    ensures high { OnOk result (length plain.now ≤ 16400) }
+fn test_size(len: u32) -> Result<(), BadFrame>
+    ensures reason { (plain : List Bool) → len ≡ length plain → IfErr result (λ reason. unreadable plain ≡ Some reason) }
+    ensures check { (plain : List Bool) → len ≡ length plain → OnOk result (unreadable plain ≡ check_differs plain) }
+    ensures whole { OnOk result (len % 8 ≡ 0) }
+    ensures low { OnOk result (24 ≤ len) }
+    ensures high { OnOk result (len ≤ 16400) }
 {
-    if plain.len() % 8 != 0 {
-        return Err(BadFrame::Ragged(plain.len() as u32));
+    if len % 8 != 0 {
+        return Err(BadFrame::Ragged(len));
     }
-    let size = plain.len() / 8;
+    let size = len / 8;
     if size < LEAST_BYTES {
-        return Err(BadFrame::Short(size as u32));
+        return Err(BadFrame::Short(size));
     }
     if size > MOST_BYTES {
-        return Err(BadFrame::Long(size as u32));
+        return Err(BadFrame::Long(size));
     }
     Ok(())
 }
 
-// Takes the check sequence off the plain bits.
-fn take_check(plain: &mut BitBuf) -> u16
-    requires { 16 ≤ length plain.old }
-    ensures check { result ≡ found_in plain.old }
-    ensures rest { plain.new ≡ take (length plain.old - 16) plain.old }
+// The check sequence that the last two bytes spell, the low byte first.
+fn check_in(bytes: &[u8]) -> u16
+    ensures { 2 ≤ length bytes.now → result ≡ found_in (bits_of bytes.now) }
 {
-    let split = plain.len() - CHECK_BITS;
-    let check = number_of(&plain.as_slice()[split..]);
-    plain.cut(split);
-    check
+    let split = bytes.len().saturating_sub(CHECK_BYTES);
+    u16::from(byte_at(bytes, split)) + 256 * u16::from(byte_at(bytes, split + 1))
 }
 
 // Tests that the check sequence that was found is the one that was wanted.
@@ -63,56 +62,32 @@ fn test_check(found: u16, wanted: u16) -> Result<(), BadFrame>
     }
 }
 
-// Replaces the content by that of the plain bits, and takes the check sequence off these. After a refusal the content
-// is what was read.
-fn take_content(plain: &mut BitBuf, out: &mut Content) -> Result<usize, BadFrame>
-    ensures reason { result_err result ≡ unreadable plain.old }
-    ensures content { OnOk result (out.new ≡ content_of plain.old) }
+// Replaces the content by that of the bytes between two flags. After a refusal the content is what was read.
+fn take_content(bytes: &[u8], out: &mut Content) -> Result<usize, BadFrame>
+    requires { length bytes.now ≤ 2050 }
+    ensures reason { 2 ≤ length bytes.now → result_err result ≡ check_differs (bits_of bytes.now) }
+    ensures content { 2 ≤ length bytes.now → OnOk result (out.new ≡ content_of (bits_of bytes.now)) }
     ensures count { IfOk result (λ count. count ≡ length out.new) }
 {
-    test_size(plain.as_slice())?;
-    let found = take_check(plain);
-    let count = bytes_of(plain, out).unwrap();
-    test_check(found, fcs(out.as_slice()))?;
-    Ok(count)
+    let split = bytes.len().saturating_sub(CHECK_BYTES);
+    let content = &bytes[..split];
+    out.assign(content);
+    test_check(check_in(bytes), fcs(content))?;
+    Ok(split)
 }
 
-// Replaces the content by that of the frame. After a refusal the content is what was read so far.
-#[tactic(auto, unfolding(crate::specs::Reason::reason_of, crate::specs::Reason::given))]
-fn read_frame(bits: &[bool], out: &mut Content) -> Result<usize, BadFrame>
-    requires { length bits.now ≤ 19696 }
-    ensures reason { result_err result ≡ reason_of bits.now }
-    ensures content { OnOk result (out.new ≡ content_of (plain bits.now)) }
+// Replaces the content by that of the frame that was taken. After a refusal the content is what was read so far.
+pub fn read_frame(scan: &Scan, kept: &Kept, out: &mut Content) -> Result<usize, BadFrame>
+    ensures reason { (bits plain : List Bool) → IsScan bits plain scan.now → IsKept plain kept.now → result_err result ≡ reason_of bits }
+    ensures content { (bits given : List Bool) → IsScan bits given scan.now → IsKept given kept.now
+        → OnOk result (out.new ≡ content_of (plain bits)) }
     ensures count { IfOk result (λ count. count ≡ length out.new) }
 {
-    let place = closing(bits)?;
-    let body = &bits[FLAG_BITS..place];
-    if ends_with_five(body) {
-        return Err(BadFrame::Abort(place as u32));
-    }
-    let mut plain = BitBuf::new();
-    unstuff(body, &mut plain);
-    let count = take_content(&mut plain, out)?;
-    let end = place + FLAG_BITS;
-    if end < bits.len() {
-        return Err(BadFrame::After(end as u32));
-    }
+    let len = scan.between()?;
+    test_size(len)?;
+    let count = take_content(kept.bytes.as_slice(), out)?;
+    scan.test_end()?;
     Ok(count)
-}
-
-// Replaces the content by that of the frame; after a refusal it is empty.
-fn read_or_clear(bits: &[bool], out: &mut Content) -> Result<usize, BadFrame>
-    requires { length bits.now ≤ 19696 }
-    ensures reason { result_err result ≡ reason_of bits.now }
-    ensures content { OnOk result (out.new ≡ content_of (plain bits.now)) }
-    ensures count { IfOk result (λ count. count ≡ length out.new) }
-    ensures empty { OnErr result (out.new ≡ []) }
-{
-    let answer = read_frame(bits, out);
-    if answer.is_err() {
-        out.clear();
-    }
-    answer
 }
 
 /// Replaces the content by that of the frame that the bits are, from the first bit of one flag to the last bit of the
@@ -127,7 +102,11 @@ pub fn unframe(bits: &BitBuf, out: &mut Content) -> Result<usize, BadFrame>
     ensures reason { result_err result ≡ reason_of bits.now }
     ensures empty { OnErr result (out.new ≡ []) }
 {
-    read_or_clear(bits.as_slice(), out)
+    // Its length says that there is room for all bits.
+    let _len = bits.len();
+    let mut deframer = Deframer::new();
+    deframer.feed(bits);
+    deframer.finish(out)
 }
 
 /// A law and no code: no rule applies exactly where the bits are a frame, and that of one content alone.

@@ -1,37 +1,10 @@
 ghost use Rattle.std.specs.Prelude.{◌≡◌, ◌+◌, ◌*◌, ◌^◌, ◌<◌, ◌≤◌, ◌++◌, length, fold};
 ghost use Rattle.sercos_model.specs.Bits.{low_bits, bits_of};
 ghost use Rattle.sercos_bits.specs.Register.{fed};
-ghost use Rattle.sercos_hdlc.specs.Reason.{plain_for, unstuffed};
 ghost use Rattle.sercos_hdlc.specs.Stuffed.{ones_behind, stuffed};
 
 use crate::tables::{counts_of, sent_for};
 use sercos_bits::{BitBuf, Register, push_number};
-
-// After five ones in a row a zero is inserted.
-const INSERTED_AFTER: usize = 5;
-
-// Appends a bit that comes after `run` ones in a row, unless it is an inserted zero.
-fn push_plain(bit: bool, run: usize, plain: &mut BitBuf)
-    requires { length plain.old < 19696 }
-    ensures bits { plain.new ≡ plain.old ++ plain_for run bit }
-    ensures room { length plain.new ≤ length plain.old + 1 }
-{
-    if bit || run != INSERTED_AFTER {
-        plain.push_within(bit);
-    }
-}
-
-/// Appends the bits without the zeros that were inserted.
-pub fn unstuff(bits: &[bool], plain: &mut BitBuf)
-    requires { length plain.old + length bits.now ≤ 19696 }
-    ensures { plain.new ≡ plain.old ++ unstuffed 0 bits.now }
-{
-    let mut run = 0usize;
-    for bit in bits {
-        push_plain(*bit, run, plain);
-        run = (run + 1) * usize::from(*bit);
-    }
-}
 
 // Appends what is sent for a byte after `ones` ones in a row, and returns how many ones then end it.
 fn push_byte(byte: u8, ones: usize, out: &mut BitBuf) -> usize

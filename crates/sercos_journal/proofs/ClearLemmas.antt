@@ -1,9 +1,7 @@
 -- Where no arrival is unseen, a station hears what was sent, or nothing.
-use Rattle.std.proofs.Common.{◌≡◌, inl, inr, ◌⊎◌, ℕ, Bool, true, false, not, ◌&&◌, cond, List, [], ◌∷◌, Option, Some, None, is_none, refl, sym, ◌∙◌, ap}
+use Rattle.std.proofs.Common.{◌≡◌, inl, inr, ◌⊎◌, ℕ, Bool, true, false, not, ◌&&◌, List, [], ◌∷◌, Option, Some, None, is_none, refl, sym, ◌∙◌, ap}
 use Rattle.std.specs.Prelude.{option_and_then, is_some, IfSome}
-use lib.Pointwise.{pointwise}
-use mathlib.Core.Bool.{beq}
-use Rattle.sercos_hdlc.specs.Reason.{reason_of, content_of, plain}
+use Rattle.sercos_hdlc.specs.Reason.{reason_of}
 use Rattle.sercos_hdlc.specs.Stuffed.{frame_of}
 use Rattle.sercos_script.specs.declared.link.Passage.{Passage}
 use Rattle.sercos_journal.specs.Arrivals.{arrival, heard, content_in, is_unseen, are_same}
@@ -42,12 +40,12 @@ are_same-refl (true ∷ bits) = are_same-refl bits
 are_same-refl (false ∷ bits) = are_same-refl bits
 
 -- where a link changes nothing, what was said is heard
-pub heard-quiet : (carry : Carry) (p : Passage) (content : List ℕ) → IsQuiet carry p.cycle → content_in (frame_of content) ≡ Some content → Some content ≡ heard carry p content
-heard-quiet carry p content quiet whole = sym (ap (λ (o : Option (List Bool)). option_and_then content_in o) (quiet p (frame_of content) refl) ∙ whole)
+pub heard-quiet : (carry : Carry) (p : Passage) (content : List ℕ) → IsQuiet carry p.cycle p.kind p.from → content_in (frame_of content) ≡ Some content → Some content ≡ heard carry p content
+heard-quiet carry p content quiet whole = sym (ap (λ (o : Option (List Bool)). option_and_then content_in o) (quiet p (frame_of content) refl refl refl) ∙ whole)
 
-pub unseen-quiet : (carry : Carry) (p : Passage) (content : List ℕ) → IsQuiet carry p.cycle → false ≡ is_unseen (frame_of content) (arrival carry p content)
+pub unseen-quiet : (carry : Carry) (p : Passage) (content : List ℕ) → IsQuiet carry p.cycle p.kind p.from → false ≡ is_unseen (frame_of content) (arrival carry p content)
 unfolding is_unseen
-unseen-quiet carry p content quiet = rw (quiet p (frame_of content) refl, are_same-refl (frame_of content)) refl
+unseen-quiet carry p content quiet = rw (quiet p (frame_of content) refl refl refl, are_same-refl (frame_of content)) refl
 
 -- what arrives as it was sent has the content that was said
 pub same_heard : (o : Option (List Bool)) (said content : List ℕ) (sent bits : List Bool) → content_in sent ≡ Some said → is_some o ≡ true

@@ -1,14 +1,12 @@
 -- Runs of worked rings, computed from the definitions, down to the bits of each telegram.
-use Rattle.std.proofs.Common.{◌≡◌, ℕ, ◌+◌, List, [], ◌∷◌, ◌++◌, ◌==◌, ◌&&◌, ◌||◌, nat_le, Bool, true, false, if◌then◌else◌, Option, Some, None, refl, take}
-use Rattle.std.specs.Prelude.{pos, negsuc, replicate}
+use Rattle.std.proofs.Common.{◌≡◌, ℕ, ◌+◌, List, [], ◌∷◌, Option, Some, None, refl, take}
+use Rattle.std.specs.Prelude.{pos, negsuc}
 use Rattle.sercos_idn.specs.Attributes.{attribute_of}
-use Rattle.sercos_timing.specs.declared.wishes.Times.{Times}
-use Rattle.sercos_block.specs.declared.block.Block.{Block}
 use Rattle.sercos_block.specs.Views.{DriveView, RingView}
 use Rattle.sercos_telegram.specs.declared.layout.Kind.TheVariants as kinds
 use Rattle.sercos_step.specs.declared.request.Job.{Job}
 use Rattle.sercos_step.specs.declared.request.Request.TheVariants as request
-use Rattle.sercos_script.specs.Links.{Carry, Restarts, carried_clean, never_restarts}
+use Rattle.sercos_script.specs.Links.{carried_clean, never_restarts}
 use Rattle.sercos_script.specs.declared.fault.Damage.{Damage}
 use Rattle.sercos_script.specs.declared.fault.Damage.TheVariants.{Lose, Flip, Deaf, Restart}
 use Rattle.sercos_script.specs.declared.fault.Fault.{Fault}
@@ -41,39 +39,11 @@ use Rattle.sercos_command.specs.Settings as Settings
 use Rattle.sercos_service_drive.specs.Replies as Replies
 use Rattle.sercos_plan.specs.ChainOf as ChainOf
 use Rattle.sercos_plan.specs.LeastTimes as LeastTimes
+use Rattle.sercos_drive.proofs.Worked.{drive}
 use Rattle.sercos_drive.specs.Heard as Heard
 use Rattle.sercos_drive.specs.Says as Says
 
--- one drive, which sends S-0-0051 and is sent S-0-0047; S-0-0051 grows by 10 in each cycle
-abbrev own : ℕ → ℕ → List ℕ → ℕ → Block
-own raw word value step = record {
-  idn = record { raw = raw };
-  attribute = attribute_of word;
-  name = None;
-  unit = None;
-  min = None;
-  max = None;
-  value = value;
-  max_len = 0;
-  fixed = false;
-  step = step;
-  fails = false;
-}
-
-abbrev drive : DriveView
-drive = record {
-  address = 1;
-  slave = 1;
-  busy = 0;
-  command = 0;
-  times = record { t1min = 10; tatmt = 6; t4min = 20; tatat = 5; tmtsy = 10; tmtsg = 20 };
-  cycle_min = 125;
-  cycle_max = 64000;
-  at = (record { raw = 51 }) ∷ [];
-  mdt = (record { raw = 47 }) ∷ [];
-  blocks = own 47 0x00220001 (0 ∷ 0 ∷ 0 ∷ 0 ∷ []) 0 ∷ own 51 0x00220001 (244 ∷ 251 ∷ 0 ∷ 0 ∷ []) 10 ∷ [];
-}
-
+-- a ring of one drive, which sends S-0-0051 and is sent S-0-0047; S-0-0051 grows by 10 in each cycle
 abbrev ring : RingView
 ring = record { rate = 4; cycle = 250; control = 250; gap = 5; cycles = 300; order = 0 ∷ []; drives = drive ∷ [] }
 

@@ -1,5 +1,5 @@
 -- What arrives at a station of what was sent, over a link, and what is a frame of it.
-use Rattle.std.specs.Prelude.{◌≡◌, ℕ, suc, zero, ◌+◌, ◌≤◌, Bool, true, false, not, ◌&&◌, ◌||◌, if◌then◌else◌, List, [], ◌∷◌, ◌++◌, length, Option, Some, None, is_none, option_and_then}
+use Rattle.std.specs.Prelude.{ℕ, suc, zero, ◌+◌, Bool, true, false, not, ◌&&◌, ◌||◌, if◌then◌else◌, List, Option, Some, None, is_none, option_and_then}
 use lib.Pointwise.{pointwise}
 use mathlib.Core.Bool.{beq}
 use Rattle.sercos_hdlc.specs.Reason.{reason_of, content_of, plain}

@@ -1,6 +1,6 @@
 -- The run of a ring: in each cycle each station says what its rules give of what it has got so far. Journals and lists of calls
 -- have their newest item first.
-use Rattle.std.specs.Prelude.{◌≡◌, ℕ, suc, zero, ◌+◌, ◌*◌, ◌==◌, nat_lt, Bool, true, false, not, ◌||◌, if◌then◌else◌, List, [], ◌∷◌, ◌++◌, length, Option, Some, None, is_some, option_and_then, slice_index, slice_index_or, ℤ, pos, negsuc}
+use Rattle.std.specs.Prelude.{◌≡◌, ℕ, suc, zero, ◌+◌, ◌*◌, ◌==◌, nat_lt, Bool, true, false, ◌||◌, if◌then◌else◌, List, [], ◌∷◌, ◌++◌, length, Option, Some, None, slice_index, slice_index_or, ℤ, pos, negsuc}
 use Rattle.sercos_hdlc.specs.Stuffed.{frame_of}
 use Rattle.sercos_telegram.specs.declared.layout.Kind.TheVariants as kinds
 use Rattle.sercos_step.specs.declared.request.Job.{Job}
@@ -10,7 +10,7 @@ use Rattle.sercos_drive.specs.Annals.{phase_at}
 use Rattle.sercos_drive.specs.Says.{Said, drive_says}
 use Rattle.sercos_trace.specs.Views.{EventsView, SentView, CycleView}
 use Rattle.sercos_trace.specs.declared.record.Move.{Move}
-use Rattle.sercos_seat.specs.Ring.{Known, Task, known_of, tasks_for}
+use Rattle.sercos_seat.specs.Ring.{known_of, tasks_for}
 use Rattle.sercos_master.specs.Annals.{Past, Call, HearMst, HearAt, End, past}
 use Rattle.sercos_master.specs.Annals as master
 use Rattle.sercos_master.specs.Says.{Sent, mst_said, mdt_said}

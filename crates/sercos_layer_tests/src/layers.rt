@@ -33,7 +33,7 @@ fn frame_and_content(rt: HostRuntime) -> Result<(), Fail> {
     let mut wanted = BitBuf::new();
     assert!(rt; bits_of(b"\x7e\xdf\x01\x0e\xe1\xfd\x00", &mut wanted).is_ok());
     wanted.cut(49);
-    assert_eq!(rt; bits.as_slice(), wanted.as_slice());
+    assert!(rt; bits.is_same(&wanted));
     let mut content = Content::new();
     assert_eq!(rt; unframe(&bits, &mut content), Ok(2));
     assert_eq!(rt; content.as_slice(), b"\xff\x00".as_slice());

@@ -14,6 +14,8 @@ mod drives;
 #[cfg(test)]
 mod layers;
 #[cfg(test)]
+mod pieces;
+#[cfg(test)]
 mod station;
 #[cfg(test)]
 mod steps;

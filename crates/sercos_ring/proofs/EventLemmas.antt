@@ -1,16 +1,14 @@
 -- What a restart reports is little.
-use Rattle.std.proofs.Common.{◌≡◌, ◌⊎◌, inl, inr, ℕ, suc, zero, ◌+◌, ◌<◌, ◌≤◌, nat_lt, Bool, true, false, cond, List, [], ◌∷◌, length, map, Option, Some, None, refl, sym, ◌∙◌, ap, arith, if◌then◌else◌}
+use Rattle.std.proofs.Common.{◌≡◌, inl, inr, ℕ, suc, zero, ◌+◌, ◌≤◌, nat_lt, Bool, true, false, cond, List, [], ◌∷◌, length, map, Option, Some, None, refl, arith}
 use Rattle.sercos_step.specs.declared.request.Job.{Job}
 use Rattle.sercos_step.specs.declared.request.Outcome.{Outcome}
 use Rattle.sercos_block.specs.Views.{RingView, DriveView}
-use Rattle.sercos_block.specs.Rings.{is_ring}
 use Rattle.sercos_seat.specs.Channel.{Report}
-use Rattle.sercos_seat.specs.Ring.{Known, MemberView, known_of, member_of}
-use Rattle.sercos_master.specs.Annals.{Past, Call, HearMst, HearAt, Mdt, Restart}
-use Rattle.sercos_master.specs.Reports.{HasRestarted, AreOpen, inserted, with_report, with_reports, broken, with_broken}
-use Rattle.sercos_journal.specs.Arrivals.{heard, passage}
+use Rattle.sercos_seat.specs.Ring.{known_of, member_of}
+use Rattle.sercos_master.specs.Annals.{Call, Restart}
+use Rattle.sercos_master.specs.Reports.{HasRestarted, AreOpen, inserted, with_report, with_reports, broken}
 use Rattle.sercos_script.specs.Links.{Carry, Restarts}
-use Rattle.sercos_journal.specs.Runs.{at_calls, with_at, mid_calls, begin_calls, own_mst, restart_events, looks_back}
+use Rattle.sercos_journal.specs.Runs.{at_calls, with_at, mid_calls, own_mst, restart_events, looks_back}
 
 length-inserted : (i : ℕ) (o : Outcome) (l : List (ℕ × Outcome)) → length (inserted i o l) ≡ length l + 1
 length-inserted i o [] = refl

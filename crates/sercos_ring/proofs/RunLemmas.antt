@@ -1,27 +1,24 @@
 -- One cycle more.
-use Rattle.std.proofs.Common.{◌≡◌, inl, inr, ℕ, suc, zero, ◌+◌, ◌<◌, ◌≤◌, Bool, true, false, List, [], ◌∷◌, ◌++◌, length, Option, Some, None, refl, sym, ◌∙◌, ap, subst, arith, if◌then◌else◌, nat_le, not, ◌&&◌, length-append}
+use Rattle.std.proofs.Common.{◌≡◌, ℕ, suc, zero, ◌+◌, ◌≤◌, Bool, true, false, List, [], ◌∷◌, length, Option, refl, sym, ◌∙◌, ap, subst, arith, nat_le, ◌&&◌, length-append}
 use Rattle.sercos_step.specs.declared.request.Job.{Job}
 use Rattle.sercos_block.specs.Views.{DriveView, RingView}
-use Rattle.sercos_block.specs.Rings.{is_ring}
-use Rattle.sercos_trace.specs.Views.{SentView, CycleView, EventsView}
-use Rattle.sercos_trace.specs.declared.record.Move.{Move}
-use Rattle.sercos_drive.specs.Heard.{DriveCall, Mst, Mdt, Restart}
+use Rattle.sercos_trace.specs.Views.{CycleView}
+use Rattle.sercos_drive.specs.Heard.{DriveCall}
 use Rattle.sercos_drive.specs.Annals.{cycle_at}
 use Rattle.sercos_drive.specs.Says.{Said}
 use Rattle.sercos_drive.specs.Kept.{DriveState}
 use Rattle.sercos_master.specs.declared.master.AnyMaster.{AnyMaster}
 use Rattle.sercos_master.specs.Any.{AnyStandsFor}
-use Rattle.sercos_seat.specs.Ring.{Known, known_of}
+use Rattle.sercos_seat.specs.Ring.{known_of}
 use Rattle.sercos_master.specs.Annals.{Call, End}
-use Rattle.sercos_master.specs.Says.{Sent, mst_said, mdt_said}
-use Rattle.sercos_master.specs.Reports.{events_told}
+use Rattle.sercos_master.specs.Says.{Sent}
 use Rattle.std.specs.Prelude.{◌==◌}
 use Rattle.std.proofs.lemmas.Bool.{eq-eqb}
 use Rattle.sercos_journal.proofs.StationLemmas.{few_drives}
 use Rattle.sercos_script.specs.Links.{Carry, Restarts}
 use Rattle.sercos_journal.specs.Records.{mst_in, ats_in, mdt_in}
-use Rattle.sercos_journal.specs.Runs.{drive_at, with_restart, drive_calls, master_calls, given_before, begin_calls, mid_calls, at_mst, at_mdt, said_below, contents, content_of, ats_said, sent_at, sent_mst, sent_mdt, moves_below, unseen_in, looks_back, restart_events, IsRun, IsNext, next_record, run_of}
-use Rattle.sercos_ring.specs.Stations.{AllStand, AreBefore, list_below, addresses_below}
+use Rattle.sercos_journal.specs.Runs.{drive_at, with_restart, drive_calls, master_calls, given_before, mid_calls, at_mst, at_mdt, contents, content_of, IsNext}
+use Rattle.sercos_ring.specs.Stations.{AllStand, AreBefore, list_below}
 use Rattle.sercos_ring.specs.Parts.{PartsStandFor}
 use Rattle.sercos_journal.proofs.RunLemmas.{ats_in-said, mdt_in-said, AreParts, parts_next}
 

@@ -1,19 +1,16 @@
 -- One more AT is sent.
-use Rattle.std.proofs.Common.{◌≡◌, ℕ, suc, zero, ◌+◌, ◌<◌, Bool, List, [], ◌∷◌, ◌++◌, Option, Some, None, length, refl, sym, ◌∙◌, ap, arith, append_assoc, append-nil}
+use Rattle.std.proofs.Common.{◌≡◌, ℕ, suc, zero, ◌+◌, ◌<◌, List, [], ◌∷◌, ◌++◌, Option, Some, None, length, refl, sym, ◌∙◌, ap, arith, append_assoc, append-nil}
 use Rattle.std.proofs.lemmas.List.{take_more}
-use Rattle.std.specs.Prelude.{take, slice_index, slice_index_or}
-use Rattle.sercos_step.specs.declared.request.Job.{Job}
+use Rattle.std.specs.Prelude.{take, slice_index_or}
 use Rattle.sercos_block.specs.Views.{DriveView, RingView}
 use Rattle.sercos_trace.specs.Views.{SentView}
 use Rattle.sercos_drive.specs.Heard.{DriveCall}
 use Rattle.sercos_drive.specs.Says.{Said, drive_says}
 use Rattle.sercos_master.specs.declared.master.AnyMaster.{AnyMaster}
-use Rattle.sercos_master.specs.Any.{AnyStandsFor}
-use Rattle.sercos_seat.specs.Ring.{Known}
 use Rattle.sercos_master.specs.Annals.{Call}
-use Rattle.sercos_journal.specs.Arrivals.{heard, passage, unseen_at, sum_below}
+use Rattle.sercos_journal.specs.Arrivals.{sum_below}
 use Rattle.sercos_script.specs.Links.{Carry}
-use Rattle.sercos_journal.specs.Runs.{with_at, sent_at, ats_said, at_calls, unseen_ats, contents, station_of, unseen_mdt}
+use Rattle.sercos_journal.specs.Runs.{sent_at, ats_said, at_calls, unseen_ats, contents, unseen_mdt}
 use Rattle.sercos_ring.specs.Sendings.{AreSent, said_by, with_first}
 use Rattle.sercos_ring.specs.declared.turns.AtTurn.{AtTurn}
 

@@ -1,6 +1,5 @@
 -- How the telegrams of a cycle pass: what they are in the record, and what comes of them.
-use Rattle.std.specs.Prelude.{◌≡◌, ◌⊎◌, ℕ, ◌+◌, ◌<◌, ◌≤◌, length, slice_index, slice_index_or, List, [], ◌∷◌, ◌++◌, Option, Some, None, is_some}
-use Rattle.sercos_telegram.specs.declared.layout.Kind.TheVariants as kinds
+use Rattle.std.specs.Prelude.{◌≡◌, ℕ, ◌+◌, ◌<◌, length, slice_index, slice_index_or, List, [], ◌∷◌, ◌++◌, Option, Some, None}
 use Rattle.sercos_step.specs.declared.request.Job.{Job}
 use Rattle.sercos_block.specs.Views.{DriveView, RingView}
 use Rattle.sercos_trace.specs.Views.{SentView}
@@ -10,9 +9,8 @@ use Rattle.sercos_seat.specs.Ring.{Known}
 use Rattle.sercos_master.specs.declared.master.AnyMaster.{AnyMaster}
 use Rattle.sercos_master.specs.Annals.{Call}
 use Rattle.sercos_master.specs.Any.{AnyStandsFor}
-use Rattle.sercos_journal.specs.Arrivals.{heard, passage, unseen_at}
 use Rattle.sercos_script.specs.Links.{Carry}
-use Rattle.sercos_journal.specs.Runs.{with_at, sent_at, ats_said, at_calls, unseen_ats, contents, station_of}
+use Rattle.sercos_journal.specs.Runs.{ats_said, at_calls, unseen_ats, contents, station_of}
 use Rattle.sercos_ring.specs.declared.turns.AtTurn.{AtTurn}
 
 -- what the drives at these turns say

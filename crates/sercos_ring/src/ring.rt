@@ -33,6 +33,7 @@ use sercos_master::AnyMaster;
 use sercos_recovery::recovery_law;
 use sercos_script::BitLink;
 use sercos_step::Job;
+use sercos_telegram::Kind;
 use sercos_trace::{CycleRecord, Events, Move, Sent};
 use sercos_undisturbed::undisturbed_law;
 use std::alloc::{AllocError, Global};
@@ -123,7 +124,7 @@ fn turn<L: BitLink>(
     restart_drives(link, drives, cycle);
     let phase = master.command();
     master.mst(said);
-    frame_said(link, cycle, said, sent);
+    frame_said(link, cycle, Kind::Mst, 0, said, sent);
     let mut count = 0;
     push_mst(list, &mut count, said, sent.len);
     let mst = hear_msts(link, drives, cycle, said, sent, bits, content);

@@ -50,7 +50,7 @@ pub(crate) fn pass_own<L: BitLink>(
     bits: &mut BitBuf,
     content: &mut Content,
 ) -> u32
-    requires sent { IsSent (L.carry link.old) cycle said.now sent.now }
+    requires sent { IsSent (L.carry link.old) cycle kinds.Mst 0 said.now sent.now }
     ensures carry { L.carry link.new ≡ L.carry link.old }
     ensures restart { L.restart link.new ≡ L.restart link.old }
     ensures unseen { result ≡ unseen_at (L.carry link.old) (passage cycle kinds.Mst 0 0) said.now }
@@ -91,7 +91,7 @@ fn pass_at<L: BitLink>(
     bits: &mut BitBuf,
     content: &mut Content,
 ) -> u32
-    requires sent { IsSent (L.carry link.old) cycle said.now sent.now }
+    requires sent { IsSent (L.carry link.old) cycle kinds.At station said.now sent.now }
     ensures carry { L.carry link.new ≡ L.carry link.old }
     ensures restart { L.restart link.new ≡ L.restart link.old }
     ensures unseen { result ≡ unseen_at (L.carry link.old) (passage cycle kinds.At station 0) said.now }
@@ -185,7 +185,7 @@ fn send_said<L: BitLink>(
     ensures sent { (r : RingView) → station_of r (slice_index said.now 0) ≡ station →
         AreSent r (L.carry link.old) cycle rate ((record { start = start; content = said.now }) ∷ []) (take count.old list.old.items) (take count.new list.new.items) master.old master.new result }
 {
-    frame_said(link, cycle, said, sent);
+    frame_said(link, cycle, Kind::At, station, said, sent);
     push_timed(list, count, Kind::At, rate, start, said, sent.len);
     pass_at(link, master, station, cycle, said, sent, bits, content)
 }
@@ -340,7 +340,7 @@ pub(crate) fn send_mdt<L: BitLink>(
             0
         }
         Some(start) => {
-            frame_said(link, cycle, said, sent);
+            frame_said(link, cycle, Kind::Mdt, 0, said, sent);
             push_timed(list, count, Kind::Mdt, rate, start, said, sent.len);
             hear_mdts(link, drives, cycle, said, sent, bits, content)
         }

@@ -1,6 +1,7 @@
 -- What a link is: what it does to the bits of each telegram on its way to each station, and which stations restart in which
 -- cycles. Stations are 0 for the master and 1 to n for the drives in the order of the ring. Cycles are counted from 0.
 use Rattle.std.specs.Prelude.{◌≡◌, ℕ, Bool, true, false, ◌||◌, List, Option, Some, None, option_and_then}
+use Rattle.sercos_telegram.specs.declared.layout.Kind.{Kind}
 use Rattle.sercos_script.specs.declared.link.Passage.{Passage}
 
 -- For a passage and the bits sent, the bits that arrive, or nothing.
@@ -19,9 +20,9 @@ carried_clean p bits = Some bits
 abbrev pub never_restarts : Restarts
 never_restarts cycle station = false
 
--- In a cycle a link changes nothing: each telegram arrives at each station as it was sent.
-abbrev pub IsQuiet : Carry → ℕ → Type 0
-IsQuiet carry cycle = (p : Passage) (bits : List Bool) → p.cycle ≡ cycle → carry p bits ≡ Some bits
+-- In a cycle a link doesn't change the telegram of a kind that a station sends: it arrives at each station as it was sent.
+abbrev pub IsQuiet : Carry → ℕ → Kind → ℕ → Type 0
+IsQuiet carry cycle kind from = (p : Passage) (bits : List Bool) → p.cycle ≡ cycle → p.kind ≡ kind → p.from ≡ from → carry p bits ≡ Some bits
 
 -- One link after another: the second is given what the first lets arrive. If the first lets nothing arrive, nothing does.
 abbrev pub carried_by_both : Carry → Carry → Carry

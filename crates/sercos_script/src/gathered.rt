@@ -1,26 +1,27 @@
 // The faults of a script that act in one cycle.
-ghost use Rattle.std.specs.Prelude.{◌≡◌, true, ℕ, Bool, List, []};
+ghost use Rattle.std.specs.Prelude.{◌≡◌, ◌+◌, true, ℕ, Bool, List, []};
 ghost use Rattle.std.specs.List.{filter};
 ghost use Rattle.std.specs.List.Sorted.{IsNonDecreasingBy};
-ghost use Rattle.sercos_script.specs.Lanes.{key_of, is_in, AreByLink, IsGathered, candidates};
-ghost use Rattle.sercos_script.specs.Scripts.{acts, carried, restarts_at};
+ghost use Rattle.sercos_script.specs.Lanes.{key_of, is_in, telegram_lane, AreByLink, IsGathered, candidates};
+ghost use Rattle.sercos_script.specs.Scripts.{carried, restarts_at};
+ghost use Rattle.sercos_script.specs.Stretches.{AreAhead};
 
-use crate::effect::acts;
 use crate::fault::Fault;
 use crate::lanes::{in_lane, restart_lane, telegram_lane};
 use crate::link::Passage;
+use crate::stretches::{ROOM, STRETCHES, gather, nothing_known};
 use arrayvec::ArrayVec;
+use sercos_telegram::Kind;
 use std::marker::Model;
 
-// The most faults that are gathered (14 kB). If more act, the whole script is looked at, of which then a good part acts.
-const ROOM: usize = 512;
-
-// The faults of a script that act in a cycle, in the order of the script, and whether all of them found room.
+// The faults of a script that act in a cycle, in the order of the script, and whether all of them found room; and for each
+// stretch of the script a number of a cycle before which none of its faults acts after this cycle.
 #[derive(Drop)]
 pub(crate) struct Gathered {
     cycle: u32,
     faults: ArrayVec<Fault, ROOM>,
     complete: bool,
+    soonest: [u32; STRETCHES],
 }
 
 impl Model for Gathered {
@@ -28,23 +29,11 @@ impl Model for Gathered {
 
     ghost Value = { GatheredView };
 
-    ghost view = { λ g. record { cycle = g.cycle; faults = g.faults.items; complete = g.complete } };
-}
+    ghost use Rattle.std.specs.Prelude.{◌≡◌, length};
 
-// Gathers the faults that act in a cycle. Returns whether all of them found room.
-fn gather(script: &[Fault], cycle: u32, faults: &mut ArrayVec<Fault, ROOM>) -> bool
-    ensures { result ≡ true → faults.new.items ≡ filter (acts cycle) script.now }
-{
-    faults.clear();
-    for fault in script {
-        if acts(fault, cycle) {
-            if faults.len() == ROOM {
-                return false;
-            }
-            faults.push(*fault);
-        }
-    }
-    true
+    ghost view = { λ g. record { cycle = g.cycle; faults = g.faults.items; complete = g.complete; soonest = g.soonest } };
+
+    ghost invariant = { λ g. length g.soonest ≡ 512 };
 }
 
 impl Gathered {
@@ -52,34 +41,44 @@ impl Gathered {
     pub(crate) fn new(script: &[Fault], cycle: u32) -> Gathered
         ensures cycle { result.cycle ≡ cycle }
         ensures gathered { IsGathered script.now result }
+        ensures ahead { AreAhead script.now (cycle + 1) result.soonest }
     {
-        let mut faults = ArrayVec::new();
-        let complete = gather(script, cycle, &mut faults);
-        Gathered {
+        let mut gathered = Gathered {
             cycle,
-            faults,
-            complete,
-        }
+            faults: ArrayVec::new(),
+            complete: false,
+            soonest: nothing_known(),
+        };
+        gathered.gather(script, cycle);
+        gathered
     }
 
-    // Turns to a cycle.
-    pub(crate) fn turn(&mut self, script: &[Fault], cycle: u32)
-        requires { IsGathered script.now self.old }
+    // Gathers the faults of a cycle.
+    fn gather(&mut self, script: &[Fault], cycle: u32)
+        requires { AreAhead script.now cycle self.old.soonest }
         ensures cycle { self.new.cycle ≡ cycle }
         ensures gathered { IsGathered script.now self.new }
+        ensures ahead { AreAhead script.now (cycle + 1) self.new.soonest }
     {
-        if cycle != self.cycle {
-            self.complete = gather(script, cycle, &mut self.faults);
-            self.cycle = cycle;
-        }
+        self.complete = gather(script, cycle, &mut self.soonest, &mut self.faults);
+        self.cycle = cycle;
     }
 
-    // Returns whether it is sure that no fault acts in this cycle.
-    pub(crate) fn is_empty(&self) -> bool
-        ensures complete { result ≡ true → self.now.complete ≡ true }
-        ensures empty { result ≡ true → self.now.faults ≡ [] }
+    // Turns to a cycle. In a later one only those stretches are looked into whose cycle has come.
+    pub(crate) fn turn(&mut self, script: &[Fault], cycle: u32)
+        requires gathered { IsGathered script.now self.old }
+        requires ahead { AreAhead script.now (self.old.cycle + 1) self.old.soonest }
+        ensures cycle { self.new.cycle ≡ cycle }
+        ensures gathered { IsGathered script.now self.new }
+        ensures ahead { AreAhead script.now (cycle + 1) self.new.soonest }
     {
-        self.complete && self.faults.is_empty()
+        if cycle == self.cycle {
+            return;
+        }
+        if cycle < self.cycle {
+            self.soonest = nothing_known();
+        }
+        self.gather(script, cycle);
     }
 
     // Returns where the faults of this cycle are looked for.
@@ -100,6 +99,15 @@ impl Gathered {
         ensures { result.now ≡ filter (is_in lane) (candidates script.now self.now) }
     {
         in_lane(self.candidates(script), lane)
+    }
+
+    // Returns whether it is sure that no fault acts on the telegram of a kind from a sender in this cycle.
+    pub(crate) fn is_quiet(&self, script: &[Fault], kind: Kind, from: u8) -> bool
+        requires gathered { IsGathered script.now self.now }
+        requires sorted { IsNonDecreasingBy key_of script.now }
+        ensures { result ≡ true → filter (is_in (telegram_lane kind from)) (candidates script.now self.now) ≡ [] }
+    {
+        self.in_lane(script, telegram_lane(kind, from)).is_empty()
     }
 
     // Returns faults that do to a passage of this cycle what the script does, in the order of their links.

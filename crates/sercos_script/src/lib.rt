@@ -9,6 +9,7 @@ mod lanes;
 mod link;
 mod path;
 mod script;
+mod stretches;
 
 pub use fault::{Damage, Fault};
 pub use link::{BitLink, Both, Clean, Passage};

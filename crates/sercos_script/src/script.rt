@@ -8,13 +8,15 @@ use crate::lanes::sort;
 use crate::link::{BitLink, Passage};
 use crate::path::{any_restart, carry};
 use sercos_bits::BitBuf;
+use sercos_telegram::Kind;
 use std::marker::Model;
 
 /// The links of a ring under a script of faults (this profile). On each link the faults act in the order of the script.
 ///
 /// The faults are kept sorted by the telegrams on which they act, and by links; faults of the same telegrams and link keep their
-/// order. In each cycle the faults that act are gathered once, at most 512 of them. A passage goes once through those of its
-/// kind and sender. If more act, it goes through all faults of its kind and sender. No call takes memory.
+/// order. In each cycle the faults that act are gathered once, at most 512 of them, from those stretches of the script in which one
+/// may act by then. A passage goes once through those of its kind and sender. If more act, it goes through all faults of its kind
+/// and sender. No call takes memory.
 #[derive(Drop)]
 pub struct Scripted {
     faults: Vec<Fault>,
@@ -26,12 +28,14 @@ impl Model for Scripted {
     ghost use Rattle.std.specs.List.Sorted.{IsNonDecreasingBy};
     ghost use Rattle.sercos_script.specs.Lanes.{key_of, IsGathered};
     ghost use Rattle.sercos_script.specs.Scripts.{ScriptView};
+    ghost use Rattle.sercos_script.specs.Stretches.{AreAhead};
+    ghost use Rattle.std.specs.Prelude.{◌+◌};
 
     ghost Value = { ScriptView };
 
     ghost view = { λ s. record { faults = s.faults.items; stations = s.stations } };
 
-    ghost invariant = { λ s. IsNonDecreasingBy key_of s.faults.items × IsGathered s.faults.items s.gathered };
+    ghost invariant = { λ s. IsNonDecreasingBy key_of s.faults.items × IsGathered s.faults.items s.gathered × AreAhead s.faults.items (s.gathered.cycle + 1) s.gathered.soonest };
 }
 
 // Returns faults sorted by their keys.
@@ -85,10 +89,10 @@ impl BitLink for Scripted {
         any_restart(faults, cycle, station)
     }
 
-    // A cycle is quiet if no fault of the script acts in it, be it a restart.
-    fn is_quiet(&mut self, cycle: u32) -> bool {
+    // A telegram is quiet if no fault on it acts in its cycle.
+    fn is_quiet(&mut self, cycle: u32, kind: Kind, from: u8) -> bool {
         let script = self.faults.as_slice();
         self.gathered.turn(script, cycle);
-        self.gathered.is_empty()
+        self.gathered.is_quiet(script, kind, from)
     }
 }

@@ -11,6 +11,7 @@ use Rattle.sercos_model.specs.Bits.{bits_of}
 use Rattle.sercos_model.proofs.BitLemmas.{length-bits_of}
 use Rattle.sercos_text.specs.Fields.{pairs_of}
 use Rattle.sercos_show.specs.Line.{byte_of, wanted_digits, has_spare, dash_fault, digits_fault, hex_fault, hex_bits}
+use Rattle.sercos_show.specs.Digits.{AreDigitPairs}
 use Rattle.sercos_show.specs.SpelledLine.{AreDigitsOf, IsHexOf}
 use Rattle.sercos_model.proofs.FaultLemmas.{none_of-or, none_of-then, at_least, nat_lt-at_least}
 use Rattle.sercos_show.proofs.HexPairs.{pair_bytes, pair_bytes-at, byte_of-least, AllPass-prefix_len, prefix_len-AllPass, decode_of-pair_bytes, ArePairs-decoded}
@@ -162,3 +163,24 @@ hex_fault-IsHexOf text (bit ∷ bits) is =
     let count : ℕ = suc (length bits) in
     let none = digits_fault-AreGoodDigits count text (unfold wanted_digits in omega arith) good.0 in
     (hex_fault-some count text (omega arith) ∙ none, good.1)
+
+-- the HEX of at least one bit, without a fault, is pairs of digits, which give its bits
+pub AreDigitPairs-hex_fault : (count : ℕ) (text : List ℕ) → 0 < count → hex_fault count text ≡ None → AreDigitPairs text
+unfolding wanted_digits
+AreDigitPairs-hex_fault count text some none =
+    let good = AreGoodDigits-digits_fault count text (sym (hex_fault-some count text some) ∙ none) in
+    record { all = good.all; even = omega (arith, good.long) }
+
+pub length-hex_fault : (count : ℕ) (text : List ℕ) → 0 < count → hex_fault count text ≡ None → length text ≡ 2 * ((count + 7) / 8)
+unfolding wanted_digits
+length-hex_fault count text some none = (AreGoodDigits-digits_fault count text (sym (hex_fault-some count text some) ∙ none)).long
+
+pub hex_bits-all : (count : ℕ) (text : List ℕ) → length text ≡ 2 * ((count + 7) / 8) → take count (bits_of (pairs_of text)) ≡ hex_bits count text
+unfolding hex_bits wanted_digits
+hex_bits-all count text long =
+    let all : take (2 * ((count + 7) / 8)) text ≡ text = take_all (2 * ((count + 7) / 8)) text (omega arith) in
+    rw all refl
+
+pub hex_bits-none : (count : ℕ) (text : List ℕ) → count ≡ 0 → [] ≡ hex_bits count text
+unfolding hex_bits
+hex_bits-none count text none = rw none refl

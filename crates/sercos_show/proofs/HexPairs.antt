@@ -11,18 +11,18 @@ use Rattle.hex.proofs.HexLemmas.{decode_of-even, decode_of-ok, decode_of-same}
 use Rattle.sercos_show.specs.Line.{byte_of}
 use Rattle.sercos_text.specs.Fields.{pairs_of}
 
-is_hex_digit-ascii : (c : ℕ) → is_hex_digit c ≡ is_ascii_hexdigit c
+pub is_hex_digit-ascii : (c : ℕ) → is_hex_digit c ≡ is_ascii_hexdigit c
 is_hex_digit-ascii c = grind (arith, nat_tests)
 
 -- the value of a digit
-digit_of : (c : ℕ) → is_hex_digit c ≡ true → (value : ℕ) × (hex_digit_value c ≡ Some value)
+pub digit_of : (c : ℕ) → is_hex_digit c ≡ true → (value : ℕ) × (hex_digit_value c ≡ Some value)
 digit_of c digit = some_of (hex_digit_value c) digit
   where
     some_of : (o : Option ℕ) → is_some o ≡ true → (value : ℕ) × (o ≡ Some value)
     some_of (Some value) some = (value, refl)
     some_of None some = cc
 
-byte_of-digits : (high low h l : ℕ) → hex_digit_value high ≡ Some h → hex_digit_value low ≡ Some l → byte_of high low ≡ h * 16 + l
+pub byte_of-digits : (high low h l : ℕ) → hex_digit_value high ≡ Some h → hex_digit_value low ≡ Some l → byte_of high low ≡ h * 16 + l
 unfolding byte_of pairs_of decode_pairs
 byte_of-digits high low h l high_is low_is = rw (high_is, low_is) refl
 

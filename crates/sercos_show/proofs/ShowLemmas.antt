@@ -1,5 +1,5 @@
 -- Lemmas on the answers of `show`.
-use Rattle.std.proofs.Common.{◌≡◌, ℕ, ◌+◌, Bool, List, [], ◌∷◌, ◌++◌, length, Some, None, refl, sym, ◌∙◌, arith, append_assoc, append-nil}
+use Rattle.std.proofs.Common.{◌≡◌, ℕ, ◌+◌, List, [], ◌∷◌, ◌++◌, length, Some, None, refl, sym, ◌∙◌, arith, append_assoc, append-nil}
 use Rattle.std.specs.List.{flat_map}
 use Rattle.sercos_hdlc.specs.Reason.{reason_of}
 use Rattle.sercos_io.specs.declared.status.Status.TheVariants as status
@@ -19,10 +19,10 @@ answers-good : (before : List ℕ) (rest line others : List ℕ) → Cut rest li
 answers-good before rest line others cut = rw (lines_of-cut rest line others cut) (sym (append_assoc before (line_answer line) (flat_map line_answer (lines_of others))))
 
 -- the answers so far, and one more
-pub answers-more : (before after all rest line others : List ℕ) (kind : LineKind) (bits : List Bool) → Cut rest line others → kind_of line ≡ Some kind → bits ≡ line_bits line → after ≡ before ++ frame_text kind bits (reason_of bits) → before ++ flat_map line_answer (lines_of rest) ≡ all → after ++ flat_map line_answer (lines_of others) ≡ all
+pub answers-more : (before after all rest line others : List ℕ) (kind : LineKind) → Cut rest line others → kind_of line ≡ Some kind → after ≡ before ++ frame_text kind (line_bits line) (reason_of (line_bits line)) → before ++ flat_map line_answer (lines_of rest) ≡ all → after ++ flat_map line_answer (lines_of others) ≡ all
 unfolding line_answer answer_by
-answers-more before after all rest line others kind bits cut kind_is bits_are after_is so_far =
-    let answer : line_answer line ≡ frame_text kind bits (reason_of bits) = rw (kind_is, ← bits_are) refl in
+answers-more before after all rest line others kind cut kind_is after_is so_far =
+    let answer : line_answer line ≡ frame_text kind (line_bits line) (reason_of (line_bits line)) = rw kind_is refl in
     rw (after_is, ← answer) (sym (answers-good before rest line others cut) ∙ so_far)
 
 -- a line with a fault

@@ -1,3 +1,4 @@
+pub mod Digits
 pub mod Line
 pub mod SpelledLine
 pub mod Places

@@ -1,6 +1,7 @@
 //! `show`: what lines of frames say, or the place at which a line is wrong.
 #![tactic(auto)]
 
+mod digits;
 mod law;
 mod line;
 pub mod show;

@@ -1,14 +1,15 @@
 // The lines of `show`: `raw COUNT HEX`. A fault is the place, from 0 on, of the first byte that can't stand; that of a
 // missing byte is one past the end.
-ghost use Rattle.std.specs.Prelude.{◌≡◌, ℕ, ◌+◌, ◌-◌, ◌*◌, ◌/◌, ◌<◌, ◌≤◌, min, [], ◌∷◌, OnOk, IfOk, IfErr, IfSome, IfNone, length, take, drop, slice_index, nat_eq, Some};
-ghost use Rattle.std.specs.Char.{is_ascii_hexdigit};
-ghost use Rattle.std.specs.List.{prefix_len, common_prefix_len};
+ghost use Rattle.std.specs.Prelude.{◌≡◌, ◌+◌, ◌<◌, ◌≤◌, [], OnOk, IfOk, IfErr, IfSome, length, nat_eq, Some};
+ghost use Rattle.std.specs.List.{common_prefix_len};
 ghost use Rattle.std.specs.Result.{result_ok, result_err};
-ghost use Rattle.sercos_model.specs.Bits.{bits_of};
-ghost use Rattle.sercos_text.specs.Fields.{number_len, number_of, pairs_of};
-ghost use Rattle.sercos_show.specs.Line.{byte_of, wanted_digits, has_spare, kind_text, kind_of, kind_fault, count_fault, dash_fault, digits_fault, hex_fault, hex_bits, numbers_fault, numbers_bits, line_fault, line_bits};
+ghost use Rattle.sercos_text.specs.Fields.{number_len, number_of};
+ghost use Rattle.sercos_hdlc.specs.Fed.{taken_of, IsFed};
+ghost use Rattle.sercos_show.specs.Line.{wanted_digits, has_spare, kind_text, kind_of, kind_fault, count_fault, dash_fault, digits_fault, hex_fault, hex_bits, numbers_fault, numbers_bits, line_fault, line_bits};
 
+use crate::digits::{byte_of, feed_digits, leading_digits};
 use sercos_bits::BitBuf;
+use sercos_hdlc::Deframer;
 
 /// What the bits of a line are read as.
 #[derive(Clone, Copy, Debug, PartialEq, Eq)]
@@ -72,31 +73,6 @@ fn kind_len(kind: LineKind) -> usize
         LineKind::Raw | LineKind::Mst => 4,
         LineKind::Single => 7,
         LineKind::At => 3,
-    }
-}
-
-// How many hexadecimal digits a text begins with.
-fn leading_digits(text: &[u8]) -> usize
-    ensures value { result ≡ prefix_len is_ascii_hexdigit text.now }
-    ensures bound { result ≤ length text.now }
-{
-    for (place, byte) in text.iter().enumerate() {
-        if !byte.is_ascii_hexdigit() {
-            return place;
-        }
-    }
-    text.len()
-}
-
-// The byte that two hexadecimal digits spell.
-#[tactic(auto, unfolding(crate::specs::Line::byte_of, sercos_text::specs::Fields::pairs_of))]
-fn byte_of(high: u8, low: u8) -> u8
-    ensures { result ≡ byte_of high low }
-{
-    let mut byte = [0u8];
-    match hex::decode_to_slice([high, low], &mut byte) {
-        Ok(()) => byte[0],
-        Err(_) => 0,
     }
 }
 
@@ -188,67 +164,58 @@ fn read_count(text: &[u8]) -> Result<(usize, usize), usize>
     Ok((len + 1, count as usize))
 }
 
-// The digits of HEX, or those that are there.
-fn hex_digits(count: usize, text: &[u8]) -> &[u8]
-    requires { count ≤ 19696 }
-    ensures value { result.now ≡ take (wanted_digits count) text.now }
-    ensures most { length result.now ≤ 4924 }
-{
-    &text[..wanted_digits(count).min(text.len())]
-}
-
-// Replaces the bits by those of the bytes that digits spell.
-#[tactic(auto, unfolding(sercos_text::specs::Fields::pairs_of, sercos_model::specs::Bits::bits_of))]
-fn set_bits(digits: &[u8], bits: &mut BitBuf)
-    requires { length digits.now ≤ 4924 }
-    ensures { bits.new ≡ bits_of (pairs_of digits.now) }
-{
-    bits.clear();
-    let mut bytes = [0u8; 2462];
-    let room = &mut bytes[..digits.len() / 2];
-    match hex::decode_to_slice(digits, room) {
-        Ok(()) => sercos_bits::bits_of(room, bits).unwrap(),
-        Err(_) => {}
-    }
-}
-
-// Reads HEX.
+// Reads HEX, and feeds its bits.
 #[tactic(auto, unfolding(crate::specs::Line::hex_bits))]
-fn read_hex(count: usize, text: &[u8], bits: &mut BitBuf) -> Result<(), usize>
-    requires { count ≤ 19696 }
+fn read_hex(
+    count: usize,
+    text: &[u8],
+    piece: &mut BitBuf,
+    deframer: &mut Deframer,
+) -> Result<(), usize>
+    requires most { count ≤ 19696 }
+    requires begun { taken_of deframer.old ≡ 0 }
     ensures fault { result_err result ≡ hex_fault count text.now }
-    ensures bits { OnOk result (bits.new ≡ hex_bits count text.now) }
+    ensures bits { IsFed [] deframer.old → OnOk result (IsFed (hex_bits count text.now) deframer.new) }
     ensures bound { IfErr result (λ place. place ≤ length text.now) }
 {
-    if let Some(place) = hex_fault(count, text) {
-        return Err(place);
+    match hex_fault(count, text) {
+        Some(place) => Err(place),
+        None => {
+            if count > 0 {
+                feed_digits(text, count, piece, deframer);
+            }
+            Ok(())
+        },
     }
-    set_bits(hex_digits(count, text), bits);
-    bits.cut(count);
-    Ok(())
 }
 
-// Reads COUNT HEX.
+// Reads COUNT HEX, and feeds the bits.
 #[tactic(auto, unfolding(crate::specs::Line::numbers_fault, crate::specs::Line::numbers_bits))]
-fn read_numbers(text: &[u8], bits: &mut BitBuf) -> Result<(), usize>
+fn read_numbers(text: &[u8], piece: &mut BitBuf, deframer: &mut Deframer) -> Result<(), usize>
+    requires { taken_of deframer.old ≡ 0 }
     ensures fault { result_err result ≡ numbers_fault text.now }
-    ensures bits { OnOk result (bits.new ≡ numbers_bits text.now) }
+    ensures bits { IsFed [] deframer.old → OnOk result (IsFed (numbers_bits text.now) deframer.new) }
     ensures bound { IfErr result (λ place. place ≤ length text.now) }
 {
     let (begin, count) = read_count(text)?;
-    match read_hex(count, &text[begin..], bits) {
+    match read_hex(count, &text[begin..], piece, deframer) {
         Ok(()) => Ok(()),
         Err(place) => Err(begin + place),
     }
 }
 
-/// Replaces the bits by those that a line gives, and answers its kind. The error is the place, from 0 on, of the first
-/// byte of the line that can't stand; then the bits are of no use.
+/// Feeds the bits that a line gives, a byte at a time, and returns its kind. The error is the place, from 0 on, of the first
+/// byte of the line that can't stand.
 #[tactic(auto, unfolding(crate::specs::Line::line_fault, crate::specs::Line::fault_by, crate::specs::Line::line_bits, crate::specs::Line::bits_by))]
-pub fn read_line(line: &[u8], bits: &mut BitBuf) -> Result<LineKind, usize>
+pub fn read_line(
+    line: &[u8],
+    piece: &mut BitBuf,
+    deframer: &mut Deframer,
+) -> Result<LineKind, usize>
+    requires { taken_of deframer.old ≡ 0 }
     ensures fault { result_err result ≡ line_fault line.now }
     ensures kind { IfOk result (λ kind. kind_of line.now ≡ Some kind) }
-    ensures bits { OnOk result (bits.new ≡ line_bits line.now) }
+    ensures bits { IsFed [] deframer.old → OnOk result (IsFed (line_bits line.now) deframer.new) }
     ensures bound { IfErr result (λ place. place ≤ length line.now) }
 {
     let kind = match kind_of(line) {
@@ -256,7 +223,7 @@ pub fn read_line(line: &[u8], bits: &mut BitBuf) -> Result<LineKind, usize>
         Err(place) => return Err(place),
     };
     let begin = kind_len(kind);
-    match read_numbers(&line[begin..], bits) {
+    match read_numbers(&line[begin..], piece, deframer) {
         Ok(()) => Ok(kind),
         Err(place) => Err(begin + place),
     }

@@ -1,5 +1,5 @@
 // `show`: what lines of frames say.
-ghost use Rattle.std.specs.Prelude.{◌≡◌, ◌≤◌, ◌++◌, length, slice_index, drop, IfOk, OnOk, codes, decimal};
+ghost use Rattle.std.specs.Prelude.{◌≡◌, ◌≤◌, Bool, List, [], ◌++◌, length, slice_index, drop, IfOk, OnOk, codes, decimal};
 ghost use Rattle.sercos_show.specs.Show.{layout_text, layout_or, mst_text, single_text, at_text, wanted_address, wanted_len, content_text, refusal_text, frame_text, show_answer};
 ghost use Rattle.sercos_answer.specs.Answer.{line_feed, refused_text};
 ghost use Rattle.hex.specs.Hex.{encode_lower};
@@ -7,12 +7,13 @@ ghost use Rattle.sercos_telegram.specs.Faults.{mst_fault, single_fault, at_fault
 ghost use Rattle.sercos_telegram.specs.Spells.{word_at};
 ghost use Rattle.sercos_telegram.specs.Words.{control_of, status_of};
 ghost use Rattle.sercos_hdlc.specs.Reason.{reason_of};
+ghost use Rattle.sercos_hdlc.specs.Fed.{taken_of, IsFed};
 
 use crate::line::{LineKind, read_line};
 use crate::text::{push_at, push_hex, push_layout, push_mst, push_refusal, push_single};
 use sercos_answer::{Reply, cut_line, push_number, push_text};
 use sercos_bits::{BitBuf, Content};
-use sercos_hdlc::{BadFrame, unframe};
+use sercos_hdlc::{BadFrame, Deframer};
 use sercos_io::Status;
 use sercos_telegram::{Layout, read_at, read_mst, read_single};
 use std::alloc::{AllocError, Global};
@@ -155,17 +156,20 @@ fn push_error(bad: BadFrame, out: &mut Vec<u8>) -> Result<(), AllocError>
     push_text("\n", out)
 }
 
-// Appends the answer to a line of a kind and of these bits.
+// Appends the answer to a line of a kind whose bits have been taken. Then the reader begins anew.
 #[tactic(auto, unfolding(crate::specs::Show::frame_text))]
 fn push_answer(
     kind: LineKind,
-    bits: &BitBuf,
+    deframer: &mut Deframer,
     content: &mut Content,
     out: &mut Vec<u8>,
 ) -> Result<(), AllocError>
-    ensures { OnOk result (out.new.items ≡ out.old.items ++ frame_text kind bits.now (reason_of bits.now)) }
+    ensures text { (bits : List Bool) → IsFed bits deframer.old
+        → OnOk result (out.new.items ≡ out.old.items ++ frame_text kind bits (reason_of bits)) }
+    ensures anew { IsFed [] deframer.new }
+    ensures taken { taken_of deframer.new ≡ 0 }
 {
-    match unframe(bits, content) {
+    match deframer.finish(content) {
         Ok(_) => push_content_line(kind, content.as_slice(), out),
         Err(bad) => push_error(bad, out),
     }
@@ -176,15 +180,16 @@ pub fn show(alloc: Global, text: &[u8]) -> Result<Reply, AllocError>
     ensures status { IfOk result (λ reply. reply.status ≡ (show_answer text.now).status) }
     ensures text { IfOk result (λ reply. reply.text.items ≡ (show_answer text.now).output) }
 {
-    let mut bits = BitBuf::new();
+    let mut piece = BitBuf::new();
+    let mut deframer = Deframer::new();
     let mut content = Content::new();
     let mut answers = Vec::new(alloc);
     let mut rest = text;
     let mut number = 1u64;
     while !rest.is_empty() {
         let (line, others) = cut_line(rest);
-        match read_line(line, &mut bits) {
-            Ok(kind) => push_answer(kind, &bits, &mut content, &mut answers)?,
+        match read_line(line, &mut piece, &mut deframer) {
+            Ok(kind) => push_answer(kind, &mut deframer, &mut content, &mut answers)?,
             Err(place) => return refusal(alloc, number, place as u64 + 1),
         }
         rest = others;

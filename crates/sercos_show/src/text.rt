@@ -1,5 +1,5 @@
 // The texts of the answers of `show`, appended to what is written in the end.
-ghost use Rattle.std.specs.Prelude.{◌≡◌, ◌++◌, OnOk, codes, decimal, length, ◌≤◌};
+ghost use Rattle.std.specs.Prelude.{◌≡◌, ◌*◌, ◌++◌, OnOk, codes, decimal, length, take, drop, ◌≤◌};
 ghost use Rattle.hex.specs.Hex.{encode_lower};
 ghost use Rattle.sercos_show.specs.Show.{word_text, bit_text, two_bits, bit_and_number, two_words, data_text, layout_text, mst_text, single_text, at_text, refusal_text};
 
@@ -20,6 +20,7 @@ pub fn push_word(word: u16, out: &mut Vec<u8>) -> Result<(), AllocError>
 }
 
 // Appends a text and a number.
+#[inline(always)]
 fn push_place(text: &str, place: u64, out: &mut Vec<u8>) -> Result<(), AllocError>
     ensures { OnOk result (out.new.items ≡ out.old.items ++ text.now ++ decimal place) }
 {
@@ -28,6 +29,7 @@ fn push_place(text: &str, place: u64, out: &mut Vec<u8>) -> Result<(), AllocErro
 }
 
 // Appends a bit.
+#[inline(always)]
 fn push_bit(bit: bool, out: &mut Vec<u8>) -> Result<(), AllocError>
     ensures { OnOk result (out.new.items ≡ out.old.items ++ bit_text bit) }
 {
@@ -36,6 +38,7 @@ fn push_bit(bit: bool, out: &mut Vec<u8>) -> Result<(), AllocError>
 
 // Appends two bits, each after its name.
 #[tactic(auto, unfolding(crate::specs::Show::two_bits))]
+#[inline(always)]
 fn push_bits(
     first: &str,
     a: bool,
@@ -53,6 +56,7 @@ fn push_bits(
 
 // Appends a bit and a number, each after its name.
 #[tactic(auto, unfolding(crate::specs::Show::bit_and_number))]
+#[inline(always)]
 fn push_bit_and_number(
     first: &str,
     bit: bool,
@@ -71,6 +75,7 @@ fn push_bit_and_number(
 
 // Appends two words, each after its name.
 #[tactic(auto, unfolding(crate::specs::Show::two_words))]
+#[inline(always)]
 fn push_words(
     first: &str,
     a: u16,
@@ -105,15 +110,36 @@ pub fn push_refusal(bad: BadFrame, out: &mut Vec<u8>) -> Result<(), AllocError>
     }
 }
 
-/// Appends bytes in hexadecimal digits.
+// Appends at most 32 bytes in hexadecimal digits, by room for the digits of these.
+fn push_some(bytes: &[u8], room: &mut [u8], out: &mut Vec<u8>) -> Result<(), AllocError>
+    requires { 2 * length bytes.now ≤ length room.old }
+    ensures { OnOk result (out.new.items ≡ out.old.items ++ encode_lower bytes.now) }
+{
+    let text = &mut room[..2 * bytes.len()];
+    hex::encode_to_slice(bytes, text).unwrap();
+    out.extend_from_slice(text)
+}
+
+// As many bytes of these from a place on as there are, at most 32.
+fn some_from(bytes: &[u8], place: usize) -> &[u8]
+    requires { place ≤ length bytes.now }
+    ensures value { result.now ≡ take 32 (drop place bytes.now) }
+    ensures few { length result.now ≤ 32 }
+{
+    let end = (place + 32).min(bytes.len());
+    &bytes[place..end]
+}
+
+/// Appends bytes in hexadecimal digits, 32 of them at a time.
 pub fn push_hex(bytes: &[u8], out: &mut Vec<u8>) -> Result<(), AllocError>
     requires { length bytes.now ≤ 2048 }
     ensures { OnOk result (out.new.items ≡ out.old.items ++ encode_lower bytes.now) }
 {
-    let mut digits = [0u8; 4096];
-    let text = &mut digits[..2 * bytes.len()];
-    hex::encode_to_slice(bytes, text).unwrap();
-    out.extend_from_slice(text)
+    let mut room = [0u8; 64];
+    for turn in 0..bytes.len().div_ceil(32) {
+        push_some(some_from(bytes, 32 * turn), &mut room, out)?;
+    }
+    Ok(())
 }
 
 // Appends bytes in hexadecimal digits, or `-` where there are none.

@@ -1,15 +1,14 @@
 -- The procedure commands of a drive stand for the calls on them, through all cycles of a run. So what is kept of a check tells whether it
 -- counts as passed.
-use Rattle.std.proofs.Common.{◌≡◌, ℕ, suc, ◌+◌, ◌≤◌, ◌==◌, nat_le, Bool, true, false, cond, ◌&&◌, ◌||◌, List, [], ◌∷◌, length, min, Option, Some, None, is_none, refl, ◌∙◌, arith, ap, sym, if◌then◌else◌}
+use Rattle.std.proofs.Common.{◌≡◌, ℕ, suc, ◌+◌, ◌≤◌, ◌==◌, nat_le, Bool, true, false, ◌&&◌, List, [], ◌∷◌, length, Option, Some, None, refl, ◌∙◌, arith, ap, sym, if◌then◌else◌}
 use Rattle.std.specs.Prelude.{IfSome}
 use Rattle.std.proofs.lemmas.Bool.{le-leb}
-use Rattle.std.proofs.lemmas.Bool.Decides.{nat_tests}
 use mathlib.Core.Bool.{beq}
 use Rattle.sercos_block.specs.declared.block.Block.{Block}
 use Rattle.sercos_block.specs.Stores.{with_data}
 use Rattle.sercos_block.specs.Views.{DriveView, RingView}
-use Rattle.sercos_command.specs.Settings.{CommandsView, find_set, is_command, ends_well, is_from, from_setting, from_cancel, from_write, with_write, without_checks, without_settings}
-use Rattle.sercos_command.specs.Calls.{Call, Wrote, Other, Reset, settings, is_passed, newest, CommandsStandFor}
+use Rattle.sercos_command.specs.Settings.{CommandsView, is_command, is_from, with_write, without_checks, without_settings}
+use Rattle.sercos_command.specs.Calls.{Call, Wrote, Other, Reset, newest, CommandsStandFor}
 use Rattle.sercos_service_drive.specs.Log.{Taken, ahs, record_of}
 use Rattle.sercos_service_drive.specs.Replies.{reply_of, log_of}
 use Rattle.sercos_service_drive.specs.Writes.{Write, setting_in, added_by, adds, added_on, commands_with, calls_with}
@@ -22,58 +21,7 @@ use Rattle.sercos_script.specs.Links.{Carry, Restarts}
 use Rattle.sercos_journal.specs.Records.{mdt_in}
 use Rattle.sercos_journal.specs.Runs.{drive_at, with_restart, mdt_heard, given_before, given_mst}
 use Rattle.sercos_undisturbed.proofs.LogLeaves.{added_cycle}
-use Rattle.sercos_command.proofs.CallLemmas.{by_write}
-
-or_false : (b : Bool) → b ≡ (b || false)
-or_false true = refl
-or_false false = refl
-
-passed_written : (v : CommandsView) (rate time check raw value cycle : ℕ) (blocks : List Block) (h : List Call) (first : Option ℕ) (at : ℕ)
-    → v.rate ≡ rate → v.time ≡ time → v.set ≡ settings rate h → newest h ≤ cycle → cycle ≤ at
-    → ((c : ℕ) → newest h ≤ c → is_from first c ≡ is_passed rate time check h c)
-    → is_from (from_write v check raw value cycle blocks first) at ≡ is_passed rate time check (Wrote raw value cycle blocks ∷ h) at
-passed_written v rate time check raw value cycle blocks h first at r t s order late known = by (raw == check) refl
-  where
-    by : (same : Bool) → (raw == check) ≡ same
-        → is_from (cond same (cond (value == 0) (from_cancel cycle first) (cond (is_none (find_set raw v.set) && ends_well v.rate raw blocks) (from_setting (cycle + v.time) first) first)) first) at
-        ≡ cond same (cond (value == 0) (is_passed rate time check h (min at cycle))
-        ((is_none (find_set check (settings rate h)) && (ends_well rate check blocks && nat_le (cycle + time) at)) || is_passed rate time check h at)) (is_passed rate time check h at)
-    by true e =
-        let same : raw ≡ check = grind (arith, nat_tests) in
-        let before : newest h ≤ min at cycle = omega arith in
-        rw (same, r, t, s) (by_write (value == 0) (is_none (find_set check (settings rate h))) (ends_well rate check blocks) at cycle time first _ _ late (known at (omega arith)) (known (min at cycle) before))
-    by false e = known at (omega arith)
-
-stands_written : (v : CommandsView) (raw value cycle : ℕ) (blocks : List Block) (rate time : ℕ) (h : List Call) → CommandsStandFor v rate time h → newest h ≤ cycle → CommandsStandFor (with_write raw value cycle blocks v) rate time (Wrote raw value cycle blocks ∷ h)
-unfolding with_write
-stands_written v raw value cycle blocks rate time h s order = record {
-  rate_is = s.rate_is;
-  time_is = s.time_is;
-  in_order = (s.in_order, order);
-  set_is = rw (s.set_is, s.rate_is) refl;
-  passed_127_is = λ at late. passed_written v rate time 127 raw value cycle blocks h v.passed_127 at s.rate_is s.time_is s.set_is order late s.passed_127_is;
-  passed_128_is = λ at late. passed_written v rate time 128 raw value cycle blocks h v.passed_128 at s.rate_is s.time_is s.set_is order late s.passed_128_is;
-}
-
-stands_other : (v : CommandsView) (cycle rate time : ℕ) (h : List Call) → CommandsStandFor v rate time h → newest h ≤ cycle → CommandsStandFor (without_checks v) rate time (Other cycle ∷ h)
-stands_other v cycle rate time h s order = record {
-  rate_is = s.rate_is;
-  time_is = s.time_is;
-  in_order = (s.in_order, order);
-  set_is = s.set_is;
-  passed_127_is = λ _ _. refl;
-  passed_128_is = λ _ _. refl;
-}
-
-stands_reset : (v : CommandsView) (rate time : ℕ) (h : List Call) → CommandsStandFor v rate time h → CommandsStandFor (without_settings v) rate time (Reset ∷ h)
-stands_reset v rate time h s = record {
-  rate_is = s.rate_is;
-  time_is = s.time_is;
-  in_order = (s.in_order, omega arith);
-  set_is = refl;
-  passed_127_is = λ _ _. refl;
-  passed_128_is = λ _ _. refl;
-}
+use Rattle.sercos_command.proofs.CallLemmas.{stands_written, stands_other, stands_reset}
 
 -- Commands stand for calls, of which none was for a later cycle than this.
 pub record StandBy (c : CommandsView) (rate time : ℕ) (h : List Call) (cycle : ℕ) : Type 0 where
@@ -84,7 +32,7 @@ in_phase : (phase : ℕ) (c : CommandsView) (rate time : ℕ) (h : List Call) (c
 in_phase phase c rate time h cycle s = by (phase == 0)
   where
     by : (zero : Bool) → StandBy (if zero then without_settings c else c) rate time (if zero then Reset ∷ h else h) cycle
-    by true = record { stand = stands_reset c rate time h s.stand; order = s.order }
+    by true = record { stand = stands_reset refl rate time h s.stand; order = s.order }
     by false = s
 
 with_one : (o : Option Write) (blocks : List Block) (c : CommandsView) (rate time : ℕ) (h : List Call) (cycle : ℕ) → IfSome o (λ w. w.cycle ≡ cycle) → StandBy c rate time h cycle → StandBy (commands_with o blocks c) rate time (calls_with o blocks h) cycle
@@ -99,8 +47,8 @@ with_one (Some w) blocks c rate time h cycle at s = by (is_command blocks w.raw)
 
     by : (b : Bool) → StandBy (if b then with_write w.raw (setting_in w) w.cycle (with_data w.raw w.bytes blocks) c else without_checks c) rate time
         ((if b then Wrote w.raw (setting_in w) w.cycle (with_data w.raw w.bytes blocks) else Other w.cycle) ∷ h) cycle
-    by true = record { stand = stands_written c w.raw (setting_in w) w.cycle (with_data w.raw w.bytes blocks) rate time h s.stand order; order = late }
-    by false = record { stand = stands_other c w.cycle rate time h s.stand order; order = late }
+    by true = record { stand = stands_written w.raw (setting_in w) w.cycle (with_data w.raw w.bytes blocks) refl rate time h s.stand order; order = late }
+    by false = record { stand = stands_other w.cycle refl rate time h s.stand order; order = late }
 
 -- the write of a record is in its cycle
 record_cycle : (t : Taken) (h : List Taken) → IfSome (added_on t h) (λ w. w.cycle ≡ t.cycle)
@@ -135,7 +83,7 @@ keeps_record d rate (Some told) past cycle now s = by (has_mst past && nat_le 2 
     by false = s
 
 keeps_restart : (d : DriveView) (rate : ℕ) (restarts : Bool) (calls : List DriveCall) (cycle : ℕ) → Keeps d rate (annals d rate calls) cycle → Keeps d rate (annals d rate (with_restart restarts calls)) cycle
-keeps_restart d rate true calls cycle s = record { stand = stands_reset (commands_in d rate (annals d rate calls)) rate d.command (calls_in (annals d rate calls)) s.stand; order = s.order }
+keeps_restart d rate true calls cycle s = record { stand = stands_reset refl rate d.command (calls_in (annals d rate calls)) s.stand; order = s.order }
 keeps_restart d rate false calls cycle s = s
 
 later : (c : CommandsView) (rate time : ℕ) (h : List Call) (cycle : ℕ) → StandBy c rate time h cycle → StandBy c rate time h (suc cycle)

@@ -43,6 +43,31 @@ same_count status word begun = by (answers_it begun status) begun
     by true (b ∷ l) = refl
     by false l = refl
 
+-- an AT leaves the number of requests of each channel
+pub at_leaves_count : (i : ℕ) (content : List ℕ) (p : Past) (k : ℕ) → length (begun_by ((after_taken i content p).calls k)) ≡ length (begun_by (p.calls k))
+at_leaves_count i content p k = elim (cases_eq k i) [
+  | inl same ↦ subst (λ (n : ℕ). length (begun_by ((after_taken i content p).calls n)) ≡ length (begun_by (p.calls n))) (sym same) (heard (here_hears i content p))
+  | inr other ↦ ap (λ (l : List Begun). length l) (elsewhere_same i k content p other)
+]
+  where
+    heard : AtHears p (after_taken i content p) i → length (begun_by ((after_taken i content p).calls i)) ≡ length (begun_by (p.calls i))
+    heard (SameAt same) = ap (λ (l : List Begun). length l) same
+    heard (HeardAt status word same) = ap (λ (l : List Begun). length l) same ∙ same_count status word (begun_by (p.calls i))
+
+-- up to phase 2 a request begins only where its drive has its turn
+pub begins_in_turn : (s : Known) (p : Past) (k : ℕ) (t : Task) → p.now.phase ≤ 2 → begins s p k ≡ Some t → in_turn s p ≡ Some k
+begins_in_turn s p k t low some = by (is_none p.stop && (is_idle p k && has_turn s p k)) refl some
+  where
+    by : (v : Bool) → (is_none p.stop && (is_idle p k && has_turn s p k)) ≡ v → (if v then of_phase p.now.phase (next_task s p k) else None) ≡ Some t → in_turn s p ≡ Some k
+    by false off got = absurd (cc)
+    by true on got =
+        let rest = (and_parts (is_none p.stop) _ on).1 in
+        let has = (and_parts (is_idle p k) _ rest).1 in
+        elim (or_cases (nat_le 3 p.now.phase) ((p.now.phase == 2) && is_place k (in_turn s p)) has) [
+          | inl late ↦ let three = leb-true 3 p.now.phase late in absurd (omega (arith, three, low))
+          | inr same ↦ place_so k (in_turn s p) (and_parts (p.now.phase == 2) _ same).1
+        ]
+
 -- THE FIRST PLACE: those before it fail the test.
 pub before_first : (k n : ℕ) (test : ℕ → Bool) (i : ℕ) → first_from k n test ≡ Some i → (j : ℕ) → k ≤ j → j < i → test j ≡ false
 before_first k zero test i found j from low = absurd (cc)
@@ -74,17 +99,7 @@ module _ (tasks : BeginsTasks) (early : BeginsNoneEarly) (s : Known) (requests :
   taken_order : (i : ℕ) (content : List ℕ) (p : Past) → AreInOrder p → AreInOrder (after_taken i content p)
   taken_order i content p have two k there more j low =
       let adds = at_adds i content p j in
-      ap (is_checked (member s j)) adds.1 ∙ checked_stays (member s j) (outcomes p j) adds.0 (have two k there (omega (arith, more, count)) j low)
-    where
-      heard : AtHears p (after_taken i content p) i → length (begun_by ((after_taken i content p).calls i)) ≡ length (begun_by (p.calls i))
-      heard (SameAt same) = ap (λ (l : List Begun). length l) same
-      heard (HeardAt status word same) = ap (λ (l : List Begun). length l) same ∙ same_count status word (begun_by (p.calls i))
-
-      count : length (begun_by ((after_taken i content p).calls k)) ≡ length (begun_by (p.calls k))
-      count = elim (cases_eq k i) [
-        | inl same ↦ subst (λ (n : ℕ). length (begun_by ((after_taken i content p).calls n)) ≡ length (begun_by (p.calls n))) (sym same) (heard (here_hears i content p))
-        | inr other ↦ ap (λ (l : List Begun). length l) (elsewhere_same i k content p other)
-      ]
+      ap (is_checked (member s j)) adds.1 ∙ checked_stays (member s j) (outcomes p j) adds.0 (have two k there (let same = at_leaves_count i content p k in omega (arith, more, same)) j low)
 
   -- THE MDT
   mdt_order : (h : List Call) → AreInOrder (past s requests h) → AreInOrder (past s requests (Mdt ∷ h))
@@ -131,18 +146,7 @@ module _ (tasks : BeginsTasks) (early : BeginsNoneEarly) (s : Known) (requests :
           read = ap (is_read (member s k)) (same_outs k) ∙ le-leb (reads_count (member s k)) (length (outcomes (past s requests h) k)) many
 
           turn : in_turn s (settled s (past s requests h)) ≡ Some k
-          turn = which (is_none (settled s (past s requests h)).stop && (is_idle (settled s (past s requests h)) k && has_turn s (settled s (past s requests h)) k)) refl some
-            where
-              which : (v : Bool) → (is_none (settled s (past s requests h)).stop && (is_idle (settled s (past s requests h)) k && has_turn s (settled s (past s requests h)) k)) ≡ v
-                  → (if v then of_phase (settled s (past s requests h)).now.phase (next_task s (settled s (past s requests h)) k) else None) ≡ Some t → in_turn s (settled s (past s requests h)) ≡ Some k
-              which false off got = absurd (cc)
-              which true on got =
-                  let rest = (and_parts (is_none (settled s (past s requests h)).stop) _ on).1 in
-                  let has = (and_parts (is_idle (settled s (past s requests h)) k) _ rest).1 in
-                  elim (or_cases (nat_le 3 (settled s (past s requests h)).now.phase) (((settled s (past s requests h)).now.phase == 2) && is_place k (in_turn s (settled s (past s requests h)))) has) [
-                    | inl late ↦ let three = leb-true 3 (settled s (past s requests h)).now.phase late in let same = (leaves s (past s requests h)).phase in let is_two = before in absurd (omega (arith, three, same, is_two))
-                    | inr same ↦ place_so k (in_turn s (settled s (past s requests h))) (and_parts ((settled s (past s requests h)).now.phase == 2) _ same).1
-                  ]
+          turn = begins_in_turn s (settled s (past s requests h)) k t (let same = (leaves s (past s requests h)).phase in let is_two = before in omega (arith, same, is_two)) some
 
   -- THE END OF A CYCLE
   end_order : (h : List Call) → AreInOrder (past s requests h) → AreInOrder (past s requests (End ∷ h))

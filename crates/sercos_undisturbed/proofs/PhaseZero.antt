@@ -1,7 +1,6 @@
 -- While phase 0 is commanded, at most nine MSTs in a row came back, no drive is identified, nothing was begun, and there is no stop.
-use Rattle.std.proofs.Common.{◌≡◌, ℕ, zero, suc, ◌+◌, ◌≤◌, ◌||◌, Bool, true, false, not, ◌&&◌, List, [], ◌∷◌, length, Option, None, refl, sym, ◌∙◌, ap, subst, arith, if◌then◌else◌}
+use Rattle.std.proofs.Common.{◌≡◌, ℕ, zero, suc, ◌+◌, ◌<◌, ◌≤◌, ◌||◌, Bool, true, false, not, ◌&&◌, List, [], ◌∷◌, length, Option, None, refl, sym, ◌∙◌, ap, subst, arith, if◌then◌else◌}
 use Rattle.std.specs.Prelude.{◌==◌, nat_le, is_none, is_some}
-use Rattle.std.specs.Option.{option_or}
 use Rattle.std.proofs.lemmas.Bool.{false≢true}
 use Rattle.std.proofs.lemmas.Bool.Decides.{nat_tests}
 use Rattle.sercos_step.specs.declared.request.Job.{Job}
@@ -11,7 +10,7 @@ use Rattle.sercos_trace.specs.declared.events.Stop.{Stop}
 use Rattle.sercos_seat.specs.Channel.{is_place, last_outcome, of_phase, trouble_by}
 use Rattle.sercos_seat.specs.Ring.{Known, Task, known_of, member}
 use Rattle.sercos_service_master.specs.Calls.{begun_by}
-use Rattle.sercos_master.specs.Annals.{Past, Turn, Restart, first_place, first_trouble_from, with_stop, with_due_plan, planned_by, all_read, settled, begins, in_turn, is_idle, next_task, with_task, addressed_before, addressed_in, ready_to_send, has_identified, is_identified, whole_row, is_done, is_done_in, next_phase, goes_on, new_epoch, still_waiting, fall_of, after_at, after_mdt}
+use Rattle.sercos_master.specs.Annals.{Past, Turn, Restart, first_place, first_trouble, first_trouble_from, trouble, with_stop, with_due_plan, planned_by, all_read, settled, begins, in_turn, is_idle, next_task, with_task, addressed_before, addressed_in, ready_to_send, has_identified, is_identified, whole_row, is_done, is_done_in, next_phase, goes_on, new_epoch, still_waiting, fall_of, after_at, after_mdt}
 use Rattle.sercos_script.specs.Links.{Carry, Restarts}
 use Rattle.sercos_journal.specs.Records.{mst_in, ats_in}
 use Rattle.sercos_journal.specs.Runs.{begins as begins_cycle, own_mst, master_calls, looks_back}
@@ -44,13 +43,15 @@ pub none_addressed : (s : Known) (p : Past) → (after_mdt s p).now.phase ≡ 0 
 none_addressed s p zero_is = none_at_zero s (ready_to_send s p) zero_is
 
 -- THE MDT changes nothing: where nothing was begun there is no trouble, no plan is due, and no request is begun.
-no_trouble_from : (s : Known) (p : Past) → ((k : ℕ) → p.tasks k ≡ []) → (k n : ℕ) → first_trouble_from s p k n ≡ None
-no_trouble_from s p none k zero = refl
-no_trouble_from s p none k (suc n) =
-    ap (λ (l : List Task). option_or (trouble_by (member s k).address l (last_outcome (begun_by (p.calls k)))) (first_trouble_from s p (k + 1) n)) (none k) ∙ no_trouble_from s p none (k + 1) n
+pub none_first : (s : Known) (p : Past) (k n : ℕ) → ((i : ℕ) → i < k + n → trouble s p i ≡ None) → first_trouble_from s p k n ≡ None
+none_first s p k zero each = refl
+none_first s p k (suc n) each = let here : trouble s p k ≡ None = each k (omega arith) in rw here (none_first s p (k + 1) n (λ i low. each i (omega (arith, low))))
+
+no_trouble : (s : Known) (p : Past) → ((k : ℕ) → p.tasks k ≡ []) → first_trouble s p ≡ None
+no_trouble s p none = none_first s p 0 (length s.drives) (λ i low. ap (λ (l : List Task). trouble_by (member s i).address l (last_outcome (begun_by (p.calls i)))) (none i))
 
 settled_zero : (s : Known) (p : Past) → p.now.phase ≡ 0 → ((k : ℕ) → p.tasks k ≡ []) → settled s p ≡ p
-settled_zero s p zero_is none = ap (λ (o : Option Stop). with_due_plan s (with_stop o p)) (no_trouble_from s p none 0 (length s.drives)) ∙ by (p.now.phase == 2) (ap (λ (n : ℕ). n == 2) zero_is)
+settled_zero s p zero_is none = ap (λ (o : Option Stop). with_due_plan s (with_stop o p)) (no_trouble s p none) ∙ by (p.now.phase == 2) (ap (λ (n : ℕ). n == 2) zero_is)
   where
     by : (two : Bool) → two ≡ false → (if two && (is_none p.stop && (is_none p.plan && all_read s p)) then planned_by s p else p) ≡ p
     by true off = absurd (false≢true (sym off))

@@ -3,6 +3,7 @@ use Rattle.std.proofs.Common.{◌≡◌, ℕ, zero, suc, ◌+◌, Bool, false, L
 use Rattle.std.specs.Prelude.{slice_index}
 use Rattle.sercos_block.specs.Views.{RingView}
 use Rattle.sercos_trace.specs.Views.{CycleView, SentView}
+use Rattle.sercos_telegram.specs.declared.layout.Kind.{Kind}
 use Rattle.sercos_telegram.specs.declared.layout.Kind.TheVariants as kinds
 use Rattle.sercos_script.specs.Links.{Carry, IsQuiet, Restarts}
 use Rattle.sercos_script.specs.declared.link.Passage.{Passage}
@@ -17,9 +18,9 @@ none_is : (n : ℕ) (f : ℕ → Bool) → ((k : ℕ) → f k ≡ false) → any
 none_is zero f off = refl
 none_is (suc n) f off = rw (none_is n f off, off n) refl
 
-module _ (carry : Carry) (cycle : ℕ) (quiet : IsQuiet carry cycle) where
+module _ (carry : Carry) (cycle : ℕ) (quiet : (kind : Kind) (from : ℕ) → IsQuiet carry cycle kind from) where
   at_rest : (p : Passage) (content : List ℕ) → p.cycle ≡ cycle → disturbed_at carry p content ≡ false
-  at_rest p content in_cycle = rw (quiet p (frame_of content) in_cycle, are_same-refl (frame_of content)) refl
+  at_rest p content in_cycle = rw (quiet p.kind p.from p (frame_of content) in_cycle refl refl, are_same-refl (frame_of content)) refl
 
   ats_at_rest : (r : RingView) (ats : List (List ℕ)) → disturbs_ats r carry cycle ats ≡ false
   ats_at_rest r [] = refl
@@ -38,6 +39,6 @@ module _ (carry : Carry) (cycle : ℕ) (quiet : IsQuiet carry cycle) where
     none_is (length r.drives) (disturbs_mdt carry cycle (mdt_in sent)) (mdt_at_rest (mdt_in sent)),
   ) refl
 
-pub quiet_runs : (r : RingView) (carry : Carry) (restarts : Restarts) (j : List CycleView) → ((cycle : ℕ) → IsQuiet carry cycle) → ((cycle station : ℕ) → restarts cycle station ≡ false) → NeverDisturbed r carry restarts j
+pub quiet_runs : (r : RingView) (carry : Carry) (restarts : Restarts) (j : List CycleView) → ((cycle : ℕ) (kind : Kind) (from : ℕ) → IsQuiet carry cycle kind from) → ((cycle station : ℕ) → restarts cycle station ≡ false) → NeverDisturbed r carry restarts j
 quiet_runs r carry restarts [] quiet stay = tt
 quiet_runs r carry restarts (t ∷ j) quiet stay = (quiet_runs r carry restarts j quiet stay, cycle_at_rest carry (length j) (quiet (length j)) r restarts t.sent (stay (length j)))

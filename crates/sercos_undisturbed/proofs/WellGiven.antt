@@ -42,7 +42,7 @@ use Rattle.sercos_handshake.proofs.WholeRuns.{HasReplies, answered_replies, entr
 use Rattle.sercos_journal.specs.Runs.{drive_at, IsRun, IsClear}
 use Rattle.sercos_settings.specs.SetByWrites.{SettingsFollow, commands_left}
 use Rattle.sercos_settings.specs.WellSet.{HaveStores}
-use Rattle.sercos_settings.proofs.CheckRuns.{IsPartAt}
+use Rattle.sercos_settings.proofs.CheckRuns.{IsPartAt, part_at, poll_at, transfer_at}
 use Rattle.sercos_settings.proofs.SetAtPoll.{IsSetAtPoll, set_at_poll}
 use Rattle.sercos_settings.proofs.SetInEpoch.{set_at_entry}
 use Rattle.sercos_settings.proofs.SettingsRuns.{keeps_settings}
@@ -58,7 +58,6 @@ use Rattle.sercos_undisturbed.proofs.OwnSet.{Say, say_written}
 use Rattle.sercos_undisturbed.proofs.RefusedCauses.{check_4, found_4}
 use Rattle.sercos_undisturbed.proofs.SetsFour.{sets_well}
 use Rattle.sercos_undisturbed.proofs.Small.{first_is}
-use Rattle.sercos_settings.proofs.CheckRuns.{part_at}
 
 abbrev pub IsWell : SetCommand → Type 0
 IsWell s = s.well ≡ true
@@ -128,21 +127,15 @@ module _ (sets : SetsAndCancels) (ends : EndsWithStatus) (busy : ℕ) (blocks : 
 
       whole : (e : Entry) (entries : List Entry) → at.part ≡ e ∷ entries → IsRow b e entries → b.answers ≡ replies_of (e ∷ entries) → bytes ≡ 3 ∷ 0 ∷ []
       whole e entries part row answers =
-          let log_is : epoch_log past ≡ at.front ++ ((e ∷ entries) ++ at.rest) = at.split ∙ ap (λ (l : List Entry). at.front ++ (l ++ at.rest)) part in
-          let replies = (split_replies (e ∷ entries) at.rest (split_replies at.front ((e ∷ entries) ++ at.rest) (subst HasReplies log_is (answered_replies (accepted (epoch_taken past))))).1).0 in
-          let alike = (split_blocks blocks (e ∷ entries) at.rest (split_blocks blocks at.front ((e ∷ entries) ++ at.rest) (subst (HaveBlocks blocks) log_is is_epoch.alike)).1).0 in
-          let transfer : IsTransfer b.request blocks e entries at.rest = record { steps = row.steps; in_turn = row.in_turn; goes_on = row.goes_on; replies = replies; alike = alike } in
+          let transfer = transfer_at blocks (epoch_log past) b at e entries (answered_replies (accepted (epoch_taken past))) is_epoch.alike part row in
           gives_3 e entries at.rest bytes (subst (λ (r : Request). IsTransfer r blocks e entries at.rest) asks transfer)
           (sym (ap₂ (λ (r : Request) (h : List _). outcome_of r h) asks answers) ∙ complete)
-          (λ poll before behind. entry_says (Say IsWell) (at.front ++ e ∷ []) poll ((before ++ at.rest) ++ entries_ago past) (subst (EntriesSay (Say IsWell)) (in_all log_is poll before behind) say))
-          (λ poll before behind newest. set_at_entry 128 busy past (at.front ++ e ∷ []) poll (before ++ at.rest) (3 ∷ 0 ∷ []) run follow have (at_poll log_is poll before behind) newest refl)
+          (λ poll before behind. entry_says (Say IsWell) (at.front ++ e ∷ []) poll ((before ++ at.rest) ++ entries_ago past) (subst (EntriesSay (Say IsWell)) (in_all part poll before behind) say))
+          (λ poll before behind newest. set_at_entry 128 busy past (at.front ++ e ∷ []) poll (before ++ at.rest) (3 ∷ 0 ∷ []) run follow have (poll_at (epoch_log past) b at e entries part poll before behind) newest refl)
         where
-          at_poll : epoch_log past ≡ at.front ++ ((e ∷ entries) ++ at.rest) → (poll : Entry) (before : List Entry) → entries ≡ poll ∷ before → epoch_log past ≡ (at.front ++ e ∷ []) ++ poll ∷ (before ++ at.rest)
-          at_poll log_is poll before behind = log_is ∙ ap (λ (l : List Entry). at.front ++ ((e ∷ l) ++ at.rest)) behind ∙ sym (append_assoc at.front (e ∷ []) (poll ∷ (before ++ at.rest)))
-
-          in_all : epoch_log past ≡ at.front ++ ((e ∷ entries) ++ at.rest) → (poll : Entry) (before : List Entry) → entries ≡ poll ∷ before → all_entries past ≡ (at.front ++ e ∷ []) ++ poll ∷ ((before ++ at.rest) ++ entries_ago past)
-          in_all log_is poll before behind =
-              entries_in_epochs busy past run ∙ ap (λ (l : List Entry). l ++ entries_ago past) (at_poll log_is poll before behind) ∙ append_assoc (at.front ++ e ∷ []) (poll ∷ (before ++ at.rest)) (entries_ago past)
+          in_all : at.part ≡ e ∷ entries → (poll : Entry) (before : List Entry) → entries ≡ poll ∷ before → all_entries past ≡ (at.front ++ e ∷ []) ++ poll ∷ ((before ++ at.rest) ++ entries_ago past)
+          in_all part poll before behind =
+              entries_in_epochs busy past run ∙ ap (λ (l : List Entry). l ++ entries_ago past) (poll_at (epoch_log past) b at e entries part poll before behind) ∙ append_assoc (at.front ++ e ∷ []) (poll ∷ (before ++ at.rest)) (entries_ago past)
 
       of_part : IsPart b at.part → bytes ≡ 3 ∷ 0 ∷ []
       of_part (Unsent none answers) = let on : outcome_of b.request b.answers ≡ None = ap (outcome_of b.request) answers in let both : None ≡ Some (outcome.Complete bytes) = sym on ∙ complete in absurd (cc)

@@ -13,6 +13,7 @@ use Rattle.sercos_trace.specs.Views.{CycleView}
 use Rattle.sercos_trace.specs.declared.events.Stop.{Stop}
 use Rattle.sercos_trace.specs.declared.events.Stop.TheVariants as stop
 use Rattle.sercos_seat.specs.Ring.{Task, known_of, tasks_for}
+use Rattle.sercos_telegram.specs.declared.layout.Kind.{Kind}
 use Rattle.sercos_script.specs.Links.{Carry, IsQuiet, Restarts}
 use Rattle.sercos_handshake.specs.Epochs.{epoch_begun}
 use Rattle.sercos_handshake.specs.Views.{Heard}
@@ -34,7 +35,7 @@ NeverDisturbed r carry restarts (t ∷ j) = NeverDisturbed r carry restarts j ×
 
 -- So it is over links that change nothing, if no station restarts.
 abbrev pub QuietIsUndisturbed : Type 0
-QuietIsUndisturbed = (r : RingView) (carry : Carry) (restarts : Restarts) (j : List CycleView) → ((cycle : ℕ) → IsQuiet carry cycle) → ((cycle station : ℕ) → restarts cycle station ≡ false) → NeverDisturbed r carry restarts j
+QuietIsUndisturbed = (r : RingView) (carry : Carry) (restarts : Restarts) (j : List CycleView) → ((cycle : ℕ) (kind : Kind) (from : ℕ) → IsQuiet carry cycle kind from) → ((cycle station : ℕ) → restarts cycle station ≡ false) → NeverDisturbed r carry restarts j
 
 -- the record of one of these cycles tells the stop
 abbrev pub HasTold : Stop → List CycleView → Type 0

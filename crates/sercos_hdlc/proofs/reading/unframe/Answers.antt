@@ -1,10 +1,11 @@
-use Rattle.sercos_hdlc.proofs.ReasonLemmas.{IsFrame-answer, answer-IsFrame}
+use Rattle.std.proofs.Common.{[]}
 use Rattle.sercos_hdlc.proofs.reading.unframe.Goals as goal
 
-pub returns-clause-frame : goal.returns-clause-frame
-returns-clause-frame c =
-    IsFrame-answer _ _ _ (rw c.as_slice.ensures.value at c.read_or_clear.ensures.reason) (rw c.as_slice.ensures.value at c.read_or_clear.ensures.content)
-
 pub returns-clause-only : goal.returns-clause-only
-returns-clause-only c =
-    λ content. answer-IsFrame _ _ _ content (rw c.as_slice.ensures.value at c.read_or_clear.ensures.reason) (rw c.as_slice.ensures.value at c.read_or_clear.ensures.content) c.read_or_clear.ensures.count
+returns-clause-only c = λ content is. c.finish.ensures.only _ content (c.feed.ensures.fed [] c.new-deframer.ensures.fed) is
+
+pub returns-clause-content : goal.returns-clause-content
+returns-clause-content c = c.finish.ensures.content _ (c.feed.ensures.fed [] c.new-deframer.ensures.fed)
+
+pub returns-clause-reason : goal.returns-clause-reason
+returns-clause-reason c = c.finish.ensures.reason _ (c.feed.ensures.fed [] c.new-deframer.ensures.fed)

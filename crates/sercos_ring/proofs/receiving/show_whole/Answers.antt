@@ -1,6 +1,5 @@
-use Rattle.std.proofs.Common.{rules, ◌≡◌, ◌<◌, List, None, refl, sym, length}
+use Rattle.std.proofs.Common.{rules, refl, sym}
 use Rattle.sercos_model.specs.Frames.{IsFrame}
-use Rattle.sercos_hdlc.specs.Reason.{reason_of, content_of, plain}
 use Rattle.sercos_hdlc.specs.Stuffed.{frame_of}
 use Rattle.sercos_journal.specs.Arrivals.{content_in}
 use Rattle.sercos_ring.proofs.receiving.show_whole.Goals as goal

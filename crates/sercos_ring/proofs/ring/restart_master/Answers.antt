@@ -1,7 +1,6 @@
-use Rattle.std.proofs.Common.{rules, ◌≡◌, ◌≤◌, length, arith, ap, ◌∙◌, subst, sym, true, Bool, List, ◌∷◌, if◌then◌else◌}
+use Rattle.std.proofs.Common.{◌≤◌, length, arith, ap, ◌∙◌, subst, sym, Bool, ◌∷◌, if◌then◌else◌}
 use Rattle.sercos_seat.specs.Ring.{tasks_for}
-use Rattle.sercos_trace.specs.Views.{EventsView}
-use Rattle.sercos_master.specs.Annals.{Call, Restart, past}
+use Rattle.sercos_master.specs.Annals.{Restart, past}
 use Rattle.sercos_master.specs.Any.{AnyStandsFor}
 use Rattle.sercos_master.specs.Reports.{restart_told}
 use Rattle.sercos_ring.proofs.ring.restart_master.Goals as goal

@@ -1,7 +1,6 @@
-use Rattle.std.proofs.Common.{rules, ◌≡◌, ℕ, ◌+◌, ◌≤◌, Bool, true, false, List, [], ◌∷◌, ◌++◌, Option, Some, None, length, refl, ◌∙◌, ap, sym, subst, arith, if◌then◌else◌}
+use Rattle.std.proofs.Common.{◌≡◌, ℕ, ◌+◌, ◌≤◌, Bool, true, false, List, [], ◌∷◌, Option, length, refl, ◌∙◌, ap, sym, subst, if◌then◌else◌}
 use Rattle.std.specs.Prelude.{take}
 use Rattle.std.proofs.lemmas.Bool.{leb-true}
-use Rattle.sercos_step.specs.declared.request.Job.{Job}
 use Rattle.sercos_telegram.specs.declared.layout.Kind.TheVariants as kinds
 use Rattle.sercos_drive.specs.Heard.{DriveCall, Mst, Mdt}
 use Rattle.sercos_drive.specs.Says.{Said}
@@ -15,9 +14,9 @@ use Rattle.sercos_master.specs.Says.{Sent, sent_as, mst_said, mdt_said}
 use Rattle.sercos_master.specs.Reports.{AreOpen, events_told, restart_told}
 use Rattle.sercos_journal.specs.Arrivals.{heard, passage, sum_below, unseen_at}
 use Rattle.sercos_script.specs.Links.{Carry, Restarts}
-use Rattle.sercos_journal.specs.Runs.{drive_at, master_calls, given_before, begin_calls, own_mst, mid_calls, at_calls, at_mst, at_mdt, mdt_heard, with_restart, said_below, contents, content_of, moves_below, unseen_ats, unseen_mst, unseen_mdt, looks_back, no_events, restart_events}
+use Rattle.sercos_journal.specs.Runs.{drive_at, master_calls, given_before, begin_calls, own_mst, mid_calls, at_calls, at_mst, at_mdt, mdt_heard, with_restart, said_below, contents, content_of, moves_below, unseen_ats, unseen_mst, unseen_mdt, looks_back, restart_events}
 use Rattle.sercos_ring.specs.Stations.{AllStand, phases_below, addresses_below, turns_below}
-use Rattle.sercos_ring.specs.Sendings.{said_by, AreSent, AreTurns}
+use Rattle.sercos_ring.specs.Sendings.{said_by, AreSent}
 use Rattle.sercos_journal.proofs.StationLemmas.{few_drives}
 use Rattle.sercos_ring.proofs.TurnsSaid.{turns_said}
 use Rattle.sercos_ring.proofs.RunLemmas.{turned, before_cycle}

@@ -1,11 +1,11 @@
-use Rattle.std.proofs.Common.{rules, ◌≡◌, ℕ, ◌+◌, ◌<◌, ◌≤◌, List, [], ◌∷◌, ◌++◌, length, sym, ◌∙◌, ap, subst, arith}
+use Rattle.std.proofs.Common.{rules, ◌≡◌, ◌+◌, List, [], ◌∷◌, length, ◌∙◌, subst, arith}
 use Rattle.std.specs.Prelude.{take, slice_index_or}
 use Rattle.std.proofs.lemmas.List.{take_all}
 use Rattle.sercos_drive.specs.Says.{Said}
 use Rattle.sercos_script.specs.Links.{Carry}
 use Rattle.sercos_ring.specs.Sendings.{said_by, AreSent, IsTurn}
 use Rattle.sercos_ring.specs.declared.turns.AtTurn.{AtTurn}
-use Rattle.sercos_ring.proofs.SendLemmas.{sent_then, sent_none, said_by-next}
+use Rattle.sercos_ring.proofs.SendLemmas.{sent_then, said_by-next}
 use Rattle.sercos_ring.proofs.sending.send_ats.Goals as goal
 
 pub loop-k-preserved : goal.loop-k-preserved

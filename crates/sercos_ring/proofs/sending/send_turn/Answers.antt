@@ -1,4 +1,4 @@
-use Rattle.std.proofs.Common.{rules, ◌≡◌, ℕ, ◌+◌, ◌<◌, List, ◌∷◌, Some, length, sym, ap, ◌∙◌, slice_index_or, subst}
+use Rattle.std.proofs.Common.{◌≡◌, ℕ, sym, ap, ◌∙◌, slice_index_or, subst}
 use Rattle.sercos_drive.specs.Kept.{DriveState, DriveStandsFor}
 use Rattle.sercos_ring.proofs.sending.send_turn.Goals as goal
 

@@ -1,7 +1,7 @@
 use Rattle.std.proofs.Common.{◌≡◌, ◌+◌, ◌<◌, length, Some, None, sym, ◌∙◌, arith}
 use Rattle.std.proofs.lemmas.Bool.Decides.{nat_tests}
 use Rattle.std.proofs.lemmas.Result.{IfOk-weaker}
-use Rattle.sercos_show.specs.Line.{line_fault}
+use Rattle.sercos_show.specs.Line.{line_fault, line_bits}
 use Rattle.sercos_answer.specs.Lines.{lines_of}
 use Rattle.sercos_show.specs.Show.{first_fault}
 use Rattle.sercos_answer.proofs.CutLemmas.{Cut}
@@ -27,7 +27,13 @@ loop-rest-preserved c =
     let cut : Cut c.loop-rest.rest.now c.cut_line.result.0.now c.cut_line.result.1.now =
     record { some = some; line_is = c.cut_line.ensures.line; others_are = c.cut_line.ensures.rest } in
     let good : line_fault c.cut_line.result.0.now ≡ None = sym c.in-Ok.ensures.fault in
-    (answers-more _ _ _ _ _ _ _ _ cut c.in-Ok.ensures.kind c.in-Ok.ensures.bits c.in_ok-push_answer-in-Ok.ensures c.loop-rest.invariant.0, sym (first_fault-good _ _ _ _ cut good) ∙ c.loop-rest.invariant.1, omega (arith, c.cut_line.ensures.shorter some))
+    let bits = c.in-Ok.ensures.bits c.loop-rest.invariant.3 in (
+      answers-more _ _ _ _ _ _ _ cut c.in-Ok.ensures.kind (c.in_ok-push_answer-in-Ok.ensures.text (line_bits c.cut_line.result.0.now) bits) c.loop-rest.invariant.0,
+      sym (first_fault-good _ _ _ _ cut good) ∙ c.loop-rest.invariant.1,
+      omega (arith, c.cut_line.ensures.shorter some),
+      c.in_ok-push_answer-in-Ok.ensures.anew,
+      c.in_ok-push_answer-in-Ok.ensures.taken,
+    )
 
 pub returns-clause-status : goal.returns-clause-status
 returns-clause-status c =

@@ -1,4 +1,4 @@
-use Rattle.std.proofs.Common.{rules, ◌≡◌, true, ◌∙◌, ◌+◌, ◌≤◌, refl, arith}
+use Rattle.std.proofs.Common.{◌∙◌, refl, arith}
 use Rattle.sercos_ring.proofs.RunLemmas.{whole, never}
 use Rattle.sercos_ring.proofs.ring.Ring.run.Goals as goal
 

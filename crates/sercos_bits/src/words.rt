@@ -1,0 +1,106 @@
+// Bits in words of 64 bits, the least significant bit of each word first.
+ghost use Rattle.std.specs.Prelude.{◌≡◌, ◌≢◌, ℕ, ◌+◌, ◌*◌, ◌/◌, ◌%◌, ◌^◌, ◌<◌, ◌≤◌, true, false, not, length};
+ghost use Rattle.sercos_model.specs.Bits.{is_odd};
+ghost use Rattle.sercos_bits.specs.Packed.{bit_in};
+
+/// The bits of a word.
+pub const WORD_BITS: usize = 64;
+
+/// Returns the bit at a place.
+pub fn bit_in(words: &[u64], place: usize) -> bool
+    requires { place < 64 * length words.now }
+    ensures { result ≡ bit_in words.now place }
+{
+    (words[place / WORD_BITS] >> (place % WORD_BITS)) % 2 == 1
+}
+
+/// Complements the bit at a place.
+pub fn flip_in(words: &mut [u64], place: usize)
+    requires { place < 64 * length words.old }
+    ensures there { bit_in words.new place ≡ not (bit_in words.old place) }
+    ensures others { (i : ℕ) → i ≢ place → bit_in words.new i ≡ bit_in words.old i }
+{
+    words[place / WORD_BITS] ^= 1 << (place % WORD_BITS);
+}
+
+/// Clears the bits from a place on. Those from `end` on are zeros already, and their words aren't written.
+pub fn clear_from(words: &mut [u64], place: usize, end: usize)
+    requires within { end ≤ 64 * length words.old }
+    requires zeros { (i : ℕ) → end ≤ i → bit_in words.old i ≡ false }
+    ensures kept { (i : ℕ) → i < place → bit_in words.new i ≡ bit_in words.old i }
+    ensures cleared { (i : ℕ) → place ≤ i → bit_in words.new i ≡ false }
+{
+    if place >= end {
+        return;
+    }
+    let first = place / WORD_BITS;
+    words[first] %= 1 << (place % WORD_BITS);
+    for word in first + 1..end.div_ceil(WORD_BITS) {
+        words[word] = 0;
+    }
+}
+
+// Sets the ones of a mask in a word.
+fn set_ones(words: &mut [u64], word: usize, mask: u64)
+    requires { word < length words.old }
+    ensures there { (i : ℕ) → i / 64 ≡ word → bit_in words.old i ≡ false → bit_in words.new i ≡ is_odd (mask / 2 ^ (i % 64)) }
+    ensures kept { (i : ℕ) → i / 64 ≡ word → is_odd (mask / 2 ^ (i % 64)) ≡ false → bit_in words.new i ≡ bit_in words.old i }
+    ensures others { (i : ℕ) → i / 64 ≢ word → bit_in words.new i ≡ bit_in words.old i }
+{
+    words[word] |= mask;
+}
+
+/// Writes the lowest bits of a number, `len` of them, the least significant first, from a place on, where all bits are
+/// zeros. The number has no further bits.
+pub fn put_number(words: &mut [u64], place: usize, number: u16, len: usize)
+    requires begun { place < 64 * length words.old }
+    requires within { place + len ≤ 64 * length words.old }
+    requires few { number < 2 ^ len }
+    requires zeros { (i : ℕ) → place ≤ i → bit_in words.old i ≡ false }
+    ensures before { (i : ℕ) → i < place → bit_in words.new i ≡ bit_in words.old i }
+    ensures there { (i : ℕ) → bit_in words.new (place + i) ≡ is_odd (number / 2 ^ i) }
+{
+    let bits = u64::from(number);
+    let word = place / WORD_BITS;
+    let shift = place % WORD_BITS;
+    set_ones(words, word, bits << shift);
+    if len > WORD_BITS - shift {
+        // Two shifts, since there is none by 64.
+        set_ones(words, word + 1, bits >> 1 >> (WORD_BITS - 1 - shift));
+    }
+}
+
+/// Returns the byte whose bits are the eight from a place on.
+pub fn byte_at(words: &[u64], place: usize) -> u8
+    requires { place + 8 ≤ 64 * length words.now }
+    ensures { (i : ℕ) → i < 8 → is_odd (result / 2 ^ i) ≡ bit_in words.now (place + i) }
+{
+    let word = place / WORD_BITS;
+    let shift = place % WORD_BITS;
+    let low = words[word] >> shift;
+    if shift + 8 <= WORD_BITS {
+        return (low % 256) as u8;
+    }
+    let high = words[word + 1] << (WORD_BITS - shift);
+    ((low | high) % 256) as u8
+}
+
+/// Copies the first words of others, `count` of them.
+pub fn copy_words(words: &mut [u64], others: &[u64], count: usize)
+    requires within { count ≤ length words.old }
+    requires of_others { count ≤ length others.now }
+    ensures copied { (i : ℕ) → i < 64 * count → bit_in words.new i ≡ bit_in others.now i }
+    ensures kept { (i : ℕ) → 64 * count ≤ i → bit_in words.new i ≡ bit_in words.old i }
+{
+    words[..count].copy_from_slice(&others[..count]);
+}
+
+/// Returns whether the first words are the same as those of others, `count` of them.
+pub fn are_same_words(words: &[u64], others: &[u64], count: usize) -> bool
+    requires within { count ≤ length words.now }
+    requires of_others { count ≤ length others.now }
+    ensures same { result ≡ true → (i : ℕ) → i < 64 * count → bit_in words.now i ≡ bit_in others.now i }
+    ensures differ { ((i : ℕ) → i < 64 * count → bit_in words.now i ≡ bit_in others.now i) → result ≡ true }
+{
+    words[..count] == others[..count]
+}

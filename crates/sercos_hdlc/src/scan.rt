@@ -1,0 +1,213 @@
+ghost use Rattle.std.specs.Prelude.{◌≡◌, ℕ, ◌+◌, ◌<◌, ◌≤◌, Bool, true, false, ◌&&◌, ◌||◌, ◌==◌, nat_le, Some, IfOk, IfErr, List, [], ◌∷◌, ◌++◌, length};
+ghost use Rattle.std.specs.Result.{result_err};
+
+use crate::bad_frame::BadFrame;
+use crate::flags::{FLAG, FLAG_BYTE};
+
+/// How far a reader has come: all that it knows of the bits taken, but for the plain bits themselves.
+#[derive(Clone, Copy, Debug)]
+pub struct Scan {
+    /// The bits taken.
+    pub taken: u32,
+    /// Whether the first eight bits, or as many as there are, agree with the flag.
+    pub agrees: bool,
+    /// The ones in a row that the bits after the first eight end in, and 6 from the first six on.
+    pub ones: u8,
+    /// Whether the last zero before the six ones was an inserted one.
+    pub dropped: bool,
+    /// The plain bits: those after the first eight, up to the fifth of the first six ones, without the inserted zeros.
+    pub plain_len: u32,
+    /// From the first six ones on, the place of the bit before them: there a closing flag begins.
+    pub closing: u32,
+    /// Whether a seventh one follows the six.
+    pub seventh: bool,
+    ghost few: { ones ≤ 6 },
+    ghost fits: { taken ≤ 2147483648 },
+    ghost plain_within: { plain_len ≤ taken },
+    ghost closing_within: { closing ≤ taken },
+}
+
+impl Scan {
+    ghost use Rattle.sercos_model.specs.Bits.{low_bits};
+    ghost use Rattle.sercos_hdlc.specs.Scanned.{IsScan};
+    ghost use Rattle.sercos_hdlc.specs.Sought.{has_six, ones_after, dropped_after};
+    ghost use Rattle.sercos_hdlc.specs.Enclosed.{IsEnclosed};
+    ghost use Rattle.sercos_hdlc.specs.Reason.{unstuffed, after, reason_of};
+
+    /// Before the first bit.
+    pub fn new() -> Scan
+        ensures { IsScan [] [] result }
+    {
+        Scan {
+            taken: 0,
+            agrees: true,
+            ones: 0,
+            dropped: false,
+            plain_len: 0,
+            closing: 0,
+            seventh: false,
+        }
+    }
+
+    /// Takes one of the first eight bits.
+    pub fn take_first(&mut self, bit: bool)
+        requires { self.old.taken < 8 }
+        ensures taken { self.new.taken ≡ self.old.taken + 1 }
+        ensures scan { (bits plain : List Bool) → IsScan bits plain self.old → IsScan (bits ++ bit ∷ []) plain self.new }
+    {
+        self.agrees &= bit == FLAG[self.taken as usize];
+        self.taken += 1;
+    }
+
+    /// Takes the first eight bits, those of a byte.
+    pub fn take_first_byte(&mut self, byte: u8)
+        requires { self.old.taken ≡ 0 }
+        ensures taken { self.new.taken ≡ self.old.taken + 8 }
+        ensures scan { (bits plain : List Bool) → IsScan bits plain self.old
+            → IsScan (bits ++ low_bits 8 byte) plain self.new }
+    {
+        self.agrees = byte == FLAG_BYTE;
+        self.taken = 8;
+    }
+
+    /// Takes a plain bit: fewer than five ones come before it.
+    pub fn take_plain(&mut self, bit: bool)
+        requires fits { self.old.taken < 2147483648 }
+        requires behind { 8 ≤ self.old.taken }
+        requires few { self.old.ones < 5 }
+        ensures taken { self.new.taken ≡ self.old.taken + 1 }
+        ensures scan { (bits plain : List Bool) → IsScan bits plain self.old
+            → IsScan (bits ++ bit ∷ []) (plain ++ bit ∷ []) self.new }
+    {
+        self.ones = (self.ones + 1) * u8::from(bit);
+        self.dropped &= bit;
+        self.plain_len += 1;
+        self.taken += 1;
+    }
+
+    /// Takes a zero after five ones, which was inserted.
+    pub fn take_inserted(&mut self)
+        requires fits { self.old.taken < 2147483648 }
+        requires behind { 8 ≤ self.old.taken }
+        requires five { self.old.ones ≡ 5 }
+        ensures taken { self.new.taken ≡ self.old.taken + 1 }
+        ensures scan { (bits plain : List Bool) → IsScan bits plain self.old
+            → IsScan (bits ++ false ∷ []) plain self.new }
+    {
+        self.ones = 0;
+        self.dropped = true;
+        self.taken += 1;
+    }
+
+    /// Takes a one after five ones: the bit before the six is the first of a closing flag.
+    pub fn take_sixth(&mut self)
+        requires fits { self.old.taken < 2147483648 }
+        requires behind { 8 ≤ self.old.taken }
+        requires five { self.old.ones ≡ 5 }
+        ensures taken { self.new.taken ≡ self.old.taken + 1 }
+        ensures scan { (bits plain : List Bool) → IsScan bits plain self.old
+            → IsScan (bits ++ true ∷ []) plain self.new }
+    {
+        self.ones = 6;
+        self.closing = self.taken - 6;
+        self.seventh = false;
+        self.taken += 1;
+    }
+
+    /// Takes a bit after the first six ones.
+    pub fn take_later(&mut self, bit: bool)
+        requires fits { self.old.taken < 2147483648 }
+        requires behind { 8 ≤ self.old.taken }
+        requires six { 5 < self.old.ones }
+        ensures taken { self.new.taken ≡ self.old.taken + 1 }
+        ensures scan { (bits plain : List Bool) → IsScan bits plain self.old
+            → IsScan (bits ++ bit ∷ []) plain self.new }
+    {
+        self.seventh |= bit & (self.taken == self.closing + 7);
+        self.taken += 1;
+    }
+
+    /// Takes the bits of a byte after the first six ones.
+    pub fn take_later_byte(&mut self, byte: u8)
+        requires fits { self.old.taken ≤ 2147483640 }
+        requires behind { 8 ≤ self.old.taken }
+        requires six { 5 < self.old.ones }
+        ensures taken { self.new.taken ≡ self.old.taken + 8 }
+        ensures scan { (bits plain : List Bool) → IsScan bits plain self.old
+            → IsScan (bits ++ low_bits 8 byte) plain self.new }
+    {
+        self.seventh |= (byte % 2 == 1) & (self.taken == self.closing + 7);
+        self.taken += 8;
+    }
+
+    /// Takes eight bits in which no sixth one comes, of which `count` are plain.
+    pub fn take_eight(&mut self, ones: u8, dropped: bool, count: u8)
+        requires fits { self.old.taken ≤ 2147483640 }
+        requires behind { 8 ≤ self.old.taken }
+        requires few { ones ≤ 5 }
+        requires count { count ≤ 8 }
+        ensures taken { self.new.taken ≡ self.old.taken + 8 }
+        ensures scan { (bits plain more : List Bool) → IsScan bits plain self.old → self.old.ones ≤ 5 → length more ≡ 8
+            → has_six self.old.ones more ≡ false
+            → ones ≡ ones_after self.old.ones more
+            → dropped ≡ dropped_after self.old.ones self.old.dropped more
+            → count ≡ length (unstuffed self.old.ones more)
+            → IsScan (bits ++ more) (plain ++ unstuffed self.old.ones more) self.new }
+    {
+        self.ones = ones;
+        self.dropped = dropped;
+        self.plain_len += u32::from(count);
+        self.taken += 8;
+    }
+
+    // Whether the bits begin with the flag.
+    fn opens(&self) -> bool
+        ensures value { result ≡ (nat_le 8 self.now.taken && self.now.agrees) }
+    {
+        self.taken >= 8 && self.agrees
+    }
+
+    // Whether the first six ones touch the opening flag, or a seventh follows them.
+    fn runs_on(&self) -> bool
+        ensures value { result ≡ ((self.now.closing == 7) || self.now.seventh) }
+    {
+        self.closing == 7 || self.seventh
+    }
+
+    /// How many plain bits there are between the flags, or the first reason why these hold none.
+    pub fn between(&self) -> Result<u32, BadFrame>
+        ensures reason { (bits plain : List Bool) → IsScan bits plain self.now
+            → IfErr result (λ reason. reason_of bits ≡ Some reason) }
+        ensures plain { (bits plain : List Bool) → IsScan bits plain self.now
+            → IfOk result (λ len. IsEnclosed bits plain self.now.closing len) }
+    {
+        if !self.opens() {
+            return Err(BadFrame::NoOpen);
+        }
+        if self.ones < 6 {
+            return Err(BadFrame::NoClose(self.taken));
+        }
+        if self.taken < self.closing + 8 {
+            return Err(BadFrame::NoClose(self.taken));
+        }
+        if self.runs_on() {
+            return Err(BadFrame::Abort(self.closing + 1));
+        }
+        if self.dropped {
+            return Err(BadFrame::Abort(self.closing));
+        }
+        Ok(self.plain_len.saturating_sub(6))
+    }
+
+    /// Tests that no bit follows the closing flag.
+    pub fn test_end(&self) -> Result<(), BadFrame>
+        ensures { (bits plain : List Bool) (len : ℕ) → IsScan bits plain self.now → IsEnclosed bits plain self.now.closing len
+            → result_err result ≡ after bits }
+    {
+        let end = self.closing + 8;
+        if end < self.taken {
+            return Err(BadFrame::After(end));
+        }
+        Ok(())
+    }
+}

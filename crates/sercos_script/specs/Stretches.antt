@@ -1,0 +1,17 @@
+-- A script in stretches, each with a number of a cycle before which none of its faults acts, so that in a cycle only a few of the
+-- stretches are looked into.
+use Rattle.std.specs.Prelude.{◌≡◌, ℕ, ◌+◌, ◌*◌, ◌≤◌, ◌<◌, min, nat_lt, if◌then◌else◌, List, [], length, slice_index_or}
+use Rattle.std.specs.List.{filter, slice_range}
+use Rattle.sercos_script.specs.declared.fault.Fault.{Fault}
+use Rattle.sercos_script.specs.Scripts.{acts}
+
+-- The place at which a stretch begins, of so many faults. Each has eight faults; the last of 512 has all that follow.
+abbrev pub edge : ℕ → ℕ → ℕ
+edge len k = if nat_lt k 512 then min (8 * k) len else len
+
+unfoldable pub stretch : ℕ → List Fault → List Fault
+stretch k script = slice_range script (edge (length script) k) (edge (length script) (k + 1))
+
+-- From a cycle on, none of a stretch's faults acts in a cycle before its number.
+abbrev pub AreAhead : List Fault → ℕ → List ℕ → Type 0
+AreAhead script from soonest = (k c : ℕ) → from ≤ c → c < slice_index_or soonest k 0 → filter (acts c) (stretch k script) ≡ []

@@ -1,0 +1,154 @@
+// The faults of a script in stretches, each with a number of a cycle before which none of its faults acts, so that in a cycle
+// only those stretches are looked into whose cycle has come.
+ghost use Rattle.std.specs.Prelude.{◌≡◌, ◌≤◌, ◌<◌, ◌+◌, ◌++◌, true, false, ℕ, [], length, replicate};
+ghost use Rattle.std.specs.List.{filter};
+ghost use Rattle.sercos_script.specs.Scripts.{acts};
+ghost use Rattle.sercos_script.specs.Stretches.{edge, stretch, AreAhead};
+
+use crate::fault::Fault;
+use arrayvec::ArrayVec;
+
+// The most faults that are gathered (14 kB). If more act, the whole script is looked at, of which then a good part acts.
+pub(crate) const ROOM: usize = 512;
+
+// The most stretches.
+pub(crate) const STRETCHES: usize = 512;
+
+// The number of faults in a stretch. Only the last one has fewer, or more if there are faults for more stretches.
+const STRETCH: usize = 8;
+
+// Returns the numbers of stretches of which nothing is known.
+pub(crate) fn nothing_known() -> [u32; STRETCHES]
+    ensures { result ≡ replicate 512 0 }
+{
+    [0; STRETCHES]
+}
+
+// Returns how many stretches so many faults have.
+fn stretch_count(len: usize) -> usize
+    ensures bound { result ≤ 512 }
+    ensures all { len ≤ edge len result }
+{
+    len.div_ceil(STRETCH).min(STRETCHES)
+}
+
+// Returns the place at which a stretch begins, of so many faults.
+fn edge(len: usize, k: usize) -> usize
+    ensures { result ≡ edge len k }
+{
+    if k < STRETCHES {
+        (STRETCH * k).min(len)
+    } else {
+        len
+    }
+}
+
+// Returns the faults of a stretch.
+fn stretch(script: &[Fault], k: usize) -> &[Fault]
+    requires { k < 512 }
+    ensures { result.now ≡ stretch k script.now }
+{
+    let start = edge(script.len(), k);
+    let end = edge(script.len(), k + 1);
+    &script[start..end]
+}
+
+// Whether a fault acts in a cycle, and the number of a cycle before which it doesn't act again.
+#[derive(Clone, Copy)]
+struct Turn {
+    acts: bool,
+    next: u32,
+}
+
+// Returns what a fault does in a cycle, with one division if the cycle is in its range, and none else.
+#[tactic(auto, unfolding(crate::specs::Scripts::acts))]
+fn turn_of(fault: &Fault, cycle: u32) -> Turn
+    ensures acts { result.acts ≡ acts cycle fault.now }
+    ensures next { (c : ℕ) → cycle + 1 ≤ c → c < result.next → acts c fault.now ≡ false }
+{
+    if cycle < fault.cycle {
+        return Turn {
+            acts: false,
+            next: fault.cycle,
+        };
+    }
+    if fault.last < cycle {
+        return Turn {
+            acts: false,
+            next: u32::MAX,
+        };
+    }
+    if fault.every == 0 {
+        return Turn {
+            acts: cycle == fault.cycle,
+            next: u32::MAX,
+        };
+    }
+    let rest = (cycle - fault.cycle) % fault.every;
+    Turn {
+        acts: rest == 0,
+        next: cycle.saturating_add(fault.every - rest),
+    }
+}
+
+// What was found in a stretch: whether all faults that act found room, and the number of a cycle before which none acts again.
+#[derive(Clone, Copy)]
+struct Found {
+    room: bool,
+    soonest: u32,
+}
+
+// Appends those of the faults that act in a cycle, as far as there is room.
+fn look_into(faults: &[Fault], cycle: u32, acting: &mut ArrayVec<Fault, ROOM>) -> Found
+    ensures acting { result.room ≡ true → acting.new.items ≡ acting.old.items ++ filter (acts cycle) faults.now }
+    ensures soonest { (c : ℕ) → cycle + 1 ≤ c → c < result.soonest → filter (acts c) faults.now ≡ [] }
+{
+    let mut soonest = u32::MAX;
+    for fault in faults {
+        let turn = turn_of(fault, cycle);
+        soonest = soonest.min(turn.next);
+        if !turn.acts {
+            continue;
+        }
+        if acting.len() == ROOM {
+            return Found {
+                room: false,
+                soonest: 0,
+            };
+        }
+        acting.push(*fault);
+    }
+    Found {
+        room: true,
+        soonest,
+    }
+}
+
+// Gathers the faults that act in a cycle, from the stretches whose cycle has come, and keeps when each of these comes next.
+// Returns whether all of them found room.
+pub(crate) fn gather(
+    script: &[Fault],
+    cycle: u32,
+    soonest: &mut [u32],
+    acting: &mut ArrayVec<Fault, ROOM>,
+) -> bool
+    requires len { length soonest.old ≡ 512 }
+    requires ahead { AreAhead script.now cycle soonest.old }
+    ensures ahead { AreAhead script.now (cycle + 1) soonest.new }
+    ensures len { length soonest.new ≡ 512 }
+    ensures acting { result ≡ true → acting.new.items ≡ filter (acts cycle) script.now }
+{
+    acting.clear();
+    for k in 0..stretch_count(script.len()) {
+        if cycle < soonest[k] {
+            continue;
+        }
+        let faults = stretch(script, k);
+        let found = look_into(faults, cycle, acting);
+        soonest[k] = found.soonest;
+        if !found.room {
+            return false;
+        }
+    }
+    true
+}
