@@ -130,7 +130,7 @@ IsStore-written raw bytes blocks place d is in' at len are = record {
 }
 
 -- what holds of the element at a place
-at_place : (P : Block → Type 0) (blocks : List Block) (place : ℕ) (d : Block) → place < length blocks → IfSome (slice_get blocks place) P → P (slice_index_or blocks place d)
+pub at_place : (P : Block → Type 0) (blocks : List Block) (place : ℕ) (d : Block) → place < length blocks → IfSome (slice_get blocks place) P → P (slice_index_or blocks place d)
 at_place P [] place d in' holds = absurd (omega arith)
 at_place P (b ∷ blocks) zero d in' holds = holds
 at_place P (b ∷ blocks) (suc place) d in' holds = at_place P blocks place d (omega arith) holds
@@ -155,19 +155,6 @@ IsWritten-at raw bytes blocks place d is at len are =
       store = rw same (IsStore-written raw bytes blocks place d is in' number len' are);
       same = same;
     }
-
-pub IsWritten-by : {raw : ℕ} {bytes : List ℕ} {blocks now : List Block} {place : ℕ} (old new : Block) → blocks ≡ now → IsStore blocks
-    → position (λ b. b.idn.raw == raw) now ≡ Some place → IfSome (slice_get now place) (λ b. is_len b (length bytes) ≡ true)
-    → list_all (λ byte. nat_lt byte 256) bytes ≡ true → old ≡ slice_index_or blocks place old → new ≡ record old { value = bytes }
-    → IsWritten raw bytes now (slice_set blocks place new)
-IsWritten-by {raw} {bytes} {blocks} {now} {place} old new seen is at len are old_is new_is =
-    let written = IsWritten-at raw bytes now place old (rw seen at is) at len are in
-    let value : new ≡ record (slice_index_or now place old) { value = bytes } = new_is ∙ ap (λ (b : Block). record b { value = bytes }) (rw seen at old_is) in
-    rw (seen, value) written
-
-pub room_by : (raw : ℕ) (bytes : List ℕ) {blocks now : List Block} {place : ℕ} (d : Block) → blocks ≡ now → IsStore blocks
-    → position (λ b. b.idn.raw == raw) now ≡ Some place → IfSome (slice_get now place) (λ b. is_len b (length bytes) ≡ true) → list_all (λ byte. nat_lt byte 256) bytes ≡ true → length bytes ≤ 1024
-room_by raw bytes {blocks} {now} {place} d seen is at len are = (IsWritten-at raw bytes now place d (rw seen at is) at len are).room
 
 -- bytes that have no fault are as many as the block may have
 pub fits-put_fault : (block : Option Block) (phase : ℕ) (bytes : List ℕ) → put_fault block phase bytes ≡ None → IfSome block (λ b. is_len b (length bytes) ≡ true)

@@ -1,5 +1,5 @@
 -- What a sound block keeps, part by part, and that it stays sound when its operation data is written.
-use Rattle.std.proofs.Common.{◌≡◌, ℕ, ◌<◌, ◌≤◌, ◌%◌, ◌==◌, ◌||◌, ◌&&◌, nat_le, Bool, true, false, cond, not, List, [], ◌∷◌, length, Option, Some, None, IfSome, nat_lt, ◌⊎◌, inl, inr, refl, sym, arith}
+use Rattle.std.proofs.Common.{◌≡◌, ℕ, zero, suc, ◌<◌, ◌≤◌, ◌%◌, ◌==◌, ◌||◌, ◌&&◌, nat_le, Bool, true, false, cond, not, List, [], ◌∷◌, length, Option, Some, None, IfSome, slice_get, nat_lt, ◌⊎◌, inl, inr, refl, sym, arith}
 use Rattle.std.specs.List.{list_all, find}
 use Rattle.std.proofs.lemmas.Bool.{and_parts, and_from}
 use Rattle.std.proofs.lemmas.Bool.Decides.{nat_tests}
@@ -52,6 +52,19 @@ pub limit_below : (a : Attribute) (limit : Option ℕ) → is_limit a limit ≡ 
 limit_below a None h = tt
 limit_below a (Some bits) h = let (number, below) = and_parts (is_number a) (nat_lt bits (number_end a.length)) h in grind (arith, nat_tests)
 
+-- .. as does one that is to be its bytes
+pub limit_below_end : (a : Attribute) (bits : ℕ) → is_limit a (Some bits) ≡ true → bits < number_end a.length
+limit_below_end a bits h = limit_below a (Some bits) h
+
+pub limit_of_number : (a : Attribute) (bits : ℕ) → is_limit a (Some bits) ≡ true → is_list a.length ≡ false
+limit_of_number a bits h =
+    let (number, _) = and_parts (is_number a) (nat_lt bits (number_end a.length)) h in
+    by (is_list a.length) number
+  where
+    by : (list : Bool) → (not list && not a.command) ≡ true → list ≡ false
+    by true number = cc
+    by false number = refl
+
 pub min_below : (b : Block) → is_sound b ≡ true → IfSome b.min (λ bits. bits < number_end b.attribute.length)
 min_below b h = limit_below b.attribute b.min (SoundParts-is_sound b h).min
 
@@ -68,6 +81,15 @@ found_sound raw (c ∷ blocks) b sound is =
     by true e here rest = let same : c ≡ b = cc in rw same at here
     by false e here rest = rest e
 
+-- .. and so does that at a place
+pub sound_at : (blocks : List Block) (place : ℕ) (b : Block) → IsStore blocks → slice_get blocks place ≡ Some b → is_sound b ≡ true
+sound_at blocks place b is at = among blocks place is.sound at
+  where
+    among : (others : List Block) (i : ℕ) → list_all is_sound others ≡ true → slice_get others i ≡ Some b → is_sound b ≡ true
+    among [] i sound e = cc
+    among (c ∷ others) zero sound e = let same : c ≡ b = cc in rw same at (and_parts (is_sound c) (list_all is_sound others) sound).0
+    among (c ∷ others) (suc i) sound e = among others i (and_parts (is_sound c) (list_all is_sound others) sound).1 e
+
 most : (list : Bool) (max item : ℕ) → cond list (nat_le 1 max && (nat_le max 1024 && (max % item == 0))) (max == 0) ≡ true → max ≤ 1024
 most true max item h =
     let (_, rest) = and_parts (nat_le 1 max) (nat_le max 1024 && (max % item == 0)) h in
@@ -80,6 +102,17 @@ pub max_len_bound : (raw : ℕ) (blocks : List Block) (b : Block) → IsStore bl
 max_len_bound raw blocks b is e =
     most (is_list b.attribute.length) b.max_len (item_len b.attribute.length) (SoundParts-is_sound b (found_sound raw blocks b is.sound (sym e))).max_len
 
+pub most_few : (b : Block) → is_sound b ≡ true → b.max_len ≤ 1024
+most_few b h = most (is_list b.attribute.length) b.max_len (item_len b.attribute.length) (SoundParts-is_sound b h).max_len
+
+-- the bytes of a list
+list_by : (list : Bool) (count most item : ℕ) → list ≡ true → cond list (nat_le count most) (count == item) ≡ true → count ≤ most
+list_by true count most item is len = grind (arith, nat_tests)
+list_by false count most item is len = cc
+
+pub list_fits : (b : Block) → is_list b.attribute.length ≡ true → is_sound b ≡ true → length b.value ≤ b.max_len
+list_fits b list h = list_by (is_list b.attribute.length) (length b.value) b.max_len (item_len b.attribute.length) list (SoundParts-is_sound b h).len
+
 -- the bytes of a value that is no list
 exact_by : (list : Bool) (count most item : ℕ) → list ≡ false → cond list (nat_le count most) (count == item) ≡ true → count ≡ item
 exact_by true count most item none len = cc
@@ -87,6 +120,9 @@ exact_by false count most item none len = grind (arith, nat_tests)
 
 pub value_len : (b : Block) → is_list b.attribute.length ≡ false → is_sound b ≡ true → length b.value ≡ item_len b.attribute.length
 value_len b none h = exact_by (is_list b.attribute.length) (length b.value) b.max_len (item_len b.attribute.length) none (SoundParts-is_sound b h).len
+
+pub item_fits : (b : Block) → is_list b.attribute.length ≡ false → is_sound b ≡ true → length b.value ≤ item_len b.attribute.length
+item_fits b none h = let exact = value_len b none h in omega arith
 
 pub found-value_len : (raw : ℕ) (blocks : List Block) (b : Block) (bytes : List ℕ) → IsStore blocks → find_block raw blocks ≡ Some b → bytes ≡ b.value
     → IfSome (find_block raw blocks) (λ c. is_list c.attribute.length ≡ false → length bytes ≡ item_len c.attribute.length)

@@ -4,6 +4,7 @@ pub mod Blocks
 pub mod BuiltIns
 pub mod Rules
 pub mod Stores
+pub mod Regions
 pub mod Rings
 pub mod ValidRings
 pub mod Startup

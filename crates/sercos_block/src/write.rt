@@ -4,16 +4,16 @@ ghost use Rattle.sercos_idn.specs.Codes.{is_list, item_len};
 ghost use Rattle.sercos_block.specs.Blocks.{number_end, is_fixed, is_protected};
 ghost use Rattle.sercos_block.specs.Stores.{is_short, is_long, is_invalid, is_below, is_above, write_fault, data_fault, is_sound};
 
-use crate::block::Block;
+use crate::stored::Stored;
 use crate::value::{bits_in, is_less, is_number};
 use sercos_idn::command::{CANCEL, SET};
 use sercos_idn::{Attribute, Code};
 
 // Whether the operation data can never be written.
-fn is_fixed(block: &Block) -> bool
+fn is_fixed(block: &Stored<'_>) -> bool
     ensures { result ≡ is_fixed block.now }
 {
-    block.fixed || block.step > 0
+    block.fixed() || block.step() > 0
 }
 
 // Whether the operation data is write protected in a phase from 2 to 4.
@@ -31,43 +31,43 @@ fn is_protected(attribute: &Attribute, phase: u8) -> bool
 
 // The first cause for which the operation data of a block can't be written in a phase.
 #[tactic(auto, unfolding(crate::specs::Stores::write_fault))]
-pub(crate) fn write_fault(block: &Block, phase: u8) -> Option<Code>
+pub(crate) fn write_fault(block: &Stored<'_>, phase: u8) -> Option<Code>
     ensures { option_map (λ code. code.raw) result ≡ write_fault (Some block.now) phase }
 {
     if is_fixed(block) {
         return Some(Code::FIXED);
     }
-    if is_protected(&block.attribute, phase) {
+    if is_protected(&block.attribute(), phase) {
         return Some(Code::PROTECTED_NOW);
     }
     None
 }
 
 // Whether there are fewer bytes than the value has.
-fn is_short(block: &Block, bytes: &[u8]) -> bool
+fn is_short(block: &Stored<'_>, bytes: &[u8]) -> bool
     ensures { result ≡ is_short block.now bytes.now }
 {
-    !block.attribute.length.is_list() && bytes.len() < block.attribute.length.item_len()
+    !block.attribute().length.is_list() && bytes.len() < block.attribute().length.item_len()
 }
 
 // Whether there are more bytes than the value has, or than the list can have.
-fn is_long(block: &Block, bytes: &[u8]) -> bool
+fn is_long(block: &Stored<'_>, bytes: &[u8]) -> bool
     ensures { result ≡ is_long block.now bytes.now }
 {
-    let most = if block.attribute.length.is_list() {
-        usize::from(block.max_len)
+    let most = if block.attribute().length.is_list() {
+        usize::from(block.max_len())
     } else {
-        block.attribute.length.item_len()
+        block.attribute().length.item_len()
     };
     bytes.len() > most
 }
 
 // Whether the bytes, of which there are as many as a value has, are no value.
-fn is_invalid(block: &Block, bytes: &[u8]) -> bool
+fn is_invalid(block: &Stored<'_>, bytes: &[u8]) -> bool
     requires { is_list block.now.attribute.length ≡ false → length bytes.now ≡ item_len block.now.attribute.length }
     ensures { result ≡ is_invalid block.now bytes.now }
 {
-    let attribute = &block.attribute;
+    let attribute = &block.attribute();
     if attribute.length.is_list() {
         return bytes.len() % attribute.length.item_len() != 0;
     }
@@ -76,12 +76,12 @@ fn is_invalid(block: &Block, bytes: &[u8]) -> bool
 }
 
 // Whether the number lies below the minimum, if there is one.
-fn is_below(block: &Block, bytes: &[u8], limit: Option<u32>) -> bool
+fn is_below(block: &Stored<'_>, bytes: &[u8], limit: Option<u32>) -> bool
     requires len { is_list block.now.attribute.length ≡ false → length bytes.now ≡ item_len block.now.attribute.length }
     requires limit { IfSome limit (λ bits. bits < number_end block.now.attribute.length) }
     ensures { result ≡ is_below block.now bytes.now limit }
 {
-    let attribute = &block.attribute;
+    let attribute = &block.attribute();
     match limit {
         Some(bits) if is_number(attribute) => is_less(attribute, bits_in(attribute, bytes), bits),
         _ => false,
@@ -89,12 +89,12 @@ fn is_below(block: &Block, bytes: &[u8], limit: Option<u32>) -> bool
 }
 
 // Whether the number lies above the maximum, if there is one.
-fn is_above(block: &Block, bytes: &[u8], limit: Option<u32>) -> bool
+fn is_above(block: &Stored<'_>, bytes: &[u8], limit: Option<u32>) -> bool
     requires len { is_list block.now.attribute.length ≡ false → length bytes.now ≡ item_len block.now.attribute.length }
     requires limit { IfSome limit (λ bits. bits < number_end block.now.attribute.length) }
     ensures { result ≡ is_above block.now bytes.now limit }
 {
-    let attribute = &block.attribute;
+    let attribute = &block.attribute();
     match limit {
         Some(bits) if is_number(attribute) => is_less(attribute, bits, bits_in(attribute, bytes)),
         _ => false,
@@ -103,17 +103,17 @@ fn is_above(block: &Block, bytes: &[u8], limit: Option<u32>) -> bool
 
 // Whether the operation data of a block is a number below its minimum or above its maximum.
 #[tactic(auto, using(crate::proofs::SoundLemmas::min_below, crate::proofs::SoundLemmas::max_below, crate::proofs::SoundLemmas::value_len))]
-pub(crate) fn is_outside(block: &Block) -> bool
+pub(crate) fn is_outside(block: &Stored<'_>) -> bool
     requires { is_sound block.now ≡ true }
     ensures { result ≡ (is_below block.now block.now.value block.now.min || is_above block.now block.now.value block.now.max) }
 {
-    let bytes = block.value.as_slice();
-    is_below(block, bytes, block.min) || is_above(block, bytes, block.max)
+    let bytes = block.value();
+    is_below(block, bytes, block.min()) || is_above(block, bytes, block.max())
 }
 
 // The first cause for which bytes can't be the operation data of a block.
 #[tactic(auto, using(crate::proofs::SoundLemmas::min_below, crate::proofs::SoundLemmas::max_below), unfolding(crate::specs::Stores::data_fault))]
-pub(crate) fn data_fault(block: &Block, bytes: &[u8]) -> Option<Code>
+pub(crate) fn data_fault(block: &Stored<'_>, bytes: &[u8]) -> Option<Code>
     requires { is_sound block.now ≡ true }
     ensures { option_map (λ code. code.raw) result ≡ data_fault block.now bytes.now }
 {
@@ -126,10 +126,10 @@ pub(crate) fn data_fault(block: &Block, bytes: &[u8]) -> Option<Code>
     if is_invalid(block, bytes) {
         return Some(Code::INVALID);
     }
-    if is_below(block, bytes, block.min) {
+    if is_below(block, bytes, block.min()) {
         return Some(Code::BELOW_MINIMUM);
     }
-    if is_above(block, bytes, block.max) {
+    if is_above(block, bytes, block.max()) {
         return Some(Code::ABOVE_MAXIMUM);
     }
     None

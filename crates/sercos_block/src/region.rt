@@ -1,0 +1,198 @@
+// The region of bytes in which a store has the elements of its blocks.
+ghost use Rattle.std.specs.Prelude.{◌≡◌, ◌+◌, ◌-◌, ◌≤◌, ◌<◌, ◌++◌, [], true, length, option_map, unwrap_or, replicate, if◌then◌else◌, IfOk, OnOk};
+ghost use Rattle.std.specs.List.{splice, sum_by};
+ghost use Rattle.sercos_idn.specs.Codes.{is_list, item_len};
+ghost use Rattle.sercos_block.specs.Rules.{is_limit};
+ghost use Rattle.sercos_block.specs.Stores.{is_sound, IsStore};
+ghost use Rattle.sercos_block.specs.Regions.{part_at, limit_at, word_bytes, limit_bytes, room_of, HasPacked, HasAppended};
+
+use crate::block::Block;
+use crate::entry::{Entry, Limit, Part};
+use crate::value::bytes_for;
+use sercos_bits::Text;
+use sercos_idn::{Attribute, Length};
+use std::alloc::{AllocError, Global};
+
+// Writes bytes over those of a region from a place on.
+pub(crate) fn put_bytes(region: &mut Vec<u8>, place: usize, bytes: &[u8])
+    requires { place + length bytes.now ≤ length region.old.items }
+    ensures { region.new.items ≡ splice region.old.items place (place + length bytes.now) bytes.now }
+{
+    region.as_mut_slice()[place..place + bytes.len()].copy_from_slice(bytes);
+}
+
+// Appends bytes to a region, and returns where they are.
+fn append(region: &mut Vec<u8>, bytes: &[u8]) -> Result<Part, AllocError>
+    requires room { length region.old.items + length bytes.now < 65536 }
+    requires few { length bytes.now ≤ 1024 }
+    ensures bytes { OnOk result (region.new.items ≡ region.old.items ++ bytes.now) }
+    ensures part { IfOk result (λ part. part ≡ part_at (length region.old.items) bytes.now) }
+{
+    let place = region.len() as u16;
+    region.extend_from_slice(bytes)?;
+    Ok(Part {
+        place,
+        len: bytes.len() as u16,
+    })
+}
+
+// Appends zeros to a region up to a length.
+fn fill(region: &mut Vec<u8>, len: usize) -> Result<(), AllocError>
+    requires { length region.old.items ≤ len }
+    ensures { OnOk result (region.new.items ≡ region.old.items ++ replicate (len - length region.old.items) 0) }
+{
+    region.resize(len, 0)?;
+    Ok(())
+}
+
+// Appends a name or a unit, of which there may be none.
+fn append_text(region: &mut Vec<u8>, text: &Option<Text>) -> Result<Option<Part>, AllocError>
+    requires room { length region.old.items + length (unwrap_or text.now []) < 65536 }
+    ensures bytes { OnOk result (region.new.items ≡ region.old.items ++ unwrap_or text.now []) }
+    ensures part { IfOk result (λ part. part ≡ option_map (part_at (length region.old.items)) text.now) }
+{
+    match text {
+        None => Ok(None),
+        Some(text) => Ok(Some(append(region, text.as_slice())?)),
+    }
+}
+
+// Appends the bytes of an attribute.
+fn append_word(region: &mut Vec<u8>, attribute: Attribute) -> Result<Part, AllocError>
+    requires room { length region.old.items ≤ 65000 }
+    ensures bytes { OnOk result (region.new.items ≡ region.old.items ++ word_bytes attribute) }
+    ensures part { IfOk result (λ part. part ≡ part_at (length region.old.items) (word_bytes attribute)) }
+{
+    let bytes = attribute.write().to_le_bytes();
+    append(region, &bytes)
+}
+
+// Appends the bytes of a limit, of which there may be none.
+#[tactic(auto, using(crate::proofs::SoundLemmas::limit_below_end, crate::proofs::SoundLemmas::limit_of_number))]
+fn append_limit(
+    region: &mut Vec<u8>,
+    attribute: Attribute,
+    limit: Option<u32>,
+) -> Result<Option<Limit>, AllocError>
+    requires limit { is_limit attribute limit ≡ true }
+    requires room { length region.old.items ≤ 64500 }
+    ensures bytes { OnOk result (region.new.items ≡ region.old.items ++ limit_bytes attribute limit) }
+    ensures limit { IfOk result (λ made. made ≡ option_map (limit_at attribute (length region.old.items)) limit) }
+{
+    match limit {
+        None => Ok(None),
+        Some(bits) => {
+            let bytes = bytes_for(attribute, bits);
+            let bytes = append(region, bytes.as_slice())?;
+            Ok(Some(Limit { bits, bytes }))
+        }
+    }
+}
+
+// The most bytes of the operation data of a block.
+#[tactic(auto, using(crate::proofs::SoundLemmas::most_few, crate::proofs::SoundLemmas::list_fits, crate::proofs::SoundLemmas::item_fits))]
+fn most_value(block: &Block) -> usize
+    requires { is_sound block.now ≡ true }
+    ensures most { result ≡ (if is_list block.now.attribute.length then block.now.max_len else item_len block.now.attribute.length) }
+    ensures few { result ≤ 1024 }
+    ensures fits { length block.now.value ≤ result }
+{
+    if block.attribute.length.is_list() {
+        usize::from(block.max_len)
+    } else {
+        block.attribute.length.item_len()
+    }
+}
+
+// Appends the bytes of a block to a region, with room for its longest operation data, and returns its entry.
+fn append_block(region: &mut Vec<u8>, block: &Block) -> Result<Entry, AllocError>
+    requires sound { is_sound block.now ≡ true }
+    requires room { length region.old.items ≤ 64000 }
+    ensures { IfOk result (λ entry. HasAppended block.now region.old.items region.new.items entry) }
+{
+    let word = append_word(region, block.attribute)?;
+    let min = append_limit(region, block.attribute, block.min)?;
+    let max = append_limit(region, block.attribute, block.max)?;
+    let name = append_text(region, &block.name)?;
+    let unit = append_text(region, &block.unit)?;
+    let end = region.len() + most_value(block);
+    let value = append(region, block.value.as_slice())?;
+    fill(region, end)?;
+    Ok(Entry {
+        idn: block.idn,
+        attribute: block.attribute,
+        word,
+        name,
+        unit,
+        min,
+        max,
+        value,
+        max_len: block.max_len,
+        fixed: block.fixed,
+        step: block.step,
+        fails: block.fails,
+    })
+}
+
+// How many bytes a name or a unit has, of which there may be none.
+fn text_len(text: &Option<Text>) -> usize
+    ensures value { result ≡ length (unwrap_or text.now []) }
+    ensures few { result ≤ 1024 }
+{
+    match text {
+        None => 0,
+        Some(text) => text.len(),
+    }
+}
+
+// How many bytes a limit has, of which there may be none.
+fn limit_len(attribute: Attribute, limit: Option<u32>) -> usize
+    ensures value { result ≡ length (limit_bytes attribute limit) }
+    ensures few { result ≤ 4 }
+{
+    if limit.is_none() {
+        return 0;
+    }
+    match attribute.length {
+        Length::Two => 2,
+        _ => 4,
+    }
+}
+
+// How many bytes of a region a block has.
+fn room_of(block: &Block) -> usize
+    requires { is_sound block.now ≡ true }
+    ensures value { result ≡ room_of block.now }
+    ensures few { result ≤ 4096 }
+{
+    let limits = limit_len(block.attribute, block.min) + limit_len(block.attribute, block.max);
+    let texts = text_len(&block.name) + text_len(&block.unit);
+    4 + limits + texts + most_value(block)
+}
+
+// How many bytes a region has.
+fn region_len(blocks: &[Block]) -> usize
+    requires { IsStore blocks.now }
+    ensures { result ≡ sum_by room_of blocks.now }
+{
+    let mut len = 0;
+    for block in blocks {
+        len += room_of(block);
+    }
+    len
+}
+
+// The bytes of the blocks of a store, one after another, with room for the longest operation data of each; and the index
+// of them. The error is `AllocError`.
+pub(crate) fn packed(alloc: Global, blocks: &[Block]) -> Result<(Vec<u8>, Vec<Entry>), AllocError>
+    requires { IsStore blocks.now }
+    ensures { IfOk result (λ made. HasPacked blocks.now made.0.items made.1.items) }
+{
+    let mut region = Vec::with_capacity(alloc, region_len(blocks))?;
+    let mut entries = Vec::with_capacity(alloc, blocks.len())?;
+    for block in blocks {
+        let entry = append_block(&mut region, block)?;
+        entries.push(entry)?;
+    }
+    Ok((region, entries))
+}

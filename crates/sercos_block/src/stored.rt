@@ -1,0 +1,159 @@
+// A data block in the region of a store.
+ghost use Rattle.std.specs.Prelude.{◌≡◌, ◌+◌, ◌≤◌, length, option_map, IfSome};
+ghost use Rattle.sercos_block.specs.Blocks.{bytes_for, element_of};
+ghost use Rattle.sercos_block.specs.Regions.{part_of, limit_bits, block_of, IsWithin};
+
+use crate::entry::{Entry, Limit, Part};
+use sercos_idn::element::{ATTRIBUTE, MAXIMUM, MINIMUM, NAME, UNIT};
+use sercos_idn::{Attribute, Idn};
+use std::marker::Model;
+
+// A data block: the entry of it, and the region in which its bytes are. Contracts see the block.
+#[derive(Drop)]
+pub(crate) struct Stored<'a> {
+    region: &'a [u8],
+    entry: &'a Entry,
+}
+
+impl<'a> Model for Stored<'a> {
+    ghost use Rattle.std.specs.Prelude.{length};
+    ghost use Rattle.sercos_block.specs.declared.block.Block.{Block};
+    ghost use Rattle.sercos_block.specs.Regions.{block_of, IsWithin};
+
+    ghost Value = { Block };
+
+    ghost view = { λ s. block_of s.region.now s.entry.now };
+
+    ghost invariant = { λ s. IsWithin s.region.now s.entry.now };
+}
+
+// The bytes of a part of the region.
+fn bytes_of<'a>(region: &'a [u8], part: &Part) -> &'a [u8]
+    requires inside { part.now.place + part.now.len ≤ length region.now }
+    requires few { part.now.len ≤ 1024 }
+    ensures value { result.now ≡ part_of region.now part.now }
+    ensures bound { length result.now ≤ 1024 }
+{
+    let start = usize::from(part.place);
+    &region[start..start + usize::from(part.len)]
+}
+
+// The bytes of a name or a unit, of which there may be none.
+fn text_of<'a>(region: &'a [u8], part: &Option<Part>) -> Option<&'a [u8]>
+    requires { IfSome part.now (λ p. (p.place + p.len ≤ length region.now) × (p.len ≤ 1024)) }
+    ensures value { option_map (λ b. b.now) result ≡ option_map (part_of region.now) part.now }
+    ensures bound { IfSome result (λ b. length b.now ≤ 1024) }
+{
+    match part {
+        None => None,
+        Some(part) => Some(bytes_of(region, part)),
+    }
+}
+
+// The bytes of a limit, of which there may be none.
+fn limit_of<'a>(region: &'a [u8], attribute: &Attribute, limit: &Option<Limit>) -> Option<&'a [u8]>
+    requires inside { IfSome limit.now (λ l. (l.bytes.place + l.bytes.len ≤ length region.now) × (l.bytes.len ≤ 1024)) }
+    requires bytes { IfSome limit.now (λ l. part_of region.now l.bytes ≡ bytes_for attribute.now l.bits) }
+    ensures value { option_map (λ b. b.now) result ≡ option_map (bytes_for attribute.now) (option_map limit_bits limit.now) }
+    ensures bound { IfSome result (λ b. length b.now ≤ 1024) }
+{
+    match limit {
+        None => None,
+        Some(limit) => Some(bytes_of(region, &limit.bytes)),
+    }
+}
+
+impl<'a> Stored<'a> {
+    // The block of an entry.
+    pub(crate) fn new(region: &'a [u8], entry: &'a Entry) -> Stored<'a>
+        requires { IsWithin region.now entry.now }
+        ensures { result ≡ block_of region.now entry.now }
+    {
+        Stored { region, entry }
+    }
+
+    // The identifier number.
+    pub(crate) fn idn(&self) -> Idn
+        ensures { result ≡ self.now.idn }
+    {
+        self.entry.idn
+    }
+
+    // The attribute.
+    pub(crate) fn attribute(&self) -> Attribute
+        ensures { result ≡ self.now.attribute }
+    {
+        self.entry.attribute
+    }
+
+    // The bits of the minimum, if there is one.
+    pub(crate) fn min(&self) -> Option<u32>
+        ensures { result ≡ self.now.min }
+    {
+        self.entry.min.map(|limit| limit.bits)
+    }
+
+    // The bits of the maximum, if there is one.
+    pub(crate) fn max(&self) -> Option<u32>
+        ensures { result ≡ self.now.max }
+    {
+        self.entry.max.map(|limit| limit.bits)
+    }
+
+    // The most bytes of the list; 0 where the operation data is no list.
+    pub(crate) fn max_len(&self) -> u16
+        ensures { result ≡ self.now.max_len }
+    {
+        self.entry.max_len
+    }
+
+    // Whether the master can never write the operation data.
+    pub(crate) fn fixed(&self) -> bool
+        ensures { result ≡ self.now.fixed }
+    {
+        self.entry.fixed
+    }
+
+    // How much the number grows in each cycle.
+    pub(crate) fn step(&self) -> u32
+        ensures { result ≡ self.now.step }
+    {
+        self.entry.step
+    }
+
+    // Whether the procedure command ends with an error.
+    pub(crate) fn fails(&self) -> bool
+        ensures { result ≡ self.now.fails }
+    {
+        self.entry.fails
+    }
+
+    // The operation data.
+    pub(crate) fn value(&self) -> &'a [u8]
+        ensures value { result.now ≡ self.now.value }
+        ensures bound { length result.now ≤ 1024 }
+    {
+        bytes_of(self.region, &self.entry.value)
+    }
+
+    // The bytes of an element from 2 to 7, if there is one.
+    #[tactic(auto, unfolding(crate::specs::Blocks::element_of))]
+    pub(crate) fn element(&self, element: u8) -> Option<&'a [u8]>
+        ensures value { option_map (λ b. b.now) result ≡ element_of self.now element }
+        ensures bound { IfSome result (λ b. length b.now ≤ 1024) }
+    {
+        if element == NAME {
+            text_of(self.region, &self.entry.name)
+        } else if element == ATTRIBUTE {
+            Some(bytes_of(self.region, &self.entry.word))
+        } else if element == UNIT {
+            text_of(self.region, &self.entry.unit)
+        } else if element == MINIMUM {
+            limit_of(self.region, &self.entry.attribute, &self.entry.min)
+        } else if element == MAXIMUM {
+            limit_of(self.region, &self.entry.attribute, &self.entry.max)
+        } else {
+            Some(self.value())
+        }
+    }
+}
