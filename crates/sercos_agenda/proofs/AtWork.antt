@@ -1,11 +1,9 @@
 -- In phases 2 to 4 a channel whose turn it is has an open transfer until its tasks are done.
-use Rattle.std.proofs.Common.{◌≡◌, ◌⊎◌, inl, inr, ℕ, zero, suc, ◌+◌, ◌-◌, ◌<◌, ◌≤◌, Bool, true, false, not, ◌&&◌, ◌||◌, List, [], ◌∷◌, map, min, drop, length, refl, sym, ap, ap₂, ◌∙◌, subst, arith, if◌then◌else◌}
-use Rattle.std.specs.Prelude.{◌==◌, nat_le, nat_lt, Option, Some, None, Result, Ok, Err, is_some, is_none, option_map, slice_get, slice_index_or}
+use Rattle.std.proofs.Common.{◌≡◌, ◌⊎◌, inl, inr, ℕ, zero, suc, ◌+◌, ◌-◌, ◌<◌, ◌≤◌, Bool, true, false, not, ◌&&◌, List, [], ◌∷◌, min, drop, length, refl, sym, ap, ap₂, ◌∙◌, subst, arith, if◌then◌else◌}
+use Rattle.std.specs.Prelude.{◌==◌, nat_le, nat_lt, Option, Some, None, is_some, is_none, option_map, slice_get, slice_index_or}
 use Rattle.std.specs.List.{All}
-use Rattle.std.specs.Option.{option_or}
-use Rattle.std.proofs.lemmas.Bool.{and_parts, cases_lt, cases_eq, false≢true, leb-true, le-leb, eq-eqb, cond-true, cond-false}
+use Rattle.std.proofs.lemmas.Bool.{cases_lt, false≢true, le-leb, cond-true, cond-false}
 use Rattle.std.proofs.lemmas.Bool.Decides.{nat_tests}
-use Rattle.sercos_idn.specs.declared.idn.Idn.{Idn}
 use Rattle.sercos_step.specs.declared.step.Step.{Step}
 use Rattle.sercos_step.specs.declared.request.Request.{Request}
 use Rattle.sercos_step.specs.declared.request.Request.TheVariants as request
@@ -16,26 +14,22 @@ use Rattle.sercos_timing.specs.Views.{PlanView}
 use Rattle.sercos_service_master.specs.Begun.{Begun, open_in}
 use Rattle.sercos_service_master.specs.Calls.{begun_by}
 use Rattle.sercos_service_master.specs.Calls as channel
-use Rattle.sercos_timing.specs.Order.{record_bytes}
-use Rattle.sercos_plan.specs.Views.{ChainView}
 use Rattle.sercos_plan.specs.ChainOf.{planned}
 use Rattle.sercos_trace.specs.declared.events.Stop.{Stop}
-use Rattle.sercos_trace.specs.declared.events.Stop.TheVariants as stop
 use Rattle.sercos_handshake.proofs.ExactTransfers.{IsRefused, Ends as TransferEnds, GoesOn, IsWhole, ends_so}
 use Rattle.sercos_seat.specs.Ring.{Known, Task, HasLists, no_member, member, startup}
-use Rattle.sercos_seat.specs.Agenda.{idn, given, ended_well, reads, reads_count, writes, agenda, is_read, is_checked, is_ready, wishes_given, last_long_stop}
-use Rattle.sercos_seat.specs.Channel.{outcomes_in, last_outcome, is_place, trouble_by, of_phase, count_requests}
-use Rattle.sercos_seat.specs.Seats.{AreWaiting, next_write, next_in_2, next_in_3}
+use Rattle.sercos_seat.specs.Agenda.{idn, given, ended_well, reads, reads_count, writes, agenda, is_read, is_checked, is_ready}
+use Rattle.sercos_seat.specs.Channel.{outcomes_in, last_outcome, trouble_by, of_phase, count_requests}
+use Rattle.sercos_seat.specs.Seats.{AreWaiting, next_in_2, next_in_3}
 use Rattle.sercos_seat.proofs.Gets.{get_some}
 use Rattle.sercos_seat.proofs.Agendas.{not_checked, reads_length, next_2, next_3}
 use Rattle.sercos_seat.proofs.Queues.{next_request}
-use Rattle.sercos_master.specs.Annals.{Call, Mdt, Past, first_from, first_place, outcomes, is_idle, trouble, first_trouble, all_read, all_checked, with_stop, is_plan_due, with_plan, planned_by, with_due_plan, settled, in_turn, has_turn, next_task, begins, with_begin, with_task, is_sent_to, still_waiting, addressed_in, ready_to_send, after_mdt, past}
-use Rattle.sercos_master.proofs.Configured.{Leaves, leaves, mdt_adds, each_passes, configured, ready}
+use Rattle.sercos_master.specs.Annals.{Call, Past, first_from, first_place, outcomes, is_idle, trouble, all_read, all_checked, settled, in_turn, has_turn, next_task, begins, with_begin, with_task, is_sent_to, still_waiting, addressed_in, ready_to_send, after_mdt, past}
+use Rattle.sercos_master.proofs.Configured.{leaves, mdt_adds, configured, ready}
 use Rattle.sercos_master.proofs.Followed.{HasNext, none_troubled, no_stop_before, settles}
 use Rattle.sercos_master.proofs.InOrder.{still_left}
 use Rattle.sercos_master.proofs.Laws.{all_waiting, waiting_settled}
 use Rattle.sercos_agenda.specs.Tasks.{IsTask, OfReads, OfWrites, Checks3, Lists3, Checks4, Lists4, OfWaiting, HasBegunTasks, AreBegunTasks}
-use Rattle.sercos_agenda.specs.Turns.{WorksInTwo, WorksInThree}
 use Rattle.sercos_agenda.proofs.TaskRuns.{all_ended, begun_tasks}
 use Rattle.sercos_agenda.specs.Reported.{AreNumbered}
 use Rattle.sercos_agenda.proofs.OneTurn.{from_same}

@@ -1,6 +1,7 @@
 -- The tasks of a channel in an epoch, and which of the agenda each of them is. Tasks and requests have their newest item first,
 -- outcomes their oldest.
 use Rattle.std.specs.Prelude.{◌≡◌, ℕ, ◌+◌, ◌<◌, ◌≤◌, true, false, List, [], ◌∷◌, ◌++◌, length, Option, Some, None, slice_get, ◌⊎◌}
+use Rattle.sercos_idn.specs.Elements.{data_element}
 use Rattle.sercos_step.specs.declared.request.Request.{Request}
 use Rattle.sercos_step.specs.declared.request.Request.TheVariants as request
 use Rattle.sercos_step.specs.declared.request.Outcome.{Outcome}
@@ -21,9 +22,9 @@ pub data IsTask (s : Known) (k : ℕ) (plan : Option PlanView) (waiting : List T
   OfReads : (r : Request) → length outcomes < reads_count (member s k) → slice_get (reads (member s k)) (length outcomes) ≡ Some r → t ≡ startup 2 r → IsTask s k plan waiting outcomes t
   OfWrites : (p : PlanView) → (i : ℕ) → (r : Request) → plan ≡ Some p → i < 11 → length outcomes ≡ reads_count (member s k) + i → slice_get (writes s p k) i ≡ Some r → t ≡ startup 2 r → IsTask s k plan waiting outcomes t
   Checks3 : (p : PlanView) → plan ≡ Some p → length outcomes ≡ reads_count (member s k) + 11 → t ≡ startup 2 (request.Command (idn 127)) → IsTask s k plan waiting outcomes t
-  Lists3 : length outcomes ≡ reads_count (member s k) + 12 → is_checked (member s k) outcomes ≡ false → t ≡ startup 2 (request.Read (idn 21) 7) → IsTask s k plan waiting outcomes t
+  Lists3 : length outcomes ≡ reads_count (member s k) + 12 → is_checked (member s k) outcomes ≡ false → t ≡ startup 2 (request.Read (idn 21) data_element) → IsTask s k plan waiting outcomes t
   Checks4 : length outcomes ≡ reads_count (member s k) + 12 → is_checked (member s k) outcomes ≡ true → t ≡ startup 3 (request.Command (idn 128)) → IsTask s k plan waiting outcomes t
-  Lists4 : length outcomes ≡ reads_count (member s k) + 13 → is_ready (member s k) outcomes ≡ false → t ≡ startup 3 (request.Read (idn 22) 7) → IsTask s k plan waiting outcomes t
+  Lists4 : length outcomes ≡ reads_count (member s k) + 13 → is_ready (member s k) outcomes ≡ false → t ≡ startup 3 (request.Read (idn 22) data_element) → IsTask s k plan waiting outcomes t
   OfWaiting : (j : ℕ) → length outcomes ≡ reads_count (member s k) + (13 + j) → is_ready (member s k) outcomes ≡ true → slice_get waiting j ≡ Some t → IsTask s k plan waiting outcomes t
 
 -- if the newest of these is of the start-up, it is complete

@@ -1,5 +1,6 @@
 -- What the start-up wrote. Requests have their newest item first.
 use Rattle.std.specs.Prelude.{◌≡◌, ℕ, ◌+◌, ◌≤◌, ◌<◌, true, Option, List, [], ◌∷◌, ◌++◌, length, Some, slice_get}
+use Rattle.sercos_idn.specs.Elements.{data_element}
 use Rattle.sercos_idn.specs.declared.idn.Idn.{Idn}
 use Rattle.sercos_step.specs.declared.request.Request.TheVariants as request
 use Rattle.sercos_step.specs.declared.request.Outcome.TheVariants as outcome
@@ -25,7 +26,7 @@ pub record IsWrittenLast (blocks : List Block) (begun : List Begun) (idn : Idn) 
   pub one : Begun
   pub older : List Begun
   pub split : begun ≡ newer ++ one ∷ older
-  pub asks : one.request ≡ request.Write idn 7 bytes
+  pub asks : one.request ≡ request.Write idn data_element bytes
   pub whole : List ℕ
   pub complete : outcome_of one.request one.answers ≡ Some (outcome.Complete whole)
   pub away : GiveElsewhere idn.raw blocks newer
@@ -34,11 +35,11 @@ pub record IsWrittenLast (blocks : List Block) (begun : List Begun) (idn : Idn) 
 pub record IsConfigured (s : Known) (k : ℕ) (blocks : List Block) (made : Option PlanView) (begun : List Begun) : Type 0 where
   pub plan : PlanView
   pub plan_is : made ≡ Some plan
-  pub each : (i : ℕ) (idn : Idn) (bytes : List ℕ) → slice_get (writes s plan k) i ≡ Some (request.Write idn 7 bytes) → IsWrittenLast blocks begun idn bytes
+  pub each : (i : ℕ) (idn : Idn) (bytes : List ℕ) → slice_get (writes s plan k) i ≡ Some (request.Write idn data_element bytes) → IsWrittenLast blocks begun idn bytes
 
 -- each write of a plan writes operation data
 abbrev pub WritesData : Type 0
-WritesData = (s : Known) (plan : PlanView) (k i : ℕ) → i < 11 → (idn : Idn) × (bytes : List ℕ) × (slice_get (writes s plan k) i ≡ Some (request.Write idn 7 bytes)) × (slice_get start_numbers i ≡ Some idn.raw)
+WritesData = (s : Known) (plan : PlanView) (k i : ℕ) → i < 11 → (idn : Idn) × (bytes : List ℕ) × (slice_get (writes s plan k) i ≡ Some (request.Write idn data_element bytes)) × (slice_get start_numbers i ≡ Some idn.raw)
 
 -- THE WRITES. From where the check for phase 3 has been begun, and up to phase 3, each write of the plan is complete, and nothing
 -- newer gives anything to its identifier number.

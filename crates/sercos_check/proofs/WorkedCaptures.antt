@@ -1,14 +1,13 @@
 -- Captures whose verdicts are worked out by hand. The checker computes them from the definitions.
-use Rattle.std.proofs.Common.{◌≡◌, ℕ, zero, suc, pos, negsuc, ◌<◌, inl, inr, List, [], ◌∷◌, refl, arith, slice_index, ap, sym, Bool, true, false}
+use Rattle.std.proofs.Common.{◌≡◌, ℕ, pos, negsuc, inl, inr, List, [], ◌∷◌, refl, arith, ap, sym, Bool, true, false}
 use Rattle.std.proofs.lemmas.Bool.{false≢true}
 use Rattle.sercos_model.specs.Bits.{low_bits, bits_of, number_of, is_odd}
 use Rattle.sercos_model.specs.CheckSequence.{fcs_of, divided, added, sum_of}
 use Rattle.sercos_hdlc.specs.Stuffed.{stuffed, frame_of}
 use Rattle.sercos_telegram.specs.declared.layout.Kind.TheVariants as telegram
 use Rattle.sercos_telegram.specs.Faults.{mst_fault, head_fault}
-use Rattle.sercos_timing.specs.Order.{wish}
-use Rattle.sercos_timing.specs.Valid.{IsWish, IsValid, addresses}
 use Rattle.sercos_timing.specs.Examples.{small_drive, two_drives}
+use Rattle.sercos_timing.proofs.Worked.{two_drives_valid}
 use Rattle.sercos_trace.specs.declared.reading.Line.{Line}
 use Rattle.sercos_trace.specs.declared.reading.Line.TheVariants as line
 use Rattle.sercos_check.specs.declared.trouble.Trouble.TheVariants as trouble
@@ -37,36 +36,6 @@ mst = line.Telegram 0 (record { kind = telegram.Mst; start = negsuc 49; bits = 5
 abbrev at : ℕ → ℕ → ℕ → Line
 at address start bits = line.Telegram 0 (record { kind = telegram.At; start = pos start; bits = bits; content = address ∷ 0 ∷ 0 ∷ 0 ∷ 0 ∷ 0 ∷ 0 ∷ 0 ∷ 0 ∷ [] })
 
--- the wishes of the head are valid
-below_two : (P : ℕ → Type 0) → P 0 → P 1 → (k : ℕ) → k < 2 → P k
-below_two P first second zero below = first
-below_two P first second (suc zero) below = second
-below_two P first second (suc (suc k)) below = absurd (omega arith)
-
-apart_two : (P : ℕ → ℕ → Type 0) → P 0 1 → (i j : ℕ) → i < j → j < 2 → P i j
-apart_two P h zero zero less below = absurd (omega arith)
-apart_two P h zero (suc zero) less below = h
-apart_two P h (suc i) (suc zero) less below = absurd (omega arith)
-apart_two P h (suc i) zero less below = absurd (omega arith)
-apart_two P h i (suc (suc j)) less below = absurd (omega arith)
-
-valid : IsValid (two_drives 250 10)
-valid = record {
-  drives = record {
-    some = omega arith;
-    few = omega arith;
-    wishes = below_two (λ k. IsWish (wish (two_drives 250 10) k)) (record { address = (omega arith, omega arith); at_len = (omega arith, omega arith); record_len = (omega arith, omega arith) }) (record { address = (omega arith, omega arith); at_len = (omega arith, omega arith); record_len = (omega arith, omega arith) });
-    apart = apart_two (λ i j. slice_index (addresses (two_drives 250 10).drives) i ≡ slice_index (addresses (two_drives 250 10).drives) j → ⊥) (λ e. omega arith);
-    mdt_len = omega arith;
-  };
-  order = record {
-    count = refl;
-    within = below_two (λ i. slice_index (two_drives 250 10).order i < 2) (omega arith) (omega arith);
-    once = apart_two (λ i j. slice_index (two_drives 250 10).order i ≡ slice_index (two_drives 250 10).order j → ⊥) (λ e. omega arith);
-  };
-  cycles = record { rate = inr (inl refl); cycle = inr (omega arith, omega arith, refl); control = (omega arith, refl); gap = omega arith };
-}
-
 ring_clean : IsClean (line.Ring 4 250 250 5 2 ∷ line.Version ∷ [])
 ring_clean = ((tt, (refl, tt), refl), (refl, tt), refl)
 
@@ -74,7 +43,7 @@ drives_clean : IsClean drives
 drives_clean = ((ring_clean, (refl, tt), refl), (refl, tt), refl)
 
 head_clean : IsClean head
-head_clean = (drives_clean, (refl, valid), refl)
+head_clean = (drives_clean, (refl, two_drives_valid), refl)
 
 -- a head alone is a clean capture; one that ends early isn't, nor is the empty text
 head_is_whole : IsWhole head 5

@@ -1,3 +1,3 @@
 mod DriveLemmas
 mod RecordLemmas
-mod Worked
+pub mod Worked

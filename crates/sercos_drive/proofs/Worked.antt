@@ -23,7 +23,7 @@ use Rattle.sercos_drive.specs.Moments.{Moment, AtMst, AtMdt, AtRestart}
 use Rattle.sercos_drive.specs.Annals.{stands_in, annals, phase_at, store_at, writes_at}
 use Rattle.sercos_drive.specs.Says.{Said, said_in, value_in, drive_says}
 
-abbrev own : ℕ → List ℕ → ℕ → Block
+abbrev pub own : ℕ → List ℕ → ℕ → Block
 own raw value step = record {
   idn = record { raw = raw };
   attribute = attribute_of 0x00220001;
@@ -38,7 +38,7 @@ own raw value step = record {
   fails = false;
 }
 
-abbrev drive : DriveView
+abbrev pub drive : DriveView
 drive = record {
   address = 1;
   slave = 1;

@@ -1,5 +1,5 @@
 -- Places of the ring, and what a call changes at one of them.
-use Rattle.std.proofs.Common.{◌≡◌, ℕ, suc, ◌+◌, ◌<◌, ◌==◌, Bool, true, false, List, [], ◌∷◌, Some, length, ap, refl, sym, ◌∙◌, arith, if◌then◌else◌, inl, inr}
+use Rattle.std.proofs.Common.{◌≡◌, ℕ, suc, ◌+◌, ◌<◌, ◌==◌, Bool, true, false, List, [], ◌∷◌, Option, Some, length, ap, refl, sym, ◌∙◌, arith, if◌then◌else◌, inl, inr}
 use Rattle.std.specs.Prelude.{is_none, nat_le, slice_index_or, ◌&&◌, not}
 use Rattle.std.specs.List.{position, position_from}
 use Rattle.std.proofs.Math.ListN.{set, length-set}
@@ -18,6 +18,7 @@ use Rattle.sercos_seat.specs.Agenda.{at_len}
 use Rattle.sercos_master.specs.Annals.{Past, first_from, is_awaited, wanted_len, is_taken, place_of, after_taken, after_at_of, outcomes}
 use Rattle.sercos_seat.specs.Channel.{is_place}
 use Rattle.sercos_seat.specs.Seats.{Seen, SeatView, SeatStandsFor, taken_in, at_in, at_len_kept}
+use Rattle.sercos_master.specs.Reports.{stop_told}
 use Rattle.sercos_master.specs.Kept.{SeatsStandFor, CoreView, CoreStandsFor, seen_at}
 
 -- The first seat that passes a test is at the first place that passes the like.
@@ -62,6 +63,43 @@ one_seat seats s seen now k w within all same here i v below = elim (cases_eq i 
   | inr n ↦ rw (get_or-set_other seats k i w v n, same i n) (all i v (rw length-set at below))
 ]
 
+-- what a call on channels leaves of the ring
+pub record LeavesRest (q p : Past) : Type 0 where
+  pub cycle_is : q.cycle ≡ p.cycle
+  pub turns_is : q.turns ≡ p.turns
+  pub phase_is : q.now.phase ≡ p.now.phase
+  pub whole_is : q.now.whole ≡ p.now.whole
+  pub plans_is : q.now.plans ≡ p.now.plans
+  pub plan_is : q.plan ≡ p.plan
+  pub stop_is : q.stop ≡ p.stop
+  pub told_is : stop_told q ≡ stop_told p
+
+-- then the seats may be others, and the drive that the MDT is to
+pub with_seats : (v : CoreView) (seats : List SeatView) (to : Option ℕ) (s : Known) (p q : Past) → CoreStandsFor v s p → LeavesRest q p → to ≡ q.now.addressed → length seats ≡ length v.seats →
+    SeatsStandFor seats s (seen_at q) → CoreStandsFor (record v { seats = seats; addressed = to }) s q
+with_seats v seats to s p q c same to_is count all = record {
+  rate_is = c.rate_is;
+  cycle_is = c.cycle_is;
+  control_is = c.control_is;
+  gap_is = c.gap_is;
+  order_is = c.order_is;
+  places_are = c.places_are;
+  seats_count = count ∙ c.seats_count;
+  seats = all;
+  count_is = rw same.cycle_is c.count_is;
+  phase_is = c.phase_is ∙ sym same.phase_is;
+  whole_is = c.whole_is ∙ sym same.whole_is;
+  row_is = rw same.turns_is c.row_is;
+  lost_is = rw same.turns_is c.lost_is;
+  addressed_is = to_is;
+  before_is = rw same.turns_is c.before_is;
+  waited_is = rw same.turns_is c.waited_is;
+  plan_is = c.plan_is ∙ sym same.plan_is;
+  plans_is = c.plans_is ∙ sym same.plans_is;
+  stopped_is = rw same.stop_is c.stopped_is;
+  stop_is = c.stop_is ∙ sym same.told_is;
+}
+
 taken_by : (s : Known) (p : Past) (k : ℕ) (content : List ℕ) → is_awaited p k ≡ true →
     is_taken s p k content ≡ (not (p.now.heard k) && is_none (at_fault (member s k).address (wanted_len s p k) content))
 taken_by s p k content e = rw e refl
@@ -77,52 +115,12 @@ hears_from v s p k wanted content w c within awaited is here = by (is_taken s p 
     by true e =
         let f : (not (p.now.heard k) && is_none (at_fault (member s k).address wanted content)) ≡ true = rw is (sym (taken_by s p k content awaited) ∙ e) in
         let now : SeatStandsFor w (member s k) (seen_at (after_taken k content p) k) = rw seen_there (rw f at here) in
-        rw e (record {
-          rate_is = c.rate_is;
-          cycle_is = c.cycle_is;
-          control_is = c.control_is;
-          gap_is = c.gap_is;
-          order_is = c.order_is;
-          places_are = c.places_are;
-          seats_count = length-set v.seats k w ∙ c.seats_count;
-          seats = one_seat v.seats s (seen_at p) (seen_at (after_taken k content p)) k w within c.seats (λ i n. seen_elsewhere k i content p n) now;
-          count_is = c.count_is;
-          phase_is = c.phase_is;
-          whole_is = c.whole_is;
-          row_is = c.row_is;
-          lost_is = c.lost_is;
-          addressed_is = c.addressed_is;
-          before_is = c.before_is;
-          waited_is = c.waited_is;
-          plan_is = c.plan_is;
-          plans_is = c.plans_is;
-          stopped_is = c.stopped_is;
-          stop_is = c.stop_is;
-        })
+        rw e (with_seats v (set v.seats k w) v.addressed s p (after_taken k content p) c (record { cycle_is = refl; turns_is = refl; phase_is = refl; whole_is = refl; plans_is = refl; plan_is = refl; stop_is = refl; told_is = refl }) c.addressed_is (length-set v.seats k w)
+        (one_seat v.seats s (seen_at p) (seen_at (after_taken k content p)) k w within c.seats (λ i n. seen_elsewhere k i content p n) now))
     by false e =
         let f : (not (p.now.heard k) && is_none (at_fault (member s k).address wanted content)) ≡ false = rw is (sym (taken_by s p k content awaited) ∙ e) in
-        rw e (record {
-          rate_is = c.rate_is;
-          cycle_is = c.cycle_is;
-          control_is = c.control_is;
-          gap_is = c.gap_is;
-          order_is = c.order_is;
-          places_are = c.places_are;
-          seats_count = length-set v.seats k w ∙ c.seats_count;
-          seats = one_seat v.seats s (seen_at p) (seen_at p) k w within c.seats (λ i n. refl) (rw f at here);
-          count_is = c.count_is;
-          phase_is = c.phase_is;
-          whole_is = c.whole_is;
-          row_is = c.row_is;
-          lost_is = c.lost_is;
-          addressed_is = c.addressed_is;
-          before_is = c.before_is;
-          waited_is = c.waited_is;
-          plan_is = c.plan_is;
-          plans_is = c.plans_is;
-          stopped_is = c.stopped_is;
-          stop_is = c.stop_is;
-        })
+        rw e (with_seats v (set v.seats k w) v.addressed s p p c (record { cycle_is = refl; turns_is = refl; phase_is = refl; whole_is = refl; plans_is = refl; plan_is = refl; stop_is = refl; told_is = refl }) c.addressed_is (length-set v.seats k w)
+        (one_seat v.seats s (seen_at p) (seen_at p) k w within c.seats (λ i n. refl) (rw f at here)))
 
 -- one that isn't awaited changes nothing
 pub hears_nothing : (s : Known) (p : Past) (k : ℕ) (content : List ℕ) → is_awaited p k ≡ false → after_at_of s (Some k) content p ≡ p

@@ -19,7 +19,7 @@ use Rattle.sercos_seat.specs.Channel.{is_place, of_phase}
 use Rattle.sercos_seat.specs.Seats.{Seen, SeatView, SeatStandsFor, forgotten, ended_in, cycles_kept, has_read, with_begun, begun_task}
 use Rattle.sercos_master.specs.Kept.{SeatsStandFor, CoreView, CoreStandsFor, seen_at, waited_with, waited_for, waited_row, has_missed}
 use Rattle.sercos_seat.proofs.Queues.{queue_same}
-use Rattle.sercos_master.proofs.Places.{first_seat, one_seat, same_place, other_place}
+use Rattle.sercos_master.proofs.Places.{first_seat, one_seat, with_seats, same_place, other_place}
 
 read_same : (r done l : ℕ) → r ≤ 38 → done ≡ min l 100 → nat_le r done ≡ nat_le r l
 read_same r done l few is = by (nat_le r l) refl
@@ -98,30 +98,10 @@ seen_begun s p k = by (begins s p k)
 pub begun_at : (v : CoreView) (s : Known) (p : Past) (k : ℕ) (w : SeatView) → CoreStandsFor v s p → k < length v.seats → p.now.phase ≡ 2 → p.stop ≡ None → in_turn s p ≡ Some k →
     SeatStandsFor w (member s k) (with_begun (if is_idle p k then of_phase 2 (next_task s p k) else None) (seen_at p k)) →
     CoreStandsFor (record v { seats = set v.seats k w }) s (begun s p)
-begun_at v s p k w c within two no_stop e here = record {
-  rate_is = c.rate_is;
-  cycle_is = c.cycle_is;
-  control_is = c.control_is;
-  gap_is = c.gap_is;
-  order_is = c.order_is;
-  places_are = c.places_are;
-  seats_count = length-set v.seats k w ∙ c.seats_count;
-  seats = one_seat v.seats s (seen_at p) (seen_at (begun s p)) k w within c.seats
-      (λ i n. seen_begun s p i ∙ ap (λ t. with_begun t (seen_at p i)) (begins_elsewhere s p k i two no_stop e n))
-      (rw (seen_begun s p k, begins_there s p k two no_stop e) here);
-  count_is = c.count_is;
-  phase_is = c.phase_is;
-  whole_is = c.whole_is;
-  row_is = c.row_is;
-  lost_is = c.lost_is;
-  addressed_is = c.addressed_is;
-  before_is = c.before_is;
-  waited_is = c.waited_is;
-  plan_is = c.plan_is;
-  plans_is = c.plans_is;
-  stopped_is = c.stopped_is;
-  stop_is = c.stop_is;
-}
+begun_at v s p k w c within two no_stop e here = with_seats v (set v.seats k w) v.addressed s p (begun s p) c (record { cycle_is = refl; turns_is = refl; phase_is = refl; whole_is = refl; plans_is = refl; plan_is = refl; stop_is = refl; told_is = refl }) c.addressed_is (length-set v.seats k w)
+    (one_seat v.seats s (seen_at p) (seen_at (begun s p)) k w within c.seats
+    (λ i n. seen_begun s p i ∙ ap (λ t. with_begun t (seen_at p i)) (begins_elsewhere s p k i two no_stop e n))
+    (rw (seen_begun s p k, begins_there s p k two no_stop e) here))
 
 -- what each phase waits for
 pub done_1 : (s : Known) (p : Past) → p.now.phase ≡ 1 → is_done s p ≡ is_none (first_place s (λ k. not (is_identified p k)))
@@ -449,29 +429,9 @@ begins_all s p k phase is late no_stop = by (is_idle p k) refl
 
 pub begun_all : (v : CoreView) (seats : List SeatView) (s : Known) (p : Past) (phase : ℕ) → CoreStandsFor v s p → p.now.phase ≡ phase → nat_le 3 phase ≡ true → p.stop ≡ None → length seats ≡ length v.seats →
     SeatsStandFor seats s (λ k. with_begun (begun_task phase s p.plan (p.waiting k) k (seen_at p k)) (seen_at p k)) → CoreStandsFor (record v { seats = seats }) s (begun s p)
-begun_all v seats s p phase c is late no_stop count all = record {
-  rate_is = c.rate_is;
-  cycle_is = c.cycle_is;
-  control_is = c.control_is;
-  gap_is = c.gap_is;
-  order_is = c.order_is;
-  places_are = c.places_are;
-  seats_count = count ∙ c.seats_count;
-  seats = λ k seat below. subst (SeatStandsFor (slice_index_or seats k seat) (member s k))
-      (sym (seen_begun s p k ∙ ap (λ t. with_begun t (seen_at p k)) (begins_all s p k phase is late no_stop))) (all k seat below);
-  count_is = c.count_is;
-  phase_is = c.phase_is;
-  whole_is = c.whole_is;
-  row_is = c.row_is;
-  lost_is = c.lost_is;
-  addressed_is = c.addressed_is;
-  before_is = c.before_is;
-  waited_is = c.waited_is;
-  plan_is = c.plan_is;
-  plans_is = c.plans_is;
-  stopped_is = c.stopped_is;
-  stop_is = c.stop_is;
-}
+begun_all v seats s p phase c is late no_stop count all = with_seats v seats v.addressed s p (begun s p) c (record { cycle_is = refl; turns_is = refl; phase_is = refl; whole_is = refl; plans_is = refl; plan_is = refl; stop_is = refl; told_is = refl }) c.addressed_is (count)
+    (λ k seat below. subst (SeatStandsFor (slice_index_or seats k seat) (member s k))
+    (sym (seen_begun s p k ∙ ap (λ t. with_begun t (seen_at p k)) (begins_all s p k phase is late no_stop))) (all k seat below))
 
 none≢some : {A : Type 0} {x : A} → None ≡ Some x → ⊥
 none≢some e = cc
@@ -583,28 +543,8 @@ stop_found v s p k seat w c none within there is taken =
 
 -- where nothing is begun
 begun_none : (v : CoreView) (s : Known) (p : Past) → CoreStandsFor v s p → ((k : ℕ) → begins s p k ≡ None) → CoreStandsFor v s (begun s p)
-begun_none v s p c none = record {
-  rate_is = c.rate_is;
-  cycle_is = c.cycle_is;
-  control_is = c.control_is;
-  gap_is = c.gap_is;
-  order_is = c.order_is;
-  places_are = c.places_are;
-  seats_count = c.seats_count;
-  seats = λ k seat below. subst (SeatStandsFor (slice_index_or v.seats k seat) (member s k)) (sym (seen_begun s p k ∙ ap (λ t. with_begun t (seen_at p k)) (none k))) (c.seats k seat below);
-  count_is = c.count_is;
-  phase_is = c.phase_is;
-  whole_is = c.whole_is;
-  row_is = c.row_is;
-  lost_is = c.lost_is;
-  addressed_is = c.addressed_is;
-  before_is = c.before_is;
-  waited_is = c.waited_is;
-  plan_is = c.plan_is;
-  plans_is = c.plans_is;
-  stopped_is = c.stopped_is;
-  stop_is = c.stop_is;
-}
+begun_none v s p c none = with_seats v v.seats v.addressed s p (begun s p) c (record { cycle_is = refl; turns_is = refl; phase_is = refl; whole_is = refl; plans_is = refl; plan_is = refl; stop_is = refl; told_is = refl }) c.addressed_is refl
+    (λ k seat below. subst (SeatStandsFor (slice_index_or v.seats k seat) (member s k)) (sym (seen_begun s p k ∙ ap (λ t. with_begun t (seen_at p k)) (none k))) (c.seats k seat below))
 
 pub begun_stopped : (v : CoreView) (s : Known) (p : Past) → CoreStandsFor v s p → is_some p.stop ≡ true → CoreStandsFor v s (begun s p)
 begun_stopped v s p c e = begun_none v s p c (λ k. none k)

@@ -23,7 +23,7 @@ use Rattle.sercos_seat.specs.Records.{record_said, value_said, values_said}
 use Rattle.sercos_master.specs.Says.{Sent, sent_as, record_to, records_from, mdt_said, single, joint, idle}
 use Rattle.sercos_seat.specs.Seats.{Seen, SeatView, SeatStandsFor, sent_in, record_seen}
 use Rattle.sercos_master.specs.Kept.{SeatsStandFor, CoreView, CoreStandsFor, seen_at, sent_now, Fits, records_upto}
-use Rattle.sercos_master.proofs.Places.{one_seat, same_place, other_place}
+use Rattle.sercos_master.proofs.Places.{one_seat, with_seats, same_place, other_place}
 use Rattle.sercos_seat.proofs.Seats.{idle_same}
 use Rattle.sercos_master.proofs.Rings.{found, unidentified}
 use Rattle.sercos_master.proofs.Wishes.{wishes_more}
@@ -150,55 +150,14 @@ content_planned s p out h e = rw (said_late s p h) (by p.plan e)
 
 pub sent_all : (v : CoreView) (seats : List SeatView) (s : Known) (p : Past) → CoreStandsFor v s p → 3 ≤ p.now.phase → length seats ≡ length v.seats → SeatsStandFor seats s (λ k. sent_in (seen_at p k)) →
     CoreStandsFor (record v { seats = seats; addressed = None }) s (sent_now s p)
-sent_all v seats s p c h count all = rw (now_late s p h) (record {
-  rate_is = c.rate_is;
-  cycle_is = c.cycle_is;
-  control_is = c.control_is;
-  gap_is = c.gap_is;
-  order_is = c.order_is;
-  places_are = c.places_are;
-  seats_count = count ∙ c.seats_count;
-  seats = λ k seat below. subst (SeatStandsFor (slice_index_or seats k seat) (member s k)) (sym (seen_sent p k h)) (all k seat below);
-  count_is = c.count_is;
-  phase_is = c.phase_is;
-  whole_is = c.whole_is;
-  row_is = c.row_is;
-  lost_is = c.lost_is;
-  addressed_is = refl;
-  before_is = c.before_is;
-  waited_is = c.waited_is;
-  plan_is = c.plan_is;
-  plans_is = c.plans_is;
-  stopped_is = c.stopped_is;
-  stop_is = c.stop_is;
-})
+sent_all v seats s p c h count all = rw (now_late s p h) (with_seats v seats None s p (sent_to None p) c (record { cycle_is = refl; turns_is = refl; phase_is = refl; whole_is = refl; plans_is = refl; plan_is = refl; stop_is = refl; told_is = refl }) refl count
+    (λ k seat below. subst (SeatStandsFor (slice_index_or seats k seat) (member s k)) (sym (seen_sent p k h)) (all k seat below)))
 
 -- WHAT IS SENT TO ONE, OR TO NONE
 -- the seats as they were, but for the one that is sent to in phase 2
 sent_core : (v : CoreView) (seats : List SeatView) (s : Known) (p : Past) (to : Option ℕ) → CoreStandsFor v s p → length seats ≡ length v.seats → SeatsStandFor seats s (seen_at (sent_to to p)) →
     CoreStandsFor (record v { seats = seats; addressed = to }) s (sent_to to p)
-sent_core v seats s p to c count all = record {
-  rate_is = c.rate_is;
-  cycle_is = c.cycle_is;
-  control_is = c.control_is;
-  gap_is = c.gap_is;
-  order_is = c.order_is;
-  places_are = c.places_are;
-  seats_count = count ∙ c.seats_count;
-  seats = all;
-  count_is = c.count_is;
-  phase_is = c.phase_is;
-  whole_is = c.whole_is;
-  row_is = c.row_is;
-  lost_is = c.lost_is;
-  addressed_is = refl;
-  before_is = c.before_is;
-  waited_is = c.waited_is;
-  plan_is = c.plan_is;
-  plans_is = c.plans_is;
-  stopped_is = c.stopped_is;
-  stop_is = c.stop_is;
-}
+sent_core v seats s p to c count all = with_seats v seats to s p (sent_to to p) c (record { cycle_is = refl; turns_is = refl; phase_is = refl; whole_is = refl; plans_is = refl; plan_is = refl; stop_is = refl; told_is = refl }) refl count all
 
 seen_unsent : (p : Past) (to : Option ℕ) (k : ℕ) → is_sent_to p to k ≡ false → seen_at (sent_to to p) k ≡ seen_at p k
 seen_unsent p to k e = rw e refl

@@ -1,5 +1,5 @@
 -- Where a stop stands: it comes from phase 2 on, is told in a record, and no later record tells a fall.
-use Rattle.std.proofs.Common.{◌≡◌, ◌⊎◌, inl, inr, ℕ, zero, suc, ◌+◌, ◌<◌, ◌≤◌, Bool, true, false, List, [], ◌∷◌, length, Option, Some, None, refl, sym, ap, ◌∙◌, arith, if◌then◌else◌}
+use Rattle.std.proofs.Common.{◌≡◌, ◌⊎◌, inl, inr, ℕ, ◌+◌, ◌<◌, ◌≤◌, Bool, true, false, List, [], ◌∷◌, length, Option, Some, None, refl, sym, ap, ◌∙◌, arith, if◌then◌else◌}
 use Rattle.std.specs.Prelude.{◌==◌, is_some}
 use Rattle.std.specs.Option.{option_or}
 use Rattle.std.proofs.lemmas.Bool.{false≢true}
@@ -13,7 +13,7 @@ use Rattle.sercos_trace.specs.declared.events.Fall.{Fall}
 use Rattle.sercos_trace.specs.declared.events.Stop.{Stop}
 use Rattle.sercos_seat.specs.Channel.{last_outcome, trouble_by}
 use Rattle.sercos_seat.specs.Ring.{Known, Task, known_of, member, tasks_for}
-use Rattle.sercos_master.specs.Annals.{Call, HearMst, HearAt, Mdt, End, Restart, Past, after_at, after_mdt, fall_of, first_trouble, first_trouble_from, goes_on, is_done, is_plan_due, new_epoch, next_phase, past, planned_by, still_waiting, trouble, with_due_plan, with_stop}
+use Rattle.sercos_master.specs.Annals.{Call, HearMst, HearAt, Mdt, End, Restart, Past, after_at, after_mdt, fall_of, first_trouble, goes_on, is_done, is_plan_due, new_epoch, next_phase, past, planned_by, still_waiting, with_due_plan, with_stop}
 use Rattle.sercos_master.specs.Reports.{restart_told}
 use Rattle.sercos_script.specs.Links.{Carry, Restarts}
 use Rattle.sercos_journal.specs.Runs.{looks_back, master_calls, middle, no_events, IsNext, IsRun}
@@ -24,6 +24,7 @@ use Rattle.sercos_views.proofs.MasterSame.{begun_cycle, turn_mdt}
 use Rattle.sercos_views.proofs.ViewRuns.{started}
 use Rattle.sercos_headline.proofs.HeadlineRuns.{MoreLaws}
 use Rattle.sercos_undisturbed.proofs.AfterAt.{after_at_so}
+use Rattle.sercos_undisturbed.proofs.PhaseZero.{none_first}
 use Rattle.sercos_undisturbed.proofs.StopsTold.{fresh}
 use Rattle.sercos_undisturbed.proofs.StopStays.{stop_after, stop_kept}
 use Rattle.sercos_recovery.specs.Recovers.{StandsAt}
@@ -34,10 +35,6 @@ use Rattle.sercos_recovery.proofs.LateDown.{phase_now}
 no_trouble : (address : ℕ) (tasks : List Task) → trouble_by address tasks None ≡ None
 no_trouble address [] = refl
 no_trouble address (t ∷ tasks) = refl
-
-none_first : (s : Known) (p : Past) (k n : ℕ) → ((i : ℕ) → i < k + n → trouble s p i ≡ None) → first_trouble_from s p k n ≡ None
-none_first s p k zero each = refl
-none_first s p k (suc n) each = let here : trouble s p k ≡ None = each k (omega arith) in rw here (none_first s p (k + 1) n (λ i low. each i (omega (arith, low))))
 
 mdt_none : (s : Known) (p : Past) → p.stop ≡ None → p.now.phase ≤ 1 → ((k : ℕ) → k < length s.drives → begun_by (p.calls k) ≡ []) → (after_mdt s p).stop ≡ None
 mdt_none s p none early empty = ap (λ (o : Option Stop). (with_due_plan s (with_stop o p)).stop) first ∙ due (is_plan_due s p) refl

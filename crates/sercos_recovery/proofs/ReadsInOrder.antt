@@ -1,28 +1,26 @@
 -- Up to phase 2, where something of a drive has begun, each drive before it in the ring has been read.
-use Rattle.std.proofs.Common.{◌≡◌, inl, inr, ℕ, ◌+◌, ◌<◌, ◌≤◌, Bool, true, false, not, ◌&&◌, List, [], ◌∷◌, length, Option, Some, None, refl, sym, ap, ◌∙◌, subst, arith, if◌then◌else◌}
-use Rattle.std.specs.Prelude.{◌==◌, nat_le, is_none, is_some}
+use Rattle.std.proofs.Common.{◌≡◌, inl, inr, ℕ, ◌+◌, ◌<◌, ◌≤◌, Bool, true, false, not, List, [], ◌∷◌, length, Option, Some, None, refl, sym, ap, ◌∙◌, arith, if◌then◌else◌}
+use Rattle.std.specs.Prelude.{is_none, is_some}
 use Rattle.std.specs.Option.{option_or}
-use Rattle.std.proofs.lemmas.Bool.{and_parts, cases_eq, cases_lt, or_cases, leb-true, le-leb}
+use Rattle.std.proofs.lemmas.Bool.{cases_lt, leb-true, le-leb}
 use Rattle.sercos_step.specs.declared.request.Outcome.{Outcome}
 use Rattle.sercos_service_master.specs.Begun.{Begun}
 use Rattle.sercos_service_master.specs.Calls.{begun_by}
 use Rattle.sercos_service_master.specs.Calls as channel
 use Rattle.sercos_seat.specs.Agenda.{reads_count, is_checked, is_read}
-use Rattle.sercos_seat.specs.Channel.{is_place, of_phase, outcomes_in, with_outcome}
+use Rattle.sercos_seat.specs.Channel.{outcomes_in, with_outcome}
 use Rattle.sercos_seat.specs.Ring.{Known, MemberView, Task, member}
-use Rattle.sercos_master.specs.Annals.{Call, HearMst, HearAt, Mdt, End, Restart, Past, outcomes, first_place, is_idle, after_taken, settled, in_turn, has_turn, next_task, begins, fall_of, is_done, goes_on, new_epoch, still_waiting, past}
+use Rattle.sercos_master.specs.Annals.{Call, HearMst, HearAt, Mdt, End, Restart, Past, outcomes, first_place, after_taken, settled, in_turn, begins, fall_of, is_done, goes_on, new_epoch, still_waiting, past}
 use Rattle.sercos_master.proofs.Configured.{each_passes, leaves, mdt_adds}
 use Rattle.sercos_master.proofs.Planned.{at_adds}
 use Rattle.sercos_handshake.specs.Epochs.{with_begun}
-use Rattle.sercos_agenda.proofs.OneTurn.{AtHears, SameAt, HeardAt, elsewhere_same, here_hears}
 use Rattle.sercos_views.specs.RingViews.{request_of}
 use Rattle.sercos_views.proofs.MasterSame.{begun_so, turn_mdt}
 use Rattle.sercos_undisturbed.proofs.AfterAt.{after_at_so}
 use Rattle.sercos_undisturbed.proofs.EpochCycles.{longer}
 use Rattle.sercos_undisturbed.proofs.Arrivals.{not_false}
-use Rattle.sercos_undisturbed.proofs.InOrder.{before_first, same_count}
+use Rattle.sercos_undisturbed.proofs.InOrder.{at_leaves_count, before_first, begins_in_turn}
 use Rattle.sercos_undisturbed.proofs.Small.{some_is}
-use Rattle.sercos_undisturbed.proofs.StaysUp.{place_so}
 
 -- a drive that has been read stays so
 read_stays : (m : MemberView) (outs : List Outcome) (o : Option Outcome) → is_read m outs ≡ true → is_read m (with_outcome o outs) ≡ true
@@ -48,17 +46,7 @@ module _ (s : Known) (requests : ℕ → List Task) where
   taken_order : (i : ℕ) (content : List ℕ) (p : Past) → AreReadInOrder p → AreReadInOrder (after_taken i content p)
   taken_order i content p have two k there more j low =
       let adds = at_adds i content p j in
-      ap (is_read (member s j)) adds.1 ∙ read_stays (member s j) (outcomes p j) adds.0 (have two k there (omega (arith, more, count)) j low)
-    where
-      heard : AtHears p (after_taken i content p) i → length (begun_by ((after_taken i content p).calls i)) ≡ length (begun_by (p.calls i))
-      heard (SameAt same) = ap (λ (l : List Begun). length l) same
-      heard (HeardAt status word same) = ap (λ (l : List Begun). length l) same ∙ same_count status word (begun_by (p.calls i))
-
-      count : length (begun_by ((after_taken i content p).calls k)) ≡ length (begun_by (p.calls k))
-      count = elim (cases_eq k i) [
-        | inl same ↦ subst (λ (n : ℕ). length (begun_by ((after_taken i content p).calls n)) ≡ length (begun_by (p.calls n))) (sym same) (heard (here_hears i content p))
-        | inr other ↦ ap (λ (l : List Begun). length l) (elsewhere_same i k content p other)
-      ]
+      ap (is_read (member s j)) adds.1 ∙ read_stays (member s j) (outcomes p j) adds.0 (have two k there (let same = at_leaves_count i content p k in omega (arith, more, same)) j low)
 
   -- THE MDT
   mdt_order : (h : List Call) → AreReadInOrder (past s requests h) → AreReadInOrder (past s requests (Mdt ∷ h))
@@ -84,18 +72,7 @@ module _ (s : Known) (requests : ℕ → List Task) where
       fresh (Some t) some few = ap (is_read (member s j)) (sym (same_outs j)) ∙ turn_reads s (settled s (past s requests h)) k there turn j low
         where
           turn : in_turn s (settled s (past s requests h)) ≡ Some k
-          turn = which (is_none (settled s (past s requests h)).stop && (is_idle (settled s (past s requests h)) k && has_turn s (settled s (past s requests h)) k)) refl some
-            where
-              which : (v : Bool) → (is_none (settled s (past s requests h)).stop && (is_idle (settled s (past s requests h)) k && has_turn s (settled s (past s requests h)) k)) ≡ v
-                  → (if v then of_phase (settled s (past s requests h)).now.phase (next_task s (settled s (past s requests h)) k) else None) ≡ Some t → in_turn s (settled s (past s requests h)) ≡ Some k
-              which false off got = absurd (cc)
-              which true on got =
-                  let rest = (and_parts (is_none (settled s (past s requests h)).stop) _ on).1 in
-                  let has = (and_parts (is_idle (settled s (past s requests h)) k) _ rest).1 in
-                  elim (or_cases (nat_le 3 (settled s (past s requests h)).now.phase) (((settled s (past s requests h)).now.phase == 2) && is_place k (in_turn s (settled s (past s requests h)))) has) [
-                    | inl late ↦ let three = leb-true 3 (settled s (past s requests h)).now.phase late in let same = (leaves s (past s requests h)).phase in let low_is = before in absurd (omega (arith, three, same, low_is))
-                    | inr same ↦ place_so k (in_turn s (settled s (past s requests h))) (and_parts ((settled s (past s requests h)).now.phase == 2) _ same).1
-                  ]
+          turn = begins_in_turn s (settled s (past s requests h)) k t (let same = (leaves s (past s requests h)).phase in let low_is = before in omega (arith, same, low_is)) some
 
   -- THE END OF A CYCLE
   end_order : (h : List Call) → AreReadInOrder (past s requests h) → AreReadInOrder (past s requests (End ∷ h))

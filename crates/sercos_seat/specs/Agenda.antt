@@ -1,6 +1,7 @@
 -- The tasks of each channel in an epoch, as far as the outcomes so far determine them, and what the outcomes say. Outcomes
 -- come oldest first.
 use Rattle.std.specs.Prelude.{ℕ, ◌+◌, ◌*◌, ◌==◌, nat_le, Bool, false, ◌&&◌, if◌then◌else◌, List, [], ◌∷◌, ◌++◌, length, map, take, drop, sum_by, Option, Some, None, is_none, is_some, option_map, option_and_then, unwrap_or, slice_get, slice_index}
+use Rattle.sercos_idn.specs.Elements.{attribute_element, data_element}
 use Rattle.sercos_idn.specs.declared.idn.Idn.{Idn}
 use Rattle.sercos_step.specs.declared.request.Request.{Request}
 use Rattle.sercos_step.specs.declared.request.Request.TheVariants as request
@@ -49,7 +50,7 @@ abbrev pub declared_times : List ℕ
 declared_times = 3 ∷ 4 ∷ 5 ∷ 87 ∷ 88 ∷ 90 ∷ []
 
 abbrev pub reads : MemberView → List Request
-reads d = map (λ raw. request.Read (idn raw) 7) declared_times ++ map (λ i. request.Read i 3) (d.at ++ d.mdt)
+reads d = map (λ raw. request.Read (idn raw) data_element) declared_times ++ map (λ i. request.Read i attribute_element) (d.at ++ d.mdt)
 
 abbrev pub reads_count : MemberView → ℕ
 reads_count d = 6 + length d.at + length d.mdt
@@ -57,10 +58,10 @@ reads_count d = 6 + length d.at + length d.mdt
 -- It goes on with writes: control unit cycle, cycle, T1, T4, T3, the record's position, the length of the MDT, the telegram
 -- type, what AT and data record carry, and T2.
 abbrev pub writes_word : ℕ → ℕ → Request
-writes_word raw value = request.Write (idn raw) 7 (bytes_in (value ∷ []))
+writes_word raw value = request.Write (idn raw) data_element (bytes_in (value ∷ []))
 
 abbrev pub writes_list : ℕ → List Idn → Request
-writes_list raw idns = request.Write (idn raw) 7 (bytes_in (map (λ i. i.raw) idns))
+writes_list raw idns = request.Write (idn raw) data_element (bytes_in (map (λ i. i.raw) idns))
 
 abbrev pub writes : Known → PlanView → ℕ → List Request
 writes s p k =
@@ -73,7 +74,7 @@ writes s p k =
 abbrev pub checking : ℕ → ℕ → ℕ → Option Outcome → List Task → List Task
 checking phase command list None next = startup phase (request.Command (idn command)) ∷ []
 checking phase command list (Some o) next =
-    startup phase (request.Command (idn command)) ∷ (if ended_well (bytes_of o) then next else startup phase (request.Read (idn list) 7) ∷ [])
+    startup phase (request.Command (idn command)) ∷ (if ended_well (bytes_of o) then next else startup phase (request.Read (idn list) data_element) ∷ [])
 
 -- All tasks of the channel to the drive at place k: the reads of phase 2; if there is a plan, its writes and the check for
 -- phase 3; in phase 3 the check for phase 4; then the requests that wait.

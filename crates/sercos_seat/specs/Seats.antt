@@ -1,5 +1,6 @@
 -- What the master keeps of one drive, and how that stands for what it looks back on.
 use Rattle.std.specs.Prelude.{reverse, unwrap_or, ◌-◌, slice_get, ◌*◌, sum_by, slice_index_or, ◌≡◌, ℕ, ◌+◌, ◌≤◌, ◌==◌, ◌++◌, nat_le, nat_lt, if◌then◌else◌, Bool, true, false, not, ◌&&◌, List, [], ◌∷◌, length, map, take, drop, min, Option, Some, None, is_some, option_map, is_none}
+use Rattle.sercos_idn.specs.Elements.{data_element}
 use Rattle.sercos_step.specs.declared.request.Outcome.{Outcome}
 use Rattle.sercos_service_master.specs.Kept.{MasterView, MasterStandsFor}
 use Rattle.std.specs.Option.{option_or}
@@ -179,14 +180,14 @@ next_write s (Some p) k i =
 abbrev pub next_in_2 : Known → Option PlanView → ℕ → ℕ → Bool → Option Request
 next_in_2 s plan k done checked =
     if nat_lt done (reads_count (member s k)) then slice_get (reads (member s k)) done
-    else (if (done == reads_count (member s k) + 12) && (is_some plan && not checked) then Some (request.Read (idn 21) 7)
+    else (if (done == reads_count (member s k) + 12) && (is_some plan && not checked) then Some (request.Read (idn 21) data_element)
     else next_write s plan k (done - reads_count (member s k)))
 
 abbrev pub next_in_3 : ℕ → Bool → ℕ → Bool → Bool → Option Request
 next_in_3 reads planned done checked ready =
     if planned && checked
     then (if done == reads + 12 then Some (request.Command (idn 128))
-    else (if (done == reads + 13) && not ready then Some (request.Read (idn 22) 7) else None))
+    else (if (done == reads + 13) && not ready then Some (request.Read (idn 22) data_element) else None))
     else None
 
 -- whether all reads have ended

@@ -8,6 +8,7 @@ ghost use Rattle.sercos_service_drive.specs.Replies.{list_words, element_words, 
 use crate::data::push_data;
 use sercos_bits::ByteList;
 use sercos_block::Store;
+use sercos_block::limits::{MOST_NAME, MOST_UNIT};
 use sercos_command::Commands;
 use sercos_idn::element::{DATA, IDENTIFIER, NAME, UNIT};
 use sercos_idn::{Attribute, Code, Idn};
@@ -16,11 +17,6 @@ use sercos_idn::{Attribute, Code, Idn};
 pub(crate) const CAPACITY: usize = 1028;
 
 pub(crate) type Buffer = ByteList<CAPACITY>;
-
-// The most bytes of a name and of a unit.
-const MOST_NAME_BYTES: u16 = 60;
-
-const MOST_UNIT_BYTES: u16 = 12;
 
 // Copies a word.
 fn copy_word(buffer: &mut Buffer, word: u16)
@@ -66,9 +62,9 @@ fn copy_found(
         words_of buffer.new ≡ element_words element cycle b }
 {
     if element == NAME {
-        copy_list(buffer, MOST_NAME_BYTES, bytes);
+        copy_list(buffer, MOST_NAME as u16, bytes);
     } else if element == UNIT {
-        copy_list(buffer, MOST_UNIT_BYTES, bytes);
+        copy_list(buffer, MOST_UNIT as u16, bytes);
     } else if element != DATA {
         buffer.assign(bytes);
     } else if attribute.length.is_list() {

@@ -46,6 +46,28 @@ part_at (x ∷ newer) older b log (part, rest, those, is, others) =
     let more = part_at newer older b rest others in
     record { front = part ++ more.front; part = more.part; rest = more.rest; split = those ∙ ap (λ (l : List Entry). part ++ l) more.split ∙ sym (append_assoc part more.front (more.part ++ more.rest)); is = more.is }
 
+-- where it has begun, and where one of its further records is
+split_at : (log : List Entry) (b : Begun) (at : IsPartAt log b) (e : Entry) (entries : List Entry) → at.part ≡ e ∷ entries → log ≡ at.front ++ ((e ∷ entries) ++ at.rest)
+split_at log b at e entries part = at.split ∙ ap (λ (l : List Entry). at.front ++ (l ++ at.rest)) part
+
+pub poll_at : (log : List Entry) (b : Begun) (at : IsPartAt log b) (e : Entry) (entries : List Entry) → at.part ≡ e ∷ entries → (poll : Entry) (before : List Entry) → entries ≡ poll ∷ before
+    → log ≡ (at.front ++ e ∷ []) ++ poll ∷ (before ++ at.rest)
+poll_at log b at e entries part poll before behind =
+    split_at log b at e entries part ∙ ap (λ (l : List Entry). at.front ++ ((e ∷ l) ++ at.rest)) behind ∙ sym (append_assoc at.front (e ∷ []) (poll ∷ (before ++ at.rest)))
+
+-- it is a transfer
+pub transfer_at : (blocks : List Block) (log : List Entry) (b : Begun) (at : IsPartAt log b) (e : Entry) (entries : List Entry) → HasReplies log → HaveBlocks blocks log → at.part ≡ e ∷ entries → IsRow b e entries
+    → IsTransfer b.request blocks e entries at.rest
+transfer_at blocks log b at e entries replied same part row =
+    let log_is = split_at log b at e entries part in
+    record {
+      steps = row.steps;
+      in_turn = row.in_turn;
+      goes_on = row.goes_on;
+      replies = (split_replies (e ∷ entries) at.rest (split_replies at.front ((e ∷ entries) ++ at.rest) (subst HasReplies log_is replied)).1).0;
+      alike = (split_blocks blocks (e ∷ entries) at.rest (split_blocks blocks at.front ((e ∷ entries) ++ at.rest) (subst (HaveBlocks blocks) log_is same)).1).0;
+    }
+
 -- at each of these records, each check for phase 3 that is set ends well
 abbrev pub WellAt : List Taken → Type 0
 WellAt [] = Unit {0}
@@ -94,17 +116,11 @@ module _ (sets : SetsAndCancels) (ends : EndsWithStatus) (busy : ℕ) (blocks : 
 
       whole : (e : Entry) (entries : List Entry) → at.part ≡ e ∷ entries → IsRow b e entries → b.answers ≡ replies_of (e ∷ entries) → bytes ≡ 3 ∷ 0 ∷ []
       whole e entries part row answers =
-          let log_is : epoch_log past ≡ at.front ++ ((e ∷ entries) ++ at.rest) = at.split ∙ ap (λ (l : List Entry). at.front ++ (l ++ at.rest)) part in
-          let replies = (split_replies (e ∷ entries) at.rest (split_replies at.front ((e ∷ entries) ++ at.rest) (subst HasReplies log_is (answered_replies (accepted (epoch_taken past))))).1).0 in
-          let alike = (split_blocks blocks (e ∷ entries) at.rest (split_blocks blocks at.front ((e ∷ entries) ++ at.rest) (subst (HaveBlocks blocks) log_is is_epoch.alike)).1).0 in
-          let transfer : IsTransfer b.request blocks e entries at.rest = record { steps = row.steps; in_turn = row.in_turn; goes_on = row.goes_on; replies = replies; alike = alike } in
+          let transfer = transfer_at blocks (epoch_log past) b at e entries (answered_replies (accepted (epoch_taken past))) is_epoch.alike part row in
           check_gives_3 sets ends blocks e entries at.rest bytes (subst (λ (r : Request). IsTransfer r blocks e entries at.rest) asks transfer)
           (sym (ap₂ (λ (r : Request) (h : List _). outcome_of r h) asks answers) ∙ complete)
-          (λ poll before behind. entry_well (epoch_taken past) (at.front ++ e ∷ []) poll (before ++ at.rest) (epoch_well past (stand_well past well)) (at_poll log_is poll before behind))
-          (λ poll before behind newest. set_at_entry 127 busy past (at.front ++ e ∷ []) poll (before ++ at.rest) (3 ∷ 0 ∷ []) run follow have (at_poll log_is poll before behind) newest refl)
-        where
-          at_poll : epoch_log past ≡ at.front ++ ((e ∷ entries) ++ at.rest) → (poll : Entry) (before : List Entry) → entries ≡ poll ∷ before → epoch_log past ≡ (at.front ++ e ∷ []) ++ poll ∷ (before ++ at.rest)
-          at_poll log_is poll before behind = log_is ∙ ap (λ (l : List Entry). at.front ++ ((e ∷ l) ++ at.rest)) behind ∙ sym (append_assoc at.front (e ∷ []) (poll ∷ (before ++ at.rest)))
+          (λ poll before behind. entry_well (epoch_taken past) (at.front ++ e ∷ []) poll (before ++ at.rest) (epoch_well past (stand_well past well)) (poll_at (epoch_log past) b at e entries part poll before behind))
+          (λ poll before behind newest. set_at_entry 127 busy past (at.front ++ e ∷ []) poll (before ++ at.rest) (3 ∷ 0 ∷ []) run follow have (poll_at (epoch_log past) b at e entries part poll before behind) newest refl)
 
       of_part : (part : List Entry) → at.part ≡ part → IsPart b at.part → bytes ≡ 3 ∷ 0 ∷ []
       of_part part same (Unsent none answers) = let on : outcome_of b.request b.answers ≡ None = ap (outcome_of b.request) answers in absurd (cc)

@@ -1,5 +1,5 @@
 pub mod OrderLemmas
 pub mod BreakLemmas
 pub mod NamedLemmas
-mod Worked
+pub mod Worked
 pub mod TestLemmas

@@ -108,7 +108,7 @@ apart_two P h (suc i) (suc zero) less below = absurd (omega arith)
 apart_two P h (suc i) zero less below = absurd (omega arith)
 apart_two P h i (suc (suc j)) less below = absurd (omega arith)
 
-two_drives_valid : IsValid (two_drives 250 10)
+pub two_drives_valid : IsValid (two_drives 250 10)
 two_drives_valid = record {
   drives = record {
     some = omega arith;
