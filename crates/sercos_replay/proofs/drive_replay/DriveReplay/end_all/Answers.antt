@@ -1,0 +1,12 @@
+use Rattle.sercos_replay.specs.Cycles.{cycles_of}
+use Rattle.sercos_replay.proofs.DriveLemmas.{finished, finished-before}
+use Rattle.sercos_replay.proofs.drive_replay.DriveReplay.end_all.Goals as goal
+
+pub returns : goal.returns
+returns c = record {
+  finished = λ d rate lines given.
+      finished c.args.self.now c.close.new.self d rate (cycles_of lines) c.if-self.false (c.close.ensures.ended d rate (cycles_of lines)) (c.close.ensures.rests d rate (cycles_of lines)) given;
+}
+
+pub returns-then-self : goal.returns-then-self
+returns-then-self c = record { finished = λ d rate lines given. finished-before c.args.self.now d rate (cycles_of lines) c.if-self.true given }

@@ -1,0 +1,14 @@
+use Rattle.std.proofs.Common.{rules, ◌≡◌}
+use Rattle.std.specs.Prelude.{slice_index_or}
+use Rattle.sercos_journal.proofs.StationLemmas.{sound_blocks}
+use Rattle.sercos_replay.proofs.drive_replay.DriveReplay.open.Goals as goal
+
+pub open-requires-clause-blocks : goal.open-requires-clause-blocks
+open-requires-clause-blocks c =
+    let at : c.index.result.now ≡ slice_index_or c.args.setup.now.drives c.args.index c.index.result.now = search rules in
+    (sound_blocks c.args.setup.now c.args.index c.index.result.now c.requires.ring c.requires.index at).0
+
+pub open-requires-clause-few : goal.open-requires-clause-few
+open-requires-clause-few c =
+    let at : c.index.result.now ≡ slice_index_or c.args.setup.now.drives c.args.index c.index.result.now = search rules in
+    (sound_blocks c.args.setup.now c.args.index c.index.result.now c.requires.ring c.requires.index at).1

@@ -1,0 +1,147 @@
+// Where a station said something else than its rules give.
+ghost use Rattle.std.specs.Prelude.{◌≡◌, ◌*◌, ◌<◌, ◌≤◌, not, pos, true, length, is_some, option_map, Some, None};
+ghost use Rattle.std.specs.Str.{bytes_eq};
+ghost use Rattle.sercos_telegram.specs.declared.layout.Kind.{Kind};
+ghost use Rattle.sercos_replay.specs.Places.{agree, expected_as, if_differs, if_told, telegram_at};
+
+use sercos_bits::Content;
+use sercos_hdlc::frame_len;
+use sercos_telegram::Kind;
+use sercos_trace::Sent;
+use std::marker::Model;
+
+/// A place of a capture at which a station said something else than its rules give. Contracts see the record of its fields.
+#[derive(Debug, Drop)]
+pub struct Difference {
+    /// The cycle.
+    pub cycle: u32,
+    /// The kind of the telegram.
+    pub kind: Kind,
+    /// The telegram that the station was to send there, if it was to send one.
+    pub expected: Option<Sent>,
+    /// The telegram that the capture has, if it has one.
+    pub found: Option<Sent>,
+}
+
+impl Model for Difference {
+    ghost use Rattle.sercos_replay.specs.Places.{PlaceView};
+
+    ghost Value = { PlaceView };
+
+    ghost view = { λ d. record { cycle = d.cycle; kind = d.kind; expected = d.expected; found = d.found } };
+}
+
+impl Difference {
+    // A place with no telegrams.
+    pub(crate) fn new() -> Difference {
+        Difference {
+            cycle: 0,
+            kind: Kind::Mst,
+            expected: None,
+            found: None,
+        }
+    }
+}
+
+fn copy_of(content: &Content) -> Content
+    ensures { result ≡ content.now }
+{
+    let mut copy = Content::new();
+    copy.assign(content.as_slice());
+    copy
+}
+
+// A telegram that is to be sent.
+fn telegram_at(kind: Kind, content: &Content, start: i32) -> Sent
+    requires { 0 < length content.now }
+    ensures { result ≡ telegram_at kind content.now start }
+{
+    Sent {
+        kind,
+        start,
+        bits: frame_len(content.as_slice()),
+        content: copy_of(content),
+    }
+}
+
+fn expected_as(kind: Kind, content: &Content, start: Option<i32>) -> Option<Sent>
+    requires { is_some start ≡ true → 0 < length content.now }
+    ensures { result ≡ expected_as kind content.now start }
+{
+    match start {
+        Some(start) => Some(telegram_at(kind, content, start)),
+        None => None,
+    }
+}
+
+fn sent_copy(sent: &Sent) -> Sent
+    ensures { result ≡ sent.now }
+{
+    Sent {
+        kind: sent.kind,
+        start: sent.start,
+        bits: sent.bits,
+        content: copy_of(&sent.content),
+    }
+}
+
+fn found_copy(found: Option<&Sent>) -> Option<Sent>
+    ensures { result ≡ option_map (λ s. s.now) found.entry }
+{
+    match found {
+        Some(sent) => Some(sent_copy(sent)),
+        None => None,
+    }
+}
+
+fn has_content(sent: &Sent, content: &Content) -> bool
+    ensures { result ≡ bytes_eq content.now sent.now.content }
+{
+    content.as_slice() == sent.content.as_slice()
+}
+
+// Whether what was found is what was to be sent.
+fn agree(content: &Content, start: Option<i32>, found: Option<&Sent>) -> bool
+    ensures { (kind : Kind) → result ≡ agree (expected_as kind content.now start) (option_map (λ s. s.now) found.entry) }
+{
+    match start {
+        Some(at) => match found {
+            Some(sent) => at == sent.start && has_content(sent, content),
+            None => false,
+        },
+        None => found.is_none(),
+    }
+}
+
+/// Compares what a station was to send at a place, this content if it has a start, with what was found there. If they differ, the
+/// place is put into `told`.
+pub(crate) fn compare(
+    told: &mut Difference,
+    cycle: u32,
+    kind: Kind,
+    start: Option<i32>,
+    content: &Content,
+    found: Option<&Sent>,
+) -> bool
+    requires { is_some start ≡ true → 0 < length content.now }
+    ensures { if_differs (record { cycle = cycle; kind = kind; expected = expected_as kind content.now start; found = option_map (λ s. s.now) found.entry }) ≡ if_told result told.new }
+{
+    if agree(content, start, found) {
+        return false;
+    }
+    told.cycle = cycle;
+    told.kind = kind;
+    told.expected = expected_as(kind, content, start);
+    told.found = found_copy(found);
+    true
+}
+
+/// The start of a telegram in bit times, in a ring of a rate.
+pub(crate) fn in_bits(rate: u8, start: Option<u16>) -> Option<i32>
+    ensures { result ≡ option_map (λ at. pos (rate * at)) start }
+{
+    match start {
+        Some(at) => Some(i32::from(rate) * i32::from(at)),
+        None => None,
+    }
+}

@@ -1,0 +1,265 @@
+// The replay of a drive.
+ghost use Rattle.std.specs.Prelude.{◌≡◌, ◌⊎◌, ℕ, ◌<◌, ◌≤◌, true, false, not, ◌&&◌, List, [], ◌∷◌, ◌++◌, length, Option, Some, None, is_some, option_map, IfOk};
+ghost use Rattle.std.specs.Option.{option_copied};
+ghost use Rattle.sercos_telegram.specs.declared.layout.Kind.{Kind};
+ghost use Rattle.sercos_telegram.specs.declared.layout.Kind.TheVariants as telegram;
+ghost use Rattle.sercos_block.specs.Rings.{is_ring};
+ghost use Rattle.sercos_block.specs.Views.{DriveView};
+ghost use Rattle.sercos_trace.specs.Views.{SentView};
+ghost use Rattle.sercos_trace.specs.declared.reading.Line.{Line};
+ghost use Rattle.sercos_drive.specs.Heard.{DriveCall};
+ghost use Rattle.sercos_drive.specs.Says.{Said, drive_says};
+ghost use Rattle.sercos_drive.specs.Kept.{DriveStandsFor};
+ghost use Rattle.sercos_journal.specs.Runs.{drive_at, sent_at};
+ghost use Rattle.sercos_replay.specs.Cycles.{Cycle, begun, with_at, with_mdt, with_telegram, cycles_of, newest_cycle, goes_on, GoesOn};
+ghost use Rattle.sercos_replay.specs.Places.{if_differs, if_told};
+ghost use Rattle.sercos_replay.specs.Differences.{content_of, is_of, at_place_of, drive_differs, drive_tells};
+
+use crate::difference::{Difference, compare, in_bits};
+use sercos_bits::{Content, byte_at};
+use sercos_block::RingSetup;
+use sercos_drive::Drive;
+use sercos_telegram::Kind;
+use sercos_trace::{Line, Sent};
+use std::alloc::{AllocError, Global};
+
+/// The replay of a drive: it gets each MST and each MDT as the lines of a capture have it, and its ATs are compared with those of
+/// its address. It stands for the lines given since it was opened; contracts list them the newest first. No call but `open` takes
+/// memory.
+#[derive(Drop)]
+pub struct DriveReplay {
+    drive: Drive,
+    address: u8,
+    rate: u8,
+    // the newest cycle; whether its MDT is still to come, and whether an AT of the drive came in it
+    cycle: u32,
+    is_open: bool,
+    found: bool,
+    // whether a difference was told, and it
+    differs: bool,
+    told: Box<Difference>,
+    // where the drive writes its AT
+    said: Box<Content>,
+}
+
+// Compares what the drive says with what was found at the place of its AT. If they differ, the place is put into `told`.
+fn compare_at(
+    drive: &Drive,
+    told: &mut Difference,
+    said: &mut Content,
+    cycle: u32,
+    rate: u8,
+    found: Option<&Sent>,
+) -> bool
+    ensures { (d : DriveView) (h : List DriveCall) → DriveStandsFor drive.now d rate h →
+        if_differs (at_place_of rate cycle (drive_says d rate h) (option_map (λ s. s.now) found.entry)) ≡ if_told result told.new }
+{
+    let start = drive.at(said);
+    compare(told, cycle, Kind::At, in_bits(rate, start), said, found)
+}
+
+impl DriveReplay {
+    ghost use Rattle.std.specs.Prelude.{⊤};
+    ghost use Rattle.std.specs.Borrow.{follows_so, sem};
+    ghost use mathlib.Core.Option.{none};
+    ghost use Rattle.sercos_replay.specs.contracts.drive_replay.DriveReplay.{the_row};
+    ghost use Rattle.sercos_replay.specs.Kept.{drive_kept, DriveAwaits, DriveHasPassed, DriveRests, DriveGoes, DriveStandsIn, DriveEndsIn, DriveReplayStandsFor, DriveReplayHasFinished, DriveAfterLine, DriveAfterEnd};
+
+    /// Opens the replay of the drive at a place of a valid setup, the first of which is 0. The error is `AllocError`.
+    pub fn open(alloc: Global, setup: &RingSetup, index: usize) -> Result<DriveReplay, AllocError>
+        requires ring { is_ring setup.now ≡ true }
+        requires index { index < length setup.now.drives }
+        ensures { IfOk result (λ replay. DriveReplayStandsFor replay (drive_at setup.now index) setup.now.rate []) }
+    {
+        let drive = Drive::open(alloc, &setup.drives[index], setup.rate)?;
+        let told = Box::new(alloc, Difference::new())?;
+        let said = Box::new(alloc, Content::new())?;
+        Ok(DriveReplay {
+            drive,
+            address: setup.drives[index].address,
+            rate: setup.rate,
+            cycle: 0,
+            is_open: false,
+            found: false,
+            differs: false,
+            told,
+            said,
+        })
+    }
+
+    // Compares what was found at the place of the AT in the newest cycle.
+    fn compare(&mut self, found: Option<&Sent>)
+        ensures same { self.new ≡ record self.old { differs = self.new.differs; told = self.new.told; said = self.new.said } }
+        ensures place { (d : DriveView) (h : List DriveCall) → DriveStandsFor self.old.drive d self.old.rate h →
+            if_differs (at_place_of self.old.rate self.old.cycle (drive_says d self.old.rate h) (option_map (λ s. s.now) found.entry)) ≡ drive_kept self.new }
+    {
+        self.differs = compare_at(
+            &self.drive,
+            &mut self.told,
+            &mut self.said,
+            self.cycle,
+            self.rate,
+            found,
+        );
+    }
+
+    // If no AT of the drive came in the newest cycle, that is compared.
+    fn pass(&mut self)
+        ensures { (d : DriveView) (rate : ℕ) (t : Cycle) (j : List Cycle) → DriveAwaits self.old d rate t j → self.old.differs ≡ false → DriveHasPassed self.new d rate t j }
+    {
+        if self.found {
+            return;
+        }
+        self.compare(None);
+    }
+
+    // The newest cycle ends.
+    fn end(&mut self, content: Option<&[u8]>)
+        ensures { (d : DriveView) (rate : ℕ) (t : Cycle) (j : List Cycle) (mdt : Option SentView) → DriveAwaits self.old d rate t j → self.old.differs ≡ false →
+            option_map content_of mdt ≡ option_copied content.entry → DriveEndsIn self.new d rate (record t { mdt = mdt } ∷ j) }
+    {
+        self.pass();
+        self.drive.hear_mdt(content);
+        self.is_open = false;
+    }
+
+    // The newest cycle ends without an MDT, if it had none.
+    fn close(&mut self)
+        ensures ended { (d : DriveView) (rate : ℕ) (j : List Cycle) → DriveGoes self.old d rate j → self.old.differs ≡ false → DriveEndsIn self.new d rate j }
+        ensures rests { (d : DriveView) (rate : ℕ) (j : List Cycle) → DriveRests self.old d rate j → self.old.differs ≡ false → DriveEndsIn self.new d rate j }
+    {
+        if self.is_open {
+            self.end(None);
+        }
+    }
+
+    // A cycle begins.
+    fn begin(&mut self, cycle: u32, sent: &Sent)
+        ensures { (d : DriveView) (rate : ℕ) (j : List Cycle) → DriveRests self.old d rate j → self.old.differs ≡ false → newest_cycle j ≤ cycle →
+            DriveStandsIn self.new d rate (begun cycle sent.now ∷ j) }
+    {
+        self.drive.hear_mst(cycle, Some(sent.content.as_slice()));
+        self.cycle = cycle;
+        self.is_open = true;
+        self.found = false;
+    }
+
+    fn take_mst(&mut self, cycle: u32, sent: &Sent)
+        ensures { (d : DriveView) (rate : ℕ) (j : List Cycle) → DriveGoes self.old d rate j → self.old.differs ≡ false → newest_cycle j ≤ cycle →
+            DriveStandsIn self.new d rate (begun cycle sent.now ∷ j) }
+    {
+        self.close();
+        if !self.differs {
+            self.begin(cycle, sent);
+        }
+    }
+
+    // Whether an AT is awaited, and this is one of the drive.
+    fn awaits(&self, sent: &Sent) -> bool
+        ensures { result ≡ (self.now.is_open && (not self.now.found && is_of self.now.address sent.now)) }
+    {
+        self.is_open && !self.found && byte_at(sent.content.as_slice(), 0) == self.address
+    }
+
+    // An AT that is awaited.
+    fn take_own(&mut self, sent: &Sent)
+        ensures { (d : DriveView) (rate : ℕ) (t : Cycle) (j : List Cycle) → DriveAwaits self.old d rate t j → self.old.differs ≡ false →
+            self.old.found ≡ false → is_of self.old.address sent.now ≡ true → DriveStandsIn self.new d rate (record t { ats = t.ats ++ sent.now ∷ [] } ∷ j) }
+    {
+        self.found = true;
+        self.compare(Some(sent));
+    }
+
+    fn take_at(&mut self, sent: &Sent)
+        ensures { (d : DriveView) (rate : ℕ) (j : List Cycle) → DriveGoes self.old d rate j → self.old.differs ≡ false →
+            DriveStandsIn self.new d rate (with_at sent.now j) }
+    {
+        if self.awaits(sent) {
+            self.take_own(sent);
+        }
+    }
+
+    fn take_mdt(&mut self, sent: &Sent)
+        ensures { (d : DriveView) (rate : ℕ) (j : List Cycle) → DriveGoes self.old d rate j → self.old.differs ≡ false →
+            DriveStandsIn self.new d rate (with_mdt sent.now j) }
+    {
+        if !self.is_open {
+            return;
+        }
+        self.end(Some(sent.content.as_slice()));
+    }
+
+    fn take(&mut self, cycle: u32, sent: &Sent)
+        ensures { (d : DriveView) (rate : ℕ) (j : List Cycle) → DriveGoes self.old d rate j → self.old.differs ≡ false → goes_on sent.now.kind cycle j →
+            DriveStandsIn self.new d rate (with_telegram sent.now.kind cycle sent.now j) }
+    {
+        match sent.kind {
+            Kind::Mst => self.take_mst(cycle, sent),
+            Kind::At => self.take_at(sent),
+            Kind::Mdt => self.take_mdt(sent),
+        }
+    }
+
+    // A line, if no difference was told yet.
+    fn take_line(&mut self, line: &Line)
+        ensures { (d : DriveView) (rate : ℕ) (lines : List Line) → DriveReplayStandsFor self.old d rate lines → self.old.differs ≡ false → GoesOn lines line.now →
+            DriveReplayStandsFor self.new d rate (line.now ∷ lines) }
+    {
+        if let Line::Telegram { cycle, sent } = line {
+            self.take(*cycle, sent);
+        }
+    }
+
+    // A line.
+    fn give(&mut self, line: &Line)
+        ensures { DriveAfterLine self.old line.now self.new }
+    {
+        if self.differs {
+            return;
+        }
+        self.take_line(line);
+    }
+
+    // The end.
+    fn end_all(&mut self)
+        ensures { DriveAfterEnd self.old self.new }
+    {
+        if self.differs {
+            return;
+        }
+        self.close();
+    }
+
+    // Lends the difference that was told.
+    fn difference(&self) -> Option<&Difference>
+        ensures tells { (d : DriveView) (rate : ℕ) (lines : List Line) → DriveReplayStandsFor self.now d rate lines →
+            option_map (λ p. p.now) result ≡ drive_tells d rate (cycles_of lines) }
+        ensures differs { (d : DriveView) (rate : ℕ) (lines : List Line) → DriveReplayHasFinished self.now d rate lines →
+            option_map (λ p. p.now) result ≡ drive_differs d rate (cycles_of lines) }
+    {
+        if self.differs { Some(&self.told) } else { None }
+    }
+
+    /// Takes the next line of a capture, in which cycles don't go back. Lends the first place at which the drive said something
+    /// else than its rules give, as soon as its telegram or one of a later place was given; `None` if there is none so far. After
+    /// a difference each call lends it again.
+    pub fn line(&mut self, line: &Line) -> Option<&Difference>
+        ensures* after { sem 𝓛 (follows_so the_row the_row self.entry.ghost_name none (λ _ _. ⊤) (λ new. DriveAfterLine self.old line.now new)) }
+        ensures tells { (d : DriveView) (rate : ℕ) (lines : List Line) → DriveReplayStandsFor self.old d rate lines → GoesOn lines line.now →
+            option_map (λ p. p.now) result ≡ drive_tells d rate (cycles_of (line.now ∷ lines)) }
+    {
+        self.give(line);
+        self.difference()
+    }
+
+    /// Ends the capture, after which no line is given. Lends the first place at which the drive said something else than its rules
+    /// give, or didn't say what they give; `None` if there is none. It may be called again, and lends the same.
+    pub fn finish(&mut self) -> Option<&Difference>
+        ensures* after { sem 𝓛 (follows_so the_row the_row self.entry.ghost_name none (λ _ _. ⊤) (λ new. DriveAfterEnd self.old new)) }
+        ensures differs { (d : DriveView) (rate : ℕ) (lines : List Line) → (DriveReplayStandsFor self.old d rate lines ⊎ DriveReplayHasFinished self.old d rate lines) →
+            option_map (λ p. p.now) result ≡ drive_differs d rate (cycles_of lines) }
+    {
+        self.end_all();
+        self.difference()
+    }
+}

@@ -1,0 +1,40 @@
+// Laws and no code.
+ghost use Rattle.std.specs.Prelude.{◌≡◌, ℕ, ◌<◌, true, List, [], ◌∷◌, length, None};
+ghost use Rattle.sercos_step.specs.declared.request.Job.{Job};
+ghost use Rattle.sercos_block.specs.Views.{DriveView, RingView};
+ghost use Rattle.sercos_block.specs.Rings.{is_ring};
+ghost use Rattle.sercos_trace.specs.Views.{CycleView};
+ghost use Rattle.sercos_trace.specs.declared.reading.Line.{Line};
+ghost use Rattle.sercos_seat.specs.Ring.{Known, known_of};
+ghost use Rattle.sercos_script.specs.Links.{Carry, Restarts};
+ghost use Rattle.sercos_journal.specs.Runs.{drive_at, IsRun};
+ghost use Rattle.sercos_typed.specs.Typed.{AreTyped, AreTypedJobs};
+ghost use Rattle.sercos_check.specs.Verdicts.{IsClean};
+ghost use Rattle.sercos_replay.specs.Cycles.{cycles_of, GoesOn};
+ghost use Rattle.sercos_replay.specs.Differences.{drive_differs, drive_tells, master_differs, master_tells};
+ghost use Rattle.sercos_replay.specs.Given.{if_given};
+ghost use Rattle.sercos_replay.specs.Captured.{lines_of, telegrams, NeverDisturbed};
+
+use sercos_typed::typed_law;
+
+/// A law and no code. In a clean capture no cycle goes back. What a replay tells of it is the first place that differs, if its telegram is
+/// there or one of a later place was given. Lines that are no telegrams say nothing to a replay.
+pub fn capture_law()
+    ensures clean { (before : List Line) (line : Line) → IsClean (line ∷ before) → GoesOn before line }
+    ensures drive_tells { (d : DriveView) (rate : ℕ) (lines : List Line) → IsClean lines → drive_tells d rate (cycles_of lines) ≡ if_given lines (drive_differs d rate (cycles_of lines)) }
+    ensures master_tells { (s : Known) (jobs : List Job) (lines : List Line) → IsClean lines → master_tells s jobs (cycles_of lines) ≡ if_given lines (master_differs s jobs (cycles_of lines)) }
+    ensures telegrams { (lines : List Line) → cycles_of lines ≡ cycles_of (telegrams lines) }
+{}
+
+/// A law and no code. The capture of a run in which nothing is disturbed agrees: no drive and no master says anything else than its
+/// rules give. The numbers of ring and requests are those of their types, so that each telegram is the content of its frame.
+pub fn agreement_law()
+    ensures drive { (r : RingView) (jobs : List Job) (carry : Carry) (restarts : Restarts) (j : List CycleView) (index : ℕ) → is_ring r ≡ true →
+        AreTyped r → AreTypedJobs jobs → IsRun r jobs carry restarts j → NeverDisturbed r carry restarts j → index < length r.drives →
+        drive_differs (drive_at r index) r.rate (cycles_of (lines_of j)) ≡ None }
+    ensures master { (r : RingView) (jobs : List Job) (carry : Carry) (restarts : Restarts) (j : List CycleView) → is_ring r ≡ true →
+        AreTyped r → AreTypedJobs jobs → IsRun r jobs carry restarts j → NeverDisturbed r carry restarts j →
+        master_differs (known_of r) jobs (cycles_of (lines_of j)) ≡ None }
+{
+    typed_law();
+}

@@ -1,0 +1,334 @@
+// The replay of the master.
+ghost use Rattle.std.specs.Prelude.{◌≡◌, ◌⊎◌, ℕ, ◌<◌, ◌≤◌, true, false, List, [], ◌∷◌, ◌++◌, length, Option, Some, None, is_some, option_map, IfOk};
+ghost use Rattle.std.specs.List.{All};
+ghost use Rattle.sercos_step.specs.Steps.{IsRequest};
+ghost use Rattle.sercos_step.specs.declared.request.Job.{Job};
+ghost use Rattle.sercos_block.specs.Rings.{is_ring};
+ghost use Rattle.sercos_trace.specs.Views.{SentView};
+ghost use Rattle.sercos_trace.specs.declared.reading.Line.{Line};
+ghost use Rattle.sercos_seat.specs.Ring.{Known, known_of};
+ghost use Rattle.sercos_journal.specs.Runs.{start_before, sent_mst};
+ghost use Rattle.sercos_hdlc.specs.Stuffed.{frame_of};
+ghost use Rattle.sercos_telegram.specs.declared.layout.Kind.TheVariants as telegram;
+ghost use Rattle.sercos_master.specs.Annals.{Call, HearMst, Mdt, End};
+ghost use Rattle.sercos_master.specs.Any.{AnyStandsFor};
+ghost use Rattle.sercos_master.specs.Says.{mst_said, mdt_said};
+ghost use Rattle.sercos_replay.specs.Cycles.{Cycle, begun, with_at, with_mdt, with_telegram, cycles_of};
+ghost use Rattle.sercos_replay.specs.Differences.{looks_back, mst_place_of, mdt_at, mdt_place_of, master_differs, master_tells};
+ghost use Rattle.sercos_replay.specs.Places.{expected_as, if_differs, if_told};
+
+use crate::difference::{Difference, compare, in_bits};
+use sercos_bits::Content;
+use sercos_block::RingSetup;
+use sercos_hdlc::{frame_len, framing_law};
+use sercos_master::AnyMaster;
+use sercos_step::Job;
+use sercos_telegram::Kind;
+use sercos_trace::{Events, Line, Sent};
+use std::alloc::{AllocError, Global};
+
+/// The replay of the master: it hears each MST of a capture as its own, come back whole, and each AT, and what it says is compared
+/// with the MSTs and MDTs. It stands for the lines given since it was opened; contracts list them the newest first. No call but
+/// `open` takes memory.
+#[derive(Drop)]
+pub struct MasterReplay {
+    // there between the calls
+    master: Option<AnyMaster>,
+    rate: u8,
+    // the newest cycle, and whether its MDT is still to come
+    cycle: u32,
+    is_open: bool,
+    // whether a difference was told, and it
+    differs: bool,
+    told: Box<Difference>,
+    // where the master writes its telegrams, and what it reports
+    said: Box<Content>,
+    events: Box<Events>,
+}
+
+// The length of the frame of an MST that is said, in bits.
+fn len_of(said: &Content) -> u32
+    requires { 0 < length said.now }
+    ensures value { result ≡ length (frame_of said.now) }
+    ensures bound { result ≤ 19696 }
+{
+    framing_law();
+    frame_len(said.as_slice())
+}
+
+// The start of an MST whose frame has this length: it ends at 0.
+fn start_before(bits: u32) -> i32
+    requires { bits ≤ 19696 }
+    ensures { result ≡ start_before bits }
+{
+    -(bits as i32)
+}
+
+// The master writes its MST. The result is its start in bit times.
+fn say_mst(master: &AnyMaster, said: &mut Content) -> i32
+    ensures said { (s : Known) (jobs : List Job) (h : List Call) → AnyStandsFor master.now s jobs h →
+        expected_as telegram.Mst said.new (Some result) ≡ Some (sent_mst (mst_said (looks_back s jobs h))) }
+    ensures some { 0 < length said.new }
+{
+    master.mst(said);
+    start_before(len_of(said))
+}
+
+// The master has its turn to send the MDT, and writes it. The result is its start in bit times, if it sends one.
+fn say_mdt(master: &mut AnyMaster, rate: u8, said: &mut Content) -> Option<i32>
+    ensures stands { (s : Known) (jobs : List Job) (h : List Call) → AnyStandsFor master.old s jobs h → AnyStandsFor master.new s jobs (Mdt ∷ h) }
+    ensures said { (s : Known) (jobs : List Job) (h : List Call) → AnyStandsFor master.old s jobs h →
+        expected_as telegram.Mdt said.new result ≡ option_map (mdt_at rate) (mdt_said s (looks_back s jobs (Mdt ∷ h))) }
+    ensures some { is_some result ≡ true → 0 < length said.new }
+{
+    let start = master.mdt(said);
+    in_bits(rate, start)
+}
+
+// Compares the MST of a cycle with that of the capture, and the master hears that one. If they differ, the place is put into `told`.
+fn begin_cycle(
+    master: &mut AnyMaster,
+    told: &mut Difference,
+    said: &mut Content,
+    cycle: u32,
+    sent: &Sent,
+) -> bool
+    ensures stands { (s : Known) (jobs : List Job) (h : List Call) → AnyStandsFor master.old s jobs h → AnyStandsFor master.new s jobs (HearMst (Some sent.now.content) ∷ h) }
+    ensures place { (s : Known) (jobs : List Job) (h : List Call) → AnyStandsFor master.old s jobs h →
+        if_differs (mst_place_of cycle (looks_back s jobs h) sent.now) ≡ if_told result told.new }
+{
+    let start = say_mst(master, said);
+    master.hear_mst(Some(sent.content.as_slice()));
+    compare(told, cycle, Kind::Mst, Some(start), said, Some(sent))
+}
+
+// Compares the MDT of a cycle with what was found at its place. If they differ, the place is put into `told`.
+fn compare_mdt(
+    master: &mut AnyMaster,
+    told: &mut Difference,
+    said: &mut Content,
+    cycle: u32,
+    rate: u8,
+    found: Option<&Sent>,
+) -> bool
+    ensures stands { (s : Known) (jobs : List Job) (h : List Call) → AnyStandsFor master.old s jobs h → AnyStandsFor master.new s jobs (Mdt ∷ h) }
+    ensures place { (s : Known) (jobs : List Job) (h : List Call) → AnyStandsFor master.old s jobs h →
+        if_differs (mdt_place_of rate cycle (mdt_said s (looks_back s jobs (Mdt ∷ h))) (option_map (λ m. m.now) found.entry)) ≡ if_told result told.new }
+{
+    let start = say_mdt(master, rate, said);
+    compare(told, cycle, Kind::Mdt, start, said, found)
+}
+
+// The master ends its cycle. What it reports isn't looked at.
+fn end_cycle(master: AnyMaster, events: &mut Events) -> AnyMaster
+    ensures { (s : Known) (jobs : List Job) (h : List Call) → AnyStandsFor master s jobs h → AnyStandsFor result s jobs (End ∷ h) }
+{
+    events.clear();
+    master.end_cycle(events)
+}
+
+fn put(place: &mut Option<AnyMaster>, master: AnyMaster)
+    ensures { place.new ≡ Some master }
+{
+    *place = Some(master);
+}
+
+impl MasterReplay {
+    ghost use Rattle.std.specs.Prelude.{⊤};
+    ghost use Rattle.std.specs.Borrow.{follows_so, sem};
+    ghost use mathlib.Core.Option.{none};
+    ghost use Rattle.sercos_replay.specs.contracts.master_replay.MasterReplay.{the_row};
+    ghost use Rattle.sercos_replay.specs.Kept.{MasterAwaits, MasterRests, MasterGoes, MasterStandsIn, MasterEndsIn, MasterReplayStandsFor, MasterReplayHasFinished, MasterAfterLine, MasterAfterEnd};
+
+    /// Opens the replay of the master of a valid setup with at most 4,096 requests. A request to an address that no drive of the
+    /// setup has is never begun. The error is `AllocError`.
+    pub fn open(
+        alloc: Global,
+        setup: &RingSetup,
+        jobs: Vec<Job>,
+    ) -> Result<MasterReplay, AllocError>
+        requires ring { is_ring setup.now ≡ true }
+        requires few { length jobs.items ≤ 4096 }
+        requires requests { All (λ job. IsRequest job.request) jobs.items }
+        ensures { IfOk result (λ replay. MasterReplayStandsFor replay (known_of setup.now) jobs.items []) }
+    {
+        let master = AnyMaster::open(alloc, setup, jobs)?;
+        let told = Box::new(alloc, Difference::new())?;
+        let said = Box::new(alloc, Content::new())?;
+        let events = Box::new(alloc, Events::new())?;
+        Ok(MasterReplay {
+            master: Some(master),
+            rate: setup.rate,
+            cycle: 0,
+            is_open: false,
+            differs: false,
+            told,
+            said,
+            events,
+        })
+    }
+
+    // The MDT's place of the newest cycle, with the master taken out: what was found there is compared, and the cycle ends.
+    fn turn(&mut self, mut master: AnyMaster, found: Option<&Sent>)
+        ensures { (s : Known) (jobs : List Job) (t : Cycle) (j : List Cycle) → MasterAwaits (record self.old { master = Some master }) s jobs t j →
+            MasterEndsIn self.new s jobs (record t { mdt = option_map (λ m. m.now) found.entry } ∷ j) }
+    {
+        self.differs = compare_mdt(
+            &mut master,
+            &mut self.told,
+            &mut self.said,
+            self.cycle,
+            self.rate,
+            found,
+        );
+        let next = end_cycle(master, &mut self.events);
+        put(&mut self.master, next);
+        self.is_open = false;
+    }
+
+    // The same, with the master in its place.
+    fn end(&mut self, found: Option<&Sent>)
+        ensures { (s : Known) (jobs : List Job) (t : Cycle) (j : List Cycle) → MasterAwaits self.old s jobs t j →
+            MasterEndsIn self.new s jobs (record t { mdt = option_map (λ m. m.now) found.entry } ∷ j) }
+    {
+        if let Some(master) = self.master.take() {
+            self.turn(master, found);
+        }
+    }
+
+    // The newest cycle ends without an MDT, if it had none.
+    fn close(&mut self)
+        ensures ended { (s : Known) (jobs : List Job) (j : List Cycle) → MasterGoes self.old s jobs j → self.old.differs ≡ false → MasterEndsIn self.new s jobs j }
+        ensures rests { (s : Known) (jobs : List Job) (j : List Cycle) → MasterRests self.old s jobs j → self.old.differs ≡ false → MasterEndsIn self.new s jobs j }
+    {
+        if self.is_open {
+            self.end(None);
+        }
+    }
+
+    // A cycle begins.
+    fn begin(&mut self, cycle: u32, sent: &Sent)
+        ensures { (s : Known) (jobs : List Job) (j : List Cycle) → MasterRests self.old s jobs j →
+            MasterStandsIn self.new s jobs (begun cycle sent.now ∷ j) }
+    {
+        self.cycle = cycle;
+        self.is_open = true;
+        if let Some(master) = &mut self.master {
+            self.differs = begin_cycle(master, &mut self.told, &mut self.said, cycle, sent);
+        }
+    }
+
+    fn take_mst(&mut self, cycle: u32, sent: &Sent)
+        ensures { (s : Known) (jobs : List Job) (j : List Cycle) → MasterGoes self.old s jobs j → self.old.differs ≡ false →
+            MasterStandsIn self.new s jobs (begun cycle sent.now ∷ j) }
+    {
+        self.close();
+        if !self.differs {
+            self.begin(cycle, sent);
+        }
+    }
+
+    // An AT of the newest cycle.
+    fn hear_at(&mut self, sent: &Sent)
+        ensures stands { (s : Known) (jobs : List Job) (t : Cycle) (j : List Cycle) → MasterAwaits self.old s jobs t j →
+            MasterAwaits self.new s jobs (record t { ats = t.ats ++ sent.now ∷ [] }) j }
+        ensures differs { self.new.differs ≡ self.old.differs }
+    {
+        if let Some(master) = &mut self.master {
+            master.hear_at(sent.content.as_slice());
+        }
+    }
+
+    fn take_at(&mut self, sent: &Sent)
+        ensures { (s : Known) (jobs : List Job) (j : List Cycle) → MasterGoes self.old s jobs j → self.old.differs ≡ false →
+            MasterStandsIn self.new s jobs (with_at sent.now j) }
+    {
+        if self.is_open {
+            self.hear_at(sent);
+        }
+    }
+
+    fn take_mdt(&mut self, sent: &Sent)
+        ensures { (s : Known) (jobs : List Job) (j : List Cycle) → MasterGoes self.old s jobs j → self.old.differs ≡ false →
+            MasterStandsIn self.new s jobs (with_mdt sent.now j) }
+    {
+        if !self.is_open {
+            return;
+        }
+        self.end(Some(sent));
+    }
+
+    fn take(&mut self, cycle: u32, sent: &Sent)
+        ensures { (s : Known) (jobs : List Job) (j : List Cycle) → MasterGoes self.old s jobs j → self.old.differs ≡ false →
+            MasterStandsIn self.new s jobs (with_telegram sent.now.kind cycle sent.now j) }
+    {
+        match sent.kind {
+            Kind::Mst => self.take_mst(cycle, sent),
+            Kind::At => self.take_at(sent),
+            Kind::Mdt => self.take_mdt(sent),
+        }
+    }
+
+    // A line, if no difference was told yet.
+    fn take_line(&mut self, line: &Line)
+        ensures { (s : Known) (jobs : List Job) (lines : List Line) → MasterReplayStandsFor self.old s jobs lines → self.old.differs ≡ false →
+            MasterReplayStandsFor self.new s jobs (line.now ∷ lines) }
+    {
+        if let Line::Telegram { cycle, sent } = line {
+            self.take(*cycle, sent);
+        }
+    }
+
+    // A line.
+    fn give(&mut self, line: &Line)
+        ensures { MasterAfterLine self.old line.now self.new }
+    {
+        if self.differs {
+            return;
+        }
+        self.take_line(line);
+    }
+
+    // The end.
+    fn end_all(&mut self)
+        ensures { MasterAfterEnd self.old self.new }
+    {
+        if self.differs {
+            return;
+        }
+        self.close();
+    }
+
+    // Lends the difference that was told.
+    fn difference(&self) -> Option<&Difference>
+        ensures tells { (s : Known) (jobs : List Job) (lines : List Line) → MasterReplayStandsFor self.now s jobs lines →
+            option_map (λ p. p.now) result ≡ master_tells s jobs (cycles_of lines) }
+        ensures differs { (s : Known) (jobs : List Job) (lines : List Line) → MasterReplayHasFinished self.now s jobs lines →
+            option_map (λ p. p.now) result ≡ master_differs s jobs (cycles_of lines) }
+    {
+        if self.differs { Some(&self.told) } else { None }
+    }
+
+    /// Takes the next line of a capture. Lends the first place at which the master said something else than its rules give, as soon
+    /// as its telegram or one of a later place was given; `None` if there is none so far. After a difference each call lends it
+    /// again.
+    pub fn line(&mut self, line: &Line) -> Option<&Difference>
+        ensures* after { sem 𝓛 (follows_so the_row the_row self.entry.ghost_name none (λ _ _. ⊤) (λ new. MasterAfterLine self.old line.now new)) }
+        ensures tells { (s : Known) (jobs : List Job) (lines : List Line) → MasterReplayStandsFor self.old s jobs lines →
+            option_map (λ p. p.now) result ≡ master_tells s jobs (cycles_of (line.now ∷ lines)) }
+    {
+        self.give(line);
+        self.difference()
+    }
+
+    /// Ends the capture, after which no line is given. Lends the first place at which the master said something else than its rules
+    /// give, or didn't say what they give; `None` if there is none. It may be called again, and lends the same.
+    pub fn finish(&mut self) -> Option<&Difference>
+        ensures* after { sem 𝓛 (follows_so the_row the_row self.entry.ghost_name none (λ _ _. ⊤) (λ new. MasterAfterEnd self.old new)) }
+        ensures differs { (s : Known) (jobs : List Job) (lines : List Line) → (MasterReplayStandsFor self.old s jobs lines ⊎ MasterReplayHasFinished self.old s jobs lines) →
+            option_map (λ p. p.now) result ≡ master_differs s jobs (cycles_of lines) }
+    {
+        self.end_all();
+        self.difference()
+    }
+}

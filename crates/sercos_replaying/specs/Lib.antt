@@ -1,0 +1,5 @@
+pub mod Divided
+pub mod Stations
+pub mod Replaying
+pub mod Asking
+pub mod Undisturbed
