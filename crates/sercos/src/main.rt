@@ -6,10 +6,13 @@ ghost use Rattle.std.specs.Prelude.{◌≡◌, ◌≢◌};
 use sercos_app::{Clean, sercos};
 use sercos_io::{Status, StdSink, StdSource, Words};
 use std::alloc::Global;
-use std::io::ErrorKind;
+use std::io::{BufWriter, ErrorKind, Write};
 use std::process::ExitCode;
 use std::rt::Env;
 use std::{env, io};
+
+/// The bytes of output that are written at a time.
+const PIECE: usize = 32768;
 
 // The status if the words can't be read. Either no memory was found, or one is no UTF-8 text, and so no word of a command.
 fn unread(kind: ErrorKind) -> Status
@@ -34,13 +37,35 @@ fn words(rt: &(impl Env + Alloc<A = Global>)) -> Result<Words, Status> {
     Ok(words)
 }
 
+// The status if what was kept of the output couldn't be written: a refusal is one whether or not its line was written whole.
+fn unwritten(status: Status) -> Status
+    ensures done { status ≡ Status.Done → result ≡ Status.WriteFault }
+    ensures no { status ≡ Status.No → result ≡ Status.WriteFault }
+    ensures other { status ≢ Status.Done → status ≢ Status.No → result ≡ status }
+{
+    match status {
+        Status::Done | Status::No => Status::WriteFault,
+        other => other,
+    }
+}
+
+// The status with which the words end. The output is written in large pieces.
+fn run(rt: &HostRuntime, words: &Words) -> Status {
+    let Ok(mut writer) = BufWriter::with_capacity(rt.alloc(), PIECE, io::writer(rt)) else {
+        return Status::Memory;
+    };
+    let mut source = StdSource::new(rt.reader());
+    let mut sink = StdSink::new(&mut writer);
+    let status = sercos(rt.alloc(), words, &mut source, &mut sink, Clean);
+    match writer.flush() {
+        Ok(()) => status,
+        Err(_) => unwritten(status),
+    }
+}
+
 fn main(rt: HostRuntime) -> ExitCode {
     let status = match words(&rt) {
-        Ok(words) => {
-            let mut source = StdSource::new(rt.reader());
-            let mut sink = StdSink::new(io::writer(&rt));
-            sercos(rt.alloc(), &words, &mut source, &mut sink, Clean)
-        }
+        Ok(words) => run(&rt, &words),
         Err(status) => status,
     };
     if status != Status::Done {

@@ -27,8 +27,9 @@ use sercos_master::master_law;
 use sercos_recovery::recovery_law;
 use sercos_ring::{Ring, standing_law};
 use sercos_script::BitLink;
+use sercos_text::Line;
 use sercos_timing::Wishes;
-use sercos_trace::{CycleRecord, Totals, write_cycle, write_end, write_header};
+use sercos_trace::{CycleRecord, Totals, write_cycle_by, write_end, write_header};
 use sercos_undisturbed::undisturbed_law;
 
 // Writes the head of a trace.
@@ -41,12 +42,17 @@ fn write_head<K: Sink>(w: &Wishes, sink: &mut K) -> Result<(), WriteFailed>
 }
 
 // Writes the lines of a cycle.
-fn write_made<K: Sink>(w: &Wishes, made: &CycleRecord, sink: &mut K) -> Result<(), WriteFailed>
+fn write_made<K: Sink>(
+    w: &Wishes,
+    made: &CycleRecord,
+    line: &mut Line,
+    sink: &mut K,
+) -> Result<(), WriteFailed>
     requires starts { IfSome made.now.events.plan (λ p. length p.t1 ≡ length w.now.drives) }
     requires positions { IfSome made.now.events.plan (λ p. length p.position ≡ length w.now.drives) }
     ensures { Writes (seen K.held K.faults K.room sink.old) (seen K.held K.faults K.room sink.new) result (cycle_text w.now made.now) }
 {
-    write_cycle(w, made, sink)
+    write_cycle_by(w, made, line, sink)
 }
 
 // Writes the last line of a trace.
@@ -61,6 +67,7 @@ fn write_next<L: BitLink, K: Sink>(
     ring: &mut Ring<L>,
     w: &Wishes,
     totals: &mut Totals,
+    line: &mut Line,
     sink: &mut K,
 ) -> Result<(), WriteFailed>
     requires ring { (j : List CycleView) × IsRingOf (RingStandsFor L.carry L.restart) ring.old w.now j }
@@ -74,7 +81,7 @@ fn write_next<L: BitLink, K: Sink>(
     master_law();
     let made = ring.cycle();
     count_made(totals, made);
-    write_made(w, made, sink)
+    write_made(w, made, line, sink)
 }
 
 // The ring's next cycles: writes their lines, and counts them.
@@ -91,8 +98,9 @@ fn write_cycles<L: BitLink, K: Sink>(
         (seen K.held K.faults K.room sink.old) (seen K.held K.faults K.room sink.new) result }
 {
     let mut totals = no_totals();
+    let mut line = Line::new();
     for _k in 0..cycles {
-        write_next(ring, w, &mut totals, sink)?;
+        write_next(ring, w, &mut totals, &mut line, sink)?;
     }
     Ok(totals)
 }

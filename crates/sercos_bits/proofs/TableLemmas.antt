@@ -2,7 +2,8 @@
 use Rattle.std.proofs.Common.{◌≡◌, ℕ, zero, suc, ◌+◌, ◌*◌, ◌/◌, ◌%◌, ◌^◌, ◌<◌, ◌≤◌, Bool, true, false, cond, List, [], ◌∷◌, ◌++◌, map, get_or, replicate, refl, length, sym, ap, ◌∙◌, add-one, arith, length-append}
 use Rattle.std.specs.Prelude.{fold}
 use Rattle.std.specs.List.{range_with_len}
-use Rattle.std.specs.Int.Bits.{bit_xor}
+use Rattle.std.specs.Int.Bits.{bit_xor, xor_zero_l}
+use Rattle.std.proofs.lemmas.Grind.{fold-append}
 use Rattle.std.proofs.lemmas.List.{get_or-map}
 use Rattle.std.proofs.lemmas.List.FromFn.{get_or-map-range_with_len}
 use Rattle.std.proofs.lemmas.Nat.{mod-pow-add}
@@ -10,7 +11,7 @@ use Rattle.sercos_model.specs.Bits.{is_odd, low_bits}
 use Rattle.sercos_model.specs.CheckSequence.{sum_of, added, divided, generator, sixteen_zeros, raised}
 use Rattle.sercos_model.proofs.BitLemmas.{low_bits-xor, length-low_bits}
 use Rattle.sercos_bits.specs.Register.{fed}
-use Rattle.sercos_bits.specs.declared.check_sequence.TheConstants.{REMAINDERS, LATER}
+use Rattle.sercos_bits.specs.declared.check_sequence.TheConstants.{REMAINDERS, LATER, LATER_BY_TWO, LATER_BY_THREE}
 use Rattle.sercos_bits.proofs.Division.{register_divides, added-added, added_twice, added-zeros, length-fed}
 
 -- what the register holds after a byte
@@ -134,6 +135,29 @@ pub later_entry : (byte : ℕ) → byte < 256 → low_bits 16 (get_or LATER byte
 later_entry byte below =
     sym (get_or-map (low_bits 16) LATER byte 0 [] below) ∙ ap (λ r. get_or r byte []) later_entries ∙ get_or-map-range_with_len after_zeros 0 256 byte byte [] below (omega arith)
 
+-- and sixteen zeros, and 24
+abbrev by_two : ℕ → List Bool
+by_two byte = fold fed (fold fed sixteen_zeros (low_bits 8 byte)) (replicate 16 false)
+
+abbrev by_three : ℕ → List Bool
+by_three byte = fold fed (fold fed sixteen_zeros (low_bits 8 byte)) (replicate 24 false)
+
+by_two_entries : map (low_bits 16) LATER_BY_TWO ≡ map by_two (range_with_len 0 256)
+unfolding low_bits is_odd fed sum_of added
+by_two_entries = refl
+
+by_three_entries : map (low_bits 16) LATER_BY_THREE ≡ map by_three (range_with_len 0 256)
+unfolding low_bits is_odd fed sum_of added
+by_three_entries = refl
+
+pub later_by_two_entry : (byte : ℕ) → byte < 256 → low_bits 16 (get_or LATER_BY_TWO byte 0) ≡ fold fed (fold fed sixteen_zeros (low_bits 8 byte)) (replicate 16 false)
+later_by_two_entry byte below =
+    sym (get_or-map (low_bits 16) LATER_BY_TWO byte 0 [] below) ∙ ap (λ r. get_or r byte []) by_two_entries ∙ get_or-map-range_with_len by_two 0 256 byte byte [] below (omega arith)
+
+pub later_by_three_entry : (byte : ℕ) → byte < 256 → low_bits 16 (get_or LATER_BY_THREE byte 0) ≡ fold fed (fold fed sixteen_zeros (low_bits 8 byte)) (replicate 24 false)
+later_by_three_entry byte below =
+    sym (get_or-map (low_bits 16) LATER_BY_THREE byte 0 [] below) ∙ ap (λ r. get_or r byte []) by_three_entries ∙ get_or-map-range_with_len by_three 0 256 byte byte [] below (omega arith)
+
 zeros-bits : low_bits 16 0 ≡ replicate 16 false
 unfolding low_bits is_odd
 zeros-bits = refl
@@ -163,3 +187,37 @@ two_by_table r first second now later below fits now_is later_is =
     let front : fold fed upper (low_bits 8 second) ≡ low_bits 16 now = sym (short_by_table (r / 256) second now (omega arith) now_is) in
     low_bits-xor 16 now later ∙ ap (λ bits. added bits (low_bits 16 later)) (sym front) ∙ ap (λ bits. added (fold fed upper (low_bits 8 second)) bits) (sym zeros) ∙ sym split
     ∙ ap (λ r. fold fed r (low_bits 8 second)) (sym step)
+
+-- four bytes by the tables: the last two as from a register of zeros, and the first two with sixteen zeros after them
+pub four_by_table : (r first second third fourth now later by_two by_three : ℕ) → r < 2 ^ 16 → bit_xor (r % 256) first < 256 → bit_xor (r / 256) second < 256 → third < 256
+    → low_bits 16 now ≡ fold fed sixteen_zeros (low_bits 8 fourth)
+    → low_bits 16 later ≡ fold fed (fold fed sixteen_zeros (low_bits 8 third)) (replicate 8 false)
+    → low_bits 16 by_two ≡ fold fed (fold fed sixteen_zeros (low_bits 8 (bit_xor (r / 256) second))) (replicate 16 false)
+    → low_bits 16 by_three ≡ fold fed (fold fed sixteen_zeros (low_bits 8 (bit_xor (r % 256) first))) (replicate 24 false)
+    → low_bits 16 (bit_xor (bit_xor now later) (bit_xor by_two by_three)) ≡ fold fed (fold fed (fold fed (fold fed (low_bits 16 r) (low_bits 8 first)) (low_bits 8 second)) (low_bits 8 third)) (low_bits 8 fourth)
+four_by_table r first second third fourth now later by_two by_three below one_fits two_fits three_fits now_is later_is two_is three_is =
+    let a : ℕ = bit_xor (r % 256) first in
+    let b : ℕ = bit_xor (r / 256) second in
+    let high : ℕ = get_or REMAINDERS b 0 in
+    let low : ℕ = get_or LATER a 0 in
+    let both : ℕ = bit_xor high low in
+    let high_is = entry b two_fits in
+    let low_is = later_entry a one_fits in
+    let two : low_bits 16 both ≡ fold fed (fold fed (low_bits 16 r) (low_bits 8 first)) (low_bits 8 second) = two_by_table r first second high low below one_fits high_is low_is in
+    let bits : List Bool = low_bits 8 third ++ low_bits 8 fourth in
+    let long : length bits ≡ 16 = omega (arith, length-append (low_bits 8 third) (low_bits 8 fourth), length-low_bits 8 third, length-low_bits 8 fourth) in
+    let last : low_bits 16 (bit_xor now later) ≡ fold fed (low_bits 16 0) bits =
+    two_by_table 0 third fourth now later (omega arith) (rw (xor_zero_l third) three_fits) (rw (xor_zero_l fourth) now_is) (rw (xor_zero_l third) later_is) ∙ sym (fold-append fed (low_bits 16 0) (low_bits 8 third) (low_bits 8 fourth)) in
+    let zeros_high : fold fed (low_bits 16 high) (replicate 16 false) ≡ low_bits 16 by_two = ap (λ x. fold fed x (replicate 16 false)) high_is ∙ sym two_is in
+    let zeros_low : fold fed (low_bits 16 low) (replicate 16 false) ≡ low_bits 16 by_three =
+    ap (λ x. fold fed x (replicate 16 false)) low_is ∙ sym (fold-append fed (fold fed sixteen_zeros (low_bits 8 a)) (replicate 8 false) (replicate 16 false)) ∙ sym three_is in
+    let front : fold fed (low_bits 16 both) (replicate 16 false) ≡ low_bits 16 (bit_xor by_two by_three) =
+    ap (λ x. fold fed x (replicate 16 false)) (low_bits-xor 16 high low)
+    ∙ fold_added (replicate 16 false) (low_bits 16 high) (low_bits 16 low) (length-low_bits 16 high) (length-low_bits 16 low)
+    ∙ ap (λ x. added x (fold fed (low_bits 16 low) (replicate 16 false))) zeros_high ∙ ap (λ x. added (low_bits 16 by_two) x) zeros_low ∙ sym (low_bits-xor 16 by_two by_three) in
+    let split : fold fed (low_bits 16 both) bits ≡ added (fold fed (low_bits 16 0) bits) (fold fed (low_bits 16 both) (replicate 16 false)) =
+    ap (λ x. fold fed x bits) (sym (ap (λ z. added z (low_bits 16 both)) zeros-bits ∙ added-zeros 16 (low_bits 16 both)))
+    ∙ fold_added bits (low_bits 16 0) (low_bits 16 both) (length-low_bits 16 0) (length-low_bits 16 both)
+    ∙ ap (λ n. added (fold fed (low_bits 16 0) bits) (fold fed (low_bits 16 both) (replicate n false))) long in
+    low_bits-xor 16 (bit_xor now later) (bit_xor by_two by_three) ∙ ap (λ x. added x (low_bits 16 (bit_xor by_two by_three))) last ∙ ap (λ x. added (fold fed (low_bits 16 0) bits) x) (sym front) ∙ sym split
+    ∙ fold-append fed (low_bits 16 both) (low_bits 8 third) (low_bits 8 fourth) ∙ ap (λ x. fold fed (fold fed x (low_bits 8 third)) (low_bits 8 fourth)) two

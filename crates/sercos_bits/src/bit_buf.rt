@@ -33,7 +33,7 @@ fn lowest(number: u16, len: usize) -> u16
     }
 }
 
-/// A list of at most [`MAX_BITS`] bits, in the order in which they stand on the link.
+/// A list of at most [`MAX_BITS`] bits, in the order in which they are sent.
 #[derive(Debug, Drop)]
 pub struct BitBuf {
     // Bit n is bit n % 64 of word n / 64. Those after the last are zeros.

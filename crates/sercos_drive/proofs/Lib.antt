@@ -1,3 +1,4 @@
 mod DriveLemmas
+mod FeedbackLemmas
 mod RecordLemmas
 pub mod Worked

@@ -1,8 +1,9 @@
 // A drive of the ring.
-ghost use Rattle.std.specs.Prelude.{◌≡◌, ℕ, ◌+◌, ◌<◌, ◌≤◌, ◌==◌, nat_le, Bool, not, ◌&&◌, ◌||◌, if◌then◌else◌, List, [], ◌∷◌, length, Option, Some, None, is_some, option_map, true, IfOk, IfSome};
+ghost use Rattle.std.specs.Prelude.{◌≡◌, ℕ, ◌+◌, ◌<◌, ◌≤◌, ◌==◌, nat_le, Bool, not, ◌&&◌, ◌||◌, if◌then◌else◌, List, [], ◌∷◌, ◌++◌, length, Option, Some, None, is_some, option_map, true, IfOk, IfSome};
 ghost use Rattle.std.specs.Option.{option_copied};
 ghost use Rattle.sercos_block.specs.Views.{DriveView};
 ghost use Rattle.sercos_block.specs.Rules.{blocks_fault};
+ghost use Rattle.sercos_telegram.specs.Spells.{at_content};
 ghost use Rattle.sercos_command.specs.Settings.{is_from, are_commands_of};
 ghost use Rattle.sercos_command.specs.Calls.{Call, CommandsStandFor, newest};
 ghost use Rattle.sercos_service_drive.specs.Log.{Taken, record_of};
@@ -16,14 +17,14 @@ ghost use Rattle.sercos_drive.specs.Kept.{counted, DriveStandsFor};
 ghost use Rattle.sercos_drive.specs.Slots.{slot_of};
 ghost use Rattle.sercos_drive.specs.Steps.{goes_to, record_by, processed_by, ends_with, IsEntered, IsProcessed};
 
-use crate::feedback::{Values, put_feedback};
+use crate::feedback::push_feedback;
 use crate::hearing::{Told, mdt_got, mst_got};
 use crate::slot::{Slot, renew, slot_of};
 use sercos_bits::Content;
 use sercos_block::{DriveSetup, Store};
 use sercos_command::Commands;
 use sercos_service_drive::{DriveChannel, writes_law};
-use sercos_telegram::{At, write_at};
+use sercos_telegram::{At, Status, write_at};
 use sercos_timing::limits::EARLY_AT;
 use std::alloc::{AllocError, Global};
 use std::marker::Model;
@@ -74,6 +75,20 @@ impl Model for Drive {
     } };
 
     ghost invariant = { λ d. (d.phase ≤ 4) × (are_commands_of d.store d.commands ≡ true) × (4 ≤ d.slot.record_len) };
+}
+
+// Replaces the content by an AT without values.
+fn begin_at(address: u8, status: Status, info: u16, out: &mut Content)
+    ensures begun { (values : List ℕ) → out.new ++ values ≡ at_content address status info values }
+    ensures len { length out.new ≡ 5 }
+{
+    let at = At {
+        address,
+        status,
+        info,
+        values: &[],
+    };
+    write_at(&at, out);
 }
 
 impl Drive {
@@ -178,13 +193,16 @@ impl Drive {
         }
     }
 
-    // Puts the feedback values of the AT, in place, since they would be copied if they were returned.
-    fn put_values(&self, values: &mut Values)
-        requires { values.old ≡ [] }
-        ensures { self.now.slot ≡ slot_of self.now.blocks → values.new ≡ values_in self.now.cycle self.now.phase self.now.blocks }
+    // Appends the feedback values of the AT to the five bytes with which it begins.
+    fn push_values(&self, out: &mut Content)
+        requires { length out.old ≤ 5 }
+        ensures value { self.now.slot ≡ slot_of self.now.blocks → out.new ≡ out.old ++ values_in self.now.cycle self.now.phase self.now.blocks }
+        ensures longer { length out.old ≤ length out.new }
     {
         if 3 <= self.phase {
-            put_feedback(&self.store, self.slot.listed.as_slice(), self.cycle, values);
+            // The blocks keep their rules, so the bytes of a number are those of its bits.
+            let _count = self.store.count();
+            push_feedback(out, self.slot.feedback.as_slice(), self.cycle);
         }
     }
 
@@ -221,15 +239,8 @@ impl Drive {
             return None;
         }
         let (status, info) = self.channel.say(self.cycle, &self.commands);
-        let mut values = Values::new();
-        self.put_values(&mut values);
-        let at = At {
-            address: self.address,
-            status,
-            info,
-            values: values.as_slice(),
-        };
-        write_at(&at, out);
+        begin_at(self.address, status, info, out);
+        self.push_values(out);
         Some(self.start())
     }
 

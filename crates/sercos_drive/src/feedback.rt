@@ -1,47 +1,77 @@
 // The feedback values of an AT.
-ghost use Rattle.std.specs.Prelude.{◌≡◌, ◌≤◌, ◌+◌, ◌*◌, ◌++◌, [], length};
-ghost use Rattle.std.specs.List.{flat_map};
-ghost use Rattle.sercos_drive.specs.Says.{value_in};
+ghost use Rattle.std.specs.Prelude.{◌≡◌, ◌≤◌, ◌+◌, ◌*◌, ◌++◌, length};
+ghost use Rattle.std.specs.List.{flat_map, filter_map};
+ghost use Rattle.sercos_drive.specs.Slots.{feedback_of, bytes_at};
 
-use sercos_bits::ByteList;
-use sercos_block::{Store, number_len};
-use sercos_idn::Idn;
-use sercos_service_drive::push_data;
+use arrayvec::ArrayVec;
+use sercos_bits::Content;
+use sercos_block::{Store, bits_in, is_number};
+use sercos_idn::{Idn, Length};
+use sercos_service_drive::push_grown;
 
-/// The values of an AT: at most sixteen numbers of four bytes.
-pub(crate) type Values = ByteList<64>;
+/// A feedback value: what an AT needs of a block to carry its operation data in any cycle.
+#[derive(Clone, Copy)]
+pub(crate) struct FeedbackValue {
+    /// Whether it has two or four bytes.
+    pub kind: Length,
+    /// The bits of the operation data.
+    pub bits: u32,
+    /// How much the number grows in each cycle.
+    pub step: u32,
+}
 
-// Appends the value of an identifier number in a cycle; nothing if it isn't that of a number.
-#[tactic(auto, unfolding(crate::specs::Says::value_in))]
-fn push_value(values: &mut Values, store: &Store, idn: Idn, cycle: u32)
-    requires { length values.old + 4 ≤ 64 }
-    ensures value { values.new ≡ values.old ++ value_in cycle store.now idn }
-    ensures bound { length values.new ≤ length values.old + 4 }
+// A number of two bytes that is always 0.
+impl Default for FeedbackValue {
+    ghost is_default = { λ _. Unit {0} };
+
+    fn default() -> Self {
+        FeedbackValue {
+            kind: Length::Two,
+            bits: 0,
+            step: 0,
+        }
+    }
+}
+
+// The feedback value of an identifier number, if it is that of a number.
+fn feedback_of(store: &Store, idn: Idn) -> Option<FeedbackValue>
+    ensures { result ≡ feedback_of store.now idn }
 {
     let Ok(attribute) = store.attribute(idn) else {
-        return;
+        return None;
     };
-    if number_len(attribute).is_none() {
-        return;
+    if !is_number(&attribute) {
+        return None;
     }
-    push_data(values, &attribute, store.step(idn), cycle, store.data(idn));
+    Some(FeedbackValue {
+        kind: attribute.length,
+        bits: bits_in(&attribute, store.data(idn)),
+        step: store.step(idn),
+    })
 }
 
-// Appends the values of identifier numbers in a cycle.
-fn push_all(values: &mut Values, store: &Store, idns: &[Idn], cycle: u32)
-    requires { length values.old + 4 * length idns.now ≤ 64 }
-    ensures { values.new ≡ values.old ++ flat_map (value_in cycle store.now) idns.now }
+/// Returns the feedback values of identifier numbers. One that isn't that of a number has none.
+pub(crate) fn feedback_all(store: &Store, idns: &[Idn]) -> ArrayVec<FeedbackValue, 16>
+    requires { length idns.now ≤ 16 }
+    ensures { result.items ≡ filter_map (feedback_of store.now) idns.now }
 {
+    let mut values = ArrayVec::new();
     for idn in idns {
-        push_value(values, store, *idn, cycle);
+        if let Some(value) = feedback_of(store, *idn) {
+            values.push(value);
+        }
     }
+    values
 }
 
-// Puts the values of an AT of phases 3 and 4 that carries these identifier numbers.
-pub(crate) fn put_feedback(store: &Store, idns: &[Idn], cycle: u32, values: &mut Values)
-    requires few { length idns.now ≤ 16 }
-    requires none { values.old ≡ [] }
-    ensures { values.new ≡ flat_map (value_in cycle store.now) idns.now }
+/// Appends feedback values as they are in a cycle, at most sixteen, to the five bytes with which an AT begins.
+pub(crate) fn push_feedback(out: &mut Content, values: &[FeedbackValue], cycle: u32)
+    requires few { length values.now ≤ 16 }
+    requires begun { length out.old ≤ 5 }
+    ensures value { out.new ≡ out.old ++ flat_map (bytes_at cycle) values.now }
+    ensures longer { length out.old ≤ length out.new }
 {
-    push_all(values, store, idns, cycle);
+    for value in values {
+        push_grown(out, value.kind, value.bits, value.step, cycle);
+    }
 }

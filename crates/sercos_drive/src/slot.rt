@@ -2,11 +2,11 @@
 ghost use Rattle.std.specs.Prelude.{◌≡◌, ◌≤◌, if◌then◌else◌};
 ghost use Rattle.sercos_drive.specs.Slots.{slot_of};
 
+use crate::feedback::{FeedbackValue, feedback_all};
 use arrayvec::ArrayVec;
 use sercos_block::Store;
 use sercos_block::numbers::{AT_LIST, MDT_LENGTH, MDT_LIST, POSITION, T1};
 use sercos_command::{carried_len, idns_at, number_at};
-use sercos_idn::Idn;
 
 /// When a drive's AT starts and what it carries, and where its record is in the MDT, in phases 3 and 4.
 #[derive(Drop)]
@@ -19,8 +19,8 @@ pub(crate) struct Slot {
     pub position: u16,
     /// The bytes of the record.
     pub record_len: u16,
-    /// What the AT carries.
-    pub listed: ArrayVec<Idn, 16>,
+    /// What the AT carries after its two words.
+    pub feedback: ArrayVec<FeedbackValue, 16>,
 }
 
 /// The slot that the data blocks give.
@@ -33,7 +33,7 @@ pub(crate) fn slot_of(store: &Store) -> Slot
         mdt_len: number_at(store, MDT_LENGTH) as u16,
         position: number_at(store, POSITION) as u16,
         record_len: carried_len(store, MDT_LIST) as u16,
-        listed: idns_at(store, AT_LIST),
+        feedback: feedback_all(store, idns_at(store, AT_LIST).as_slice()),
     }
 }
 

@@ -1,5 +1,5 @@
 -- A reader's steps.
-use Rattle.std.proofs.Common.{◌≡◌, ℕ, suc, ◌+◌, ◌<◌, ◌≤◌, ◌==◌, ◌&&◌, ◌||◌, Bool, true, false, List, [], ◌∷◌, ◌++◌, ◌⊎◌, inl, inr, length, drop, get_or, refl, sym, ap, subst, ◌∙◌, arith, length-append, append_assoc, ◌*◌, ◌-◌, ◌/◌}
+use Rattle.std.proofs.Common.{◌≡◌, ℕ, suc, ◌+◌, ◌<◌, ◌≤◌, ◌==◌, ◌&&◌, ◌||◌, Bool, true, false, List, [], ◌∷◌, ◌++◌, ◌⊎◌, inl, inr, length, drop, get_or, refl, sym, ap, subst, ◌∙◌, arith, length-append, append_assoc, ◌*◌, ◌-◌}
 use Rattle.std.proofs.lemmas.List.{append-nil, drop-append-le, drop_all, length-drop}
 use Rattle.std.proofs.lemmas.Bool.{eq-eqb, ne_eqb, agree_below, agree_below_at}
 use Rattle.std.proofs.Math.Bool.{and-true, and-false, or-false}
@@ -80,11 +80,6 @@ later_way {closing = closing} bits others bit taken way is behind many =
       next = ap (λ v. v || (bit && (taken == closing + 7))) h.next ∙ later_next h.more others bit taken (closing + 7) (omega (arith, ap length h.whole, length-append h.before (true ∷ h.more), length-drop 8 bits, h.place));
     }
 
--- the bits of a byte after the first six ones
-pub later_byte_way : {plain : List Bool} {ones closing : ℕ} {seventh dropped : Bool} (bits : List Bool) (byte taken : ℕ) → IsSought (drop 8 bits) ones dropped plain ⊎ IsFound (drop 8 bits) ones closing seventh dropped plain → taken ≡ length bits → 8 ≤ length bits → 5 < ones → IsFound (drop 8 (bits ++ low_bits 8 byte)) ones closing (seventh || (is_odd byte && (taken == closing + 7))) dropped plain
-unfolding low_bits
-later_byte_way bits byte taken way is behind many = later_way bits (low_bits 7 (byte / 2)) (is_odd byte) taken way is behind many
-
 -- the bits of a byte that come first agree with the flag where it is one
 all_flags : agree_below (λ b. agree (low_bits 8 b) flag) (λ b. b == 126) 256 ≡ true
 unfolding agree low_bits is_odd
@@ -100,6 +95,20 @@ byte_agrees (bit ∷ bits) byte none below = absurd (omega arith)
 pub first_byte_way : {plain : List Bool} {ones closing : ℕ} {seventh dropped : Bool} (bits : List Bool) (byte : ℕ) → IsSought (drop 8 bits) ones dropped plain ⊎ IsFound (drop 8 bits) ones closing seventh dropped plain → length bits ≡ 0 → IsSought (drop 8 (bits ++ low_bits 8 byte)) ones dropped plain ⊎ IsFound (drop 8 (bits ++ low_bits 8 byte)) ones closing seventh dropped plain
 first_byte_way bits byte way none = rw (no_bits_yet bits (low_bits 8 byte) (omega (arith, length-append bits (low_bits 8 byte), length-low_bits 8 byte))) way
 
-pub eight_way : {plain : List Bool} {ones closing : ℕ} {seventh dropped : Bool} (bits more : List Bool) (behind_ones : ℕ) (behind_dropped : Bool) → IsSought (drop 8 bits) ones dropped plain ⊎ IsFound (drop 8 bits) ones closing seventh dropped plain → 8 ≤ length bits → ones ≤ 5 → has_six ones more ≡ false → behind_ones ≡ ones_after ones more → behind_dropped ≡ dropped_after ones dropped more → IsSought (drop 8 (bits ++ more)) behind_ones behind_dropped (plain ++ unstuffed ones more)
-eight_way bits more behind_ones behind_dropped way behind few none is also =
+pub clear_way : {plain : List Bool} {ones closing : ℕ} {seventh dropped : Bool} (bits more : List Bool) (behind_ones : ℕ) (behind_dropped : Bool) → IsSought (drop 8 bits) ones dropped plain ⊎ IsFound (drop 8 bits) ones closing seventh dropped plain → 8 ≤ length bits → ones ≤ 5 → has_six ones more ≡ false → behind_ones ≡ ones_after ones more → behind_dropped ≡ dropped_after ones dropped more → IsSought (drop 8 (bits ++ more)) behind_ones behind_dropped (plain ++ unstuffed ones more)
+clear_way bits more behind_ones behind_dropped way behind few none is also =
     rw (more_behind bits more behind, is, also) (IsSought-more more (sought_of way few) none)
+
+-- the sixth one comes after the bits `before`
+pub end_way : {plain : List Bool} {ones closing : ℕ} {seventh dropped : Bool} (bits before rest : List Bool) (taken place : ℕ) (behind_seventh behind_dropped : Bool) → IsSought (drop 8 bits) ones dropped plain ⊎ IsFound (drop 8 bits) ones closing seventh dropped plain → taken ≡ length bits → 8 ≤ length bits → ones ≤ 5 → length before ≡ place → has_six ones before ≡ false → ones_after ones before ≡ 5 → behind_dropped ≡ dropped_after ones dropped before → behind_seventh ≡ get_or rest 0 false → IsFound (drop 8 (bits ++ (before ++ true ∷ rest))) 6 (taken + place - 6) behind_seventh behind_dropped (plain ++ unstuffed ones before)
+end_way {plain = plain} {ones = ones} bits before rest taken place behind_seventh behind_dropped way is behind few long none five also next =
+    let sought = IsSought-more before (sought_of way few) none in
+    record {
+      six = refl;
+      before = drop 8 bits ++ before;
+      more = rest;
+      whole = more_behind bits (before ++ true ∷ rest) behind ∙ sym (append_assoc (drop 8 bits) before (true ∷ rest));
+      sought = rw (five, ← also) at sought;
+      place = omega (arith, is, behind, long, length-drop 8 bits, length-append (drop 8 bits) before);
+      next = next;
+    }

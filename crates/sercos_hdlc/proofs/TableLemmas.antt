@@ -1,5 +1,5 @@
 -- What is sent for a byte, by the table, and the room that it takes.
-use Rattle.std.proofs.Common.{◌≡◌, ℕ, ◌+◌, ◌*◌, ◌/◌, ◌%◌, ◌<◌, ◌≤◌, Bool, true, false, inl, inr, List, [], ◌∷◌, ◌++◌, length, map, get_or, refl, sym, ap, ◌∙◌, arith, length-append}
+use Rattle.std.proofs.Common.{◌≡◌, ℕ, zero, suc, ◌+◌, ◌*◌, ◌/◌, ◌%◌, ◌<◌, ◌≤◌, Bool, true, false, inl, inr, List, [], ◌∷◌, ◌++◌, length, map, get_or, refl, sym, ap, ◌∙◌, arith, length-append}
 use Rattle.std.specs.Prelude.{fold}
 use Rattle.std.specs.List.{range_with_len}
 use Rattle.std.proofs.lemmas.List.{get_or-map}
@@ -8,7 +8,7 @@ use Rattle.std.proofs.lemmas.Bool.{cases_eq, ne_eqb}
 use Rattle.sercos_model.specs.Bits.{is_odd, low_bits, number_of}
 use Rattle.sercos_model.proofs.BitLemmas.{length-low_bits, low_bits-number_of}
 use Rattle.sercos_hdlc.specs.Stuffed.{sent_for, ones_behind, stuffed}
-use Rattle.sercos_hdlc.specs.declared.tables.TheConstants.{COUNTS, SENT}
+use Rattle.sercos_hdlc.specs.declared.tables.TheConstants.{COUNTS, SENT, ENDS}
 
 -- bits after `ones` ones in a row are sent as `len` bits, which end in `behind` ones
 record IsCounted (ones : ℕ) (bits : List Bool) (len behind : ℕ) : Type 0 where
@@ -74,6 +74,23 @@ sent_entry ones byte few below =
     let upper : i / 256 ≡ ones = omega arith in
     let lower : i % 256 ≡ byte = omega arith in
     ap (λ xs. get_or xs i 0) all_sent ∙ get_or-map-range_with_len (λ i. number_of (stuffed_at i)) 0 1280 i i 0 inside (omega arith) ∙ rw (upper, lower)
+
+-- where a byte has a zero, how many ones end it doesn't depend on those before it
+ends_after : (ones : ℕ) → ones < 5 → ENDS ≡ map (λ byte. fold ones_behind ones (low_bits 8 byte)) (range_with_len 0 255)
+unfolding low_bits is_odd
+ends_after zero few = refl
+ends_after (suc zero) few = refl
+ends_after (suc (suc zero)) few = refl
+ends_after (suc (suc (suc zero))) few = refl
+ends_after (suc (suc (suc (suc zero)))) few = refl
+ends_after (suc (suc (suc (suc (suc ones))))) few = absurd (omega arith)
+
+pub ends_entry : (ones byte : ℕ) → ones < 5 → byte < 255 → get_or ENDS byte 0 ≡ fold ones_behind ones (low_bits 8 byte)
+ends_entry ones byte few below =
+    ap (λ xs. get_or xs byte 0) (ends_after ones few) ∙ get_or-map-range_with_len (λ b. fold ones_behind ones (low_bits 8 b)) 0 255 byte byte 0 below (omega arith)
+
+pub few_at_end : (byte : ℕ) → byte < 255 → get_or ENDS byte 0 < 5
+few_at_end byte below = rw (ends_entry 0 byte (omega arith) below) (bits_counted 0 (low_bits 8 byte) (omega arith)).few
 
 pub sent_by_entry : (out more bits : List Bool) (len number : ℕ) → more ≡ out ++ low_bits len number → number ≡ number_of bits → len ≡ length bits → more ≡ out ++ bits
 sent_by_entry out more bits len number grown is long = rw (grown, is, long, low_bits-number_of)

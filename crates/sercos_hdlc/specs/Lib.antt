@@ -1,6 +1,7 @@
 pub mod Enclosed
 pub mod Fed
 pub mod Given
+pub mod Grouped
 pub mod Held
 pub mod Reason
 pub mod Scanned

@@ -26,7 +26,7 @@ unfoldable pub ends_in_five : List Bool → Bool
 ends_in_five [] = false
 ends_in_five (bit ∷ bits) = is_five (bit ∷ bits) || ends_in_five bits
 
--- the least place at which six ones stand in a row, or the list's length where they stand nowhere
+-- the least place at which six ones come in a row, or the list's length if they don't occur
 unfoldable pub six_place : List Bool → ℕ
 six_place [] = 0
 six_place (bit ∷ bits) = cond (begins_with_six (bit ∷ bits)) 0 (suc (six_place bits))
@@ -95,7 +95,7 @@ check_differs plain = given (not (found_in plain == fcs_of (content_of plain))) 
 abbrev pub after : List Bool → Option BadFrame
 after bits = given (nat_lt (closing_at bits + 8) (length bits)) (bad.After (closing_at bits + 8))
 
--- the rules on where the flags stand, and those on the plain bits between them
+-- the rules on the places of the flags, and those on the plain bits between them
 unfoldable pub unclosed : List Bool → Option BadFrame
 unclosed bits = option_or (no_open bits) (option_or (no_close bits) (runs_on bits))
 

@@ -26,13 +26,19 @@ has_six k [] = false
 has_six k (true ∷ bits) = (k == 5) || has_six (suc k) bits
 has_six k (false ∷ bits) = has_six 0 bits
 
+-- the place of the sixth one in a row, or the number of bits if it doesn't come
+unfoldable pub sixth_at : ℕ → List Bool → ℕ
+sixth_at k [] = 0
+sixth_at k (true ∷ bits) = cond (k == 5) 0 (suc (sixth_at (suc k) bits))
+sixth_at k (false ∷ bits) = suc (sixth_at 0 bits)
+
 -- whether the last zero was an inserted one, if no zero comes as it was before
 unfoldable pub dropped_after : ℕ → Bool → List Bool → Bool
 dropped_after k dropped [] = dropped
 dropped_after k dropped (true ∷ bits) = dropped_after (suc k) dropped bits
 dropped_after k dropped (false ∷ bits) = dropped_after 0 (k == 5) bits
 
--- The bits end in a zero and k ones. It was dropped where five ones stand before it; before it the plain bits are those of the body.
+-- The bits end in a zero and k ones. It was dropped if five ones come before it. Before it the plain bits are those of the body.
 pub record IsBehindZero (bits : List Bool) (k : ℕ) (dropped : Bool) (plain : List Bool) : Type 0 where
   pub body : List Bool
   pub whole : bits ≡ body ++ (false ∷ ones_then k [])

@@ -4,8 +4,8 @@
 pub enum BadFrame {
     /// The list doesn't begin with the flag 01111110.
     NoOpen,
-    /// The place of six ones where no flag may stand, or where five ones end the body and their inserted zero is
-    /// missing the place of the closing flag.
+    /// The place of six ones where no flag may be; if five ones end the body and their inserted zero is missing, the place
+    /// of the closing flag.
     Abort(u32),
     /// No closing flag: the list's length in bits.
     NoClose(u32),

@@ -1,12 +1,15 @@
-ghost use Rattle.std.specs.Prelude.{◌≡◌, ℕ, ◌+◌, ◌*◌, ◌^◌, ◌<◌, ◌≤◌, Bool, List, [], ◌∷◌, ◌++◌, length, take, Ok, IfOk, OnOk, OnErr};
+ghost use Rattle.std.specs.Prelude.{◌≡◌, ℕ, ◌+◌, ◌*◌, ◌^◌, ◌<◌, ◌≤◌, Bool, false, cond, List, [], ◌∷◌, ◌++◌, length, take, drop, slice_index_or, Ok, IfOk, OnOk, OnErr};
 ghost use Rattle.std.specs.Result.{result_err};
-ghost use Rattle.sercos_model.specs.Bits.{low_bits};
+ghost use Rattle.sercos_model.specs.Bits.{low_bits, bits_of};
 ghost use Rattle.sercos_model.specs.Frames.{IsFrame};
 ghost use Rattle.sercos_hdlc.specs.Reason.{content_of, plain, reason_of};
 ghost use Rattle.sercos_hdlc.specs.Fed.{taken_of, IsFed};
+ghost use Rattle.sercos_hdlc.specs.Given.{IsGiven, IsEnd};
+ghost use Rattle.sercos_hdlc.specs.Grouped.{IsGroup};
 
 use crate::bad_frame::BadFrame;
-use crate::given::given_by;
+use crate::given::{Given, given_by};
+use crate::group::Group;
 use crate::kept::Kept;
 use crate::reading::read_frame;
 use crate::scan::Scan;
@@ -19,6 +22,21 @@ const BYTE_BITS: usize = 8;
 const OPENING: u32 = 8;
 
 const FIVE: u8 = 5;
+
+// Returns whether the last zero was an inserted one: as before if no zero came since.
+fn last_zero(is_kept: bool, before: bool, dropped: bool) -> bool
+    ensures { result ≡ cond is_kept before dropped }
+{
+    if is_kept { before } else { dropped }
+}
+
+// The bit of a byte at a place among its first `len`, or false.
+fn bit_within(byte: u8, place: u8, len: u8) -> bool
+    requires { len ≤ 8 }
+    ensures { result ≡ slice_index_or (drop place (low_bits len byte)) 0 false }
+{
+    place < len && (byte >> place) % 2 == 1
+}
 
 /// Reads a frame whose bits come in pieces. The result is that of [`unframe`](crate::unframe) for all pieces together, however
 /// they were cut. It doesn't hold the bits: only counts, at most seven of the last bits, and at most 2050 bytes.
@@ -48,6 +66,15 @@ impl Deframer {
         self.scan.taken
     }
 
+    /// Begins anew, whatever was taken.
+    pub fn restart(&mut self)
+        ensures fed { IsFed [] self.new }
+        ensures taken { taken_of self.new ≡ 0 }
+    {
+        self.scan = Scan::new();
+        self.kept.clear();
+    }
+
     // Takes a plain bit.
     fn take_plain(&mut self, bit: bool)
         requires fits { taken_of self.old < 2147483648 }
@@ -57,7 +84,21 @@ impl Deframer {
         ensures fed { (bits : List Bool) → IsFed bits self.old → IsFed (bits ++ bit ∷ []) self.new }
     {
         self.scan.take_plain(bit);
-        self.kept.push(u8::from(bit), 1);
+        self.kept.push(u64::from(bit), 1);
+    }
+
+    // Takes bits after the first six ones, `len` of them: a first one, and others.
+    #[inline(always)]
+    fn take_later(&mut self, bit: bool, len: u32)
+        requires some { 1 ≤ len }
+        requires fits { taken_of self.old + len ≤ 2147483648 }
+        requires behind { 8 ≤ taken_of self.old }
+        requires six { 5 < self.old.scan.ones }
+        ensures taken { taken_of self.new ≡ taken_of self.old + len }
+        ensures fed { (bits others : List Bool) → length others + 1 ≡ len → IsFed bits self.old
+            → IsFed (bits ++ bit ∷ others) self.new }
+    {
+        self.scan.take_later(bit, len);
     }
 
     // Takes a bit.
@@ -75,7 +116,7 @@ impl Deframer {
             return;
         }
         if self.scan.ones > FIVE {
-            self.scan.take_later(bit);
+            self.take_later(bit, 1);
             return;
         }
         if bit {
@@ -85,57 +126,176 @@ impl Deframer {
         self.scan.take_inserted();
     }
 
-    // Takes the bits of a byte, one by one.
+    // Takes the lowest bits of a byte, `len` of them, one by one.
     #[inline(never)]
-    fn take_bits_of(&mut self, byte: u8)
-        requires { taken_of self.old ≤ 2147483640 }
-        ensures taken { taken_of self.new ≡ taken_of self.old + 8 }
-        ensures fed { (bits : List Bool) → IsFed bits self.old → IsFed (bits ++ low_bits 8 byte) self.new }
+    fn take_bits_of(&mut self, byte: u8, len: u8)
+        requires few { len ≤ 8 }
+        requires fits { taken_of self.old + len ≤ 2147483648 }
+        ensures taken { taken_of self.new ≡ taken_of self.old + len }
+        ensures fed { (bits : List Bool) → IsFed bits self.old → IsFed (bits ++ low_bits len byte) self.new }
     {
         let mut rest = byte;
-        for _place in 0..BYTE_BITS {
+        for _place in 0..len {
             self.take_bit(rest % 2 == 1);
             rest /= 2;
         }
     }
 
-    // Takes the bits of a byte after the first eight and before the first six ones: at once if no sixth one is among them.
-    fn take_eight(&mut self, byte: u8)
-        requires fits { taken_of self.old ≤ 2147483640 }
+    // Takes the eight bits of a byte, of which none is the sixth one.
+    #[inline(always)]
+    fn take_eight(&mut self, byte: u8, given: Given)
+        requires fits { taken_of self.old + 8 ≤ 2147483648 }
         requires behind { 8 ≤ taken_of self.old }
         requires few { self.old.scan.ones ≤ 5 }
+        requires given { IsGiven self.old.scan.ones (low_bits 8 byte) given }
+        requires ones { given.ones ≤ 5 }
+        requires count { given.count ≤ 8 }
+        requires below { given.bits < 2 ^ given.count }
         ensures taken { taken_of self.new ≡ taken_of self.old + 8 }
         ensures fed { (bits : List Bool) → IsFed bits self.old → IsFed (bits ++ low_bits 8 byte) self.new }
     {
-        let given = given_by(self.scan.ones, byte);
-        if given.ones > FIVE {
-            self.take_bits_of(byte);
-            return;
-        }
-        self.scan.take_eight(given.ones, given.dropped, given.count);
-        self.kept.push(given.bits, given.count);
+        self.scan
+            .take_clear(given.ones, given.dropped, given.count, 8);
+        self.kept.push(u64::from(given.bits), given.count);
     }
 
-    // Takes the bits of a byte.
+    // Takes the lowest bits of a byte, `len` of them, where the sixth one is among the eight bits of the byte.
     #[inline(always)]
-    fn take_byte(&mut self, byte: u8)
-        requires { taken_of self.old ≤ 2147483640 }
-        ensures taken { taken_of self.new ≡ taken_of self.old + 8 }
-        ensures fed { (bits : List Bool) → IsFed bits self.old → IsFed (bits ++ low_bits 8 byte) self.new }
+    fn take_end(&mut self, byte: u8, given: Given, len: u8)
+        requires len { len ≤ 8 }
+        requires fits { taken_of self.old + len ≤ 2147483648 }
+        requires behind { 8 ≤ taken_of self.old }
+        requires few { self.old.scan.ones ≤ 5 }
+        requires end { IsEnd self.old.scan.ones (low_bits 8 byte) given }
+        requires six { 6 ≤ given.ones }
+        requires ones { given.ones ≤ 7 }
+        requires count { given.count ≤ 8 }
+        requires below { given.bits < 2 ^ given.count }
+        ensures taken { taken_of self.new ≡ taken_of self.old + len }
+        ensures fed { (bits : List Bool) → IsFed bits self.old → IsFed (bits ++ low_bits len byte) self.new }
     {
-        if self.scan.taken == 0 {
-            self.scan.take_first_byte(byte);
+        let place = given.count + (given.ones - 6);
+        if place >= len {
+            self.take_bits_of(byte, len);
             return;
         }
+        let dropped = last_zero(
+            place + self.scan.ones == FIVE,
+            self.scan.dropped,
+            given.dropped,
+        );
+        let seventh = bit_within(byte, place + 1, len);
+        self.scan
+            .take_end(place, dropped, given.count, seventh, u32::from(len));
+        self.kept.push(u64::from(given.bits), given.count);
+    }
+
+    // Takes the lowest bits of a byte, `len` of them.
+    #[inline(always)]
+    fn take_low(&mut self, byte: u8, len: u8)
+        requires some { 1 ≤ len }
+        requires few { len ≤ 8 }
+        requires fits { taken_of self.old + len ≤ 2147483648 }
+        ensures taken { taken_of self.new ≡ taken_of self.old + len }
+        ensures fed { (bits : List Bool) → IsFed bits self.old → IsFed (bits ++ low_bits len byte) self.new }
+    {
         if self.scan.taken < OPENING {
-            self.take_bits_of(byte);
+            self.take_opening(byte, len);
             return;
         }
         if self.scan.ones > FIVE {
-            self.scan.take_later_byte(byte);
+            self.take_later(byte % 2 == 1, u32::from(len));
             return;
         }
-        self.take_eight(byte);
+        let given = given_by(self.scan.ones, byte);
+        if given.ones > FIVE {
+            self.take_end(byte, given, len);
+            return;
+        }
+        if len < 8 {
+            self.take_bits_of(byte, len);
+            return;
+        }
+        self.take_eight(byte, given);
+    }
+
+    // Takes the lowest bits of a byte, `len` of them, where some of these are among the first eight.
+    #[inline(always)]
+    fn take_opening(&mut self, byte: u8, len: u8)
+        requires few { len ≤ 8 }
+        requires fits { taken_of self.old + len ≤ 2147483648 }
+        ensures taken { taken_of self.new ≡ taken_of self.old + len }
+        ensures fed { (bits : List Bool) → IsFed bits self.old → IsFed (bits ++ low_bits len byte) self.new }
+    {
+        if self.scan.taken > 0 || len < 8 {
+            self.take_bits_of(byte, len);
+            return;
+        }
+        self.scan.take_first_byte(byte);
+    }
+
+    // Takes the bits of a group of bytes, after the first eight bits and before the first six ones.
+    #[inline(always)]
+    fn take_clear(&mut self, bytes: &[u8], group: Group)
+        requires len { group.len ≤ length bytes.now }
+        requires count { group.count ≤ 8 * group.len }
+        requires seven { group.len ≤ 7 }
+        requires fits { taken_of self.old + 8 * group.len ≤ 2147483648 }
+        requires behind { 8 ≤ taken_of self.old }
+        requires few { self.old.scan.ones ≤ 5 }
+        requires group { IsGroup self.old.scan.ones self.old.scan.dropped (bits_of (take group.len bytes.now)) group }
+        ensures taken { taken_of self.new ≡ taken_of self.old + 8 * group.len }
+        ensures fed { (bits : List Bool) → IsFed bits self.old → IsFed (bits ++ bits_of (take group.len bytes.now)) self.new }
+    {
+        self.scan.take_clear(group.ones, group.dropped, group.count, 8 * group.len as u32);
+        self.kept.push(group.bits, group.count);
+    }
+
+    // Takes the bits of the first bytes of at most seven, after the first eight bits and before the first six ones, and returns
+    // how many bytes those are: all, or those up to the one with the sixth one.
+    #[inline(always)]
+    fn take_group(&mut self, bytes: &[u8]) -> usize
+        requires some { 1 ≤ length bytes.now }
+        requires seven { length bytes.now ≤ 7 }
+        requires fits { taken_of self.old + 8 * length bytes.now ≤ 2147483648 }
+        requires behind { 8 ≤ taken_of self.old }
+        requires few { self.old.scan.ones ≤ 5 }
+        ensures some { 1 ≤ result }
+        ensures within { result ≤ length bytes.now }
+        ensures taken { taken_of self.new ≡ taken_of self.old + 8 * result }
+        ensures fed { (bits : List Bool) → IsFed bits self.old → IsFed (bits ++ bits_of (take result bytes.now)) self.new }
+    {
+        let group = Group::after(self.scan.ones, self.scan.dropped, bytes);
+        self.take_clear(bytes, group);
+        if group.len == bytes.len() {
+            return group.len;
+        }
+        self.take_low(bytes[group.len], 8);
+        group.len + 1
+    }
+
+    // Takes the bits of the first bytes of these, and returns how many bytes those are.
+    #[inline(always)]
+    fn take_some(&mut self, bytes: &[u8]) -> usize
+        requires some { 1 ≤ length bytes.now }
+        requires fits { taken_of self.old + 8 * length bytes.now ≤ 2147483648 }
+        ensures some { 1 ≤ result }
+        ensures within { result ≤ length bytes.now }
+        ensures taken { taken_of self.new ≡ taken_of self.old + 8 * result }
+        ensures fed { (bits : List Bool) → IsFed bits self.old → IsFed (bits ++ bits_of (take result bytes.now)) self.new }
+    {
+        if self.scan.taken < OPENING {
+            self.take_low(bytes[0], 8);
+            return 1;
+        }
+        if self.scan.ones > FIVE {
+            self.take_later(bytes[0] % 2 == 1, 8 * bytes.len() as u32);
+            return bytes.len();
+        }
+        if bytes.len() < 7 {
+            return self.take_group(bytes);
+        }
+        self.take_group(&bytes[..7])
     }
 
     // Takes the first whole bytes of a piece.
@@ -146,7 +306,7 @@ impl Deframer {
         ensures fed { (bits : List Bool) → IsFed bits self.old → IsFed (bits ++ take (8 * count) piece.now) self.new }
     {
         for place in 0..count {
-            self.take_byte(piece.byte_at(BYTE_BITS * place));
+            self.take_low(piece.byte_at(BYTE_BITS * place), 8);
         }
     }
 
@@ -173,14 +333,28 @@ impl Deframer {
         self.take_from(piece, BYTE_BITS * whole);
     }
 
-    /// Takes eight bits, those of a byte from the least significant one on, as [`feed`](Deframer::feed) does.
-    #[inline(always)]
-    pub fn feed_byte(&mut self, byte: u8)
-        requires { taken_of self.old + 8 ≤ 2 ^ 31 }
-        ensures fed { (bits : List Bool) → IsFed bits self.old → IsFed (bits ++ low_bits 8 byte) self.new }
-        ensures taken { taken_of self.new ≡ taken_of self.old + 8 }
+    /// Takes the lowest bits of a byte from the least significant one on, `len` of them, as [`feed`](Deframer::feed) does.
+    pub fn feed_low(&mut self, byte: u8, len: u8)
+        requires few { len ≤ 8 }
+        requires fits { taken_of self.old + len ≤ 2 ^ 31 }
+        ensures fed { (bits : List Bool) → IsFed bits self.old → IsFed (bits ++ low_bits len byte) self.new }
+        ensures taken { taken_of self.new ≡ taken_of self.old + len }
     {
-        self.take_byte(byte);
+        if len > 0 {
+            self.take_low(byte, len);
+        }
+    }
+
+    /// Takes the bits of bytes, each from the least significant one on, as [`feed`](Deframer::feed) does.
+    pub fn feed_bytes(&mut self, bytes: &[u8])
+        requires { taken_of self.old + 8 * length bytes.now ≤ 2 ^ 31 }
+        ensures fed { (bits : List Bool) → IsFed bits self.old → IsFed (bits ++ bits_of bytes.now) self.new }
+        ensures taken { taken_of self.new ≡ taken_of self.old + 8 * length bytes.now }
+    {
+        let mut place = 0;
+        while place < bytes.len() {
+            place += self.take_some(&bytes[place..]);
+        }
     }
 
     // Replaces the content by that of the frame that was taken; after a refusal it is empty.
@@ -212,8 +386,7 @@ impl Deframer {
         ensures taken { taken_of self.new ≡ 0 }
     {
         let answer = self.read(out);
-        self.scan = Scan::new();
-        self.kept.clear();
+        self.restart();
         answer
     }
 }

@@ -1,19 +1,15 @@
-ghost use Rattle.std.specs.Prelude.{◌≡◌, ◌+◌, ◌-◌, ◌%◌, ◌^◌, ◌<◌, ◌≤◌, Bool, List, [], ◌∷◌, ◌++◌, length};
+ghost use Rattle.std.specs.Prelude.{◌≡◌, ◌+◌, ◌-◌, ◌*◌, ◌/◌, ◌%◌, ◌^◌, ◌<◌, ◌≤◌, Bool, List, [], ◌∷◌, ◌++◌, length};
 ghost use Rattle.sercos_model.specs.Bits.{low_bits};
 
-use sercos_bits::ByteList;
+use crate::plain_bytes::PlainBytes;
 
-/// The most bytes between two flags.
-pub const MOST_BYTES: usize = 2050;
-
-/// The plain bits that a reader has come to: their first whole bytes, at most [`MOST_BYTES`], and the bits after the last
-/// whole byte.
+/// The plain bits that a reader has come to: their first whole bytes, at most 2050, and the bits after the last whole byte.
 #[derive(Debug, Drop)]
 pub struct Kept {
     /// The whole bytes.
-    pub bytes: ByteList<MOST_BYTES>,
+    pub bytes: PlainBytes,
     /// The number that the bits after the whole bytes spell.
-    pub rest: u16,
+    pub rest: u64,
     /// How many bits those are.
     pub rest_len: u8,
     ghost few: { rest_len ≤ 7 },
@@ -21,34 +17,26 @@ pub struct Kept {
 }
 
 // Appends bits to those that a number spells.
-fn joined(rest: u16, rest_len: u8, bits: u8, count: u8) -> u16
+fn joined(rest: u64, rest_len: u8, bits: u64, count: u8) -> u64
     requires few { rest_len ≤ 7 }
     requires below { rest < 2 ^ rest_len }
-    requires more { count ≤ 8 }
+    requires more { count ≤ 56 }
     requires bits { bits < 2 ^ count }
     ensures bits { low_bits (rest_len + count) result ≡ low_bits rest_len rest ++ low_bits count bits }
     ensures below { result < 2 ^ (rest_len + count) }
 {
-    rest + (u16::from(bits) << rest_len)
+    rest + (bits << rest_len)
 }
 
-// Takes the first byte off the bits that a number spells.
-fn behind_byte(bits: u16, len: u8) -> u16
-    requires long { 8 ≤ len }
+// Takes the first bytes off the bits that a number spells, `whole` of them.
+fn behind_bytes(bits: u64, len: u8, whole: u8) -> u64
+    requires long { 8 * whole ≤ len }
+    requires few { len ≤ 63 }
     requires below { bits < 2 ^ len }
-    ensures bits { low_bits len bits ≡ low_bits 8 (bits % 256) ++ low_bits (len - 8) result }
-    ensures below { result < 2 ^ (len - 8) }
+    ensures bits { low_bits len bits ≡ low_bits (8 * whole) bits ++ low_bits (len - 8 * whole) result }
+    ensures below { result < 2 ^ (len - 8 * whole) }
 {
-    bits / 256
-}
-
-// Appends a byte if there is room.
-fn push_byte(bytes: &mut ByteList<MOST_BYTES>, byte: u8)
-    ensures { length bytes.old < 2050 → bytes.new ≡ bytes.old ++ byte ∷ [] }
-{
-    if bytes.len() < MOST_BYTES {
-        bytes.push_within(byte);
-    }
+    bits >> (8 * whole)
 }
 
 impl Kept {
@@ -59,7 +47,7 @@ impl Kept {
         ensures { IsKept [] result }
     {
         Kept {
-            bytes: ByteList::new(),
+            bytes: PlainBytes::new(),
             rest: 0,
             rest_len: 0,
         }
@@ -74,21 +62,18 @@ impl Kept {
         self.rest_len = 0;
     }
 
-    /// Appends at most eight bits, the first of them as the least significant. Bytes are left out if there is no room.
-    pub fn push(&mut self, bits: u8, count: u8)
-        requires few { count ≤ 8 }
+    /// Appends at most 56 bits, the first of them as the least significant. Bytes are left out if there is no room.
+    #[inline(always)]
+    pub fn push(&mut self, bits: u64, count: u8)
+        requires few { count ≤ 56 }
         requires below { bits < 2 ^ count }
         ensures { (plain : List Bool) → IsKept plain self.old → IsKept (plain ++ low_bits count bits) self.new }
     {
         let sum = joined(self.rest, self.rest_len, bits, count);
         let len = self.rest_len + count;
-        if len < 8 {
-            self.rest = sum;
-            self.rest_len = len;
-        } else {
-            push_byte(&mut self.bytes, (sum % 256) as u8);
-            self.rest = behind_byte(sum, len);
-            self.rest_len = len - 8;
-        }
+        let whole = len / 8;
+        self.bytes.append_lowest(sum, usize::from(whole));
+        self.rest = behind_bytes(sum, len, whole);
+        self.rest_len = len % 8;
     }
 }

@@ -19,7 +19,8 @@ const LEAST_BYTES: u32 = 3;
 
 const MOST_BYTES: u32 = 2050;
 
-// Tests that so many plain bits are whole bytes, as many as a frame has. Then the check sequence alone is left to test.
+// Tests that `len` plain bits are whole bytes, and that a frame can have that number of bytes. Then only the check sequence is left
+// to test.
 #[tactic(auto, unfolding(crate::specs::Reason::unreadable, crate::specs::Reason::given))]
 fn test_size(len: u32) -> Result<(), BadFrame>
     ensures reason { (plain : List Bool) → len ≡ length plain → IfErr result (λ reason. unreadable plain ≡ Some reason) }

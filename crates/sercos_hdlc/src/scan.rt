@@ -1,4 +1,4 @@
-ghost use Rattle.std.specs.Prelude.{◌≡◌, ℕ, ◌+◌, ◌<◌, ◌≤◌, Bool, true, false, ◌&&◌, ◌||◌, ◌==◌, nat_le, Some, IfOk, IfErr, List, [], ◌∷◌, ◌++◌, length};
+ghost use Rattle.std.specs.Prelude.{◌≡◌, ℕ, ◌+◌, ◌<◌, ◌≤◌, Bool, true, false, ◌&&◌, ◌||◌, ◌==◌, nat_le, Some, IfOk, IfErr, List, [], ◌∷◌, ◌++◌, length, slice_index_or};
 ghost use Rattle.std.specs.Result.{result_err};
 
 use crate::bad_frame::BadFrame;
@@ -9,7 +9,7 @@ use crate::flags::{FLAG, FLAG_BYTE};
 pub struct Scan {
     /// The bits taken.
     pub taken: u32,
-    /// Whether the first eight bits, or as many as there are, agree with the flag.
+    /// Whether the first bits agree with the flag, all eight or fewer.
     pub agrees: bool,
     /// The ones in a row that the bits after the first eight end in, and 6 from the first six on.
     pub ones: u8,
@@ -114,40 +114,30 @@ impl Scan {
         self.taken += 1;
     }
 
-    /// Takes a bit after the first six ones.
-    pub fn take_later(&mut self, bit: bool)
-        requires fits { self.old.taken < 2147483648 }
+    /// Takes bits after the first six ones, `len` of them: a first one, and others.
+    #[inline(always)]
+    pub fn take_later(&mut self, bit: bool, len: u32)
+        requires some { 1 ≤ len }
+        requires fits { self.old.taken + len ≤ 2147483648 }
         requires behind { 8 ≤ self.old.taken }
         requires six { 5 < self.old.ones }
-        ensures taken { self.new.taken ≡ self.old.taken + 1 }
-        ensures scan { (bits plain : List Bool) → IsScan bits plain self.old
-            → IsScan (bits ++ bit ∷ []) plain self.new }
+        ensures taken { self.new.taken ≡ self.old.taken + len }
+        ensures scan { (bits plain others : List Bool) → length others + 1 ≡ len → IsScan bits plain self.old
+            → IsScan (bits ++ bit ∷ others) plain self.new }
     {
         self.seventh |= bit & (self.taken == self.closing + 7);
-        self.taken += 1;
+        self.taken += len;
     }
 
-    /// Takes the bits of a byte after the first six ones.
-    pub fn take_later_byte(&mut self, byte: u8)
-        requires fits { self.old.taken ≤ 2147483640 }
-        requires behind { 8 ≤ self.old.taken }
-        requires six { 5 < self.old.ones }
-        ensures taken { self.new.taken ≡ self.old.taken + 8 }
-        ensures scan { (bits plain : List Bool) → IsScan bits plain self.old
-            → IsScan (bits ++ low_bits 8 byte) plain self.new }
-    {
-        self.seventh |= (byte % 2 == 1) & (self.taken == self.closing + 7);
-        self.taken += 8;
-    }
-
-    /// Takes eight bits in which no sixth one comes, of which `count` are plain.
-    pub fn take_eight(&mut self, ones: u8, dropped: bool, count: u8)
-        requires fits { self.old.taken ≤ 2147483640 }
+    /// Takes bits in which no sixth one comes, `len` of them, of which `count` are plain.
+    #[inline(always)]
+    pub fn take_clear(&mut self, ones: u8, dropped: bool, count: u8, len: u32)
+        requires fits { self.old.taken + len ≤ 2147483648 }
         requires behind { 8 ≤ self.old.taken }
         requires few { ones ≤ 5 }
-        requires count { count ≤ 8 }
-        ensures taken { self.new.taken ≡ self.old.taken + 8 }
-        ensures scan { (bits plain more : List Bool) → IsScan bits plain self.old → self.old.ones ≤ 5 → length more ≡ 8
+        requires count { count ≤ len }
+        ensures taken { self.new.taken ≡ self.old.taken + len }
+        ensures scan { (bits plain more : List Bool) → IsScan bits plain self.old → self.old.ones ≤ 5 → length more ≡ len
             → has_six self.old.ones more ≡ false
             → ones ≡ ones_after self.old.ones more
             → dropped ≡ dropped_after self.old.ones self.old.dropped more
@@ -157,7 +147,34 @@ impl Scan {
         self.ones = ones;
         self.dropped = dropped;
         self.plain_len += u32::from(count);
-        self.taken += 8;
+        self.taken += len;
+    }
+
+    /// Takes bits, `len` of them, with the sixth one at `place`. Of those before it `count` are plain, and `seventh` says whether
+    /// a one comes after it.
+    #[inline(always)]
+    pub fn take_end(&mut self, place: u8, dropped: bool, count: u8, seventh: bool, len: u32)
+        requires within { place < len }
+        requires fits { self.old.taken + len ≤ 2147483648 }
+        requires behind { 8 ≤ self.old.taken }
+        requires count { count ≤ place }
+        ensures taken { self.new.taken ≡ self.old.taken + len }
+        ensures scan { (bits plain before rest : List Bool) → IsScan bits plain self.old → self.old.ones ≤ 5
+            → length before ≡ place
+            → length rest + 1 + place ≡ len
+            → has_six self.old.ones before ≡ false
+            → ones_after self.old.ones before ≡ 5
+            → dropped ≡ dropped_after self.old.ones self.old.dropped before
+            → count ≡ length (unstuffed self.old.ones before)
+            → seventh ≡ slice_index_or rest 0 false
+            → IsScan (bits ++ (before ++ true ∷ rest)) (plain ++ unstuffed self.old.ones before) self.new }
+    {
+        self.ones = 6;
+        self.closing = self.taken + u32::from(place) - 6;
+        self.dropped = dropped;
+        self.seventh = seventh;
+        self.plain_len += u32::from(count);
+        self.taken += len;
     }
 
     // Whether the bits begin with the flag.

@@ -1,4 +1,4 @@
-ghost use Rattle.std.specs.Prelude.{◌≡◌, ◌+◌, ◌*◌, ◌/◌, ◌%◌, ◌<◌, ◌≤◌, length, fold};
+ghost use Rattle.std.specs.Prelude.{◌≡◌, ℕ, ◌+◌, ◌*◌, ◌/◌, ◌%◌, ◌<◌, ◌≤◌, length, fold};
 ghost use Rattle.sercos_model.specs.Bits.{low_bits, number_of};
 ghost use Rattle.sercos_hdlc.specs.Stuffed.{ones_behind, stuffed};
 
@@ -84,6 +84,27 @@ pub fn counts_of(ones: usize, byte: u8) -> u8
     ensures room { 5 * (result / 16) + result % 16 ≤ ones + 48 }
 {
     COUNTS[256 * ones + usize::from(byte)]
+}
+
+// By the byte, what `ones_at_end` returns.
+const ENDS: [u8; 255] = [
+    0, 0, 0, 0, 0, 0, 0, 0, 0, 0, 0, 0, 0, 0, 0, 0, 0, 0, 0, 0, 0, 0, 0, 0, 0, 0, 0, 0, 0, 0, 0, 0,
+    0, 0, 0, 0, 0, 0, 0, 0, 0, 0, 0, 0, 0, 0, 0, 0, 0, 0, 0, 0, 0, 0, 0, 0, 0, 0, 0, 0, 0, 0, 0, 0,
+    0, 0, 0, 0, 0, 0, 0, 0, 0, 0, 0, 0, 0, 0, 0, 0, 0, 0, 0, 0, 0, 0, 0, 0, 0, 0, 0, 0, 0, 0, 0, 0,
+    0, 0, 0, 0, 0, 0, 0, 0, 0, 0, 0, 0, 0, 0, 0, 0, 0, 0, 0, 0, 0, 0, 0, 0, 0, 0, 0, 0, 0, 0, 0, 0,
+    1, 1, 1, 1, 1, 1, 1, 1, 1, 1, 1, 1, 1, 1, 1, 1, 1, 1, 1, 1, 1, 1, 1, 1, 1, 1, 1, 1, 1, 1, 1, 1,
+    1, 1, 1, 1, 1, 1, 1, 1, 1, 1, 1, 1, 1, 1, 1, 1, 1, 1, 1, 1, 1, 1, 1, 1, 1, 1, 1, 1, 1, 1, 1, 1,
+    2, 2, 2, 2, 2, 2, 2, 2, 2, 2, 2, 2, 2, 2, 2, 2, 2, 2, 2, 2, 2, 2, 2, 2, 2, 2, 2, 2, 2, 2, 2, 2,
+    3, 3, 3, 3, 3, 3, 3, 3, 3, 3, 3, 3, 3, 3, 3, 3, 4, 4, 4, 4, 4, 4, 4, 4, 0, 0, 0, 0, 1, 1, 2,
+];
+
+/// How many ones in a row end what is sent for a byte that isn't all ones. It is the same after any number of ones.
+pub fn ones_at_end(byte: u8) -> usize
+    requires { byte < 255 }
+    ensures end { (ones : ℕ) → ones < 5 → result ≡ fold ones_behind ones (low_bits 8 byte) }
+    ensures few { result < 5 }
+{
+    usize::from(ENDS[usize::from(byte)])
 }
 
 // By 256 * ones + byte, what `sent_for` returns.

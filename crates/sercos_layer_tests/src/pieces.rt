@@ -2,7 +2,7 @@
 use sercos_bits::{BitBuf, Content, bits_of};
 use sercos_hdlc::{BadFrame, Deframer};
 
-// Feeds bits in pieces of so many, the bits being the first of those that bytes spell, and reads them as a frame.
+// Feeds the first `len` of the bits that bytes spell, in pieces of `size` bits, and reads them as a frame.
 fn read_in_pieces(
     reader: &mut Deframer,
     bytes: &[u8],

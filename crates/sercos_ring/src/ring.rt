@@ -20,12 +20,12 @@ ghost use Rattle.sercos_master.specs.Reports.{restart_told};
 
 use crate::moves::{phases_of, push_moves};
 use crate::opening::{addresses_of, open_drives};
-use crate::receiving::{Framed, frame_said};
+use crate::receiving::{Framed, Receiver, frame_said};
 use crate::sending::{pass_own, push_mst, send_ats, send_mdt};
 use crate::stations::{hear_msts, restart_drives};
 use crate::turns::turns_of;
 use arrayvec::ArrayVec;
-use sercos_bits::{BitBuf, Content};
+use sercos_bits::Content;
 use sercos_block::RingSetup;
 use sercos_drive::Drive;
 use sercos_headline::headline_law;
@@ -52,13 +52,12 @@ pub struct Ring<L: BitLink> {
     desk: Box<Desk>,
 }
 
-// Where a telegram is worked on: what is said, its frame, the bits that arrive of it, and what they are the frame of.
+// Where a telegram is worked on: what is said, its frame, and what arrives of it.
 #[derive(Drop)]
 struct Desk {
     said: Content,
     sent: Framed,
-    bits: BitBuf,
-    content: Content,
+    receiver: Receiver,
 }
 
 impl Desk {
@@ -66,8 +65,7 @@ impl Desk {
         Desk {
             said: Content::new(),
             sent: Framed::new(),
-            bits: BitBuf::new(),
-            content: Content::new(),
+            receiver: Receiver::new(),
         }
     }
 }
@@ -105,8 +103,7 @@ fn turn<L: BitLink>(
     events: &mut Events,
     said: &mut Content,
     sent: &mut Framed,
-    bits: &mut BitBuf,
-    content: &mut Content,
+    receiver: &mut Receiver,
 ) -> Turned
     requires few { length drives.old.items ≤ 64 }
     requires addresses { length addresses.now ≡ length drives.old.items }
@@ -127,8 +124,8 @@ fn turn<L: BitLink>(
     frame_said(link, cycle, Kind::Mst, 0, said, sent);
     let mut count = 0;
     push_mst(list, &mut count, said, sent.len);
-    let mst = hear_msts(link, drives, cycle, said, sent, bits, content);
-    let own = pass_own(link, &mut master, cycle, said, sent, bits, content);
+    let mst = hear_msts(link, drives, cycle, said, sent, receiver);
+    let own = pass_own(link, &mut master, cycle, said, sent, receiver);
     push_moves(
         moves,
         false,
@@ -148,13 +145,12 @@ fn turn<L: BitLink>(
         &mut count,
         said,
         sent,
-        bits,
-        content,
+        receiver,
     );
     let middle = phases_of(drives.as_slice());
     let start = master.mdt(said);
     let mdt = send_mdt(
-        link, drives, start, cycle, rate, list, &mut count, said, sent, bits, content,
+        link, drives, start, cycle, rate, list, &mut count, said, sent, receiver,
     );
     list.truncate(count);
     push_moves(moves, true, addresses, middle.as_slice(), drives.as_slice());
@@ -201,8 +197,7 @@ fn fill<L: BitLink>(
         &mut made.events,
         &mut desk.said,
         &mut desk.sent,
-        &mut desk.bits,
-        &mut desk.content,
+        &mut desk.receiver,
     );
     made.phase = phase;
     made.unseen = unseen;

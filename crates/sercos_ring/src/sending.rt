@@ -17,11 +17,11 @@ ghost use Rattle.sercos_journal.specs.Runs.{content_of, mdt_heard, own_mst, sent
 ghost use Rattle.sercos_ring.specs.Stations.{AllStand};
 ghost use Rattle.sercos_ring.specs.Sendings.{said_by, AreSent, AreTurns};
 
-use crate::receiving::{Framed, content_of, frame_said, receive};
+use crate::receiving::{Framed, Receiver, content_of, frame_said, receive};
 use crate::stations::{hear_mdts, hear_no_mdts, one};
 use crate::turns::AtTurn;
 use arrayvec::ArrayVec;
-use sercos_bits::{BitBuf, Content};
+use sercos_bits::Content;
 use sercos_drive::Drive;
 use sercos_master::AnyMaster;
 use sercos_script::{BitLink, Passage};
@@ -47,8 +47,7 @@ pub(crate) fn pass_own<L: BitLink>(
     cycle: u32,
     said: &Content,
     sent: &Framed,
-    bits: &mut BitBuf,
-    content: &mut Content,
+    receiver: &mut Receiver,
 ) -> u32
     requires sent { IsSent (L.carry link.old) cycle kinds.Mst 0 said.now sent.now }
     ensures carry { L.carry link.new ≡ L.carry link.old }
@@ -64,8 +63,8 @@ pub(crate) fn pass_own<L: BitLink>(
         from: 0,
         to: 0,
     };
-    let receipt = receive(link, p, said, sent, bits, content);
-    let came = content_of(receipt.unseen, said, content);
+    let receipt = receive(link, p, said, sent, receiver);
+    let came = content_of(receipt.unseen, said, &receiver.content);
     hear_own(master, receipt.framed, came);
     one(receipt.unseen)
 }
@@ -88,8 +87,7 @@ fn pass_at<L: BitLink>(
     cycle: u32,
     said: &Content,
     sent: &Framed,
-    bits: &mut BitBuf,
-    content: &mut Content,
+    receiver: &mut Receiver,
 ) -> u32
     requires sent { IsSent (L.carry link.old) cycle kinds.At station said.now sent.now }
     ensures carry { L.carry link.new ≡ L.carry link.old }
@@ -105,8 +103,8 @@ fn pass_at<L: BitLink>(
         from: station,
         to: 0,
     };
-    let receipt = receive(link, p, said, sent, bits, content);
-    let came = content_of(receipt.unseen, said, content);
+    let receipt = receive(link, p, said, sent, receiver);
+    let came = content_of(receipt.unseen, said, &receiver.content);
     hear_at(master, receipt.framed, came);
     one(receipt.unseen)
 }
@@ -171,8 +169,7 @@ fn send_said<L: BitLink>(
     count: &mut usize,
     said: &Content,
     sent: &mut Framed,
-    bits: &mut BitBuf,
-    content: &mut Content,
+    receiver: &mut Receiver,
 ) -> u32
     requires room { count.old < 66 }
     requires within { count.old ≤ length list.old.items }
@@ -187,7 +184,7 @@ fn send_said<L: BitLink>(
 {
     frame_said(link, cycle, Kind::At, station, said, sent);
     push_timed(list, count, Kind::At, rate, start, said, sent.len);
-    pass_at(link, master, station, cycle, said, sent, bits, content)
+    pass_at(link, master, station, cycle, said, sent, receiver)
 }
 
 // A drive sends its AT, if it sends one.
@@ -202,8 +199,7 @@ fn send_at<L: BitLink>(
     count: &mut usize,
     said: &mut Content,
     sent: &mut Framed,
-    bits: &mut BitBuf,
-    content: &mut Content,
+    receiver: &mut Receiver,
 ) -> u32
     requires room { count.old < 66 }
     requires within { count.old ≤ length list.old.items }
@@ -219,7 +215,7 @@ fn send_at<L: BitLink>(
     match drive.at(said) {
         None => 0,
         Some(start) => send_said(
-            link, master, station, cycle, rate, start, list, count, said, sent, bits, content,
+            link, master, station, cycle, rate, start, list, count, said, sent, receiver,
         ),
     }
 }
@@ -236,8 +232,7 @@ fn send_turn<L: BitLink>(
     count: &mut usize,
     said: &mut Content,
     sent: &mut Framed,
-    bits: &mut BitBuf,
-    content: &mut Content,
+    receiver: &mut Receiver,
 ) -> u32
     requires few { length drives.now ≤ 64 }
     requires room { count.old < 66 }
@@ -266,8 +261,7 @@ fn send_turn<L: BitLink>(
         count,
         said,
         sent,
-        bits,
-        content,
+        receiver,
     )
 }
 
@@ -283,8 +277,7 @@ pub(crate) fn send_ats<L: BitLink>(
     count: &mut usize,
     said: &mut Content,
     sent: &mut Framed,
-    bits: &mut BitBuf,
-    content: &mut Content,
+    receiver: &mut Receiver,
 ) -> u32
     requires few { length drives.now ≤ 64 }
     requires turns { length turns.now ≤ 64 }
@@ -301,7 +294,7 @@ pub(crate) fn send_ats<L: BitLink>(
     let mut unseen = 0;
     for k in 0..turns.len() {
         unseen += send_turn(
-            link, master, drives, turns[k], cycle, rate, list, count, said, sent, bits, content,
+            link, master, drives, turns[k], cycle, rate, list, count, said, sent, receiver,
         );
     }
     unseen
@@ -318,8 +311,7 @@ pub(crate) fn send_mdt<L: BitLink>(
     count: &mut usize,
     said: &Content,
     sent: &mut Framed,
-    bits: &mut BitBuf,
-    content: &mut Content,
+    receiver: &mut Receiver,
 ) -> u32
     requires few { length drives.old.items ≤ 64 }
     requires room { count.old < 66 }
@@ -342,7 +334,7 @@ pub(crate) fn send_mdt<L: BitLink>(
         Some(start) => {
             frame_said(link, cycle, Kind::Mdt, 0, said, sent);
             push_timed(list, count, Kind::Mdt, rate, start, said, sent.len);
-            hear_mdts(link, drives, cycle, said, sent, bits, content)
+            hear_mdts(link, drives, cycle, said, sent, receiver)
         }
     }
 }

@@ -5,7 +5,7 @@ use Rattle.std.specs.List.{filter, slice_range}
 use Rattle.sercos_script.specs.declared.fault.Fault.{Fault}
 use Rattle.sercos_script.specs.Scripts.{acts}
 
--- The place at which a stretch begins, of so many faults. Each has eight faults; the last of 512 has all that follow.
+-- The place at which a stretch begins in a script of this length. Each has eight faults; the last of 512 has all that follow.
 abbrev pub edge : ℕ → ℕ → ℕ
 edge len k = if nat_lt k 512 then min (8 * k) len else len
 

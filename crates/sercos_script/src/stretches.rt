@@ -24,7 +24,7 @@ pub(crate) fn nothing_known() -> [u32; STRETCHES]
     [0; STRETCHES]
 }
 
-// Returns how many stretches so many faults have.
+// Returns how many stretches a script of this length has.
 fn stretch_count(len: usize) -> usize
     ensures bound { result ≤ 512 }
     ensures all { len ≤ edge len result }
@@ -32,7 +32,7 @@ fn stretch_count(len: usize) -> usize
     len.div_ceil(STRETCH).min(STRETCHES)
 }
 
-// Returns the place at which a stretch begins, of so many faults.
+// Returns the place at which a stretch begins in a script of this length.
 fn edge(len: usize, k: usize) -> usize
     ensures { result ≡ edge len k }
 {

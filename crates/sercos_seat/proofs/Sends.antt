@@ -1,6 +1,9 @@
 -- What is sent.
-use Rattle.std.proofs.Common.{◌≡◌, ℕ, zero, suc, ◌+◌, ◌*◌, ◌/◌, ◌%◌, ◌<◌, ◌≤◌, List, [], ◌∷◌, ◌++◌, length, ap, refl, sym, ◌∙◌, arith}
-use Rattle.std.specs.Prelude.{Result, Ok, Err, IsErr, OnOk, map, take, slice_index_or}
+use Rattle.std.proofs.Common.{◌≡◌, ℕ, zero, suc, ◌+◌, ◌*◌, ◌/◌, ◌%◌, ◌<◌, ◌≤◌, inl, inr, List, [], ◌∷◌, ◌++◌, length, get_or, ap, refl, sym, ◌∙◌, arith, append_assoc}
+use Rattle.std.specs.Prelude.{Result, Ok, Err, IsErr, OnOk, map, min, take}
+use Rattle.std.specs.Int.{w32, to_le_bytes}
+use Rattle.std.proofs.lemmas.Bool.{cases_lt}
+use Rattle.std.proofs.lemmas.List.{append-nil}
 use Rattle.sercos_telegram.specs.declared.words.Control.{Control}
 use Rattle.sercos_telegram.specs.Words.{control_word}
 use Rattle.sercos_telegram.specs.Spells
@@ -12,7 +15,7 @@ use Rattle.sercos_service_master.specs.Begun.{master_says}
 use Rattle.sercos_service_master.specs.Calls.{begun_by}
 use Rattle.sercos_seat.specs.Ring.{MemberView}
 use Rattle.sercos_seat.specs.Agenda.{len_or_none, mdt_attributes, record_len}
-use Rattle.sercos_seat.specs.Records.{word_said, record_said, value_said, values_said}
+use Rattle.sercos_seat.specs.Records.{word_said, record_said, lens_said, value_said, values_said}
 use Rattle.sercos_seat.specs.Seats.{long_of, len_of_words, Seen, outcomes_seen, record_seen}
 use Rattle.sercos_seat.proofs.Lengths.{small_value}
 
@@ -25,22 +28,18 @@ pub same_record : (control : Control) (word : ℕ) (said : Said) (values : List 
 same_record control word said values e f = rw (← f, same_word control word e) refl
 
 -- one command value more
-pub values_more : (count : ℕ) (words : List Words) (n : ℕ) (d : Words) → n < length words →
-    values_said count (map long_of (take (n + 1) words)) ≡ values_said count (map long_of (take n words)) ++ value_said count (len_of_words (slice_index_or words n d))
-values_more count [] n d h = absurd (omega (arith, h))
-values_more count (w ∷ words) zero d h = append_nil (value_said count (len_of_words w))
-  where
-    append_nil : (xs : List ℕ) → xs ++ [] ≡ xs
-    append_nil [] = refl
-    append_nil (x ∷ xs) = ap (λ ys. x ∷ ys) (append_nil xs)
-values_more count (w ∷ words) (suc n) d h =
+pub values_more : (count : ℕ) (lens : List ℕ) (n : ℕ) → n < length lens →
+    lens_said count (take (n + 1) lens) ≡ lens_said count (take n lens) ++ value_said count (get_or lens n 0)
+values_more count [] n h = absurd (omega (arith, h))
+values_more count (len ∷ lens) zero h = append-nil (value_said count len)
+values_more count (len ∷ lens) (suc n) h =
     let e : suc n + 1 ≡ suc (n + 1) = omega arith in
-    let f : values_said count (map long_of (take (n + 1) words)) ≡ values_said count (map long_of (take n words)) ++ value_said count (len_of_words (slice_index_or words n d)) = values_more count words n d (omega (arith, h)) in
-    rw (e, f) (sym (append_again (value_said count (len_of_words w)) (values_said count (map long_of (take n words))) (value_said count (len_of_words (slice_index_or words n d)))))
-  where
-    append_again : (xs ys zs : List ℕ) → (xs ++ ys) ++ zs ≡ xs ++ (ys ++ zs)
-    append_again [] ys zs = refl
-    append_again (x ∷ xs) ys zs = ap (λ ws. x ∷ ws) (append_again xs ys zs)
+    rw (e, values_more count lens n (omega (arith, h))) (sym (append_assoc (value_said count len) (lens_said count (take n lens)) (value_said count (get_or lens n 0))))
+
+-- what words say by their lengths
+pub by_lens : (count : ℕ) (words : List Words) → values_said count (map long_of words) ≡ lens_said count (map len_of_words words)
+by_lens count [] = refl
+by_lens count (w ∷ words) = ap (λ rest. value_said count (len_of_words w) ++ rest) (by_lens count words)
 
 length_both : (xs ys : List ℕ) → length (xs ++ ys) ≡ length xs + length ys
 length_both [] ys = omega arith
@@ -67,8 +66,16 @@ take_all [] (suc n) h = refl
 take_all (x ∷ xs) zero h = absurd (omega (arith, h))
 take_all (x ∷ xs) (suc n) h = ap (λ ys. x ∷ ys) (take_all xs n (omega (arith, h)))
 
-pub values_whole : (count : ℕ) (words : List Words) (n : ℕ) → length words ≤ n → values_said count (map long_of (take n words)) ≡ values_said count (map long_of words)
-values_whole count words n h = ap (λ ws. values_said count (map long_of ws)) (take_all words n h)
+-- the first bytes of the count, as many as the length says
+pub value_taken : (count len : ℕ) → take (min len 4) (to_le_bytes w32 count) ≡ value_said count len
+value_taken count len =
+    elim (cases_lt len 4) [
+      | inl less ↦ let is : min len 4 ≡ len = omega arith in ap (λ n. take n (to_le_bytes w32 count)) is
+      | inr most ↦ let is : min len 4 ≡ 4 = omega arith in ap (λ n. take n (to_le_bytes w32 count)) is ∙ sym (take_all (to_le_bytes w32 count) len (omega arith))
+    ]
+
+pub values_whole : (count : ℕ) (lens : List ℕ) (n : ℕ) → length lens ≤ n → lens_said count (take n lens) ≡ lens_said count lens
+values_whole count lens n h = ap (lens_said count) (take_all lens n h)
 
 -- a record has its two words and its values
 pub fields_length : (word info : ℕ) (values : List ℕ) → length (fields word info values) ≡ 4 + length values

@@ -15,6 +15,11 @@ record_said said values = fields (word_said said) said.step.word values
 abbrev pub value_said : ℕ → ℕ → List ℕ
 value_said cycle len = take len ((cycle % 256) ∷ (cycle / 256 % 256) ∷ (cycle / 65536 % 256) ∷ (cycle / 16777216 % 256) ∷ [])
 
+-- the command values of these lengths
+abbrev pub lens_said : ℕ → List ℕ → List ℕ
+lens_said cycle [] = []
+lens_said cycle (len ∷ lens) = value_said cycle len ++ lens_said cycle lens
+
 abbrev pub values_said : ℕ → List ℕ → List ℕ
 values_said cycle [] = []
 values_said cycle (word ∷ words) = value_said cycle (len_or_none word) ++ values_said cycle words

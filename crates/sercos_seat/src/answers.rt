@@ -122,6 +122,19 @@ pub fn len_of(words: &Words) -> u16
     }
 }
 
+/// The lengths that these attributes give.
+pub fn lens_of(words: &[Words]) -> ArrayVec<u8, 16>
+    requires { length words.now ≤ 16 }
+    ensures value { result.items ≡ map len_of_words words.now }
+    ensures few { length result.items ≤ 16 }
+{
+    let mut lens = ArrayVec::new();
+    for word in words {
+        lens.push(len_of(word) as u8);
+    }
+    lens
+}
+
 /// Two words, and the values of these attributes.
 pub fn listed_len(words: &[Words]) -> u16
     requires { length words.now ≤ 16 }
@@ -156,33 +169,24 @@ pub fn low_at(words: &[Words], place: usize) -> u16
     }
 }
 
-// Appends a byte of a command value, if it has that many.
-fn push_value(byte: u32, len: u16, wanted: u16, values: &mut ArrayVec<u8, 64>)
-    ensures { values.new.items ≡ (if nat_le wanted len && nat_lt (length values.old.items) 64 then values.old.items ++ (byte % 256) ∷ [] else values.old.items) }
+// Appends a command value of `len` bytes, at most four: the low bytes of the count of cycles.
+fn push_count(count: u32, len: u8, values: &mut ArrayVec<u8, 64>)
+    requires { length values.old.items + 4 ≤ 64 }
+    ensures { values.new.items ≡ values.old.items ++ value_said count len }
 {
-    if wanted <= len && values.len() < 64 {
-        values.push((byte % 256) as u8);
-    }
+    let bytes = count.to_le_bytes();
+    let len = usize::from(len).min(bytes.len());
+    let _fits = values.try_extend_from_slice(&bytes[..len]);
 }
 
-// Appends a command value of `len` bytes: the low bytes of the count of cycles.
-fn push_count(count: u32, len: u16, values: &mut ArrayVec<u8, 64>)
-    ensures { len ≤ 4 → length values.old.items + len ≤ 64 → values.new.items ≡ values.old.items ++ value_said count len }
-{
-    push_value(count, len, 1, values);
-    push_value(count / 256, len, 2, values);
-    push_value(count / 65536, len, 3, values);
-    push_value(count / 16777216, len, 4, values);
-}
-
-/// Puts the command values of a record, in place, since they would be copied if they were returned.
-pub fn put_command_values(count: u32, words: &[Words], values: &mut ArrayVec<u8, 64>)
-    requires few { length words.now ≤ 16 }
+/// Puts the command values of a record, by the lengths of its values, in place, since they would be copied if they were returned.
+pub fn put_command_values(count: u32, lens: &[u8], values: &mut ArrayVec<u8, 64>)
+    requires few { length lens.now ≤ 16 }
     requires none { values.old.items ≡ [] }
-    ensures { values.new.items ≡ values_said count (map long_of words.now) }
+    ensures { (words : List Words) → lens.now ≡ map len_of_words words → values.new.items ≡ values_said count (map long_of words) }
 {
-    for place in 0..words.len() {
-        push_count(count, len_of(&words[place]), values);
+    for place in 0..lens.len() {
+        push_count(count, lens[place], values);
     }
 }
 

@@ -1,5 +1,5 @@
 // What the master keeps of one drive.
-ghost use Rattle.std.specs.Prelude.{OnOk, ◌≡◌, ℕ, ◌+◌, ◌<◌, ◌≤◌, ◌==◌, ◌&&◌, Bool, true, false, not, List, [], ◌∷◌, ◌++◌, length, take, map, min, Option, Some, None, IfSome, is_some, is_none, option_map, slice_get, nat_le, if◌then◌else◌};
+ghost use Rattle.std.specs.Prelude.{OnOk, ◌≡◌, ℕ, ◌+◌, ◌<◌, ◌≤◌, ◌==◌, ◌&&◌, Bool, true, false, not, List, [], ◌∷◌, ◌++◌, length, take, drop, map, min, Option, Some, None, IfSome, is_some, is_none, option_map, slice_get, nat_le, if◌then◌else◌};
 ghost use Rattle.std.specs.Option.{option_or};
 ghost use Rattle.sercos_telegram.specs.declared.words.Status.{Status};
 ghost use Rattle.sercos_step.specs.declared.request.Outcome.{Outcome};
@@ -14,11 +14,11 @@ ghost use Rattle.sercos_seat.specs.declared.queue.Waiting.{Waiting};
 ghost use Rattle.sercos_seat.specs.Agenda.{wish_given, long_stop, last_long, mdt_attributes, agenda, bytes_of, reads_count, is_checked, is_ready, ended_well, stop_of_task, asked_by};
 ghost use Rattle.sercos_service_master.specs.Begun.{said_by, master_says};
 ghost use Rattle.sercos_service_master.specs.Calls.{begun_by};
-ghost use Rattle.sercos_seat.specs.Seats.{pair_of, broken_in, record_seen, record_len_kept, mdt_words_kept, IsQueue, sent_in, forgotten, after_outcome, words_of, Seen, SeatStandsFor, heard_in, identified_in, taken_in, at_in, begun_in, with_begun, is_idle_in, has_read, cycles_kept, nothing_seen, ended_in, AreWaiting, outcomes_seen, next_write, next_in_2, next_in_3, at_len_kept, IsSeat, kept_given, kept_checked, kept_ready};
+ghost use Rattle.sercos_seat.specs.Seats.{pair_of, broken_in, record_seen, record_len_kept, mdt_words_kept, IsQueue, sent_in, forgotten, after_outcome, words_of, Seen, SeatStandsFor, heard_in, identified_in, taken_in, at_in, begun_in, with_begun, is_idle_in, has_read, cycles_kept, nothing_seen, ended_in, AreWaiting, outcomes_seen, next_write, next_in_2, next_in_3, at_len_kept, len_of_words, listed_len, IsSeat, kept_given, kept_checked, kept_ready};
 
 use crate::answers::{
-    Asked, Words, asked_by, ended_well, last_long_stop, listed_len, low_at, outcome_bytes, part,
-    put_command_values, words_in,
+    Asked, Words, asked_by, ended_well, last_long_stop, lens_of, listed_len, low_at, outcome_bytes,
+    part, put_command_values, words_in,
 };
 use crate::member::{Member, Numbers, command, number_at, read, write_list, write_word};
 use crate::queue::{Waiting, is_request};
@@ -49,6 +49,10 @@ pub struct Seat {
     channel: MasterChannel,
     done: u8,
     given: ArrayVec<Words, 38>,
+    // by what is given, the bytes of its AT after the address in phases 3 and 4
+    at_len: u16,
+    // by what is given, the bytes of each value of its record
+    mdt_lens: ArrayVec<u8, 16>,
     checked: bool,
     ready: bool,
     asked: Asked,
@@ -62,7 +66,8 @@ pub struct Seat {
 }
 
 impl Model for Seat {
-    ghost use Rattle.sercos_seat.specs.Seats.{SeatView, IsSeat};
+    ghost use Rattle.sercos_seat.specs.Seats.{SeatView, len_of_words, listed_len};
+    ghost use Rattle.std.specs.Prelude.{◌≡◌, ◌≤◌, ◌+◌, drop, length, map, take};
 
     ghost Value = { SeatView };
 
@@ -82,6 +87,9 @@ impl Model for Seat {
       identified = t.identified;
       waiting = t.waiting.items;
     } };
+
+    ghost invariant = { λ t. (t.at_len ≡ listed_len (take (length t.member.at) (drop 6 t.given.items))) × (4 ≤ t.at_len) × (t.at_len ≤ 68)
+        × (t.mdt_lens.items ≡ map len_of_words (take (length t.member.mdt) (drop (6 + length t.member.at) t.given.items))) };
 }
 
 fn one_more(done: u8) -> u8
@@ -94,6 +102,29 @@ fn one_more(done: u8) -> u8
     }
 }
 
+// How many bytes the AT of a drive has after the address in phases 3 and 4, by the words that were read of it.
+fn at_len_of(given: &[Words], member: &Member) -> u16
+    ensures value { result ≡ listed_len (take (length member.now.at) (drop 6 given.now)) }
+    ensures bounds { (4 ≤ result) × (result ≤ 68) }
+{
+    listed_len(part(given, 6, member.at_count()))
+}
+
+// The words that were read of what the record of a drive is to carry.
+fn mdt_words_of<'a>(given: &'a [Words], member: &Member) -> &'a [Words]
+    ensures value { result.now ≡ take (length member.now.mdt) (drop (6 + length member.now.at) given.now) }
+    ensures few { length result.now ≤ 16 }
+{
+    part(given, 6 + member.at_count(), member.mdt_count())
+}
+
+// The bytes of each value of the record of a drive, by the words that were read of it.
+fn mdt_lens_of(given: &[Words], member: &Member) -> ArrayVec<u8, 16>
+    ensures { result.items ≡ map len_of_words (take (length member.now.mdt) (drop (6 + length member.now.at) given.now)) }
+{
+    lens_of(mdt_words_of(given, member))
+}
+
 impl Seat {
     /// Opens a seat of which nothing was seen yet.
     pub fn open(alloc: Global, member: Member) -> Seat
@@ -104,6 +135,8 @@ impl Seat {
             channel: MasterChannel::new(),
             done: 0,
             given: ArrayVec::new(),
+            at_len: listed_len(&[]),
+            mdt_lens: ArrayVec::new(),
             checked: false,
             ready: false,
             asked: Asked {
@@ -144,6 +177,8 @@ impl Seat {
         let done = usize::from(self.done);
         if done < reads && self.given.len() < 38 {
             self.given.push(words_in(bytes));
+            self.at_len = at_len_of(self.given.as_slice(), &self.member);
+            self.mdt_lens = mdt_lens_of(self.given.as_slice(), &self.member);
         }
         if done == reads + CHECK_128 {
             self.ready = self.checked && ended_well(bytes);
@@ -401,7 +436,7 @@ impl Seat {
         ensures some { 0 < length out.old → 0 < length out.new }
     {
         let mut values = ArrayVec::new();
-        put_command_values(count, self.mdt_words(), &mut values);
+        put_command_values(count, self.mdt_lens.as_slice(), &mut values);
         let (control, info) = self.channel.send();
         let record = Record {
             control,
@@ -488,6 +523,8 @@ impl Seat {
         let number = self.number.take();
         self.done = 0;
         self.given.clear();
+        self.at_len = listed_len(&[]);
+        self.mdt_lens.clear();
         self.checked = false;
         self.ready = false;
         self.trouble = None;
@@ -534,11 +571,7 @@ impl Seat {
         ensures value { result.now ≡ mdt_words_kept self.now }
         ensures bound { length result.now ≤ 16 }
     {
-        part(
-            self.given.as_slice(),
-            6 + self.member.at_count(),
-            self.member.mdt_count(),
-        )
+        mdt_words_of(self.given.as_slice(), &self.member)
     }
 
     // Returns how many bytes its record has, 4 to 68.
@@ -561,6 +594,6 @@ impl Seat {
         ensures value { result ≡ at_len_kept self.now }
         ensures bounds { (4 ≤ result) × (result ≤ 68) }
     {
-        listed_len(part(self.given.as_slice(), 6, self.member.at_count()))
+        self.at_len
     }
 }

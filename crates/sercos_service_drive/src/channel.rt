@@ -152,7 +152,7 @@ impl DriveChannel {
     {
         self.ahs = false;
         self.last = None;
-        self.session = Session::new();
+        self.session.reset();
     }
 }
 

@@ -1,7 +1,8 @@
 // Operation data as it is in a cycle.
 ghost use Rattle.std.specs.Prelude.{◌≡◌, ◌≤◌, ◌<◌, ◌+◌, ◌*◌, ◌%◌, ◌++◌, length};
 ghost use Rattle.sercos_block.specs.declared.block.Block.{Block};
-ghost use Rattle.sercos_block.specs.Blocks.{number_end, bytes_for};
+ghost use Rattle.std.specs.Int.{to_le_bytes};
+ghost use Rattle.sercos_block.specs.Blocks.{number_end, width_of};
 ghost use Rattle.sercos_service_drive.specs.Replies.{data_in};
 
 use sercos_bits::ByteList;
@@ -9,12 +10,13 @@ use sercos_block::bits_in;
 use sercos_idn::{Attribute, Length};
 
 // The bits of a number that grows by a step in each cycle.
-fn grown(attribute: &Attribute, bits: u32, step: u32, cycle: u32) -> u32
-    ensures value { result ≡ (bits + step * cycle) % number_end attribute.now.length }
-    ensures bound { result < number_end attribute.now.length }
+#[inline]
+fn grown(kind: Length, bits: u32, step: u32, cycle: u32) -> u32
+    ensures value { result ≡ (bits + step * cycle) % number_end kind }
+    ensures bound { result < number_end kind }
 {
     let sum = u64::from(bits) + u64::from(step) * u64::from(cycle);
-    if attribute.length == Length::Two {
+    if kind == Length::Two {
         (sum % 65_536) as u32
     } else {
         (sum % 4_294_967_296) as u32
@@ -22,21 +24,35 @@ fn grown(attribute: &Attribute, bits: u32, step: u32, cycle: u32) -> u32
 }
 
 // Appends the bytes of a number.
-fn push_number<const CAPACITY: usize>(
-    out: &mut ByteList<CAPACITY>,
-    attribute: &Attribute,
-    bits: u32,
-)
+#[inline]
+fn push_number<const CAPACITY: usize>(out: &mut ByteList<CAPACITY>, kind: Length, bits: u32)
     requires room { length out.old + 4 ≤ CAPACITY }
-    requires bound { bits < number_end attribute.now.length }
-    ensures value { out.new ≡ out.old ++ bytes_for attribute.now bits }
+    requires bound { bits < number_end kind }
+    ensures value { out.new ≡ out.old ++ to_le_bytes (width_of kind) bits }
     ensures bound { length out.new ≤ length out.old + 4 }
 {
-    if attribute.length == Length::Two {
+    if kind == Length::Two {
         out.append_within(&(bits as u16).to_le_bytes());
     } else {
         out.append_within(&bits.to_le_bytes());
     }
+}
+
+/// Appends a number of two or four bytes as it is in a cycle: the number with these bits plus the step times the cycle, modulo 2
+/// to the power of its bits (this profile). The low byte comes first. With a step of 0 that is the number itself.
+#[inline]
+pub fn push_grown<const CAPACITY: usize>(
+    out: &mut ByteList<CAPACITY>,
+    kind: Length,
+    bits: u32,
+    step: u32,
+    cycle: u32,
+)
+    requires room { length out.old + 4 ≤ CAPACITY }
+    ensures value { out.new ≡ out.old ++ to_le_bytes (width_of kind) ((bits + step * cycle) % number_end kind) }
+    ensures bound { length out.new ≤ length out.old + 4 }
+{
+    push_number(out, kind, grown(kind, bits, step, cycle));
 }
 
 /// Appends operation data as it is in a cycle, of a block with this attribute, step and operation data: the bytes
@@ -58,10 +74,12 @@ pub fn push_data<const CAPACITY: usize>(
     if step == 0 {
         out.append_within(bytes);
     } else {
-        push_number(
+        push_grown(
             out,
-            attribute,
-            grown(attribute, bits_in(attribute, bytes), step, cycle),
+            attribute.length,
+            bits_in(attribute, bytes),
+            step,
+            cycle,
         );
     }
 }

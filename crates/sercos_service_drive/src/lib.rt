@@ -11,5 +11,5 @@ mod session;
 mod writing;
 
 pub use channel::DriveChannel;
-pub use data::push_data;
+pub use data::{push_data, push_grown};
 pub use law::writes_law;

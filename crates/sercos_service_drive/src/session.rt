@@ -238,6 +238,14 @@ impl Session {
         }
     }
 
+    // No identifier number is open any more. The bytes of the run that there was are left.
+    pub(crate) fn reset(&mut self)
+        ensures { SessionStandsFor self.new [] }
+    {
+        self.opened = None;
+        self.selection = None;
+    }
+
     // Refuses a step, which ends the run.
     fn refuse(&mut self, code: Code) -> Answer
         ensures session { self.new ≡ record { opened = self.old.opened; selection = None; buffer = self.old.buffer } }

@@ -1,10 +1,13 @@
--- Digits sixteen at a time, the table of their values, and the bits of the bytes that pairs of digits spell.
-use Rattle.std.proofs.Common.{◌≡◌, ℕ, zero, suc, ◌+◌, ◌*◌, ◌/◌, ◌<◌, ◌≤◌, Bool, true, List, [], ◌∷◌, ◌++◌, ◌-◌, length, map, take, drop, get_or, unwrap_or, Option, Some, None, is_some, nat_lt, refl, sym, ap, ◌∙◌, arith, append_assoc, length-drop}
+-- The table of the values of digits, and the bits of the bytes that pairs of digits spell.
+use Rattle.std.proofs.Common.{◌≡◌, ℕ, zero, suc, ◌+◌, ◌*◌, ◌/◌, ◌%◌, ◌^◌, ◌<◌, ◌≤◌, Bool, true, List, ◌∷◌, ◌++◌, inl, inr, bit_or, slice_set, length, map, take, drop, get_or, unwrap_or, Option, Some, None, is_some, nat_lt, refl, sym, ap, ◌∙◌, arith, append_assoc}
 use Rattle.std.specs.Char.{is_ascii_hexdigit}
-use Rattle.std.specs.List.{prefix_len, range_with_len}
+use Rattle.std.specs.List.{range_with_len}
 use Rattle.std.proofs.Math.Seq.{take-append-add, take-append_seam}
+use Rattle.std.proofs.lemmas.Bool.{cases_lt, cases_eq}
 use Rattle.std.proofs.lemmas.Bool.Decides.{nat_tests}
-use Rattle.std.proofs.lemmas.List.{take-append-drop, take-append-le, length-take-le, drop-drop, get_or-take}
+use Rattle.std.proofs.lemmas.List.Sums.{prefix_len_is}
+use Rattle.std.proofs.lemmas.Nat.{le_or_l, le_or_r, or_lt}
+use Rattle.std.proofs.lemmas.List.{take-append-drop, take-append-le, length-take-le, get_or-set_same, get_or-set_other, ext_get_or}
 use Rattle.std.proofs.lemmas.List.FromFn.{get_or-map-range_with_len}
 use Rattle.hex.specs.Hex.{hex_digit_value}
 use Rattle.sercos_model.specs.Bits.{is_odd, low_bits, bits_of}
@@ -41,29 +44,11 @@ test_at c below =
     test_by (Some v) small = let below = small v refl in grind (arith, nat_tests)
     test_by None small = refl
 
--- where digits come first, they count
-digits_first : (n : ℕ) (text : List ℕ) → n ≤ length text → ((k : ℕ) → k < n → is_ascii_hexdigit (get_or text k 0) ≡ true)
-    → prefix_len is_ascii_hexdigit text ≡ n + prefix_len is_ascii_hexdigit (drop n text)
-digits_first zero text inside all = omega arith
-digits_first (suc n) [] inside all = absurd (omega arith)
-digits_first (suc n) (c ∷ text) inside all =
-    let rest = digits_first n text (omega arith) (λ k below. all (suc k) (omega (arith, below))) in
-    rw (all 0 (omega arith)) (omega (arith, rest))
-
-pub sixteen_more : (text : List ℕ) (turn : ℕ) (part : List ℕ) → 16 * turn + 16 ≤ length text → part ≡ take 16 (drop (16 * turn) text)
-    → ((k : ℕ) → k < length part → is_ascii_hexdigit (get_or part k 0) ≡ true)
-    → prefix_len is_ascii_hexdigit text ≡ 16 * turn + prefix_len is_ascii_hexdigit (drop (16 * turn) text)
-    → prefix_len is_ascii_hexdigit text ≡ 16 * (turn + 1) + prefix_len is_ascii_hexdigit (drop (16 * (turn + 1)) text)
-sixteen_more text turn part inside is all before =
-    let rest : List ℕ = drop (16 * turn) text in
-    let long : length rest ≡ length text - 16 * turn = length-drop (16 * turn) text in
-    let part_len : length part ≡ 16 = ap length is ∙ length-take-le 16 rest (omega (arith, long, inside)) in
-    let digits : (k : ℕ) → k < 16 → is_ascii_hexdigit (get_or rest k 0) ≡ true =
-    λ k below. ap is_ascii_hexdigit (sym (get_or-take 16 rest k 0 below) ∙ ap (λ xs. get_or xs k 0) (sym is)) ∙ all k (omega (arith, part_len, below)) in
-    let more = digits_first 16 rest (omega (arith, long, inside)) digits in
-    let place : 16 * turn + 16 ≡ 16 * (turn + 1) = omega arith in
-    let next : drop 16 rest ≡ drop (16 * (turn + 1)) text = rw (drop-drop 16 (16 * turn) text, place) refl in
-    before ∙ ap (λ (n : ℕ). 16 * turn + n) (more ∙ ap (λ (behind : List ℕ). 16 + prefix_len is_ascii_hexdigit behind) next) ∙ omega arith
+pub value_by : (c : ℕ) → c < 256 → get_or VALUES c 0 < 16 → hex_digit_value c ≡ Some (get_or VALUES c 0)
+value_by c below small = (value_at c below (sym (test_at c below) ∙ small_test (get_or VALUES c 0) small)).0
+  where
+    small_test : (n : ℕ) → n < 16 → nat_lt n 16 ≡ true
+    small_test n few = grind (arith, nat_tests)
 
 -- the digits at the places of a pair
 pub digit_is : (text : List ℕ) (k : ℕ) → AreDigitPairs text → k < length text → is_ascii_hexdigit (get_or text k 0) ≡ true
@@ -110,10 +95,89 @@ bits_more bytes k u inside few =
     rw whole (rw (← len) (take-append-add front (byte ++ behind) u)) in
     more ∙ ap (λ bits. front ++ bits) cut ∙ ap (λ bits. bits ++ low_bits u (get_or bytes k 0)) (sym first)
 
--- the bits so far, and some of the next pair's
-pub fed_more : (text : List ℕ) (before : List Bool) (k u byte : ℕ) → AreDigitPairs text → 2 * k + 2 ≤ length text → u ≤ 8 → byte ≡ get_or (pairs_of text) k 0
-    → before ++ take (8 * k + u) (bits_of (pairs_of text)) ≡ (before ++ take (8 * k) (bits_of (pairs_of text))) ++ low_bits u byte
-fed_more text before k u byte pairs inside few is =
-    let bytes : List ℕ = pairs_of text in
-    let more = bits_more bytes k u (omega (arith, length-pairs_of text pairs, inside)) few in
-    ap (λ bits. before ++ bits) (more ∙ ap (λ b. take (8 * k) (bits_of bytes) ++ low_bits u b) (sym is)) ∙ sym (append_assoc before (take (8 * k) (bits_of bytes)) (low_bits u byte))
+pub bits_of-first : (bytes : List ℕ) (k : ℕ) → k ≤ length bytes → bits_of (take k bytes) ≡ take (8 * k) (bits_of bytes)
+bits_of-first bytes k inside =
+    let front : List Bool = bits_of (take k bytes) in
+    let whole : bits_of bytes ≡ front ++ bits_of (drop k bytes) = ap bits_of (sym (take-append-drop k bytes)) ∙ bits_of-append (take k bytes) (drop k bytes) in
+    let len : length front ≡ 8 * k = length-bits_of (take k bytes) ∙ ap (λ n. 8 * n) (length-take-le k bytes inside) in
+    sym (ap (take (8 * k)) whole ∙ ap (λ n. take n (front ++ bits_of (drop k bytes))) (sym len) ∙ take-append_seam front (bits_of (drop k bytes)))
+
+-- the bits of whole bytes, and some of the next one's
+pub first_fed : (bytes : List ℕ) (before : List Bool) (k u : ℕ) → k < length bytes → u ≤ 8
+    → before ++ take (8 * k + u) (bits_of bytes) ≡ (before ++ bits_of (take k bytes)) ++ low_bits u (get_or bytes k 0)
+first_fed bytes before k u inside few =
+    let front : List Bool = bits_of (take k bytes) in
+    let first : bits_of (take k bytes) ≡ take (8 * k) (bits_of bytes) = bits_of-first bytes k (omega arith) in
+    ap (λ bits. before ++ bits) (bits_more bytes k u inside few ∙ ap (λ b. b ++ low_bits u (get_or bytes k 0)) (sym first)) ∙ sym (append_assoc before front (low_bits u (get_or bytes k 0)))
+
+-- Bytes are set to those that pairs of digits spell, up to a place. What was seen is below 16 where all these are digits.
+pub record IsSet (digits bytes : List ℕ) (place seen : ℕ) : Type 0 where
+  pub digit : seen < 16 → (k : ℕ) → k < 2 * place → is_ascii_hexdigit (get_or digits k 0) ≡ true
+  pub byte : seen < 16 → (k : ℕ) → k < place → get_or bytes k 0 ≡ byte_of (get_or digits (2 * k) 0) (get_or digits (2 * k + 1) 0)
+  pub small : ((k : ℕ) → k < length digits → is_ascii_hexdigit (get_or digits k 0) ≡ true) → seen < 16
+
+pub IsSet-none : (digits bytes : List ℕ) → IsSet digits bytes 0 0
+IsSet-none digits bytes = record {
+  digit = λ few k none. absurd (omega arith);
+  byte = λ few k none. absurd (omega arith);
+  small = λ all. omega arith;
+}
+
+pub below_by : (n : ℕ) → nat_lt n 16 ≡ true → n < 16
+below_by n test = grind (arith, nat_tests)
+
+test_16 : (n : ℕ) → n < 16 → nat_lt n 16 ≡ true
+test_16 n below = grind (arith, nat_tests)
+
+pair_value : (high low : ℕ) → high < 16 → low < 16 → (high * 16 % 256 + low) % 256 ≡ 16 * high + low
+pair_value high low few also = omega arith
+
+pub IsSet-more : (digits bytes : List ℕ) (place seen high low byte : ℕ) → place < length bytes → length digits ≡ 2 * length bytes
+    → (high < 16 → hex_digit_value (get_or digits (2 * place) 0) ≡ Some high) → nat_lt high 16 ≡ is_ascii_hexdigit (get_or digits (2 * place) 0)
+    → (low < 16 → hex_digit_value (get_or digits (2 * place + 1) 0) ≡ Some low) → nat_lt low 16 ≡ is_ascii_hexdigit (get_or digits (2 * place + 1) 0)
+    → byte ≡ (high * 16 % 256 + low) % 256 → IsSet digits bytes place seen
+    → IsSet digits (slice_set bytes place byte) (place + 1) (bit_or seen (bit_or high low))
+IsSet-more digits bytes place seen high low byte inside long high_is high_test low_is low_test is h = record {
+  digit = λ few k below.
+      let parts = parted few in
+      elim (cases_lt k (2 * place)) [
+        | inl old ↦ h.digit parts.0 k old
+        | inr new ↦ elim (cases_eq k (2 * place)) [
+          | inl first ↦ rw first (sym high_test ∙ test_16 high parts.1)
+          | inr second ↦
+              let last : k ≡ 2 * place + 1 = omega arith in
+              rw last (sym low_test ∙ test_16 low parts.2)
+        ]
+      ];
+  byte = λ few k below.
+      let parts = parted few in
+      elim (cases_eq k place) [
+        | inl here ↦
+            rw (here, get_or-set_same bytes place byte 0 inside) (is ∙ pair_value high low parts.1 parts.2 ∙ byte_is (get_or digits (2 * place) 0) (get_or digits (2 * place + 1) 0) high low (high_is parts.1) (low_is parts.2))
+        | inr other ↦ get_or-set_other bytes place k byte 0 other ∙ h.byte parts.0 k (omega arith)
+      ];
+  small = λ all.
+      let a : seen < 2 ^ 4 = h.small all in
+      let b : high < 2 ^ 4 = below_by high (high_test ∙ all (2 * place) (omega arith)) in
+      let c : low < 2 ^ 4 = below_by low (low_test ∙ all (2 * place + 1) (omega arith)) in
+      or_lt 4 seen (bit_or high low) a (or_lt 4 high low b c);
+}
+  where
+    parted : bit_or seen (bit_or high low) < 16 → (seen < 16) × (high < 16) × (low < 16)
+    parted few =
+        let both : bit_or high low < 16 = omega (arith, few, le_or_r seen (bit_or high low)) in
+        (omega (arith, few, le_or_l seen (bit_or high low)), omega (arith, both, le_or_l high low), omega (arith, both, le_or_r high low))
+
+pub AreDigitPairs-set : (digits bytes : List ℕ) (seen : ℕ) → length digits ≡ 2 * length bytes → IsSet digits bytes (length bytes) seen → nat_lt seen 16 ≡ true → AreDigitPairs digits
+AreDigitPairs-set digits bytes seen long h test = record {
+  all = prefix_len_is is_ascii_hexdigit digits (length digits) 0 (omega arith) (λ k inside. h.digit (below_by seen test) k (omega (arith, long, inside))) (λ past. absurd (omega arith));
+  even = omega (arith, long);
+}
+
+pub bytes_set : (digits bytes : List ℕ) (seen : ℕ) → length digits ≡ 2 * length bytes → IsSet digits bytes (length bytes) seen → nat_lt seen 16 ≡ true → bytes ≡ pairs_of digits
+bytes_set digits bytes seen long h test =
+    let pairs = AreDigitPairs-set digits bytes seen long h test in
+    ext_get_or 0 bytes (pairs_of digits) (omega (arith, long, length-pairs_of digits pairs)) (λ k inside. h.byte (below_by seen test) k inside ∙ pair_is digits k pairs (omega (arith, long, inside)))
+
+pub all_seen : (digits bytes : List ℕ) (seen : ℕ) → length digits ≡ 2 * length bytes → IsSet digits bytes (length bytes) seen → AreDigitPairs digits → nat_lt seen 16 ≡ true
+all_seen digits bytes seen long h pairs = test_16 seen (h.small (λ k inside. digit_is digits k pairs inside))

@@ -21,7 +21,7 @@ use Rattle.sercos_show.proofs.SpareBits.{spare_zeros, last_below}
 abbrev pub bytes_before : ℕ → ℕ
 bytes_before count = (count + 7) / 8 - 1
 
-has_spare-small : (count byte : ℕ) → has_spare count byte ≡ false → byte < 2 ^ (count - 8 * bytes_before count)
+pub has_spare-small : (count byte : ℕ) → has_spare count byte ≡ false → byte < 2 ^ (count - 8 * bytes_before count)
 unfolding has_spare
 has_spare-small count byte fails = grind (arith, nat_tests)
 

@@ -6,6 +6,6 @@ pub mod DigitLemmas
 pub mod SpelledLines
 pub mod WrittenLines
 pub mod PlaceLemmas
-pub mod TextLemmas
+pub mod SetHex
 pub mod ShowLemmas
 mod WorkedLines

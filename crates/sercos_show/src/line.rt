@@ -1,14 +1,13 @@
-// The lines of `show`: `raw COUNT HEX`. A fault is the place, from 0 on, of the first byte that can't stand; that of a
+// The lines of `show`: `raw COUNT HEX`. A fault is the place, from 0 on, of the first byte that can't be there; that of a
 // missing byte is one past the end.
-ghost use Rattle.std.specs.Prelude.{◌≡◌, ◌+◌, ◌<◌, ◌≤◌, [], OnOk, IfOk, IfErr, IfSome, length, nat_eq, Some};
+ghost use Rattle.std.specs.Prelude.{◌≡◌, ◌+◌, ◌/◌, ◌<◌, ◌≤◌, [], OnOk, IfOk, IfErr, IfSome, length, take, nat_eq, true, Some, None};
 ghost use Rattle.std.specs.List.{common_prefix_len};
 ghost use Rattle.std.specs.Result.{result_ok, result_err};
-ghost use Rattle.sercos_text.specs.Fields.{number_len, number_of};
+ghost use Rattle.sercos_text.specs.Fields.{number_len, number_of, pairs_of};
 ghost use Rattle.sercos_hdlc.specs.Fed.{taken_of, IsFed};
 ghost use Rattle.sercos_show.specs.Line.{wanted_digits, has_spare, kind_text, kind_of, kind_fault, count_fault, dash_fault, digits_fault, hex_fault, hex_bits, numbers_fault, numbers_bits, line_fault, line_bits};
 
-use crate::digits::{byte_of, feed_digits, leading_digits};
-use sercos_bits::BitBuf;
+use crate::digits::{Room, byte_of, feed_first, leading_digits, set_pairs};
 use sercos_hdlc::Deframer;
 
 /// What the bits of a line are read as.
@@ -49,20 +48,22 @@ fn kind_of(line: &[u8]) -> Result<LineKind, usize>
     ensures there { IfOk result (λ kind. length (kind_text kind) ≤ length line.now) }
 {
     let raw = shared_with(line, b"raw ");
-    let mst = shared_with(line, b"mst ");
-    let single = shared_with(line, b"single ");
-    let at = shared_with(line, b"at ");
     if raw == 4 {
-        Ok(LineKind::Raw)
-    } else if mst == 4 {
-        Ok(LineKind::Mst)
-    } else if single == 7 {
-        Ok(LineKind::Single)
-    } else if at == 3 {
-        Ok(LineKind::At)
-    } else {
-        Err(raw.max(mst).max(single).max(at))
+        return Ok(LineKind::Raw);
     }
+    let mst = shared_with(line, b"mst ");
+    if mst == 4 {
+        return Ok(LineKind::Mst);
+    }
+    let single = shared_with(line, b"single ");
+    if single == 7 {
+        return Ok(LineKind::Single);
+    }
+    let at = shared_with(line, b"at ");
+    if at == 3 {
+        return Ok(LineKind::At);
+    }
+    Err(raw.max(mst).max(single).max(at))
 }
 
 // How many bytes there are before COUNT.
@@ -164,12 +165,39 @@ fn read_count(text: &[u8]) -> Result<(usize, usize), usize>
     Ok((len + 1, count as usize))
 }
 
+// How many bytes there are for a number of bits.
+fn byte_len(count: usize) -> usize
+    requires { count ≤ 19696 }
+    ensures value { result ≡ (count + 7) / 8 }
+    ensures most { result ≤ 2462 }
+{
+    count.div_ceil(8)
+}
+
+// Puts the bytes of a HEX of at least one bit into the room. Returns whether it has no fault.
+#[tactic(auto, unfolding(crate::specs::Line::wanted_digits))]
+fn set_hex(count: usize, text: &[u8], room: &mut Room) -> bool
+    requires { count ≤ 19696 }
+    ensures some { result ≡ true → 0 < count }
+    ensures good { result ≡ true → hex_fault count text.now ≡ None }
+    ensures bytes { result ≡ true → take ((count + 7) / 8) room.new ≡ pairs_of text.now }
+    ensures none { 0 < count → hex_fault count text.now ≡ None → result ≡ true }
+{
+    if count == 0 {
+        return false;
+    }
+    if text.len() != wanted_digits(count) {
+        return false;
+    }
+    let len = byte_len(count);
+    set_pairs(text, &mut room[..len]) && !has_spare(count, room[len - 1])
+}
+
 // Reads HEX, and feeds its bits.
-#[tactic(auto, unfolding(crate::specs::Line::hex_bits))]
 fn read_hex(
     count: usize,
     text: &[u8],
-    piece: &mut BitBuf,
+    room: &mut Room,
     deframer: &mut Deframer,
 ) -> Result<(), usize>
     requires most { count ≤ 19696 }
@@ -178,40 +206,35 @@ fn read_hex(
     ensures bits { IsFed [] deframer.old → OnOk result (IsFed (hex_bits count text.now) deframer.new) }
     ensures bound { IfErr result (λ place. place ≤ length text.now) }
 {
+    if set_hex(count, text, room) {
+        feed_first(&room[..byte_len(count)], count, deframer);
+        return Ok(());
+    }
     match hex_fault(count, text) {
         Some(place) => Err(place),
-        None => {
-            if count > 0 {
-                feed_digits(text, count, piece, deframer);
-            }
-            Ok(())
-        },
+        None => Ok(()),
     }
 }
 
 // Reads COUNT HEX, and feeds the bits.
 #[tactic(auto, unfolding(crate::specs::Line::numbers_fault, crate::specs::Line::numbers_bits))]
-fn read_numbers(text: &[u8], piece: &mut BitBuf, deframer: &mut Deframer) -> Result<(), usize>
+fn read_numbers(text: &[u8], room: &mut Room, deframer: &mut Deframer) -> Result<(), usize>
     requires { taken_of deframer.old ≡ 0 }
     ensures fault { result_err result ≡ numbers_fault text.now }
     ensures bits { IsFed [] deframer.old → OnOk result (IsFed (numbers_bits text.now) deframer.new) }
     ensures bound { IfErr result (λ place. place ≤ length text.now) }
 {
     let (begin, count) = read_count(text)?;
-    match read_hex(count, &text[begin..], piece, deframer) {
+    match read_hex(count, &text[begin..], room, deframer) {
         Ok(()) => Ok(()),
         Err(place) => Err(begin + place),
     }
 }
 
-/// Feeds the bits that a line gives, a byte at a time, and returns its kind. The error is the place, from 0 on, of the first
+/// Feeds the bits that a line gives, whose bytes are put into the room, and returns its kind. The error is the place, from 0 on, of the first
 /// byte of the line that can't stand.
 #[tactic(auto, unfolding(crate::specs::Line::line_fault, crate::specs::Line::fault_by, crate::specs::Line::line_bits, crate::specs::Line::bits_by))]
-pub fn read_line(
-    line: &[u8],
-    piece: &mut BitBuf,
-    deframer: &mut Deframer,
-) -> Result<LineKind, usize>
+pub fn read_line(line: &[u8], room: &mut Room, deframer: &mut Deframer) -> Result<LineKind, usize>
     requires { taken_of deframer.old ≡ 0 }
     ensures fault { result_err result ≡ line_fault line.now }
     ensures kind { IfOk result (λ kind. kind_of line.now ≡ Some kind) }
@@ -223,7 +246,7 @@ pub fn read_line(
         Err(place) => return Err(place),
     };
     let begin = kind_len(kind);
-    match read_numbers(&line[begin..], piece, deframer) {
+    match read_numbers(&line[begin..], room, deframer) {
         Ok(()) => Ok(kind),
         Err(place) => Err(begin + place),
     }

@@ -9,10 +9,11 @@ ghost use Rattle.sercos_telegram.specs.Words.{control_of, status_of};
 ghost use Rattle.sercos_hdlc.specs.Reason.{reason_of};
 ghost use Rattle.sercos_hdlc.specs.Fed.{taken_of, IsFed};
 
+use crate::digits::MOST_BYTES;
 use crate::line::{LineKind, read_line};
 use crate::text::{push_at, push_hex, push_layout, push_mst, push_refusal, push_single};
 use sercos_answer::{Reply, cut_line, push_number, push_text};
-use sercos_bits::{BitBuf, Content};
+use sercos_bits::Content;
 use sercos_hdlc::{BadFrame, Deframer};
 use sercos_io::Status;
 use sercos_telegram::{Layout, read_at, read_mst, read_single};
@@ -180,7 +181,7 @@ pub fn show(alloc: Global, text: &[u8]) -> Result<Reply, AllocError>
     ensures status { IfOk result (λ reply. reply.status ≡ (show_answer text.now).status) }
     ensures text { IfOk result (λ reply. reply.text.items ≡ (show_answer text.now).output) }
 {
-    let mut piece = BitBuf::new();
+    let mut room = [0; MOST_BYTES];
     let mut deframer = Deframer::new();
     let mut content = Content::new();
     let mut answers = Vec::new(alloc);
@@ -188,7 +189,7 @@ pub fn show(alloc: Global, text: &[u8]) -> Result<Reply, AllocError>
     let mut number = 1u64;
     while !rest.is_empty() {
         let (line, others) = cut_line(rest);
-        match read_line(line, &mut piece, &mut deframer) {
+        match read_line(line, &mut room, &mut deframer) {
             Ok(kind) => push_answer(kind, &mut deframer, &mut content, &mut answers)?,
             Err(place) => return refusal(alloc, number, place as u64 + 1),
         }

@@ -1,11 +1,12 @@
 // The texts of the answers of `show`, appended to what is written in the end.
-ghost use Rattle.std.specs.Prelude.{◌≡◌, ◌*◌, ◌++◌, OnOk, codes, decimal, length, take, drop, ◌≤◌};
+ghost use Rattle.std.specs.Prelude.{◌≡◌, ◌*◌, [], ◌∷◌, ◌++◌, OnOk, codes, decimal, length, take, drop, ◌≤◌};
 ghost use Rattle.hex.specs.Hex.{encode_lower};
 ghost use Rattle.sercos_show.specs.Show.{word_text, bit_text, two_bits, bit_and_number, two_words, data_text, layout_text, mst_text, single_text, at_text, refusal_text};
 
 use sercos_answer::{push_number, push_text, push_two_numbers};
 use sercos_hdlc::BadFrame;
-use sercos_telegram::{At, Control, Layout};
+use sercos_telegram::{At, Control, Layout, Status};
+use sercos_text::{piece_of, put_pairs};
 use std::alloc::AllocError;
 
 #[tactic(auto, unfolding(crate::specs::Show::word_text))]
@@ -116,18 +117,8 @@ fn push_some(bytes: &[u8], room: &mut [u8], out: &mut Vec<u8>) -> Result<(), All
     ensures { OnOk result (out.new.items ≡ out.old.items ++ encode_lower bytes.now) }
 {
     let text = &mut room[..2 * bytes.len()];
-    hex::encode_to_slice(bytes, text).unwrap();
+    put_pairs(bytes, text);
     out.extend_from_slice(text)
-}
-
-// As many bytes of these from a place on as there are, at most 32.
-fn some_from(bytes: &[u8], place: usize) -> &[u8]
-    requires { place ≤ length bytes.now }
-    ensures value { result.now ≡ take 32 (drop place bytes.now) }
-    ensures few { length result.now ≤ 32 }
-{
-    let end = (place + 32).min(bytes.len());
-    &bytes[place..end]
 }
 
 /// Appends bytes in hexadecimal digits, 32 of them at a time.
@@ -137,12 +128,12 @@ pub fn push_hex(bytes: &[u8], out: &mut Vec<u8>) -> Result<(), AllocError>
 {
     let mut room = [0u8; 64];
     for turn in 0..bytes.len().div_ceil(32) {
-        push_some(some_from(bytes, 32 * turn), &mut room, out)?;
+        push_some(piece_of(bytes, 32 * turn), &mut room, out)?;
     }
     Ok(())
 }
 
-// Appends bytes in hexadecimal digits, or `-` where there are none.
+// Appends bytes in hexadecimal digits, or `-` if there are none.
 #[tactic(auto, unfolding(crate::specs::Show::data_text))]
 fn push_data(bytes: &[u8], out: &mut Vec<u8>) -> Result<(), AllocError>
     requires { length bytes.now ≤ 2048 }
@@ -212,6 +203,36 @@ pub fn push_single(
     push_words(" info ", info, " cyclic ", control.cyclic, out)
 }
 
+// The digit of a bit.
+fn bit_digit(bit: bool) -> u8
+    ensures { bit_text bit ≡ result ∷ [] }
+{
+    if bit { b'1' } else { b'0' }
+}
+
+// The bits of an AT's status word, each after its name. Texts of a fixed length are put together here, and appended at once.
+fn status_bits(status: Status) -> [u8; 30]
+    ensures { result ≡ two_bits (codes " ahs ") status.ahs (codes " busy ") status.busy
+        ++ two_bits (codes " error ") status.error (codes " change ") status.change }
+{
+    let mut text = *b" ahs 0 busy 0 error 0 change 0";
+    text[5] = bit_digit(status.ahs);
+    text[12] = bit_digit(status.busy);
+    text[20] = bit_digit(status.error);
+    text[29] = bit_digit(status.change);
+    text
+}
+
+// The words of an AT, each after its name.
+fn at_words(info: u16, cyclic: u16) -> [u8; 32]
+    ensures { result ≡ two_words (codes " info ") info (codes " cyclic ") cyclic ++ codes " data " }
+{
+    let mut text = *b" info 0x0000 cyclic 0x0000 data ";
+    hex::encode_to_slice(info.to_be_bytes(), &mut text[8..12]).unwrap();
+    hex::encode_to_slice(cyclic.to_be_bytes(), &mut text[22..26]).unwrap();
+    text
+}
+
 /// Appends the fields of an AT.
 #[tactic(auto, unfolding(crate::specs::Show::at_text))]
 pub fn push_at(at: &At<'_>, out: &mut Vec<u8>) -> Result<(), AllocError>
@@ -220,15 +241,7 @@ pub fn push_at(at: &At<'_>, out: &mut Vec<u8>) -> Result<(), AllocError>
         ≡ out.old.items ++ at_text at.now.address at.now.status at.now.info at.now.values.now) }
 {
     push_place("at ", u64::from(at.address), out)?;
-    push_bits(" ahs ", at.status.ahs, " busy ", at.status.busy, out)?;
-    push_bits(
-        " error ",
-        at.status.error,
-        " change ",
-        at.status.change,
-        out,
-    )?;
-    push_words(" info ", at.info, " cyclic ", at.status.cyclic, out)?;
-    push_text(" data ", out)?;
+    out.extend_from_slice(&status_bits(at.status))?;
+    out.extend_from_slice(&at_words(at.info, at.status.cyclic))?;
     push_data(at.values, out)
 }

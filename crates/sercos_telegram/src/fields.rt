@@ -29,16 +29,6 @@ pub fn read_fields(bytes: &[u8]) -> Fields<'_>
     }
 }
 
-// Appends bytes.
-fn push_bytes(bytes: &[u8], out: &mut Content)
-    requires { length out.old + length bytes.now ≤ 2048 }
-    ensures { out.new ≡ out.old ++ bytes.now }
-{
-    for byte in bytes {
-        out.push_within(*byte);
-    }
-}
-
 /// Appends two words and values.
 #[tactic(auto, unfolding(crate::specs::Spells::fields, crate::specs::Spells::word_bytes))]
 pub fn push_fields(word: u16, info: u16, values: &[u8], out: &mut Content)
@@ -47,5 +37,5 @@ pub fn push_fields(word: u16, info: u16, values: &[u8], out: &mut Content)
 {
     out.push_word_within(word);
     out.push_word_within(info);
-    push_bytes(values, out);
+    out.append_within(values);
 }

@@ -7,4 +7,4 @@ mod LineSteps
 mod ListLaws
 mod ListSteps
 mod TailLaws
-mod WriteSteps
+pub mod WriteSteps

@@ -17,4 +17,6 @@ pub use number::{read_number, read_signed};
 pub use room::{MOST_BYTES, MOST_NUMBERS, Numbers, Room};
 pub use tail::{Tail, read_tail};
 pub use template::{Field, Told, read_line};
-pub use writer::{Given, LINE_BYTES, Line, push_addresses, push_idents, push_line};
+pub use writer::{
+    Given, LINE_BYTES, Line, piece_of, push_addresses, push_idents, push_line, put_pairs,
+};

@@ -208,9 +208,28 @@ pub fn write_header<K: Sink>(wishes: &Wishes, sink: &mut K) -> Result<(), WriteF
 }
 
 /// Writes the lines of a cycle: the MST, the moves at it, the ATs and the MDT, the late moves, then what the master reports:
-/// outcomes, plan, stop, fall. After an error the sink has taken a prefix of the text, short of the whole, and its count of
-/// faults has risen.
+/// outcomes, plan, stop, fall. Each is made in `line`, whatever that held. After an error the sink has taken a prefix of the
+/// text, short of the whole, and its count of faults has risen.
 #[tactic(auto, using(crate::proofs::WriteLemmas::ok_of, crate::proofs::WriteLemmas::err_of, crate::proofs::WriteLemmas::cause_of, crate::proofs::WriteLemmas::room_of, crate::proofs::WriteLemmas::left_of))]
+pub fn write_cycle_by<K: Sink>(
+    wishes: &Wishes,
+    cycle: &CycleRecord,
+    line: &mut Line,
+    sink: &mut K,
+) -> Result<(), WriteFailed>
+    requires starts { IfSome cycle.now.events.plan (λ p. length p.t1 ≡ length wishes.now.drives) }
+    requires positions { IfSome cycle.now.events.plan (λ p. length p.position ≡ length wishes.now.drives) }
+    ensures ok { OnOk result (Appends (K.held sink.old) (K.held sink.new) (cycle_text wishes.now cycle.now)) }
+    ensures err { OnErr result ((count : ℕ) × (count < length (cycle_text wishes.now cycle.now))
+        × Appends (K.held sink.old) (K.held sink.new) (take count (cycle_text wishes.now cycle.now))) }
+    ensures cause { HasCause (K.faults sink.old) (K.faults sink.new) result }
+    ensures room { length (cycle_text wishes.now cycle.now) ≤ K.room sink.old → IsOk result }
+    ensures room_left { K.room sink.old ≤ K.room sink.new + length (cycle_text wishes.now cycle.now) }
+{
+    write_lines(wishes, cycle, line, sink)
+}
+
+/// Writes the lines of a cycle, as [`write_cycle_by`] does, in room of its own.
 pub fn write_cycle<K: Sink>(
     wishes: &Wishes,
     cycle: &CycleRecord,
@@ -226,7 +245,7 @@ pub fn write_cycle<K: Sink>(
     ensures room_left { K.room sink.old ≤ K.room sink.new + length (cycle_text wishes.now cycle.now) }
 {
     let mut line = Line::new();
-    write_lines(wishes, cycle, &mut line, sink)
+    write_cycle_by(wishes, cycle, &mut line, sink)
 }
 
 /// Writes the end line of a trace. After an error the sink has taken a prefix of the text, short of the whole, and its count of

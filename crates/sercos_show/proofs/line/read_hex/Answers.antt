@@ -1,17 +1,16 @@
-use Rattle.std.proofs.Common.{[], sym, subst}
-use Rattle.sercos_hdlc.specs.Fed.{IsFed}
-use Rattle.sercos_show.proofs.HexLines.{AreDigitPairs-hex_fault, length-hex_fault, hex_bits-all}
+use Rattle.std.proofs.Common.{[], sym}
+use Rattle.sercos_show.proofs.HexLines.{length-hex_fault, hex_bits-all}
+use Rattle.sercos_show.proofs.SetHex.{none_set}
 use Rattle.sercos_show.proofs.line.read_hex.Goals as goal
 
-pub feed_digits-requires-clause-long : goal.feed_digits-requires-clause-long
-feed_digits-requires-clause-long c =
-    length-hex_fault c.args.count c.args.text.now c.if-count-gt0.true (sym c.in-None.ensures.value)
+pub returns-then-set_hex-clause-bits : goal.returns-then-set_hex-clause-bits
+returns-then-set_hex-clause-bits c = λ h.
+    let some = c.set_hex.ensures.some c.if-set_hex.true in
+    let none = c.set_hex.ensures.good c.if-set_hex.true in
+    let all = hex_bits-all c.args.count c.args.text.now (length-hex_fault c.args.count c.args.text.now some none) in
+    let bytes = c.set_hex.ensures.bytes c.if-set_hex.true in
+    rw (← all, ← bytes, ← c.byte_len.ensures.value) (c.feed_first.ensures.fed [] h)
 
-pub feed_digits-requires-clause-pairs : goal.feed_digits-requires-clause-pairs
-feed_digits-requires-clause-pairs c =
-    AreDigitPairs-hex_fault c.args.count c.args.text.now c.if-count-gt0.true (sym c.in-None.ensures.value)
-
-pub returns-then-count-gt0-clause-bits : goal.returns-then-count-gt0-clause-bits
-returns-then-count-gt0-clause-bits c = λ h.
-    subst (λ bits. IsFed bits c.feed_digits.new.deframer) (hex_bits-all c.args.count c.args.text.now (length-hex_fault c.args.count c.args.text.now c.if-count-gt0.true (sym c.in-None.ensures.value)))
-    (c.feed_digits.ensures.fed [] h)
+pub returns-in-None-clause-bits : goal.returns-in-None-clause-bits
+returns-in-None-clause-bits c = λ h.
+    none_set c.args.count c.args.text.now c.set_hex.result _ (sym c.in-None.ensures.value) c.set_hex.ensures.none c.if-set_hex.false h

@@ -7,5 +7,5 @@ use Rattle.sercos_hdlc.proofs.deframer.Deframer.take_bits_of.Given as goal
 abbrev pub invariant-loop-place : goal.invariant-loop-place
 invariant-loop-place l = record {
   taken : taken_of l.self ≡ taken_of l.fn.self + l._place;
-  taking : IsTaking l.fn.self l.self (low_bits 8 l.byte) (low_bits (8 - l._place) l.rest);
+  taking : IsTaking l.fn.self l.self (low_bits l.len l.byte) (low_bits (l.len - l._place) l.rest);
 }

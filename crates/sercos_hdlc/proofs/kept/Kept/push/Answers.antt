@@ -1,14 +1,10 @@
-use Rattle.std.proofs.Common.{◌+◌, ◌++◌, arith}
+use Rattle.std.proofs.Common.{◌≡◌, ℕ, ◌+◌, ◌-◌, ◌*◌, ◌/◌, ◌%◌, ◌++◌, arith}
 use Rattle.sercos_model.specs.Bits.{low_bits}
-use Rattle.sercos_hdlc.proofs.KeptLemmas.{rest_more, byte_more}
+use Rattle.sercos_hdlc.proofs.KeptLemmas.{rest_more, bytes_more}
 use Rattle.sercos_hdlc.proofs.kept.Kept.push.Goals as goal
 
-pub returns-then-len-lt8 : goal.returns-then-len-lt8
-returns-then-len-lt8 c = λ plain h. record {
-  all = rest_more plain (low_bits c.args.count c.args.bits) c.args.self.now.bytes c.args.self.now.rest c.args.self.now.rest_len c.joined-sum.result (c.args.self.now.rest_len + c.args.count) c.joined-sum.ensures.bits h.all;
-}
-
-pub returns-else-len-lt8 : goal.returns-else-len-lt8
-returns-else-len-lt8 c = λ plain h. record {
-  all = byte_more (plain ++ low_bits c.args.count c.args.bits) c.args.self.now.bytes c.push_byte.new.bytes c.joined-sum.result (c.args.self.now.rest_len + c.args.count) _ c.behind_byte-self.result c.push_byte.ensures (omega arith) c.behind_byte-self.ensures.bits (rest_more plain (low_bits c.args.count c.args.bits) c.args.self.now.bytes c.args.self.now.rest c.args.self.now.rest_len c.joined-sum.result (c.args.self.now.rest_len + c.args.count) c.joined-sum.ensures.bits h.all);
-}
+pub returns : goal.returns
+returns c = λ plain h.
+    let len : ℕ = c.args.self.now.rest_len + c.args.count in
+    let rest : len % 8 ≡ len - 8 * (len / 8) = omega arith in
+    record { all = rw rest (bytes_more (plain ++ low_bits c.args.count c.args.bits) c.args.self.now.bytes c.append_lowest.new.self c.joined-sum.result (c.args.self.now.rest_len + c.args.count) ((c.args.self.now.rest_len + c.args.count) / 8) c.behind_bytes-self.result (rw c.from.ensures at c.append_lowest.ensures) (omega arith) c.behind_bytes-self.ensures.bits (rest_more plain (low_bits c.args.count c.args.bits) c.args.self.now.bytes c.args.self.now.rest c.args.self.now.rest_len c.joined-sum.result (c.args.self.now.rest_len + c.args.count) c.joined-sum.ensures.bits h.all)) }

@@ -1,0 +1,96 @@
+ghost use Rattle.std.specs.Prelude.{◌≡◌, ℕ, ◌+◌, ◌++◌, ◌*◌, ◌^◌, ◌<◌, ◌≤◌, Bool, length, take};
+ghost use Rattle.sercos_model.specs.Bits.{low_bits, bits_of};
+ghost use Rattle.sercos_hdlc.specs.Given.{IsGiven};
+
+use crate::given::{Given, ending, given_by};
+
+/// What the bits of at most seven bytes give a reader, where no sixth one is among them.
+#[derive(Clone, Copy, Debug)]
+pub struct Group {
+    /// How many bytes those are.
+    pub len: usize,
+    /// The plain bits, the first as the least significant.
+    pub bits: u64,
+    /// How many plain bits those are, at most eight for each byte.
+    pub count: u8,
+    /// The ones in a row that the bits then end in.
+    pub ones: u8,
+    /// Whether the last zero is an inserted one.
+    pub dropped: bool,
+    ghost few: { ones ≤ 5 },
+    ghost below: { bits < 2 ^ count },
+}
+
+// Appends bits to those that a number spells.
+fn joined(bits: u64, count: u8, more: u8, more_count: u8) -> u64
+    requires few { count ≤ 48 }
+    requires below { bits < 2 ^ count }
+    requires more_few { more_count ≤ 8 }
+    requires more_below { more < 2 ^ more_count }
+    ensures bits { low_bits (count + more_count) result ≡ low_bits count bits ++ low_bits more_count more }
+    ensures below { result < 2 ^ (count + more_count) }
+{
+    bits + (u64::from(more) << count)
+}
+
+impl Group {
+    ghost use Rattle.std.specs.Prelude.{List, []};
+    ghost use Rattle.sercos_hdlc.specs.Grouped.{IsGroup};
+
+    // What no bytes give after `ones` ones in a row, with the last zero an inserted one or not.
+    fn none(ones: u8, dropped: bool) -> Group
+        requires { ones ≤ 5 }
+        ensures group { IsGroup ones dropped [] result }
+        ensures len { result.len ≡ 0 }
+        ensures count { result.count ≡ 0 }
+    {
+        Group {
+            len: 0,
+            bits: 0,
+            count: 0,
+            ones,
+            dropped,
+        }
+    }
+
+    // Adds what one more byte gives.
+    #[inline(always)]
+    fn add(&mut self, byte: u8, given: Given)
+        requires few { self.old.count ≤ 48 }
+        requires len { self.old.len < 7 }
+        requires given { IsGiven self.old.ones (low_bits 8 byte) given }
+        requires count { given.count ≤ 8 }
+        requires below { given.bits < 2 ^ given.count }
+        ensures group { (k : ℕ) (before : Bool) (bits : List Bool) → IsGroup k before bits self.old
+            → IsGroup k before (bits ++ low_bits 8 byte) self.new }
+        ensures len { self.new.len ≡ self.old.len + 1 }
+        ensures count { self.new.count ≤ self.old.count + 8 }
+    {
+        self.len += 1;
+        self.bits = joined(self.bits, self.count, given.bits, given.count);
+        self.count += given.count;
+        self.dropped = given.dropped;
+        self.ones = ending(byte);
+    }
+
+    /// What the bits of bytes give after `ones` ones in a row, with the last zero an inserted one or not: of all bytes, or of
+    /// those before the first that has a sixth one.
+    #[inline(always)]
+    pub fn after(ones: u8, dropped: bool, bytes: &[u8]) -> Group
+        requires few { ones ≤ 5 }
+        requires short { length bytes.now ≤ 7 }
+        ensures group { IsGroup ones dropped (bits_of (take result.len bytes.now)) result }
+        ensures len { result.len ≤ length bytes.now }
+        ensures count { result.count ≤ 8 * result.len }
+    {
+        let mut group = Group::none(ones, dropped);
+        for byte in bytes {
+            let given = given_by(group.ones, *byte);
+            if given.ones > 5 {
+                return group;
+            }
+            group.add(*byte, given);
+        }
+        group
+    }
+}
