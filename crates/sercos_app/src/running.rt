@@ -29,11 +29,10 @@ use sercos_ring::{Ring, standing_law};
 use sercos_script::BitLink;
 use sercos_text::Line;
 use sercos_timing::Wishes;
-use sercos_trace::{CycleRecord, Totals, write_cycle_by, write_end, write_header};
+use sercos_trace::{CycleRecord, Totals, write_end, write_header, write_marked_cycle};
 use sercos_undisturbed::undisturbed_law;
 
 // Writes the head of a trace.
-
 fn write_head<K: Sink>(w: &Wishes, sink: &mut K) -> Result<(), WriteFailed>
     requires { All (λ place. place < length w.now.drives) w.now.order }
     ensures { Writes (seen K.held K.faults K.room sink.old) (seen K.held K.faults K.room sink.new) result (header_text w.now) }
@@ -42,6 +41,7 @@ fn write_head<K: Sink>(w: &Wishes, sink: &mut K) -> Result<(), WriteFailed>
 }
 
 // Writes the lines of a cycle.
+#[tactic(auto, using(sercos_trace::proofs::MarkedLemmas::unmarked))]
 fn write_made<K: Sink>(
     w: &Wishes,
     made: &CycleRecord,
@@ -52,7 +52,7 @@ fn write_made<K: Sink>(
     requires positions { IfSome made.now.events.plan (λ p. length p.position ≡ length w.now.drives) }
     ensures { Writes (seen K.held K.faults K.room sink.old) (seen K.held K.faults K.room sink.new) result (cycle_text w.now made.now) }
 {
-    write_cycle_by(w, made, line, sink)
+    write_marked_cycle(w, made, b"", line, sink)
 }
 
 // Writes the last line of a trace.

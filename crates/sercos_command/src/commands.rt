@@ -146,17 +146,25 @@ impl Commands {
         ensures view { self.new ≡ without_checks self.old }
         ensures stands { (rate time : ℕ) (h : List Call) → CommandsStandFor self.old rate time h → newest h ≤ cycle → CommandsStandFor self.new rate time (Other cycle ∷ h) }
     {
+        self.forget_checks();
+    }
+
+    // No check counts as passed any more.
+    fn forget_checks(&mut self)
+        ensures { self.new ≡ without_checks self.old }
+    {
         self.passed_127 = None;
         self.passed_128 = None;
     }
 
     /// Phase 0: no command is set any more, and no check counts as passed.
-    #[tactic(auto, using(crate::proofs::CallLemmas::stands_reset))]
+    #[tactic(auto, using(crate::proofs::CallLemmas::stands_reset), unfolding(crate::specs::Settings::are_distinct))]
     pub fn reset(&mut self)
         ensures view { self.new ≡ without_settings self.old }
         ensures stands { (rate time : ℕ) (h : List Call) → CommandsStandFor self.old rate time h → CommandsStandFor self.new rate time (Reset ∷ h) }
     {
-        *self = Commands::new(self.rate, self.time);
+        self.set.clear();
+        self.forget_checks();
     }
 
     /// The data status of a command in a cycle: 0 not set, 7 running, 3 ended well, 15 ended with an error. A command runs

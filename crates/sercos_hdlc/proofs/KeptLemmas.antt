@@ -43,19 +43,19 @@ moved count len bits few below =
     let small : bits * 2 ^ len < 2 ^ 64 = omega (arith, moved_below count len bits below, high) in
     mod-eq_of_lt small
 
-pub joined_below : (rest len bits number count : ℕ) → rest < 2 ^ len → number ≡ bits → len + count ≤ 63 → bits < 2 ^ count → rest + number * 2 ^ len % 2 ^ 64 < 2 ^ (len + count)
-joined_below rest len bits number count low is few below =
-    rw (is, moved count len bits few below) (omega (arith, moved_below count len bits below))
+pub joined_below : (rest len bits count : ℕ) → rest < 2 ^ len → len + count ≤ 63 → bits < 2 ^ count → rest + bits * 2 ^ len % 2 ^ 64 < 2 ^ (len + count)
+joined_below rest len bits count low few below =
+    rw (moved count len bits few below) (omega (arith, moved_below count len bits below))
 
-pub joined_fits : (rest len bits number count : ℕ) → rest < 2 ^ len → number ≡ bits → len + count ≤ 63 → bits < 2 ^ count → Fits w64 (rest + number * 2 ^ len % 2 ^ 64)
-joined_fits rest len bits number count low is few below =
+pub joined_fits : (rest len bits count : ℕ) → rest < 2 ^ len → len + count ≤ 63 → bits < 2 ^ count → Fits w64 (rest + bits * 2 ^ len % 2 ^ 64)
+joined_fits rest len bits count low few below =
     let high : 2 ^ (len + count) ≤ 2 ^ 63 = pow_mono few in
-    let small : rest + number * 2 ^ len % 2 ^ 64 < 2 ^ 64 = omega (arith, joined_below rest len bits number count low is few below, high) in
+    let small : rest + bits * 2 ^ len % 2 ^ 64 < 2 ^ 64 = omega (arith, joined_below rest len bits count low few below, high) in
     omega (arith, small)
 
-pub joined_bits : (rest len bits number count : ℕ) → rest < 2 ^ len → number ≡ bits → len + count ≤ 63 → bits < 2 ^ count → low_bits (len + count) (rest + number * 2 ^ len % 2 ^ 64) ≡ low_bits len rest ++ low_bits count bits
-joined_bits rest len bits number count low is few below =
-    rw (is, moved count len bits few below) (low_bits-join len count rest bits low)
+pub joined_bits : (rest len bits count : ℕ) → rest < 2 ^ len → len + count ≤ 63 → bits < 2 ^ count → low_bits (len + count) (rest + bits * 2 ^ len % 2 ^ 64) ≡ low_bits len rest ++ low_bits count bits
+joined_bits rest len bits count low few below =
+    rw (moved count len bits few below) (low_bits-join len count rest bits low)
 
 -- the first bits of a number, and those after them
 pub low_bits-split : (a b n : ℕ) → low_bits (a + b) n ≡ low_bits a n ++ low_bits b (n / 2 ^ a)

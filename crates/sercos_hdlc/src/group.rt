@@ -3,6 +3,7 @@ ghost use Rattle.sercos_model.specs.Bits.{low_bits, bits_of};
 ghost use Rattle.sercos_hdlc.specs.Given.{IsGiven};
 
 use crate::given::{Given, ending, given_by};
+use crate::kept::joined;
 
 /// What the bits of at most seven bytes give a reader, where no sixth one is among them.
 #[derive(Clone, Copy, Debug)]
@@ -19,18 +20,6 @@ pub struct Group {
     pub dropped: bool,
     ghost few: { ones ≤ 5 },
     ghost below: { bits < 2 ^ count },
-}
-
-// Appends bits to those that a number spells.
-fn joined(bits: u64, count: u8, more: u8, more_count: u8) -> u64
-    requires few { count ≤ 48 }
-    requires below { bits < 2 ^ count }
-    requires more_few { more_count ≤ 8 }
-    requires more_below { more < 2 ^ more_count }
-    ensures bits { low_bits (count + more_count) result ≡ low_bits count bits ++ low_bits more_count more }
-    ensures below { result < 2 ^ (count + more_count) }
-{
-    bits + (u64::from(more) << count)
 }
 
 impl Group {
@@ -67,7 +56,7 @@ impl Group {
         ensures count { self.new.count ≤ self.old.count + 8 }
     {
         self.len += 1;
-        self.bits = joined(self.bits, self.count, given.bits, given.count);
+        self.bits = joined(self.bits, self.count, u64::from(given.bits), given.count);
         self.count += given.count;
         self.dropped = given.dropped;
         self.ones = ending(byte);

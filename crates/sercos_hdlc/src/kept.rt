@@ -16,11 +16,10 @@ pub struct Kept {
     ghost below: { rest < 2 ^ rest_len },
 }
 
-// Appends bits to those that a number spells.
-fn joined(rest: u64, rest_len: u8, bits: u64, count: u8) -> u64
-    requires few { rest_len ≤ 7 }
+/// Appends bits to those that a number spells.
+pub(crate) fn joined(rest: u64, rest_len: u8, bits: u64, count: u8) -> u64
+    requires few { rest_len + count ≤ 63 }
     requires below { rest < 2 ^ rest_len }
-    requires more { count ≤ 56 }
     requires bits { bits < 2 ^ count }
     ensures bits { low_bits (rest_len + count) result ≡ low_bits rest_len rest ++ low_bits count bits }
     ensures below { result < 2 ^ (rest_len + count) }

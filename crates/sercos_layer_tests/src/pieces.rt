@@ -27,23 +27,20 @@ fn read_in_pieces(
     reader.finish(content)
 }
 
-// One reader reads frames in pieces of 1, 7 and 64 bits, and refuses what isn't one as if no frame had come before.
+// Whether the reader then reads the frame of the bytes ff and 00, as if nothing had come before.
+fn reads_the_frame(reader: &mut Deframer, size: usize, content: &mut Content) -> bool {
+    let read = read_in_pieces(reader, b"\x7e\xdf\x01\x0e\xe1\xfd\x00", 49, size, content);
+    read == Ok(2) && content.as_slice() == b"\xff\x00".as_slice()
+}
+
+// One reader reads frames in pieces of 1, 7 and 64 bits, and refuses what isn't one. After each it reads the first one again.
 #[test]
 fn frames_in_pieces(rt: HostRuntime) {
     let mut reader = Deframer::new();
     let mut content = Content::new();
     for size in [1usize, 7, 64] {
-        assert_eq!(rt;
-            read_in_pieces(
-                &mut reader,
-                b"\x7e\xdf\x01\x0e\xe1\xfd\x00",
-                49,
-                size,
-                &mut content
-            ),
-            Ok(2)
-        );
-        assert_eq!(rt; content.as_slice(), b"\xff\x00".as_slice());
+        assert!(rt; reads_the_frame(&mut reader, size, &mut content));
+        assert!(rt; reads_the_frame(&mut reader, size, &mut content));
         assert_eq!(rt;
             read_in_pieces(
                 &mut reader,
@@ -54,10 +51,12 @@ fn frames_in_pieces(rt: HostRuntime) {
             ),
             Ok(1)
         );
+        assert!(rt; reads_the_frame(&mut reader, size, &mut content));
         assert_eq!(rt;
             read_in_pieces(&mut reader, b"\x7e\x88\x38\xf8\x7e", 40, size, &mut content),
             Err(BadFrame::Abort(32))
         );
+        assert!(rt; reads_the_frame(&mut reader, size, &mut content));
         assert_eq!(rt;
             read_in_pieces(
                 &mut reader,
@@ -68,6 +67,7 @@ fn frames_in_pieces(rt: HostRuntime) {
             ),
             Err(BadFrame::Check(0xf087, 0x7ccf))
         );
+        assert!(rt; reads_the_frame(&mut reader, size, &mut content));
         assert_eq!(rt;
             read_in_pieces(
                 &mut reader,
@@ -78,7 +78,7 @@ fn frames_in_pieces(rt: HostRuntime) {
             ),
             Err(BadFrame::NoClose(45))
         );
-        assert_eq!(rt; content.as_slice().len(), 0);
+        assert!(rt; reads_the_frame(&mut reader, size, &mut content));
     }
 }
 
@@ -99,4 +99,25 @@ fn zeros_without_end(rt: HostRuntime) {
     }
     let mut content = Content::new();
     assert_eq!(rt; reader.finish(&mut content), Err(BadFrame::NoClose(300008)));
+    assert!(rt; reads_the_frame(&mut reader, 64, &mut content));
+}
+
+// A frame of one byte too many.
+#[test]
+fn zeros_up_to_a_flag(rt: HostRuntime) {
+    let mut reader = Deframer::new();
+    let mut piece = BitBuf::new();
+    assert!(rt; bits_of(b"\x7e", &mut piece).is_ok());
+    reader.feed(&piece);
+    let mut zeros = BitBuf::new();
+    for _ in 0..16408u32 {
+        assert!(rt; zeros.push(false).is_ok());
+    }
+    assert!(rt; zeros.len() == 16408 && reader.taken() < 1000);
+    reader.feed(&zeros);
+    assert!(rt; reader.taken() < 1000000);
+    reader.feed(&piece);
+    let mut content = Content::new();
+    assert_eq!(rt; reader.finish(&mut content), Err(BadFrame::Long(2051)));
+    assert!(rt; reads_the_frame(&mut reader, 7, &mut content));
 }

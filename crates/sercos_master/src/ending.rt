@@ -1,6 +1,7 @@
 // The end of a cycle: a fall, or the phase of the next one; and the begin of an epoch.
 ghost use Rattle.std.specs.Prelude.{◌≡◌, ◌+◌, ◌<◌, ◌≤◌, ◌==◌, ◌&&◌, false, ◌∷◌, length, Option, Some, None, IfSome, if◌then◌else◌};
 ghost use Rattle.std.specs.List.{position};
+ghost use Rattle.std.specs.Option.{option_or};
 ghost use Rattle.sercos_master.specs.Reports.{with_reports, with_broken, outcomes_told, stop_told, plan_told};
 ghost use Rattle.sercos_seat.specs.Ring.{Known, member};
 ghost use Rattle.sercos_master.specs.Annals.{Past, is_done, has_lost_mst, fall_of, first_place, is_at_limit, goes_on, new_epoch, still_waiting, after_end, next_phase};
@@ -31,9 +32,9 @@ impl Ring {
         }
     }
 
-    // The cycle ends, and the next one is of this phase.
-    fn go_on(&mut self, next: u8, reports: &mut ArrayVec<Reported, 128>) -> Option<Stop>
-        ensures stop { result ≡ self.old.stop }
+    // The cycle ends, and the next one is of this phase. A stop of the cycle is told.
+    fn go_on(&mut self, next: u8, reports: &mut ArrayVec<Reported, 128>, told: &mut Option<Stop>)
+        ensures stop { told.new ≡ option_or self.old.stop told.old }
         ensures told { (s : Known) (p : Past) → CoreStandsFor self.old s p → length reports.old.items + length s.drives ≤ 128 →
             reports.new.items ≡ with_reports p.now.report (length s.drives) reports.old.items }
         ensures stands { (s : Known) (p : Past) → CoreStandsFor self.old s p → CoreStandsFor self.new s (goes_on next p) }
@@ -49,9 +50,7 @@ impl Ring {
         self.plans = false;
         self.count = self.count.wrapping_add(1);
         self.phase = next;
-        let stop = self.stop.take();
-        self.stop = None;
-        stop
+        tell_stop(&mut self.stop, told);
     }
 
     // An epoch begins.
@@ -75,25 +74,28 @@ impl Ring {
         self.stop = None;
     }
 
-    // The plan of the cycle.
-    pub fn plan_told(&self) -> Option<Plan>
-        ensures { (s : Known) (p : Past) → CoreStandsFor self.now s p → result ≡ plan_told p }
+    // Tells the plan of the cycle, if there is one.
+    pub fn tell_plan(&self, told: &mut Option<Plan>)
+        ensures { (s : Known) (p : Past) → CoreStandsFor self.now s p → told.new ≡ option_or (plan_told p) told.old }
     {
-        if self.plans {
-            copy_of(&self.plan)
-        } else {
-            None
+        if !self.plans {
+            return;
+        }
+        if let Some(plan) = &self.plan {
+            *told = Some(plan_copy(plan));
         }
     }
 
-    // Ends the cycle: the ring falls, or goes on, in the next phase if all that belongs to this one is done.
+    // Ends the cycle: the ring falls, or goes on, in the next phase if all that belongs to this one is done. A stop of the cycle is
+    // told.
     pub fn end_cycle(
         &mut self,
         reports: &mut ArrayVec<Reported, 128>,
-    ) -> (Option<Fall>, Option<Stop>)
+        told: &mut Option<Stop>,
+    ) -> Option<Fall>
         ensures stands { (s : Known) (p : Past) → CoreStandsFor self.old s p → CoreStandsFor self.new s (after_end s p) }
-        ensures fall { (s : Known) (p : Past) → CoreStandsFor self.old s p → result.0 ≡ fall_of s p }
-        ensures stop { (s : Known) (p : Past) → CoreStandsFor self.old s p → result.1 ≡ stop_told p }
+        ensures fall { (s : Known) (p : Past) → CoreStandsFor self.old s p → result ≡ fall_of s p }
+        ensures stop { (s : Known) (p : Past) → CoreStandsFor self.old s p → told.new ≡ option_or (stop_told p) told.old }
         ensures told { (s : Known) (p : Past) → CoreStandsFor self.old s p → length reports.old.items + length s.drives ≤ 128 →
             length (with_reports p.now.report (length s.drives) reports.old.items) + length s.drives ≤ 128 →
             reports.new.items ≡ outcomes_told s p reports.old.items }
@@ -101,12 +103,12 @@ impl Ring {
     {
         let fall = self.fall();
         let next = self.next_phase();
-        let stop = self.go_on(next, reports);
+        self.go_on(next, reports, told);
         if fall.is_some() {
             self.begin_epoch(reports);
-            return (fall, stop);
+            return fall;
         }
-        (fall, stop)
+        fall
     }
 
     // The phase of the next cycle, if there is no fall.
@@ -206,11 +208,12 @@ fn plan_copy(plan: &Plan) -> Plan
     }
 }
 
-fn copy_of(plan: &Option<Plan>) -> Option<Plan>
-    ensures { result ≡ plan.now }
+// Tells a stop, if there is one. It is moved only then, since it is large.
+fn tell_stop(stop: &mut Option<Stop>, told: &mut Option<Stop>)
+    ensures told { told.new ≡ option_or stop.old told.old }
+    ensures none { stop.new ≡ None }
 {
-    match plan {
-        Some(found) => Some(plan_copy(found)),
-        None => None,
+    if stop.is_some() {
+        *told = stop.take();
     }
 }

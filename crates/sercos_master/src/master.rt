@@ -17,8 +17,7 @@ use sercos_bits::Content;
 use sercos_block::RingSetup;
 use sercos_step::Job;
 use sercos_telegram::{Mst, write_mst};
-use sercos_timing::Plan;
-use sercos_trace::{Events, Fall, Stop};
+use sercos_trace::{Events, Fall};
 use std::alloc::{AllocError, Global};
 use std::marker::{Model, PhantomData};
 
@@ -193,22 +192,6 @@ fn fallen(ring: Box<Ring>, cause: Fall, events: &mut Events) -> Box<Ring>
     new
 }
 
-fn tell_plan(plan: Option<Plan>, told: &mut Option<Plan>)
-    ensures { told.new ≡ option_or plan told.old }
-{
-    if plan.is_some() {
-        *told = plan;
-    }
-}
-
-fn tell_stop(stop: Option<Stop>, told: &mut Option<Stop>)
-    ensures { told.new ≡ option_or stop told.old }
-{
-    if stop.is_some() {
-        *told = stop;
-    }
-}
-
 fn tell_fall(fall: Option<Fall>, told: &mut Option<Fall>)
     ensures { told.new ≡ option_or fall told.old }
 {
@@ -360,9 +343,8 @@ impl AnyMaster {
             events.new ≡ events_told s (past s (tasks_for s jobs) h) events.old }
     {
         let mut ring = self.into_ring();
-        tell_plan(ring.plan_told(), &mut events.plan);
-        let (fall, stop) = ring.end_cycle(&mut events.outcomes);
-        tell_stop(stop, &mut events.stop);
+        ring.tell_plan(&mut events.plan);
+        let fall = ring.end_cycle(&mut events.outcomes, &mut events.stop);
         tell_fall(fall, &mut events.fall);
         AnyMaster::of_ring(ring)
     }

@@ -52,7 +52,7 @@ abbrev pub newest_cycle : List Cycle → ℕ
 newest_cycle [] = 0
 newest_cycle (t ∷ j) = t.cycle
 
--- an MST doesn't go back behind the newest cycle
+-- the cycle of an MST is not below the newest one
 abbrev pub goes_on : Kind → ℕ → List Cycle → Type 0
 goes_on telegram.Mst cycle j = newest_cycle j ≤ cycle
 goes_on _ cycle j = Unit {0}

@@ -323,4 +323,13 @@ impl<L: BitLink> Ring<L> {
     {
         &self.drives[index]
     }
+
+    /// Returns the link, which is what it was at the opening, for another ring.
+    pub fn into_link(self) -> L
+        ensures { (r : RingView) (jobs : List Job) (carry : Carry) (restarts : Restarts) (j : List CycleView) → RingStandsFor L.carry L.restart self r jobs carry restarts j →
+            (L.carry result ≡ carry) × (L.restart result ≡ restarts) }
+    {
+        let Ring { link, .. } = self;
+        link
+    }
 }

@@ -169,14 +169,18 @@ pub fn low_at(words: &[Words], place: usize) -> u16
     }
 }
 
-// Appends a command value of `len` bytes, at most four: the low bytes of the count of cycles.
+// Appends a command value of `len` bytes, at most four: the low bytes of the count of cycles. Lengths that are known here make
+// it one store.
 fn push_count(count: u32, len: u8, values: &mut ArrayVec<u8, 64>)
     requires { length values.old.items + 4 ≤ 64 }
     ensures { values.new.items ≡ values.old.items ++ value_said count len }
 {
     let bytes = count.to_le_bytes();
-    let len = usize::from(len).min(bytes.len());
-    let _fits = values.try_extend_from_slice(&bytes[..len]);
+    let _fits = match len {
+        2 => values.try_extend_from_slice(&bytes[..2]),
+        4 => values.try_extend_from_slice(&bytes),
+        _ => values.try_extend_from_slice(&bytes[..usize::from(len).min(4)]),
+    };
 }
 
 /// Puts the command values of a record, by the lengths of its values, in place, since they would be copied if they were returned.

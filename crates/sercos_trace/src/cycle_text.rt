@@ -3,7 +3,7 @@ ghost use Rattle.std.specs.Prelude.{◌≡◌, ◌≤◌, ◌<◌, ◌++◌, [],
 ghost use mathlib.Core.Bool.{beq};
 ghost use Rattle.std.specs.List.{flat_map};
 ghost use Rattle.sercos_trace.specs.Texts.{sent_kind, sent_text, move_text, moves_text};
-ghost use Rattle.sercos_trace.specs.Written.{seen, Writes};
+ghost use Rattle.sercos_trace.specs.MarkedWritten.{seen, Writes};
 
 use crate::kind::LineKind;
 use crate::line::write_line;
@@ -27,10 +27,11 @@ fn sent_kind(kind: Kind) -> LineKind
 fn write_sent<K: Sink>(
     cycle: u32,
     sent: &Sent,
+    mark: &[u8],
     line: &mut Line,
     sink: &mut K,
 ) -> Result<(), WriteFailed>
-    ensures { Writes (seen K.held K.faults K.room sink.old) (seen K.held K.faults K.room sink.new) result (sent_text cycle sent.now) }
+    ensures { Writes (seen mark.now K.held K.faults K.room sink.old) (seen mark.now K.held K.faults K.room sink.new) result (sent_text cycle sent.now) }
 {
     let values = [
         Given::Number(cycle),
@@ -38,20 +39,21 @@ fn write_sent<K: Sink>(
         Given::Number(sent.bits),
         Given::Bytes(sent.content.as_slice()),
     ];
-    write_line(sent_kind(sent.kind), &values, line, sink)
+    write_line(sent_kind(sent.kind), &values, mark, line, sink)
 }
 
 // Writes the lines of telegrams.
 pub(crate) fn write_all_sent<K: Sink>(
     cycle: u32,
     sent: &[Sent],
+    mark: &[u8],
     line: &mut Line,
     sink: &mut K,
 ) -> Result<(), WriteFailed>
-    ensures { Writes (seen K.held K.faults K.room sink.old) (seen K.held K.faults K.room sink.new) result (flat_map (sent_text cycle) sent.now) }
+    ensures { Writes (seen mark.now K.held K.faults K.room sink.old) (seen mark.now K.held K.faults K.room sink.new) result (flat_map (sent_text cycle) sent.now) }
 {
     for telegram in sent {
-        write_sent(cycle, telegram, line, sink)?;
+        write_sent(cycle, telegram, mark, line, sink)?;
     }
     Ok(())
 }
@@ -62,10 +64,11 @@ fn write_move<K: Sink>(
     cycle: u32,
     late: bool,
     moved: &Move,
+    mark: &[u8],
     line: &mut Line,
     sink: &mut K,
 ) -> Result<(), WriteFailed>
-    ensures { Writes (seen K.held K.faults K.room sink.old) (seen K.held K.faults K.room sink.new) result (if beq moved.now.late late then move_text cycle moved.now else []) }
+    ensures { Writes (seen mark.now K.held K.faults K.room sink.old) (seen mark.now K.held K.faults K.room sink.new) result (if beq moved.now.late late then move_text cycle moved.now else []) }
 {
     if moved.late != late {
         return Ok(());
@@ -75,7 +78,7 @@ fn write_move<K: Sink>(
         Given::Number(u32::from(moved.drive)),
         Given::Number(u32::from(moved.phase)),
     ];
-    write_line(LineKind::Phase, &values, line, sink)
+    write_line(LineKind::Phase, &values, mark, line, sink)
 }
 
 // Writes the lines of the moves at the MST, or of the late ones.
@@ -83,13 +86,14 @@ pub(crate) fn write_moves<K: Sink>(
     cycle: u32,
     late: bool,
     moves: &[Move],
+    mark: &[u8],
     line: &mut Line,
     sink: &mut K,
 ) -> Result<(), WriteFailed>
-    ensures { Writes (seen K.held K.faults K.room sink.old) (seen K.held K.faults K.room sink.new) result (moves_text cycle late moves.now) }
+    ensures { Writes (seen mark.now K.held K.faults K.room sink.old) (seen mark.now K.held K.faults K.room sink.new) result (moves_text cycle late moves.now) }
 {
     for moved in moves {
-        write_move(cycle, late, moved, line, sink)?;
+        write_move(cycle, late, moved, mark, line, sink)?;
     }
     Ok(())
 }

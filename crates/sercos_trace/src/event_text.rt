@@ -3,7 +3,7 @@ ghost use Rattle.std.specs.Prelude.{◌≡◌, ◌≤◌, ◌<◌, ◌/◌, ◌%
 ghost use Rattle.std.specs.List.{flat_map};
 ghost use Rattle.sercos_timing.specs.Order.{wish};
 ghost use Rattle.sercos_trace.specs.Texts.{big_endian, ended_text, outcome_text, plan_line, slot_text, slots_text, plan_text, link_text, bound_text, chain_text, attribute_bytes, stopped_text, stop_text, fell_text, fall_text, events_text};
-ghost use Rattle.sercos_trace.specs.Written.{seen, Writes};
+ghost use Rattle.sercos_trace.specs.MarkedWritten.{seen, Writes};
 
 use crate::events::{Events, Fall, Reported, Stop};
 use crate::kind::LineKind;
@@ -38,10 +38,11 @@ fn write_ended<K: Sink>(
     cycle: u32,
     number: u16,
     outcome: &Outcome,
+    mark: &[u8],
     line: &mut Line,
     sink: &mut K,
 ) -> Result<(), WriteFailed>
-    ensures { Writes (seen K.held K.faults K.room sink.old) (seen K.held K.faults K.room sink.new) result (ended_text cycle number outcome.now) }
+    ensures { Writes (seen mark.now K.held K.faults K.room sink.old) (seen mark.now K.held K.faults K.room sink.new) result (ended_text cycle number outcome.now) }
 {
     let number = u32::from(number);
     match outcome {
@@ -51,7 +52,7 @@ fn write_ended<K: Sink>(
                 Given::Number(number),
                 Given::Bytes(bytes.as_slice()),
             ];
-            write_line(LineKind::Complete, &values, line, sink)
+            write_line(LineKind::Complete, &values, mark, line, sink)
         }
         Outcome::Refused(code) => {
             let code = big_endian(code.raw);
@@ -60,11 +61,11 @@ fn write_ended<K: Sink>(
                 Given::Number(number),
                 Given::Bytes(&code),
             ];
-            write_line(LineKind::Refused, &values, line, sink)
+            write_line(LineKind::Refused, &values, mark, line, sink)
         }
         Outcome::Broken => {
             let values = [Given::Number(cycle), Given::Number(number)];
-            write_line(LineKind::Broken, &values, line, sink)
+            write_line(LineKind::Broken, &values, mark, line, sink)
         }
     }
 }
@@ -73,13 +74,14 @@ fn write_ended<K: Sink>(
 fn write_outcomes<K: Sink>(
     cycle: u32,
     outcomes: &[Reported],
+    mark: &[u8],
     line: &mut Line,
     sink: &mut K,
 ) -> Result<(), WriteFailed>
-    ensures { Writes (seen K.held K.faults K.room sink.old) (seen K.held K.faults K.room sink.new) result (flat_map (outcome_text cycle) outcomes.now) }
+    ensures { Writes (seen mark.now K.held K.faults K.room sink.old) (seen mark.now K.held K.faults K.room sink.new) result (flat_map (outcome_text cycle) outcomes.now) }
 {
     for outcome in outcomes {
-        write_ended(cycle, outcome.0, &outcome.1, line, sink)?;
+        write_ended(cycle, outcome.0, &outcome.1, mark, line, sink)?;
     }
     Ok(())
 }
@@ -88,10 +90,11 @@ fn write_outcomes<K: Sink>(
 fn write_link<K: Sink>(
     cycle: u32,
     link: &Link,
+    mark: &[u8],
     line: &mut Line,
     sink: &mut K,
 ) -> Result<(), WriteFailed>
-    ensures { Writes (seen K.held K.faults K.room sink.old) (seen K.held K.faults K.room sink.new) result (link_text cycle link.now) }
+    ensures { Writes (seen mark.now K.held K.faults K.room sink.old) (seen mark.now K.held K.faults K.room sink.new) result (link_text cycle link.now) }
 {
     let values = [
         Given::Number(cycle),
@@ -99,20 +102,21 @@ fn write_link<K: Sink>(
         Given::Number(u32::from(link.drive)),
         Given::Number(link.at),
     ];
-    write_line(LineKind::RuleAt, &values, line, sink)
+    write_line(LineKind::RuleAt, &values, mark, line, sink)
 }
 
 // Writes links of a chain.
 fn write_links<K: Sink>(
     cycle: u32,
     links: &[Link],
+    mark: &[u8],
     line: &mut Line,
     sink: &mut K,
 ) -> Result<(), WriteFailed>
-    ensures { Writes (seen K.held K.faults K.room sink.old) (seen K.held K.faults K.room sink.new) result (flat_map (link_text cycle) links.now) }
+    ensures { Writes (seen mark.now K.held K.faults K.room sink.old) (seen mark.now K.held K.faults K.room sink.new) result (flat_map (link_text cycle) links.now) }
 {
     for link in links {
-        write_link(cycle, link, line, sink)?;
+        write_link(cycle, link, mark, line, sink)?;
     }
     Ok(())
 }
@@ -121,22 +125,24 @@ fn write_links<K: Sink>(
 fn write_chain_links<K: Sink>(
     cycle: u32,
     chain: &Chain,
+    mark: &[u8],
     line: &mut Line,
     sink: &mut K,
 ) -> Result<(), WriteFailed>
-    ensures { Writes (seen K.held K.faults K.room sink.old) (seen K.held K.faults K.room sink.new) result (flat_map (link_text cycle) chain.now.links) }
+    ensures { Writes (seen mark.now K.held K.faults K.room sink.old) (seen mark.now K.held K.faults K.room sink.new) result (flat_map (link_text cycle) chain.now.links) }
 {
-    write_links(cycle, chain.links.as_slice(), line, sink)
+    write_links(cycle, chain.links.as_slice(), mark, line, sink)
 }
 
 // Writes the bound that a chain breaks.
 fn write_bound<K: Sink>(
     cycle: u32,
     chain: &Chain,
+    mark: &[u8],
     line: &mut Line,
     sink: &mut K,
 ) -> Result<(), WriteFailed>
-    ensures { Writes (seen K.held K.faults K.room sink.old) (seen K.held K.faults K.room sink.new) result (bound_text cycle chain.now) }
+    ensures { Writes (seen mark.now K.held K.faults K.room sink.old) (seen mark.now K.held K.faults K.room sink.new) result (bound_text cycle chain.now) }
 {
     let values = [
         Given::Number(cycle),
@@ -145,31 +151,33 @@ fn write_bound<K: Sink>(
         Given::Number(chain.sum),
         Given::Number(chain.bound),
     ];
-    write_line(LineKind::RuleSum, &values, line, sink)
+    write_line(LineKind::RuleSum, &values, mark, line, sink)
 }
 
 // Writes the stop that no plan fits, with its chain.
 fn write_chain<K: Sink>(
     cycle: u32,
     chain: &Chain,
+    mark: &[u8],
     line: &mut Line,
     sink: &mut K,
 ) -> Result<(), WriteFailed>
-    ensures { Writes (seen K.held K.faults K.room sink.old) (seen K.held K.faults K.room sink.new) result (chain_text cycle chain.now) }
+    ensures { Writes (seen mark.now K.held K.faults K.room sink.old) (seen mark.now K.held K.faults K.room sink.new) result (chain_text cycle chain.now) }
 {
-    write_line(LineKind::NoFit, &[Given::Number(cycle)], line, sink)?;
-    write_chain_links(cycle, chain, line, sink)?;
-    write_bound(cycle, chain, line, sink)
+    write_line(LineKind::NoFit, &[Given::Number(cycle)], mark, line, sink)?;
+    write_chain_links(cycle, chain, mark, line, sink)?;
+    write_bound(cycle, chain, mark, line, sink)
 }
 
 // Writes the plan's times.
 fn write_plan_line<K: Sink>(
     cycle: u32,
     plan: &Plan,
+    mark: &[u8],
     line: &mut Line,
     sink: &mut K,
 ) -> Result<(), WriteFailed>
-    ensures { Writes (seen K.held K.faults K.room sink.old) (seen K.held K.faults K.room sink.new) result (plan_line cycle plan.now) }
+    ensures { Writes (seen mark.now K.held K.faults K.room sink.old) (seen mark.now K.held K.faults K.room sink.new) result (plan_line cycle plan.now) }
 {
     let values = [
         Given::Number(cycle),
@@ -178,7 +186,7 @@ fn write_plan_line<K: Sink>(
         Given::Number(u32::from(plan.t4)),
         Given::Number(u32::from(plan.mdt_len)),
     ];
-    write_line(LineKind::Plan, &values, line, sink)
+    write_line(LineKind::Plan, &values, mark, line, sink)
 }
 
 // Writes the time slot of the drive at a place of the ring.
@@ -187,13 +195,14 @@ fn write_slot<K: Sink>(
     wishes: &Wishes,
     plan: &Plan,
     place: usize,
+    mark: &[u8],
     line: &mut Line,
     sink: &mut K,
 ) -> Result<(), WriteFailed>
     requires drive { place < length wishes.now.drives }
     requires start { place < length plan.now.t1 }
     requires position { place < length plan.now.position }
-    ensures { Writes (seen K.held K.faults K.room sink.old) (seen K.held K.faults K.room sink.new) result (slot_text cycle wishes.now plan.now place) }
+    ensures { Writes (seen mark.now K.held K.faults K.room sink.old) (seen mark.now K.held K.faults K.room sink.new) result (slot_text cycle wishes.now plan.now place) }
 {
     let values = [
         Given::Number(cycle),
@@ -201,7 +210,7 @@ fn write_slot<K: Sink>(
         Given::Number(u32::from(plan.t1()[place])),
         Given::Number(u32::from(plan.position()[place])),
     ];
-    write_line(LineKind::Slot, &values, line, sink)
+    write_line(LineKind::Slot, &values, mark, line, sink)
 }
 
 // Writes the time slots of all drives.
@@ -209,15 +218,16 @@ fn write_slots<K: Sink>(
     cycle: u32,
     wishes: &Wishes,
     plan: &Plan,
+    mark: &[u8],
     line: &mut Line,
     sink: &mut K,
 ) -> Result<(), WriteFailed>
     requires starts { length plan.now.t1 ≡ length wishes.now.drives }
     requires positions { length plan.now.position ≡ length wishes.now.drives }
-    ensures { Writes (seen K.held K.faults K.room sink.old) (seen K.held K.faults K.room sink.new) result (slots_text cycle wishes.now plan.now (length wishes.now.drives)) }
+    ensures { Writes (seen mark.now K.held K.faults K.room sink.old) (seen mark.now K.held K.faults K.room sink.new) result (slots_text cycle wishes.now plan.now (length wishes.now.drives)) }
 {
     for place in 0..wishes.drives().len() {
-        write_slot(cycle, wishes, plan, place, line, sink)?;
+        write_slot(cycle, wishes, plan, place, mark, line, sink)?;
     }
     Ok(())
 }
@@ -227,15 +237,16 @@ fn write_whole_plan<K: Sink>(
     cycle: u32,
     wishes: &Wishes,
     plan: &Plan,
+    mark: &[u8],
     line: &mut Line,
     sink: &mut K,
 ) -> Result<(), WriteFailed>
     requires starts { length plan.now.t1 ≡ length wishes.now.drives }
     requires positions { length plan.now.position ≡ length wishes.now.drives }
-    ensures { Writes (seen K.held K.faults K.room sink.old) (seen K.held K.faults K.room sink.new) result (plan_line cycle plan.now ++ slots_text cycle wishes.now plan.now (length wishes.now.drives)) }
+    ensures { Writes (seen mark.now K.held K.faults K.room sink.old) (seen mark.now K.held K.faults K.room sink.new) result (plan_line cycle plan.now ++ slots_text cycle wishes.now plan.now (length wishes.now.drives)) }
 {
-    write_plan_line(cycle, plan, line, sink)?;
-    write_slots(cycle, wishes, plan, line, sink)
+    write_plan_line(cycle, plan, mark, line, sink)?;
+    write_slots(cycle, wishes, plan, mark, line, sink)
 }
 
 // Writes a plan, if there is one.
@@ -244,15 +255,16 @@ fn write_plan<K: Sink>(
     cycle: u32,
     wishes: &Wishes,
     plan: &Option<Plan>,
+    mark: &[u8],
     line: &mut Line,
     sink: &mut K,
 ) -> Result<(), WriteFailed>
     requires starts { IfSome plan.now (λ p. length p.t1 ≡ length wishes.now.drives) }
     requires positions { IfSome plan.now (λ p. length p.position ≡ length wishes.now.drives) }
-    ensures { Writes (seen K.held K.faults K.room sink.old) (seen K.held K.faults K.room sink.new) result (plan_text cycle wishes.now plan.now) }
+    ensures { Writes (seen mark.now K.held K.faults K.room sink.old) (seen mark.now K.held K.faults K.room sink.new) result (plan_text cycle wishes.now plan.now) }
 {
     match plan {
-        Some(plan) => write_whole_plan(cycle, wishes, plan, line, sink),
+        Some(plan) => write_whole_plan(cycle, wishes, plan, mark, line, sink),
         None => Ok(()),
     }
 }
@@ -262,13 +274,14 @@ fn write_plan<K: Sink>(
 fn write_stopped<K: Sink>(
     cycle: u32,
     stop: &Stop,
+    mark: &[u8],
     line: &mut Line,
     sink: &mut K,
 ) -> Result<(), WriteFailed>
-    ensures { Writes (seen K.held K.faults K.room sink.old) (seen K.held K.faults K.room sink.new) result (stopped_text cycle stop.now) }
+    ensures { Writes (seen mark.now K.held K.faults K.room sink.old) (seen mark.now K.held K.faults K.room sink.new) result (stopped_text cycle stop.now) }
 {
     match stop {
-        Stop::NoFit(chain) => write_chain(cycle, chain, line, sink),
+        Stop::NoFit(chain) => write_chain(cycle, chain, mark, line, sink),
         Stop::Refused { drive, idn, code } => {
             let code = big_endian(code.raw);
             let values = [
@@ -277,7 +290,7 @@ fn write_stopped<K: Sink>(
                 Given::Ident(*idn),
                 Given::Bytes(&code),
             ];
-            write_line(LineKind::StopRefused, &values, line, sink)
+            write_line(LineKind::StopRefused, &values, mark, line, sink)
         }
         Stop::BadConfig {
             drive,
@@ -291,15 +304,29 @@ fn write_stopped<K: Sink>(
                 Given::Ident(*idn),
                 Given::Bytes(&attribute),
             ];
-            write_line(LineKind::StopConfig, &values, line, sink)
+            write_line(LineKind::StopConfig, &values, mark, line, sink)
         }
         Stop::Check127 { drive, list } => {
             let values = [Given::Number(cycle), Given::Number(u32::from(*drive))];
-            write_listed(LineKind::Check127, &values, list.as_slice(), line, sink)
+            write_listed(
+                LineKind::Check127,
+                &values,
+                list.as_slice(),
+                mark,
+                line,
+                sink,
+            )
         }
         Stop::Check128 { drive, list } => {
             let values = [Given::Number(cycle), Given::Number(u32::from(*drive))];
-            write_listed(LineKind::Check128, &values, list.as_slice(), line, sink)
+            write_listed(
+                LineKind::Check128,
+                &values,
+                list.as_slice(),
+                mark,
+                line,
+                sink,
+            )
         }
     }
 }
@@ -309,13 +336,14 @@ fn write_stopped<K: Sink>(
 fn write_stop<K: Sink>(
     cycle: u32,
     stop: &Option<Stop>,
+    mark: &[u8],
     line: &mut Line,
     sink: &mut K,
 ) -> Result<(), WriteFailed>
-    ensures { Writes (seen K.held K.faults K.room sink.old) (seen K.held K.faults K.room sink.new) result (stop_text cycle stop.now) }
+    ensures { Writes (seen mark.now K.held K.faults K.room sink.old) (seen mark.now K.held K.faults K.room sink.new) result (stop_text cycle stop.now) }
 {
     match stop {
-        Some(stop) => write_stopped(cycle, stop, line, sink),
+        Some(stop) => write_stopped(cycle, stop, mark, line, sink),
         None => Ok(()),
     }
 }
@@ -324,22 +352,29 @@ fn write_stop<K: Sink>(
 fn write_fell<K: Sink>(
     cycle: u32,
     fall: Fall,
+    mark: &[u8],
     line: &mut Line,
     sink: &mut K,
 ) -> Result<(), WriteFailed>
-    ensures { Writes (seen K.held K.faults K.room sink.old) (seen K.held K.faults K.room sink.new) result (fell_text cycle fall) }
+    ensures { Writes (seen mark.now K.held K.faults K.room sink.old) (seen mark.now K.held K.faults K.room sink.new) result (fell_text cycle fall) }
 {
     match fall {
-        Fall::MstLost => write_line(LineKind::FallMst, &[Given::Number(cycle)], line, sink),
+        Fall::MstLost => write_line(LineKind::FallMst, &[Given::Number(cycle)], mark, line, sink),
         Fall::AtLost(drive) => {
             let values = [Given::Number(cycle), Given::Number(u32::from(drive))];
-            write_line(LineKind::FallAt, &values, line, sink)
+            write_line(LineKind::FallAt, &values, mark, line, sink)
         }
         Fall::StepLimit(drive) => {
             let values = [Given::Number(cycle), Given::Number(u32::from(drive))];
-            write_line(LineKind::FallStep, &values, line, sink)
+            write_line(LineKind::FallStep, &values, mark, line, sink)
         }
-        Fall::Restart => write_line(LineKind::FallRestart, &[Given::Number(cycle)], line, sink),
+        Fall::Restart => write_line(
+            LineKind::FallRestart,
+            &[Given::Number(cycle)],
+            mark,
+            line,
+            sink,
+        ),
     }
 }
 
@@ -348,13 +383,14 @@ fn write_fell<K: Sink>(
 fn write_fall<K: Sink>(
     cycle: u32,
     fall: Option<Fall>,
+    mark: &[u8],
     line: &mut Line,
     sink: &mut K,
 ) -> Result<(), WriteFailed>
-    ensures { Writes (seen K.held K.faults K.room sink.old) (seen K.held K.faults K.room sink.new) result (fall_text cycle fall) }
+    ensures { Writes (seen mark.now K.held K.faults K.room sink.old) (seen mark.now K.held K.faults K.room sink.new) result (fall_text cycle fall) }
 {
     match fall {
-        Some(fall) => write_fell(cycle, fall, line, sink),
+        Some(fall) => write_fell(cycle, fall, mark, line, sink),
         None => Ok(()),
     }
 }
@@ -363,12 +399,13 @@ fn write_fall<K: Sink>(
 fn write_reported<K: Sink>(
     cycle: u32,
     events: &Events,
+    mark: &[u8],
     line: &mut Line,
     sink: &mut K,
 ) -> Result<(), WriteFailed>
-    ensures { Writes (seen K.held K.faults K.room sink.old) (seen K.held K.faults K.room sink.new) result (flat_map (outcome_text cycle) events.now.outcomes) }
+    ensures { Writes (seen mark.now K.held K.faults K.room sink.old) (seen mark.now K.held K.faults K.room sink.new) result (flat_map (outcome_text cycle) events.now.outcomes) }
 {
-    write_outcomes(cycle, events.outcomes.as_slice(), line, sink)
+    write_outcomes(cycle, events.outcomes.as_slice(), mark, line, sink)
 }
 
 // Writes the plan among what is reported.
@@ -376,38 +413,41 @@ fn write_planned<K: Sink>(
     cycle: u32,
     wishes: &Wishes,
     events: &Events,
+    mark: &[u8],
     line: &mut Line,
     sink: &mut K,
 ) -> Result<(), WriteFailed>
     requires starts { IfSome events.now.plan (λ p. length p.t1 ≡ length wishes.now.drives) }
     requires positions { IfSome events.now.plan (λ p. length p.position ≡ length wishes.now.drives) }
-    ensures { Writes (seen K.held K.faults K.room sink.old) (seen K.held K.faults K.room sink.new) result (plan_text cycle wishes.now events.now.plan) }
+    ensures { Writes (seen mark.now K.held K.faults K.room sink.old) (seen mark.now K.held K.faults K.room sink.new) result (plan_text cycle wishes.now events.now.plan) }
 {
-    write_plan(cycle, wishes, &events.plan, line, sink)
+    write_plan(cycle, wishes, &events.plan, mark, line, sink)
 }
 
 // Writes the stop among what is reported.
 fn write_stop_of<K: Sink>(
     cycle: u32,
     events: &Events,
+    mark: &[u8],
     line: &mut Line,
     sink: &mut K,
 ) -> Result<(), WriteFailed>
-    ensures { Writes (seen K.held K.faults K.room sink.old) (seen K.held K.faults K.room sink.new) result (stop_text cycle events.now.stop) }
+    ensures { Writes (seen mark.now K.held K.faults K.room sink.old) (seen mark.now K.held K.faults K.room sink.new) result (stop_text cycle events.now.stop) }
 {
-    write_stop(cycle, &events.stop, line, sink)
+    write_stop(cycle, &events.stop, mark, line, sink)
 }
 
 // Writes the fall among what is reported.
 fn write_fall_of<K: Sink>(
     cycle: u32,
     events: &Events,
+    mark: &[u8],
     line: &mut Line,
     sink: &mut K,
 ) -> Result<(), WriteFailed>
-    ensures { Writes (seen K.held K.faults K.room sink.old) (seen K.held K.faults K.room sink.new) result (fall_text cycle events.now.fall) }
+    ensures { Writes (seen mark.now K.held K.faults K.room sink.old) (seen mark.now K.held K.faults K.room sink.new) result (fall_text cycle events.now.fall) }
 {
-    write_fall(cycle, events.fall, line, sink)
+    write_fall(cycle, events.fall, mark, line, sink)
 }
 
 // Writes what the master reports in a cycle.
@@ -415,15 +455,16 @@ pub(crate) fn write_events<K: Sink>(
     cycle: u32,
     wishes: &Wishes,
     events: &Events,
+    mark: &[u8],
     line: &mut Line,
     sink: &mut K,
 ) -> Result<(), WriteFailed>
     requires starts { IfSome events.now.plan (λ p. length p.t1 ≡ length wishes.now.drives) }
     requires positions { IfSome events.now.plan (λ p. length p.position ≡ length wishes.now.drives) }
-    ensures { Writes (seen K.held K.faults K.room sink.old) (seen K.held K.faults K.room sink.new) result (events_text wishes.now cycle events.now) }
+    ensures { Writes (seen mark.now K.held K.faults K.room sink.old) (seen mark.now K.held K.faults K.room sink.new) result (events_text wishes.now cycle events.now) }
 {
-    write_reported(cycle, events, line, sink)?;
-    write_planned(cycle, wishes, events, line, sink)?;
-    write_stop_of(cycle, events, line, sink)?;
-    write_fall_of(cycle, events, line, sink)
+    write_reported(cycle, events, mark, line, sink)?;
+    write_planned(cycle, wishes, events, mark, line, sink)?;
+    write_stop_of(cycle, events, mark, line, sink)?;
+    write_fall_of(cycle, events, mark, line, sink)
 }

@@ -86,6 +86,15 @@ impl Model for Events {
     ghost view = { λ e. record { outcomes = e.outcomes.items; plan = e.plan; stop = e.stop; fall = e.fall } };
 }
 
+// Removes what is there. What isn't there isn't written, since it is large.
+fn forget<T: Drop>(event: &mut Option<T>)
+    ensures { event.new ≡ None }
+{
+    if event.is_some() {
+        *event = None;
+    }
+}
+
 impl Events {
     /// No events.
     pub fn new() -> Events
@@ -104,8 +113,8 @@ impl Events {
         ensures { self.new ≡ record { outcomes = []; plan = None; stop = None; fall = None } }
     {
         self.outcomes.clear();
-        self.plan = None;
-        self.stop = None;
+        forget(&mut self.plan);
+        forget(&mut self.stop);
         self.fall = None;
     }
 }

@@ -6,6 +6,7 @@ mod event_text;
 mod events;
 mod kind;
 mod line;
+mod marked;
 mod reader;
 mod reading;
 mod record;
@@ -16,4 +17,6 @@ pub use kind::{LineKind, template_law};
 pub use reader::Reader;
 pub use reading::{BadLine, Line, read_line, reading_law};
 pub use record::{CycleRecord, Move, Sent, Totals, push_sent, put_sent};
-pub use writing::{write_cycle, write_cycle_by, write_end, write_header};
+pub use writing::{
+    write_cycle, write_end, write_header, write_marked_cycle, write_marked_end, write_marked_header,
+};

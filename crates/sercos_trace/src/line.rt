@@ -5,36 +5,37 @@ ghost use Rattle.sercos_text.specs.declared.tail.Tail.TheVariants.{Addresses, Id
 ghost use Rattle.sercos_trace.specs.declared.kind.LineKind.TheVariants as kind;
 ghost use Rattle.sercos_trace.specs.Kinds.{tail_for, line_of, line_with};
 ghost use Rattle.sercos_trace.specs.Texts.{raws};
-ghost use Rattle.sercos_trace.specs.Written.{seen, Writes};
+ghost use Rattle.sercos_trace.specs.MarkedWritten.{seen, Writes};
 
 use crate::kind::{LineKind, template_for};
+use crate::marked::write_marked;
 use sercos_idn::Idn;
-use sercos_io::{Sink, WriteFailed, write_all};
+use sercos_io::{Sink, WriteFailed};
 use sercos_text::{Given, Line, push_addresses, push_idents, push_line};
 
 // Ends a line with its line feed, and writes it.
-#[tactic(auto, using(crate::proofs::WriteLemmas::writes_all))]
-fn end_line<K: Sink>(line: &mut Line, sink: &mut K) -> Result<(), WriteFailed>
+fn end_line<K: Sink>(mark: &[u8], line: &mut Line, sink: &mut K) -> Result<(), WriteFailed>
     requires { length line.old + 1 ≤ 4352 }
-    ensures { Writes (seen K.held K.faults K.room sink.old) (seen K.held K.faults K.room sink.new) result (line.old ++ 10 ∷ []) }
+    ensures { Writes (seen mark.now K.held K.faults K.room sink.old) (seen mark.now K.held K.faults K.room sink.new) result (line.old ++ 10 ∷ []) }
 {
     line.push_within(b'\n');
-    write_all(sink, line.as_slice())
+    write_marked(mark, line.as_slice(), sink)
 }
 
 // Writes a line of a kind that has nothing after its template, with these values as its fields.
 pub(crate) fn write_line<K: Sink>(
     kind: LineKind,
     values: &[Given<'_>],
+    mark: &[u8],
     line: &mut Line,
     sink: &mut K,
 ) -> Result<(), WriteFailed>
     requires { sum_by most_bytes (map value_of values.now) ≤ 4200 }
-    ensures { Writes (seen K.held K.faults K.room sink.old) (seen K.held K.faults K.room sink.new) result (line_of kind (map value_of values.now)) }
+    ensures { Writes (seen mark.now K.held K.faults K.room sink.old) (seen mark.now K.held K.faults K.room sink.new) result (line_of kind (map value_of values.now)) }
 {
     line.clear();
     push_line(template_for(kind), values, line);
-    end_line(line, sink)
+    end_line(mark, line, sink)
 }
 
 // Writes a line with the list of a check after its template.
@@ -43,31 +44,33 @@ pub(crate) fn write_listed<K: Sink>(
     kind: LineKind,
     values: &[Given<'_>],
     idns: &[Idn],
+    mark: &[u8],
     line: &mut Line,
     sink: &mut K,
 ) -> Result<(), WriteFailed>
     requires kind { tail_for kind ≡ Idents }
     requires few { (sum_by most_bytes (map value_of values.now) ≤ 100) × (length idns.now ≤ 64) }
-    ensures { Writes (seen K.held K.faults K.room sink.old) (seen K.held K.faults K.room sink.new) result (line_with kind (map value_of values.now) (raws idns.now)) }
+    ensures { Writes (seen mark.now K.held K.faults K.room sink.old) (seen mark.now K.held K.faults K.room sink.new) result (line_with kind (map value_of values.now) (raws idns.now)) }
 {
     line.clear();
     push_line(template_for(kind), values, line);
     push_idents(idns, line);
-    end_line(line, sink)
+    end_line(mark, line, sink)
 }
 
 // Writes the line of the order.
 #[tactic(auto, unfolding(sercos_text::specs::Tails::tail_text, crate::specs::Kinds::tail_for))]
 pub(crate) fn write_order<K: Sink>(
     addresses: &[u8],
+    mark: &[u8],
     line: &mut Line,
     sink: &mut K,
 ) -> Result<(), WriteFailed>
     requires { length addresses.now ≤ 64 }
-    ensures { Writes (seen K.held K.faults K.room sink.old) (seen K.held K.faults K.room sink.new) result (line_with kind.Order [] addresses.now) }
+    ensures { Writes (seen mark.now K.held K.faults K.room sink.old) (seen mark.now K.held K.faults K.room sink.new) result (line_with kind.Order [] addresses.now) }
 {
     line.clear();
     push_line(template_for(LineKind::Order), &[], line);
     push_addresses(addresses, line);
-    end_line(line, sink)
+    end_line(mark, line, sink)
 }

@@ -6,7 +6,7 @@ ghost use Rattle.sercos_model.specs.Streams.{HasCause};
 ghost use Rattle.sercos_trace.specs.declared.kind.LineKind.TheVariants as kind;
 ghost use Rattle.sercos_trace.specs.Kinds.{line_of};
 ghost use Rattle.sercos_trace.specs.Texts.{drive_text, address_at, ring_text, order_text, header_text, sent_text, moves_text, events_text, cycle_text, end_text};
-ghost use Rattle.sercos_trace.specs.Written.{seen, Writes};
+ghost use Rattle.sercos_trace.specs.MarkedWritten.{seen, Writes};
 
 use crate::cycle_text::{write_all_sent, write_moves};
 use crate::event_text::write_events;
@@ -19,8 +19,13 @@ use sercos_text::{Given, Line};
 use sercos_timing::{Wish, Wishes};
 
 // Writes the line of the ring's numbers.
-fn write_ring<K: Sink>(wishes: &Wishes, line: &mut Line, sink: &mut K) -> Result<(), WriteFailed>
-    ensures { Writes (seen K.held K.faults K.room sink.old) (seen K.held K.faults K.room sink.new) result (ring_text wishes.now) }
+fn write_ring<K: Sink>(
+    wishes: &Wishes,
+    mark: &[u8],
+    line: &mut Line,
+    sink: &mut K,
+) -> Result<(), WriteFailed>
+    ensures { Writes (seen mark.now K.held K.faults K.room sink.old) (seen mark.now K.held K.faults K.room sink.new) result (ring_text wishes.now) }
 {
     let values = [
         Given::Number(u32::from(wishes.rate)),
@@ -29,12 +34,17 @@ fn write_ring<K: Sink>(wishes: &Wishes, line: &mut Line, sink: &mut K) -> Result
         Given::Number(u32::from(wishes.gap)),
         Given::Number(wishes.drives().len() as u32),
     ];
-    write_line(LineKind::Ring, &values, line, sink)
+    write_line(LineKind::Ring, &values, mark, line, sink)
 }
 
 // Writes the line of a drive.
-fn write_drive<K: Sink>(wish: &Wish, line: &mut Line, sink: &mut K) -> Result<(), WriteFailed>
-    ensures { Writes (seen K.held K.faults K.room sink.old) (seen K.held K.faults K.room sink.new) result (drive_text wish.now) }
+fn write_drive<K: Sink>(
+    wish: &Wish,
+    mark: &[u8],
+    line: &mut Line,
+    sink: &mut K,
+) -> Result<(), WriteFailed>
+    ensures { Writes (seen mark.now K.held K.faults K.room sink.old) (seen mark.now K.held K.faults K.room sink.new) result (drive_text wish.now) }
 {
     let values = [
         Given::Number(u32::from(wish.address)),
@@ -48,15 +58,20 @@ fn write_drive<K: Sink>(wish: &Wish, line: &mut Line, sink: &mut K) -> Result<()
         Given::Number(u32::from(wish.at_len)),
         Given::Number(u32::from(wish.record_len)),
     ];
-    write_line(LineKind::Drive, &values, line, sink)
+    write_line(LineKind::Drive, &values, mark, line, sink)
 }
 
 // Writes the lines of drives.
-fn write_drives<K: Sink>(drives: &[Wish], line: &mut Line, sink: &mut K) -> Result<(), WriteFailed>
-    ensures { Writes (seen K.held K.faults K.room sink.old) (seen K.held K.faults K.room sink.new) result (flat_map drive_text drives.now) }
+fn write_drives<K: Sink>(
+    drives: &[Wish],
+    mark: &[u8],
+    line: &mut Line,
+    sink: &mut K,
+) -> Result<(), WriteFailed>
+    ensures { Writes (seen mark.now K.held K.faults K.room sink.old) (seen mark.now K.held K.faults K.room sink.new) result (flat_map drive_text drives.now) }
 {
     for wish in drives {
-        write_drive(wish, line, sink)?;
+        write_drive(wish, mark, line, sink)?;
     }
     Ok(())
 }
@@ -76,107 +91,128 @@ fn addresses_of(wishes: &Wishes, places: &[u8]) -> ArrayVec<u8, 64>
 }
 
 // Writes the line of the order.
-fn write_ordered<K: Sink>(wishes: &Wishes, line: &mut Line, sink: &mut K) -> Result<(), WriteFailed>
+fn write_ordered<K: Sink>(
+    wishes: &Wishes,
+    mark: &[u8],
+    line: &mut Line,
+    sink: &mut K,
+) -> Result<(), WriteFailed>
     requires { All (λ place. place < length wishes.now.drives) wishes.now.order }
-    ensures { Writes (seen K.held K.faults K.room sink.old) (seen K.held K.faults K.room sink.new) result (order_text wishes.now) }
+    ensures { Writes (seen mark.now K.held K.faults K.room sink.old) (seen mark.now K.held K.faults K.room sink.new) result (order_text wishes.now) }
 {
     let addresses = addresses_of(wishes, wishes.order());
-    write_order(addresses.as_slice(), line, sink)
+    write_order(addresses.as_slice(), mark, line, sink)
 }
 
 // Writes the lines of all drives.
 fn write_all_drives<K: Sink>(
     wishes: &Wishes,
+    mark: &[u8],
     line: &mut Line,
     sink: &mut K,
 ) -> Result<(), WriteFailed>
-    ensures { Writes (seen K.held K.faults K.room sink.old) (seen K.held K.faults K.room sink.new) result (flat_map drive_text wishes.now.drives) }
+    ensures { Writes (seen mark.now K.held K.faults K.room sink.old) (seen mark.now K.held K.faults K.room sink.new) result (flat_map drive_text wishes.now.drives) }
 {
-    write_drives(wishes.drives(), line, sink)
+    write_drives(wishes.drives(), mark, line, sink)
 }
 
 // Writes the head.
-fn write_head<K: Sink>(wishes: &Wishes, line: &mut Line, sink: &mut K) -> Result<(), WriteFailed>
+fn write_head<K: Sink>(
+    wishes: &Wishes,
+    mark: &[u8],
+    line: &mut Line,
+    sink: &mut K,
+) -> Result<(), WriteFailed>
     requires { All (λ place. place < length wishes.now.drives) wishes.now.order }
-    ensures { Writes (seen K.held K.faults K.room sink.old) (seen K.held K.faults K.room sink.new) result (header_text wishes.now) }
+    ensures { Writes (seen mark.now K.held K.faults K.room sink.old) (seen mark.now K.held K.faults K.room sink.new) result (header_text wishes.now) }
 {
-    write_line(LineKind::Version, &[], line, sink)?;
-    write_ring(wishes, line, sink)?;
-    write_all_drives(wishes, line, sink)?;
-    write_ordered(wishes, line, sink)
+    write_line(LineKind::Version, &[], mark, line, sink)?;
+    write_ring(wishes, mark, line, sink)?;
+    write_all_drives(wishes, mark, line, sink)?;
+    write_ordered(wishes, mark, line, sink)
 }
 
 // Writes the first telegram of a cycle, the MST.
 fn write_first<K: Sink>(
     cycle: &CycleRecord,
+    mark: &[u8],
     line: &mut Line,
     sink: &mut K,
 ) -> Result<(), WriteFailed>
-    ensures { Writes (seen K.held K.faults K.room sink.old) (seen K.held K.faults K.room sink.new) result (flat_map (sent_text cycle.now.cycle) (take 1 cycle.now.sent)) }
+    ensures { Writes (seen mark.now K.held K.faults K.room sink.old) (seen mark.now K.held K.faults K.room sink.new) result (flat_map (sent_text cycle.now.cycle) (take 1 cycle.now.sent)) }
 {
     let sent = cycle.sent.as_slice();
-    write_all_sent(cycle.cycle, &sent[..sent.len().min(1)], line, sink)
+    write_all_sent(cycle.cycle, &sent[..sent.len().min(1)], mark, line, sink)
 }
 
 // Writes the other telegrams of a cycle.
 fn write_rest<K: Sink>(
     cycle: &CycleRecord,
+    mark: &[u8],
     line: &mut Line,
     sink: &mut K,
 ) -> Result<(), WriteFailed>
-    ensures { Writes (seen K.held K.faults K.room sink.old) (seen K.held K.faults K.room sink.new) result (flat_map (sent_text cycle.now.cycle) (drop 1 cycle.now.sent)) }
+    ensures { Writes (seen mark.now K.held K.faults K.room sink.old) (seen mark.now K.held K.faults K.room sink.new) result (flat_map (sent_text cycle.now.cycle) (drop 1 cycle.now.sent)) }
 {
     let sent = cycle.sent.as_slice();
-    write_all_sent(cycle.cycle, &sent[sent.len().min(1)..], line, sink)
+    write_all_sent(cycle.cycle, &sent[sent.len().min(1)..], mark, line, sink)
 }
 
 // Writes the moves of a cycle, the late ones or the others.
 fn write_moves_of<K: Sink>(
     cycle: &CycleRecord,
     late: bool,
+    mark: &[u8],
     line: &mut Line,
     sink: &mut K,
 ) -> Result<(), WriteFailed>
-    ensures { Writes (seen K.held K.faults K.room sink.old) (seen K.held K.faults K.room sink.new) result (moves_text cycle.now.cycle late cycle.now.moves) }
+    ensures { Writes (seen mark.now K.held K.faults K.room sink.old) (seen mark.now K.held K.faults K.room sink.new) result (moves_text cycle.now.cycle late cycle.now.moves) }
 {
-    write_moves(cycle.cycle, late, cycle.moves.as_slice(), line, sink)
+    write_moves(cycle.cycle, late, cycle.moves.as_slice(), mark, line, sink)
 }
 
 // Writes the events of a cycle.
 fn write_events_of<K: Sink>(
     wishes: &Wishes,
     cycle: &CycleRecord,
+    mark: &[u8],
     line: &mut Line,
     sink: &mut K,
 ) -> Result<(), WriteFailed>
     requires starts { IfSome cycle.now.events.plan (λ p. length p.t1 ≡ length wishes.now.drives) }
     requires positions { IfSome cycle.now.events.plan (λ p. length p.position ≡ length wishes.now.drives) }
-    ensures { Writes (seen K.held K.faults K.room sink.old) (seen K.held K.faults K.room sink.new) result (events_text wishes.now cycle.now.cycle cycle.now.events) }
+    ensures { Writes (seen mark.now K.held K.faults K.room sink.old) (seen mark.now K.held K.faults K.room sink.new) result (events_text wishes.now cycle.now.cycle cycle.now.events) }
 {
-    write_events(cycle.cycle, wishes, &cycle.events, line, sink)
+    write_events(cycle.cycle, wishes, &cycle.events, mark, line, sink)
 }
 
 // Writes the lines of a cycle.
 fn write_lines<K: Sink>(
     wishes: &Wishes,
     cycle: &CycleRecord,
+    mark: &[u8],
     line: &mut Line,
     sink: &mut K,
 ) -> Result<(), WriteFailed>
     requires starts { IfSome cycle.now.events.plan (λ p. length p.t1 ≡ length wishes.now.drives) }
     requires positions { IfSome cycle.now.events.plan (λ p. length p.position ≡ length wishes.now.drives) }
-    ensures { Writes (seen K.held K.faults K.room sink.old) (seen K.held K.faults K.room sink.new) result (cycle_text wishes.now cycle.now) }
+    ensures { Writes (seen mark.now K.held K.faults K.room sink.old) (seen mark.now K.held K.faults K.room sink.new) result (cycle_text wishes.now cycle.now) }
 {
-    write_first(cycle, line, sink)?;
-    write_moves_of(cycle, false, line, sink)?;
-    write_rest(cycle, line, sink)?;
-    write_moves_of(cycle, true, line, sink)?;
-    write_events_of(wishes, cycle, line, sink)
+    write_first(cycle, mark, line, sink)?;
+    write_moves_of(cycle, false, mark, line, sink)?;
+    write_rest(cycle, mark, line, sink)?;
+    write_moves_of(cycle, true, mark, line, sink)?;
+    write_events_of(wishes, cycle, mark, line, sink)
 }
 
 // Writes the end line.
-fn write_totals<K: Sink>(totals: &Totals, line: &mut Line, sink: &mut K) -> Result<(), WriteFailed>
-    ensures { Writes (seen K.held K.faults K.room sink.old) (seen K.held K.faults K.room sink.new) result (end_text totals.now) }
+fn write_totals<K: Sink>(
+    totals: &Totals,
+    mark: &[u8],
+    line: &mut Line,
+    sink: &mut K,
+) -> Result<(), WriteFailed>
+    ensures { Writes (seen mark.now K.held K.faults K.room sink.old) (seen mark.now K.held K.faults K.room sink.new) result (end_text totals.now) }
 {
     let values = [
         Given::Number(totals.cycles),
@@ -187,13 +223,53 @@ fn write_totals<K: Sink>(totals: &Totals, line: &mut Line, sink: &mut K) -> Resu
         Given::Number(totals.falls),
         Given::Number(totals.unseen),
     ];
-    write_line(LineKind::End, &values, line, sink)
+    write_line(LineKind::End, &values, mark, line, sink)
+}
+
+/// Writes the head of a trace as [`write_header`] does, with a mark before each line. Each is made in `line`, whatever that held.
+pub fn write_marked_header<K: Sink>(
+    wishes: &Wishes,
+    mark: &[u8],
+    line: &mut Line,
+    sink: &mut K,
+) -> Result<(), WriteFailed>
+    requires { All (λ place. place < length wishes.now.drives) wishes.now.order }
+    ensures { Writes (seen mark.now K.held K.faults K.room sink.old) (seen mark.now K.held K.faults K.room sink.new) result (header_text wishes.now) }
+{
+    write_head(wishes, mark, line, sink)
+}
+
+/// Writes the lines of a cycle as [`write_cycle`] does, with a mark before each. Each is made in `line`, whatever that held.
+pub fn write_marked_cycle<K: Sink>(
+    wishes: &Wishes,
+    cycle: &CycleRecord,
+    mark: &[u8],
+    line: &mut Line,
+    sink: &mut K,
+) -> Result<(), WriteFailed>
+    requires starts { IfSome cycle.now.events.plan (λ p. length p.t1 ≡ length wishes.now.drives) }
+    requires positions { IfSome cycle.now.events.plan (λ p. length p.position ≡ length wishes.now.drives) }
+    ensures { Writes (seen mark.now K.held K.faults K.room sink.old) (seen mark.now K.held K.faults K.room sink.new) result (cycle_text wishes.now cycle.now) }
+{
+    write_lines(wishes, cycle, mark, line, sink)
+}
+
+/// Writes the end line of a trace as [`write_end`] does, after a mark. It is made in `line`, whatever that held.
+pub fn write_marked_end<K: Sink>(
+    totals: &Totals,
+    mark: &[u8],
+    line: &mut Line,
+    sink: &mut K,
+) -> Result<(), WriteFailed>
+    ensures { Writes (seen mark.now K.held K.faults K.room sink.old) (seen mark.now K.held K.faults K.room sink.new) result (end_text totals.now) }
+{
+    write_totals(totals, mark, line, sink)
 }
 
 /// Writes the head of a trace: the version, the ring's numbers, a line for each drive in ring order, and the addresses in the
 /// order of the ATs. Times are in microseconds, lengths in bytes after the address. After an error the sink has taken a
 /// prefix of the text, short of the whole, and its count of faults has risen.
-#[tactic(auto, using(crate::proofs::WriteLemmas::ok_of, crate::proofs::WriteLemmas::err_of, crate::proofs::WriteLemmas::cause_of, crate::proofs::WriteLemmas::room_of, crate::proofs::WriteLemmas::left_of))]
+#[tactic(auto, using(crate::proofs::MarkedLemmas::unmarked_ok, crate::proofs::MarkedLemmas::unmarked_err, crate::proofs::MarkedLemmas::unmarked_cause, crate::proofs::MarkedLemmas::unmarked_room, crate::proofs::MarkedLemmas::unmarked_left))]
 pub fn write_header<K: Sink>(wishes: &Wishes, sink: &mut K) -> Result<(), WriteFailed>
     requires { All (λ place. place < length wishes.now.drives) wishes.now.order }
     ensures ok { OnOk result (Appends (K.held sink.old) (K.held sink.new) (header_text wishes.now)) }
@@ -204,32 +280,13 @@ pub fn write_header<K: Sink>(wishes: &Wishes, sink: &mut K) -> Result<(), WriteF
     ensures room_left { K.room sink.old ≤ K.room sink.new + length (header_text wishes.now) }
 {
     let mut line = Line::new();
-    write_head(wishes, &mut line, sink)
+    write_marked_header(wishes, b"", &mut line, sink)
 }
 
 /// Writes the lines of a cycle: the MST, the moves at it, the ATs and the MDT, the late moves, then what the master reports:
-/// outcomes, plan, stop, fall. Each is made in `line`, whatever that held. After an error the sink has taken a prefix of the
-/// text, short of the whole, and its count of faults has risen.
-#[tactic(auto, using(crate::proofs::WriteLemmas::ok_of, crate::proofs::WriteLemmas::err_of, crate::proofs::WriteLemmas::cause_of, crate::proofs::WriteLemmas::room_of, crate::proofs::WriteLemmas::left_of))]
-pub fn write_cycle_by<K: Sink>(
-    wishes: &Wishes,
-    cycle: &CycleRecord,
-    line: &mut Line,
-    sink: &mut K,
-) -> Result<(), WriteFailed>
-    requires starts { IfSome cycle.now.events.plan (λ p. length p.t1 ≡ length wishes.now.drives) }
-    requires positions { IfSome cycle.now.events.plan (λ p. length p.position ≡ length wishes.now.drives) }
-    ensures ok { OnOk result (Appends (K.held sink.old) (K.held sink.new) (cycle_text wishes.now cycle.now)) }
-    ensures err { OnErr result ((count : ℕ) × (count < length (cycle_text wishes.now cycle.now))
-        × Appends (K.held sink.old) (K.held sink.new) (take count (cycle_text wishes.now cycle.now))) }
-    ensures cause { HasCause (K.faults sink.old) (K.faults sink.new) result }
-    ensures room { length (cycle_text wishes.now cycle.now) ≤ K.room sink.old → IsOk result }
-    ensures room_left { K.room sink.old ≤ K.room sink.new + length (cycle_text wishes.now cycle.now) }
-{
-    write_lines(wishes, cycle, line, sink)
-}
-
-/// Writes the lines of a cycle, as [`write_cycle_by`] does, in room of its own.
+/// outcomes, plan, stop, fall. After an error the sink has taken a prefix of the text, short of the whole, and its count of
+/// faults has risen.
+#[tactic(auto, using(crate::proofs::MarkedLemmas::unmarked_ok, crate::proofs::MarkedLemmas::unmarked_err, crate::proofs::MarkedLemmas::unmarked_cause, crate::proofs::MarkedLemmas::unmarked_room, crate::proofs::MarkedLemmas::unmarked_left))]
 pub fn write_cycle<K: Sink>(
     wishes: &Wishes,
     cycle: &CycleRecord,
@@ -245,12 +302,12 @@ pub fn write_cycle<K: Sink>(
     ensures room_left { K.room sink.old ≤ K.room sink.new + length (cycle_text wishes.now cycle.now) }
 {
     let mut line = Line::new();
-    write_cycle_by(wishes, cycle, &mut line, sink)
+    write_marked_cycle(wishes, cycle, b"", &mut line, sink)
 }
 
 /// Writes the end line of a trace. After an error the sink has taken a prefix of the text, short of the whole, and its count of
 /// faults has risen.
-#[tactic(auto, using(crate::proofs::WriteLemmas::ok_of, crate::proofs::WriteLemmas::err_of, crate::proofs::WriteLemmas::cause_of, crate::proofs::WriteLemmas::room_of, crate::proofs::WriteLemmas::left_of))]
+#[tactic(auto, using(crate::proofs::MarkedLemmas::unmarked_ok, crate::proofs::MarkedLemmas::unmarked_err, crate::proofs::MarkedLemmas::unmarked_cause, crate::proofs::MarkedLemmas::unmarked_room, crate::proofs::MarkedLemmas::unmarked_left))]
 pub fn write_end<K: Sink>(totals: &Totals, sink: &mut K) -> Result<(), WriteFailed>
     ensures ok { OnOk result (Appends (K.held sink.old) (K.held sink.new) (end_text totals.now)) }
     ensures err { OnErr result ((count : ℕ) × (count < length (end_text totals.now))
@@ -260,5 +317,5 @@ pub fn write_end<K: Sink>(totals: &Totals, sink: &mut K) -> Result<(), WriteFail
     ensures room_left { K.room sink.old ≤ K.room sink.new + length (end_text totals.now) }
 {
     let mut line = Line::new();
-    write_totals(totals, &mut line, sink)
+    write_marked_end(totals, b"", &mut line, sink)
 }

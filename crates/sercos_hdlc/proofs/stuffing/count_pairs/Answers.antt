@@ -1,4 +1,4 @@
-use Rattle.std.proofs.Common.{◌≡◌, ◌+◌, ◌*◌, arith, sym, ap, ◌∙◌}
+use Rattle.std.proofs.Common.{◌≡◌, ◌+◌, ◌*◌, arith, sym, ◌∙◌}
 use Rattle.sercos_hdlc.proofs.FramingLemmas.{counted_more, stuffed_next_byte, ones_next_byte}
 use Rattle.sercos_bits.proofs.Division.{fed_bytes_step}
 use Rattle.sercos_hdlc.proofs.stuffing.count_pairs.Goals as goal

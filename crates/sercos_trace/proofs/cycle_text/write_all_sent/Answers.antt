@@ -1,6 +1,6 @@
 use Rattle.std.proofs.Common.{◌++◌, [], refl, arith}
 use Rattle.sercos_trace.specs.Texts.{sent_text}
-use Rattle.sercos_trace.proofs.WriteLemmas.{loop_next, loop_failed, loop_end, failed_is, taken_none, taken_then}
+use Rattle.sercos_trace.proofs.MarkedLemmas.{loop_next, loop_failed, loop_end, failed_is, taken_none, taken_then}
 use Rattle.sercos_trace.proofs.cycle_text.write_all_sent.Goals as goal
 
 pub loop-telegram-init : goal.loop-telegram-init

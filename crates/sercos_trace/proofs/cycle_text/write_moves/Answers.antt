@@ -2,7 +2,7 @@ use Rattle.std.proofs.Common.{◌++◌, [], false, get_or, refl, arith, if◌the
 use mathlib.Core.Bool.{beq}
 use Rattle.sercos_trace.specs.Texts.{move_text}
 use Rattle.sercos_trace.specs.declared.record.Move.{Move}
-use Rattle.sercos_trace.proofs.WriteLemmas.{loop_next, loop_failed, loop_end, failed_is, taken_none, taken_then, same_item}
+use Rattle.sercos_trace.proofs.MarkedLemmas.{loop_next, loop_failed, loop_end, failed_is, taken_none, taken_then, same_item}
 use Rattle.sercos_trace.proofs.cycle_text.write_moves.Goals as goal
 
 pub loop-moved-init : goal.loop-moved-init

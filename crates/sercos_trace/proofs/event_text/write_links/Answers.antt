@@ -1,6 +1,6 @@
 use Rattle.std.proofs.Common.{◌++◌, [], get_or, refl, arith}
 use Rattle.sercos_trace.specs.Texts.{link_text}
-use Rattle.sercos_trace.proofs.WriteLemmas.{loop_next, loop_failed, loop_end, failed_is, taken_none, taken_then, same_item}
+use Rattle.sercos_trace.proofs.MarkedLemmas.{loop_next, loop_failed, loop_end, failed_is, taken_none, taken_then, same_item}
 use Rattle.sercos_trace.proofs.event_text.write_links.Goals as goal
 
 pub loop-link-init : goal.loop-link-init

@@ -1,6 +1,6 @@
 use Rattle.std.proofs.Common.{◌++◌, [], refl, arith}
 use Rattle.sercos_trace.specs.Texts.{outcome_text}
-use Rattle.sercos_trace.proofs.WriteLemmas.{loop_next, loop_failed, loop_end, failed_is, taken_none, taken_then}
+use Rattle.sercos_trace.proofs.MarkedLemmas.{loop_next, loop_failed, loop_end, failed_is, taken_none, taken_then}
 use Rattle.sercos_trace.proofs.event_text.write_outcomes.Goals as goal
 
 pub loop-outcome-init : goal.loop-outcome-init

@@ -1,4 +1,4 @@
-use Rattle.sercos_trace.proofs.WriteLemmas.{failed_is, failed_early, writes_then}
+use Rattle.sercos_trace.proofs.MarkedLemmas.{failed_is, failed_early, writes_then}
 use Rattle.sercos_trace.proofs.event_text.write_whole_plan.Goals as goal
 
 pub returns-in_err-write_plan_line : goal.returns-in_err-write_plan_line

@@ -1,6 +1,6 @@
 use Rattle.std.proofs.Common.{◌++◌, [], get_or, refl, arith}
 use Rattle.sercos_trace.specs.Texts.{drive_text}
-use Rattle.sercos_trace.proofs.WriteLemmas.{loop_next, loop_failed, loop_end, failed_is, taken_none, taken_then, same_item}
+use Rattle.sercos_trace.proofs.MarkedLemmas.{loop_next, loop_failed, loop_end, failed_is, taken_none, taken_then, same_item}
 use Rattle.sercos_trace.proofs.writing.write_drives.Goals as goal
 
 pub loop-wish-init : goal.loop-wish-init

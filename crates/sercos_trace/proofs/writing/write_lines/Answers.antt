@@ -1,4 +1,4 @@
-use Rattle.sercos_trace.proofs.WriteLemmas.{failed_is, failed_early, failed_later, writes_then}
+use Rattle.sercos_trace.proofs.MarkedLemmas.{failed_is, failed_early, failed_later, writes_then}
 use Rattle.sercos_trace.proofs.writing.write_lines.Goals as goal
 
 pub returns-in_err-write_first : goal.returns-in_err-write_first

@@ -23,6 +23,6 @@ returns-clause-told c = λ s jobs h stands may_add.
     let room = has_room s (tasks_for s jobs) h (the_view c.events.inside).outcomes known.few may in
     rw (← c.events.view_is)
     (told_all s (past s (tasks_for s jobs) h) (the_view c.events.inside) (c.end_cycle-fall.ensures.told s (past s (tasks_for s jobs) h) t room.0 room.1)
-    (c.tell_plan.ensures ∙ ap (λ o. option_or o (the_view c.events.inside).plan) (c.plan_told.ensures s (past s (tasks_for s jobs) h) first))
-    (c.tell_stop.ensures ∙ ap (λ o. option_or o (the_view c.events.inside).stop) (c.end_cycle-fall.ensures.stop s (past s (tasks_for s jobs) h) t))
+    (c.tell_plan.ensures s (past s (tasks_for s jobs) h) first)
+    (c.end_cycle-fall.ensures.stop s (past s (tasks_for s jobs) h) t)
     (c.tell_fall.ensures ∙ ap (λ o. option_or o (the_view c.events.inside).fall) (c.end_cycle-fall.ensures.fall s (past s (tasks_for s jobs) h) t)))
