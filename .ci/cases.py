@@ -1,9 +1,10 @@
 #!/usr/bin/env python3
-"""Runs a program on each case of a folder: cases.py PROGRAM FOLDER
+"""Runs programs on each case of a folder: cases.py PROGRAM FOLDER [OTHER..]
 
 A case is a folder with the files `words` (one a line, of any bytes; none: no words), `stdin` (none: empty), `stdout` (none:
 nothing) and `status` (none: 0). On standard error the program names a status other than 0. Where there is a file `call`,
-it is a line for bash that starts the program and its words, "$@", with other streams or limits.
+it is a line for bash that starts the program and its words, "$@", with other streams or limits. Where there is a file
+`program`, it names the one of the other programs that is run, by the name of its file.
 
 Where only some lines of the output are known, `lines` stands in place of `stdout`. It has patterns of lines, with *, ?
 and [..], that are among the output in this order. Of the words r, plan, stop, fall and end, each that begins a pattern
@@ -12,8 +13,11 @@ begins no other line of the output; nor does a word of the file `only`. No line 
 
 The folder `refusals` has sheets of ring documents that are refused, by each command that reads one: a part begins with
 a line `== NAME`, its refusal follows, and then the document. The folder `captures` has sheets of captures for `check` in
-the same form, each with its answer, and `frames` sheets of lines for `show`. What a case of `run` writes is clean for
-`check`. Ends with 0 where each case passed.
+the same form, each with its answer, and `frames` sheets of lines for `show`; `replays` has sheets of inputs for `replay`,
+each with the address and the answer, its lines joined by commas; `rings` sheets of inputs that `sercos_rings run` refuses,
+each with its refusal. What a case of `run` writes is clean for `check`; if its document has no faults, the master and each
+drive agree in a replay of it. Of what a case of `sercos_rings run` writes, the lines of each ring, without its number, are
+what `run` writes of its document alone. Ends with 0 where each case passed.
 """
 import fnmatch
 import pathlib
@@ -23,8 +27,12 @@ import sys
 STATUS = ["Done", "No", "BadWords", "Refused", "ReadFault", "WriteFault", "Memory", "TooLong"]
 # The first words of lines that a case names all of, if it names one.
 WHOLE = {"r", "plan", "stop", "fall", "end"}
-READERS = [b"plan", b"margin", b"run"]
+READERS = [b"plan", b"margin", b"run", b"backup", b"restore"]
 VERDICTS = {"clean": 0, "violation": 1, "refused": 3}
+REPLAYS = {"agrees": 0, "differs": 1, "violation": 1, "refused": 3}
+LONGEST = 1048576
+# The names of the programs: the first one, and that of several rings.
+FIRST, RINGS = "sercos", "sercos_rings"
 
 
 def read(path, default):
@@ -70,7 +78,8 @@ def folder_case(case):
     else:
         test = other_output(read(case / "stdout", b""))
     call = read(case / "call", b"").strip()
-    return case.name, call, words, read(case / "stdin", b""), test, int(read(case / "status", b"0"))
+    program = read(case / "program", FIRST.encode()).decode().strip()
+    return case.name, program, call, words, read(case / "stdin", b""), test, int(read(case / "status", b"0"))
 
 
 def parts(sheet):
@@ -85,23 +94,42 @@ def refusal_cases(sheet):
     for name, refusal, document in parts(sheet):
         for word in READERS:
             wanted = other_output(refusal.encode() + b"\n")
-            yield f"{sheet.stem} {name} {word.decode()}", b"", [word], document.encode(), wanted, 3
+            yield f"{sheet.stem} {name} {word.decode()}", FIRST, b"", [word], document.encode(), wanted, 3
 
 
 def capture_cases(sheet):
     for name, answer, capture in parts(sheet):
         source = capture.rstrip("\n") + "\n" if capture else ""
         status = VERDICTS[answer.split(" ")[0]]
-        yield f"{sheet.stem} {name}", b"", [b"check"], source.encode(), other_output(answer.encode() + b"\n"), status
+        wanted = other_output(answer.encode() + b"\n")
+        yield f"{sheet.stem} {name}", FIRST, b"", [b"check"], source.encode(), wanted, status
 
 
 def frame_cases(sheet):
     for name, answer, line in parts(sheet):
         status = 3 if answer.startswith("refused ") else 0
-        yield f"{sheet.stem} {name}", b"", [b"show"], line.encode(), other_output(answer.encode() + b"\n"), status
+        wanted = other_output(answer.encode() + b"\n")
+        yield f"{sheet.stem} {name}", FIRST, b"", [b"show"], line.encode(), wanted, status
 
 
-SHEETS = {"refusals": refusal_cases, "captures": capture_cases, "frames": frame_cases}
+def replay_cases(sheet):
+    for name, answer, source in parts(sheet):
+        address, _, text = answer.partition(" ")
+        wanted = other_output(text.replace(", ", "\n").encode() + b"\n")
+        words = [b"replay", address.encode()]
+        source = source.rstrip("\n").encode() + b"\n"
+        yield f"{sheet.stem} {name}", FIRST, b"", words, source, wanted, REPLAYS[text.split(" ")[0]]
+
+
+def ring_cases(sheet):
+    for name, refusal, source in parts(sheet):
+        source = source.rstrip("\n") + "\n" if source else ""
+        wanted = other_output(refusal.encode() + b"\n")
+        yield f"{sheet.stem} {name}", RINGS, b"", [b"run"], source.encode(), wanted, 3
+
+
+SHEETS = {"refusals": refusal_cases, "captures": capture_cases, "frames": frame_cases, "replays": replay_cases,
+          "rings": ring_cases}
 
 
 def cases(folder):
@@ -113,25 +141,69 @@ def cases(folder):
             yield from cases_of(sheet)
 
 
-def faults(program, call, words, source, test, status):
+def replay_faults(programs, document, trace):
+    """What is wrong with the replays of a run in which nothing is disturbed."""
+    source = document.rstrip(b"\n") + b"\ncapture\n" + trace
+    agrees = other_output(b"agrees %d\n" % trace.count(b"\nm "))
+    addresses = [line.split(b" ")[1] for line in trace.splitlines() if line.startswith(b"drive ")]
+    for address in [b"0"] + addresses if len(source) <= LONGEST else []:
+        for fault in faults(programs, FIRST, b"", [b"replay", address], source, agrees, 0):
+            yield f"replay {address.decode()}: {fault}"
+
+
+def trace_faults(programs, document, trace):
+    """What is wrong with the trace of a run."""
+    clean = other_output(b"clean %d\n" % trace.count(b"\n"))
+    yield from faults(programs, FIRST, b"", [b"check"], trace, clean, 0)
+    if b"fault" not in document:
+        yield from replay_faults(programs, document, trace)
+
+
+def documents(source):
+    """The parts of an input, which lines that are exactly `next` divide."""
+    several = [b""]
+    for line in source.splitlines(keepends=True):
+        if line in (b"next", b"next\n"):
+            several.append(b"")
+        else:
+            several[-1] += line
+    return several
+
+
+def merged_faults(programs, source, text):
+    """What is wrong with the lines of each ring in a merged text."""
+    lines = text.splitlines(keepends=True)
+    for number, document in enumerate(documents(source), 1):
+        mark = b"%d " % number
+        alone = other_output(b"".join(line[len(mark):] for line in lines if line.startswith(mark)))
+        for fault in faults(programs, FIRST, b"", [b"run"], document, alone, 0):
+            yield f"ring {number}: {fault}"
+
+
+def faults(programs, program, call, words, source, test, status):
+    if program not in programs:
+        yield f"no program {program} is given"
+        return
     name = b"" if status == 0 else STATUS[status].encode() + b"\n"
     start = ["bash", "-c", call, "bash"] if call else []
-    run = subprocess.run(start + [program] + words, input=source, capture_output=True, timeout=60)
+    run = subprocess.run(start + [programs[program]] + words, input=source, capture_output=True, timeout=60)
     if run.returncode != status:
         yield f"status {run.returncode}, wanted {status}"
     yield from test(run.stdout)
     if run.stderr != name:
         yield f"standard error {run.stderr[:300]!r}, wanted {name!r}"
-    if words == [b"run"] and status == 0:
-        clean = other_output(b"clean %d\n" % run.stdout.count(b"\n"))
-        yield from faults(program, b"", [b"check"], run.stdout, clean, 0)
+    if program == FIRST and words == [b"run"] and status == 0:
+        yield from trace_faults(programs, source, run.stdout)
+    if program == RINGS and b"run" in words and status == 0 and not call:
+        yield from merged_faults(programs, source, run.stdout)
 
 
 def main():
-    program, folder = sys.argv[1:]
+    first, folder, *others = sys.argv[1:]
+    programs = {FIRST: first} | {pathlib.Path(other).name: other for other in others}
     passed = failed = 0
     for name, *case in cases(pathlib.Path(folder)):
-        found = list(faults(program, *case))
+        found = list(faults(programs, *case))
         for fault in found:
             print(f"case {name}: {fault}")
         passed, failed = (passed, failed + 1) if found else (passed + 1, failed)

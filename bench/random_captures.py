@@ -8,6 +8,8 @@ another byte. Some captures have none.
 import random
 import sys
 
+from frames import frame_bits
+
 MOST_CYCLES = 25
 
 
@@ -135,6 +137,48 @@ def capture(seed, trace):
             rng.choice(CHANGES)(rng, lines, at)
     text = "\n".join(lines)
     return text + "\n" if rng.random() < 0.9 else text
+
+
+# The changes of one telegram in a capture for `replay`.
+
+def other_content(rng, lines, at):
+    """Another digit in the content of a telegram, with the length of its frame."""
+    words = lines[at].split(" ")
+    place = rng.randrange(1 if words[0] == "m" else 2, len(words[4]))
+    words[4] = words[4][:place] + rng.choice("0123456789abcdef") + words[4][place + 1:]
+    bits = len(frame_bits(bytes.fromhex(words[4])))
+    if words[0] == "m":
+        words[2] = str(-bits)
+    words[3] = str(bits)
+    lines[at] = " ".join(words)
+
+
+def at_or_mdt_left_out(rng, lines, at):
+    if lines[at][0] != "m":
+        del lines[at]
+
+
+def later_start(rng, lines, at):
+    if lines[at][0] != "m":
+        lines[at] = with_word(lines[at], 2, str(int(lines[at].split(" ")[2]) + rng.choice([1, 1, 2, 4])))
+
+
+def replayed(seed, document, trace):
+    """The address and the input of a seed for `replay`: a document, the line that divides, and the first cycles of a trace of it, in
+    which up to two telegrams are other ones, missing, or elsewhere."""
+    rng = random.Random(f"replay {seed}")
+    head, cycles = parts(trace)
+    addresses = [line.split(" ")[1] for line in head if line.startswith("drive ")]
+    address = rng.choice(["0"] + addresses + (["254"] if rng.random() < 0.05 else []))
+    last = rng.randint(1, max(1, len(cycles)))
+    lines = [line for cycle in cycles[:last] for line in cycle]
+    for _ in range(rng.choice([0, 1, 1, 1, 2])):
+        places = [k for k, line in enumerate(lines) if is_telegram(line)]
+        change = rng.choice([other_content] * 6 + [at_or_mdt_left_out] * 6 + [later_start] * 3 + [left_out, written_twice, moved, moved_start])
+        if places:
+            change(rng, lines, rng.choice(places[-60:] if rng.random() < 0.5 else places))
+    text = "\n".join(head + lines)
+    return address, document.rstrip("\n") + "\ncapture\n" + text + ("\n" if rng.random() < 0.9 else "")
 
 
 if __name__ == "__main__":

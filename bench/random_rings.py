@@ -1,5 +1,5 @@
 #!/usr/bin/env python3
-"""Random ring documents, each made from a seed: random_rings.py [--tight] SEED, or .. [--tight] FIRST COUNT FOLDER
+"""Random ring documents, each made from a seed: random_rings.py [--tight|--saved] SEED, or .. [--tight|--saved] FIRST COUNT FOLDER
 
 The first prints the document of the seed, the second writes COUNT of them from seed FIRST on. A document has 1 to 6
 drives, now and then up to 64, with blocks, lists, limits and busy times of all kinds; requests, also ones that a drive
@@ -7,6 +7,8 @@ refuses; and a script with every kind of damage, among it damage that leaves a f
 
 The tight ones are for `plan` and `margin`: a plan fits in about half of them, and in some it fits in no cycle. Their times
 and gaps are of all sizes, up to the largest; they have no requests and no script.
+
+The saved ones are for `backup` and `restore`: drives have lists of backup operation data, and most requests write operation data.
 """
 import pathlib
 import random
@@ -341,6 +343,42 @@ class TightRings(Rings):
         pass
 
 
+class SavedRings(Rings):
+    """What a document for `backup` and `restore` is made of: most drives have a list of backup operation data, now and then one with
+    an odd byte at its end, and most requests write operation data."""
+
+    def listed(self, drive):
+        """The blocks on the list of a drive: its own ones, built-in ones, and some that it hasn't."""
+        own = [block["idn"] for block in drive["blocks"]]
+        names = own + self.random.sample(BUILT_IN, 3) + BUILT_IN_LISTS + CHECKS
+        if self.few(0.15):
+            names.append("P-3-%04d" % self.between(0, 4095))
+        return [self.pick(names) for _ in range(self.pick([0, 1, 2, 3, self.between(1, 12)]))]
+
+    def saved_list(self, drive):
+        numbers = [self.raw(name) for name in self.listed(drive)]
+        text = b"".join(number.to_bytes(2, "little") for number in numbers)
+        single = self.few(0.2)
+        if single and self.few(0.5):
+            text += b"\x2f"
+        return {"idn": "S-0-0192", "attribute": 0x00540001 if single else 0x00550001, "max_len": 1024, "data": text.hex()}
+
+    def raw(self, name):
+        letter, group, number = name.split("-")
+        return (letter == "P") << 15 | int(group) << 12 | int(number)
+
+    def requests_and_script(self):
+        for drive in self.drives:
+            if self.few(0.8) and len(drive["blocks"]) < 36 and all(b["idn"] != "S-0-0192" for b in drive["blocks"]):
+                drive["blocks"].append(self.saved_list(drive))
+        for _ in range(self.pick([0, 1, 2, 4, 8, 16])):
+            request = self.request()
+            if self.few(0.02) or request["kind"] == "write" and request.get("element", 7) == 7:
+                self.requests.append(request)
+        if self.few(0.6):
+            self.script()
+
+
 def document(seed):
     """The text of the document of a seed."""
     return Rings(seed).document()
@@ -351,9 +389,16 @@ def tight_document(seed):
     return TightRings(seed).document()
 
 
+def saved_document(seed):
+    """The text of the document of a seed for `backup` and `restore`."""
+    return SavedRings(seed).document()
+
+
 def main():
     words = sys.argv[1:]
     make = document
+    if words[0] == "--saved":
+        make, words = saved_document, words[1:]
     if words[0] == "--tight":
         make, words = tight_document, words[1:]
     if len(words) == 1:

@@ -20,33 +20,19 @@ use Rattle.sercos_trace.specs.declared.record.Totals.{Totals}
 use Rattle.sercos_trace.proofs.WriteLemmas.{taken_none, taken_then, failed_early, failed_later}
 use Rattle.sercos_script.specs.Links.{Carry, Restarts}
 use Rattle.sercos_journal.specs.Runs.{IsRun, run_of, next_record}
-use Rattle.sercos_app.specs.Totals.{totals_of, falls_in}
-use Rattle.sercos_app.specs.Counting.{HasRoom, IsFew, none_made, with_cycle}
-use Rattle.sercos_app.specs.Journals.{IsRingOf, OfRun, Journal, AreFew, HasCounted, HasWritten, HasStopped, WritesCycles, HasMade, cycles_text, journal_text}
+use Rattle.sercos_totals.specs.Totals.{totals_of, falls_in}
+use Rattle.sercos_totals.specs.Counting.{AreFew, HasRoom, IsFew, none_made, with_cycle}
+use Rattle.sercos_totals.proofs.CountLemmas.{few_more}
+use Rattle.sercos_app.specs.Journals.{IsRingOf, OfRun, Journal, HasCounted, HasWritten, HasStopped, WritesCycles, HasMade, cycles_text, journal_text}
 use Rattle.sercos_app.specs.RunWriting.{WritesRun}
-use Rattle.sercos_app.proofs.TotalsLemmas.{totals_more}
+use Rattle.sercos_totals.proofs.TotalsLemmas.{totals_more}
 
 -- one cycle more, in the order of the cycles
-in_order : (m : CycleView) (j : List CycleView) → reverse (m ∷ j) ≡ reverse j ++ m ∷ []
+pub in_order : (m : CycleView) (j : List CycleView) → reverse (m ∷ j) ≡ reverse j ++ m ∷ []
 in_order m j = reverse-append (m ∷ []) j
 
 text_more : (w : WishesView) (m : CycleView) (j : List CycleView) → cycles_text w (m ∷ j) ≡ cycles_text w j ++ cycle_text w m
 text_more w m j = ap (flat_map (cycle_text w)) (in_order m j) ∙ flat_map-append (cycle_text w) (reverse j) (m ∷ []) ∙ ap (λ t. cycles_text w j ++ t) (append-nil (cycle_text w m))
-
--- nothing was made yet
-pub none_counted : none_made ≡ totals_of []
-unfolding totals_of
-none_counted = refl
-
-pub none_few : AreFew none_made 0
-none_few = record {
-  cycles = omega arith;
-  complete = omega arith;
-  refused = omega arith;
-  broken = omega arith;
-  falls = omega arith;
-  unseen = omega arith;
-}
 
 pub counted_none : {R : Type 0} (stands : R → RingView → List Job → Carry → Restarts → List CycleView → Type 0) (ring : R) (t : Totals) → t ≡ totals_of [] → AreFew t 0 → HasCounted stands ring ring 0 t
 counted_none stands ring t is few = record {
@@ -60,17 +46,7 @@ pub written_none : {R : Type 0} (stands : R → RingView → List Job → Carry 
 unfolding counted_none
 written_none stands w ring a t is few = record { made = counted_none stands ring t is few; taken = taken_none a }
 
-few_more : (t : Totals) (m : CycleView) (k : ℕ) → AreFew t k → IsFew m → falls_in m ≤ 1 → AreFew (with_cycle t m) (k + 1)
-few_more t m k f g falls = record {
-  cycles = omega (arith, f.cycles);
-  complete = omega (arith, f.complete, g.complete);
-  refused = omega (arith, f.refused, g.refused);
-  broken = omega (arith, f.broken, g.broken);
-  falls = omega (arith, f.falls, falls);
-  unseen = omega (arith, f.unseen, g.unseen);
-}
-
-journal_more : {R : Type 0} (stands : R → RingView → List Job → Carry → Restarts → List CycleView → Type 0) (old mid new : R) (k : ℕ) (m : CycleView) → (done : Journal stands old mid k)
+unfoldable pub journal_more : {R : Type 0} (stands : R → RingView → List Job → Carry → Restarts → List CycleView → Type 0) (old mid new : R) (k : ℕ) (m : CycleView) → (done : Journal stands old mid k)
     → ((r : RingView) (jobs : List Job) (carry : Carry) (restarts : Restarts) (j : List CycleView) → stands mid r jobs carry restarts j → stands new r jobs carry restarts (m ∷ j))
     → Journal stands old new (k + 1)
 journal_more stands old mid new k m done turn = record {
@@ -78,13 +54,6 @@ journal_more stands old mid new k m done turn = record {
   count = omega (arith, done.count);
   stands_for = λ r jobs carry restarts s. turn r jobs carry restarts done.cycles (done.stands_for r jobs carry restarts s);
 }
-
-fell_once : (m : CycleView) → falls_in m ≤ 1
-fell_once m = by (is_some m.events.fall)
-  where
-    by : (b : Bool) → (if b then 1 else 0) ≤ 1
-    by true = omega arith
-    by false = omega arith
 
 counted_more : (t t' : Totals) (m : CycleView) (j : List CycleView) → t ≡ totals_of (reverse j) → t' ≡ with_cycle t m → t' ≡ totals_of (reverse (m ∷ j))
 counted_more t t' m j is next = next ∙ ap (λ x. with_cycle x m) is ∙ sym (totals_more (reverse j) m) ∙ sym (ap totals_of (in_order m j))
@@ -98,7 +67,7 @@ unfolding journal_more
 counted_next stands old mid new k t t' m done turn is few = record {
   journal = journal_more stands old mid new k m done.journal turn;
   counted = counted_more t t' m done.journal.cycles done.counted is;
-  few = subst (λ x. AreFew x (k + 1)) (sym is) (few_more t m k done.few few (fell_once m));
+  few = subst (λ x. AreFew x (k + 1)) (sym is) (few_more t m k done.few few);
 }
 
 pub written_next : {R : Type 0} (stands : R → RingView → List Job → Carry → Restarts → List CycleView → Type 0) (w : WishesView) (old mid new : R) (k : ℕ) (a b c : Seen) (t t' : Totals) (m : CycleView)
@@ -126,17 +95,6 @@ stopped_next stands w old mid new k n a b c t m below done turn failed = record 
   few = omega (arith, below);
   journal = journal_more stands old mid new k m done.made.journal turn;
   failed = subst (HasFailed a c) (sym (text_more w m done.made.journal.cycles)) (failed_later a b c (cycles_text w done.made.journal.cycles) (cycle_text w m) done.taken failed);
-}
-
--- up to 50,000 cycles, there is room for a cycle more
-pub room_for : (t : Totals) (k : ℕ) → k < 50000 → AreFew t k → HasRoom t
-room_for t k below f = record {
-  cycles = omega (arith, f.cycles, below);
-  complete = omega (arith, f.complete, below);
-  refused = omega (arith, f.refused, below);
-  broken = omega (arith, f.broken, below);
-  falls = omega (arith, f.falls, below);
-  unseen = omega (arith, f.unseen, below);
 }
 
 pub ring_more : {R : Type 0} (stands : R → RingView → List Job → Carry → Restarts → List CycleView → Type 0) (old mid : R) (w : WishesView) (k : ℕ) (done : Journal stands old mid k)
@@ -171,7 +129,7 @@ run_begins w r jobs carry restarts (suc n) m within = by (run_begins w r jobs ca
         (rest ++ cycle_text w t, text_more w t (run_of r jobs carry restarts n) ∙ ap (λ x. x ++ cycle_text w t) is ∙ append_assoc (cycles_text w (run_of r jobs carry restarts m)) rest (cycle_text w t))
 
 -- what was made is the run
-journal_is : {R : Type 0} (stands : R → RingView → List Job → Carry → Restarts → List CycleView → Type 0)
+pub journal_is : {R : Type 0} (stands : R → RingView → List Job → Carry → Restarts → List CycleView → Type 0)
     → ((ring : R) (r : RingView) (jobs : List Job) (carry : Carry) (restarts : Restarts) (j : List CycleView) → stands ring r jobs carry restarts j → j ≡ run_of r jobs carry restarts (length j))
     → (old new : R) (n : ℕ) (done : Journal stands old new n) (r : RingView) (jobs : List Job) (carry : Carry) (restarts : Restarts) → stands old r jobs carry restarts []
     → done.cycles ≡ run_of r jobs carry restarts n

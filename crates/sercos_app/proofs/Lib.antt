@@ -1,8 +1,11 @@
 pub mod Outcomes
 pub mod ReplyLemmas
-pub mod Bounds
-pub mod TotalsLemmas
+pub mod Replayed
 pub mod JournalLemmas
 pub mod RunLemmas
-pub mod OpenedLemmas
+pub mod OwnRuns
+pub mod TrackingLemmas
+pub mod SavingLemmas
+pub mod SavedRuns
+pub mod SavedTold
 mod WorkedSummary

@@ -1,12 +1,12 @@
 -- What each way in which the top call can end says for its clauses.
-use Rattle.std.proofs.Common.{◌≡◌, ◌≢◌, ℕ, zero, suc, ◌<◌, ◌≤◌, ◌⊎◌, inl, inr, Bool, true, false, IsTrue, List, [], ◌++◌, length, take, Option, Some, None, Result, Ok, Err, refl, sym, ◌∙◌, ap, subst, arith, ◌↔◌, ◌+◌, append-nil, length-append}
+use Rattle.std.proofs.Common.{◌≡◌, ◌≢◌, ℕ, ◌<◌, ◌≤◌, ◌⊎◌, inl, inr, Bool, true, false, IsTrue, List, [], ◌++◌, length, take, Option, Some, None, Result, Ok, Err, refl, sym, ◌∙◌, ap, subst, arith, ◌+◌, append-nil, length-append}
 use Rattle.std.proofs.lemmas.Bool.{false≢true}
 use Rattle.std.specs.Io.KnownBytes.{Appends, Consumes}
 use Rattle.sercos_model.specs.Streams.{Rose}
 use Rattle.sercos_io.specs.declared.status.Status.{Status}
 use Rattle.sercos_io.specs.declared.status.Status.TheVariants.{Done, No, BadWords, Refused, ReadFault, WriteFault, Memory, TooLong}
 use Rattle.sercos_words.specs.declared.form.Form.{Form}
-use Rattle.sercos_words.specs.declared.form.Form.TheVariants.{Show, Plan, Margin, Run, Check, Gen}
+use Rattle.sercos_words.specs.declared.form.Form.TheVariants.{Show, Plan, Margin, Run, Check, Backup, Restore, Gen, Replay}
 use Rattle.sercos_script.specs.Links.{Carry, Restarts}
 use Rattle.sercos_app.specs.Answer.{command_answer, form_answer, answer_of, SaysWell}
 use Rattle.sercos_words.specs.Form.{form_of, reads_input}
@@ -15,19 +15,31 @@ use Rattle.sercos_show.specs.Show.{show_answer, show_status, first_fault}
 use Rattle.sercos_planning.specs.Planning.{wishes_answer, document_answer, plan_answer, PlansItsRing}
 use Rattle.sercos_planning.specs.Margins.{wishes_margins, document_margins, margin_answer, MeasuresItsRing}
 use Rattle.sercos_app.specs.Journals.{journal_text}
-use Rattle.sercos_app.specs.Running.{carry_under, restarts_under, document_run, traced_answer, run_answer, RunsItsRing}
+use Rattle.sercos_opened.specs.Kept.{carry_under, restarts_under, document_run}
+use Rattle.sercos_app.specs.Running.{traced_answer, run_answer, RunsItsRing}
 use Rattle.sercos_checking.specs.declared.verdict.Verdict.{Verdict}
 use Rattle.sercos_checking.specs.declared.verdict.Verdict.TheVariants as verdict
 use Rattle.sercos_checking.specs.Checking.{capture_fault, first_violation, verdict_by, verdict_of, verdict_status, verdict_text, check_answer}
+use Rattle.sercos_trace.specs.declared.reading.Line.{Line}
+use Rattle.sercos_replay.specs.Cycles.{cycles_of}
+use Rattle.sercos_replay.specs.Places.{PlaceView}
+use Rattle.sercos_replay.specs.Divided.{divided}
+use Rattle.sercos_replay.specs.Stations.{Station, station_of, station_differs, lines_read}
+use Rattle.sercos_replay.specs.Replaying.{place_answer, station_answer, verdict_answer, ruled_answer, started_answer, judged_answer, capture_answer, found_answer, document_answer as captured_answer, parts_answer, replay_answer, late_start}
+use Rattle.std.specs.Prelude.{nat_le, if◌then◌else◌}
+use Rattle.sercos_step.specs.declared.request.Job.{Job}
+use Rattle.sercos_block.specs.Views.{RingView}
+use Rattle.sercos_answer.specs.Answer.{Answer}
+use Rattle.sercos_backup.specs.Jobs.{list_jobs, place_of_other}
+use Rattle.sercos_backup.specs.Tracking.{are_well}
+use Rattle.sercos_app.specs.Saving.{run_tracked, data_answer, lists_answer, ring_saved, writes_answer, ring_restored, answer_by, backup_answer, restore_answer}
+use Rattle.sercos_app.specs.Saved.{second_jobs}
 use Rattle.sercos_config.specs.Generated.{generated}
 use Rattle.sercos_app.specs.Generating.{gen_answer, RunsGenerated}
 use Rattle.sercos_timing.specs.Views.{WishesView, PlanView}
 use Rattle.sercos_plan.specs.Views.{ChainView}
 use Rattle.sercos_plan.specs.ChainOf.{planned}
-use Rattle.sercos_step.specs.declared.request.Job.{Job}
-use Rattle.sercos_block.specs.Views.{RingView}
 use Rattle.sercos_block.specs.Rings.{wishes_of}
-use Rattle.sercos_journal.specs.Runs.{run_of}
 use Rattle.sercos_document.specs.declared.refusal.BadDocument.{BadDocument}
 use Rattle.sercos_config.specs.Views.{DocumentView}
 use Rattle.sercos_config.specs.Document.{document_of}
@@ -80,14 +92,75 @@ IsGiven-verdict (verdict.Refused line column) = refused
 IsGiven-verdict (verdict.Violation line rule) = declined
 IsGiven-verdict (verdict.Clean lines) = done
 
+IsGiven-place : (place : Option PlaceView) (cycles : ℕ) → IsGiven (place_answer place cycles).status
+unfolding place_answer
+IsGiven-place None cycles = done
+IsGiven-place (Some place) cycles = declined
+
+IsGiven-judged : (v : Verdict) (start : Option ℕ) (s : Station) (lines : List Line) → IsGiven (judged_answer v start s lines).status
+unfolding judged_answer started_answer ruled_answer station_answer verdict_answer
+IsGiven-judged (verdict.Refused line column) start s lines = IsGiven-verdict (verdict.Refused line column)
+IsGiven-judged (verdict.Violation line rule) (Some cycle) s lines = refused
+IsGiven-judged (verdict.Violation line rule) None s lines = IsGiven-verdict (verdict.Violation line rule)
+IsGiven-judged (verdict.Clean count) (Some cycle) s lines = refused
+IsGiven-judged (verdict.Clean count) None s lines = IsGiven-place (station_differs s (cycles_of lines)) (length (cycles_of lines))
+
+IsGiven-found : (found : Option Station) (address : ℕ) (capture : List ℕ) → IsGiven (found_answer found address capture).status
+unfolding found_answer capture_answer
+IsGiven-found None address capture = refused
+IsGiven-found (Some s) address capture = IsGiven-judged (verdict_of capture) (late_start capture) s (lines_read capture)
+
+IsGiven-captured : (document : Result DocumentView BadDocument) (address : ℕ) (capture : List ℕ) → IsGiven (captured_answer document address capture).status
+unfolding captured_answer
+IsGiven-captured (Ok d) address capture = IsGiven-found (station_of address d) address capture
+IsGiven-captured (Err bad) address capture = refused
+
+IsGiven-parts : (parts : Option (List ℕ × List ℕ)) (address : ℕ) → IsGiven (parts_answer parts address).status
+unfolding parts_answer
+IsGiven-parts None address = refused
+IsGiven-parts (Some parts) address = IsGiven-captured (document_of parts.0) address parts.1
+
+IsGiven-replay : (address : ℕ) (bytes : List ℕ) → IsGiven (replay_answer address bytes).status
+unfolding replay_answer
+IsGiven-replay address bytes = IsGiven-parts (divided bytes) address
+
+IsGiven-if : (b : Bool) (x y : Answer) → IsGiven x.status → IsGiven y.status → IsGiven (if b then x else y).status
+IsGiven-if true x y first second = first
+IsGiven-if false x y first second = second
+
+IsGiven-saved : (r : RingView) (jobs : List Job) (carry : Carry) (restarts : Restarts) → IsGiven (ring_saved r jobs carry restarts).status
+unfolding lists_answer data_answer
+IsGiven-saved r jobs carry restarts =
+    IsGiven-if (are_well true (run_tracked r (list_jobs r) carry restarts)) _ _
+    (IsGiven-if (nat_le (length (second_jobs r carry restarts)) 4096) _ _ (IsGiven-if (are_well false (run_tracked r (second_jobs r carry restarts) carry restarts)) _ _ done declined) declined)
+    declined
+
+IsGiven-whole : (b : Bool) → IsGiven (if b then Done else No)
+IsGiven-whole true = done
+IsGiven-whole false = declined
+
+IsGiven-writes : (r : RingView) (jobs : List Job) (carry : Carry) (restarts : Restarts) (other : Option ℕ) → IsGiven (writes_answer r jobs carry restarts other).status
+unfolding writes_answer
+IsGiven-writes r jobs carry restarts None = IsGiven-whole (are_well false (run_tracked r jobs carry restarts))
+IsGiven-writes r jobs carry restarts (Some place) = refused
+
+IsGiven-by : (answer : RingView → List Job → Carry → Restarts → Answer) → ((r : RingView) (jobs : List Job) (carry : Carry) (restarts : Restarts) → IsGiven (answer r jobs carry restarts).status)
+    → (carry : Carry) (restarts : Restarts) (document : Result DocumentView BadDocument) → IsGiven (answer_by answer carry restarts document).status
+unfolding answer_by
+IsGiven-by answer given carry restarts (Ok d) = given d.setup d.jobs (carry_under d carry) (restarts_under d restarts)
+IsGiven-by answer given carry restarts (Err bad) = refused
+
 IsGiven-answer : (carry : Carry) (restarts : Restarts) (form : Form) (bytes : List ℕ) → IsGiven (command_answer carry restarts form bytes).status
-unfolding command_answer show_answer plan_answer margin_answer run_answer check_answer gen_answer
+unfolding command_answer show_answer plan_answer margin_answer run_answer check_answer backup_answer restore_answer gen_answer
 IsGiven-answer carry restarts Show bytes = IsGiven-fault (first_fault 1 (lines_of bytes))
 IsGiven-answer carry restarts Plan bytes = IsGiven-document (document_of bytes)
 IsGiven-answer carry restarts Run bytes = IsGiven-traced carry restarts (document_of bytes)
 IsGiven-answer carry restarts Check bytes = IsGiven-verdict (verdict_of bytes)
 IsGiven-answer carry restarts Margin bytes = IsGiven-margins (document_of bytes)
+IsGiven-answer carry restarts Backup bytes = IsGiven-by ring_saved IsGiven-saved carry restarts (document_of bytes)
+IsGiven-answer carry restarts Restore bytes = IsGiven-by ring_restored (λ r jobs c rs. IsGiven-writes r jobs c rs (place_of_other jobs)) carry restarts (document_of bytes)
 IsGiven-answer carry restarts (Gen n) bytes = done
+IsGiven-answer carry restarts (Replay address) bytes = IsGiven-replay address bytes
 
 answer_of-form : (carry : Carry) (restarts : Restarts) (words : List (List ℕ)) (bytes : List ℕ) (form : Form) → form_of words ≡ Some form → answer_of carry restarts words bytes ≡ command_answer carry restarts form bytes
 unfolding answer_of form_answer
@@ -115,11 +188,11 @@ writes_nothing-Writes given (short count below appends kept rose full) = IsGiven
 not_before : {status other : Status} → writes_nothing status ≡ false → writes_nothing other ≡ true → status ≡ other → ⊥
 not_before after before same = false≢true (sym after ∙ ap writes_nothing same ∙ before)
 
-some_same : {A : Type 0} {x y : A} → Some x ≡ Some y → x ≡ y
+pub some_same : {A : Type 0} {x y : A} → Some x ≡ Some y → x ≡ y
 some_same e = cc
 
 -- what was read from a source that told its bytes
-told_whole : (bytes read : List ℕ) (left left' : Option (List ℕ)) → left ≡ Some bytes → ReadsWhole left left' read → read ≡ bytes
+pub told_whole : (bytes read : List ℕ) (left left' : Option (List ℕ)) → left ≡ Some bytes → ReadsWhole left left' read → read ≡ bytes
 told_whole bytes read None left' told reads = absurd (cc)
 told_whole bytes read (Some xs) None told reads = absurd reads.consumed
 told_whole bytes read (Some xs) (Some ys) told reads =
@@ -255,7 +328,7 @@ stops-well (too_many is reads takes) some well = inr (refl, is, takes)
 stops-well (no_memory reads takes unread) some well = inl refl
 
 -- with an input that isn't too long there was no memory
-stops-few : {words : List (List ℕ)} {source : SourceChange} {Unread : Type 0} {status : Status} → Stops words source Unread status → (bytes : List ℕ) → HasInput (reads_input (form_of words)) source.left bytes → length bytes ≤ 1048576 → form_of words ≢ None → (Rose source.faults source.faults' → ⊥) → status ≡ Memory
+pub stops-few : {words : List (List ℕ)} {source : SourceChange} {Unread : Type 0} {status : Status} → Stops words source Unread status → (bytes : List ℕ) → HasInput (reads_input (form_of words)) source.left bytes → length bytes ≤ 1048576 → form_of words ≢ None → (Rose source.faults source.faults' → ⊥) → status ≡ Memory
 stops-few why bytes told fits some well = elim (stops-well why some well) [ inl memory ↦ memory | inr many ↦ absurd (omega (arith, fits, too_many_told _ bytes _ _ many.1 told many.2)) ]
 
 -- The clauses of the top call, each from how the call ended.
@@ -322,13 +395,13 @@ not_write_fault refused e = absurd (cc)
 not_write_fault declined e = absurd (cc)
 
 -- an answer that was written as a whole
-record IsWhole (first status : Status) (text : List ℕ) (sink : SinkChange) : Type 0 where
+pub record IsWhole (first status : Status) (text : List ℕ) (sink : SinkChange) : Type 0 where
   pub status_is : first ≡ status
   pub written : Appends sink.held sink.held' text
   pub same : sink.faults' ≡ sink.faults
 
 -- one whose writing failed
-record IsShort (first status : Status) (text : List ℕ) (sink : SinkChange) : Type 0 where
+pub record IsShort (first status : Status) (text : List ℕ) (sink : SinkChange) : Type 0 where
   pub status_is : fault_status first ≡ status
   pub count : ℕ
   pub short : count < length text
@@ -337,7 +410,7 @@ record IsShort (first status : Status) (text : List ℕ) (sink : SinkChange) : T
   pub rose : Rose sink.faults sink.faults'
   pub full : length text ≤ sink.room → ⊥
 
-whole_or_short : {first status : Status} {text : List ℕ} {sink : SinkChange} → Writes first text sink status → IsWhole first status text sink ⊎ IsShort first status text sink
+pub whole_or_short : {first status : Status} {text : List ℕ} {sink : SinkChange} → Writes first text sink status → IsWhole first status text sink ⊎ IsShort first status text sink
 whole_or_short (whole appends same) = inl (record { status_is = refl; written = appends; same = same })
 whole_or_short (short count below appends falls rose full) =
     inr (record { status_is = refl; count = count; short = below; written = appends; falls = falls; rose = rose; full = full })
@@ -402,7 +475,10 @@ same_answer carry restarts Plan all bytes source Unread told input = ap plan_ans
 same_answer carry restarts Run all bytes source Unread told input = ap (run_answer carry restarts) (told_whole all bytes source.left source.left' told input)
 same_answer carry restarts Check all bytes source Unread told input = ap check_answer (told_whole all bytes source.left source.left' told input)
 same_answer carry restarts Margin all bytes source Unread told input = ap margin_answer (told_whole all bytes source.left source.left' told input)
+same_answer carry restarts Backup all bytes source Unread told input = ap (backup_answer carry restarts) (told_whole all bytes source.left source.left' told input)
+same_answer carry restarts Restore all bytes source Unread told input = ap (restore_answer carry restarts) (told_whole all bytes source.left source.left' told input)
 same_answer carry restarts (Gen n) all bytes source Unread told input = refl
+same_answer carry restarts (Replay address) all bytes source Unread told input = ap (replay_answer address) (told_whole all bytes source.left source.left' told input)
 
 told_answer : (carry : Carry) (restarts : Restarts) (words : List (List ℕ)) (form : Form) (all bytes : List ℕ) (source : SourceChange) (Unread : Type 0) → form_of words ≡ Some form → HasInput (reads_input (form_of words)) source.left all → TakesInput (reads_input (Some form)) source Unread bytes
     → command_answer carry restarts form bytes ≡ answer_of carry restarts words all
@@ -431,23 +507,23 @@ at_room (stopped status why sink_same writes) all told fits = writes
 at_room {carry = carry} {restarts = restarts} {words = words} (answered form bytes status is says reads input ends) all told fits = let answer = told_answer carry restarts words form all bytes _ _ is told input in elim (whole_or_short ends) [ inl w ↦ w.same | inr w ↦ absurd (w.full (rw answer fits)) ]
 
 -- What a command answered: the input, what its answer says beside its text, and how writing it ended.
-record Answered (carry : Carry) (restarts : Restarts) (form : Form) (source : SourceChange) (sink : SinkChange) (Unread : Type 0) (status : Status) : Type 0 where
+pub record Answered (carry : Carry) (restarts : Restarts) (form : Form) (source : SourceChange) (sink : SinkChange) (Unread : Type 0) (status : Status) : Type 0 where
   pub bytes : List ℕ
   pub says : SaysWell carry restarts form bytes
   pub input : TakesInput (reads_input (Some form)) source Unread bytes
   pub ends : Writes (command_answer carry restarts form bytes).status (command_answer carry restarts form bytes).output sink status
 
-answered_by : {carry : Carry} {restarts : Restarts} {words : List (List ℕ)} {source : SourceChange} {sink : SinkChange} {Unread Unwritten : Type 0} {status : Status} → Outcome carry restarts words source sink Unread Unwritten status → (form : Form) → form_of words ≡ Some form → writes_nothing status ≡ false → Answered carry restarts form source sink Unread status
+pub answered_by : {carry : Carry} {restarts : Restarts} {words : List (List ℕ)} {source : SourceChange} {sink : SinkChange} {Unread Unwritten : Type 0} {status : Status} → Outcome carry restarts words source sink Unread Unwritten status → (form : Form) → form_of words ≡ Some form → writes_nothing status ≡ false → Answered carry restarts form source sink Unread status
 answered_by (stopped status why sink_same writes) form wanted after = absurd (not_stopped why after refl)
 answered_by {carry = carry} {restarts = restarts} {source = source} {sink = sink} {Unread = Unread} (answered form bytes status is says reads input ends) wanted found after =
     subst (λ (f : Form). Answered carry restarts f source sink Unread status) (some_same (sym is ∙ found)) (record { bytes = bytes; says = says; input = input; ends = ends })
 
 -- writing it ended with a status of answers, so that it was written whole
-done_whole : (carry : Carry) (restarts : Restarts) (form : Form) (bytes : List ℕ) (sink : SinkChange) (status : Status) → Writes (command_answer carry restarts form bytes).status (command_answer carry restarts form bytes).output sink status → status ≡ Done
+pub done_whole : (carry : Carry) (restarts : Restarts) (form : Form) (bytes : List ℕ) (sink : SinkChange) (status : Status) → Writes (command_answer carry restarts form bytes).status (command_answer carry restarts form bytes).output sink status → status ≡ Done
     → ((command_answer carry restarts form bytes).status ≡ Done) × Appends sink.held sink.held' (command_answer carry restarts form bytes).output
 done_whole carry restarts form bytes sink status ends e = elim (whole_or_short ends) [ inl w ↦ (w.status_is ∙ e, w.written) | inr w ↦ absurd (fault-done (IsGiven-answer _ _ form bytes) (w.status_is ∙ e)) ]
 
-no_whole : (carry : Carry) (restarts : Restarts) (form : Form) (bytes : List ℕ) (sink : SinkChange) (status : Status) → Writes (command_answer carry restarts form bytes).status (command_answer carry restarts form bytes).output sink status → status ≡ No
+pub no_whole : (carry : Carry) (restarts : Restarts) (form : Form) (bytes : List ℕ) (sink : SinkChange) (status : Status) → Writes (command_answer carry restarts form bytes).status (command_answer carry restarts form bytes).output sink status → status ≡ No
     → ((command_answer carry restarts form bytes).status ≡ No) × Appends sink.held sink.held' (command_answer carry restarts form bytes).output
 no_whole carry restarts form bytes sink status ends e = elim (whole_or_short ends) [ inl w ↦ (w.status_is ∙ e, w.written) | inr w ↦ absurd (fault-no (IsGiven-answer _ _ form bytes) (w.status_is ∙ e)) ]
 
@@ -630,17 +706,20 @@ unfolding show_status
 shown-done None e = cc
 shown-done (Some place) e = cc
 
-no_of : (carry : Carry) (restarts : Restarts) (form : Form) (bytes : List ℕ) → (command_answer carry restarts form bytes).status ≡ No → (form ≡ Plan) ⊎ (form ≡ Margin) ⊎ (form ≡ Check)
+no_of : (carry : Carry) (restarts : Restarts) (form : Form) (bytes : List ℕ) → (command_answer carry restarts form bytes).status ≡ No → (form ≡ Plan) ⊎ (form ≡ Margin) ⊎ (form ≡ Check) ⊎ (form ≡ Backup) ⊎ (form ≡ Restore) ⊎ ((address : ℕ) × (form ≡ Replay address))
 unfolding command_answer show_answer run_answer gen_answer
 no_of carry restarts Show bytes e = absurd (shown-done (first_fault 1 (lines_of bytes)) e)
 no_of carry restarts Plan bytes e = inl refl
 no_of carry restarts Run bytes e = absurd (traced-done carry restarts (document_of bytes) e)
 no_of carry restarts Margin bytes e = inr (inl refl)
-no_of carry restarts Check bytes e = inr (inr refl)
+no_of carry restarts Check bytes e = inr (inr (inl refl))
+no_of carry restarts Backup bytes e = inr (inr (inr (inl refl)))
+no_of carry restarts Restore bytes e = inr (inr (inr (inr (inl refl))))
+no_of carry restarts (Replay address) bytes e = inr (inr (inr (inr (inr (address, refl)))))
 no_of carry restarts (Gen n) bytes e = absurd (cc)
 
-pub at_no_of : {carry : Carry} {restarts : Restarts} {words : List (List ℕ)} {source : SourceChange} {sink : SinkChange} {Unread Unwritten : Type 0} {status : Status} → Outcome carry restarts words source sink Unread Unwritten status → status ≡ No → (form_of words ≡ Some Plan) ⊎ (form_of words ≡ Some Margin) ⊎ (form_of words ≡ Some Check)
+pub at_no_of : {carry : Carry} {restarts : Restarts} {words : List (List ℕ)} {source : SourceChange} {sink : SinkChange} {Unread Unwritten : Type 0} {status : Status} → Outcome carry restarts words source sink Unread Unwritten status → status ≡ No → (form_of words ≡ Some Plan) ⊎ (form_of words ≡ Some Margin) ⊎ (form_of words ≡ Some Check) ⊎ (form_of words ≡ Some Backup) ⊎ (form_of words ≡ Some Restore) ⊎ ((address : ℕ) × (form_of words ≡ Some (Replay address)))
 unfolding writes_nothing
 at_no_of (stopped status why sink_same writes) e = absurd (not_stopped why refl e)
 at_no_of (answered form bytes status is says reads input ends) e =
-    elim (no_of _ _ form bytes (no_whole _ _ form bytes _ _ ends e).0) [ inl plan ↦ inl (is ∙ ap Some plan) | inr (inl margin) ↦ inr (inl (is ∙ ap Some margin)) | inr (inr check) ↦ inr (inr (is ∙ ap Some check)) ]
+    elim (no_of _ _ form bytes (no_whole _ _ form bytes _ _ ends e).0) [ inl plan ↦ inl (is ∙ ap Some plan) | inr (inl margin) ↦ inr (inl (is ∙ ap Some margin)) | inr (inr (inl check)) ↦ inr (inr (inl (is ∙ ap Some check))) | inr (inr (inr (inl backup))) ↦ inr (inr (inr (inl (is ∙ ap Some backup)))) | inr (inr (inr (inr (inl restore)))) ↦ inr (inr (inr (inr (inl (is ∙ ap Some restore))))) | inr (inr (inr (inr (inr replay)))) ↦ inr (inr (inr (inr (inr (replay.0, is ∙ ap Some replay.1))))) ]

@@ -1,5 +1,5 @@
 -- From a run that is written to what `run` answers.
-use Rattle.std.proofs.Common.{◌≡◌, ◌≢◌, ◌⊎◌, inl, inr, ℕ, zero, suc, List, [], ◌∷◌, ◌++◌, length, Result, Ok, Err, refl, sym, ◌∙◌, subst}
+use Rattle.std.proofs.Common.{◌≡◌, ◌≢◌, ◌⊎◌, inl, inr, ℕ, List, length, Result, Ok, Err, refl, sym, ◌∙◌, subst}
 use Rattle.sercos_io.specs.declared.status.Status.{Status}
 use Rattle.sercos_io.specs.declared.status.Status.TheVariants.{Refused, Memory}
 use Rattle.sercos_step.specs.declared.request.Job.{Job}
@@ -7,65 +7,29 @@ use Rattle.sercos_block.specs.Views.{RingView}
 use Rattle.sercos_script.specs.declared.fault.Fault.{Fault}
 use Rattle.sercos_script.specs.Links.{Carry, Restarts, carried_by_both, restarts_in_either}
 use Rattle.sercos_script.specs.Scripts.{carried, restarts_at}
-use Rattle.sercos_trace.specs.Views.{CycleView}
 use Rattle.sercos_held.specs.Opened.{IsOpened}
 use Rattle.sercos_headline.specs.Headline.{Headline}
 use Rattle.sercos_undisturbed.specs.WholeRuns.{StartsUndisturbed}
 use Rattle.sercos_recovery.specs.Recovers.{Recovers}
-use Rattle.sercos_journal.specs.Runs.{IsNext, IsRun, next_record, run_of}
 use Rattle.sercos_document.specs.declared.refusal.BadDocument.{BadDocument}
 use Rattle.sercos_document.specs.declared.refusal.BadDocument.TheVariants as bads
 use Rattle.sercos_document.specs.Lines.{line_of}
 use Rattle.sercos_config.specs.Views.{DocumentView}
 use Rattle.sercos_config.specs.Document.{document_of}
 use Rattle.sercos_answer.specs.Answer.{Answer}
-use Rattle.sercos_app.specs.Running.{KeepsThroughout, RecoversThroughout, StartsThroughout, IsDocumentRun, RunsItsRing, carry_under, restarts_under, run_answer, run_traced, traced_answer}
+use Rattle.sercos_opened.specs.Kept.{IsDocumentRun, carry_under, restarts_under}
+use Rattle.sercos_opened.proofs.KeptLemmas.{AreNext, opened_is_kept}
+use Rattle.sercos_app.specs.Running.{RunsItsRing, run_answer, run_traced, traced_answer}
 use Rattle.sercos_config.specs.Generated.{generated}
 use Rattle.sercos_app.specs.Generating.{RunsGenerated, gen_answer, run_summed}
 use Rattle.sercos_app.specs.Outcome.{SinkChange, Writes, Replies}
 use Rattle.sercos_app.specs.Outcome.Replies.{none_found, replied}
 
--- each cycle that the function gives is the next one
-abbrev AreNext : Type 0
-AreNext = (r : RingView) (jobs : List Job) (carry : Carry) (restarts : Restarts) (j : List CycleView) → IsNext r jobs carry restarts (next_record r jobs carry restarts j) j
-
-run_is : AreNext
-    → (r : RingView) (jobs : List Job) (carry : Carry) (restarts : Restarts) (n : ℕ) → IsRun r jobs carry restarts (run_of r jobs carry restarts n)
-run_is law r jobs carry restarts zero = tt
-run_is law r jobs carry restarts (suc n) = (run_is law r jobs carry restarts n, law r jobs carry restarts (run_of r jobs carry restarts n))
-
--- the cycles up to one of a run are a run
-run_before : (r : RingView) (jobs : List Job) (carry : Carry) (restarts : Restarts) (later : List CycleView) (j : List CycleView) → IsRun r jobs carry restarts (later ++ j) → IsRun r jobs carry restarts j
-run_before r jobs carry restarts [] j run = run
-run_before r jobs carry restarts (t ∷ later) j run = run_before r jobs carry restarts later j run.0
-
--- a run keeps all that is promised, if the ring may be opened with its requests
-pub run_keeps : AreNext → Headline → (r : RingView) (jobs : List Job) (carry : Carry) (restarts : Restarts) (n : ℕ) → IsOpened r jobs → KeepsThroughout r jobs carry restarts (run_of r jobs carry restarts n)
-run_keeps next law r jobs carry restarts n opened later t j is clear =
-    law r jobs carry restarts t j opened
-    (run_before r jobs carry restarts later (t ∷ j) (subst (λ (run : List CycleView). IsRun r jobs carry restarts run) is (run_is next r jobs carry restarts n))) clear
-
--- and it starts up as it should
-pub run_starts : AreNext → StartsUndisturbed → (r : RingView) (jobs : List Job) (carry : Carry) (restarts : Restarts) (n : ℕ) → IsOpened r jobs → StartsThroughout r jobs carry restarts (run_of r jobs carry restarts n)
-run_starts next law r jobs carry restarts n opened later t j is calm =
-    law r jobs carry restarts t j opened
-    (run_before r jobs carry restarts later (t ∷ j) (subst (λ (run : List CycleView). IsRun r jobs carry restarts run) is (run_is next r jobs carry restarts n))) calm
-
--- and it is back in time, once nothing is disturbed any more
-pub run_recovers : AreNext → Recovers → (r : RingView) (jobs : List Job) (carry : Carry) (restarts : Restarts) (n : ℕ) → IsOpened r jobs → RecoversThroughout r jobs carry restarts (run_of r jobs carry restarts n)
-run_recovers next law r jobs carry restarts n opened later t j is clear =
-    law r jobs carry restarts t j opened
-    (run_before r jobs carry restarts later (t ∷ j) (subst (λ (run : List CycleView). IsRun r jobs carry restarts run) is (run_is next r jobs carry restarts n))) clear
-
 document_runs : AreNext → Headline → StartsUndisturbed → Recovers → (carry : Carry) (restarts : Restarts) (d : DocumentView) → IsOpened d.setup d.jobs → IsDocumentRun carry restarts d
-document_runs next law starts back carry restarts d opened = record {
-  run = run_is next d.setup d.jobs (carry_under d carry) (restarts_under d restarts) d.setup.cycles;
-  keeps = run_keeps next law d.setup d.jobs (carry_under d carry) (restarts_under d restarts) d.setup.cycles opened;
-  starts = run_starts next starts d.setup d.jobs (carry_under d carry) (restarts_under d restarts) d.setup.cycles opened;
-  recovers = run_recovers next back d.setup d.jobs (carry_under d carry) (restarts_under d restarts) d.setup.cycles opened;
-}
+document_runs next law starts back carry restarts d opened =
+    opened_is_kept next law starts back d.setup d.jobs (carry_under d carry) (restarts_under d restarts) d.setup.cycles opened
 
-run_answer_of : (carry : Carry) (restarts : Restarts) (bytes : List ℕ) (d : DocumentView) → document_of bytes ≡ Ok d
+pub run_answer_of : (carry : Carry) (restarts : Restarts) (bytes : List ℕ) (d : DocumentView) → document_of bytes ≡ Ok d
     → run_answer carry restarts bytes ≡ run_traced d.setup d.jobs (carry_under d carry) (restarts_under d restarts)
 unfolding run_answer traced_answer
 run_answer_of carry restarts bytes d is = rw is refl

@@ -12,6 +12,10 @@ use Rattle.sercos_planning.specs.Margins.{margin_answer, MeasuresItsRing}
 use Rattle.sercos_app.specs.Running.{run_answer, RunsItsRing}
 use Rattle.sercos_checking.specs.Checking.{check_answer}
 use Rattle.sercos_app.specs.Generating.{gen_answer, RunsGenerated}
+use Rattle.sercos_app.specs.Saving.{backup_answer, restore_answer}
+use Rattle.sercos_app.specs.Saved.{SavesItsRing, RestoresItsRing}
+use Rattle.sercos_replay.specs.Replaying.{replay_answer}
+use Rattle.sercos_replay.specs.Asking.{Replays}
 use Rattle.sercos_script.specs.Links.{Carry, Restarts}
 
 -- the answer of each command to an input
@@ -21,7 +25,10 @@ command_answer carry restarts forms.Plan bytes = plan_answer bytes
 command_answer carry restarts forms.Margin bytes = margin_answer bytes
 command_answer carry restarts forms.Run bytes = run_answer carry restarts bytes
 command_answer carry restarts forms.Check bytes = check_answer bytes
+command_answer carry restarts forms.Backup bytes = backup_answer carry restarts bytes
+command_answer carry restarts forms.Restore bytes = restore_answer carry restarts bytes
 command_answer carry restarts (forms.Gen drives) bytes = gen_answer carry restarts drives
+command_answer carry restarts (forms.Replay address) bytes = replay_answer address bytes
 
 -- what the answer of each command says beside its text
 abbrev pub SaysWell : Carry → Restarts → Form → List ℕ → Type 0
@@ -30,7 +37,10 @@ SaysWell carry restarts forms.Plan bytes = PlansItsRing bytes
 SaysWell carry restarts forms.Margin bytes = MeasuresItsRing bytes
 SaysWell carry restarts forms.Run bytes = RunsItsRing carry restarts bytes
 SaysWell carry restarts forms.Check bytes = Unit {0}
+SaysWell carry restarts forms.Backup bytes = SavesItsRing carry restarts bytes
+SaysWell carry restarts forms.Restore bytes = RestoresItsRing carry restarts bytes
 SaysWell carry restarts (forms.Gen drives) bytes = RunsGenerated carry restarts drives
+SaysWell carry restarts (forms.Replay address) bytes = Replays address bytes
 
 unfoldable pub form_answer : Carry → Restarts → Option Form → List ℕ → Answer
 form_answer carry restarts None bytes = record { status = BadWords; output = [] }

@@ -10,8 +10,8 @@ use Rattle.sercos_trace.specs.declared.record.Totals.{Totals}
 use Rattle.sercos_journal.specs.Runs.{run_of}
 use Rattle.sercos_config.specs.Generated.{generated}
 use Rattle.sercos_answer.specs.Answer.{Answer, line_feed}
-use Rattle.sercos_app.specs.Totals.{totals_of}
-use Rattle.sercos_app.specs.Running.{carry_under, restarts_under, document_run, IsDocumentRun}
+use Rattle.sercos_totals.specs.Totals.{totals_of}
+use Rattle.sercos_opened.specs.Kept.{document_run, IsDocumentRun}
 
 -- The summary of the run of n drives. In the parts of the line a `D` stands for a number: how many drives and cycles; the first
 -- cycle commanded phase 4, if there is one; and the counts.

@@ -12,7 +12,8 @@ use Rattle.sercos_trace.specs.Written.{Seen, HasTaken, HasFailed}
 use Rattle.sercos_trace.specs.declared.record.Totals.{Totals}
 use Rattle.sercos_script.specs.Links.{Carry, Restarts}
 use Rattle.sercos_journal.specs.Runs.{run_of}
-use Rattle.sercos_app.specs.Totals.{totals_of}
+use Rattle.sercos_totals.specs.Totals.{totals_of}
+use Rattle.sercos_totals.specs.Counting.{AreFew}
 
 -- the trace of a journal, whose newest cycle comes first
 abbrev pub journal_text : WishesView → List CycleView → List ℕ
@@ -37,15 +38,6 @@ pub record Journal {R : Type 0} (stands : R → RingView → List Job → Carry 
   pub cycles : List CycleView
   pub count : length cycles ≡ n
   pub stands_for : (r : RingView) (jobs : List Job) (carry : Carry) (restarts : Restarts) → stands old r jobs carry restarts [] → stands new r jobs carry restarts cycles
-
--- n cycles of a run have counts of this size at most
-pub record AreFew (t : Totals) (n : ℕ) : Type 0 where
-  pub cycles : t.cycles ≤ n
-  pub complete : t.complete ≤ n * 128
-  pub refused : t.refused ≤ n * 128
-  pub broken : t.broken ≤ n * 128
-  pub falls : t.falls ≤ n
-  pub unseen : t.unseen ≤ n * 195
 
 -- the lines of cycles, the newest of which comes first
 abbrev pub cycles_text : WishesView → List CycleView → List ℕ

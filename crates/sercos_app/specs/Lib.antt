@@ -1,10 +1,13 @@
-pub mod Totals
-pub mod Counting
 pub mod Journals
 pub mod RunWriting
 pub mod Running
 pub mod Generating
+pub mod Saving
+pub mod Tracking
+pub mod Saved
 pub mod Given
 pub mod Answer
 pub mod TopCall
 pub mod Outcome
+pub mod OwnRun
+pub mod Giving

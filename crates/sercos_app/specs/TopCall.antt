@@ -1,6 +1,6 @@
 -- What the top call does with its source and its sink. The bytes that a source has left and those that a sink holds are
 -- known where it tells them.
-use Rattle.std.specs.Prelude.{◌≡◌, ℕ, ◌<◌, ◌≤◌, Bool, true, false, List, [], length, reverse, take, Option, Some, None, Ok}
+use Rattle.std.specs.Prelude.{◌≡◌, ℕ, ◌<◌, ◌≤◌, Bool, true, false, List, [], codes, length, reverse, take, Option, Some, None, Ok}
 use Rattle.std.specs.Io.KnownBytes.{Appends, Consumes, IsAtEnd}
 use Rattle.sercos_io.specs.declared.status.Status.{Status}
 use Rattle.sercos_io.specs.declared.status.Status.TheVariants.{BadWords, Refused, ReadFault, WriteFault, Memory, TooLong}
@@ -12,6 +12,10 @@ use Rattle.sercos_answer.specs.Lines.{lines_of}
 use Rattle.sercos_planning.specs.Planning.{plan_text, chain_text}
 use Rattle.sercos_planning.specs.Margins.{TellsMargins, TellsChain}
 use Rattle.sercos_checking.specs.Checking.{capture_fault, first_violation, violation_text, clean_text}
+use Rattle.sercos_replay.specs.Places.{PlaceView}
+use Rattle.sercos_replay.specs.Stations.{Station, station_differs}
+use Rattle.sercos_replay.specs.Replaying.{place_text, number_line}
+use Rattle.sercos_replay.specs.Asking.{Asks, Breaks, cycles_in}
 use Rattle.sercos_timing.specs.Views.{PlanView}
 use Rattle.sercos_plan.specs.Least.{IsLeast, NoneFits}
 use Rattle.sercos_plan.specs.Views.{ChainView}
@@ -19,9 +23,16 @@ use Rattle.sercos_plan.specs.Chains.{IsChain}
 use Rattle.sercos_block.specs.Rings.{wishes_of}
 use Rattle.sercos_trace.specs.Views.{CycleView}
 use Rattle.sercos_trace.specs.Texts.{trace_of}
-use Rattle.sercos_journal.specs.Runs.{IsRun}
-use Rattle.sercos_app.specs.Totals.{totals_of}
-use Rattle.sercos_app.specs.Running.{carry_under, restarts_under, KeepsThroughout, RecoversThroughout, StartsThroughout}
+use Rattle.std.specs.List.{flat_map}
+use Rattle.sercos_block.specs.Views.{RingView}
+use Rattle.sercos_journal.specs.Runs.{IsRun, run_of}
+use Rattle.sercos_backup.specs.Jobs.{list_jobs, place_of_other}
+use Rattle.sercos_backup.specs.Tracking.{are_well}
+use Rattle.sercos_backup.specs.Texts.{failed_lines, many_answer, restored_line, saved_lines}
+use Rattle.sercos_app.specs.Saving.{last_data, run_tracked}
+use Rattle.sercos_app.specs.Saved.{IsRestoredRun, IsSaved, second_jobs}
+use Rattle.sercos_totals.specs.Totals.{totals_of}
+use Rattle.sercos_opened.specs.Kept.{carry_under, restarts_under, KeepsThroughout, RecoversThroughout, StartsThroughout}
 use Rattle.sercos_config.specs.Views.{DocumentView}
 use Rattle.sercos_config.specs.Document.{document_of}
 use Rattle.sercos_config.specs.Generated.{generated}
@@ -149,6 +160,35 @@ pub record CleanTold (left left' held held' : Option (List ℕ)) : Type 0 where
   pub none : first_violation [] (lines_of bytes) ≡ None
   pub written : Appends held held' (clean_text (length (lines_of bytes)))
 
+-- The source was read to its end as the document of a ring and a capture, and asks for the replay of the station with an address.
+-- What was appended is the first place at which this station said something else than its rules give, with both telegrams; or, where
+-- there is none, the number of cycles.
+pub record PlaceTold (address : ℕ) (left left' held held' : Option (List ℕ)) : Type 0 where
+  pub bytes : List ℕ
+  pub read : ReadsWhole left left' bytes
+  pub station : Station
+  pub capture : List ℕ
+  pub asks : Asks address bytes station capture
+  pub place : PlaceView
+  pub first : station_differs station (cycles_in capture) ≡ Some place
+  pub written : Appends held held' (place_text place)
+
+pub record AgreementTold (address : ℕ) (left left' held held' : Option (List ℕ)) : Type 0 where
+  pub bytes : List ℕ
+  pub read : ReadsWhole left left' bytes
+  pub station : Station
+  pub capture : List ℕ
+  pub asks : Asks address bytes station capture
+  pub none : station_differs station (cycles_in capture) ≡ None
+  pub written : Appends held held' (number_line (codes "agrees ") (length (cycles_in capture)))
+
+-- The same, but that the capture breaks a rule: what was appended names its first line that does, and the lowest rule that it breaks.
+pub record BreachTold (address : ℕ) (left left' held held' : Option (List ℕ)) : Type 0 where
+  pub bytes : List ℕ
+  pub read : ReadsWhole left left' bytes
+  pub breaks : Breaks address bytes
+  pub written : Appends held held' (violation_text breaks.line breaks.rule)
+
 -- The source was read to its end as the document of a ring, and what was appended is the trace of the one run of this ring, for its
 -- number of cycles, under its script followed by the link handed in. Its cycles keep all that is promised of them. The newest cycle of
 -- the journal comes first.
@@ -175,3 +215,48 @@ pub record RunSummed (carry : Carry) (restarts : Restarts) (n : ℕ) (held held'
   pub recovers : RecoversThroughout (generated n).setup (generated n).jobs (carry_under (generated n) carry) (restarts_under (generated n) restarts) journal
   pub count : length journal ≡ (generated n).setup.cycles
   pub written : Appends held held' (gen_line n (totals_of (reverse journal)))
+
+-- Nothing is saved of a ring, and this text says why: the lists of some drives couldn't be read; the blocks on the lists are too many;
+-- or some of them couldn't be read.
+pub data IsUnsaved (r : RingView) (carry : Carry) (restarts : Restarts) : List ℕ → Type 0 where
+  lists_failed : are_well true (run_tracked r (list_jobs r) carry restarts) ≡ false → IsUnsaved r carry restarts (failed_lines true (run_tracked r (list_jobs r) carry restarts))
+  too_many : are_well true (run_tracked r (list_jobs r) carry restarts) ≡ true → 4096 < length (second_jobs r carry restarts) → IsUnsaved r carry restarts (many_answer (length (second_jobs r carry restarts))).output
+  blocks_failed : are_well true (run_tracked r (list_jobs r) carry restarts) ≡ true → length (second_jobs r carry restarts) ≤ 4096 → are_well false (run_tracked r (second_jobs r carry restarts) carry restarts) ≡ false
+      → IsUnsaved r carry restarts (failed_lines false (run_tracked r (second_jobs r carry restarts) carry restarts))
+
+-- The source was read to its end as the document of a ring. The lists of backup operation data of its drives were read in one run of the
+-- ring, and all blocks on them in a second one. What was appended is the saved data of these blocks, in the order of the lists.
+pub record BackupSaved (carry : Carry) (restarts : Restarts) (left left' held held' : Option (List ℕ)) : Type 0 where
+  pub bytes : List ℕ
+  pub read : ReadsWhole left left' bytes
+  pub says : DocumentView
+  pub document : document_of bytes ≡ Ok says
+  pub lists : are_well true (run_tracked says.setup (list_jobs says.setup) (carry_under says carry) (restarts_under says restarts)) ≡ true
+  pub few : length (second_jobs says.setup (carry_under says carry) (restarts_under says restarts)) ≤ 4096
+  pub blocks : are_well false (run_tracked says.setup (second_jobs says.setup (carry_under says carry) (restarts_under says restarts)) (carry_under says carry) (restarts_under says restarts)) ≡ true
+  pub runs : IsSaved says.setup (carry_under says carry) (restarts_under says restarts)
+  pub written : Appends held held' (saved_lines (run_tracked says.setup (second_jobs says.setup (carry_under says carry) (restarts_under says restarts)) (carry_under says carry) (restarts_under says restarts)))
+
+-- The same, but that nothing is saved, and what was appended says why.
+pub record BackupFailed (carry : Carry) (restarts : Restarts) (left left' held held' : Option (List ℕ)) : Type 0 where
+  pub bytes : List ℕ
+  pub read : ReadsWhole left left' bytes
+  pub says : DocumentView
+  pub document : document_of bytes ≡ Ok says
+  pub text : List ℕ
+  pub why : IsUnsaved says.setup (carry_under says carry) (restarts_under says restarts) text
+  pub written : Appends held held' text
+
+-- The source was read to its end as the document of a ring whose requests all write operation data. What was appended has a line for
+-- each of them, from the one run of the ring: what the drive has after its last cycle, or how the request failed. `all` says whether none
+-- did.
+pub record RestoreTold (carry : Carry) (restarts : Restarts) (all : Bool) (left left' held held' : Option (List ℕ)) : Type 0 where
+  pub bytes : List ℕ
+  pub read : ReadsWhole left left' bytes
+  pub says : DocumentView
+  pub document : document_of bytes ≡ Ok says
+  pub writes : place_of_other says.jobs ≡ None
+  pub run : IsRestoredRun says.setup says.jobs (carry_under says carry) (restarts_under says restarts)
+  pub whole : are_well false (run_tracked says.setup says.jobs (carry_under says carry) (restarts_under says restarts)) ≡ all
+  pub written : Appends held held' (flat_map (restored_line (last_data says.setup (carry_under says carry) (restarts_under says restarts) (run_of says.setup says.jobs (carry_under says carry) (restarts_under says restarts) says.setup.cycles)))
+      (run_tracked says.setup says.jobs (carry_under says carry) (restarts_under says restarts)))

@@ -4,6 +4,7 @@ ghost use Rattle.sercos_app.specs.Given.{IsWritable, given_status, given_text};
 ghost use Rattle.sercos_document.specs.Lines.{line_of};
 ghost use Rattle.sercos_app.specs.Outcome.{Writes, changed};
 ghost use Rattle.sercos_app.specs.TopCall.{fault_status};
+ghost use Rattle.sercos_app.specs.Giving.{GivesReply};
 
 use sercos_answer::Reply;
 use sercos_config::{BadDocument, write_refusal};
@@ -48,6 +49,16 @@ fn give_reply<K: Sink>(reply: &Reply, sink: &mut K) -> Status
     match write_all(sink, reply.text.as_slice()) {
         Ok(()) => reply.status,
         Err(_) => fault_status(reply.status),
+    }
+}
+
+/// Writes a reply, if memory was found for it.
+pub fn give_if_made<K: Sink>(made: &Result<Reply, AllocError>, sink: &mut K) -> Status
+    ensures { GivesReply made.now (changed K.held K.faults K.room sink.old sink.new) (sink.new ≡ sink.old) result }
+{
+    match made {
+        Ok(reply) => give_reply(reply, sink),
+        Err(_) => Status::Memory,
     }
 }
 

@@ -12,13 +12,12 @@ ghost use Rattle.sercos_trace.specs.Written.{seen, Writes};
 ghost use Rattle.sercos_journal.specs.Runs.{run_of};
 ghost use Rattle.sercos_held.specs.Opened.{IsOpened};
 ghost use Rattle.sercos_ring.specs.Kept.{AfterCycle, RingStandsFor, cycles_made, newest};
-ghost use Rattle.sercos_app.specs.Counting.{HasRoom, IsFew, with_cycle};
+ghost use Rattle.sercos_totals.specs.Counting.{HasRoom, IsFew, with_cycle};
 ghost use Rattle.sercos_app.specs.Journals.{HasMade, IsRingOf, OfRun, WritesCycles, journal_text};
-ghost use Rattle.sercos_app.specs.Totals.{totals_of};
+ghost use Rattle.sercos_totals.specs.Totals.{totals_of};
 ghost use Rattle.sercos_app.specs.RunWriting.{WritesRun};
-ghost use Rattle.sercos_app.specs.Running.{KeepsThroughout, RecoversThroughout, StartsThroughout};
+ghost use Rattle.sercos_opened.specs.Kept.{KeepsThroughout, RecoversThroughout, StartsThroughout};
 
-use crate::counting::{count_made, no_totals};
 use sercos_block::ring_law;
 use sercos_headline::headline_law;
 use sercos_io::{Sink, WriteFailed};
@@ -29,6 +28,7 @@ use sercos_ring::{Ring, standing_law};
 use sercos_script::BitLink;
 use sercos_text::Line;
 use sercos_timing::Wishes;
+use sercos_totals::{count_made, no_totals};
 use sercos_trace::{CycleRecord, Totals, write_end, write_header, write_marked_cycle};
 use sercos_undisturbed::undisturbed_law;
 

@@ -2,20 +2,26 @@
 ghost use Rattle.std.specs.Prelude.{◌≡◌, ◌≢◌, ℕ, ◌≤◌, ◌⊎◌, true, false, List, length, Some, None, IsTrue, IfOk};
 ghost use Rattle.sercos_model.specs.Streams.{Rose};
 ghost use Rattle.sercos_app.specs.Answer.{answer_of, command_answer, SaysWell};
-ghost use Rattle.sercos_words.specs.Form.{form_of, reads_input, HasDrives};
+ghost use Rattle.sercos_words.specs.Form.{form_of, reads_input, HasNumber};
 ghost use Rattle.sercos_app.specs.Given.{Gives, IsWritable};
 ghost use Rattle.sercos_app.specs.Outcome.{Outcome, Replies, GivesMade, changed};
 ghost use Rattle.sercos_planning.specs.Margins.{MeasuresItsRing, margin_answer};
 ghost use Rattle.sercos_planning.specs.Planning.{PlansItsRing, plan_answer};
 ghost use Rattle.sercos_show.specs.Show.{show_answer};
-ghost use Rattle.sercos_app.specs.TopCall.{writes_nothing, HasInput, TakesAtMost, TakesTooMany, IsAnswered, IsCutShort, IsAnswer, NonePlanned, LeastPlanned, MarginsTold, ChainTold, ViolationTold, CleanTold, RunTraced, RunSummed};
+ghost use Rattle.sercos_replay.specs.Asking.{Asks, Replays, cycles_in};
+ghost use Rattle.sercos_replay.specs.Replaying.{place_answer, replay_answer};
+ghost use Rattle.sercos_replay.specs.Stations.{Station, station_differs};
+ghost use Rattle.sercos_app.specs.TopCall.{writes_nothing, HasInput, TakesAtMost, TakesTooMany, IsAnswered, IsCutShort, IsAnswer, NonePlanned, LeastPlanned, MarginsTold, ChainTold, ViolationTold, CleanTold, PlaceTold, AgreementTold, BreachTold, RunTraced, RunSummed, BackupSaved, BackupFailed, RestoreTold};
 
+use crate::backup_command::answer_backup;
 use crate::check_command::answer_check;
 use crate::gen_command::answer_gen;
 use crate::given::{Given, give, refused};
+use crate::restore_command::answer_restore;
 use crate::run_command::answer_run;
 use sercos_io::{ReadAll, Sink, Source, Status, Words, read_all};
 use sercos_planning::{margins, plan};
+use sercos_replay::replay;
 use sercos_script::BitLink;
 use sercos_show::show::show;
 use sercos_words::{Form, form_of};
@@ -45,6 +51,19 @@ fn measured(alloc: Global, bytes: &[u8]) -> Result<Given, AllocError>
     ensures says { IfOk result (λ _. MeasuresItsRing bytes.now) }
 {
     match margins(alloc, bytes) {
+        Ok(reply) => Ok(Given::Reply(reply)),
+        Err(bad) => refused(bad),
+    }
+}
+
+// What `replay` gives for an input. Its stack is apart from that of the other commands: the states of a drive and of the master are large.
+#[inline(never)]
+fn replayed(alloc: Global, address: u8, bytes: &[u8]) -> Result<Given, AllocError>
+    requires few { length bytes.now ≤ 1048576 }
+    ensures given { IfOk result (λ given. Gives given (replay_answer address bytes.now)) }
+    ensures says { IfOk result (λ _. Replays address bytes.now) }
+{
+    match replay(alloc, address, bytes) {
         Ok(reply) => Ok(Given::Reply(reply)),
         Err(bad) => refused(bad),
     }
@@ -85,6 +104,15 @@ fn answer_margin<K: Sink>(alloc: Global, bytes: &[u8], sink: &mut K) -> Status
     give_made(&measured(alloc, bytes), sink)
 }
 
+// Answers an input by `replay`.
+fn answer_replay<K: Sink>(alloc: Global, address: u8, bytes: &[u8], sink: &mut K) -> Status
+    requires few { length bytes.now ≤ 1048576 }
+    ensures { Replies (replay_answer address bytes.now) (Replays address bytes.now)
+        (changed K.held K.faults K.room sink.old sink.new) (sink.new ≡ sink.old) result }
+{
+    give_made(&replayed(alloc, address, bytes), sink)
+}
+
 // Whether a command reads its source.
 #[tactic(auto, unfolding(sercos_words::specs::Form::reads_input))]
 fn reads_input(form: Form) -> bool
@@ -102,7 +130,7 @@ fn answer<K: Sink, L: BitLink>(
     sink: &mut K,
     link: L,
 ) -> Status
-    requires drives { HasDrives form }
+    requires number { HasNumber form }
     requires few { length bytes.now ≤ 1048576 }
     ensures { Replies (command_answer (L.carry link) (L.restart link) form bytes.now) (SaysWell (L.carry link) (L.restart link) form bytes.now)
         (changed K.held K.faults K.room sink.old sink.new) (sink.new ≡ sink.old) result }
@@ -113,7 +141,10 @@ fn answer<K: Sink, L: BitLink>(
         Form::Margin => answer_margin(alloc, bytes, sink),
         Form::Run => answer_run(alloc, bytes, link, sink),
         Form::Check => answer_check(bytes, sink),
+        Form::Backup => answer_backup(alloc, bytes, link, sink),
+        Form::Restore => answer_restore(alloc, bytes, link, sink),
         Form::Gen(drives) => answer_gen(alloc, drives, link, sink),
+        Form::Replay(address) => answer_replay(alloc, address, bytes, sink),
     }
 }
 
@@ -158,8 +189,10 @@ fn respond<S: Source, K: Sink, L: BitLink>(
 /// reads nothing. `run` writes the lines of each cycle as the cycle is made; each other command writes its output once it is
 /// whole. The clauses on the bytes of source and sink hold where these tell them, as those in memory do.
 ///
-/// The forms of words are `show`, `plan`, `margin`, `run`, `check`, and `gen N` for 1 to 64 drives, with at most one word `--` anywhere.
-/// `run` and `gen` run their ring over the script of the document, followed by `link`; no other command uses `link`. Words in no
+/// The forms of words are `show`, `plan`, `margin`, `run`, `check`, `backup`, `restore`, `gen N` for 1 to 64 drives, and `replay A` for an address from 0 to
+/// 254, with at most one word `--` anywhere.
+/// `run`, `gen`, `backup` and `restore` run their ring over the script of the document, followed by `link`; no other command uses
+/// `link`. Words in no
 /// form are `BadWords`, and nothing is read. `ReadFault` is returned if a read failed, `TooLong` if the input is longer, and
 /// `Memory` if no memory was found; then nothing is written. A refused input is `Refused`, also if its line couldn't be written
 /// whole. After any other failed write the status is `WriteFault`, and the sink has taken a prefix of the output.
@@ -197,12 +230,13 @@ pub fn sercos<S: Source, K: Sink, L: BitLink>(
     ensures too_long { result ≡ Status.TooLong → TakesTooMany (S.left source.old) (S.left source.new) }
 
     // Done and No come only where the input was read to its end, its answer has this status, and the whole output was
-    // appended; No comes from `plan`, `margin` and `check` alone.
+    // appended; No comes from `plan`, `margin`, `check`, `backup`, `restore` and `replay` alone.
     ensures done { result ≡ Status.Done → IsAnswered (L.carry link) (L.restart link) words.now Status.Done
         (S.left source.old) (S.left source.new) (K.held sink.old) (K.held sink.new) }
     ensures no { result ≡ Status.No → IsAnswered (L.carry link) (L.restart link) words.now Status.No
         (S.left source.old) (S.left source.new) (K.held sink.old) (K.held sink.new) }
-    ensures no_of { result ≡ Status.No → (form_of words.now ≡ Some Form.Plan) ⊎ (form_of words.now ≡ Some Form.Margin) ⊎ (form_of words.now ≡ Some Form.Check) }
+    ensures no_of { result ≡ Status.No → (form_of words.now ≡ Some Form.Plan) ⊎ (form_of words.now ≡ Some Form.Margin) ⊎ (form_of words.now ≡ Some Form.Check)
+        ⊎ (form_of words.now ≡ Some Form.Backup) ⊎ (form_of words.now ≡ Some Form.Restore) ⊎ ((address : ℕ) × (form_of words.now ≡ Some (Form.Replay address))) }
 
     // No comes from `plan` only where no plan fits the ring that was read, whatever plan it is, and with the text of a chain that
     // proves it; and Done only with the text of the least plan.
@@ -225,12 +259,44 @@ pub fn sercos<S: Source, K: Sink, L: BitLink>(
     ensures clean { result ≡ Status.Done → form_of words.now ≡ Some Form.Check → CleanTold
         (S.left source.old) (S.left source.new) (K.held sink.old) (K.held sink.new) }
 
+    // No comes from `replay A` only with the first place at which the station with the address A said something else than its rules give of
+    // all that the capture has before that place; or, where the capture breaks a rule, with what `check` says of it. Done comes only where
+    // no place differs. Wherever the input asks for a replay, and nothing outside fails, the answer is that place or the number of cycles.
+    ensures differs { (address : ℕ) → result ≡ Status.No → form_of words.now ≡ Some (Form.Replay address) →
+        PlaceTold address (S.left source.old) (S.left source.new) (K.held sink.old) (K.held sink.new)
+        ⊎ BreachTold address (S.left source.old) (S.left source.new) (K.held sink.old) (K.held sink.new) }
+    ensures agrees { (address : ℕ) → result ≡ Status.Done → form_of words.now ≡ Some (Form.Replay address) →
+        AgreementTold address (S.left source.old) (S.left source.new) (K.held sink.old) (K.held sink.new) }
+    ensures replays { (address : ℕ) (bytes capture : List ℕ) (station : Station) → form_of words.now ≡ Some (Form.Replay address)
+        → S.left source.old ≡ Some bytes → length bytes ≤ 1048576 → Asks address bytes station capture
+        → (Rose (S.faults source.old) (S.faults source.new) → ⊥)
+        → (Rose (K.faults sink.old) (K.faults sink.new) → ⊥)
+        → (result ≡ Status.Memory)
+        ⊎ IsAnswer (place_answer (station_differs station (cycles_in capture)) (length (cycles_in capture))) result (K.held sink.old) (K.held sink.new) }
+
     // Done comes from `run` only with the trace of the one run of the ring that was read, and from `gen` only with the summary of
     // the one run of the ring that it generates.
     ensures traced { result ≡ Status.Done → form_of words.now ≡ Some Form.Run → RunTraced (L.carry link) (L.restart link)
         (S.left source.old) (S.left source.new) (K.held sink.old) (K.held sink.new) }
     ensures summed { (n : ℕ) → result ≡ Status.Done → form_of words.now ≡ Some (Form.Gen n) →
         RunSummed (L.carry link) (L.restart link) n (K.held sink.old) (K.held sink.new) }
+
+    // Done comes from `backup` only with the saved data of all blocks on the drives' lists of backup operation data, which were read in two
+    // runs of the ring; where nothing was unseen in a run, what was read in it are the bytes that the drive's store had in the one
+    // cycle in which the drive accepted the selection. No comes only with the requests that failed, or where the blocks are too many.
+    ensures saved { result ≡ Status.Done → form_of words.now ≡ Some Form.Backup → BackupSaved (L.carry link) (L.restart link)
+        (S.left source.old) (S.left source.new) (K.held sink.old) (K.held sink.new) }
+    ensures unsaved { result ≡ Status.No → form_of words.now ≡ Some Form.Backup → BackupFailed (L.carry link) (L.restart link)
+        (S.left source.old) (S.left source.new) (K.held sink.old) (K.held sink.new) }
+
+    // Done and No come from `restore` only where each request of the ring writes operation data, with a line for each: what the drive
+    // has after the last cycle of the one run of the ring, or how the request failed; Done only where none did. Where nothing was
+    // unseen in the run, what is printed for a complete write is the data of the last request for the block, filled up to whole
+    // words, if the drive has the block and the start-up doesn't write it.
+    ensures restored { result ≡ Status.Done → form_of words.now ≡ Some Form.Restore → RestoreTold (L.carry link) (L.restart link) true
+        (S.left source.old) (S.left source.new) (K.held sink.old) (K.held sink.new) }
+    ensures unrestored { result ≡ Status.No → form_of words.now ≡ Some Form.Restore → RestoreTold (L.carry link) (L.restart link) false
+        (S.left source.old) (S.left source.new) (K.held sink.old) (K.held sink.new) }
 
     // Refused too comes only where the input was read to its end; if writing the refusal failed, a prefix of it was appended.
     ensures refused { result ≡ Status.Refused →

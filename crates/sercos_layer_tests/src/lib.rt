@@ -4,6 +4,8 @@
 #[cfg(test)]
 mod adapters;
 #[cfg(test)]
+mod backups;
+#[cfg(test)]
 mod blocks;
 #[cfg(test)]
 mod channels;

@@ -6,3 +6,12 @@ pub mod Worked
 pub mod CleanLemmas
 pub mod AgreeLemmas
 pub mod GivenLemmas
+pub mod DividedLemmas
+pub mod LineLemmas
+pub mod StationLemmas
+pub mod AskingLemmas
+pub mod UndisturbedLemmas
+pub mod FeedLemmas
+pub mod SilentLemmas
+pub mod TracedLemmas
+mod WorkedAnswers

@@ -4,3 +4,9 @@ pub mod Differences
 pub mod Kept
 pub mod Captured
 pub mod Given
+pub mod Divided
+pub mod Stations
+pub mod Replaying
+pub mod Asking
+pub mod Undisturbed
+pub mod Traced

@@ -1,12 +1,21 @@
-//! The replay of one end of a ring against a capture: where a drive or the master first said something else than its rules give.
+//! The replay of one end of a ring against a capture: where a drive or the master first said something else than its rules give. And
+//! the answer of `replay A`, to a ring document and a capture.
 #![tactic(auto)]
 
 mod difference;
+mod divided;
 mod drive_replay;
 mod law;
+mod lines;
 mod master_replay;
+mod place_text;
+mod replaying;
+mod station;
+mod undisturbed;
 
 pub use difference::Difference;
 pub use drive_replay::DriveReplay;
 pub use law::{agreement_law, capture_law};
 pub use master_replay::MasterReplay;
+pub use replaying::replay;
+pub use undisturbed::undisturbed_law;

@@ -1,5 +1,5 @@
 -- Lemmas on the words of the commands.
-use Rattle.std.proofs.Common.{◌≡◌, ◌≢◌, codes, subst, ◌⊎◌, inl, inr, ℕ, zero, suc, ◌+◌, ◌<◌, ◌≤◌, Bool, true, false, cond, List, [], ◌∷◌, ◌++◌, length, drop, decimal, Option, Some, None, refl, sym, ap, ◌∙◌, arith, slice_get, append-nil}
+use Rattle.std.proofs.Common.{◌≡◌, ◌≢◌, codes, subst, ◌⊎◌, inl, inr, ℕ, zero, suc, ◌+◌, ◌-◌, ◌<◌, ◌≤◌, Bool, true, false, cond, List, [], ◌∷◌, ◌++◌, length, drop, decimal, Option, Some, None, refl, sym, ap, ◌∙◌, arith, slice_get, append-nil}
 use Rattle.std.specs.Prelude.{IfSome, option_map}
 use Rattle.std.specs.Borrow.{Bor}
 use Rattle.std.specs.List.{find, range_with_len}
@@ -16,7 +16,7 @@ use Rattle.clap.specs.declared.error.kind.ErrorKind.TheVariants as kind
 use Rattle.clap.specs.declared.parser.matches.ArgMatches.{ArgMatches}
 use Rattle.clap.proofs.WalkLemmas.{first_value-rows}
 use Rattle.sercos_words.specs.CommandLine.{command_line}
-use Rattle.sercos_words.specs.Form.{drives_named, plain_form, form_of, without_dashes}
+use Rattle.sercos_words.specs.Form.{number_named, plain_form, form_of, without_dashes}
 use Rattle.sercos_words.proofs.WordsRead.{Reads, words_read, line_is_simple, line_is_plain}
 use Rattle.sercos_words.proofs.WordsRead.Reads.{taken_words, refused_words}
 use Rattle.sercos_words.specs.declared.form.Form.{Form}
@@ -50,61 +50,61 @@ one_in_range p a (suc n) x is only = by_test (p a) refl (λ further. one_in_rang
     by_test true passes more = ap Some (only a (omega arith) passes)
     by_test false fails more = more (record { passes = is.passes; above = later (cases_lt a x) fails; below = omega (arith, is.below) })
 
--- a word names a number of drives exactly where it is that number's text
-pub names_drives : (word : List ℕ) (n : ℕ) → word ≡ decimal n → 0 < n → n ≤ 64 → drives_named word ≡ Some n
-unfolding drives_named
-names_drives word n is some few =
-    one_in_range (λ n. bytes_eq word (decimal n)) 1 64 n
-    (record { passes = (bytes_eq-Decides word (decimal n)).1 is; above = omega arith; below = omega arith })
-    (λ y below passes. decimal_injective y n (omega (arith, below)) (omega arith) (sym ((bytes_eq-Decides word (decimal y)).0 passes) ∙ is))
+-- a word names one of these numbers exactly where it is that number's text
+pub names_number : (first last : ℕ) (word : List ℕ) (n : ℕ) → word ≡ decimal n → first ≤ n → n ≤ last → last ≤ 255 → number_named first last word ≡ Some n
+unfolding number_named
+names_number first last word n is above below small =
+    one_in_range (λ n. bytes_eq word (decimal n)) first (last + 1 - first) n
+    (record { passes = (bytes_eq-Decides word (decimal n)).1 is; above = above; below = omega (arith, above, below) })
+    (λ y within passes. decimal_injective y n (omega (arith, within, above, below, small)) (omega (arith, below, small)) (sym ((bytes_eq-Decides word (decimal y)).0 passes) ∙ is))
 
-pub drives_named-is : (word : List ℕ) (n : ℕ) → drives_named word ≡ Some n → (word ≡ decimal n) × (0 < n) × (n ≤ 64)
-unfolding drives_named
-drives_named-is word n is =
-    let found = found_in_range (λ n. bytes_eq word (decimal n)) 1 64 n is in
-    ((bytes_eq-Decides word (decimal n)).0 found.passes, omega (arith, found.above), omega (arith, found.below))
+pub number_named-is : (first last : ℕ) (word : List ℕ) (n : ℕ) → number_named first last word ≡ Some n → (word ≡ decimal n) × (first ≤ n) × (n ≤ last)
+unfolding number_named
+number_named-is first last word n is =
+    let found = found_in_range (λ n. bytes_eq word (decimal n)) first (last + 1 - first) n is in
+    ((bytes_eq-Decides word (decimal n)).0 found.passes, found.above, omega (arith, found.above, found.below))
 
 -- a word that is a number without a fault, and nothing more
-pub drives_read : (word : List ℕ) (len n : ℕ) → None ≡ number_fault 64 word → len ≡ number_len word → n ≡ number_of word → len ≡ length word → 0 < n → Some n ≡ drives_named word
-drives_read word len n none len_is n_is whole some =
-    let good = IsGood-number_fault 64 word (sym none) in
+pub number_read : (first last : ℕ) (word : List ℕ) (len n : ℕ) → last ≤ 255 → None ≡ number_fault last word → len ≡ number_len word → n ≡ number_of word → len ≡ length word → first ≤ n → Some n ≡ number_named first last word
+number_read first last word len n small none len_is n_is whole some =
+    let good = IsGood-number_fault last word (sym none) in
     let rest : drop (number_len word) word ≡ [] = drop_all (number_len word) word (omega (arith, len_is, whole)) in
-    let text : word ≡ decimal n = number_spelled 64 word (omega arith) good ∙ ap (λ t. decimal (number_of word) ++ t) rest ∙ append-nil (decimal (number_of word)) ∙ ap decimal (sym n_is) in
-    sym (names_drives word n text some (omega (arith, n_is, good.most_is)))
+    let text : word ≡ decimal n = number_spelled last word (omega (arith, small)) good ∙ ap (λ t. decimal (number_of word) ++ t) rest ∙ append-nil (decimal (number_of word)) ∙ ap decimal (sym n_is) in
+    sym (names_number first last word n text some (omega (arith, n_is, good.most_is)) small)
 
--- what a word that names drives is read as
-pub record ReadsDrives (word : List ℕ) : Type 0 where
-  none : number_fault 64 word ≡ None
+-- what a word that names a number is read as
+pub record ReadsNamed (first last : ℕ) (word : List ℕ) : Type 0 where
+  none : number_fault last word ≡ None
   whole : number_len word ≡ length word
-  some : 0 < number_of word
+  some : first ≤ number_of word
 
-reads_drives : (word : List ℕ) (n : ℕ) → drives_named word ≡ Some n → ReadsDrives word
-reads_drives word n is =
-    let named = drives_named-is word n is in
+reads_named : (first last : ℕ) (word : List ℕ) (n : ℕ) → last ≤ 255 → number_named first last word ≡ Some n → ReadsNamed first last word
+reads_named first last word n small is =
+    let named = number_named-is first last word n is in
     let text : decimal n ++ [] ≡ word = append-nil (decimal n) ∙ sym named.0 in
-    let reads : ReadsNumber word n = subst (λ t. ReadsNumber t n) text (reads_number n [] (omega (arith, named.2)) refl) in
+    let reads : ReadsNumber word n = subst (λ t. ReadsNumber t n) text (reads_number n [] (omega (arith, named.2, small)) refl) in
     record {
-      none = number_fault-IsGood 64 word (record { some = reads.some; lead = reads.lead; most_is = omega (arith, reads.number, named.2) });
+      none = number_fault-IsGood last word (record { some = reads.some; lead = reads.lead; most_is = omega (arith, reads.number, named.2) });
       whole = reads.len ∙ ap length (sym named.0);
       some = omega (arith, reads.number, named.1);
     }
 
 -- a word that isn't so names none
-pub no_drives : (word : List ℕ) → (ReadsDrives word → ⊥) → None ≡ drives_named word
-no_drives word differs = by_name (drives_named word) refl
+pub none_named : (first last : ℕ) (word : List ℕ) → last ≤ 255 → (ReadsNamed first last word → ⊥) → None ≡ number_named first last word
+none_named first last word small differs = by_name (number_named first last word) refl
   where
-    by_name : (o : Option ℕ) → drives_named word ≡ o → None ≡ o
+    by_name : (o : Option ℕ) → number_named first last word ≡ o → None ≡ o
     by_name None is = refl
-    by_name (Some n) is = absurd (differs (reads_drives word n is))
+    by_name (Some n) is = absurd (differs (reads_named first last word n small is))
 
-pub no_drives_at_fault : (word : List ℕ) (place : ℕ) → Some place ≡ number_fault 64 word → None ≡ drives_named word
-no_drives_at_fault word place fault = no_drives word (λ reads. let bad : Some place ≡ None = fault ∙ reads.none in cc)
+pub none_named_at_fault : (first last : ℕ) (word : List ℕ) (place : ℕ) → last ≤ 255 → Some place ≡ number_fault last word → None ≡ number_named first last word
+none_named_at_fault first last word place small fault = none_named first last word small (λ reads. let bad : Some place ≡ None = fault ∙ reads.none in cc)
 
-pub no_drives_before_rest : (word : List ℕ) (len : ℕ) → len ≡ number_len word → (len ≡ length word → ⊥) → None ≡ drives_named word
-no_drives_before_rest word len is differs = no_drives word (λ reads. differs (is ∙ reads.whole))
+pub none_named_before_rest : (first last : ℕ) (word : List ℕ) (len : ℕ) → last ≤ 255 → len ≡ number_len word → (len ≡ length word → ⊥) → None ≡ number_named first last word
+none_named_before_rest first last word len small is differs = none_named first last word small (λ reads. differs (is ∙ reads.whole))
 
-pub no_drives_at_zero : (word : List ℕ) (n : ℕ) → n ≡ number_of word → (0 < n → ⊥) → None ≡ drives_named word
-no_drives_at_zero word n is none = no_drives word (λ reads. none (omega (arith, is, reads.some)))
+pub none_named_before_first : (first last : ℕ) (word : List ℕ) (n : ℕ) → last ≤ 255 → n ≡ number_of word → (first ≤ n → ⊥) → None ≡ number_named first last word
+none_named_before_first first last word n small is none = none_named first last word small (λ reads. none (omega (arith, is, reads.some)))
 
 -- the form of the values that there are
 pub form_by : (word number : Option (Bor (List ℕ))) (form : Option Form) (done : List (List ℕ)) → option_map (λ s. s.now) word ≡ slice_get done 0 → option_map (λ s. s.now) number ≡ slice_get done 1 → length done ≤ 2

@@ -1,15 +1,15 @@
 -- What `clap` makes of the words of a command. Where it takes them, their values are the words without the first `--`;
 -- where it refuses one, the words are in no form.
-use Rattle.std.proofs.Common.{◌≡◌, ℕ, zero, suc, ◌+◌, ◌<◌, ◌≤◌, decimal, get_or, ◌==◌, Bool, true, false, not, append-nil, append_assoc, cond, List, [], ◌∷◌, ◌++◌, length, Option, Some, None, is_some, refl, sym, ap, ◌∙◌, arith, codes, slice_get}
+use Rattle.std.proofs.Common.{◌≡◌, ℕ, zero, suc, ◌+◌, ◌-◌, ◌<◌, ◌≤◌, decimal, get_or, ◌==◌, Bool, true, false, not, append-nil, append_assoc, cond, List, [], ◌∷◌, ◌++◌, length, Option, Some, None, is_some, refl, sym, ap, ◌∙◌, arith, codes, slice_get}
 use Rattle.std.specs.Prelude.{option_and_then, option_map, fold}
 use Rattle.std.specs.Str.{bytes_eq, chars}
 use Rattle.std.specs.List.{slice_index_or, find, range_with_len}
 use Rattle.std.proofs.lemmas.Slice.Eq.{bytes_eq-Decides}
-use Rattle.std.proofs.lemmas.Fmt.{first_decimal}
-use Rattle.sercos_words.specs.declared.form.Form.TheVariants.{Gen}
+use Rattle.std.proofs.lemmas.Fmt.{decimal_digit, first_decimal}
+use Rattle.sercos_words.specs.declared.form.Form.TheVariants.{Gen, Replay}
 use Rattle.clap.specs.declared.parser.matches.ValueSource.TheVariants.{CommandLine}
 use Rattle.clap.specs.Lexer.{long_of, long_of_rest, short_of, short_of_rest, strip_byte}
-use Rattle.sercos_words.specs.Form.{without_dashes, plain_form, form_of, word_form, drives_named}
+use Rattle.sercos_words.specs.Form.{without_dashes, plain_form, form_of, word_form, number_form, gen_form, replay_form, number_named}
 use Rattle.clap.specs.declared.error.kind.ErrorKind.{ErrorKind}
 use Rattle.std.proofs.lemmas.Bool.Decides.{nat_tests}
 use Rattle.clap.specs.Words.{Row, Rule, Shape, Text, first_of, is_simple, matches_of, new_rule, fault_of, is_simple_and_free, Kinds, built}
@@ -284,10 +284,23 @@ none_in_range : (p : ℕ → Bool) (a n : ℕ) → ((x : ℕ) → a ≤ x → x 
 none_in_range p a zero none = refl
 none_in_range p a (suc n) none = rw (none a (omega arith) (omega arith)) (none_in_range p (a + 1) n (λ x above below. none x (omega arith) (omega arith)))
 
-no_number : (word : Text) → get_or word 0 0 ≡ 45 → drives_named word ≡ None
-unfolding drives_named
-no_number word begins = none_in_range (λ n. bytes_eq word (decimal n)) 1 64 (λ n above below.
-    other_word word (decimal n) begins (λ is. omega (arith, is, first_decimal n (omega arith) (omega arith))))
+no_hyphen : (n : ℕ) → n ≤ 255 → get_or (decimal n) 0 0 ≡ 45 → ⊥
+no_hyphen zero small is = omega (arith, is, ap (λ digits. get_or digits 0 0) (decimal_digit 0 (omega arith)))
+no_hyphen (suc n) small is = omega (arith, is, first_decimal (suc n) (omega arith) (omega (arith, small)))
+
+no_number : (first last : ℕ) (word : Text) → last ≤ 255 → get_or word 0 0 ≡ 45 → number_named first last word ≡ None
+unfolding number_named
+no_number first last word small begins = none_in_range (λ n. bytes_eq word (decimal n)) first (last + 1 - first) (λ n above below.
+    other_word word (decimal n) begins (no_hyphen n (omega (arith, small, above, below))))
+
+no_form_of_number : (a word : Text) → get_or word 0 0 ≡ 45 → number_form a word ≡ None
+unfolding number_form gen_form replay_form
+no_form_of_number a word begins = by_test (bytes_eq a (codes "gen")) (bytes_eq a (codes "replay"))
+  where
+    by_test : (gen replay : Bool) → cond gen (option_map Gen (number_named 1 64 word)) (cond replay (option_map Replay (number_named 0 254 word)) None) ≡ None
+    by_test true replay = rw (no_number 1 64 word (omega arith) begins) refl
+    by_test false true = rw (no_number 0 254 word (omega arith) begins) refl
+    by_test false false = refl
 
 no_command : (word : Text) → get_or word 0 0 ≡ 45 → word_form word ≡ None
 unfolding word_form
@@ -297,21 +310,22 @@ no_command word begins =
     let run = other_word word (codes "run") begins (λ is. absurd (omega (arith, is))) in
     let check = other_word word (codes "check") begins (λ is. absurd (omega (arith, is))) in
     let margin = other_word word (codes "margin") begins (λ is. absurd (omega (arith, is))) in
-    rw (show, plan, margin, run, check) refl
+    let backup = other_word word (codes "backup") begins (λ is. absurd (omega (arith, is))) in
+    let restore = other_word word (codes "restore") begins (λ is. absurd (omega (arith, is))) in
+    rw (show, plan, margin, run, check, backup, restore) refl
 
 flag_first : (word : Text) (rest : List Text) → get_or word 0 0 ≡ 45 → plain_form (word ∷ rest) ≡ None
-unfolding plain_form
+unfolding plain_form number_form
 flag_first word [] begins = no_command word begins
-flag_first word (number ∷ []) begins = rw (other_word word (codes "gen") begins (λ is. absurd (omega (arith, is)))) refl
+flag_first word (number ∷ []) begins =
+    let gen = other_word word (codes "gen") begins (λ is. absurd (omega (arith, is))) in
+    let replay = other_word word (codes "replay") begins (λ is. absurd (omega (arith, is))) in
+    rw (gen, replay) refl
 flag_first word (a ∷ b ∷ rest) begins = refl
 
 flag_second : (a word : Text) (rest : List Text) → get_or word 0 0 ≡ 45 → plain_form (a ∷ word ∷ rest) ≡ None
 unfolding plain_form
-flag_second a word [] begins = by_test (bytes_eq a (codes "gen"))
-  where
-    by_test : (test : Bool) → cond test (option_map Gen (drives_named word)) None ≡ None
-    by_test true = rw (no_number word begins) refl
-    by_test false = refl
+flag_second a word [] begins = no_form_of_number a word begins
 flag_second a word (b ∷ rest) begins = refl
 
 flagged_one : (a word : Text) (rest : List Text) → bytes_eq word (codes "--") ≡ false → get_or word 0 0 ≡ 45 → plain_form (all_values false (a ∷ []) (word ∷ rest)) ≡ None

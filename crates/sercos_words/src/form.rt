@@ -2,7 +2,7 @@
 ghost use Rattle.std.specs.Prelude.{◌≡◌, ◌≤◌, [], ◌∷◌, IfOk, IfSome, None, length, map};
 ghost use Rattle.clap.specs.Words.{app_of};
 ghost use Rattle.sercos_words.specs.CommandLine.{command_line};
-ghost use Rattle.sercos_words.specs.Form.{word_form, drives_named, plain_form, form_of, HasDrives};
+ghost use Rattle.sercos_words.specs.Form.{word_form, number_named, gen_form, replay_form, plain_form, form_of, HasNumber};
 
 use clap::error::ErrorKind;
 use clap::{Arg, Command};
@@ -24,13 +24,20 @@ pub enum Form {
     Check,
     /// `gen`: the summary of the run of a generated ring of 1 to 64 drives.
     Gen(u8),
+    /// `backup`: a ring document is answered by the saved data of the blocks on its drives' lists of backup operation data.
+    Backup,
+    /// `restore`: a ring document that writes operation data is answered by what the drives then have.
+    Restore,
+    /// `replay`: a ring document and a capture are answered by where the station with an address, 0 to 254, first said something else
+    /// than its rules give. The master has the address 0.
+    Replay(u8),
 }
 
 // The form of one word.
 #[tactic(auto, unfolding(crate::specs::Form::word_form))]
 fn word_form(word: &str) -> Option<Form>
     ensures value { result ≡ word_form word.now }
-    ensures drives { IfSome result HasDrives }
+    ensures range { IfSome result HasNumber }
 {
     if word == "show" {
         Some(Form::Show)
@@ -42,34 +49,63 @@ fn word_form(word: &str) -> Option<Form>
         Some(Form::Run)
     } else if word == "check" {
         Some(Form::Check)
+    } else if word == "backup" {
+        Some(Form::Backup)
+    } else if word == "restore" {
+        Some(Form::Restore)
     } else {
         None
     }
 }
 
-// The number of drives that a word names.
-fn drives_named(word: &str) -> Option<u8>
-    ensures value { result ≡ drives_named word.now }
-    ensures drives { IfSome result (λ drives. (1 ≤ drives) × (drives ≤ 64)) }
+// The number from the first to the last of these that a word names.
+fn number_named(word: &str, first: u32, last: u32) -> Option<u8>
+    requires { last ≤ 255 }
+    ensures value { result ≡ number_named first last word.now }
+    ensures range { IfSome result (λ number. (first ≤ number) × (number ≤ last)) }
 {
-    match sercos_text::read_number(word.as_bytes(), 64) {
-        Ok((len, drives)) if len == word.len() && drives > 0 => Some(drives as u8),
+    match sercos_text::read_number(word.as_bytes(), last) {
+        Ok((len, number)) if len == word.len() && number >= first => Some(number as u8),
         _ => None,
     }
 }
 
-// The form of a word and a number.
-#[tactic(auto, unfolding(crate::specs::Form::plain_form))]
-fn number_form(word: &str, number: &str) -> Option<Form>
-    ensures value { result ≡ plain_form (word.now ∷ number.now ∷ []) }
-    ensures drives { IfSome result HasDrives }
+// The form of `gen` and a number of drives.
+#[tactic(auto, unfolding(crate::specs::Form::gen_form))]
+fn gen_form(number: &str) -> Option<Form>
+    ensures value { result ≡ gen_form number.now }
+    ensures range { IfSome result HasNumber }
 {
-    if word != "gen" {
-        return None;
-    }
-    match drives_named(number) {
+    match number_named(number, 1, 64) {
         Some(drives) => Some(Form::Gen(drives)),
         None => None,
+    }
+}
+
+// The form of `replay` and an address.
+#[tactic(auto, unfolding(crate::specs::Form::replay_form))]
+fn replay_form(number: &str) -> Option<Form>
+    ensures value { result ≡ replay_form number.now }
+    ensures range { IfSome result HasNumber }
+{
+    match number_named(number, 0, 254) {
+        Some(address) => Some(Form::Replay(address)),
+        None => None,
+    }
+}
+
+// The form of a word and a number.
+#[tactic(auto, unfolding(crate::specs::Form::plain_form, crate::specs::Form::number_form))]
+fn number_form(word: &str, number: &str) -> Option<Form>
+    ensures value { result ≡ plain_form (word.now ∷ number.now ∷ []) }
+    ensures range { IfSome result HasNumber }
+{
+    if word == "gen" {
+        gen_form(number)
+    } else if word == "replay" {
+        replay_form(number)
+    } else {
+        None
     }
 }
 
@@ -91,7 +127,7 @@ fn command_line<'a>(alloc: Global) -> Result<Command<'a>, AllocError>
 // The form of words. Those that `clap` refuses are in none.
 fn read_form(alloc: Global, words: &[&str]) -> Result<Option<Form>, AllocError>
     ensures value { IfOk result (λ form. form ≡ form_of (map (λ word. word.now) words.now)) }
-    ensures drives { IfOk result (λ form. IfSome form HasDrives) }
+    ensures range { IfOk result (λ form. IfSome form HasNumber) }
 {
     match command_line(alloc)?.try_get_matches_from(words) {
         Ok(matches) => Ok(matched_form(matches.get_str("command"), matches.get_str("number"))),
@@ -109,7 +145,7 @@ fn matched_form(word: Option<&str>, number: Option<&str>) -> Option<Form>
     ensures word { IfSome word.entry (λ word. number.entry ≡ None → result ≡ plain_form (word.now ∷ [])) }
     ensures number { IfSome word.entry (λ word. IfSome number.entry (λ number.
         result ≡ plain_form (word.now ∷ number.now ∷ []))) }
-    ensures drives { IfSome result HasDrives }
+    ensures range { IfSome result HasNumber }
 {
     match (word, number) {
         (Some(word), Some(number)) => number_form(word, number),
@@ -122,7 +158,7 @@ fn matched_form(word: Option<&str>, number: Option<&str>) -> Option<Form>
 /// `AllocError`.
 pub fn form_of(alloc: Global, words: &Words) -> Result<Option<Form>, AllocError>
     ensures value { IfOk result (λ form. form ≡ form_of words.now) }
-    ensures drives { IfOk result (λ form. IfSome form HasDrives) }
+    ensures range { IfOk result (λ form. IfSome form HasNumber) }
 {
     match words.len() {
         1 => read_form(alloc, &[words.get(0)]),

@@ -1,6 +1,6 @@
 use Rattle.sercos_ring.specs.Kept.{RingStandsFor}
 use Rattle.sercos_app.proofs.JournalLemmas.{run_totals, run_ok, run_err, run_cause, run_room, order_within}
-use Rattle.sercos_app.proofs.RunLemmas.{run_keeps, run_recovers, run_starts}
+use Rattle.sercos_opened.proofs.KeptLemmas.{run_keeps, run_recovers, run_starts}
 use Rattle.sercos_app.proofs.running.write_run.Goals as goal
 
 pub write_whole-requires-clause-made : goal.write_whole-requires-clause-made

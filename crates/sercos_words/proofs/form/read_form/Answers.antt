@@ -11,5 +11,5 @@ returns-in-Ok-clause-value c =
 pub returns : goal.returns
 returns c = record {
   value = form_of-refused _ _ c.in-Err.error c.in_ok-command_line.ensures c.in-Err.ensures.kinds (λ memory. c.in_default.not-OutOfMemory (c.kind.ensures ∙ memory));
-  drives = tt;
+  range = tt;
 }

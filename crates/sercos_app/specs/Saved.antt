@@ -1,0 +1,81 @@
+-- What is known of the runs of a backup and of a restore.
+use Rattle.std.specs.Prelude.{◌≡◌, ℕ, ◌≤◌, true, false, List, length, Some, Ok, slice_get}
+use Rattle.sercos_idn.specs.declared.idn.Idn.{Idn}
+use Rattle.sercos_idn.specs.Elements.{data_element}
+use Rattle.sercos_step.specs.declared.request.Request.TheVariants as request
+use Rattle.sercos_step.specs.declared.request.Job.{Job}
+use Rattle.sercos_step.specs.declared.request.Outcome.TheVariants as outcome
+use Rattle.sercos_block.specs.declared.block.Block.{Block}
+use Rattle.sercos_block.specs.Stores.{find_block, store_of}
+use Rattle.sercos_block.specs.Views.{RingView}
+use Rattle.sercos_script.specs.Links.{Carry, Restarts}
+use Rattle.sercos_trace.specs.Views.{CycleView}
+use Rattle.sercos_handshake.specs.Transfers.{stored as filled}
+use Rattle.sercos_journal.specs.Runs.{IsRun, IsClear, drive_at, run_of}
+use Rattle.sercos_typed.specs.Typed.{AreTypedJobs}
+use Rattle.sercos_config.specs.Views.{DocumentView}
+use Rattle.sercos_config.specs.Document.{document_of}
+use Rattle.sercos_backup.specs.declared.tracked.Tracked.{Tracked}
+use Rattle.sercos_backup.specs.Jobs.{list_jobs, data_jobs}
+use Rattle.sercos_backup.specs.Tracking.{are_well, lists_told}
+use Rattle.sercos_told.specs.Reads.{IsReadFrom}
+use Rattle.sercos_told.specs.Writes.{IsLastTo, is_start, IsRestored}
+use Rattle.sercos_opened.specs.Kept.{KeepsThroughout, carry_under, restarts_under}
+use Rattle.sercos_app.specs.Saving.{run_tracked, last_data}
+
+-- the requests of a backup's second run: for the blocks on the lists that the first one gave
+abbrev pub second_jobs : RingView → Carry → Restarts → List Job
+second_jobs r carry restarts = data_jobs (lists_told (run_tracked r (list_jobs r) carry restarts))
+
+-- requests are what their types say, if they are few enough for a run
+abbrev pub AreTypedIfFew : List Job → Type 0
+AreTypedIfFew jobs = length jobs ≤ 4096 → AreTypedJobs jobs
+
+-- the same of those of a backup's second run, if it is made
+abbrev pub ReadsTyped : RingView → Carry → Restarts → Type 0
+ReadsTyped r carry restarts = are_well true (run_tracked r (list_jobs r) carry restarts) ≡ true → AreTypedIfFew (second_jobs r carry restarts)
+
+-- The cycles of a ring with these requests are a run, in which all is kept that is promised.
+pub record IsRingRun (r : RingView) (jobs : List Job) (carry : Carry) (restarts : Restarts) : Type 0 where
+  pub run : IsRun r jobs carry restarts (run_of r jobs carry restarts r.cycles)
+  pub keeps : KeepsThroughout r jobs carry restarts (run_of r jobs carry restarts r.cycles)
+
+-- If nothing was unseen in the run, the bytes of each complete request are those that the drive's store had in the one cycle in which
+-- the drive accepted the selection.
+abbrev pub AreReadFrom : RingView → List Job → Carry → Restarts → Type 0
+AreReadFrom r jobs carry restarts = IsClear (run_of r jobs carry restarts r.cycles) → (n : ℕ) (t : Tracked) (bytes : List ℕ) → slice_get (run_tracked r jobs carry restarts) n ≡ Some t → t.outcome ≡ Some (outcome.Complete bytes)
+    → IsReadFrom r jobs carry restarts (run_of r jobs carry restarts r.cycles) t.drive t.idn.raw bytes
+
+-- a run of reads: it is one, and what is read in it is exact
+pub record IsReadRun (r : RingView) (jobs : List Job) (carry : Carry) (restarts : Restarts) : Type 0 where
+  pub run : IsRingRun r jobs carry restarts
+  pub exact : AreReadFrom r jobs carry restarts
+
+-- Both runs of a backup are such runs.
+pub record IsSaved (r : RingView) (carry : Carry) (restarts : Restarts) : Type 0 where
+  pub lists : IsReadRun r (list_jobs r) carry restarts
+  pub blocks : are_well true (run_tracked r (list_jobs r) carry restarts) ≡ true → length (second_jobs r carry restarts) ≤ 4096 → IsReadRun r (second_jobs r carry restarts) carry restarts
+
+abbrev pub SavesItsRing : Carry → Restarts → List ℕ → Type 0
+SavesItsRing carry restarts bytes = (d : DocumentView) → document_of bytes ≡ Ok d → IsSaved d.setup (carry_under d carry) (restarts_under d restarts)
+
+-- After the last cycle the store of the drive with this address has these bytes as operation data of its block with this number, filled
+-- as a write fills them; and so it is printed, if the drive has the block.
+pub record IsPrinted (r : RingView) (carry : Carry) (restarts : Restarts) (run : List CycleView) (address raw : ℕ) (bytes : List ℕ) : Type 0 where
+  pub stored : IsRestored r carry restarts run address raw bytes
+  pub printed : (b : Block) → find_block raw (store_of (drive_at r stored.place)) ≡ Some b → last_data r carry restarts run address raw ≡ filled b bytes
+
+-- If nothing was unseen in the run: so it is with each complete write to a block that the start-up doesn't write, if no later request to
+-- the drive writes to it.
+abbrev pub AreWritesKept : RingView → List Job → Carry → Restarts → Type 0
+AreWritesKept r jobs carry restarts = IsClear (run_of r jobs carry restarts r.cycles) → (n : ℕ) (job : Job) (t : Tracked) (idn : Idn) (bytes whole : List ℕ) → slice_get jobs n ≡ Some job → job.request ≡ request.Write idn data_element bytes
+    → slice_get (run_tracked r jobs carry restarts) n ≡ Some t → t.outcome ≡ Some (outcome.Complete whole) → IsLastTo jobs n job.drive idn.raw → is_start idn.raw ≡ false
+    → IsPrinted r carry restarts (run_of r jobs carry restarts r.cycles) job.drive idn.raw bytes
+
+-- a run of writes: it is one, and what is written in it is kept
+pub record IsRestoredRun (r : RingView) (jobs : List Job) (carry : Carry) (restarts : Restarts) : Type 0 where
+  pub run : IsRingRun r jobs carry restarts
+  pub kept : AreWritesKept r jobs carry restarts
+
+abbrev pub RestoresItsRing : Carry → Restarts → List ℕ → Type 0
+RestoresItsRing carry restarts bytes = (d : DocumentView) → document_of bytes ≡ Ok d → IsRestoredRun d.setup d.jobs (carry_under d carry) (restarts_under d restarts)

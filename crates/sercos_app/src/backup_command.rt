@@ -1,0 +1,106 @@
+// `backup`: the data of all blocks on the drives' lists of backup operation data.
+ghost use Rattle.std.specs.Prelude.{◌≡◌, ◌≤◌, true, List, length, IfOk};
+ghost use Rattle.sercos_step.specs.declared.request.Job.{Job};
+ghost use Rattle.sercos_block.specs.Rings.{is_ring};
+ghost use Rattle.sercos_backup.specs.Jobs.{data_jobs};
+ghost use Rattle.sercos_app.specs.Outcome.{Replies, changed};
+ghost use Rattle.sercos_opened.specs.Kept.{carry_under, restarts_under};
+ghost use Rattle.sercos_app.specs.Giving.{IsReply};
+ghost use Rattle.sercos_app.specs.Saving.{backup_answer, data_answer, ring_saved};
+ghost use Rattle.sercos_app.specs.Saved.{AreTypedIfFew, ReadsTyped, SavesItsRing};
+
+use crate::given::{give_if_made, refuse};
+use crate::run_command::drives_of;
+use crate::tracking::{Run, run_tracked};
+use sercos_answer::Reply;
+use sercos_backup::{
+    DataJobs, all_well, data_jobs, failed_reply, list_jobs, lists_told, many_reply, saved_reply,
+};
+use sercos_bits::Bytes;
+use sercos_block::{RingSetup, ring_law};
+use sercos_config::{Document, read_ring};
+use sercos_headline::headline_law;
+use sercos_io::{Sink, Status};
+use sercos_journal::run_law;
+use sercos_opened::{show_jobs, show_opened};
+use sercos_script::{BitLink, Both, Scripted};
+use sercos_told::told_law;
+use std::alloc::{AllocError, Global};
+
+// The reply by the run that reads the blocks on these lists.
+#[inline(never)]
+fn data_reply<L: BitLink>(
+    alloc: Global,
+    setup: &RingSetup,
+    lists: &[(u8, Bytes)],
+    link: L,
+) -> Result<Reply, AllocError>
+    requires ring { is_ring setup.now ≡ true }
+    requires few { length lists.now ≤ 64 }
+    ensures reply { IfOk result (λ reply. IsReply reply (data_answer setup.now (L.carry link) (L.restart link) (data_jobs lists.now))) }
+    ensures typed { IfOk result (λ _. AreTypedIfFew (data_jobs lists.now)) }
+{
+    match data_jobs(alloc, lists) {
+        Ok(jobs) => {
+            show_jobs(jobs.as_slice());
+            let run = run_tracked(alloc, setup, jobs, link)?;
+            saved_reply(alloc, run.list.as_slice())
+        }
+        Err(DataJobs::TooMany(count)) => many_reply(alloc, count),
+        Err(DataJobs::Memory) => Err(AllocError),
+    }
+}
+
+// The reply of a backup: of the run that reads the lists, and then of the one that reads the blocks on them, over the same link.
+fn backup_reply<L: BitLink>(alloc: Global, setup: &RingSetup, link: L) -> Result<Reply, AllocError>
+    requires { is_ring setup.now ≡ true }
+    ensures reply { (jobs : List Job) → IfOk result (λ reply. IsReply reply (ring_saved setup.now jobs (L.carry link) (L.restart link))) }
+    ensures typed { IfOk result (λ _. ReadsTyped setup.now (L.carry link) (L.restart link)) }
+{
+    ring_law();
+    let jobs = list_jobs(alloc, setup)?;
+    let Run { list, ring } = run_tracked(alloc, setup, jobs, link)?;
+    if !all_well(true, list.as_slice()) {
+        return failed_reply(alloc, true, list.as_slice());
+    }
+    let lists = lists_told(alloc, list.as_slice())?;
+    data_reply(alloc, setup, lists.as_slice(), ring.into_link())
+}
+
+// Writes the backup of a document, under its script followed by the link handed in. Its requests are left aside.
+fn back_up<L: BitLink, K: Sink>(alloc: Global, document: Document, link: L, sink: &mut K) -> Status
+    requires ring { is_ring document.setup ≡ true }
+    ensures { Replies (ring_saved document.setup document.jobs (carry_under document (L.carry link)) (restarts_under document (L.restart link)))
+        (ReadsTyped document.setup (carry_under document (L.carry link)) (restarts_under document (L.restart link)))
+        (changed K.held K.faults K.room sink.old sink.new) (sink.new ≡ sink.old) result }
+{
+    let Document { setup, faults, .. } = document;
+    let script = Scripted::new(faults, drives_of(&setup));
+    give_if_made(&backup_reply(alloc, &setup, Both::new(script, link)), sink)
+}
+
+/// Answers a ring document by the saved data of the blocks on its drives' lists of backup operation data, by the requests that
+/// failed, or by its first refusal. It runs the ring twice, each time from its first cycle and over its script followed by the link
+/// handed in: to read the lists, and to read the blocks on them. The requests of the document are left aside. All memory is
+/// taken before anything is written. Its stack is apart from that of the other commands.
+#[inline(never)]
+pub fn answer_backup<L: BitLink, K: Sink>(
+    alloc: Global,
+    bytes: &[u8],
+    link: L,
+    sink: &mut K,
+) -> Status
+    ensures { Replies (backup_answer (L.carry link) (L.restart link) bytes.now) (SavesItsRing (L.carry link) (L.restart link) bytes.now)
+        (changed K.held K.faults K.room sink.old sink.new) (sink.new ≡ sink.old) result }
+{
+    run_law();
+    headline_law();
+    told_law();
+    match read_ring(alloc, bytes) {
+        Ok(document) => {
+            show_opened(&document);
+            back_up(alloc, document, link, sink)
+        }
+        Err(bad) => refuse(&bad, sink),
+    }
+}

@@ -1,0 +1,16 @@
+// A law and no code.
+ghost use Rattle.sercos_app.specs.OwnRun.{OwnRunsAgree};
+
+use sercos_clean::clean_law;
+use sercos_journal::run_law;
+use sercos_replay::undisturbed_law;
+
+/// A law and no code. Where an input has a document and what `run` writes of it, and nothing is disturbed in that run, `check` finds
+/// what is written clean, and the answer of `replay` is the number of its cycles, for the master and for each drive.
+pub fn replay_law()
+    ensures { OwnRunsAgree }
+{
+    run_law();
+    undisturbed_law();
+    clean_law();
+}

@@ -1,0 +1,217 @@
+// `restore`: the writes of a document, and what the drives then have.
+ghost use Rattle.std.specs.Prelude.{◌≡◌, ℕ, ◌+◌, ◌-◌, ◌<◌, ◌≤◌, ◌++◌, true, false, if◌then◌else◌, List, [], length, None, IfOk, IfSome, OnOk};
+ghost use Rattle.std.specs.List.{All, flat_map};
+ghost use Rattle.sercos_step.specs.declared.request.Job.{Job};
+ghost use Rattle.sercos_step.specs.Steps.{IsRequest};
+ghost use Rattle.sercos_block.specs.declared.block.Block.{Block};
+ghost use Rattle.sercos_block.specs.Views.{RingView};
+ghost use Rattle.sercos_block.specs.Stores.{find_block};
+ghost use Rattle.sercos_block.specs.Rings.{is_ring};
+ghost use Rattle.sercos_script.specs.Links.{Carry, Restarts};
+ghost use Rattle.sercos_trace.specs.Views.{CycleView};
+ghost use Rattle.sercos_journal.specs.Runs.{run_of};
+ghost use Rattle.sercos_ring.specs.Kept.{RingStandsFor, drives_in};
+ghost use Rattle.sercos_backup.specs.Tracking.{are_well};
+ghost use Rattle.sercos_backup.specs.Texts.{restored_line};
+ghost use Rattle.sercos_app.specs.Outcome.{Replies, changed};
+ghost use Rattle.sercos_opened.specs.Kept.{carry_under, restarts_under};
+ghost use Rattle.sercos_app.specs.Giving.{IsReply};
+ghost use Rattle.sercos_app.specs.Saving.{blocks_at, data_of, last_data, place_of, restore_answer, ring_restored, writes_answer};
+ghost use Rattle.sercos_app.specs.Saved.{RestoresItsRing};
+
+use crate::given::{give_if_made, refuse};
+use crate::run_command::{cycles_of, drives_of};
+use crate::tracking::{Run, run_tracked};
+use sercos_answer::Reply;
+use sercos_backup::{Tracked, all_well, other_reply, place_of_other, push_restored};
+use sercos_bits::Bytes;
+use sercos_block::{RingSetup, Store};
+use sercos_config::{Document, read_ring};
+use sercos_headline::headline_law;
+use sercos_idn::{Idn, element};
+use sercos_io::{Sink, Status};
+use sercos_journal::run_law;
+use sercos_opened::show_opened;
+use sercos_ring::Ring;
+use sercos_script::{BitLink, Both, Scripted};
+use sercos_service_drive::push_data;
+use sercos_step::Job;
+use sercos_told::kept_law;
+use std::alloc::{AllocError, Global};
+
+// The place of the drive with an address.
+fn place_of(setup: &RingSetup, address: u8) -> Option<usize>
+    ensures value { result ≡ place_of setup.now address }
+    ensures bound { IfSome result (λ place. place < length setup.now.drives) }
+{
+    setup
+        .drives
+        .iter()
+        .position(|drive| drive.address == address)
+}
+
+// Puts the operation data of a block of a store as it is in a cycle; nothing, if there is no block.
+fn put_shown(store: &Store, idn: Idn, cycle: u32, out: &mut Bytes)
+    requires { out.old ≡ [] }
+    ensures { out.new ≡ data_of cycle (find_block idn.raw store.now) }
+{
+    if let Ok(bytes) = store.element(idn, element::DATA) {
+        if let Ok(attribute) = store.attribute(idn) {
+            push_data(out, &attribute, store.step(idn), cycle, bytes);
+        }
+    }
+}
+
+// The operation data that the drive with an address has in a block in the last cycle; no bytes, if it has no such block.
+fn last_data<L: BitLink>(ring: &Ring<L>, setup: &RingSetup, address: u8, idn: Idn) -> Bytes
+    requires drives { drives_in ring.now ≡ length setup.now.drives }
+    requires ring { is_ring setup.now ≡ true }
+    ensures { (jobs : List Job) (carry : Carry) (restarts : Restarts) (j : List CycleView) → RingStandsFor L.carry L.restart ring.now setup.now jobs carry restarts j →
+        result ≡ last_data setup.now carry restarts j address idn.raw }
+{
+    let mut shown = Bytes::new();
+    if let Some(place) = place_of(setup, address) {
+        put_shown(
+            ring.drive(place).store(),
+            idn,
+            cycles_of(setup) - 1,
+            &mut shown,
+        );
+    }
+    shown
+}
+
+// Appends the line of a request.
+fn push_line<L: BitLink>(
+    ring: &Ring<L>,
+    setup: &RingSetup,
+    request: &Tracked,
+    out: &mut Vec<u8>,
+) -> Result<(), AllocError>
+    requires drives { drives_in ring.now ≡ length setup.now.drives }
+    requires ring { is_ring setup.now ≡ true }
+    ensures { OnOk result ((jobs : List Job) (carry : Carry) (restarts : Restarts) (j : List CycleView) → RingStandsFor L.carry L.restart ring.now setup.now jobs carry restarts j →
+        out.new.items ≡ out.old.items ++ restored_line (last_data setup.now carry restarts j) request.now) }
+{
+    let shown = last_data(ring, setup, request.drive, request.idn);
+    push_restored(request, shown.as_slice(), out)
+}
+
+// Appends the lines of requests.
+fn push_lines<L: BitLink>(
+    ring: &Ring<L>,
+    setup: &RingSetup,
+    list: &[Tracked],
+    out: &mut Vec<u8>,
+) -> Result<(), AllocError>
+    requires drives { drives_in ring.now ≡ length setup.now.drives }
+    requires ring { is_ring setup.now ≡ true }
+    ensures { OnOk result ((jobs : List Job) (carry : Carry) (restarts : Restarts) (j : List CycleView) → RingStandsFor L.carry L.restart ring.now setup.now jobs carry restarts j →
+        out.new.items ≡ out.old.items ++ flat_map (restored_line (last_data setup.now carry restarts j)) list.now) }
+{
+    for request in list {
+        push_line(ring, setup, request, out)?;
+    }
+    Ok(())
+}
+
+// The status of a restore.
+fn restored_status(list: &[Tracked]) -> Status
+    ensures { result ≡ (if are_well false list.now then Status.Done else Status.No) }
+{
+    if all_well(false, list) {
+        Status::Done
+    } else {
+        Status::No
+    }
+}
+
+// The reply of the run of a ring with these requests, each of which writes operation data.
+fn restored_reply<L: BitLink>(
+    alloc: Global,
+    setup: &RingSetup,
+    jobs: Vec<Job>,
+    link: L,
+) -> Result<Reply, AllocError>
+    requires ring { is_ring setup.now ≡ true }
+    requires few { length jobs.items ≤ 4096 }
+    requires requests { All (λ job. IsRequest job.request) jobs.items }
+    ensures { IfOk result (λ reply. IsReply reply (writes_answer setup.now jobs.items (L.carry link) (L.restart link) None)) }
+{
+    let Run { list, ring } = run_tracked(alloc, setup, jobs, link)?;
+    let mut text = Vec::new(alloc);
+    push_lines(&ring, setup, list.as_slice(), &mut text)?;
+    Ok(Reply {
+        status: restored_status(list.as_slice()),
+        text,
+    })
+}
+
+// The reply of a restore.
+fn restore_reply<L: BitLink>(
+    alloc: Global,
+    setup: &RingSetup,
+    jobs: Vec<Job>,
+    link: L,
+) -> Result<Reply, AllocError>
+    requires ring { is_ring setup.now ≡ true }
+    requires few { length jobs.items ≤ 4096 }
+    requires requests { All (λ job. IsRequest job.request) jobs.items }
+    ensures { IfOk result (λ reply. IsReply reply (ring_restored setup.now jobs.items (L.carry link) (L.restart link))) }
+{
+    match place_of_other(jobs.as_slice()) {
+        Some(place) => other_reply(alloc, place),
+        None => restored_reply(alloc, setup, jobs, link),
+    }
+}
+
+// Writes the answer of a restore of a document, under its script followed by the link handed in.
+fn restore_document<L: BitLink, K: Sink>(
+    alloc: Global,
+    document: Document,
+    link: L,
+    sink: &mut K,
+) -> Status
+    requires ring { is_ring document.setup ≡ true }
+    requires few { length document.jobs ≤ 4096 }
+    requires requests { All (λ job. IsRequest job.request) document.jobs }
+    ensures { Replies (ring_restored document.setup document.jobs (carry_under document (L.carry link)) (restarts_under document (L.restart link)))
+        (Unit {0}) (changed K.held K.faults K.room sink.old sink.new) (sink.new ≡ sink.old) result }
+{
+    let Document {
+        setup,
+        jobs,
+        faults,
+    } = document;
+    let script = Scripted::new(faults, drives_of(&setup));
+    give_if_made(
+        &restore_reply(alloc, &setup, jobs, Both::new(script, link)),
+        sink,
+    )
+}
+
+/// Answers a ring document whose requests all write operation data: runs the ring with them, over its script followed by the link
+/// handed in, and writes a line for each: what the drive has in the end, or how the request failed. Any other document is refused:
+/// by its first refusal, or by the number of the first other request. All memory is taken before anything is written.
+/// Its stack is apart from that of the other commands.
+#[inline(never)]
+pub fn answer_restore<L: BitLink, K: Sink>(
+    alloc: Global,
+    bytes: &[u8],
+    link: L,
+    sink: &mut K,
+) -> Status
+    ensures { Replies (restore_answer (L.carry link) (L.restart link) bytes.now) (RestoresItsRing (L.carry link) (L.restart link) bytes.now)
+        (changed K.held K.faults K.room sink.old sink.new) (sink.new ≡ sink.old) result }
+{
+    run_law();
+    headline_law();
+    kept_law();
+    match read_ring(alloc, bytes) {
+        Ok(document) => {
+            show_opened(&document);
+            restore_document(alloc, document, link, sink)
+        }
+        Err(bad) => refuse(&bad, sink),
+    }
+}

@@ -1,0 +1,3 @@
+pub mod Jobs
+pub mod Tracking
+pub mod Texts

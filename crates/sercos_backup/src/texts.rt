@@ -1,0 +1,152 @@
+// The lines of requests.
+ghost use Rattle.std.specs.Prelude.{◌≡◌, ◌≤◌, ◌∷◌, [], ◌++◌, length, OnOk};
+ghost use Rattle.std.specs.Option.{option_copied};
+ghost use Rattle.sercos_text.specs.Templates.{line_text};
+ghost use Rattle.sercos_text.specs.Templates.Value.{number, ident};
+ghost use Rattle.sercos_backup.specs.Tracking.{bytes_told};
+ghost use Rattle.sercos_backup.specs.Texts.{saved_text, saved_line, saved_lines, refused_text, failed_text, failed_line, failed_lines, restored_text, restored_by};
+
+use crate::saved::put_saved;
+use crate::tracked::{Tracked, bytes_in, is_well};
+use sercos_idn::{Code, Idn};
+use sercos_step::Outcome;
+use sercos_text::{Given, Line, push_line};
+use std::alloc::AllocError;
+
+// Puts a line that says how a request failed beside a code.
+fn put_plain(address: u8, idn: Idn, template: &[u8], line: &mut Line)
+    requires { length template.now ≤ 100 }
+    ensures { line.new ≡ line_text template.now (number address ∷ ident idn.raw ∷ []) }
+{
+    line.clear();
+    let values = [Given::Number(u32::from(address)), Given::Ident(idn)];
+    push_line(template, &values, line);
+}
+
+// Puts the line of a request that was refused with a code.
+#[tactic(auto, unfolding(crate::specs::Texts::failed_text))]
+fn put_refused(address: u8, idn: Idn, code: Code, line: &mut Line)
+    ensures { line.new ≡ refused_text address idn.raw code.raw }
+{
+    line.clear();
+    let code = [(code.raw / 256) as u8, (code.raw % 256) as u8];
+    let values = [
+        Given::Number(u32::from(address)),
+        Given::Ident(idn),
+        Given::Bytes(&code),
+    ];
+    push_line(b"failed D I refused 0xC\n", &values, line);
+}
+
+// Puts the line of a request that failed; none, if it was complete.
+#[tactic(auto, unfolding(crate::specs::Texts::failed_text))]
+fn put_failed(address: u8, idn: Idn, outcome: Option<&Outcome>, line: &mut Line)
+    ensures { line.new ≡ failed_text address idn.raw (option_copied outcome.entry) }
+{
+    match outcome {
+        Some(Outcome::Complete(_)) => line.clear(),
+        Some(Outcome::Refused(code)) => put_refused(address, idn, *code, line),
+        Some(Outcome::Broken) => put_plain(address, idn, b"failed D I broken\n", line),
+        None => put_plain(address, idn, b"failed D I open\n", line),
+    }
+}
+
+// Puts the line of a write that was complete, with the operation data that the drive has.
+fn put_restored(address: u8, idn: Idn, content: &[u8], line: &mut Line)
+    requires { length content.now ≤ 1024 }
+    ensures { line.new ≡ restored_text address idn.raw content.now }
+{
+    line.clear();
+    let values = [
+        Given::Number(u32::from(address)),
+        Given::Ident(idn),
+        Given::Bytes(content),
+    ];
+    push_line(b"restored D I H\n", &values, line);
+}
+
+// Appends the line of a request that failed.
+fn push_failed_text(request: &Tracked, out: &mut Vec<u8>) -> Result<(), AllocError>
+    ensures { OnOk result (out.new.items ≡ out.old.items ++ failed_text request.now.drive request.now.idn.raw request.now.outcome) }
+{
+    let mut line = Line::new();
+    put_failed(
+        request.drive,
+        request.idn,
+        request.outcome.as_ref(),
+        &mut line,
+    );
+    out.extend_from_slice(line.as_slice())
+}
+
+// Appends the line of a request, if it failed; where `absent` is true, one that was refused since the drive has no such block
+// hasn't.
+fn push_failed(absent: bool, request: &Tracked, out: &mut Vec<u8>) -> Result<(), AllocError>
+    ensures { OnOk result (out.new.items ≡ out.old.items ++ failed_line absent request.now) }
+{
+    if is_well(absent, request.outcome.as_ref()) {
+        return Ok(());
+    }
+    push_failed_text(request, out)
+}
+
+/// Appends the lines of the requests that failed, in order: `failed A IDN refused CODE`, `failed A IDN broken`, or `failed A IDN open`
+/// of one without an outcome. Where `absent` is true, one that was refused since the drive has no such block hasn't failed.
+pub(crate) fn push_all_failed(
+    absent: bool,
+    list: &[Tracked],
+    out: &mut Vec<u8>,
+) -> Result<(), AllocError>
+    ensures { OnOk result (out.new.items ≡ out.old.items ++ failed_lines absent list.now) }
+{
+    for request in list {
+        push_failed(absent, request, out)?;
+    }
+    Ok(())
+}
+
+// Appends the saved data of a block.
+fn push_saved(request: &Tracked, out: &mut Vec<u8>) -> Result<(), AllocError>
+    ensures { OnOk result (out.new.items ≡ out.old.items ++ saved_line request.now) }
+{
+    let mut line = Line::new();
+    put_saved(
+        request.drive,
+        request.idn,
+        bytes_in(request.outcome.as_ref()),
+        &mut line,
+    );
+    out.extend_from_slice(line.as_slice())
+}
+
+/// Appends the saved data of blocks, in order.
+pub(crate) fn push_all_saved(list: &[Tracked], out: &mut Vec<u8>) -> Result<(), AllocError>
+    ensures { OnOk result (out.new.items ≡ out.old.items ++ saved_lines list.now) }
+{
+    for request in list {
+        push_saved(request, out)?;
+    }
+    Ok(())
+}
+
+// Appends the line of a write that was complete.
+fn push_complete(request: &Tracked, content: &[u8], out: &mut Vec<u8>) -> Result<(), AllocError>
+    requires { length content.now ≤ 1024 }
+    ensures { OnOk result (out.new.items ≡ out.old.items ++ restored_text request.now.drive request.now.idn.raw content.now) }
+{
+    let mut line = Line::new();
+    put_restored(request.drive, request.idn, content, &mut line);
+    out.extend_from_slice(line.as_slice())
+}
+
+/// Appends the line of a write of a restore: `restored A IDN HEX` if it was complete, with the operation data that the drive has in
+/// the end, at most 1024 bytes, `-` for none; otherwise a line that says how it failed, as a backup does.
+pub fn push_restored(request: &Tracked, content: &[u8], out: &mut Vec<u8>) -> Result<(), AllocError>
+    requires { length content.now ≤ 1024 }
+    ensures { OnOk result (out.new.items ≡ out.old.items ++ restored_by content.now request.now) }
+{
+    if is_well(false, request.outcome.as_ref()) {
+        return push_complete(request, content, out);
+    }
+    push_failed_text(request, out)
+}

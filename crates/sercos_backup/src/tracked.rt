@@ -1,0 +1,161 @@
+// Requests with their outcomes.
+ghost use Rattle.std.specs.Prelude.{◌≡◌, ℕ, ◌≤◌, List, [], ◌∷◌, ◌++◌, length, Some, None, IfOk};
+ghost use Rattle.std.specs.Option.{option_or, option_copied};
+ghost use Rattle.sercos_step.specs.declared.request.Job.{Job};
+ghost use Rattle.sercos_step.specs.declared.request.Outcome.{Outcome};
+ghost use Rattle.sercos_backup.specs.Tracking.{idn_in, tracked, noted, is_well, are_well, bytes_told, list_told, lists_told, with_outcome};
+
+use sercos_bits::Bytes;
+use sercos_idn::{Code, Idn};
+use sercos_step::{Job, Outcome, Request};
+use std::alloc::{AllocError, Global};
+
+/// A request to a drive, with the outcome that was told of it, if one was.
+#[derive(Debug, PartialEq, Eq, Drop)]
+pub struct Tracked {
+    /// The drive's address.
+    pub drive: u8,
+    /// The identifier number of the data block.
+    pub idn: Idn,
+    /// How it ended; `None` while it hasn't.
+    pub outcome: Option<Outcome>,
+}
+
+// The identifier number that a request names.
+fn idn_in(request: &Request) -> Idn
+    ensures { result ≡ idn_in request.now }
+{
+    match request {
+        Request::Read { idn, .. } => *idn,
+        Request::Write { idn, .. } => *idn,
+        Request::Command { idn } => *idn,
+    }
+}
+
+// A request without an outcome.
+fn untold(job: &Job) -> Tracked
+    ensures { result ≡ with_outcome None job.now }
+{
+    Tracked {
+        drive: job.drive,
+        idn: idn_in(&job.request),
+        outcome: None,
+    }
+}
+
+/// Returns the requests of these jobs, in their order, without outcomes.
+#[tactic(auto, using(crate::proofs::TrackLemmas::none_told))]
+pub fn track(alloc: Global, jobs: &[Job]) -> Result<Vec<Tracked>, AllocError>
+    ensures { IfOk result (λ list. list.items ≡ tracked [] jobs.now) }
+{
+    let mut list = Vec::with_capacity(alloc, jobs.len())?;
+    for job in jobs {
+        list.push(untold(job))?;
+    }
+    Ok(list)
+}
+
+// Another outcome of the same kind and bytes.
+fn copied(outcome: &Outcome) -> Outcome
+    ensures { result ≡ outcome.now }
+{
+    match outcome {
+        Outcome::Complete(bytes) => {
+            let mut copy = Bytes::new();
+            copy.assign(bytes.as_slice());
+            Outcome::Complete(copy)
+        }
+        Outcome::Refused(code) => Outcome::Refused(*code),
+        Outcome::Broken => Outcome::Broken,
+    }
+}
+
+// Puts an outcome where there is none.
+fn put(slot: &mut Option<Outcome>, outcome: &Outcome)
+    ensures { slot.new ≡ option_or slot.old (Some outcome.now) }
+{
+    if slot.is_none() {
+        *slot = Some(copied(outcome));
+    }
+}
+
+// Notes the outcome of a request, if it has none.
+fn note_in(request: &mut Tracked, outcome: &Outcome)
+    ensures { request.new ≡ noted outcome.now request.old }
+{
+    put(&mut request.outcome, outcome);
+}
+
+// Notes the outcome of the request with a number, from 1 on.
+fn note_one(number: u16, outcome: &Outcome, list: &mut [Tracked])
+    ensures { (told : List (ℕ × Outcome)) (jobs : List Job) → list.old ≡ tracked told jobs → list.new ≡ tracked (told ++ (number, outcome.now) ∷ []) jobs }
+{
+    if number == 0 {
+        return;
+    }
+    let place = usize::from(number) - 1;
+    if place >= list.len() {
+        return;
+    }
+    note_in(&mut list[place], outcome);
+}
+
+/// Notes outcomes, each told with the number of its request, from 1 on. Of each request the first one counts; a number of no
+/// request is passed over. It takes no memory.
+pub fn note(outcomes: &[(u16, Outcome)], list: &mut [Tracked])
+    ensures { (told : List (ℕ × Outcome)) (jobs : List Job) → list.old ≡ tracked told jobs → list.new ≡ tracked (told ++ outcomes.now) jobs }
+{
+    for told in outcomes {
+        note_one(told.0, &told.1, list);
+    }
+}
+
+/// Returns whether a request ended well: it was complete, or, where `absent` is true, refused since the drive has no such block.
+pub fn is_well(absent: bool, outcome: Option<&Outcome>) -> bool
+    ensures { result ≡ is_well absent (option_copied outcome.entry) }
+{
+    match outcome {
+        Some(Outcome::Complete(_)) => true,
+        Some(Outcome::Refused(code)) => absent && *code == Code::NO_IDN,
+        _ => false,
+    }
+}
+
+/// Returns whether all requests ended well.
+pub fn all_well(absent: bool, list: &[Tracked]) -> bool
+    ensures { result ≡ are_well absent list.now }
+{
+    list.iter()
+        .all(|request| is_well(absent, request.outcome.as_ref()))
+}
+
+// The bytes that a request gave; none if it wasn't complete.
+pub(crate) fn bytes_in(outcome: Option<&Outcome>) -> &[u8]
+    ensures value { result.now ≡ bytes_told (option_copied outcome.entry) }
+    ensures bound { length result.now ≤ 1024 }
+{
+    match outcome {
+        Some(Outcome::Complete(bytes)) => bytes.as_slice(),
+        _ => &[],
+    }
+}
+
+// The same as a list of its own.
+fn bytes_told(outcome: Option<&Outcome>) -> Bytes
+    ensures { result ≡ bytes_told (option_copied outcome.entry) }
+{
+    let mut told = Bytes::new();
+    told.assign(bytes_in(outcome));
+    told
+}
+
+/// Returns what the requests gave, each with the address of its drive: no bytes of one that wasn't complete.
+pub fn lists_told(alloc: Global, list: &[Tracked]) -> Result<Vec<(u8, Bytes)>, AllocError>
+    ensures { IfOk result (λ lists. lists.items ≡ lists_told list.now) }
+{
+    let mut lists = Vec::with_capacity(alloc, list.len())?;
+    for request in list {
+        lists.push((request.drive, bytes_told(request.outcome.as_ref())))?;
+    }
+    Ok(lists)
+}

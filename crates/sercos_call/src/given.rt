@@ -1,0 +1,87 @@
+// What a command gives to the sink.
+ghost use Rattle.std.specs.Prelude.{◌≡◌, ◌≢◌, ◌⊎◌, MatchResult};
+ghost use Rattle.sercos_call.specs.Given.{IsWritable, given_status, given_text};
+ghost use Rattle.sercos_document.specs.Lines.{line_of};
+ghost use Rattle.sercos_call.specs.Outcome.{Writes, changed};
+ghost use Rattle.sercos_call.specs.TopCall.{fault_status};
+
+use sercos_answer::Reply;
+use sercos_config::{BadDocument, write_refusal};
+use sercos_io::{Sink, Status, write_all};
+use std::alloc::AllocError;
+
+/// What a command gives to the sink: a reply, or the refusal of a document.
+#[derive(Drop)]
+pub enum Given {
+    Reply(Reply),
+    Refusal(BadDocument),
+}
+
+/// The refusal of a document is given to the sink; want of memory is not.
+pub fn refused(bad: BadDocument) -> Result<Given, AllocError>
+    ensures { MatchResult result
+        (λ given. (given ≡ Given.Refusal bad) × (bad ≢ BadDocument.Memory))
+        (λ _. bad ≡ BadDocument.Memory) }
+{
+    if matches!(&bad, BadDocument::Memory) {
+        return Err(AllocError);
+    }
+    Ok(Given::Refusal(bad))
+}
+
+/// The status where writing a reply of this status fails.
+#[tactic(auto, unfolding(crate::specs::TopCall::fault_status))]
+pub fn fault_status(status: Status) -> Status
+    ensures { result ≡ fault_status status }
+{
+    match status {
+        Status::Refused => Status::Refused,
+        _ => Status::WriteFault,
+    }
+}
+
+// Writes a reply, and answers its status, or that of a failed write.
+fn give_reply<K: Sink>(reply: &Reply, sink: &mut K) -> Status
+    ensures { Writes reply.now.status reply.now.text.items
+        (changed K.held K.faults K.room sink.old sink.new) result }
+{
+    match write_all(sink, reply.text.as_slice()) {
+        Ok(()) => reply.status,
+        Err(_) => fault_status(reply.status),
+    }
+}
+
+// Writes the refusal of a document.
+fn give_refusal<K: Sink>(bad: &BadDocument, sink: &mut K) -> Status
+    requires { bad.now ≢ BadDocument.Memory }
+    ensures { Writes Status.Refused (line_of bad.now)
+        (changed K.held K.faults K.room sink.old sink.new) result }
+{
+    match write_refusal(bad, sink) {
+        Ok(()) => Status::Refused,
+        Err(_) => fault_status(Status::Refused),
+    }
+}
+
+/// Writes the refusal of a document; if that is want of memory, nothing is written.
+pub fn refuse<K: Sink>(bad: &BadDocument, sink: &mut K) -> Status
+    ensures { ((bad.now ≡ BadDocument.Memory) × (result ≡ Status.Memory) × (sink.new ≡ sink.old))
+        ⊎ ((bad.now ≢ BadDocument.Memory) × Writes Status.Refused (line_of bad.now) (changed K.held K.faults K.room sink.old sink.new) result) }
+{
+    if matches!(bad, BadDocument::Memory) {
+        return Status::Memory;
+    }
+    give_refusal(bad, sink)
+}
+
+/// Writes what a command gives, and answers its status, or that of a failed write.
+pub fn give<K: Sink>(given: &Given, sink: &mut K) -> Status
+    requires { IsWritable given.now }
+    ensures { Writes (given_status given.now) (given_text given.now)
+        (changed K.held K.faults K.room sink.old sink.new) result }
+{
+    match given {
+        Given::Reply(reply) => give_reply(reply, sink),
+        Given::Refusal(bad) => give_refusal(bad, sink),
+    }
+}

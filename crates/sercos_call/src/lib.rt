@@ -1,0 +1,6 @@
+//! What a top call does with its source and its sink, whatever it answers.
+#![tactic(auto)]
+
+mod given;
+
+pub use given::{Given, fault_status, give, refuse, refused};

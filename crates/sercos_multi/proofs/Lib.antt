@@ -1,0 +1,16 @@
+pub mod AllLemmas
+pub mod AnswerLemmas
+pub mod DivideLemmas
+pub mod FeedLemmas
+pub mod ListLemmas
+pub mod MomentLemmas
+pub mod OpenLemmas
+pub mod OwnLemmas
+pub mod OwnRuns
+pub mod PartLemmas
+pub mod PassLemmas
+pub mod RunLemmas
+pub mod TextLines
+pub mod TopLemmas
+pub mod WordLemmas
+pub mod LawLemmas

@@ -1,0 +1,14 @@
+pub mod Merged
+pub mod Going
+pub mod Parts
+pub mod Rings
+pub mod Sooner
+pub mod Divided
+pub mod Asking
+pub mod Opening
+pub mod RingRuns
+pub mod OwnLines
+pub mod Ended
+pub mod Said
+pub mod Words
+pub mod Laws

@@ -1,0 +1,190 @@
+// What is answered to several ring documents.
+ghost use Rattle.std.specs.Prelude.{◌≡◌, ◌≢◌, ℕ, ◌≤◌, ◌<◌, ◌&&◌, nat_le, codes, ◌∷◌, [], List, length, map, drop, true, OnOk, Option, Some, None};
+ghost use Rattle.sercos_text.specs.Templates.{line_text};
+ghost use Rattle.sercos_text.specs.Templates.Value.{number};
+ghost use Rattle.sercos_trace.specs.Written as plain;
+ghost use Rattle.sercos_call.specs.Outcome.{Replies, Writes, changed};
+ghost use Rattle.sercos_multi.specs.Asking.{count_line, cycle_fault, cycle_line, cycles_answer, cycles_of, document_line, first_cycle, is_common, other_cycle, rings_answer, voices_from};
+ghost use Rattle.sercos_config.specs.Views.{DocumentView};
+ghost use Rattle.sercos_multi.specs.Ended.{EndsUnopened, IsTold, ended_by};
+ghost use Rattle.sercos_multi.specs.Merged.{Voice, merged};
+ghost use Rattle.sercos_multi.specs.Parts.{AllAt};
+ghost use Rattle.sercos_multi.specs.RingRuns.{RunsItsRings};
+
+use crate::divided::count_parts;
+use crate::moments::write_merged;
+use crate::opening::{Unopened, open_all};
+use crate::part::Part;
+use sercos_call::{fault_status, refuse};
+use sercos_config::BadDocument;
+use sercos_io::{Sink, Status, WriteFailed, write_all};
+use sercos_script::BitLink;
+use sercos_text::{Given, Line, push_line};
+use std::alloc::Global;
+
+// The status of an answer after it was written.
+fn ended(written: &Result<(), WriteFailed>, status: Status) -> Status
+    ensures { result ≡ ended_by written.now status }
+{
+    match written {
+        Ok(()) => status,
+        Err(_) => fault_status(status),
+    }
+}
+
+// Writes a text of a template with these numbers.
+#[tactic(auto, using(sercos_trace::proofs::WriteLemmas::writes_all))]
+fn write_text<K: Sink>(line: &Line, sink: &mut K) -> Result<(), WriteFailed>
+    ensures { plain.Writes (plain.seen K.held K.faults K.room sink.old) (plain.seen K.held K.faults K.room sink.new) result line.now }
+{
+    write_all(sink, line.as_slice())
+}
+
+// Refuses a number of parts.
+fn refuse_count<K: Sink>(count: u32, sink: &mut K) -> Status
+    ensures { Writes Status.Refused (count_line count) (changed K.held K.faults K.room sink.old sink.new) result }
+{
+    let mut line = Line::new();
+    push_line(
+        b"refused 11 documents D",
+        &[Given::Number(count)],
+        &mut line,
+    );
+    line.push_within(b'\n');
+    ended(&write_text(&line, sink), Status::Refused)
+}
+
+// Refuses a cycle time, in microseconds, of a document.
+fn refuse_cycle<K: Sink>(document: u32, cycle: u16, sink: &mut K) -> Status
+    ensures { Writes Status.Refused (cycle_line document cycle) (changed K.held K.faults K.room sink.old sink.new) result }
+{
+    let mut line = Line::new();
+    let values = [Given::Number(document), Given::Number(u32::from(cycle))];
+    push_line(b"document D refused 12 cycle D", &values, &mut line);
+    line.push_within(b'\n');
+    ended(&write_text(&line, sink), Status::Refused)
+}
+
+// Writes the number of a document that is refused.
+fn write_document<K: Sink>(document: u32, sink: &mut K) -> Result<(), WriteFailed>
+    ensures { plain.Writes (plain.seen K.held K.faults K.room sink.old) (plain.seen K.held K.faults K.room sink.new) result (line_text (codes "document D ") (number document ∷ [])) }
+{
+    let mut line = Line::new();
+    push_line(b"document D ", &[Given::Number(document)], &mut line);
+    write_text(&line, sink)
+}
+
+// Refuses a document.
+fn refuse_document<K: Sink>(document: u32, bad: &BadDocument, sink: &mut K) -> Status
+    requires { bad.now ≢ BadDocument.Memory }
+    ensures { Writes Status.Refused (document_line document bad.now) (changed K.held K.faults K.room sink.old sink.new) result }
+{
+    match write_document(document, sink) {
+        Ok(()) => refuse(bad, sink),
+        Err(_) => fault_status(Status::Refused),
+    }
+}
+
+// The cycle time of a ring, in microseconds.
+fn cycle_of<L: BitLink>(part: &Part<L>) -> u16
+    ensures { result ≡ part.now.wishes.cycle }
+{
+    let wishes = &part.wishes;
+    wishes.cycle
+}
+
+// The first ring after the first one whose cycle time isn't this: its number, and its cycle time.
+fn other_cycle<L: BitLink>(parts: &[Part<L>], time: u16) -> Option<(u32, u16)>
+    requires few { length parts.now ≤ 8 }
+    ensures { result ≡ other_cycle time 2 (drop 1 (map (λ p. p.wishes.cycle) parts.now)) }
+{
+    for k in 1..parts.len() {
+        let cycle = cycle_of(&parts[k]);
+        if cycle != time {
+            return Some((k as u32 + 1, cycle));
+        }
+    }
+    None
+}
+
+// Whether a cycle time divides 1000 microseconds.
+fn is_common(cycle: u16) -> bool
+    ensures { result ≡ is_common cycle }
+{
+    cycle == 125 || cycle == 250 || cycle == 500 || cycle == 1000
+}
+
+// The cycle time of the first ring.
+#[tactic(auto, unfolding(crate::specs::Asking::first_cycle))]
+fn first_cycle<L: BitLink>(parts: &[Part<L>]) -> u16
+    requires some { 0 < length parts.now }
+    ensures { result ≡ first_cycle (map (λ p. p.wishes.cycle) parts.now) }
+{
+    cycle_of(&parts[0])
+}
+
+// The first ring whose cycle time isn't the first one's, or the first one if its own doesn't divide 1000 microseconds.
+fn cycle_fault<L: BitLink>(parts: &[Part<L>]) -> Option<(u32, u16)>
+    requires some { 0 < length parts.now }
+    requires few { length parts.now ≤ 8 }
+    ensures { result ≡ cycle_fault (map (λ p. p.wishes.cycle) parts.now) }
+{
+    let time = first_cycle(parts);
+    if !is_common(time) {
+        return Some((1, time));
+    }
+    other_cycle(parts, time)
+}
+
+// Writes the merged text of rings.
+fn give_merged<L: BitLink, K: Sink>(parts: &mut Vec<Part<L>>, time: u16, sink: &mut K) -> Status
+    requires all { (voices : List Voice) × AllAt L.carry L.restart parts.old.items voices × (0 < length voices) }
+    requires some { 0 < time }
+    requires time { time ≤ 1000 }
+    ensures { (voices : List Voice) → AllAt L.carry L.restart parts.old.items voices → 0 < length voices →
+        Writes Status.Done (merged time voices) (changed K.held K.faults K.room sink.old sink.new) result }
+{
+    ended(&write_merged(parts, time, sink), Status::Done)
+}
+
+// Runs the rings of documents, if they have one cycle time.
+fn run_all<L: BitLink, K: Sink>(parts: &mut Vec<Part<L>>, sink: &mut K) -> Status
+    requires all { (documents : List DocumentView) × AllAt L.carry L.restart parts.old.items (voices_from 1 documents) × (0 < length documents) × (length documents ≤ 8) }
+    ensures { (documents : List DocumentView) → AllAt L.carry L.restart parts.old.items (voices_from 1 documents) → 0 < length documents →
+        Writes (cycles_answer (cycle_fault (cycles_of documents)) documents).status (cycles_answer (cycle_fault (cycles_of documents)) documents).output (changed K.held K.faults K.room sink.old sink.new) result }
+{
+    match cycle_fault(parts.as_slice()) {
+        Some((document, cycle)) => refuse_cycle(document, cycle, sink),
+        None => {
+            let time = first_cycle(parts.as_slice());
+            give_merged(parts, time, sink)
+        }
+    }
+}
+
+// Refuses a document that wasn't opened; if that is want of memory, nothing is written.
+fn refuse_unopened<K: Sink>(why: &Unopened, sink: &mut K) -> Status
+    requires { IsTold why.now }
+    ensures { EndsUnopened why.now (changed K.held K.faults K.room sink.old sink.new) (sink.new ≡ sink.old) result }
+{
+    match why {
+        Unopened::Memory => Status::Memory,
+        Unopened::Refused(number, bad) => refuse_document(u32::from(*number), bad, sink),
+    }
+}
+
+/// Answers an input of at most 1,048,576 bytes by the merged text of the rings of its 2 to 8 documents, or by its first refusal. All
+/// rings are opened before anything is written.
+pub fn answer_rings<K: Sink>(alloc: Global, bytes: &[u8], sink: &mut K) -> Status
+    requires few { length bytes.now ≤ 1048576 }
+    ensures { Replies (rings_answer bytes.now) (RunsItsRings bytes.now) (changed K.held K.faults K.room sink.old sink.new) (sink.new ≡ sink.old) result }
+{
+    let count = count_parts(bytes);
+    if count < 2 || count > 8 {
+        return refuse_count(count as u32, sink);
+    }
+    match open_all(alloc, bytes, count as u8) {
+        Ok(mut parts) => run_all(&mut parts, sink),
+        Err(why) => refuse_unopened(&why, sink),
+    }
+}

@@ -1,0 +1,169 @@
+// A ring for each document.
+ghost use Rattle.std.specs.Prelude.{◌≡◌, ◌≢◌, ℕ, ◌≤◌, ◌<◌, ◌+◌, ◌++◌, ◌∷◌, [], true, List, length, take, drop, IfOk, IfErr, OnOk, Result, Ok, Err};
+ghost use Rattle.sercos_multi.specs.Said.{IsRefusedIn};
+ghost use Rattle.std.specs.List.{All};
+ghost use Rattle.sercos_step.specs.Steps.{IsRequest};
+ghost use Rattle.sercos_block.specs.Rings.{is_ring};
+ghost use Rattle.sercos_multi.specs.Asking.{documents_from, voice_of, voice_under, voices_from};
+ghost use Rattle.sercos_multi.specs.Divided.{parts_of};
+ghost use Rattle.sercos_multi.specs.Merged.{mark_of};
+ghost use Rattle.sercos_multi.specs.Opening.{OpensAll, OpensPart};
+ghost use Rattle.sercos_multi.specs.Parts.{IsAt};
+
+use crate::divided::cut_part;
+use crate::part::Part;
+use sercos_block::{RingSetup, ring_law};
+use sercos_config::{BadDocument, Document, read_ring};
+use sercos_journal::run_law;
+use sercos_opened::{kept_law, show_opened};
+use sercos_ring::Ring;
+use sercos_script::{BitLink, Scripted};
+use sercos_step::Job;
+use sercos_totals::{no_totals, totals_law};
+use std::alloc::{AllocError, Global};
+
+/// Why the rings of documents aren't opened.
+#[derive(Drop)]
+pub enum Unopened {
+    /// No memory was found.
+    Memory,
+    /// A document was refused: its number, and why.
+    Refused(u8, BadDocument),
+}
+
+// How many cycles a ring runs: 1 to 50,000.
+#[tactic(auto, unfolding(sercos_block::specs::Rings::is_ring, sercos_block::specs::Rings::are_ring_numbers))]
+fn cycles_of(setup: &RingSetup) -> u32
+    requires { is_ring setup.now ≡ true }
+    ensures value { result ≡ setup.now.cycles }
+    ensures some { 1 ≤ result }
+    ensures few { result ≤ 50000 }
+{
+    setup.cycles
+}
+
+// A ring has a cycle: the function hands this on to the proof, and does nothing.
+fn show_cycles(setup: &RingSetup)
+    requires { is_ring setup.now ≡ true }
+    ensures { 1 ≤ setup.now.cycles }
+{
+    let _cycles = cycles_of(setup);
+}
+
+// How many drives a ring has: at most 64.
+fn drives_of(setup: &RingSetup) -> u8
+    requires { is_ring setup.now ≡ true }
+    ensures { result ≡ length setup.now.drives }
+{
+    ring_law();
+    setup.drives.len() as u8
+}
+
+// The number of a ring and a space.
+#[tactic(auto, using(crate::proofs::OpenLemmas::mark_is))]
+fn mark_of(number: u8) -> [u8; 2]
+    requires { number < 10 }
+    ensures { result ≡ mark_of number }
+{
+    [b'0' + number, b' ']
+}
+
+// Opens a ring over a link.
+fn open_ring<L: BitLink>(
+    alloc: Global,
+    number: u8,
+    setup: &RingSetup,
+    jobs: Vec<Job>,
+    link: L,
+) -> Result<Part<L>, AllocError>
+    requires number { number < 10 }
+    requires ring { is_ring setup.now ≡ true }
+    requires few { length jobs.items ≤ 4096 }
+    requires requests { All (λ job. IsRequest job.request) jobs.items }
+    ensures { IfOk result (λ part. IsAt L.carry L.restart part (voice_under number setup.now jobs.items (L.carry link) (L.restart link))) }
+{
+    run_law();
+    totals_law();
+    let ring = Ring::open(alloc, setup, jobs, link)?;
+    Ok(Part {
+        ring,
+        wishes: setup.wishes(),
+        totals: no_totals(),
+        left: cycles_of(setup),
+        at: 0,
+        mark: mark_of(number),
+    })
+}
+
+// Opens the ring of a document over its script.
+fn open_document(
+    alloc: Global,
+    number: u8,
+    document: Document,
+) -> Result<Part<Scripted>, AllocError>
+    requires number { number < 10 }
+    requires ring { is_ring document.setup ≡ true }
+    requires few { length document.jobs ≤ 4096 }
+    requires requests { All (λ job. IsRequest job.request) document.jobs }
+    ensures { IfOk result (λ part. IsAt ⟦<Scripted as BitLink>⟧.carry ⟦<Scripted as BitLink>⟧.restart part (voice_of number document)) }
+{
+    let Document {
+        setup,
+        jobs,
+        faults,
+    } = document;
+    let script = Scripted::new(faults, drives_of(&setup));
+    open_ring(alloc, number, &setup, jobs, script)
+}
+
+// Opens the ring of what a part says.
+fn open_part(alloc: Global, number: u8, bytes: &[u8]) -> Result<Part<Scripted>, Unopened>
+    requires { number < 10 }
+    ensures { OpensPart ⟦<Scripted as BitLink>⟧.carry ⟦<Scripted as BitLink>⟧.restart number bytes.now result }
+{
+    kept_law();
+    match read_ring(alloc, bytes) {
+        Ok(document) => {
+            show_opened(&document);
+            show_cycles(&document.setup);
+            match open_document(alloc, number, document) {
+                Ok(part) => Ok(part),
+                Err(_) => Err(Unopened::Memory),
+            }
+        }
+        Err(BadDocument::Memory) => Err(Unopened::Memory),
+        Err(bad) => Err(Unopened::Refused(number, bad)),
+    }
+}
+
+// Appends a ring.
+fn push<L: BitLink>(parts: &mut Vec<Part<L>>, part: Part<L>) -> Result<(), Unopened>
+    ensures ok { OnOk result (parts.new.items ≡ parts.old.items ++ part ∷ []) }
+    ensures err { IfErr result (λ why. why ≡ Unopened.Memory) }
+{
+    match parts.push(part) {
+        Ok(()) => Ok(()),
+        Err(_) => Err(Unopened::Memory),
+    }
+}
+
+/// Opens the rings of all parts of an input, of which there are at most 8, in their order. The error is the first refusal, with the
+/// number of the part, or `Memory`.
+pub fn open_all(alloc: Global, bytes: &[u8], count: u8) -> Result<Vec<Part<Scripted>>, Unopened>
+    requires count { count ≡ length (parts_of bytes.now) }
+    requires few { count ≤ 8 }
+    ensures ok { IfOk result (λ parts. OpensAll ⟦<Scripted as BitLink>⟧.carry ⟦<Scripted as BitLink>⟧.restart (parts_of bytes.now) parts.items) }
+    ensures err { IfErr result (λ why. IsRefusedIn (parts_of bytes.now) why) }
+{
+    let mut parts = Vec::new(alloc);
+    let mut rest = bytes;
+    for k in 0..count {
+        let (part, after, _more) = cut_part(rest);
+        match open_part(alloc, k + 1, part) {
+            Ok(opened) => push(&mut parts, opened)?,
+            Err(why) => return Err(why),
+        }
+        rest = after;
+    }
+    Ok(parts)
+}

@@ -1,0 +1,152 @@
+// A ring on its way through the moments.
+ghost use Rattle.std.specs.Prelude.{◌≡◌, ℕ, ◌+◌, ◌-◌, ◌*◌, ◌<◌, ◌≤◌, ◌^◌, ◌==◌, nat_le, if◌then◌else◌, List, [], length, true, IfOk, IfSome};
+ghost use Rattle.sercos_trace.specs.Views.{CycleView};
+ghost use Rattle.sercos_trace.specs.Texts.{cycle_text, end_text};
+ghost use Rattle.sercos_trace.specs.Written as plain;
+ghost use Rattle.sercos_ring.specs.Kept.{AfterCycle, IsNextOf, RingStandsFor, cycles_made, newest};
+ghost use Rattle.sercos_totals.specs.Counting.{HasRoom, IsFew, IsMade, with_cycle};
+ghost use Rattle.sercos_trace.specs.MarkedWritten.{seen, Writes};
+ghost use Rattle.sercos_multi.specs.Merged.{Voice, span};
+ghost use Rattle.sercos_multi.specs.Going.{IsFrom};
+ghost use Rattle.sercos_multi.specs.Parts.{GoesOn, IsAt, Passes};
+ghost use Rattle.sercos_multi.specs.Rings.{IsRingOf};
+
+use sercos_io::{Sink, WriteFailed};
+use sercos_journal::run_law;
+use sercos_ring::{Ring, standing_law};
+use sercos_script::BitLink;
+use sercos_text::Line;
+use sercos_timing::Wishes;
+use sercos_totals::{count_made, plan_law, totals_law};
+use sercos_trace::{CycleRecord, Totals, write_marked_cycle, write_marked_end};
+
+/// A ring on its way: the cycles that it has made and their totals, how many are left, when the next one begins, in microseconds, and
+/// the mark before each of its lines.
+#[derive(Drop)]
+pub struct Part<L: BitLink> {
+    pub ring: Ring<L>,
+    pub wishes: Wishes,
+    pub totals: Totals,
+    pub left: u32,
+    pub at: u32,
+    pub mark: [u8; 2],
+}
+
+// How long a cycle takes, in microseconds.
+fn span(time: u16, phase: u8) -> u32
+    ensures value { result ≡ span time phase }
+    ensures bound { time ≤ 1000 → result ≤ 1000 }
+{
+    if phase <= 2 {
+        return 1000;
+    }
+    u32::from(time)
+}
+
+// Writes the lines of a cycle, and returns the phase that is commanded in it.
+fn write_made<K: Sink>(
+    w: &Wishes,
+    made: &CycleRecord,
+    mark: &[u8],
+    line: &mut Line,
+    sink: &mut K,
+) -> Result<u8, WriteFailed>
+    requires starts { IfSome made.now.events.plan (λ p. length p.t1 ≡ length w.now.drives) }
+    requires positions { IfSome made.now.events.plan (λ p. length p.position ≡ length w.now.drives) }
+    ensures written { Writes (seen mark.now K.held K.faults K.room sink.old) (seen mark.now K.held K.faults K.room sink.new) result (cycle_text w.now made.now) }
+    ensures phase { IfOk result (λ phase. phase ≡ made.now.phase) }
+{
+    write_marked_cycle(w, made, mark, line, sink)?;
+    Ok(made.phase)
+}
+
+// Makes the next cycle, counts it, and writes its lines.
+fn make_next<L: BitLink, K: Sink>(
+    ring: &mut Ring<L>,
+    w: &Wishes,
+    totals: &mut Totals,
+    mark: &[u8],
+    line: &mut Line,
+    sink: &mut K,
+) -> Result<u8, WriteFailed>
+    requires ring { (j : List CycleView) × IsRingOf (RingStandsFor L.carry L.restart) ring.old w.now j }
+    requires made { cycles_made ring.old < 2 ^ 31 }
+    requires room { HasRoom totals.old }
+    ensures after { AfterCycle L.carry L.restart ring.old ring.new }
+    ensures next { IsNextOf L.carry L.restart ring.old (newest ring.new) }
+    ensures counted { totals.new ≡ with_cycle totals.old (newest ring.new) }
+    ensures few { IsFew (newest ring.new) }
+    ensures written { Writes (seen mark.now K.held K.faults K.room sink.old) (seen mark.now K.held K.faults K.room sink.new) result (cycle_text w.now (newest ring.new)) }
+    ensures phase { IfOk result (λ phase. phase ≡ (newest ring.new).phase) }
+{
+    plan_law();
+    let made = ring.cycle();
+    count_made(totals, made);
+    write_made(w, made, mark, line, sink)
+}
+
+// Writes the end line, if no cycle is left.
+fn write_last<K: Sink>(
+    left: u32,
+    totals: &Totals,
+    mark: &[u8],
+    line: &mut Line,
+    sink: &mut K,
+) -> Result<(), WriteFailed>
+    ensures { Writes (seen mark.now K.held K.faults K.room sink.old) (seen mark.now K.held K.faults K.room sink.new) result (if left == 0 then end_text totals.now else []) }
+{
+    if left == 0 {
+        return write_marked_end(totals, mark, line, sink);
+    }
+    Ok(())
+}
+
+// Makes the next cycle of a ring, and writes its lines. The result says whether it is commanded phase 3 or 4.
+fn go_on<L: BitLink, K: Sink>(
+    part: &mut Part<L>,
+    time: u16,
+    line: &mut Line,
+    sink: &mut K,
+) -> Result<bool, WriteFailed>
+    requires at { (v : Voice) × IsAt L.carry L.restart part.old v }
+    requires some { 0 < part.old.left }
+    requires time { time ≤ 1000 }
+    ensures { (v : Voice) → IsAt L.carry L.restart part.old v →
+        GoesOn L.carry L.restart time part.old part.new (seen part.old.mark K.held K.faults K.room sink.old) (seen part.old.mark K.held K.faults K.room sink.new) result v }
+{
+    run_law();
+    standing_law::<L>();
+    totals_law();
+    let phase = make_next(
+        &mut part.ring,
+        &part.wishes,
+        &mut part.totals,
+        &part.mark,
+        line,
+        sink,
+    )?;
+    part.left -= 1;
+    part.at += span(time, phase);
+    write_last(part.left, &part.totals, &part.mark, line, sink)?;
+    Ok(phase >= 3)
+}
+
+/// Passes a moment: where the next cycle of a ring begins then, makes it, and writes its lines. The result says whether that cycle is
+/// commanded phase 3 or 4.
+pub fn pass<L: BitLink, K: Sink>(
+    part: &mut Part<L>,
+    moment: u32,
+    time: u16,
+    line: &mut Line,
+    sink: &mut K,
+) -> Result<bool, WriteFailed>
+    requires at { (v : Voice) × IsAt L.carry L.restart part.old v }
+    requires time { time ≤ 1000 }
+    ensures { (v : Voice) → IsAt L.carry L.restart part.old v → IsFrom moment v →
+        Passes L.carry L.restart time moment part.new (plain.seen K.held K.faults K.room sink.old) (plain.seen K.held K.faults K.room sink.new) result v }
+{
+    if part.left == 0 || part.at != moment {
+        return Ok(false);
+    }
+    go_on(part, time, line, sink)
+}

@@ -1,0 +1,60 @@
+// The words of the program.
+ghost use Rattle.std.specs.Prelude.{◌≡◌, ◌<◌, ◌∷◌, [], length};
+ghost use Rattle.sercos_multi.specs.Words.{form_of, run_form};
+
+use sercos_io::Words;
+
+/// The form in which words name what is done.
+#[derive(Clone, Copy, Debug, PartialEq, Eq)]
+pub enum Form {
+    /// `run`: the merged text of the rings of several documents.
+    Run,
+}
+
+// The form of one word.
+#[tactic(auto, unfolding(crate::specs::Words::run_form))]
+fn one_form(word: &str) -> Option<Form>
+    ensures { result ≡ run_form (word.now ∷ []) }
+{
+    if word == "run" {
+        return Some(Form::Run);
+    }
+    None
+}
+
+// The form of a word alone, which may be `--`.
+fn word_form(word: &str) -> Option<Form>
+    ensures { result ≡ form_of (word.now ∷ []) }
+{
+    if word == "--" {
+        return None;
+    }
+    one_form(word)
+}
+
+// The form of two words.
+fn pair_form(first: &str, second: &str) -> Option<Form>
+    ensures { result ≡ form_of (first.now ∷ second.now ∷ []) }
+{
+    if first == "--" {
+        return one_form(second);
+    }
+    if second == "--" {
+        return one_form(first);
+    }
+    None
+}
+
+/// The form in which the words are, if they are in one: the word `run`, with at most one word `--` before or after it.
+pub fn form_of(words: &Words) -> Option<Form>
+    ensures { result ≡ form_of words.now }
+{
+    let len = words.len();
+    if len == 1 {
+        return word_form(words.get(0));
+    }
+    if len == 2 {
+        return pair_form(words.get(0), words.get(1));
+    }
+    None
+}

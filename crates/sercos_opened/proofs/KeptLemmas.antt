@@ -1,0 +1,52 @@
+-- From the laws on a cycle to those on a run.
+use Rattle.std.proofs.Common.{ℕ, zero, suc, List, [], ◌∷◌, ◌++◌, subst}
+use Rattle.sercos_step.specs.declared.request.Job.{Job}
+use Rattle.sercos_block.specs.Views.{RingView}
+use Rattle.sercos_script.specs.Links.{Carry, Restarts}
+use Rattle.sercos_trace.specs.Views.{CycleView}
+use Rattle.sercos_held.specs.Opened.{IsOpened}
+use Rattle.sercos_headline.specs.Headline.{Headline}
+use Rattle.sercos_undisturbed.specs.WholeRuns.{StartsUndisturbed}
+use Rattle.sercos_recovery.specs.Recovers.{Recovers}
+use Rattle.sercos_journal.specs.Runs.{IsNext, IsRun, next_record, run_of}
+use Rattle.sercos_opened.specs.Kept.{KeepsThroughout, RecoversThroughout, StartsThroughout, OpenedIsKept}
+
+-- each cycle that the function gives is the next one
+abbrev pub AreNext : Type 0
+AreNext = (r : RingView) (jobs : List Job) (carry : Carry) (restarts : Restarts) (j : List CycleView) → IsNext r jobs carry restarts (next_record r jobs carry restarts j) j
+
+pub run_is : AreNext
+    → (r : RingView) (jobs : List Job) (carry : Carry) (restarts : Restarts) (n : ℕ) → IsRun r jobs carry restarts (run_of r jobs carry restarts n)
+run_is law r jobs carry restarts zero = tt
+run_is law r jobs carry restarts (suc n) = (run_is law r jobs carry restarts n, law r jobs carry restarts (run_of r jobs carry restarts n))
+
+-- the cycles up to one of a run are a run
+run_before : (r : RingView) (jobs : List Job) (carry : Carry) (restarts : Restarts) (later : List CycleView) (j : List CycleView) → IsRun r jobs carry restarts (later ++ j) → IsRun r jobs carry restarts j
+run_before r jobs carry restarts [] j run = run
+run_before r jobs carry restarts (t ∷ later) j run = run_before r jobs carry restarts later j run.0
+
+-- a run keeps all that is promised, if the ring may be opened with its requests
+pub run_keeps : AreNext → Headline → (r : RingView) (jobs : List Job) (carry : Carry) (restarts : Restarts) (n : ℕ) → IsOpened r jobs → KeepsThroughout r jobs carry restarts (run_of r jobs carry restarts n)
+run_keeps next law r jobs carry restarts n opened later t j is clear =
+    law r jobs carry restarts t j opened
+    (run_before r jobs carry restarts later (t ∷ j) (subst (λ (run : List CycleView). IsRun r jobs carry restarts run) is (run_is next r jobs carry restarts n))) clear
+
+-- and it starts up as it should
+pub run_starts : AreNext → StartsUndisturbed → (r : RingView) (jobs : List Job) (carry : Carry) (restarts : Restarts) (n : ℕ) → IsOpened r jobs → StartsThroughout r jobs carry restarts (run_of r jobs carry restarts n)
+run_starts next law r jobs carry restarts n opened later t j is calm =
+    law r jobs carry restarts t j opened
+    (run_before r jobs carry restarts later (t ∷ j) (subst (λ (run : List CycleView). IsRun r jobs carry restarts run) is (run_is next r jobs carry restarts n))) calm
+
+-- and it is back in time, once nothing is disturbed any more
+pub run_recovers : AreNext → Recovers → (r : RingView) (jobs : List Job) (carry : Carry) (restarts : Restarts) (n : ℕ) → IsOpened r jobs → RecoversThroughout r jobs carry restarts (run_of r jobs carry restarts n)
+run_recovers next law r jobs carry restarts n opened later t j is clear =
+    law r jobs carry restarts t j opened
+    (run_before r jobs carry restarts later (t ∷ j) (subst (λ (run : List CycleView). IsRun r jobs carry restarts run) is (run_is next r jobs carry restarts n))) clear
+
+pub opened_is_kept : AreNext → Headline → StartsUndisturbed → Recovers → OpenedIsKept
+opened_is_kept next law starts back r jobs carry restarts cycles opened = record {
+  run = run_is next r jobs carry restarts cycles;
+  keeps = run_keeps next law r jobs carry restarts cycles opened;
+  starts = run_starts next starts r jobs carry restarts cycles opened;
+  recovers = run_recovers next back r jobs carry restarts cycles opened;
+}

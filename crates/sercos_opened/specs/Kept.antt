@@ -1,0 +1,65 @@
+-- What is kept in the run of a ring, for its number of cycles, and of the ring of a document.
+use Rattle.std.specs.Prelude.{◌≡◌, ℕ, List, ◌∷◌, ◌++◌, length}
+use Rattle.sercos_step.specs.declared.request.Job.{Job}
+use Rattle.sercos_block.specs.Views.{RingView}
+use Rattle.sercos_script.specs.Links.{Carry, Restarts, carried_by_both, restarts_in_either}
+use Rattle.sercos_script.specs.Scripts.{carried, restarts_at}
+use Rattle.sercos_trace.specs.Views.{CycleView}
+use Rattle.sercos_journal.specs.Runs.{IsRun, IsClear, run_of}
+use Rattle.sercos_headline.specs.Headline.{KeepsAll}
+use Rattle.sercos_undisturbed.specs.WholeRuns.{NeverDisturbed, StartsUp}
+use Rattle.sercos_recovery.specs.Recovers.{RecoversIn}
+use Rattle.sercos_held.specs.Opened.{IsOpened}
+use Rattle.sercos_config.specs.Views.{DocumentView}
+
+-- The link of a document's ring is its script; with a link handed in, its script followed by that link.
+abbrev pub script_carry : DocumentView → Carry
+script_carry d = carried (length d.setup.drives) d.faults
+
+abbrev pub script_restarts : DocumentView → Restarts
+script_restarts d = restarts_at d.faults
+
+abbrev pub carry_under : DocumentView → Carry → Carry
+carry_under d carry = carried_by_both (script_carry d) carry
+
+abbrev pub restarts_under : DocumentView → Restarts → Restarts
+restarts_under d restarts = restarts_in_either (script_restarts d) restarts
+
+-- the run of a document, for its number of cycles, the newest one first: over a link handed in too, and over its script alone
+abbrev pub document_run : Carry → Restarts → DocumentView → List CycleView
+document_run carry restarts d = run_of d.setup d.jobs (carry_under d carry) (restarts_under d restarts) d.setup.cycles
+
+abbrev pub script_run : DocumentView → List CycleView
+script_run d = run_of d.setup d.jobs (script_carry d) (script_restarts d) d.setup.cycles
+
+-- In each cycle of a run, up to the first arrival that is unseen, all is kept that is promised of it: its telegrams are apart, no drive
+-- stands too late, and transfers are exact.
+abbrev pub KeepsThroughout : RingView → List Job → Carry → Restarts → List CycleView → Type 0
+KeepsThroughout r jobs carry restarts run = (later : List CycleView) (t : CycleView) (j : List CycleView) → run ≡ later ++ t ∷ j → IsClear (t ∷ j) → KeepsAll r jobs carry restarts t j
+
+-- And in each cycle up to the first that is disturbed, the start-up goes as it should: phase 4 comes in time, or a stop for its cause.
+abbrev pub StartsThroughout : RingView → List Job → Carry → Restarts → List CycleView → Type 0
+StartsThroughout r jobs carry restarts run = (later : List CycleView) (t : CycleView) (j : List CycleView) → run ≡ later ++ t ∷ j → NeverDisturbed r carry restarts (t ∷ j) → StartsUp r jobs carry restarts t j
+
+-- And in each cycle up to the first arrival that is unseen, whatever was lost or damaged, and whichever stations restarted: once no
+-- cycle is disturbed any more, the ring is back in time.
+abbrev pub RecoversThroughout : RingView → List Job → Carry → Restarts → List CycleView → Type 0
+RecoversThroughout r jobs carry restarts run = (later : List CycleView) (t : CycleView) (j : List CycleView) → run ≡ later ++ t ∷ j → IsClear (t ∷ j) → RecoversIn r jobs carry restarts t j
+
+-- Cycles are a run, in which each is the next one after those before it, and they keep all this.
+pub record IsKept (r : RingView) (jobs : List Job) (carry : Carry) (restarts : Restarts) (journal : List CycleView) : Type 0 where
+  pub run : IsRun r jobs carry restarts journal
+  pub keeps : KeepsThroughout r jobs carry restarts journal
+  pub starts : StartsThroughout r jobs carry restarts journal
+  pub recovers : RecoversThroughout r jobs carry restarts journal
+
+-- The cycles of a document are such a run: over a link handed in too, and over its script alone.
+abbrev pub IsDocumentRun : Carry → Restarts → DocumentView → Type 0
+IsDocumentRun carry restarts d = IsKept d.setup d.jobs (carry_under d carry) (restarts_under d restarts) (document_run carry restarts d)
+
+abbrev pub IsScriptRun : DocumentView → Type 0
+IsScriptRun d = IsKept d.setup d.jobs (script_carry d) (script_restarts d) (script_run d)
+
+-- All this is kept of a ring that may be opened with its requests, over whatever link, and for each number of cycles.
+abbrev pub OpenedIsKept : Type 0
+OpenedIsKept = (r : RingView) (jobs : List Job) (carry : Carry) (restarts : Restarts) (cycles : ℕ) → IsOpened r jobs → IsKept r jobs carry restarts (run_of r jobs carry restarts cycles)

@@ -1,0 +1,47 @@
+-- The trace of a run as a capture. Journals have their newest cycle first.
+use Rattle.std.specs.Prelude.{◌≡◌, ℕ, ◌≤◌, true, List, length, reverse, None}
+use Rattle.std.specs.List.{All}
+use Rattle.sercos_model.specs.Bits.{AreBytes}
+use Rattle.sercos_text.specs.Templates.{IsSmall}
+use Rattle.sercos_timing.specs.Views.{WishesView}
+use Rattle.sercos_block.specs.Rings.{is_ring, wishes_of}
+use Rattle.sercos_trace.specs.Views.{SentView, CycleView}
+use Rattle.sercos_trace.specs.declared.record.Totals.{Totals}
+use Rattle.sercos_trace.specs.Texts.{trace_of}
+use Rattle.sercos_script.specs.Links.{Carry, Restarts}
+use Rattle.sercos_journal.specs.Runs.{IsRun}
+use Rattle.sercos_typed.specs.Typed.{AreTyped, AreTypedJobs}
+use Rattle.sercos_config.specs.Views.{DocumentView}
+use Rattle.sercos_replay.specs.Captured.{lines_of, telegrams, NeverDisturbed}
+use Rattle.sercos_replay.specs.Stations.{Station, lines_read}
+use Rattle.sercos_replay.specs.Replaying.{place_answer, replay_answer}
+use Rattle.sercos_replay.specs.Asking.{Asks, cycles_in}
+
+-- The numbers of a telegram and of its cycle fit the fields of its line.
+pub record FitsLine (cycle : ℕ) (s : SentView) : Type 0 where
+  pub number : cycle ≤ 4294967295
+  pub start : IsSmall s.start
+  pub bits : s.bits ≤ 4294967295
+  pub bytes : AreBytes s.content
+  pub few : length s.content ≤ 2048
+
+abbrev pub FitLines : List CycleView → Type 0
+FitLines j = All (λ (t : CycleView). All (FitsLine t.cycle) t.sent) j
+
+-- The trace of a journal is read back as the telegrams of its cycles, whatever its other lines are.
+abbrev pub ReadsTraces : Type 0
+ReadsTraces = (w : WishesView) (j : List CycleView) (t : Totals) → FitLines j → telegrams (lines_read (trace_of w (reverse j) t)) ≡ telegrams (lines_of j)
+
+-- A journal is a run of what a document says, in which nothing is disturbed.
+pub record IsCalm (d : DocumentView) (carry : Carry) (restarts : Restarts) (j : List CycleView) : Type 0 where
+  pub ring : is_ring d.setup ≡ true
+  pub typed : AreTyped d.setup
+  pub jobs : AreTypedJobs d.jobs
+  pub run : IsRun d.setup d.jobs carry restarts j
+  pub calm : NeverDisturbed d.setup carry restarts j
+  pub fit : FitLines j
+
+-- If the capture is the trace of such a run of the document, each station agrees.
+abbrev pub TracesAgree : Type 0
+TracesAgree = (address : ℕ) (bytes capture : List ℕ) (s : Station) (asks : Asks address bytes s capture) (carry : Carry) (restarts : Restarts) (j : List CycleView) (t : Totals) → IsCalm asks.d carry restarts j
+    → capture ≡ trace_of (wishes_of asks.d.setup) (reverse j) t → replay_answer address bytes ≡ place_answer None (length (cycles_in capture))

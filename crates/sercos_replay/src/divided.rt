@@ -1,0 +1,39 @@
+// An input with a document and a capture.
+ghost use Rattle.std.specs.Prelude.{◌≡◌, ◌≤◌, true, length, IfSome};
+ghost use Rattle.sercos_replay.specs.Divided.{begins_capture, capture_place, document_part, capture_part};
+
+use sercos_answer::cut_line;
+
+/// Returns the place of the first line that is exactly `capture`.
+pub fn capture_place(text: &[u8]) -> Option<usize>
+    ensures value { result ≡ capture_place true text.now }
+    ensures bound { IfSome result (λ place. place ≤ length text.now) }
+{
+    let mut rest = text;
+    while !rest.is_empty() {
+        let (line, others) = cut_line(rest);
+        if line == b"capture".as_slice() {
+            return Some(text.len() - rest.len());
+        }
+        rest = others;
+    }
+    None
+}
+
+/// The bytes before the line at a place.
+pub fn document_part(bytes: &[u8], place: usize) -> &[u8]
+    requires { place ≤ length bytes.now }
+    ensures { result.now ≡ document_part bytes.now place }
+{
+    &bytes[..place]
+}
+
+/// The bytes after the line at a place.
+pub fn capture_part(bytes: &[u8], place: usize) -> &[u8]
+    requires { place ≤ length bytes.now }
+    ensures value { result.now ≡ capture_part bytes.now place }
+    ensures bound { length result.now ≤ length bytes.now }
+{
+    let (_line, rest) = cut_line(&bytes[place..]);
+    rest
+}

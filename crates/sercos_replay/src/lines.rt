@@ -1,0 +1,115 @@
+// The lines of a capture.
+ghost use Rattle.std.specs.Prelude.{◌≡◌, ℕ, ◌≤◌, ◌+◌, List, [], ◌∷◌, length, Option, Some, None};
+ghost use Rattle.sercos_telegram.specs.declared.layout.Kind.{Kind};
+ghost use Rattle.sercos_trace.specs.declared.reading.Line.{Line};
+ghost use Rattle.sercos_check.specs.Verdicts.{rule_broken, IsClean};
+ghost use Rattle.sercos_checking.specs.declared.verdict.Verdict.TheVariants.{Clean};
+ghost use Rattle.sercos_checking.specs.Checking.{read_as, column_of, verdict_of};
+ghost use Rattle.sercos_answer.specs.Lines.{lines_of};
+ghost use Rattle.sercos_replay.specs.Cycles.{cycles_of};
+ghost use Rattle.sercos_replay.specs.Stations.{Station, ReplayStandsFor, IsGiven, kind_cycle, mst_cycle, lines_read};
+ghost use Rattle.sercos_replay.specs.Replaying.{first_cycle, late, late_start};
+
+use crate::law::capture_law;
+use crate::station::Replay;
+use sercos_answer::cut_line;
+use sercos_check::test_law;
+use sercos_telegram::Kind;
+use sercos_trace::{Line, Reader, read_line};
+
+#[tactic(auto, unfolding(crate::specs::Stations::kind_cycle))]
+fn kind_cycle(kind: Kind, cycle: u32) -> Option<u32>
+    ensures { result ≡ kind_cycle kind cycle }
+{
+    match kind {
+        Kind::Mst => Some(cycle),
+        _ => None,
+    }
+}
+
+// The cycle of the MST that a line is, if it is one.
+fn mst_cycle(line: &Line) -> Option<u32>
+    ensures { result ≡ mst_cycle line.now }
+{
+    match line {
+        Line::Telegram { cycle, sent } => kind_cycle(sent.kind, *cycle),
+        _ => None,
+    }
+}
+
+// The same of a text.
+fn text_cycle(text: &[u8]) -> Option<u32>
+    ensures { result ≡ mst_cycle (read_as text.now) }
+{
+    match read_line(text) {
+        Ok(line) => mst_cycle(&line),
+        Err(_) => None,
+    }
+}
+
+// The cycle of the first MST.
+fn first_cycle(text: &[u8]) -> Option<u32>
+    ensures { result ≡ first_cycle (lines_of text.now) }
+{
+    let mut rest = text;
+    while !rest.is_empty() {
+        let (line, others) = cut_line(rest);
+        if let Some(cycle) = text_cycle(line) {
+            return Some(cycle);
+        }
+        rest = others;
+    }
+    None
+}
+
+/// Returns the cycle of the first MST of a capture, if it isn't 0.
+#[tactic(auto, unfolding(crate::specs::Replaying::late_start, crate::specs::Replaying::late))]
+pub fn late_start(text: &[u8]) -> Option<u32>
+    ensures { result ≡ late_start text.now }
+{
+    match first_cycle(text) {
+        Some(cycle) => { if cycle == 0 { None } else { Some(cycle) } }
+        None => None,
+    }
+}
+
+// Gives a line to a replay, and returns how many cycles begin with it.
+fn give_line(replay: &mut Replay, line: &Line) -> u64
+    ensures stands { (s : Station) (before : List Line) → ReplayStandsFor replay.old s before → IsClean (line.now ∷ before) → ReplayStandsFor replay.new s (line.now ∷ before) }
+    ensures count { (before : List Line) → length (cycles_of (line.now ∷ before)) ≡ length (cycles_of before) + result }
+    ensures bound { result ≤ 1 }
+{
+    capture_law();
+    replay.give(line);
+    u64::from(mst_cycle(line).is_some())
+}
+
+// Gives the text of a clean line to a replay, and returns how many cycles begin with it.
+fn give_text(replay: &mut Replay, reader: &mut Reader, text: &[u8]) -> u64
+    ensures given { (before : List Line) → IsClean before → column_of before text.now ≡ None → rule_broken before (read_as text.now) ≡ None →
+        IsGiven replay.old replay.new before (read_as text.now) result }
+    ensures bound { result ≤ 1 }
+{
+    test_law();
+    match reader.read(text) {
+        Ok(()) => give_line(replay, reader.line()),
+        Err(_) => 0,
+    }
+}
+
+/// Gives all lines of a clean capture to a replay, and returns how many cycles they have. No line is kept.
+pub fn give_all(replay: &mut Replay, text: &[u8]) -> u64
+    requires { (count : ℕ) × (verdict_of text.now ≡ Clean count) }
+    ensures stands { (s : Station) → ReplayStandsFor replay.old s [] → ReplayStandsFor replay.new s (lines_read text.now) }
+    ensures count { result ≡ length (cycles_of (lines_read text.now)) }
+{
+    let mut reader = Reader::new();
+    let mut cycles = 0u64;
+    let mut rest = text;
+    while !rest.is_empty() {
+        let (line, others) = cut_line(rest);
+        cycles += give_text(replay, &mut reader, line);
+        rest = others;
+    }
+    cycles
+}

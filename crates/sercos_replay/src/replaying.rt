@@ -1,0 +1,254 @@
+// `replay A`: where one end of a ring first said something else than its rules give.
+ghost use Rattle.std.specs.Prelude.{◌≡◌, ℕ, ◌⊎◌, ◌<◌, ◌≤◌, ◌==◌, true, List, [], length, Some, None, Ok, IfOk, MatchResult, ◌++◌, codes};
+ghost use Rattle.std.specs.List.{All};
+ghost use Rattle.sercos_io.specs.declared.status.Status.TheVariants.{Refused};
+ghost use Rattle.sercos_step.specs.Jobs.{AreJobs};
+ghost use Rattle.sercos_seat.specs.Ring.{known_of};
+ghost use Rattle.sercos_journal.specs.Runs.{drive_at};
+ghost use Rattle.sercos_answer.specs.Answer.{line_feed};
+ghost use Rattle.sercos_block.specs.Rings.{has_address, has_other_data, is_ring};
+ghost use Rattle.sercos_document.specs.Lines.{line_of};
+ghost use Rattle.sercos_config.specs.Document.{document_of};
+ghost use Rattle.sercos_checking.specs.declared.verdict.Verdict.TheVariants.{Clean};
+ghost use Rattle.sercos_checking.specs.Checking.{verdict_of};
+ghost use Rattle.sercos_replay.specs.Asking.{Replays};
+ghost use Rattle.sercos_replay.specs.Stations.{Station, ReplayStandsFor, drive_of, station_of, lines_read};
+ghost use Rattle.sercos_replay.specs.Replaying.{Says, refused, station_answer, verdict_answer, started_answer, ruled_answer, judged_answer, capture_answer, found_answer, document_answer, replay_answer};
+
+use crate::divided::{capture_part, capture_place, document_part};
+use crate::lines::{give_all, late_start};
+use crate::place_text::{number_reply, reply_with};
+use crate::station::{Replay, drive_place, open_drive, open_master};
+use sercos_answer::Reply;
+use sercos_block::RingSetup;
+use sercos_checking::capture::verdict;
+use sercos_checking::{Verdict, verdict_line, verdict_status};
+use sercos_config::{BadDocument, Document, read_ring};
+use sercos_io::Status;
+use std::alloc::{AllocError, Global};
+
+// The reply of a verdict, as `check` gives it.
+#[tactic(auto, unfolding(crate::specs::Replaying::verdict_answer))]
+fn verdict_reply(alloc: Global, verdict: Verdict) -> Result<Reply, AllocError>
+    ensures { IfOk result (λ reply. Says reply (verdict_answer verdict)) }
+{
+    reply_with(
+        alloc,
+        verdict_status(verdict),
+        verdict_line(verdict).as_slice(),
+    )
+}
+
+// Replies to a clean capture.
+#[tactic(auto, unfolding(crate::specs::Replaying::station_answer))]
+fn reply_clean(alloc: Global, replay: &mut Replay, capture: &[u8]) -> Result<Reply, AllocError>
+    requires { (count : ℕ) × (verdict_of capture.now ≡ Clean count) }
+    ensures { (s : Station) → ReplayStandsFor replay.old s [] → IfOk result (λ reply. Says reply (station_answer s (lines_read capture.now))) }
+{
+    let cycles = give_all(replay, capture);
+    replay.reply(alloc, cycles)
+}
+
+// Replies to a capture that begins with cycle 0.
+#[tactic(auto, unfolding(crate::specs::Replaying::ruled_answer))]
+fn reply_ruled(
+    alloc: Global,
+    verdict: Verdict,
+    replay: &mut Replay,
+    capture: &[u8],
+) -> Result<Reply, AllocError>
+    requires { verdict_of capture.now ≡ verdict }
+    ensures { (s : Station) → ReplayStandsFor replay.old s [] → IfOk result (λ reply. Says reply (ruled_answer verdict s (lines_read capture.now))) }
+{
+    match verdict {
+        Verdict::Clean { .. } => reply_clean(alloc, replay, capture),
+        _ => verdict_reply(alloc, verdict),
+    }
+}
+
+// Replies to a capture whose lines have the right shape.
+#[tactic(auto, unfolding(crate::specs::Replaying::started_answer))]
+fn reply_shaped(
+    alloc: Global,
+    start: Option<u32>,
+    verdict: Verdict,
+    replay: &mut Replay,
+    capture: &[u8],
+) -> Result<Reply, AllocError>
+    requires { verdict_of capture.now ≡ verdict }
+    ensures { (s : Station) → ReplayStandsFor replay.old s [] → IfOk result (λ reply. Says reply (started_answer start verdict s (lines_read capture.now))) }
+{
+    match start {
+        Some(cycle) => number_reply(
+            alloc,
+            Status::Refused,
+            "refused 13 cycle ",
+            u64::from(cycle),
+        ),
+        None => reply_ruled(alloc, verdict, replay, capture),
+    }
+}
+
+// Replies to a capture by its verdict.
+#[tactic(auto, unfolding(crate::specs::Replaying::judged_answer))]
+fn reply_judged(
+    alloc: Global,
+    verdict: Verdict,
+    start: Option<u32>,
+    replay: &mut Replay,
+    capture: &[u8],
+) -> Result<Reply, AllocError>
+    requires { verdict_of capture.now ≡ verdict }
+    ensures { (s : Station) → ReplayStandsFor replay.old s [] → IfOk result (λ reply. Says reply (judged_answer verdict start s (lines_read capture.now))) }
+{
+    match verdict {
+        Verdict::Refused { .. } => verdict_reply(alloc, verdict),
+        _ => reply_shaped(alloc, start, verdict, replay, capture),
+    }
+}
+
+// Replies to a capture.
+#[tactic(auto, unfolding(crate::specs::Replaying::capture_answer))]
+fn reply_capture(alloc: Global, replay: &mut Replay, capture: &[u8]) -> Result<Reply, AllocError>
+    requires { length capture.now ≤ 1048576 }
+    ensures { (s : Station) → ReplayStandsFor replay.old s [] → IfOk result (λ reply. Says reply (capture_answer s capture.now)) }
+{
+    let verdict = verdict(capture);
+    let start = late_start(capture);
+    reply_judged(alloc, verdict, start, replay, capture)
+}
+
+// Replies for the master.
+#[inline(never)]
+fn reply_master(alloc: Global, document: Document, capture: &[u8]) -> Result<Reply, AllocError>
+    requires ring { is_ring document.setup ≡ true }
+    requires jobs { AreJobs (λ address. has_address address document.setup.drives)
+        (λ address raw. has_other_data address raw document.setup.drives) document.jobs }
+    requires few { length capture.now ≤ 1048576 }
+    ensures { IfOk result (λ reply. Says reply (capture_answer (Station.master (known_of document.setup) document.jobs) capture.now)) }
+{
+    let Document { setup, jobs, .. } = document;
+    let mut replay = open_master(alloc, &setup, jobs)?;
+    reply_capture(alloc, &mut replay, capture)
+}
+
+// Replies for the drive at a place of the ring.
+#[inline(never)]
+fn reply_drive(
+    alloc: Global,
+    setup: &RingSetup,
+    index: usize,
+    capture: &[u8],
+) -> Result<Reply, AllocError>
+    requires ring { is_ring setup.now ≡ true }
+    requires index { index < length setup.now.drives }
+    requires few { length capture.now ≤ 1048576 }
+    ensures { IfOk result (λ reply. Says reply (capture_answer (Station.drive (drive_at setup.now index) setup.now.rate) capture.now)) }
+{
+    let mut replay = open_drive(alloc, setup, index)?;
+    reply_capture(alloc, &mut replay, capture)
+}
+
+// Replies for the drive with an address.
+#[tactic(auto, unfolding(crate::specs::Replaying::found_answer, crate::specs::Stations::drive_of))]
+fn reply_addressed(
+    alloc: Global,
+    address: u8,
+    setup: &RingSetup,
+    capture: &[u8],
+) -> Result<Reply, AllocError>
+    requires ring { is_ring setup.now ≡ true }
+    requires few { length capture.now ≤ 1048576 }
+    ensures { IfOk result (λ reply. Says reply (found_answer (drive_of address setup.now) address capture.now)) }
+{
+    match drive_place(address, setup) {
+        Some(index) => reply_drive(alloc, setup, index, capture),
+        None => number_reply(
+            alloc,
+            Status::Refused,
+            "refused 10 drive ",
+            u64::from(address),
+        ),
+    }
+}
+
+// Replies to a document and a capture.
+#[tactic(auto, unfolding(crate::specs::Replaying::found_answer, crate::specs::Stations::station_of))]
+fn reply_found(
+    alloc: Global,
+    address: u8,
+    document: Document,
+    capture: &[u8],
+) -> Result<Reply, AllocError>
+    requires ring { is_ring document.setup ≡ true }
+    requires jobs { AreJobs (λ address. has_address address document.setup.drives)
+        (λ address raw. has_other_data address raw document.setup.drives) document.jobs }
+    requires few { length capture.now ≤ 1048576 }
+    ensures { IfOk result (λ reply. Says reply (found_answer (station_of address document) address capture.now)) }
+{
+    if address == 0 {
+        return reply_master(alloc, document, capture);
+    }
+    reply_addressed(alloc, address, &document.setup, capture)
+}
+
+// Replies to the two parts of an input.
+#[tactic(auto, unfolding(crate::specs::Replaying::document_answer))]
+fn reply_parts(
+    alloc: Global,
+    address: u8,
+    document: &[u8],
+    capture: &[u8],
+) -> Result<Reply, BadDocument>
+    requires { length capture.now ≤ 1048576 }
+    ensures { MatchResult result
+        (λ reply. Says reply (document_answer (document_of document.now) address capture.now))
+        (λ bad. (bad ≡ BadDocument.Memory)
+        ⊎ ((document_answer (document_of document.now) address capture.now).status ≡ Refused) × ((document_answer (document_of document.now) address capture.now).output ≡ line_of bad)) }
+{
+    let document = read_ring(alloc, document)?;
+    match reply_found(alloc, address, document, capture) {
+        Ok(reply) => Ok(reply),
+        Err(_) => Err(BadDocument::Memory),
+    }
+}
+
+// Refuses an input without a capture.
+fn reply_undivided(alloc: Global) -> Result<Reply, BadDocument>
+    ensures { MatchResult result
+        (λ reply. Says reply (refused (codes "refused 9 capture" ++ line_feed)))
+        (λ bad. bad ≡ BadDocument.Memory) }
+{
+    match reply_with(alloc, Status::Refused, b"refused 9 capture\n") {
+        Ok(reply) => Ok(reply),
+        Err(_) => Err(BadDocument::Memory),
+    }
+}
+
+/// Answers a ring document, a line that is exactly `capture`, and a capture: the first place at which the station with an address
+/// said something else than its rules give of all that the capture has before that place, with `No`; or the number of cycles, if
+/// there is none. The master has the address 0. An input without such a line is refused, then a document, an address that no drive
+/// has, a capture, and one that doesn't begin with cycle 0; a capture that breaks a rule is answered as `check` does. The error is the
+/// document's first refusal, or `Memory`.
+///
+/// `Done` comes exactly where the input asks for a replay and no place differs, and `No` where one does, or where the capture breaks a
+/// rule.
+#[tactic(auto, using(crate::proofs::AskingLemmas::replays), unfolding(crate::specs::Replaying::replay_answer, crate::specs::Replaying::parts_answer, crate::specs::Divided::divided))]
+pub fn replay(alloc: Global, address: u8, bytes: &[u8]) -> Result<Reply, BadDocument>
+    requires few { length bytes.now ≤ 1048576 }
+    ensures answer { MatchResult result
+        (λ reply. (reply.status ≡ (replay_answer address bytes.now).status) × (reply.text.items ≡ (replay_answer address bytes.now).output))
+        (λ bad. (bad ≡ BadDocument.Memory)
+        ⊎ ((replay_answer address bytes.now).status ≡ Refused) × ((replay_answer address bytes.now).output ≡ line_of bad)) }
+    ensures replays { Replays address bytes.now }
+{
+    match capture_place(bytes) {
+        Some(place) => reply_parts(
+            alloc,
+            address,
+            document_part(bytes, place),
+            capture_part(bytes, place),
+        ),
+        None => reply_undivided(alloc),
+    }
+}

@@ -1,0 +1,47 @@
+// A law and no code.
+ghost use Rattle.sercos_told.specs.Writes.{WritesAreKept};
+
+use sercos_agenda::{agenda_law, channel_law, report_law, stop_law};
+use sercos_block::{ring_law, store_law};
+use sercos_drive::drive_law;
+use sercos_handshake::{exact_law, run_law, transfer_law, values_law};
+use sercos_hdlc::framing_law;
+use sercos_headline::headline_law;
+use sercos_master::master_law;
+use sercos_service_drive::writes_law;
+use sercos_startup::{
+    answer_law, cause_law, held_values_law, ring_slot_law, start_up_law, store_of_law,
+};
+use sercos_typed::typed_law;
+
+/// A law and no code. In a run in which nothing was unseen, whatever was lost or damaged and whoever restarted: if a write of operation
+/// data is told as complete, and no later request to the drive writes to the same block, then after the last cycle the drive's store has
+/// the bytes of this write in the block. The bytes of a write that is no list are filled up with zeros to whole words, at least one. The
+/// block isn't one that the start-up writes: S-0-0001, 0002, 0006 to 0010, 0015, 0016, 0024 and 0089, the two checks S-0-0127 and 0128,
+/// and their lists S-0-0021 and 0022.
+pub fn kept_law()
+    ensures { WritesAreKept }
+{
+    headline_law();
+    channel_law();
+    agenda_law();
+    report_law();
+    stop_law();
+    ring_law();
+    store_law();
+    drive_law();
+    exact_law();
+    run_law();
+    transfer_law();
+    values_law();
+    framing_law();
+    master_law();
+    writes_law();
+    answer_law();
+    cause_law();
+    held_values_law();
+    ring_slot_law();
+    start_up_law();
+    store_of_law();
+    typed_law();
+}

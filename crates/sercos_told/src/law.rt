@@ -1,0 +1,12 @@
+// A law and no code.
+ghost use Rattle.sercos_told.specs.Reads.{ReadsAreExact};
+
+use sercos_headline::headline_law;
+
+/// A law and no code. In a run in which nothing was unseen, the bytes that are told of a complete read of operation data are those that
+/// the drive had in the one cycle in which it accepted the selection.
+pub fn told_law()
+    ensures reads { ReadsAreExact }
+{
+    headline_law();
+}
