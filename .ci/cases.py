@@ -21,6 +21,7 @@ what `run` writes of its document alone. Ends with 0 where each case passed.
 """
 import fnmatch
 import pathlib
+import re
 import subprocess
 import sys
 
@@ -33,6 +34,7 @@ REPLAYS = {"agrees": 0, "differs": 1, "violation": 1, "refused": 3}
 LONGEST = 1048576
 # The names of the programs: the first one, and that of several rings.
 FIRST, RINGS = "sercos", "sercos_rings"
+LINE = re.compile(rb"[^\n]*\n|[^\n]+")
 
 
 def read(path, default):
@@ -162,7 +164,7 @@ def trace_faults(programs, document, trace):
 def documents(source):
     """The parts of an input, which lines that are exactly `next` divide."""
     several = [b""]
-    for line in source.splitlines(keepends=True):
+    for line in LINE.findall(source):
         if line in (b"next", b"next\n"):
             several.append(b"")
         else:
@@ -170,12 +172,16 @@ def documents(source):
     return several
 
 
+def own_lines(text, number):
+    """The lines of the ring with this number in a merged text, without it."""
+    mark = b"%d " % number
+    return b"".join(line[len(mark):] for line in LINE.findall(text) if line.startswith(mark))
+
+
 def merged_faults(programs, source, text):
     """What is wrong with the lines of each ring in a merged text."""
-    lines = text.splitlines(keepends=True)
     for number, document in enumerate(documents(source), 1):
-        mark = b"%d " % number
-        alone = other_output(b"".join(line[len(mark):] for line in lines if line.startswith(mark)))
+        alone = other_output(own_lines(text, number))
         for fault in faults(programs, FIRST, b"", [b"run"], document, alone, 0):
             yield f"ring {number}: {fault}"
 

@@ -1,5 +1,5 @@
 -- The cycles of a ring whose run is written: one more, a write that fails, and the whole text.
-use Rattle.std.proofs.Common.{◌≡◌, ℕ, zero, suc, ◌+◌, ◌<◌, ◌≤◌, ◌⊎◌, inl, inr, Bool, true, false, List, [], ◌∷◌, ◌++◌, length, reverse, if◌then◌else◌, is_some, Result, Ok, Err, IfOk, OnOk, OnErr, IsOk, IsErr, take, map, refl, sym, ap, ◌∙◌, subst, arith, append_assoc, append-nil}
+use Rattle.std.proofs.Common.{◌≡◌, ℕ, zero, suc, ◌+◌, ◌<◌, ◌≤◌, ◌⊎◌, inl, inr, Bool, true, false, List, [], ◌∷◌, ◌++◌, length, reverse, Result, Ok, Err, IfOk, OnOk, OnErr, IsOk, IsErr, take, map, refl, sym, ap, ◌∙◌, subst, arith, append_assoc, append-nil}
 use Rattle.std.specs.List.{flat_map}
 use Rattle.std.proofs.lemmas.Bool.{cases_lt}
 use Rattle.std.specs.List.{All}
@@ -20,8 +20,8 @@ use Rattle.sercos_trace.specs.declared.record.Totals.{Totals}
 use Rattle.sercos_trace.proofs.WriteLemmas.{taken_none, taken_then, failed_early, failed_later}
 use Rattle.sercos_script.specs.Links.{Carry, Restarts}
 use Rattle.sercos_journal.specs.Runs.{IsRun, run_of, next_record}
-use Rattle.sercos_totals.specs.Totals.{totals_of, falls_in}
-use Rattle.sercos_totals.specs.Counting.{AreFew, HasRoom, IsFew, none_made, with_cycle}
+use Rattle.sercos_totals.specs.Totals.{totals_of}
+use Rattle.sercos_totals.specs.Counting.{AreFew, IsFew, with_cycle}
 use Rattle.sercos_totals.proofs.CountLemmas.{few_more}
 use Rattle.sercos_app.specs.Journals.{IsRingOf, OfRun, Journal, HasCounted, HasWritten, HasStopped, WritesCycles, HasMade, cycles_text, journal_text}
 use Rattle.sercos_app.specs.RunWriting.{WritesRun}

@@ -1,5 +1,4 @@
 pub mod Outcomes
-pub mod ReplyLemmas
 pub mod Replayed
 pub mod JournalLemmas
 pub mod RunLemmas

@@ -1,14 +1,13 @@
 -- What each way in which the top call can end says for its clauses.
-use Rattle.std.proofs.Common.{◌≡◌, ◌≢◌, ℕ, ◌<◌, ◌≤◌, ◌⊎◌, inl, inr, Bool, true, false, IsTrue, List, [], ◌++◌, length, take, Option, Some, None, Result, Ok, Err, refl, sym, ◌∙◌, ap, subst, arith, ◌+◌, append-nil, length-append}
-use Rattle.std.proofs.lemmas.Bool.{false≢true}
-use Rattle.std.specs.Io.KnownBytes.{Appends, Consumes}
+use Rattle.std.proofs.Common.{◌≡◌, ◌≢◌, ℕ, ◌≤◌, ◌⊎◌, inl, inr, Bool, true, false, List, [], length, Option, Some, None, Result, Ok, Err, refl, sym, ◌∙◌, ap, subst}
+use Rattle.std.specs.Io.KnownBytes.{Appends}
 use Rattle.sercos_model.specs.Streams.{Rose}
 use Rattle.sercos_io.specs.declared.status.Status.{Status}
-use Rattle.sercos_io.specs.declared.status.Status.TheVariants.{Done, No, BadWords, Refused, ReadFault, WriteFault, Memory, TooLong}
+use Rattle.sercos_io.specs.declared.status.Status.TheVariants.{Done, No, Refused, Memory}
 use Rattle.sercos_words.specs.declared.form.Form.{Form}
 use Rattle.sercos_words.specs.declared.form.Form.TheVariants.{Show, Plan, Margin, Run, Check, Backup, Restore, Gen, Replay}
 use Rattle.sercos_script.specs.Links.{Carry, Restarts}
-use Rattle.sercos_app.specs.Answer.{command_answer, form_answer, answer_of, SaysWell}
+use Rattle.sercos_app.specs.Answer.{command_answer, form_answer, answer_of, SaysOf, SaysWell}
 use Rattle.sercos_words.specs.Form.{form_of, reads_input}
 use Rattle.sercos_answer.specs.Lines.{lines_of}
 use Rattle.sercos_show.specs.Show.{show_answer, show_status, first_fault}
@@ -43,18 +42,15 @@ use Rattle.sercos_block.specs.Rings.{wishes_of}
 use Rattle.sercos_document.specs.declared.refusal.BadDocument.{BadDocument}
 use Rattle.sercos_config.specs.Views.{DocumentView}
 use Rattle.sercos_config.specs.Document.{document_of}
-use Rattle.sercos_app.specs.Outcome.{SourceChange, SinkChange, Writes, Stops, TakesInput, Outcome}
-use Rattle.sercos_app.specs.Outcome.Writes.{whole, short}
-use Rattle.sercos_app.specs.Outcome.Stops.{no_form, unreadable, too_many, no_memory}
-use Rattle.sercos_app.specs.Outcome.Outcome.{stopped, answered}
-use Rattle.sercos_app.specs.TopCall.{writes_nothing, fault_status, ReadsWhole, IsInput, HasInput, TakesAtMost, TakesTooMany, IsAnswered, IsCutShort, IsAnswer, NonePlanned, LeastPlanned, MarginsTold, ChainTold, ViolationTold, CleanTold, RunTraced, RunSummed}
+use Rattle.sercos_call.specs.Outcome.{SourceChange, SinkChange, Writes, Replies, TakesInput, IsCommand, Outcome}
+use Rattle.sercos_call.specs.Outcome.Outcome.{stopped, answered}
+use Rattle.sercos_call.specs.TopCall.{writes_nothing, HasInput, IsAnswer, IsGiven, ReadsWhole}
+use Rattle.sercos_call.specs.TopCall.IsGiven.{done, refused, declined}
+use Rattle.sercos_call.proofs.Outcomes.{at_no, not_stopped, stops-few, told_whole, whole_or_short, fault-done, fault-no}
+use Rattle.sercos_call.proofs.ReplyLemmas.{answer_ends as answered_ends}
+use Rattle.sercos_app.specs.Outcome.{Ends}
+use Rattle.sercos_app.specs.TopCall.{NonePlanned, LeastPlanned, MarginsTold, ChainTold, ViolationTold, CleanTold, RunTraced, RunSummed}
 use Rattle.sercos_journal.proofs.RunLemmas.{length-run_of}
-
--- the statuses of answers
-data IsGiven : Status → Type 0 where
-  done : IsGiven Done
-  refused : IsGiven Refused
-  declined : IsGiven No
 
 IsGiven-fault : (fault : Option (ℕ × ℕ)) → IsGiven (show_status fault)
 unfolding show_status
@@ -166,345 +162,44 @@ answer_of-form : (carry : Carry) (restarts : Restarts) (words : List (List ℕ))
 unfolding answer_of form_answer
 answer_of-form carry restarts words bytes form e = rw e refl
 
--- no status that is written is one of those that come before
-IsGiven-writes_nothing : {status : Status} → IsGiven status → writes_nothing status ≡ false
-unfolding writes_nothing
-IsGiven-writes_nothing done = refl
-IsGiven-writes_nothing refused = refl
-IsGiven-writes_nothing declined = refl
-
-IsGiven-fault_writes : {status : Status} → IsGiven status → writes_nothing (fault_status status) ≡ false
-unfolding writes_nothing fault_status
-IsGiven-fault_writes done = refl
-IsGiven-fault_writes refused = refl
-IsGiven-fault_writes declined = refl
-
--- a status that writing an answer ends with
-writes_nothing-Writes : {first status : Status} {text : List ℕ} {sink : SinkChange} → IsGiven first → Writes first text sink status → writes_nothing status ≡ false
-writes_nothing-Writes given (whole appends same) = IsGiven-writes_nothing given
-writes_nothing-Writes given (short count below appends kept rose full) = IsGiven-fault_writes given
-
--- a status that comes after writing is none of those that come before
-not_before : {status other : Status} → writes_nothing status ≡ false → writes_nothing other ≡ true → status ≡ other → ⊥
-not_before after before same = false≢true (sym after ∙ ap writes_nothing same ∙ before)
-
-pub some_same : {A : Type 0} {x y : A} → Some x ≡ Some y → x ≡ y
-some_same e = cc
-
--- what was read from a source that told its bytes
-pub told_whole : (bytes read : List ℕ) (left left' : Option (List ℕ)) → left ≡ Some bytes → ReadsWhole left left' read → read ≡ bytes
-told_whole bytes read None left' told reads = absurd (cc)
-told_whole bytes read (Some xs) None told reads = absurd reads.consumed
-told_whole bytes read (Some xs) (Some ys) told reads =
-    let all : xs ≡ bytes = some_same told in
-    let none : ys ≡ [] = reads.ended in
-    let front : xs ≡ read ++ ys = reads.consumed in
-    sym (append-nil read) ∙ ap (λ zs. read ++ zs) (sym none) ∙ sym front ∙ all
-
--- a source that told its bytes gave them all
-many_told : (bytes : List ℕ) (left left' : Option (List ℕ)) → left ≡ Some bytes → TakesTooMany left left' → 1048577 ≤ length bytes
-many_told bytes None left' told takes = absurd (cc)
-many_told bytes (Some xs) None told takes = absurd takes.consumed
-many_told bytes (Some xs) (Some ys) told takes =
-    let all : xs ≡ bytes = some_same told in
-    let front : xs ≡ takes.taken ++ ys = takes.consumed in
-    let lengths : length xs ≡ length takes.taken + length ys = ap length front ∙ length-append takes.taken ys in
-    omega (arith, takes.many, lengths, ap length all)
-
-too_many_told : (reads : Bool) (bytes : List ℕ) (left left' : Option (List ℕ)) → reads ≡ true → HasInput reads left bytes → TakesTooMany left left' → 1048577 ≤ length bytes
-too_many_told true bytes left left' is told takes = many_told bytes left left' told takes
-too_many_told false bytes left left' is told takes = absurd (false≢true is)
-
--- a source that told more bytes than an input may have
-few_told : (reads : Bool) (bytes all : List ℕ) (source : SourceChange) (Unread : Type 0) → reads ≡ true → source.left ≡ Some all → TakesInput reads source Unread bytes → length all ≤ 1048576
-few_told true bytes all source Unread is told input = let same = ap length (told_whole all bytes source.left source.left' told input) in let fits = input.fits in omega (arith, same, fits)
-few_told false bytes all source Unread is told input = absurd (false≢true is)
-
--- what is known of it when the call is done
-input_of : (reads : Bool) (bytes : List ℕ) (source : SourceChange) (Unread : Type 0) → TakesInput reads source Unread bytes → IsInput reads source.left source.left' bytes
-input_of true bytes source Unread input = input
-input_of false bytes source Unread input = (input.1, input.2)
-
-pub unread_input : (reads : Bool) (bytes : List ℕ) (source : SourceChange) (Unread : Type 0) → TakesInput reads source Unread bytes → reads ≡ false → Unread
-unread_input true bytes source Unread input is = absurd (false≢true (sym is))
-unread_input false bytes source Unread input is = input.0
-
--- what is taken from a source that is left as it was
-taken_none : (left : Option (List ℕ)) → Consumes left left []
-taken_none None = tt
-taken_none (Some bytes) = refl
-
-pub takes_none : (most : ℕ) (left left' : Option (List ℕ)) → left' ≡ left → TakesAtMost most left left'
-takes_none most left left' same =
-    record { taken = []; few = omega arith; consumed = subst (λ after. Consumes left after []) (sym same) (taken_none left) }
-
-takes_more : {less most : ℕ} {left left' : Option (List ℕ)} → less ≤ most → TakesAtMost less left left' → TakesAtMost most left left'
-takes_more above t = record { taken = t.taken; few = omega (arith, t.few); consumed = t.consumed }
-
-pub takes_input : (reads : Bool) (bytes : List ℕ) (source : SourceChange) (Unread : Type 0) → TakesInput reads source Unread bytes → TakesAtMost 1048576 source.left source.left'
-takes_input true bytes source Unread input = record { taken = bytes; few = input.fits; consumed = input.consumed }
-takes_input false bytes source Unread input = takes_none 1048576 source.left source.left' input.1
-
--- What is known of a call that stopped before anything was written.
-
--- a command that reads isn't one that doesn't
-pub stays_read : (Unread : Type 0) (reads : Bool) (same : reads ≡ true) → reads ≡ false → Unread
-stays_read Unread reads same e = absurd (false≢true (sym e ∙ same))
-
-form_clash : (words : List (List ℕ)) → reads_input (form_of words) ≡ true → form_of words ≡ None → ⊥
+-- what a form reads, and that it has an answer
+form_none : (form : Option Form) → form ≡ None → reads_input form ≡ false
 unfolding reads_input
-form_clash words reads none = false≢true (sym (ap reads_input none) ∙ reads)
+form_none form none = ap reads_input none
 
-stops_before : {words : List (List ℕ)} {source : SourceChange} {Unread : Type 0} {status : Status} → Stops words source Unread status → writes_nothing status ≡ true
-unfolding writes_nothing
-stops_before (no_form nothing unread same reads) = refl
-stops_before (unreadable is falls rose takes) = refl
-stops_before (too_many is reads takes) = refl
-stops_before (no_memory reads takes unread) = refl
-
--- it ended with no status of an answer
-not_stopped : {words : List (List ℕ)} {source : SourceChange} {Unread : Type 0} {status wanted : Status} → Stops words source Unread status → writes_nothing wanted ≡ false → status ≡ wanted → ⊥
-not_stopped why after same = false≢true (sym after ∙ sym (ap writes_nothing same) ∙ stops_before why)
-
-stops-bad_words : {words : List (List ℕ)} {source : SourceChange} {Unread : Type 0} {status : Status} → Stops words source Unread status → status ≡ BadWords → form_of words ≡ None
-stops-bad_words (no_form nothing unread same reads) e = nothing
-stops-bad_words (unreadable is falls rose takes) e = absurd (cc)
-stops-bad_words (too_many is reads takes) e = absurd (cc)
-stops-bad_words (no_memory reads takes unread) e = absurd (cc)
-
-stops-no_form : {words : List (List ℕ)} {source : SourceChange} {Unread : Type 0} {status : Status} → Stops words source Unread status → form_of words ≡ None → (status ≡ Memory) ⊎ (status ≡ BadWords)
-stops-no_form (no_form nothing unread same reads) none = inr refl
-stops-no_form (unreadable is falls rose takes) none = absurd (form_clash _ is none)
-stops-no_form (too_many is reads takes) none = absurd (form_clash _ is none)
-stops-no_form (no_memory reads takes unread) none = inl refl
-
-stops-unread : {words : List (List ℕ)} {source : SourceChange} {Unread : Type 0} {status : Status} → Stops words source Unread status → reads_input (form_of words) ≡ false → Unread
-stops-unread (no_form nothing unread same reads) e = unread
-stops-unread (unreadable is falls rose takes) e = absurd (false≢true (sym e ∙ is))
-stops-unread (too_many is reads takes) e = absurd (false≢true (sym e ∙ is))
-stops-unread (no_memory reads takes unread) e = unread e
-
-stops-read_fault : {words : List (List ℕ)} {source : SourceChange} {Unread : Type 0} {status : Status} → Stops words source Unread status → status ≡ ReadFault → Rose source.faults source.faults'
-stops-read_fault (no_form nothing unread same reads) e = absurd (cc)
-stops-read_fault (unreadable is falls rose takes) e = rose
-stops-read_fault (too_many is reads takes) e = absurd (cc)
-stops-read_fault (no_memory reads takes unread) e = absurd (cc)
-
-stops-read_count : {words : List (List ℕ)} {source : SourceChange} {Unread : Type 0} {status : Status} → Stops words source Unread status → source.faults ≤ source.faults'
-stops-read_count (no_form nothing unread same reads) = omega arith
-stops-read_count (unreadable is falls rose takes) = falls
-stops-read_count (too_many is reads takes) = omega arith
-stops-read_count (no_memory reads takes unread) = omega arith
-
-stops-read_well : {words : List (List ℕ)} {source : SourceChange} {Unread : Type 0} {status : Status} → Stops words source Unread status → status ≢ ReadFault → source.faults' ≡ source.faults
-stops-read_well (no_form nothing unread same reads) e = reads
-stops-read_well (unreadable is falls rose takes) e = absurd (e refl)
-stops-read_well (too_many is reads takes) e = reads
-stops-read_well (no_memory reads takes unread) e = reads
-
-stops-taken : {words : List (List ℕ)} {source : SourceChange} {Unread : Type 0} {status : Status} → Stops words source Unread status → TakesAtMost 1048577 source.left source.left'
-stops-taken (no_form nothing unread same reads) = takes_none _ _ _ same
-stops-taken (unreadable is falls rose takes) = takes_more (omega arith) takes
-stops-taken (too_many is reads takes) = record { taken = takes.taken; few = omega (arith, takes.many); consumed = takes.consumed }
-stops-taken (no_memory reads takes unread) = takes_more (omega arith) takes
-
-stops-taken_few : {words : List (List ℕ)} {source : SourceChange} {Unread : Type 0} {status : Status} → Stops words source Unread status → status ≢ TooLong → TakesAtMost 1048576 source.left source.left'
-stops-taken_few (no_form nothing unread same reads) other = takes_none _ _ _ same
-stops-taken_few (unreadable is falls rose takes) other = takes
-stops-taken_few (too_many is reads takes) other = absurd (other refl)
-stops-taken_few (no_memory reads takes unread) other = takes
-
-stops-too_long : {words : List (List ℕ)} {source : SourceChange} {Unread : Type 0} {status : Status} → Stops words source Unread status → status ≡ TooLong → TakesTooMany source.left source.left'
-stops-too_long (no_form nothing unread same reads) e = absurd (cc)
-stops-too_long (unreadable is falls rose takes) e = absurd (cc)
-stops-too_long (too_many is reads takes) e = takes
-stops-too_long (no_memory reads takes unread) e = absurd (cc)
-
--- with words in a form and no failed read, there was too much input or no memory
-stops-well : {words : List (List ℕ)} {source : SourceChange} {Unread : Type 0} {status : Status} → Stops words source Unread status → form_of words ≢ None → (Rose source.faults source.faults' → ⊥) → (status ≡ Memory) ⊎ ((status ≡ TooLong) × (reads_input (form_of words) ≡ true) × TakesTooMany source.left source.left')
-stops-well (no_form nothing unread same reads) some well = absurd (some nothing)
-stops-well (unreadable is falls rose takes) some well = absurd (well rose)
-stops-well (too_many is reads takes) some well = inr (refl, is, takes)
-stops-well (no_memory reads takes unread) some well = inl refl
-
--- with an input that isn't too long there was no memory
-pub stops-few : {words : List (List ℕ)} {source : SourceChange} {Unread : Type 0} {status : Status} → Stops words source Unread status → (bytes : List ℕ) → HasInput (reads_input (form_of words)) source.left bytes → length bytes ≤ 1048576 → form_of words ≢ None → (Rose source.faults source.faults' → ⊥) → status ≡ Memory
-stops-few why bytes told fits some well = elim (stops-well why some well) [ inl memory ↦ memory | inr many ↦ absurd (omega (arith, fits, too_many_told _ bytes _ _ many.1 told many.2)) ]
-
--- The clauses of the top call, each from how the call ended.
-
-pub at_bad_words : {carry : Carry} {restarts : Restarts} {words : List (List ℕ)} {source : SourceChange} {sink : SinkChange} {Unread Unwritten : Type 0} {status : Status} → Outcome carry restarts words source sink Unread Unwritten status → status ≡ BadWords → form_of words ≡ None
-unfolding writes_nothing
-at_bad_words (stopped status why sink_same writes) e = stops-bad_words why e
-at_bad_words (answered form bytes status is says reads input ends) e = absurd (not_before (writes_nothing-Writes (IsGiven-answer _ _ form bytes) ends) refl e)
-
-pub at_no_form : {carry : Carry} {restarts : Restarts} {words : List (List ℕ)} {source : SourceChange} {sink : SinkChange} {Unread Unwritten : Type 0} {status : Status} → Outcome carry restarts words source sink Unread Unwritten status → form_of words ≡ None → (status ≡ Memory) ⊎ (status ≡ BadWords)
-at_no_form (stopped status why sink_same writes) none = stops-no_form why none
-at_no_form (answered form bytes status is says reads input ends) none = absurd (cc)
-
-pub at_unread : {carry : Carry} {restarts : Restarts} {words : List (List ℕ)} {source : SourceChange} {sink : SinkChange} {Unread Unwritten : Type 0} {status : Status} → Outcome carry restarts words source sink Unread Unwritten status → reads_input (form_of words) ≡ false → Unread
-at_unread (stopped status why sink_same writes) e = stops-unread why e
-at_unread (answered form bytes status is says reads input ends) e = unread_input _ _ _ _ input (sym (ap reads_input is) ∙ e)
-
-pub at_unwritten : {carry : Carry} {restarts : Restarts} {words : List (List ℕ)} {source : SourceChange} {sink : SinkChange} {Unread Unwritten : Type 0} {status : Status} → Outcome carry restarts words source sink Unread Unwritten status → IsTrue (writes_nothing status) → Unwritten
-at_unwritten (stopped status why sink_same writes) e = sink_same
-at_unwritten (answered form bytes status is says reads input ends) e = absurd (false≢true (sym (writes_nothing-Writes (IsGiven-answer _ _ form bytes) ends) ∙ e))
-
-pub at_read_fault : {carry : Carry} {restarts : Restarts} {words : List (List ℕ)} {source : SourceChange} {sink : SinkChange} {Unread Unwritten : Type 0} {status : Status} → Outcome carry restarts words source sink Unread Unwritten status → status ≡ ReadFault → Rose source.faults source.faults'
-unfolding writes_nothing
-at_read_fault (stopped status why sink_same writes) e = stops-read_fault why e
-at_read_fault (answered form bytes status is says reads input ends) e = absurd (not_before (writes_nothing-Writes (IsGiven-answer _ _ form bytes) ends) refl e)
-
-pub at_read_count : {carry : Carry} {restarts : Restarts} {words : List (List ℕ)} {source : SourceChange} {sink : SinkChange} {Unread Unwritten : Type 0} {status : Status} → Outcome carry restarts words source sink Unread Unwritten status → source.faults ≤ source.faults'
-at_read_count (stopped status why sink_same writes) = stops-read_count why
-at_read_count (answered form bytes status is says reads input ends) = omega arith
-
-pub at_read_well : {carry : Carry} {restarts : Restarts} {words : List (List ℕ)} {source : SourceChange} {sink : SinkChange} {Unread Unwritten : Type 0} {status : Status} → Outcome carry restarts words source sink Unread Unwritten status → status ≢ ReadFault → source.faults' ≡ source.faults
-at_read_well (stopped status why sink_same writes) e = stops-read_well why e
-at_read_well (answered form bytes status is says reads input ends) e = reads
-
-pub at_taken : {carry : Carry} {restarts : Restarts} {words : List (List ℕ)} {source : SourceChange} {sink : SinkChange} {Unread Unwritten : Type 0} {status : Status} → Outcome carry restarts words source sink Unread Unwritten status → TakesAtMost 1048577 source.left source.left'
-at_taken (stopped status why sink_same writes) = stops-taken why
-at_taken (answered form bytes status is says reads input ends) = takes_more (omega arith) (takes_input _ _ _ _ input)
-
-pub at_taken_few : {carry : Carry} {restarts : Restarts} {words : List (List ℕ)} {source : SourceChange} {sink : SinkChange} {Unread Unwritten : Type 0} {status : Status} → Outcome carry restarts words source sink Unread Unwritten status → status ≢ TooLong → TakesAtMost 1048576 source.left source.left'
-at_taken_few (stopped status why sink_same writes) other = stops-taken_few why other
-at_taken_few (answered form bytes status is says reads input ends) other = takes_input _ _ _ _ input
-
-pub at_too_long : {carry : Carry} {restarts : Restarts} {words : List (List ℕ)} {source : SourceChange} {sink : SinkChange} {Unread Unwritten : Type 0} {status : Status} → Outcome carry restarts words source sink Unread Unwritten status → status ≡ TooLong → TakesTooMany source.left source.left'
-unfolding writes_nothing
-at_too_long (stopped status why sink_same writes) e = stops-too_long why e
-at_too_long (answered form bytes status is says reads input ends) e = absurd (not_before (writes_nothing-Writes (IsGiven-answer _ _ form bytes) ends) refl e)
-
--- a failed write's status is no other answer's
-fault-done : {status : Status} → IsGiven status → fault_status status ≢ Done
-unfolding fault_status
-fault-done done e = absurd (cc)
-fault-done refused e = absurd (cc)
-fault-done declined e = absurd (cc)
-
-fault-no : {status : Status} → IsGiven status → fault_status status ≢ No
-unfolding fault_status
-fault-no done e = absurd (cc)
-fault-no refused e = absurd (cc)
-fault-no declined e = absurd (cc)
-
-not_write_fault : {status : Status} → IsGiven status → status ≢ WriteFault
-not_write_fault done e = absurd (cc)
-not_write_fault refused e = absurd (cc)
-not_write_fault declined e = absurd (cc)
-
--- an answer that was written as a whole
-pub record IsWhole (first status : Status) (text : List ℕ) (sink : SinkChange) : Type 0 where
-  pub status_is : first ≡ status
-  pub written : Appends sink.held sink.held' text
-  pub same : sink.faults' ≡ sink.faults
-
--- one whose writing failed
-pub record IsShort (first status : Status) (text : List ℕ) (sink : SinkChange) : Type 0 where
-  pub status_is : fault_status first ≡ status
-  pub count : ℕ
-  pub short : count < length text
-  pub written : Appends sink.held sink.held' (take count text)
-  pub falls : sink.faults ≤ sink.faults'
-  pub rose : Rose sink.faults sink.faults'
-  pub full : length text ≤ sink.room → ⊥
-
-pub whole_or_short : {first status : Status} {text : List ℕ} {sink : SinkChange} → Writes first text sink status → IsWhole first status text sink ⊎ IsShort first status text sink
-whole_or_short (whole appends same) = inl (record { status_is = refl; written = appends; same = same })
-whole_or_short (short count below appends falls rose full) =
-    inr (record { status_is = refl; count = count; short = below; written = appends; falls = falls; rose = rose; full = full })
-
-answered-whole : (carry : Carry) (restarts : Restarts) (words : List (List ℕ)) (form : Form) (bytes : List ℕ) (status wanted : Status) (left left' : Option (List ℕ)) (sink : SinkChange) → form_of words ≡ Some form → IsInput (reads_input (Some form)) left left' bytes → IsWhole (command_answer carry restarts form bytes).status status (command_answer carry restarts form bytes).output sink → status ≡ wanted → IsAnswered carry restarts words wanted left left' sink.held sink.held'
-answered-whole carry restarts words form bytes status wanted left left' sink is input w e =
-    record { bytes = bytes; read = rw is input; status_is = rw (answer_of-form carry restarts words bytes form is) (w.status_is ∙ e); written = rw (answer_of-form carry restarts words bytes form is) w.written }
-
-answered-short : (carry : Carry) (restarts : Restarts) (words : List (List ℕ)) (form : Form) (bytes : List ℕ) (status wanted : Status) (left left' : Option (List ℕ)) (sink : SinkChange) → form_of words ≡ Some form → IsInput (reads_input (Some form)) left left' bytes → IsShort (command_answer carry restarts form bytes).status status (command_answer carry restarts form bytes).output sink → status ≡ wanted → IsCutShort carry restarts words wanted left left' sink.held sink.held'
-answered-short carry restarts words form bytes status wanted left left' sink is input w e =
-    record {
-      bytes = bytes;
-      read = rw is input;
-      status_is = rw (answer_of-form carry restarts words bytes form is) (w.status_is ∙ e);
-      count = w.count;
-      short = rw (answer_of-form carry restarts words bytes form is) w.short;
-      written = rw (answer_of-form carry restarts words bytes form is) w.written;
-    }
-
--- and those on what was answered
-
-pub at_done : {carry : Carry} {restarts : Restarts} {words : List (List ℕ)} {source : SourceChange} {sink : SinkChange} {Unread Unwritten : Type 0} {status : Status} → Outcome carry restarts words source sink Unread Unwritten status → status ≡ Done → IsAnswered carry restarts words Done source.left source.left' sink.held sink.held'
-unfolding writes_nothing
-at_done (stopped status why sink_same writes) e = absurd (not_stopped why refl e)
-at_done (answered form bytes status is says reads input ends) e = elim (whole_or_short ends) [ inl w ↦ answered-whole _ _ _ form bytes _ Done _ _ _ is (input_of _ _ _ _ input) w e | inr w ↦ absurd (fault-done (IsGiven-answer _ _ form bytes) (w.status_is ∙ e)) ]
-
-pub at_no : {carry : Carry} {restarts : Restarts} {words : List (List ℕ)} {source : SourceChange} {sink : SinkChange} {Unread Unwritten : Type 0} {status : Status} → Outcome carry restarts words source sink Unread Unwritten status → status ≡ No → IsAnswered carry restarts words No source.left source.left' sink.held sink.held'
-unfolding writes_nothing
-at_no (stopped status why sink_same writes) e = absurd (not_stopped why refl e)
-at_no (answered form bytes status is says reads input ends) e = elim (whole_or_short ends) [ inl w ↦ answered-whole _ _ _ form bytes _ No _ _ _ is (input_of _ _ _ _ input) w e | inr w ↦ absurd (fault-no (IsGiven-answer _ _ form bytes) (w.status_is ∙ e)) ]
-
-pub at_refused : {carry : Carry} {restarts : Restarts} {words : List (List ℕ)} {source : SourceChange} {sink : SinkChange} {Unread Unwritten : Type 0} {status : Status} → Outcome carry restarts words source sink Unread Unwritten status → status ≡ Refused → ((sink.faults' ≡ sink.faults) × IsAnswered carry restarts words Refused source.left source.left' sink.held sink.held') ⊎ (Rose sink.faults sink.faults' × IsCutShort carry restarts words Refused source.left source.left' sink.held sink.held')
-unfolding writes_nothing
-at_refused (stopped status why sink_same writes) e = absurd (not_stopped why refl e)
-at_refused (answered form bytes status is says reads input ends) e = elim (whole_or_short ends) [ inl w ↦ inl (w.same, answered-whole _ _ _ form bytes _ Refused _ _ _ is (input_of _ _ _ _ input) w e) | inr w ↦ inr (w.rose, answered-short _ _ _ form bytes _ Refused _ _ _ is (input_of _ _ _ _ input) w e) ]
-
-pub at_write_fault : {carry : Carry} {restarts : Restarts} {words : List (List ℕ)} {source : SourceChange} {sink : SinkChange} {Unread Unwritten : Type 0} {status : Status} → Outcome carry restarts words source sink Unread Unwritten status → status ≡ WriteFault → Rose sink.faults sink.faults' × IsCutShort carry restarts words WriteFault source.left source.left' sink.held sink.held'
-unfolding writes_nothing
-at_write_fault (stopped status why sink_same writes) e = absurd (not_stopped why refl e)
-at_write_fault (answered form bytes status is says reads input ends) e = elim (whole_or_short ends) [ inl w ↦ absurd (not_write_fault (IsGiven-answer _ _ form bytes) (w.status_is ∙ e)) | inr w ↦ (w.rose, answered-short _ _ _ form bytes _ WriteFault _ _ _ is (input_of _ _ _ _ input) w e) ]
-
-pub at_write_count : {carry : Carry} {restarts : Restarts} {words : List (List ℕ)} {source : SourceChange} {sink : SinkChange} {Unread Unwritten : Type 0} {status : Status} → Outcome carry restarts words source sink Unread Unwritten status → sink.faults ≤ sink.faults'
-at_write_count (stopped status why sink_same writes) = omega arith
-at_write_count (answered form bytes status is says reads input ends) = elim (whole_or_short ends) [ inl w ↦ omega (arith, w.same) | inr w ↦ w.falls ]
-
-fault_is : {status : Status} → IsGiven status → fault_status status ≢ WriteFault → fault_status status ≡ Refused
-unfolding fault_status
-fault_is done e = absurd (e refl)
-fault_is refused e = refl
-fault_is declined e = absurd (e refl)
-
-pub at_write_well : {carry : Carry} {restarts : Restarts} {words : List (List ℕ)} {source : SourceChange} {sink : SinkChange} {Unread Unwritten : Type 0} {status : Status} → Outcome carry restarts words source sink Unread Unwritten status → status ≢ WriteFault → status ≢ Refused → sink.faults' ≡ sink.faults
-at_write_well (stopped status why sink_same writes) e f = writes
-at_write_well (answered form bytes status is says reads input ends) e f = elim (whole_or_short ends) [ inl w ↦ w.same | inr w ↦ absurd (f (sym w.status_is ∙ fault_is (IsGiven-answer _ _ form bytes) (λ same. e (sym w.status_is ∙ same)))) ]
-
--- the answer to the bytes that a source told
-same_answer : (carry : Carry) (restarts : Restarts) (form : Form) (all bytes : List ℕ) (source : SourceChange) (Unread : Type 0) → HasInput (reads_input (Some form)) source.left all → TakesInput (reads_input (Some form)) source Unread bytes
-    → command_answer carry restarts form bytes ≡ command_answer carry restarts form all
+same_answer : (carry : Carry) (restarts : Restarts) (form : Form) → reads_input (Some form) ≡ false → (a b : List ℕ) → command_answer carry restarts form a ≡ command_answer carry restarts form b
 unfolding reads_input command_answer
-same_answer carry restarts Show all bytes source Unread told input = ap show_answer (told_whole all bytes source.left source.left' told input)
-same_answer carry restarts Plan all bytes source Unread told input = ap plan_answer (told_whole all bytes source.left source.left' told input)
-same_answer carry restarts Run all bytes source Unread told input = ap (run_answer carry restarts) (told_whole all bytes source.left source.left' told input)
-same_answer carry restarts Check all bytes source Unread told input = ap check_answer (told_whole all bytes source.left source.left' told input)
-same_answer carry restarts Margin all bytes source Unread told input = ap margin_answer (told_whole all bytes source.left source.left' told input)
-same_answer carry restarts Backup all bytes source Unread told input = ap (backup_answer carry restarts) (told_whole all bytes source.left source.left' told input)
-same_answer carry restarts Restore all bytes source Unread told input = ap (restore_answer carry restarts) (told_whole all bytes source.left source.left' told input)
-same_answer carry restarts (Gen n) all bytes source Unread told input = refl
-same_answer carry restarts (Replay address) all bytes source Unread told input = ap (replay_answer address) (told_whole all bytes source.left source.left' told input)
+same_answer carry restarts Show reads a b = absurd (cc)
+same_answer carry restarts Plan reads a b = absurd (cc)
+same_answer carry restarts Run reads a b = absurd (cc)
+same_answer carry restarts Check reads a b = absurd (cc)
+same_answer carry restarts Margin reads a b = absurd (cc)
+same_answer carry restarts Backup reads a b = absurd (cc)
+same_answer carry restarts Restore reads a b = absurd (cc)
+same_answer carry restarts (Gen n) reads a b = refl
+same_answer carry restarts (Replay address) reads a b = absurd (cc)
 
-told_answer : (carry : Carry) (restarts : Restarts) (words : List (List ℕ)) (form : Form) (all bytes : List ℕ) (source : SourceChange) (Unread : Type 0) → form_of words ≡ Some form → HasInput (reads_input (form_of words)) source.left all → TakesInput (reads_input (Some form)) source Unread bytes
-    → command_answer carry restarts form bytes ≡ answer_of carry restarts words all
-told_answer carry restarts words form all bytes source Unread is told input =
-    same_answer carry restarts form all bytes source Unread (subst (λ (o : Option Form). HasInput (reads_input o) source.left all) is told) input
-    ∙ sym (answer_of-form carry restarts words all form is)
+command : (carry : Carry) (restarts : Restarts) (words : List (List ℕ)) → IsCommand (form_of words) (reads_input (form_of words)) (answer_of carry restarts words)
+command carry restarts words = record {
+  none = form_none (form_of words);
+  one = λ form is reads a b. answer_of-form carry restarts words a form is ∙ same_answer carry restarts form (sym (ap reads_input is) ∙ reads) a b ∙ sym (answer_of-form carry restarts words b form is);
+  given = λ form is bytes. subst (λ (a : Answer). IsGiven a.status) (sym (answer_of-form carry restarts words bytes form is)) (IsGiven-answer carry restarts form bytes);
+}
 
-pub at_answers : {carry : Carry} {restarts : Restarts} {words : List (List ℕ)} {source : SourceChange} {sink : SinkChange} {Unread Unwritten : Type 0} {status : Status} → Outcome carry restarts words source sink Unread Unwritten status → (bytes : List ℕ) → HasInput (reads_input (form_of words)) source.left bytes → length bytes ≤ 1048576 → form_of words ≢ None → (Rose source.faults source.faults' → ⊥) → (Rose sink.faults sink.faults' → ⊥) → (status ≡ Memory) ⊎ IsAnswer (answer_of carry restarts words bytes) status sink.held sink.held'
-at_answers (stopped status why sink_same writes) all told fits some well taken = inl (stops-few why all told fits some well)
-at_answers (answered form bytes status is says reads input ends) all told fits some well taken = let answer = told_answer _ _ _ form all bytes _ _ is told input in elim (whole_or_short ends) [ inl w ↦ inr (record { status_is = sym w.status_is ∙ ap (λ a. a.status) answer; written = rw (← answer) w.written }) | inr w ↦ absurd (taken w.rose) ]
+pub law_of : {carry : Carry} {restarts : Restarts} {words : List (List ℕ)} {source : SourceChange} {sink : SinkChange} {Unread Unwritten : Type 0} {status : Status} → Ends carry restarts words source sink Unread Unwritten status
+    → IsCommand (form_of words) (reads_input (form_of words)) (answer_of carry restarts words)
+law_of {carry = carry} {restarts = restarts} {words = words} out = command carry restarts words
 
-fault-refused : {status : Status} → status ≡ Refused → fault_status status ≡ Refused
-unfolding fault_status
-fault-refused e = rw e refl
-
-pub at_refuses : {carry : Carry} {restarts : Restarts} {words : List (List ℕ)} {source : SourceChange} {sink : SinkChange} {Unread Unwritten : Type 0} {status : Status} → Outcome carry restarts words source sink Unread Unwritten status → (bytes : List ℕ) → HasInput (reads_input (form_of words)) source.left bytes → length bytes ≤ 1048576 → form_of words ≢ None → (Rose source.faults source.faults' → ⊥) → (answer_of carry restarts words bytes).status ≡ Refused → (status ≡ Memory) ⊎ (status ≡ Refused)
-at_refuses (stopped status why sink_same writes) all told fits some well refusal = inl (stops-few why all told fits some well)
-at_refuses {carry = carry} {restarts = restarts} (answered form bytes status is says reads input ends) all told fits some well refusal = let first : (command_answer carry restarts form bytes).status ≡ Refused = ap (λ a. a.status) (told_answer _ _ _ form all bytes _ _ is told input) ∙ refusal in elim (whole_or_short ends) [ inl w ↦ inr (sym w.status_is ∙ first) | inr w ↦ inr (sym w.status_is ∙ fault-refused first) ]
-
-pub at_exceeds : {carry : Carry} {restarts : Restarts} {words : List (List ℕ)} {source : SourceChange} {sink : SinkChange} {Unread Unwritten : Type 0} {status : Status} → Outcome carry restarts words source sink Unread Unwritten status → (bytes : List ℕ) → source.left ≡ Some bytes → 1048577 ≤ length bytes → reads_input (form_of words) ≡ true → (Rose source.faults source.faults' → ⊥) → (status ≡ Memory) ⊎ (status ≡ TooLong)
-at_exceeds (stopped status why sink_same writes) all told many some well = elim (stops-well why (λ none. form_clash _ some none) well) [ inl memory ↦ inl memory | inr long ↦ inr long.0 ]
-at_exceeds (answered form bytes status is says reads input ends) all told many some well = let fits = few_told _ bytes all _ _ (sym (ap reads_input is) ∙ some) told input in absurd (omega (arith, many, fits))
-
-pub at_room : {carry : Carry} {restarts : Restarts} {words : List (List ℕ)} {source : SourceChange} {sink : SinkChange} {Unread Unwritten : Type 0} {status : Status} → Outcome carry restarts words source sink Unread Unwritten status → (bytes : List ℕ) → HasInput (reads_input (form_of words)) source.left bytes → length (answer_of carry restarts words bytes).output ≤ sink.room → sink.faults' ≡ sink.faults
-at_room (stopped status why sink_same writes) all told fits = writes
-at_room {carry = carry} {restarts = restarts} {words = words} (answered form bytes status is says reads input ends) all told fits = let answer = told_answer carry restarts words form all bytes _ _ is told input in elim (whole_or_short ends) [ inl w ↦ w.same | inr w ↦ absurd (w.full (rw answer fits)) ]
+-- how the call ends, from how answering by the command of a form does
+pub answer_ends : (carry : Carry) (restarts : Restarts) (words : List (List ℕ)) (form : Form) (bytes : List ℕ) (source : SourceChange) (sink : SinkChange) (Unread Unwritten : Type 0) (status : Status)
+    → form_of words ≡ Some form → source.faults' ≡ source.faults → TakesInput (reads_input (Some form)) source Unread bytes → (Unwritten → sink.faults' ≡ sink.faults)
+    → Replies (command_answer carry restarts form bytes) (SaysWell carry restarts form bytes) sink Unwritten status → Ends carry restarts words source sink Unread Unwritten status
+unfolding answer_of form_answer
+answer_ends carry restarts words form bytes source sink Unread Unwritten status is well input same replies = record {
+  how = answered_ends (form_of words) (reads_input (form_of words)) (answer_of carry restarts words) (SaysOf carry restarts (form_of words)) form bytes source sink Unread Unwritten status is well
+      (subst (λ (o : Option Form). TakesInput (reads_input o) source Unread bytes) (sym is) input) same
+      (subst (λ (o : Option Form). Replies (form_answer carry restarts o bytes) (SaysOf carry restarts o bytes) sink Unwritten status) (sym is) replies);
+}
 
 -- What a command answered: the input, what its answer says beside its text, and how writing it ended.
 pub record Answered (carry : Carry) (restarts : Restarts) (form : Form) (source : SourceChange) (sink : SinkChange) (Unread : Type 0) (status : Status) : Type 0 where
@@ -513,10 +208,37 @@ pub record Answered (carry : Carry) (restarts : Restarts) (form : Form) (source 
   pub input : TakesInput (reads_input (Some form)) source Unread bytes
   pub ends : Writes (command_answer carry restarts form bytes).status (command_answer carry restarts form bytes).output sink status
 
-pub answered_by : {carry : Carry} {restarts : Restarts} {words : List (List ℕ)} {source : SourceChange} {sink : SinkChange} {Unread Unwritten : Type 0} {status : Status} → Outcome carry restarts words source sink Unread Unwritten status → (form : Form) → form_of words ≡ Some form → writes_nothing status ≡ false → Answered carry restarts form source sink Unread status
-answered_by (stopped status why sink_same writes) form wanted after = absurd (not_stopped why after refl)
-answered_by {carry = carry} {restarts = restarts} {source = source} {sink = sink} {Unread = Unread} (answered form bytes status is says reads input ends) wanted found after =
-    subst (λ (f : Form). Answered carry restarts f source sink Unread status) (some_same (sym is ∙ found)) (record { bytes = bytes; says = says; input = input; ends = ends })
+pub answered_by : {carry : Carry} {restarts : Restarts} {words : List (List ℕ)} {source : SourceChange} {sink : SinkChange} {Unread Unwritten : Type 0} {status : Status} → Ends carry restarts words source sink Unread Unwritten status → (form : Form) → form_of words ≡ Some form → writes_nothing status ≡ false → Answered carry restarts form source sink Unread status
+answered_by {carry = carry} {restarts = restarts} {words = words} {source = source} {sink = sink} {Unread = Unread} {Unwritten = Unwritten} out form is after = by out.how after
+  where
+    by : {status : Status} → Outcome (form_of words) (reads_input (form_of words)) (answer_of carry restarts words) (SaysOf carry restarts (form_of words)) source sink Unread Unwritten status → writes_nothing status ≡ false → Answered carry restarts form source sink Unread status
+    by (stopped status why sink_same writes) after = absurd (not_stopped why after refl)
+    by (answered named bytes status found says reads input ends) after = record {
+      bytes = bytes;
+      says = subst (λ (o : Option Form). SaysOf carry restarts o bytes) is says;
+      input = subst (λ (o : Option Form). TakesInput (reads_input o) source Unread bytes) is input;
+      ends = subst (λ (a : Answer). Writes a.status a.output sink status) (answer_of-form carry restarts words bytes form is) ends;
+    }
+
+-- the answer of a command to an input that its source tells
+pub answers_told : {carry : Carry} {restarts : Restarts} {words : List (List ℕ)} {source : SourceChange} {sink : SinkChange} {Unread Unwritten : Type 0} {status : Status} → Ends carry restarts words source sink Unread Unwritten status
+    → (form : Form) (all : List ℕ) → form_of words ≡ Some form → reads_input (Some form) ≡ true → source.left ≡ Some all → length all ≤ 1048576
+    → (Rose source.faults source.faults' → ⊥) → (Rose sink.faults sink.faults' → ⊥) → (status ≡ Memory) ⊎ (SaysWell carry restarts form all × IsAnswer (command_answer carry restarts form all) status sink.held sink.held')
+answers_told {carry = carry} {restarts = restarts} {words = words} {source = source} {sink = sink} {Unread = Unread} {Unwritten = Unwritten} out form all is reads told fits well taken = by out.how
+  where
+    by : {status : Status} → Outcome (form_of words) (reads_input (form_of words)) (answer_of carry restarts words) (SaysOf carry restarts (form_of words)) source sink Unread Unwritten status
+        → (status ≡ Memory) ⊎ (SaysWell carry restarts form all × IsAnswer (command_answer carry restarts form all) status sink.held sink.held')
+    by (stopped status why sink_same writes) =
+        inl (stops-few why all (subst (λ (b : Bool). HasInput b source.left all) (sym (ap reads_input is ∙ reads)) told) fits (λ none. let bad : None ≡ Some form = sym none ∙ is in cc) well)
+    by (answered named bytes status found says read input ends) =
+        let whole : ReadsWhole source.left source.left' bytes = subst (λ (b : Bool). TakesInput b source Unread bytes) (ap reads_input is ∙ reads) input in
+        let same : bytes ≡ all = told_whole all bytes source.left source.left' told whole in
+        let own = subst (λ (o : Option Form). SaysOf carry restarts o bytes) is says in
+        let written = subst (λ (a : Answer). Writes a.status a.output sink status) (answer_of-form carry restarts words bytes form is ∙ ap (command_answer carry restarts form) same) ends in
+        elim (whole_or_short written) [
+          | inl w ↦ inr (subst (SaysWell carry restarts form) same own, record { status_is = sym w.status_is; written = w.written })
+          | inr w ↦ absurd (taken w.rose)
+        ]
 
 -- writing it ended with a status of answers, so that it was written whole
 pub done_whole : (carry : Carry) (restarts : Restarts) (form : Form) (bytes : List ℕ) (sink : SinkChange) (status : Status) → Writes (command_answer carry restarts form bytes).status (command_answer carry restarts form bytes).output sink status → status ≡ Done
@@ -550,14 +272,14 @@ least-plan carry restarts bytes left left' held held' says at input written =
     let (plan, least, text) = (says d read).done at in
     record { bytes = bytes; read = input; says = d; document = read; plan = plan; least = least; written = rw text at written }
 
-pub at_none_fits : {carry : Carry} {restarts : Restarts} {words : List (List ℕ)} {source : SourceChange} {sink : SinkChange} {Unread Unwritten : Type 0} {status : Status} → Outcome carry restarts words source sink Unread Unwritten status → status ≡ No → form_of words ≡ Some Plan → NonePlanned source.left source.left' sink.held sink.held'
+pub at_none_fits : {carry : Carry} {restarts : Restarts} {words : List (List ℕ)} {source : SourceChange} {sink : SinkChange} {Unread Unwritten : Type 0} {status : Status} → Ends carry restarts words source sink Unread Unwritten status → status ≡ No → form_of words ≡ Some Plan → NonePlanned source.left source.left' sink.held sink.held'
 unfolding writes_nothing reads_input
 at_none_fits out e f =
     let a = answered_by out Plan f (ap writes_nothing e) in
     let whole = no_whole _ _ Plan a.bytes _ _ a.ends e in
     none-plan _ _ a.bytes _ _ _ _ a.says whole.0 a.input whole.1
 
-pub at_least_plan : {carry : Carry} {restarts : Restarts} {words : List (List ℕ)} {source : SourceChange} {sink : SinkChange} {Unread Unwritten : Type 0} {status : Status} → Outcome carry restarts words source sink Unread Unwritten status → status ≡ Done → form_of words ≡ Some Plan → LeastPlanned source.left source.left' sink.held sink.held'
+pub at_least_plan : {carry : Carry} {restarts : Restarts} {words : List (List ℕ)} {source : SourceChange} {sink : SinkChange} {Unread Unwritten : Type 0} {status : Status} → Ends carry restarts words source sink Unread Unwritten status → status ≡ Done → form_of words ≡ Some Plan → LeastPlanned source.left source.left' sink.held sink.held'
 unfolding writes_nothing reads_input
 at_least_plan out e f =
     let a = answered_by out Plan f (ap writes_nothing e) in
@@ -584,14 +306,14 @@ told-chain carry restarts bytes left left' held held' says at input written =
     let (d, read) = margins_read (document_of bytes) (λ e. absurd (cc)) in
     record { bytes = bytes; read = input; says = d; document = read; text = (document_margins (document_of bytes)).output; tells = (says d read).no at; written = written }
 
-pub at_margins : {carry : Carry} {restarts : Restarts} {words : List (List ℕ)} {source : SourceChange} {sink : SinkChange} {Unread Unwritten : Type 0} {status : Status} → Outcome carry restarts words source sink Unread Unwritten status → status ≡ Done → form_of words ≡ Some Margin → MarginsTold source.left source.left' sink.held sink.held'
+pub at_margins : {carry : Carry} {restarts : Restarts} {words : List (List ℕ)} {source : SourceChange} {sink : SinkChange} {Unread Unwritten : Type 0} {status : Status} → Ends carry restarts words source sink Unread Unwritten status → status ≡ Done → form_of words ≡ Some Margin → MarginsTold source.left source.left' sink.held sink.held'
 unfolding writes_nothing reads_input
 at_margins out e f =
     let a = answered_by out Margin f (ap writes_nothing e) in
     let whole = done_whole _ _ Margin a.bytes _ _ a.ends e in
     told-margins _ _ a.bytes _ _ _ _ a.says whole.0 a.input whole.1
 
-pub at_chain : {carry : Carry} {restarts : Restarts} {words : List (List ℕ)} {source : SourceChange} {sink : SinkChange} {Unread Unwritten : Type 0} {status : Status} → Outcome carry restarts words source sink Unread Unwritten status → status ≡ No → form_of words ≡ Some Margin → ChainTold source.left source.left' sink.held sink.held'
+pub at_chain : {carry : Carry} {restarts : Restarts} {words : List (List ℕ)} {source : SourceChange} {sink : SinkChange} {Unread Unwritten : Type 0} {status : Status} → Ends carry restarts words source sink Unread Unwritten status → status ≡ No → form_of words ≡ Some Margin → ChainTold source.left source.left' sink.held sink.held'
 unfolding writes_nothing reads_input
 at_chain out e f =
     let a = answered_by out Margin f (ap writes_nothing e) in
@@ -627,14 +349,14 @@ told-clean carry restarts bytes left left' held held' at input written =
     let (shaped, none, verdict_is) = verdict_clean (capture_fault [] (lines_of bytes)) (first_violation [] (lines_of bytes)) (length (lines_of bytes)) at in
     record { bytes = bytes; read = input; shaped = shaped; none = none; written = subst (Appends held held') (ap verdict_text verdict_is) written }
 
-pub at_violation : {carry : Carry} {restarts : Restarts} {words : List (List ℕ)} {source : SourceChange} {sink : SinkChange} {Unread Unwritten : Type 0} {status : Status} → Outcome carry restarts words source sink Unread Unwritten status → status ≡ No → form_of words ≡ Some Check → ViolationTold source.left source.left' sink.held sink.held'
+pub at_violation : {carry : Carry} {restarts : Restarts} {words : List (List ℕ)} {source : SourceChange} {sink : SinkChange} {Unread Unwritten : Type 0} {status : Status} → Ends carry restarts words source sink Unread Unwritten status → status ≡ No → form_of words ≡ Some Check → ViolationTold source.left source.left' sink.held sink.held'
 unfolding writes_nothing reads_input
 at_violation out e f =
     let a = answered_by out Check f (ap writes_nothing e) in
     let whole = no_whole _ _ Check a.bytes _ _ a.ends e in
     told-violation _ _ a.bytes _ _ _ _ whole.0 a.input whole.1
 
-pub at_clean : {carry : Carry} {restarts : Restarts} {words : List (List ℕ)} {source : SourceChange} {sink : SinkChange} {Unread Unwritten : Type 0} {status : Status} → Outcome carry restarts words source sink Unread Unwritten status → status ≡ Done → form_of words ≡ Some Check → CleanTold source.left source.left' sink.held sink.held'
+pub at_clean : {carry : Carry} {restarts : Restarts} {words : List (List ℕ)} {source : SourceChange} {sink : SinkChange} {Unread Unwritten : Type 0} {status : Status} → Ends carry restarts words source sink Unread Unwritten status → status ≡ Done → form_of words ≡ Some Check → CleanTold source.left source.left' sink.held sink.held'
 unfolding writes_nothing reads_input
 at_clean out e f =
     let a = answered_by out Check f (ap writes_nothing e) in
@@ -667,7 +389,7 @@ traced-run carry restarts bytes left left' held held' says at input written =
       written = rw text at written;
     }
 
-pub at_traced : {carry : Carry} {restarts : Restarts} {words : List (List ℕ)} {source : SourceChange} {sink : SinkChange} {Unread Unwritten : Type 0} {status : Status} → Outcome carry restarts words source sink Unread Unwritten status → status ≡ Done → form_of words ≡ Some Run → RunTraced carry restarts source.left source.left' sink.held sink.held'
+pub at_traced : {carry : Carry} {restarts : Restarts} {words : List (List ℕ)} {source : SourceChange} {sink : SinkChange} {Unread Unwritten : Type 0} {status : Status} → Ends carry restarts words source sink Unread Unwritten status → status ≡ Done → form_of words ≡ Some Run → RunTraced carry restarts source.left source.left' sink.held sink.held'
 unfolding writes_nothing reads_input
 at_traced out e f =
     let a = answered_by out Run f (ap writes_nothing e) in
@@ -689,7 +411,7 @@ summed-run carry restarts n bytes held held' says written =
       written = written;
     }
 
-pub at_summed : {carry : Carry} {restarts : Restarts} {words : List (List ℕ)} {source : SourceChange} {sink : SinkChange} {Unread Unwritten : Type 0} {status : Status} → Outcome carry restarts words source sink Unread Unwritten status → (n : ℕ) → status ≡ Done → form_of words ≡ Some (Gen n) → RunSummed carry restarts n sink.held sink.held'
+pub at_summed : {carry : Carry} {restarts : Restarts} {words : List (List ℕ)} {source : SourceChange} {sink : SinkChange} {Unread Unwritten : Type 0} {status : Status} → Ends carry restarts words source sink Unread Unwritten status → (n : ℕ) → status ≡ Done → form_of words ≡ Some (Gen n) → RunSummed carry restarts n sink.held sink.held'
 unfolding writes_nothing
 at_summed out n e f =
     let a = answered_by out (Gen n) f (ap writes_nothing e) in
@@ -718,8 +440,18 @@ no_of carry restarts Restore bytes e = inr (inr (inr (inr (inl refl))))
 no_of carry restarts (Replay address) bytes e = inr (inr (inr (inr (inr (address, refl)))))
 no_of carry restarts (Gen n) bytes e = absurd (cc)
 
-pub at_no_of : {carry : Carry} {restarts : Restarts} {words : List (List ℕ)} {source : SourceChange} {sink : SinkChange} {Unread Unwritten : Type 0} {status : Status} → Outcome carry restarts words source sink Unread Unwritten status → status ≡ No → (form_of words ≡ Some Plan) ⊎ (form_of words ≡ Some Margin) ⊎ (form_of words ≡ Some Check) ⊎ (form_of words ≡ Some Backup) ⊎ (form_of words ≡ Some Restore) ⊎ ((address : ℕ) × (form_of words ≡ Some (Replay address)))
-unfolding writes_nothing
-at_no_of (stopped status why sink_same writes) e = absurd (not_stopped why refl e)
-at_no_of (answered form bytes status is says reads input ends) e =
-    elim (no_of _ _ form bytes (no_whole _ _ form bytes _ _ ends e).0) [ inl plan ↦ inl (is ∙ ap Some plan) | inr (inl margin) ↦ inr (inl (is ∙ ap Some margin)) | inr (inr (inl check)) ↦ inr (inr (inl (is ∙ ap Some check))) | inr (inr (inr (inl backup))) ↦ inr (inr (inr (inl (is ∙ ap Some backup)))) | inr (inr (inr (inr (inl restore)))) ↦ inr (inr (inr (inr (inl (is ∙ ap Some restore))))) | inr (inr (inr (inr (inr replay)))) ↦ inr (inr (inr (inr (inr (replay.0, is ∙ ap Some replay.1))))) ]
+pub at_no_of : {carry : Carry} {restarts : Restarts} {words : List (List ℕ)} {source : SourceChange} {sink : SinkChange} {Unread Unwritten : Type 0} {status : Status} → Ends carry restarts words source sink Unread Unwritten status → status ≡ No → (form_of words ≡ Some Plan) ⊎ (form_of words ≡ Some Margin) ⊎ (form_of words ≡ Some Check) ⊎ (form_of words ≡ Some Backup) ⊎ (form_of words ≡ Some Restore) ⊎ ((address : ℕ) × (form_of words ≡ Some (Replay address)))
+unfolding answer_of form_answer
+at_no_of {carry = carry} {restarts = restarts} {words = words} out e = let no = at_no (law_of out) out.how e in by (form_of words) no.bytes no.status_is
+  where
+    by : (o : Option Form) (bytes : List ℕ) → (form_answer carry restarts o bytes).status ≡ No → (o ≡ Some Plan) ⊎ (o ≡ Some Margin) ⊎ (o ≡ Some Check) ⊎ (o ≡ Some Backup) ⊎ (o ≡ Some Restore) ⊎ ((address : ℕ) × (o ≡ Some (Replay address)))
+    by None bytes e = cc
+    by (Some form) bytes e =
+        elim (no_of carry restarts form bytes e) [
+          | inl plan ↦ inl (ap Some plan)
+          | inr (inl margin) ↦ inr (inl (ap Some margin))
+          | inr (inr (inl check)) ↦ inr (inr (inl (ap Some check)))
+          | inr (inr (inr (inl backup))) ↦ inr (inr (inr (inl (ap Some backup))))
+          | inr (inr (inr (inr (inl restore)))) ↦ inr (inr (inr (inr (inl (ap Some restore)))))
+          | inr (inr (inr (inr (inr (address, replay))))) ↦ inr (inr (inr (inr (inr (address, ap Some replay)))))
+        ]

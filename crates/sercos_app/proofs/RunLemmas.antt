@@ -22,8 +22,8 @@ use Rattle.sercos_opened.proofs.KeptLemmas.{AreNext, opened_is_kept}
 use Rattle.sercos_app.specs.Running.{RunsItsRing, run_answer, run_traced, traced_answer}
 use Rattle.sercos_config.specs.Generated.{generated}
 use Rattle.sercos_app.specs.Generating.{RunsGenerated, gen_answer, run_summed}
-use Rattle.sercos_app.specs.Outcome.{SinkChange, Writes, Replies}
-use Rattle.sercos_app.specs.Outcome.Replies.{none_found, replied}
+use Rattle.sercos_call.specs.Outcome.{SinkChange, Writes, Replies}
+use Rattle.sercos_call.specs.Outcome.Replies.{none_found, replied}
 
 document_runs : AreNext → Headline → StartsUndisturbed → Recovers → (carry : Carry) (restarts : Restarts) (d : DocumentView) → IsOpened d.setup d.jobs → IsDocumentRun carry restarts d
 document_runs next law starts back carry restarts d opened =

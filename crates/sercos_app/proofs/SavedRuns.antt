@@ -1,5 +1,5 @@
 -- The runs of a backup and of a restore are runs, and keep all that is promised.
-use Rattle.std.proofs.Common.{◌≡◌, ℕ, ◌+◌, ◌<◌, ◌≤◌, Bool, true, false, if◌then◌else◌, List, length, map, Option, Some, None, refl, sym, ap, ◌∙◌, subst, arith}
+use Rattle.std.proofs.Common.{◌≡◌, ℕ, ◌+◌, ◌<◌, Bool, true, false, if◌then◌else◌, List, length, Option, Some, None, refl, sym, ap, ◌∙◌, subst, arith}
 use Rattle.std.specs.Prelude.{◌-◌, ◌==◌, nat_lt, slice_get}
 use Rattle.std.specs.List.{All, position_or_len}
 use Rattle.std.proofs.lemmas.Bool.{cond-true, eq-eqb, eqb-true}
@@ -12,7 +12,6 @@ use Rattle.sercos_step.specs.declared.request.Job.{Job}
 use Rattle.sercos_block.specs.Views.{DriveView, RingView}
 use Rattle.sercos_block.specs.Rings.{is_ring}
 use Rattle.sercos_block.specs.Stores.{find_block, store_of}
-use Rattle.sercos_seat.specs.Ring.{Task, known_of, tasks_for}
 use Rattle.sercos_handshake.specs.WholeRun.{IsSound}
 use Rattle.sercos_script.specs.Links.{Carry, Restarts}
 use Rattle.sercos_journal.specs.Runs.{no_drive, drive_at, run_of}
@@ -68,11 +67,11 @@ read_from law r jobs carry restarts opened run reads clear n t bytes there told 
     let number : 1 + n ≡ n + 1 = omega arith in
     let outcome_is : told_of (told_in (run_of r jobs carry restarts r.cycles)) (n + 1) ≡ Some (outcome.Complete bytes) =
     sym (ap (told_of (told_in (run_of r jobs carry restarts r.cycles))) number) ∙ ap (λ (x : Tracked). x.outcome) at.is ∙ told in
-    subst (λ (x : Tracked). IsReadFrom r jobs carry restarts (run_of r jobs carry restarts r.cycles) x.drive x.idn.raw bytes) at.is
+    subst (λ (x : Tracked). IsReadFrom r jobs carry restarts (run_of r jobs carry restarts r.cycles) n x.drive x.idn bytes) at.is
     (by at.job.request refl (all_at (λ (job : Job). IsRead job.request) jobs n at.job reads at.there) at.there outcome_is)
   where
     by : {job : Job} (q : Request) → job.request ≡ q → IsRead q → slice_get jobs n ≡ Some job → told_of (told_in (run_of r jobs carry restarts r.cycles)) (n + 1) ≡ Some (outcome.Complete bytes)
-        → IsReadFrom r jobs carry restarts (run_of r jobs carry restarts r.cycles) job.drive (idn_in q).raw bytes
+        → IsReadFrom r jobs carry restarts (run_of r jobs carry restarts r.cycles) n job.drive (idn_in q) bytes
     by {job = job} (request.Read idn e) is seven there_so told_so =
         law r jobs carry restarts (run_of r jobs carry restarts r.cycles) n job idn bytes opened run.run clear there_so (is ∙ ap (request.Read idn) seven) told_so
     by (request.Write idn e bytes_given) is never there_so told_so = absurd never
@@ -109,19 +108,18 @@ place_so r k valid below =
 
 -- what is written is kept
 writes_kept : WritesAreKept → (r : RingView) (jobs : List Job) (carry : Carry) (restarts : Restarts) → IsOpened r jobs → IsRingRun r jobs carry restarts → AreWritesKept r jobs carry restarts
-writes_kept law r jobs carry restarts opened run clear n job t idn bytes whole there writes told complete last own =
+writes_kept law r jobs carry restarts opened run clear n job t idn bytes whole there writes told complete last =
     let at = tracked_at 1 (told_in (run_of r jobs carry restarts r.cycles)) jobs n t told in
     let number : 1 + n ≡ n + 1 = omega arith in
     let outcome_is : told_of (told_in (run_of r jobs carry restarts r.cycles)) (n + 1) ≡ Some (outcome.Complete whole) =
     sym (ap (told_of (told_in (run_of r jobs carry restarts r.cycles))) number) ∙ ap (λ (x : Tracked). x.outcome) at.is ∙ complete in
-    let kept = law r jobs carry restarts (run_of r jobs carry restarts r.cycles) n job idn bytes whole opened run.run clear there writes outcome_is last own in
+    let kept = law r jobs carry restarts (run_of r jobs carry restarts r.cycles) n job idn bytes whole opened run.run clear there writes outcome_is last in
     record {
       stored = kept;
-      printed = λ b found.
-          let (c, has, told_data) = kept.holds b found in
+      printed =
           ap (λ (o : Option ℕ). data_of (r.cycles - 1) (find_block idn.raw (blocks_at r carry restarts (run_of r jobs carry restarts r.cycles) o)))
           (ap (place_of r) (sym kept.drive) ∙ place_so r kept.place opened.valid kept.below)
-          ∙ ap (data_of (r.cycles - 1)) has ∙ told_data (r.cycles - 1);
+          ∙ ap (data_of (r.cycles - 1)) kept.holds ∙ kept.written (r.cycles - 1);
     }
 
 pub is_restored : AreNext → Headline → WritesAreKept → (carry : Carry) (restarts : Restarts) (d : DocumentView) → IsOpened d.setup d.jobs → Unit {0} → IsRestoredRun d.setup d.jobs (carry_under d carry) (restarts_under d restarts)

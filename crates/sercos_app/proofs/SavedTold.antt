@@ -3,7 +3,6 @@ use Rattle.std.proofs.Common.{◌≡◌, ◌≢◌, ◌⊎◌, inl, inr, ℕ, �
 use Rattle.std.specs.Prelude.{nat_le}
 use Rattle.std.specs.List.{flat_map}
 use Rattle.std.specs.Io.KnownBytes.{Appends}
-use Rattle.std.proofs.lemmas.Bool.{true≢false}
 use Rattle.std.proofs.lemmas.Bool.Decides.{nat_tests}
 use Rattle.sercos_io.specs.declared.status.Status.{Status}
 use Rattle.sercos_io.specs.declared.status.Status.TheVariants.{Done, No, Refused}
@@ -20,14 +19,16 @@ use Rattle.sercos_answer.specs.Answer.{Answer}
 use Rattle.sercos_backup.specs.declared.tracked.Tracked.{Tracked}
 use Rattle.sercos_backup.specs.Jobs.{list_jobs, place_of_other}
 use Rattle.sercos_backup.specs.Tracking.{are_well}
-use Rattle.sercos_backup.specs.Texts.{saved_lines, saved_answer, failed_lines, failed_answer, many_answer, restored_line}
+use Rattle.sercos_backup.specs.Texts.{saved_lines, saved_answer, failed_answer, many_answer, restored_line}
 use Rattle.sercos_app.specs.Answer.{command_answer}
 use Rattle.sercos_opened.specs.Kept.{carry_under, restarts_under}
 use Rattle.sercos_app.specs.Saving.{run_tracked, data_answer, lists_answer, ring_saved, last_data, writes_answer, ring_restored, answer_by, backup_answer, restore_answer}
 use Rattle.sercos_app.specs.Saved.{SavesItsRing, RestoresItsRing, second_jobs}
-use Rattle.sercos_app.specs.TopCall.{writes_nothing, ReadsWhole, IsUnsaved, BackupSaved, BackupFailed, RestoreTold}
+use Rattle.sercos_call.specs.TopCall.{writes_nothing, ReadsWhole}
+use Rattle.sercos_app.specs.TopCall.{IsUnsaved, BackupSaved, BackupFailed, RestoreTold}
 use Rattle.sercos_app.specs.TopCall.IsUnsaved.{lists_failed, too_many, blocks_failed}
-use Rattle.sercos_app.specs.Outcome.{SourceChange, SinkChange, Outcome}
+use Rattle.sercos_call.specs.Outcome.{SourceChange, SinkChange}
+use Rattle.sercos_app.specs.Outcome.{Ends}
 use Rattle.sercos_app.proofs.Outcomes.{answered_by, done_whole, no_whole}
 
 -- what a document says that isn't refused
@@ -154,7 +155,7 @@ unsaved_told carry restarts bytes left left' held held' at input written =
       written = subst (Appends held held') (ap (λ (x : Answer). x.output) of.is) written;
     }
 
-pub at_saved : {carry : Carry} {restarts : Restarts} {words : List (List ℕ)} {source : SourceChange} {sink : SinkChange} {Unread Unwritten : Type 0} {status : Status} → Outcome carry restarts words source sink Unread Unwritten status
+pub at_saved : {carry : Carry} {restarts : Restarts} {words : List (List ℕ)} {source : SourceChange} {sink : SinkChange} {Unread Unwritten : Type 0} {status : Status} → Ends carry restarts words source sink Unread Unwritten status
     → status ≡ Done → form_of words ≡ Some Backup → BackupSaved carry restarts source.left source.left' sink.held sink.held'
 unfolding writes_nothing reads_input
 at_saved out e f =
@@ -162,7 +163,7 @@ at_saved out e f =
     let whole = done_whole _ _ Backup a.bytes _ _ a.ends e in
     saved_told _ _ a.bytes _ _ _ _ a.says whole.0 a.input whole.1
 
-pub at_unsaved : {carry : Carry} {restarts : Restarts} {words : List (List ℕ)} {source : SourceChange} {sink : SinkChange} {Unread Unwritten : Type 0} {status : Status} → Outcome carry restarts words source sink Unread Unwritten status
+pub at_unsaved : {carry : Carry} {restarts : Restarts} {words : List (List ℕ)} {source : SourceChange} {sink : SinkChange} {Unread Unwritten : Type 0} {status : Status} → Ends carry restarts words source sink Unread Unwritten status
     → status ≡ No → form_of words ≡ Some Backup → BackupFailed carry restarts source.left source.left' sink.held sink.held'
 unfolding writes_nothing reads_input
 at_unsaved out e f =
@@ -210,7 +211,7 @@ restored_told carry restarts all bytes left left' held held' says at input writt
       written = subst (Appends held held') (ap (λ (x : Answer). x.output) of.is ∙ tells.text) written;
     }
 
-pub at_restored : {carry : Carry} {restarts : Restarts} {words : List (List ℕ)} {source : SourceChange} {sink : SinkChange} {Unread Unwritten : Type 0} {status : Status} → Outcome carry restarts words source sink Unread Unwritten status
+pub at_restored : {carry : Carry} {restarts : Restarts} {words : List (List ℕ)} {source : SourceChange} {sink : SinkChange} {Unread Unwritten : Type 0} {status : Status} → Ends carry restarts words source sink Unread Unwritten status
     → status ≡ Done → form_of words ≡ Some Restore → RestoreTold carry restarts true source.left source.left' sink.held sink.held'
 unfolding writes_nothing reads_input
 at_restored out e f =
@@ -218,7 +219,7 @@ at_restored out e f =
     let whole = done_whole _ _ Restore a.bytes _ _ a.ends e in
     restored_told _ _ true a.bytes _ _ _ _ a.says whole.0 a.input whole.1
 
-pub at_unrestored : {carry : Carry} {restarts : Restarts} {words : List (List ℕ)} {source : SourceChange} {sink : SinkChange} {Unread Unwritten : Type 0} {status : Status} → Outcome carry restarts words source sink Unread Unwritten status
+pub at_unrestored : {carry : Carry} {restarts : Restarts} {words : List (List ℕ)} {source : SourceChange} {sink : SinkChange} {Unread Unwritten : Type 0} {status : Status} → Ends carry restarts words source sink Unread Unwritten status
     → status ≡ No → form_of words ≡ Some Restore → RestoreTold carry restarts false source.left source.left' sink.held sink.held'
 unfolding writes_nothing reads_input
 at_unrestored out e f =

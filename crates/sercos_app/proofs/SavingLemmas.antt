@@ -1,5 +1,5 @@
 -- From the runs of a backup and of a restore to what they answer.
-use Rattle.std.proofs.Common.{◌≡◌, ◌≢◌, ◌⊎◌, inl, inr, ℕ, ◌+◌, ◌<◌, ◌≤◌, Bool, true, false, List, [], ◌∷◌, ◌++◌, length, map, Option, Some, None, option_map, Result, Ok, Err, IfOk, refl, sym, ap, ◌∙◌, subst, arith}
+use Rattle.std.proofs.Common.{◌≡◌, ◌≢◌, ◌⊎◌, inl, inr, ℕ, ◌<◌, ◌≤◌, Bool, true, false, List, [], ◌++◌, length, Option, Some, None, option_map, Result, Ok, Err, IfOk, refl, sym, ap, ◌∙◌, subst, arith}
 use Rattle.std.specs.Prelude.{nat_le, unwrap_or, option_and_then, if◌then◌else◌}
 use Rattle.std.specs.List.{flat_map}
 use Rattle.std.proofs.lemmas.Bool.{true≢false}
@@ -34,10 +34,10 @@ use Rattle.sercos_backup.specs.declared.jobs.DataJobs.TheVariants.{TooMany}
 use Rattle.sercos_backup.specs.Tracking.{tracked, are_well, list_told, lists_told}
 use Rattle.sercos_backup.proofs.TrackLemmas.{tracked_count}
 use Rattle.sercos_backup.specs.Texts.{saved_answer, many_answer, failed_answer, other_answer, restored_line}
-use Rattle.sercos_app.specs.Outcome.{SinkChange, Writes, Replies}
-use Rattle.sercos_app.specs.Outcome.Replies.{none_found, replied}
+use Rattle.sercos_call.specs.Outcome.{SinkChange, Writes, Replies}
+use Rattle.sercos_call.specs.Outcome.Replies.{none_found, replied}
 use Rattle.sercos_opened.specs.Kept.{carry_under, restarts_under}
-use Rattle.sercos_app.specs.Giving.{IsReply, GivesReply}
+use Rattle.sercos_call.specs.Giving.{IsReply, GivesReply}
 use Rattle.sercos_app.specs.Saving.{run_tracked, data_answer, lists_answer, writes_answer, ring_restored, last_data, data_of, answer_by}
 use Rattle.sercos_app.specs.Saved.{AreTypedIfFew, ReadsTyped}
 

@@ -1,5 +1,5 @@
 -- The requests of a run are tracked cycle by cycle.
-use Rattle.std.proofs.Common.{◌≡◌, ℕ, ◌+◌, ◌≤◌, Bool, true, List, [], ◌∷◌, ◌++◌, length, refl, sym, ap, ◌∙◌, arith}
+use Rattle.std.proofs.Common.{◌≡◌, ℕ, ◌+◌, true, List, [], ◌∷◌, ◌++◌, length, refl, sym, ap, ◌∙◌, arith}
 use Rattle.sercos_step.specs.declared.request.Job.{Job}
 use Rattle.sercos_step.specs.declared.request.Outcome.{Outcome}
 use Rattle.sercos_block.specs.Views.{RingView}
@@ -8,7 +8,7 @@ use Rattle.sercos_script.specs.Links.{Carry, Restarts}
 use Rattle.sercos_journal.specs.Runs.{run_of}
 use Rattle.sercos_backup.specs.declared.tracked.Tracked.{Tracked}
 use Rattle.sercos_backup.specs.Tracking.{tracked}
-use Rattle.sercos_app.specs.Journals.{OfRun, Journal, HasMade}
+use Rattle.sercos_app.specs.Journals.{OfRun, HasMade}
 use Rattle.sercos_told.specs.Told.{told_in}
 use Rattle.sercos_app.specs.Tracking.{HasNoted}
 use Rattle.sercos_told.proofs.ToldLemmas.{told_more}

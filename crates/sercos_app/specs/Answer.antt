@@ -15,7 +15,7 @@ use Rattle.sercos_app.specs.Generating.{gen_answer, RunsGenerated}
 use Rattle.sercos_app.specs.Saving.{backup_answer, restore_answer}
 use Rattle.sercos_app.specs.Saved.{SavesItsRing, RestoresItsRing}
 use Rattle.sercos_replay.specs.Replaying.{replay_answer}
-use Rattle.sercos_replay.specs.Asking.{Replays}
+use Rattle.sercos_app.specs.OwnRun.{ReplaysItsRing}
 use Rattle.sercos_script.specs.Links.{Carry, Restarts}
 
 -- the answer of each command to an input
@@ -40,7 +40,12 @@ SaysWell carry restarts forms.Check bytes = Unit {0}
 SaysWell carry restarts forms.Backup bytes = SavesItsRing carry restarts bytes
 SaysWell carry restarts forms.Restore bytes = RestoresItsRing carry restarts bytes
 SaysWell carry restarts (forms.Gen drives) bytes = RunsGenerated carry restarts drives
-SaysWell carry restarts (forms.Replay address) bytes = Replays address bytes
+SaysWell carry restarts (forms.Replay address) bytes = ReplaysItsRing address bytes
+
+-- and that of the command that is named, if one is
+abbrev pub SaysOf : Carry → Restarts → Option Form → List ℕ → Type 0
+SaysOf carry restarts None bytes = Unit {0}
+SaysOf carry restarts (Some form) bytes = SaysWell carry restarts form bytes
 
 unfoldable pub form_answer : Carry → Restarts → Option Form → List ℕ → Answer
 form_answer carry restarts None bytes = record { status = BadWords; output = [] }

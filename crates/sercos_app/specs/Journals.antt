@@ -1,6 +1,6 @@
 -- What a ring makes while its run is written. `stands` says what a ring stands for: what its opening was given, and its cycles, the
 -- newest first.
-use Rattle.std.specs.Prelude.{◌≡◌, ℕ, ◌*◌, ◌≤◌, Bool, true, List, [], length, reverse, Result, Ok, Err}
+use Rattle.std.specs.Prelude.{◌≡◌, ℕ, ◌≤◌, Bool, true, List, [], length, reverse, Result, Ok, Err}
 use Rattle.std.specs.List.{flat_map}
 use Rattle.sercos_step.specs.declared.request.Job.{Job}
 use Rattle.sercos_timing.specs.Views.{WishesView}

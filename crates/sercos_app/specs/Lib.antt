@@ -5,9 +5,7 @@ pub mod Generating
 pub mod Saving
 pub mod Tracking
 pub mod Saved
-pub mod Given
+pub mod OwnRun
 pub mod Answer
 pub mod TopCall
 pub mod Outcome
-pub mod OwnRun
-pub mod Giving

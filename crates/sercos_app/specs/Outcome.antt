@@ -1,67 +1,11 @@
--- How a call of the top call went: each way in which it can end, with what is known then. The clauses of the top call
--- are read off this.
-use Rattle.std.specs.Prelude.{◌≡◌, ℕ, ◌<◌, ◌≤◌, Bool, true, false, List, [], length, take, Option, Some, None, Result, Ok, Err}
-use Rattle.std.specs.Io.KnownBytes.{Appends}
-use Rattle.sercos_model.specs.Streams.{Rose}
+-- How a call of the top call ends.
+use Rattle.std.specs.Prelude.{List, ℕ}
 use Rattle.sercos_io.specs.declared.status.Status.{Status}
-use Rattle.sercos_io.specs.declared.status.Status.TheVariants.{BadWords, ReadFault, Memory, TooLong}
-use Rattle.sercos_words.specs.declared.form.Form.{Form}
 use Rattle.sercos_script.specs.Links.{Carry, Restarts}
-use Rattle.sercos_app.specs.Answer.{command_answer, SaysWell}
 use Rattle.sercos_words.specs.Form.{form_of, reads_input}
-use Rattle.sercos_answer.specs.Answer.{Answer}
-use Rattle.sercos_app.specs.declared.given.Given.{Given}
-use Rattle.sercos_app.specs.Given.{given_status, given_text}
-use Rattle.sercos_app.specs.TopCall.{fault_status, ReadsWhole, TakesAtMost, TakesTooMany}
+use Rattle.sercos_call.specs.Outcome.{Outcome, SinkChange, SourceChange}
+use Rattle.sercos_app.specs.Answer.{answer_of, SaysOf}
 
--- a source before and after: the bytes that it has left, and its count of faults
-pub record SourceChange : Type 0 where
-  pub left : Option (List ℕ)
-  pub left' : Option (List ℕ)
-  pub faults : ℕ
-  pub faults' : ℕ
-
--- a sink before and after: the bytes that it holds, its count of faults, and the room that it had
-pub record SinkChange : Type 0 where
-  pub held : Option (List ℕ)
-  pub held' : Option (List ℕ)
-  pub faults : ℕ
-  pub faults' : ℕ
-  pub room : ℕ
-
-abbrev pub changed : {S : Type 0} → (S → Option (List ℕ)) → (S → ℕ) → (S → ℕ) → S → S → SinkChange
-changed held faults room old new = record { held = held old; held' = held new; faults = faults old; faults' = faults new; room = room old }
-
--- how writing a text with its status ends: the whole text was appended, or a prefix of it, short of the whole
-pub data Writes (status : Status) (text : List ℕ) (sink : SinkChange) : Status → Type 0 where
-  whole : Appends sink.held sink.held' text → sink.faults' ≡ sink.faults → Writes status text sink status
-  short : (count : ℕ) → count < length text → Appends sink.held sink.held' (take count text) → sink.faults ≤ sink.faults' → Rose sink.faults sink.faults' → (length text ≤ sink.room → ⊥) → Writes status text sink (fault_status status)
-
--- how giving what was made ends, if memory was found for it
-abbrev pub GivesMade : {E : Type 0} → Result Given E → SinkChange → Type 0 → Status → Type 0
-GivesMade (Ok given) sink Unwritten status = Writes (given_status given) (given_text given) sink status
-GivesMade (Err error) sink Unwritten status = (status ≡ Memory) × Unwritten
-
--- How answering an input ends: no memory was found, or the answer was written, and it says what it should. Unwritten says that the
--- sink is as it was.
-pub data Replies (answer : Answer) (Says : Type 0) (sink : SinkChange) (Unwritten : Type 0) : Status → Type 0 where
-  none_found : Unwritten → Replies answer Says sink Unwritten Memory
-  replied : (status : Status) → Says → Writes answer.status answer.output sink status → Replies answer Says sink Unwritten status
-
--- How the call ends before anything is written: the words are in no form, a read failed, the input is too long, or no memory was
--- found. Unread says that the source is as it was.
-pub data Stops (words : List (List ℕ)) (source : SourceChange) (Unread : Type 0) : Status → Type 0 where
-  no_form : form_of words ≡ None → Unread → source.left' ≡ source.left → source.faults' ≡ source.faults → Stops words source Unread BadWords
-  unreadable : reads_input (form_of words) ≡ true → source.faults ≤ source.faults' → Rose source.faults source.faults' → TakesAtMost 1048576 source.left source.left' → Stops words source Unread ReadFault
-  too_many : reads_input (form_of words) ≡ true → source.faults' ≡ source.faults → TakesTooMany source.left source.left' → Stops words source Unread TooLong
-  no_memory : source.faults' ≡ source.faults → TakesAtMost 1048576 source.left source.left' → (reads_input (form_of words) ≡ false → Unread) → Stops words source Unread Memory
-
--- The bytes that an answer is given to: all those of the source, up to its end; none, where a command reads nothing.
-abbrev pub TakesInput : Bool → SourceChange → Type 0 → List ℕ → Type 0
-TakesInput true source Unread bytes = ReadsWhole source.left source.left' bytes
-TakesInput false source Unread bytes = Unread × (source.left' ≡ source.left) × (bytes ≡ [])
-
--- How the call ends. Unwritten says that the sink is as it was.
-pub data Outcome (carry : Carry) (restarts : Restarts) (words : List (List ℕ)) (source : SourceChange) (sink : SinkChange) (Unread Unwritten : Type 0) : Status → Type 0 where
-  stopped : (status : Status) → Stops words source Unread status → Unwritten → sink.faults' ≡ sink.faults → Outcome carry restarts words source sink Unread Unwritten status
-  answered : (form : Form) (bytes : List ℕ) (status : Status) → form_of words ≡ Some form → SaysWell carry restarts form bytes → source.faults' ≡ source.faults → TakesInput (reads_input (Some form)) source Unread bytes → Writes (command_answer carry restarts form bytes).status (command_answer carry restarts form bytes).output sink status → Outcome carry restarts words source sink Unread Unwritten status
+-- with the answer of the command that the words name, if they name one
+pub record Ends (carry : Carry) (restarts : Restarts) (words : List (List ℕ)) (source : SourceChange) (sink : SinkChange) (Unread Unwritten : Type 0) (status : Status) : Type 0 where
+  pub how : Outcome (form_of words) (reads_input (form_of words)) (answer_of carry restarts words) (SaysOf carry restarts (form_of words)) source sink Unread Unwritten status

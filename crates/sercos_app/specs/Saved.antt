@@ -1,17 +1,15 @@
 -- What is known of the runs of a backup and of a restore.
-use Rattle.std.specs.Prelude.{◌≡◌, ℕ, ◌≤◌, true, false, List, length, Some, Ok, slice_get}
+use Rattle.std.specs.Prelude.{◌≡◌, ℕ, ◌≤◌, true, List, length, Some, Ok, slice_get}
 use Rattle.sercos_idn.specs.declared.idn.Idn.{Idn}
 use Rattle.sercos_idn.specs.Elements.{data_element}
 use Rattle.sercos_step.specs.declared.request.Request.TheVariants as request
 use Rattle.sercos_step.specs.declared.request.Job.{Job}
 use Rattle.sercos_step.specs.declared.request.Outcome.TheVariants as outcome
-use Rattle.sercos_block.specs.declared.block.Block.{Block}
-use Rattle.sercos_block.specs.Stores.{find_block, store_of}
 use Rattle.sercos_block.specs.Views.{RingView}
 use Rattle.sercos_script.specs.Links.{Carry, Restarts}
 use Rattle.sercos_trace.specs.Views.{CycleView}
 use Rattle.sercos_handshake.specs.Transfers.{stored as filled}
-use Rattle.sercos_journal.specs.Runs.{IsRun, IsClear, drive_at, run_of}
+use Rattle.sercos_journal.specs.Runs.{IsRun, IsClear, run_of}
 use Rattle.sercos_typed.specs.Typed.{AreTypedJobs}
 use Rattle.sercos_config.specs.Views.{DocumentView}
 use Rattle.sercos_config.specs.Document.{document_of}
@@ -19,7 +17,7 @@ use Rattle.sercos_backup.specs.declared.tracked.Tracked.{Tracked}
 use Rattle.sercos_backup.specs.Jobs.{list_jobs, data_jobs}
 use Rattle.sercos_backup.specs.Tracking.{are_well, lists_told}
 use Rattle.sercos_told.specs.Reads.{IsReadFrom}
-use Rattle.sercos_told.specs.Writes.{IsLastTo, is_start, IsRestored}
+use Rattle.sercos_told.specs.Writes.{IsLastTo, IsRestored}
 use Rattle.sercos_opened.specs.Kept.{KeepsThroughout, carry_under, restarts_under}
 use Rattle.sercos_app.specs.Saving.{run_tracked, last_data}
 
@@ -41,10 +39,10 @@ pub record IsRingRun (r : RingView) (jobs : List Job) (carry : Carry) (restarts 
   pub keeps : KeepsThroughout r jobs carry restarts (run_of r jobs carry restarts r.cycles)
 
 -- If nothing was unseen in the run, the bytes of each complete request are those that the drive's store had in the one cycle in which
--- the drive accepted the selection.
+-- the drive accepted the selection of that request's own transfer.
 abbrev pub AreReadFrom : RingView → List Job → Carry → Restarts → Type 0
 AreReadFrom r jobs carry restarts = IsClear (run_of r jobs carry restarts r.cycles) → (n : ℕ) (t : Tracked) (bytes : List ℕ) → slice_get (run_tracked r jobs carry restarts) n ≡ Some t → t.outcome ≡ Some (outcome.Complete bytes)
-    → IsReadFrom r jobs carry restarts (run_of r jobs carry restarts r.cycles) t.drive t.idn.raw bytes
+    → IsReadFrom r jobs carry restarts (run_of r jobs carry restarts r.cycles) n t.drive t.idn bytes
 
 -- a run of reads: it is one, and what is read in it is exact
 pub record IsReadRun (r : RingView) (jobs : List Job) (carry : Carry) (restarts : Restarts) : Type 0 where
@@ -59,17 +57,16 @@ pub record IsSaved (r : RingView) (carry : Carry) (restarts : Restarts) : Type 0
 abbrev pub SavesItsRing : Carry → Restarts → List ℕ → Type 0
 SavesItsRing carry restarts bytes = (d : DocumentView) → document_of bytes ≡ Ok d → IsSaved d.setup (carry_under d carry) (restarts_under d restarts)
 
--- After the last cycle the store of the drive with this address has these bytes as operation data of its block with this number, filled
--- as a write fills them; and so it is printed, if the drive has the block.
+-- The drive with this address has a block with this number. After the last cycle its store has these bytes as operation data of the block,
+-- filled as a write fills them; and so it is printed.
 pub record IsPrinted (r : RingView) (carry : Carry) (restarts : Restarts) (run : List CycleView) (address raw : ℕ) (bytes : List ℕ) : Type 0 where
   pub stored : IsRestored r carry restarts run address raw bytes
-  pub printed : (b : Block) → find_block raw (store_of (drive_at r stored.place)) ≡ Some b → last_data r carry restarts run address raw ≡ filled b bytes
+  pub printed : last_data r carry restarts run address raw ≡ filled stored.block bytes
 
--- If nothing was unseen in the run: so it is with each complete write to a block that the start-up doesn't write, if no later request to
--- the drive writes to it.
+-- If nothing was unseen in the run: so it is with each complete write, if no later request to the drive writes to the block.
 abbrev pub AreWritesKept : RingView → List Job → Carry → Restarts → Type 0
 AreWritesKept r jobs carry restarts = IsClear (run_of r jobs carry restarts r.cycles) → (n : ℕ) (job : Job) (t : Tracked) (idn : Idn) (bytes whole : List ℕ) → slice_get jobs n ≡ Some job → job.request ≡ request.Write idn data_element bytes
-    → slice_get (run_tracked r jobs carry restarts) n ≡ Some t → t.outcome ≡ Some (outcome.Complete whole) → IsLastTo jobs n job.drive idn.raw → is_start idn.raw ≡ false
+    → slice_get (run_tracked r jobs carry restarts) n ≡ Some t → t.outcome ≡ Some (outcome.Complete whole) → IsLastTo jobs n job.drive idn.raw
     → IsPrinted r carry restarts (run_of r jobs carry restarts r.cycles) job.drive idn.raw bytes
 
 -- a run of writes: it is one, and what is written in it is kept

@@ -1,9 +1,8 @@
 -- What `backup` and `restore` answer to a ring document. Journals have their newest cycle first.
-use Rattle.std.specs.Prelude.{◌≡◌, ℕ, ◌-◌, ◌==◌, nat_le, Bool, true, false, if◌then◌else◌, List, [], ◌∷◌, length, reverse, Option, Some, None, Result, Ok, Err}
-use Rattle.std.specs.List.{flat_map, position}
+use Rattle.std.specs.Prelude.{ℕ, ◌-◌, ◌==◌, nat_le, true, if◌then◌else◌, List, [], length, Option, Some, None, Result, Ok, Err}
+use Rattle.std.specs.List.{position}
 use Rattle.sercos_io.specs.declared.status.Status.TheVariants.{Refused}
 use Rattle.sercos_step.specs.declared.request.Job.{Job}
-use Rattle.sercos_step.specs.declared.request.Outcome.{Outcome}
 use Rattle.sercos_block.specs.declared.block.Block.{Block}
 use Rattle.sercos_block.specs.Views.{DriveView, RingView}
 use Rattle.sercos_block.specs.Stores.{find_block}

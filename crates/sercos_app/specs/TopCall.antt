@@ -1,13 +1,9 @@
--- What the top call does with its source and its sink. The bytes that a source has left and those that a sink holds are
--- known where it tells them.
-use Rattle.std.specs.Prelude.{◌≡◌, ℕ, ◌<◌, ◌≤◌, Bool, true, false, List, [], codes, length, reverse, take, Option, Some, None, Ok}
-use Rattle.std.specs.Io.KnownBytes.{Appends, Consumes, IsAtEnd}
-use Rattle.sercos_io.specs.declared.status.Status.{Status}
-use Rattle.sercos_io.specs.declared.status.Status.TheVariants.{BadWords, Refused, ReadFault, WriteFault, Memory, TooLong}
+-- What the answers of the top call say, command by command. The bytes that a source has left and those that a sink holds are known
+-- where it tells them.
+use Rattle.std.specs.Prelude.{◌≡◌, ℕ, ◌<◌, ◌≤◌, Bool, true, false, List, [], codes, length, reverse, Option, Some, None, Ok}
+use Rattle.std.specs.Io.KnownBytes.{Appends}
+use Rattle.sercos_call.specs.TopCall.{ReadsWhole}
 use Rattle.sercos_script.specs.Links.{Carry, Restarts}
-use Rattle.sercos_words.specs.Form.{form_of, reads_input}
-use Rattle.sercos_app.specs.Answer.{answer_of}
-use Rattle.sercos_answer.specs.Answer.{Answer}
 use Rattle.sercos_answer.specs.Lines.{lines_of}
 use Rattle.sercos_planning.specs.Planning.{plan_text, chain_text}
 use Rattle.sercos_planning.specs.Margins.{TellsMargins, TellsChain}
@@ -37,68 +33,6 @@ use Rattle.sercos_config.specs.Views.{DocumentView}
 use Rattle.sercos_config.specs.Document.{document_of}
 use Rattle.sercos_config.specs.Generated.{generated}
 use Rattle.sercos_app.specs.Generating.{gen_line}
-
--- the statuses that come before anything is written
-unfoldable pub writes_nothing : Status → Bool
-writes_nothing BadWords = true
-writes_nothing ReadFault = true
-writes_nothing Memory = true
-writes_nothing TooLong = true
-writes_nothing _ = false
-
--- the status where writing an answer of this status fails: a refusal stays one
-unfoldable pub fault_status : Status → Status
-fault_status Refused = Refused
-fault_status _ = WriteFault
-
--- a source was read to its end, and gave these bytes
-pub record ReadsWhole (old new : Option (List ℕ)) (bytes : List ℕ) : Type 0 where
-  pub consumed : Consumes old new bytes
-  pub ended : IsAtEnd new
-  pub fits : length bytes ≤ 1048576
-
--- The bytes that an answer is given to: all those of the source, up to its end; none, where a command reads nothing.
-abbrev pub IsInput : Bool → Option (List ℕ) → Option (List ℕ) → List ℕ → Type 0
-IsInput true old new bytes = ReadsWhole old new bytes
-IsInput false old new bytes = (new ≡ old) × (bytes ≡ [])
-
--- the bytes that a source tells to a command; any, where it reads nothing
-abbrev pub HasInput : Bool → Option (List ℕ) → List ℕ → Type 0
-HasInput true left bytes = left ≡ Some bytes
-HasInput false left bytes = Unit {0}
-
--- at most this number of bytes were taken from a source, from the front of those that it had left
-pub record TakesAtMost (most : ℕ) (old new : Option (List ℕ)) : Type 0 where
-  pub taken : List ℕ
-  pub few : length taken ≤ most
-  pub consumed : Consumes old new taken
-
--- one byte more than an input may have was taken from a source
-pub record TakesTooMany (old new : Option (List ℕ)) : Type 0 where
-  pub taken : List ℕ
-  pub many : length taken ≡ 1048577
-  pub consumed : Consumes old new taken
-
--- the answer to the input has this status, and its whole output was appended
-pub record IsAnswered (carry : Carry) (restarts : Restarts) (words : List (List ℕ)) (status : Status) (left left' held held' : Option (List ℕ)) : Type 0 where
-  pub bytes : List ℕ
-  pub read : IsInput (reads_input (form_of words)) left left' bytes
-  pub status_is : (answer_of carry restarts words bytes).status ≡ status
-  pub written : Appends held held' (answer_of carry restarts words bytes).output
-
--- the same, but that writing failed after a prefix of the output, short of the whole
-pub record IsCutShort (carry : Carry) (restarts : Restarts) (words : List (List ℕ)) (status : Status) (left left' held held' : Option (List ℕ)) : Type 0 where
-  pub bytes : List ℕ
-  pub read : IsInput (reads_input (form_of words)) left left' bytes
-  pub status_is : fault_status (answer_of carry restarts words bytes).status ≡ status
-  pub count : ℕ
-  pub short : count < length (answer_of carry restarts words bytes).output
-  pub written : Appends held held' (take count (answer_of carry restarts words bytes).output)
-
--- this answer was given: its status, and its whole output, which was appended
-pub record IsAnswer (answer : Answer) (status : Status) (held held' : Option (List ℕ)) : Type 0 where
-  pub status_is : status ≡ answer.status
-  pub written : Appends held held' answer.output
 
 -- The source was read to its end as the document of a ring for which no plan fits, whatever plan it is. What was appended is the
 -- text of a chain of what the ring asks, whose sum is above its bound.

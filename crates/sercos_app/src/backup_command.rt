@@ -3,13 +3,12 @@ ghost use Rattle.std.specs.Prelude.{◌≡◌, ◌≤◌, true, List, length, If
 ghost use Rattle.sercos_step.specs.declared.request.Job.{Job};
 ghost use Rattle.sercos_block.specs.Rings.{is_ring};
 ghost use Rattle.sercos_backup.specs.Jobs.{data_jobs};
-ghost use Rattle.sercos_app.specs.Outcome.{Replies, changed};
+ghost use Rattle.sercos_call.specs.Outcome.{Replies, changed};
 ghost use Rattle.sercos_opened.specs.Kept.{carry_under, restarts_under};
-ghost use Rattle.sercos_app.specs.Giving.{IsReply};
+ghost use Rattle.sercos_call.specs.Giving.{IsReply};
 ghost use Rattle.sercos_app.specs.Saving.{backup_answer, data_answer, ring_saved};
 ghost use Rattle.sercos_app.specs.Saved.{AreTypedIfFew, ReadsTyped, SavesItsRing};
 
-use crate::given::{give_if_made, refuse};
 use crate::run_command::drives_of;
 use crate::tracking::{Run, run_tracked};
 use sercos_answer::Reply;
@@ -18,6 +17,7 @@ use sercos_backup::{
 };
 use sercos_bits::Bytes;
 use sercos_block::{RingSetup, ring_law};
+use sercos_call::{give_if_made, refuse};
 use sercos_config::{Document, read_ring};
 use sercos_headline::headline_law;
 use sercos_io::{Sink, Status};

@@ -1,9 +1,9 @@
 // `check`: the verdict on a capture is written.
 ghost use Rattle.std.specs.Prelude.{◌≡◌, ◌≤◌, length};
 ghost use Rattle.sercos_checking.specs.Checking.{verdict_of, verdict_status, verdict_text, check_answer};
-ghost use Rattle.sercos_app.specs.Outcome.{Replies, Writes, changed};
+ghost use Rattle.sercos_call.specs.Outcome.{Replies, Writes, changed};
 
-use crate::given::fault_status;
+use sercos_call::fault_status;
 use sercos_checking::capture::verdict;
 use sercos_checking::{Verdict, verdict_line, verdict_status};
 use sercos_io::{Sink, Status, write_all};

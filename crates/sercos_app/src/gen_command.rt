@@ -3,14 +3,14 @@ ghost use Rattle.std.specs.Prelude.{◌≡◌, ◌≤◌, ◌++◌, true, length
 ghost use Rattle.std.specs.List.{All};
 ghost use Rattle.sercos_step.specs.Steps.{IsRequest};
 ghost use Rattle.sercos_block.specs.Rings.{is_ring};
-ghost use Rattle.sercos_app.specs.Outcome.{Replies, Writes, changed};
+ghost use Rattle.sercos_call.specs.Outcome.{Replies, Writes, changed};
 ghost use Rattle.sercos_opened.specs.Kept.{carry_under, restarts_under};
 ghost use Rattle.sercos_app.specs.Generating.{RunsGenerated, counts_text, first_text, gen_answer, gen_line, head_text, run_summed};
 
 use crate::counting::count_cycles;
-use crate::given::fault_status;
 use crate::run_command::{cycles_of, drives_of};
 use sercos_block::RingSetup;
+use sercos_call::fault_status;
 use sercos_config::{Document, generate};
 use sercos_headline::headline_law;
 use sercos_io::{Sink, Status, write_all};

@@ -3,7 +3,7 @@ ghost use Rattle.std.specs.Prelude.{◌≡◌, ◌≢◌, ◌≤◌, ◌<◌, �
 ghost use Rattle.sercos_model.specs.Streams.{last_count};
 ghost use Rattle.sercos_app.specs.Answer.{answer_of};
 ghost use Rattle.sercos_words.specs.Form.{form_of};
-ghost use Rattle.sercos_app.specs.TopCall.{IsAnswer};
+ghost use Rattle.sercos_call.specs.TopCall.{IsAnswer};
 
 use crate::top_call::sercos;
 use sercos_io::{MemorySink, PlainSource, Status, Words};

@@ -6,13 +6,13 @@ ghost use Rattle.sercos_step.specs.Steps.{IsRequest};
 ghost use Rattle.sercos_block.specs.Rings.{is_ring};
 ghost use Rattle.sercos_ring.specs.Kept.{RingStandsFor};
 ghost use Rattle.sercos_app.specs.Journals.{IsRingOf, OfRun, journal_text};
-ghost use Rattle.sercos_app.specs.Outcome.{Replies, Writes, changed};
+ghost use Rattle.sercos_call.specs.Outcome.{Replies, Writes, changed};
 ghost use Rattle.sercos_opened.specs.Kept.{carry_under, restarts_under};
 ghost use Rattle.sercos_app.specs.Running.{RunsItsRing, run_answer, run_traced};
 
-use crate::given::{fault_status, refuse};
 use crate::running::write_run;
 use sercos_block::{RingSetup, ring_law};
+use sercos_call::{fault_status, refuse};
 use sercos_config::{Document, read_ring};
 use sercos_headline::headline_law;
 use sercos_io::{Sink, Status};

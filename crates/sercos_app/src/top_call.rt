@@ -3,25 +3,32 @@ ghost use Rattle.std.specs.Prelude.{◌≡◌, ◌≢◌, ℕ, ◌≤◌, ◌⊎
 ghost use Rattle.sercos_model.specs.Streams.{Rose};
 ghost use Rattle.sercos_app.specs.Answer.{answer_of, command_answer, SaysWell};
 ghost use Rattle.sercos_words.specs.Form.{form_of, reads_input, HasNumber};
-ghost use Rattle.sercos_app.specs.Given.{Gives, IsWritable};
-ghost use Rattle.sercos_app.specs.Outcome.{Outcome, Replies, GivesMade, changed};
+ghost use Rattle.sercos_call.specs.Given.{Gives};
+ghost use Rattle.sercos_call.specs.Outcome.{Replies, changed};
+ghost use Rattle.sercos_app.specs.Outcome.{Ends};
 ghost use Rattle.sercos_planning.specs.Margins.{MeasuresItsRing, margin_answer};
 ghost use Rattle.sercos_planning.specs.Planning.{PlansItsRing, plan_answer};
 ghost use Rattle.sercos_show.specs.Show.{show_answer};
-ghost use Rattle.sercos_replay.specs.Asking.{Asks, Replays, cycles_in};
+ghost use Rattle.sercos_replay.specs.Asking.{Asks, cycles_in};
 ghost use Rattle.sercos_replay.specs.Replaying.{place_answer, replay_answer};
 ghost use Rattle.sercos_replay.specs.Stations.{Station, station_differs};
-ghost use Rattle.sercos_app.specs.TopCall.{writes_nothing, HasInput, TakesAtMost, TakesTooMany, IsAnswered, IsCutShort, IsAnswer, NonePlanned, LeastPlanned, MarginsTold, ChainTold, ViolationTold, CleanTold, PlaceTold, AgreementTold, BreachTold, RunTraced, RunSummed, BackupSaved, BackupFailed, RestoreTold};
+ghost use Rattle.sercos_script.specs.Links.{Carry, Restarts};
+ghost use Rattle.sercos_config.specs.Views.{DocumentView};
+ghost use Rattle.sercos_call.specs.TopCall.{writes_nothing, HasInput, TakesAtMost, TakesTooMany, IsAnswered, IsCutShort, IsAnswer};
+ghost use Rattle.sercos_app.specs.OwnRun.{AgreesThroughout, IsCalm, IsOwnRun, OpensItsRing, ReplaysItsRing};
+ghost use Rattle.sercos_app.specs.TopCall.{NonePlanned, LeastPlanned, MarginsTold, ChainTold, ViolationTold, CleanTold, PlaceTold, AgreementTold, BreachTold, RunTraced, RunSummed, BackupSaved, BackupFailed, RestoreTold};
 
 use crate::backup_command::answer_backup;
 use crate::check_command::answer_check;
 use crate::gen_command::answer_gen;
-use crate::given::{Given, give, refused};
+use crate::replay::replay_law;
+use crate::replay_command::replay;
 use crate::restore_command::answer_restore;
 use crate::run_command::answer_run;
+use sercos_call::{Given, give_made, refused};
 use sercos_io::{ReadAll, Sink, Source, Status, Words, read_all};
 use sercos_planning::{margins, plan};
-use sercos_replay::replay;
+use sercos_replay::asking_law;
 use sercos_script::BitLink;
 use sercos_show::show::show;
 use sercos_words::{Form, form_of};
@@ -61,22 +68,11 @@ fn measured(alloc: Global, bytes: &[u8]) -> Result<Given, AllocError>
 fn replayed(alloc: Global, address: u8, bytes: &[u8]) -> Result<Given, AllocError>
     requires few { length bytes.now ≤ 1048576 }
     ensures given { IfOk result (λ given. Gives given (replay_answer address bytes.now)) }
-    ensures says { IfOk result (λ _. Replays address bytes.now) }
+    ensures opens { IfOk result (λ _. OpensItsRing bytes.now) }
 {
     match replay(alloc, address, bytes) {
         Ok(reply) => Ok(Given::Reply(reply)),
         Err(bad) => refused(bad),
-    }
-}
-
-// Writes what a command gives, if memory was found for it.
-fn give_made<K: Sink>(made: &Result<Given, AllocError>, sink: &mut K) -> Status
-    requires { IfOk made.now IsWritable }
-    ensures { GivesMade made.now (changed K.held K.faults K.room sink.old sink.new) (sink.new ≡ sink.old) result }
-{
-    match made {
-        Ok(given) => give(given, sink),
-        Err(_) => Status::Memory,
     }
 }
 
@@ -107,9 +103,11 @@ fn answer_margin<K: Sink>(alloc: Global, bytes: &[u8], sink: &mut K) -> Status
 // Answers an input by `replay`.
 fn answer_replay<K: Sink>(alloc: Global, address: u8, bytes: &[u8], sink: &mut K) -> Status
     requires few { length bytes.now ≤ 1048576 }
-    ensures { Replies (replay_answer address bytes.now) (Replays address bytes.now)
+    ensures { Replies (replay_answer address bytes.now) (ReplaysItsRing address bytes.now)
         (changed K.held K.faults K.room sink.old sink.new) (sink.new ≡ sink.old) result }
 {
+    asking_law();
+    replay_law();
     give_made(&replayed(alloc, address, bytes), sink)
 }
 
@@ -156,7 +154,7 @@ fn respond<S: Source, K: Sink, L: BitLink>(
     sink: &mut K,
     link: L,
 ) -> Status
-    ensures { Outcome (L.carry link) (L.restart link) words.now
+    ensures { Ends (L.carry link) (L.restart link) words.now
         (record {
           left = S.left source.old;
           left' = S.left source.new;
@@ -200,7 +198,9 @@ fn respond<S: Source, K: Sink, L: BitLink>(
 /// Of each run that `run` traces and `gen` sums, up to the first arrival that is unseen, whatever was lost or damaged: if no cycle after a
 /// fall is disturbed, the ring starts up again; and from the cycle on that comes twice the bound of a start-up and 200 cycles after the
 /// last disturbed one, phase 4 is commanded, or the master stands at a stop for its cause.
-#[tactic(auto, using(crate::proofs::Outcomes::at_bad_words, crate::proofs::Outcomes::at_no_form, crate::proofs::Outcomes::at_unread, crate::proofs::Outcomes::at_taken, crate::proofs::Outcomes::at_taken_few, crate::proofs::Outcomes::at_unwritten, crate::proofs::Outcomes::at_read_fault, crate::proofs::Outcomes::at_read_count, crate::proofs::Outcomes::at_read_well, crate::proofs::Outcomes::at_too_long, crate::proofs::Outcomes::at_none_fits, crate::proofs::Outcomes::at_least_plan, crate::proofs::Outcomes::at_margins, crate::proofs::Outcomes::at_chain, crate::proofs::Outcomes::at_violation, crate::proofs::Outcomes::at_clean, crate::proofs::Outcomes::at_traced, crate::proofs::Outcomes::at_no_of, crate::proofs::Outcomes::at_write_count, crate::proofs::Outcomes::at_write_well, crate::proofs::Outcomes::at_refuses, crate::proofs::Outcomes::at_exceeds, crate::proofs::Outcomes::at_room))]
+///
+/// Where the capture of `replay A` is what `run` writes of its document, over whatever link, and no cycle of that run is disturbed,
+/// `check` finds the capture clean, and the replay agrees, for the master and for each drive.
 pub fn sercos<S: Source, K: Sink, L: BitLink>(
     alloc: Global,
     words: &Words,
@@ -231,9 +231,9 @@ pub fn sercos<S: Source, K: Sink, L: BitLink>(
 
     // Done and No come only where the input was read to its end, its answer has this status, and the whole output was
     // appended; No comes from `plan`, `margin`, `check`, `backup`, `restore` and `replay` alone.
-    ensures done { result ≡ Status.Done → IsAnswered (L.carry link) (L.restart link) words.now Status.Done
+    ensures done { result ≡ Status.Done → IsAnswered (reads_input (form_of words.now)) (answer_of (L.carry link) (L.restart link) words.now) Status.Done
         (S.left source.old) (S.left source.new) (K.held sink.old) (K.held sink.new) }
-    ensures no { result ≡ Status.No → IsAnswered (L.carry link) (L.restart link) words.now Status.No
+    ensures no { result ≡ Status.No → IsAnswered (reads_input (form_of words.now)) (answer_of (L.carry link) (L.restart link) words.now) Status.No
         (S.left source.old) (S.left source.new) (K.held sink.old) (K.held sink.new) }
     ensures no_of { result ≡ Status.No → (form_of words.now ≡ Some Form.Plan) ⊎ (form_of words.now ≡ Some Form.Margin) ⊎ (form_of words.now ≡ Some Form.Check)
         ⊎ (form_of words.now ≡ Some Form.Backup) ⊎ (form_of words.now ≡ Some Form.Restore) ⊎ ((address : ℕ) × (form_of words.now ≡ Some (Form.Replay address))) }
@@ -274,6 +274,16 @@ pub fn sercos<S: Source, K: Sink, L: BitLink>(
         → (result ≡ Status.Memory)
         ⊎ IsAnswer (place_answer (station_differs station (cycles_in capture)) (length (cycles_in capture))) result (K.held sink.old) (K.held sink.new) }
 
+    // Where the input is a document and, as its capture, what `run` writes of this document over whatever link, and no cycle of that run
+    // is disturbed, `check` finds the capture clean, it begins with cycle 0, and the answer is the number of its cycles, for the master
+    // and for every drive, if nothing outside fails; or Memory.
+    ensures calm { (address : ℕ) (bytes : List ℕ) (carry : Carry) (restarts : Restarts) (d : DocumentView) (own : IsOwnRun carry restarts address bytes d)
+        → form_of words.now ≡ Some (Form.Replay address) → S.left source.old ≡ Some bytes → length bytes ≤ 1048576 → IsCalm carry restarts d
+        → (Rose (S.faults source.old) (S.faults source.new) → ⊥)
+        → (Rose (K.faults sink.old) (K.faults sink.new) → ⊥)
+        → (result ≡ Status.Memory)
+        ⊎ (AgreesThroughout address bytes own.capture × IsAnswer (place_answer None (length (cycles_in own.capture))) result (K.held sink.old) (K.held sink.new)) }
+
     // Done comes from `run` only with the trace of the one run of the ring that was read, and from `gen` only with the summary of
     // the one run of the ring that it generates.
     ensures traced { result ≡ Status.Done → form_of words.now ≡ Some Form.Run → RunTraced (L.carry link) (L.restart link)
@@ -283,7 +293,8 @@ pub fn sercos<S: Source, K: Sink, L: BitLink>(
 
     // Done comes from `backup` only with the saved data of all blocks on the drives' lists of backup operation data, which were read in two
     // runs of the ring; where nothing was unseen in a run, what was read in it are the bytes that the drive's store had in the one
-    // cycle in which the drive accepted the selection. No comes only with the requests that failed, or where the blocks are too many.
+    // cycle in which the drive accepted the selection of that read's own transfer. No comes only with the requests that failed, or
+    // where the blocks are too many.
     ensures saved { result ≡ Status.Done → form_of words.now ≡ Some Form.Backup → BackupSaved (L.carry link) (L.restart link)
         (S.left source.old) (S.left source.new) (K.held sink.old) (K.held sink.new) }
     ensures unsaved { result ≡ Status.No → form_of words.now ≡ Some Form.Backup → BackupFailed (L.carry link) (L.restart link)
@@ -291,8 +302,8 @@ pub fn sercos<S: Source, K: Sink, L: BitLink>(
 
     // Done and No come from `restore` only where each request of the ring writes operation data, with a line for each: what the drive
     // has after the last cycle of the one run of the ring, or how the request failed; Done only where none did. Where nothing was
-    // unseen in the run, what is printed for a complete write is the data of the last request for the block, filled up to whole
-    // words, if the drive has the block and the start-up doesn't write it.
+    // unseen in the run, what is printed for a complete write is its data, filled up to whole words, if no later request to the drive
+    // is one to the same block, which the drive has.
     ensures restored { result ≡ Status.Done → form_of words.now ≡ Some Form.Restore → RestoreTold (L.carry link) (L.restart link) true
         (S.left source.old) (S.left source.new) (K.held sink.old) (K.held sink.new) }
     ensures unrestored { result ≡ Status.No → form_of words.now ≡ Some Form.Restore → RestoreTold (L.carry link) (L.restart link) false
@@ -300,14 +311,14 @@ pub fn sercos<S: Source, K: Sink, L: BitLink>(
 
     // Refused too comes only where the input was read to its end; if writing the refusal failed, a prefix of it was appended.
     ensures refused { result ≡ Status.Refused →
-        ((K.faults sink.new ≡ K.faults sink.old) × IsAnswered (L.carry link) (L.restart link) words.now Status.Refused
+        ((K.faults sink.new ≡ K.faults sink.old) × IsAnswered (reads_input (form_of words.now)) (answer_of (L.carry link) (L.restart link) words.now) Status.Refused
         (S.left source.old) (S.left source.new) (K.held sink.old) (K.held sink.new))
-        ⊎ (Rose (K.faults sink.old) (K.faults sink.new) × IsCutShort (L.carry link) (L.restart link) words.now Status.Refused
+        ⊎ (Rose (K.faults sink.old) (K.faults sink.new) × IsCutShort (reads_input (form_of words.now)) (answer_of (L.carry link) (L.restart link) words.now) Status.Refused
         (S.left source.old) (S.left source.new) (K.held sink.old) (K.held sink.new)) }
 
     // WriteFault comes only where the sink's count rose, after a prefix of the output; elsewhere no write failed.
     ensures write_fault { result ≡ Status.WriteFault →
-        Rose (K.faults sink.old) (K.faults sink.new) × IsCutShort (L.carry link) (L.restart link) words.now Status.WriteFault
+        Rose (K.faults sink.old) (K.faults sink.new) × IsCutShort (reads_input (form_of words.now)) (answer_of (L.carry link) (L.restart link) words.now) Status.WriteFault
         (S.left source.old) (S.left source.new) (K.held sink.old) (K.held sink.new) }
     ensures write_count { K.faults sink.old ≤ K.faults sink.new }
     ensures write_well { result ≢ Status.WriteFault → result ≢ Status.Refused →

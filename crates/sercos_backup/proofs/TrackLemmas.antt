@@ -15,7 +15,7 @@ unfolding tracked_from
 none_told number [] = refl
 none_told number (job ∷ jobs) = ap (λ list. with_outcome None job ∷ list) (none_told (suc number) jobs)
 
-map_or : {A B : Type 0} (f : A → B) (x y : Option A) → option_map f (option_or x y) ≡ option_or (option_map f x) (option_map f y)
+pub map_or : {A B : Type 0} (f : A → B) (x y : Option A) → option_map f (option_or x y) ≡ option_or (option_map f x) (option_map f y)
 map_or f None y = refl
 map_or f (Some a) y = refl
 

@@ -35,11 +35,11 @@ writes_nothing-Writes given (short count below appends kept rose full) = IsGiven
 not_before : {status other : Status} → writes_nothing status ≡ false → writes_nothing other ≡ true → status ≡ other → ⊥
 not_before after before same = false≢true (sym after ∙ ap writes_nothing same ∙ before)
 
-some_same : {A : Type 0} {x y : A} → Some x ≡ Some y → x ≡ y
+pub some_same : {A : Type 0} {x y : A} → Some x ≡ Some y → x ≡ y
 some_same e = cc
 
 -- what was read from a source that told its bytes
-told_whole : (bytes read : List ℕ) (left left' : Option (List ℕ)) → left ≡ Some bytes → ReadsWhole left left' read → read ≡ bytes
+pub told_whole : (bytes read : List ℕ) (left left' : Option (List ℕ)) → left ≡ Some bytes → ReadsWhole left left' read → read ≡ bytes
 told_whole bytes read None left' told reads = absurd (cc)
 told_whole bytes read (Some xs) None told reads = absurd reads.consumed
 told_whole bytes read (Some xs) (Some ys) told reads =
@@ -106,7 +106,7 @@ stops_before (too_many is reads takes) = refl
 stops_before (no_memory reads takes unread) = refl
 
 -- it ended with no status of an answer
-not_stopped : {F : Type 0} {form : Option F} {reads : Bool} {source : SourceChange} {Unread : Type 0} {status wanted : Status} → Stops form reads source Unread status → writes_nothing wanted ≡ false → status ≡ wanted → ⊥
+pub not_stopped : {F : Type 0} {form : Option F} {reads : Bool} {source : SourceChange} {Unread : Type 0} {status wanted : Status} → Stops form reads source Unread status → writes_nothing wanted ≡ false → status ≡ wanted → ⊥
 not_stopped why after same = false≢true (sym after ∙ sym (ap writes_nothing same) ∙ stops_before why)
 
 stops-bad_words : {F : Type 0} {form : Option F} {reads : Bool} {source : SourceChange} {Unread : Type 0} {status : Status} → Stops form reads source Unread status → status ≡ BadWords → form ≡ None
@@ -171,7 +171,7 @@ stops-well (too_many is reads takes) some well = inr (refl, is, takes)
 stops-well (no_memory reads takes unread) some well = inl refl
 
 -- with an input that isn't too long there was no memory
-stops-few : {F : Type 0} {form : Option F} {reads : Bool} {source : SourceChange} {Unread : Type 0} {status : Status} → Stops form reads source Unread status → (bytes : List ℕ) → HasInput reads source.left bytes → length bytes ≤ 1048576 → form ≢ None → (Rose source.faults source.faults' → ⊥) → status ≡ Memory
+pub stops-few : {F : Type 0} {form : Option F} {reads : Bool} {source : SourceChange} {Unread : Type 0} {status : Status} → Stops form reads source Unread status → (bytes : List ℕ) → HasInput reads source.left bytes → length bytes ≤ 1048576 → form ≢ None → (Rose source.faults source.faults' → ⊥) → status ≡ Memory
 stops-few why bytes told fits some well = elim (stops-well why some well) [ inl memory ↦ memory | inr many ↦ absurd (omega (arith, fits, too_many_told _ bytes _ _ many.1 told many.2)) ]
 
 -- The clauses of the top call, each from how the call ended.
@@ -179,7 +179,7 @@ stops-few why bytes told fits some well = elim (stops-well why some well) [ inl 
 pub at_bad_words : {F : Type 0} {form : Option F} {reads : Bool} {answer : List ℕ → Answer} {Says : List ℕ → Type 0} {source : SourceChange} {sink : SinkChange} {Unread Unwritten : Type 0} {status : Status} → IsCommand form reads answer → Outcome form reads answer Says source sink Unread Unwritten status → status ≡ BadWords → form ≡ None
 unfolding writes_nothing
 at_bad_words law (stopped status why sink_same writes) e = stops-bad_words why e
-at_bad_words law (answered named bytes status is says reads input ends) e = absurd (not_before (writes_nothing-Writes (law.given bytes) ends) refl e)
+at_bad_words law (answered named bytes status is says reads input ends) e = absurd (not_before (writes_nothing-Writes (law.given named is bytes) ends) refl e)
 
 pub at_no_form : {F : Type 0} {form : Option F} {reads : Bool} {answer : List ℕ → Answer} {Says : List ℕ → Type 0} {source : SourceChange} {sink : SinkChange} {Unread Unwritten : Type 0} {status : Status} → IsCommand form reads answer → Outcome form reads answer Says source sink Unread Unwritten status → form ≡ None → (status ≡ Memory) ⊎ (status ≡ BadWords)
 at_no_form law (stopped status why sink_same writes) none = stops-no_form law.none why none
@@ -191,12 +191,12 @@ at_unread law (answered named bytes status is says reads input ends) e = unread_
 
 pub at_unwritten : {F : Type 0} {form : Option F} {reads : Bool} {answer : List ℕ → Answer} {Says : List ℕ → Type 0} {source : SourceChange} {sink : SinkChange} {Unread Unwritten : Type 0} {status : Status} → IsCommand form reads answer → Outcome form reads answer Says source sink Unread Unwritten status → IsTrue (writes_nothing status) → Unwritten
 at_unwritten law (stopped status why sink_same writes) e = sink_same
-at_unwritten law (answered named bytes status is says reads input ends) e = absurd (false≢true (sym (writes_nothing-Writes (law.given bytes) ends) ∙ e))
+at_unwritten law (answered named bytes status is says reads input ends) e = absurd (false≢true (sym (writes_nothing-Writes (law.given named is bytes) ends) ∙ e))
 
 pub at_read_fault : {F : Type 0} {form : Option F} {reads : Bool} {answer : List ℕ → Answer} {Says : List ℕ → Type 0} {source : SourceChange} {sink : SinkChange} {Unread Unwritten : Type 0} {status : Status} → IsCommand form reads answer → Outcome form reads answer Says source sink Unread Unwritten status → status ≡ ReadFault → Rose source.faults source.faults'
 unfolding writes_nothing
 at_read_fault law (stopped status why sink_same writes) e = stops-read_fault why e
-at_read_fault law (answered named bytes status is says reads input ends) e = absurd (not_before (writes_nothing-Writes (law.given bytes) ends) refl e)
+at_read_fault law (answered named bytes status is says reads input ends) e = absurd (not_before (writes_nothing-Writes (law.given named is bytes) ends) refl e)
 
 pub at_read_count : {F : Type 0} {form : Option F} {reads : Bool} {answer : List ℕ → Answer} {Says : List ℕ → Type 0} {source : SourceChange} {sink : SinkChange} {Unread Unwritten : Type 0} {status : Status} → IsCommand form reads answer → Outcome form reads answer Says source sink Unread Unwritten status → source.faults ≤ source.faults'
 at_read_count law (stopped status why sink_same writes) = stops-read_count why
@@ -217,16 +217,16 @@ at_taken_few law (answered named bytes status is says reads input ends) other = 
 pub at_too_long : {F : Type 0} {form : Option F} {reads : Bool} {answer : List ℕ → Answer} {Says : List ℕ → Type 0} {source : SourceChange} {sink : SinkChange} {Unread Unwritten : Type 0} {status : Status} → IsCommand form reads answer → Outcome form reads answer Says source sink Unread Unwritten status → status ≡ TooLong → TakesTooMany source.left source.left'
 unfolding writes_nothing
 at_too_long law (stopped status why sink_same writes) e = stops-too_long why e
-at_too_long law (answered named bytes status is says reads input ends) e = absurd (not_before (writes_nothing-Writes (law.given bytes) ends) refl e)
+at_too_long law (answered named bytes status is says reads input ends) e = absurd (not_before (writes_nothing-Writes (law.given named is bytes) ends) refl e)
 
 -- a failed write's status is no other answer's
-fault-done : {status : Status} → IsGiven status → fault_status status ≢ Done
+pub fault-done : {status : Status} → IsGiven status → fault_status status ≢ Done
 unfolding fault_status
 fault-done done e = absurd (cc)
 fault-done refused e = absurd (cc)
 fault-done declined e = absurd (cc)
 
-fault-no : {status : Status} → IsGiven status → fault_status status ≢ No
+pub fault-no : {status : Status} → IsGiven status → fault_status status ≢ No
 unfolding fault_status
 fault-no done e = absurd (cc)
 fault-no refused e = absurd (cc)
@@ -238,13 +238,13 @@ not_write_fault refused e = absurd (cc)
 not_write_fault declined e = absurd (cc)
 
 -- an answer that was written as a whole
-record IsWhole (first status : Status) (text : List ℕ) (sink : SinkChange) : Type 0 where
+pub record IsWhole (first status : Status) (text : List ℕ) (sink : SinkChange) : Type 0 where
   pub status_is : first ≡ status
   pub written : Appends sink.held sink.held' text
   pub same : sink.faults' ≡ sink.faults
 
 -- one whose writing failed
-record IsShort (first status : Status) (text : List ℕ) (sink : SinkChange) : Type 0 where
+pub record IsShort (first status : Status) (text : List ℕ) (sink : SinkChange) : Type 0 where
   pub status_is : fault_status first ≡ status
   pub count : ℕ
   pub short : count < length text
@@ -253,7 +253,7 @@ record IsShort (first status : Status) (text : List ℕ) (sink : SinkChange) : T
   pub rose : Rose sink.faults sink.faults'
   pub full : length text ≤ sink.room → ⊥
 
-whole_or_short : {first status : Status} {text : List ℕ} {sink : SinkChange} → Writes first text sink status → IsWhole first status text sink ⊎ IsShort first status text sink
+pub whole_or_short : {first status : Status} {text : List ℕ} {sink : SinkChange} → Writes first text sink status → IsWhole first status text sink ⊎ IsShort first status text sink
 whole_or_short (whole appends same) = inl (record { status_is = refl; written = appends; same = same })
 whole_or_short (short count below appends falls rose full) =
     inr (record { status_is = refl; count = count; short = below; written = appends; falls = falls; rose = rose; full = full })
@@ -277,7 +277,7 @@ told_answer false answer one all bytes source Unread told input = one refl bytes
 pub at_done : {F : Type 0} {form : Option F} {reads : Bool} {answer : List ℕ → Answer} {Says : List ℕ → Type 0} {source : SourceChange} {sink : SinkChange} {Unread Unwritten : Type 0} {status : Status} → IsCommand form reads answer → Outcome form reads answer Says source sink Unread Unwritten status → status ≡ Done → IsAnswered reads answer Done source.left source.left' sink.held sink.held'
 unfolding writes_nothing
 at_done law (stopped status why sink_same writes) e = absurd (not_stopped why refl e)
-at_done law (answered named bytes status is says reads input ends) e = elim (whole_or_short ends) [ inl w ↦ answered-whole _ _ bytes _ Done _ _ _ (input_of _ _ _ _ input) w e | inr w ↦ absurd (fault-done (law.given bytes) (w.status_is ∙ e)) ]
+at_done law (answered named bytes status is says reads input ends) e = elim (whole_or_short ends) [ inl w ↦ answered-whole _ _ bytes _ Done _ _ _ (input_of _ _ _ _ input) w e | inr w ↦ absurd (fault-done (law.given named is bytes) (w.status_is ∙ e)) ]
 
 -- an answer that is done, with what it says beside its text
 pub record IsTold {F : Type 0} (form : Option F) (reads : Bool) (answer : List ℕ → Answer) (Says : List ℕ → Type 0) (left left' held held' : Option (List ℕ)) : Type 0 where
@@ -292,12 +292,12 @@ pub record IsTold {F : Type 0} (form : Option F) (reads : Bool) (answer : List �
 pub at_told : {F : Type 0} {form : Option F} {reads : Bool} {answer : List ℕ → Answer} {Says : List ℕ → Type 0} {source : SourceChange} {sink : SinkChange} {Unread Unwritten : Type 0} {status : Status} → IsCommand form reads answer → Outcome form reads answer Says source sink Unread Unwritten status → status ≡ Done → IsTold form reads answer Says source.left source.left' sink.held sink.held'
 unfolding writes_nothing
 at_told law (stopped status why sink_same writes) e = absurd (not_stopped why refl e)
-at_told law (answered named bytes status is says reads input ends) e = elim (whole_or_short ends) [ inl w ↦ record { named = named; is = is; bytes = bytes; read = input_of _ _ _ _ input; says = says; status_is = w.status_is ∙ e; written = w.written } | inr w ↦ absurd (fault-done (law.given bytes) (w.status_is ∙ e)) ]
+at_told law (answered named bytes status is says reads input ends) e = elim (whole_or_short ends) [ inl w ↦ record { named = named; is = is; bytes = bytes; read = input_of _ _ _ _ input; says = says; status_is = w.status_is ∙ e; written = w.written } | inr w ↦ absurd (fault-done (law.given named is bytes) (w.status_is ∙ e)) ]
 
 pub at_no : {F : Type 0} {form : Option F} {reads : Bool} {answer : List ℕ → Answer} {Says : List ℕ → Type 0} {source : SourceChange} {sink : SinkChange} {Unread Unwritten : Type 0} {status : Status} → IsCommand form reads answer → Outcome form reads answer Says source sink Unread Unwritten status → status ≡ No → IsAnswered reads answer No source.left source.left' sink.held sink.held'
 unfolding writes_nothing
 at_no law (stopped status why sink_same writes) e = absurd (not_stopped why refl e)
-at_no law (answered named bytes status is says reads input ends) e = elim (whole_or_short ends) [ inl w ↦ answered-whole _ _ bytes _ No _ _ _ (input_of _ _ _ _ input) w e | inr w ↦ absurd (fault-no (law.given bytes) (w.status_is ∙ e)) ]
+at_no law (answered named bytes status is says reads input ends) e = elim (whole_or_short ends) [ inl w ↦ answered-whole _ _ bytes _ No _ _ _ (input_of _ _ _ _ input) w e | inr w ↦ absurd (fault-no (law.given named is bytes) (w.status_is ∙ e)) ]
 
 pub at_refused : {F : Type 0} {form : Option F} {reads : Bool} {answer : List ℕ → Answer} {Says : List ℕ → Type 0} {source : SourceChange} {sink : SinkChange} {Unread Unwritten : Type 0} {status : Status} → IsCommand form reads answer → Outcome form reads answer Says source sink Unread Unwritten status → status ≡ Refused → ((sink.faults' ≡ sink.faults) × IsAnswered reads answer Refused source.left source.left' sink.held sink.held') ⊎ (Rose sink.faults sink.faults' × IsCutShort reads answer Refused source.left source.left' sink.held sink.held')
 unfolding writes_nothing
@@ -307,7 +307,7 @@ at_refused law (answered named bytes status is says reads input ends) e = elim (
 pub at_write_fault : {F : Type 0} {form : Option F} {reads : Bool} {answer : List ℕ → Answer} {Says : List ℕ → Type 0} {source : SourceChange} {sink : SinkChange} {Unread Unwritten : Type 0} {status : Status} → IsCommand form reads answer → Outcome form reads answer Says source sink Unread Unwritten status → status ≡ WriteFault → Rose sink.faults sink.faults' × IsCutShort reads answer WriteFault source.left source.left' sink.held sink.held'
 unfolding writes_nothing
 at_write_fault law (stopped status why sink_same writes) e = absurd (not_stopped why refl e)
-at_write_fault law (answered named bytes status is says reads input ends) e = elim (whole_or_short ends) [ inl w ↦ absurd (not_write_fault (law.given bytes) (w.status_is ∙ e)) | inr w ↦ (w.rose, answered-short _ _ bytes _ WriteFault _ _ _ (input_of _ _ _ _ input) w e) ]
+at_write_fault law (answered named bytes status is says reads input ends) e = elim (whole_or_short ends) [ inl w ↦ absurd (not_write_fault (law.given named is bytes) (w.status_is ∙ e)) | inr w ↦ (w.rose, answered-short _ _ bytes _ WriteFault _ _ _ (input_of _ _ _ _ input) w e) ]
 
 pub at_write_count : {F : Type 0} {form : Option F} {reads : Bool} {answer : List ℕ → Answer} {Says : List ℕ → Type 0} {source : SourceChange} {sink : SinkChange} {Unread Unwritten : Type 0} {status : Status} → IsCommand form reads answer → Outcome form reads answer Says source sink Unread Unwritten status → sink.faults ≤ sink.faults'
 at_write_count law (stopped status why sink_same writes) = omega arith
@@ -321,7 +321,7 @@ fault_is declined e = absurd (e refl)
 
 pub at_write_well : {F : Type 0} {form : Option F} {reads : Bool} {answer : List ℕ → Answer} {Says : List ℕ → Type 0} {source : SourceChange} {sink : SinkChange} {Unread Unwritten : Type 0} {status : Status} → IsCommand form reads answer → Outcome form reads answer Says source sink Unread Unwritten status → status ≢ WriteFault → status ≢ Refused → sink.faults' ≡ sink.faults
 at_write_well law (stopped status why sink_same writes) e f = writes
-at_write_well law (answered named bytes status is says reads input ends) e f = elim (whole_or_short ends) [ inl w ↦ w.same | inr w ↦ absurd (f (sym w.status_is ∙ fault_is (law.given bytes) (λ same. e (sym w.status_is ∙ same)))) ]
+at_write_well law (answered named bytes status is says reads input ends) e f = elim (whole_or_short ends) [ inl w ↦ w.same | inr w ↦ absurd (f (sym w.status_is ∙ fault_is (law.given named is bytes) (λ same. e (sym w.status_is ∙ same)))) ]
 
 pub at_answers : {F : Type 0} {form : Option F} {reads : Bool} {answer : List ℕ → Answer} {Says : List ℕ → Type 0} {source : SourceChange} {sink : SinkChange} {Unread Unwritten : Type 0} {status : Status} → IsCommand form reads answer → Outcome form reads answer Says source sink Unread Unwritten status → (bytes : List ℕ) → HasInput reads source.left bytes → length bytes ≤ 1048576 → form ≢ None → (Rose source.faults source.faults' → ⊥) → (Rose sink.faults sink.faults' → ⊥) → (status ≡ Memory) ⊎ IsAnswer (answer bytes) status sink.held sink.held'
 at_answers law (stopped status why sink_same writes) all told fits some well taken = inl (stops-few why all told fits some well)

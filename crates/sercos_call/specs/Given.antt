@@ -16,7 +16,7 @@ abbrev pub given_text : Given → List ℕ
 given_text (Reply reply) = reply.text.items
 given_text (Refusal bad) = line_of bad
 
--- want of memory is no refusal
+-- `Memory` is no refusal
 abbrev pub IsWritable : Given → Type 0
 IsWritable (Reply reply) = Unit {0}
 IsWritable (Refusal bad) = bad ≢ Memory

@@ -1,3 +1,4 @@
 pub mod Given
 pub mod TopCall
 pub mod Outcome
+pub mod Giving

@@ -67,4 +67,4 @@ pub data Outcome {F : Type 0} (form : Option F) (reads : Bool) (answer : List �
 pub record IsCommand {F : Type 0} (form : Option F) (reads : Bool) (answer : List ℕ → Answer) : Type 0 where
   pub none : form ≡ None → reads ≡ false
   pub one : (named : F) → form ≡ Some named → reads ≡ false → (a b : List ℕ) → answer a ≡ answer b
-  pub given : (bytes : List ℕ) → IsGiven (answer bytes).status
+  pub given : (named : F) → form ≡ Some named → (bytes : List ℕ) → IsGiven (answer bytes).status

@@ -1,8 +1,9 @@
 // What a command gives to the sink.
-ghost use Rattle.std.specs.Prelude.{◌≡◌, ◌≢◌, ◌⊎◌, MatchResult};
+ghost use Rattle.std.specs.Prelude.{◌≡◌, ◌≢◌, ◌⊎◌, IfOk, MatchResult};
 ghost use Rattle.sercos_call.specs.Given.{IsWritable, given_status, given_text};
 ghost use Rattle.sercos_document.specs.Lines.{line_of};
-ghost use Rattle.sercos_call.specs.Outcome.{Writes, changed};
+ghost use Rattle.sercos_call.specs.Giving.{GivesReply};
+ghost use Rattle.sercos_call.specs.Outcome.{GivesMade, Writes, changed};
 ghost use Rattle.sercos_call.specs.TopCall.{fault_status};
 
 use sercos_answer::Reply;
@@ -17,7 +18,7 @@ pub enum Given {
     Refusal(BadDocument),
 }
 
-/// The refusal of a document is given to the sink; want of memory is not.
+/// The refusal of a document is given to the sink; `Memory` is not.
 pub fn refused(bad: BadDocument) -> Result<Given, AllocError>
     ensures { MatchResult result
         (λ given. (given ≡ Given.Refusal bad) × (bad ≢ BadDocument.Memory))
@@ -51,6 +52,16 @@ fn give_reply<K: Sink>(reply: &Reply, sink: &mut K) -> Status
     }
 }
 
+/// Writes a reply, if memory was found for it.
+pub fn give_if_made<K: Sink>(made: &Result<Reply, AllocError>, sink: &mut K) -> Status
+    ensures { GivesReply made.now (changed K.held K.faults K.room sink.old sink.new) (sink.new ≡ sink.old) result }
+{
+    match made {
+        Ok(reply) => give_reply(reply, sink),
+        Err(_) => Status::Memory,
+    }
+}
+
 // Writes the refusal of a document.
 fn give_refusal<K: Sink>(bad: &BadDocument, sink: &mut K) -> Status
     requires { bad.now ≢ BadDocument.Memory }
@@ -63,7 +74,7 @@ fn give_refusal<K: Sink>(bad: &BadDocument, sink: &mut K) -> Status
     }
 }
 
-/// Writes the refusal of a document; if that is want of memory, nothing is written.
+/// Writes the refusal of a document; if that is `Memory`, nothing is written.
 pub fn refuse<K: Sink>(bad: &BadDocument, sink: &mut K) -> Status
     ensures { ((bad.now ≡ BadDocument.Memory) × (result ≡ Status.Memory) × (sink.new ≡ sink.old))
         ⊎ ((bad.now ≢ BadDocument.Memory) × Writes Status.Refused (line_of bad.now) (changed K.held K.faults K.room sink.old sink.new) result) }
@@ -74,8 +85,8 @@ pub fn refuse<K: Sink>(bad: &BadDocument, sink: &mut K) -> Status
     give_refusal(bad, sink)
 }
 
-/// Writes what a command gives, and answers its status, or that of a failed write.
-pub fn give<K: Sink>(given: &Given, sink: &mut K) -> Status
+// Writes what a command gives, and answers its status, or that of a failed write.
+fn give<K: Sink>(given: &Given, sink: &mut K) -> Status
     requires { IsWritable given.now }
     ensures { Writes (given_status given.now) (given_text given.now)
         (changed K.held K.faults K.room sink.old sink.new) result }
@@ -83,5 +94,16 @@ pub fn give<K: Sink>(given: &Given, sink: &mut K) -> Status
     match given {
         Given::Reply(reply) => give_reply(reply, sink),
         Given::Refusal(bad) => give_refusal(bad, sink),
+    }
+}
+
+/// Writes what a command gives, if memory was found for it.
+pub fn give_made<K: Sink>(made: &Result<Given, AllocError>, sink: &mut K) -> Status
+    requires { IfOk made.now IsWritable }
+    ensures { GivesMade made.now (changed K.held K.faults K.room sink.old sink.new) (sink.new ≡ sink.old) result }
+{
+    match made {
+        Ok(given) => give(given, sink),
+        Err(_) => Status::Memory,
     }
 }

@@ -3,4 +3,4 @@
 
 mod given;
 
-pub use given::{Given, fault_status, give, refuse, refused};
+pub use given::{Given, fault_status, give_if_made, give_made, refuse, refused};

@@ -1,12 +1,10 @@
 -- The head of a trace passes a check of captures, and spells the wishes.
-use Rattle.std.proofs.Common.{◌≡◌, ◌≢◌, ℕ, zero, suc, ◌+◌, ◌-◌, ◌<◌, ◌≤◌, ◌==◌, false, List, [], ◌∷◌, ◌++◌, length, map, slice_index_or, refl, sym, ◌∙◌, ap, subst, arith, append_assoc, append-nil}
-use Rattle.std.specs.Prelude.{slice_index}
-use Rattle.std.specs.List.{All, flat_map, position_or_len}
-use Rattle.std.proofs.lemmas.Bool.{eq-eqb, ne_eqb}
+use Rattle.std.proofs.Common.{◌≡◌, ℕ, suc, ◌-◌, ◌<◌, ◌≤◌, ◌==◌, false, List, [], ◌∷◌, ◌++◌, length, map, refl, sym, ◌∙◌, ap, subst, arith, append_assoc, append-nil}
+use Rattle.std.specs.List.{All, flat_map}
 use Rattle.std.proofs.lemmas.Bool.Decides.{nat_tests}
 use Rattle.std.proofs.lemmas.List.Elements.{All-head, All-tail}
 use Rattle.sercos_timing.specs.declared.wishes.Wish.{Wish}
-use Rattle.sercos_timing.specs.Order.{wish, no_wish}
+use Rattle.sercos_timing.specs.Order.{wish}
 use Rattle.sercos_timing.specs.Valid.{IsValid, AreDistinct, AreBelow, addresses}
 use Rattle.sercos_timing.specs.Views.{WishesView}
 use Rattle.sercos_text.specs.Lists.{AreItems, IsItem}
@@ -26,6 +24,7 @@ use Rattle.sercos_check.specs.Tests.{TellsFollowing}
 use Rattle.sercos_check.specs.Verdicts.{told}
 use Rattle.sercos_clean.proofs.PassLemmas.{Goes, Leads, leads_none, leads_both, with_passes, of_passes}
 use Rattle.sercos_clean.proofs.LineLeads.{Stands}
+use Rattle.sercos_slots.proofs.SendingLemmas.{place_by}
 
 -- The numbers of the head fit their fields.
 pub record FitsDrive (d : Wish) : Type 0 where
@@ -64,25 +63,9 @@ unfolding template_of AreOf IsPart IsOf field_of part_left
 order_fits = (tt, (tt, (tt, (tt, (tt, tt)))))
 
 -- the places of the addresses
-address_of : (ds : List Wish) (k : ℕ) → k < length ds → slice_index (addresses ds) k ≡ (slice_index_or ds k no_wish).address
-address_of [] k in' = absurd (omega arith)
-address_of (d ∷ ds) zero in' = refl
-address_of (d ∷ ds) (suc k) in' = address_of ds k (omega arith)
-
 length_addresses : (ds : List Wish) → length (addresses ds) ≡ length ds
 length_addresses [] = refl
 length_addresses (d ∷ ds) = ap suc (length_addresses ds)
-
-place_by : (ds : List Wish) (k : ℕ) → AreDistinct (addresses ds) → k < length ds → position_or_len (λ (d : Wish). d.address == (slice_index_or ds k no_wish).address) ds ≡ k
-place_by [] k apart in' = absurd (omega arith)
-place_by (d ∷ ds) zero apart in' = rw (eq-eqb d.address d.address refl) refl
-place_by (d ∷ ds) (suc k) apart in' =
-    let count = length_addresses ds in
-    let other : d.address ≢ (slice_index_or ds k no_wish).address =
-    λ e. apart 0 (suc k) (omega arith) (omega arith) (e ∙ sym (address_of ds k (omega arith))) in
-    let rest = place_by ds k (λ i j less below. apart (suc i) (suc j) (omega arith) (omega arith)) (omega arith) in
-    let next : 1 + k ≡ suc k = omega arith in
-    rw (ne_eqb d.address (slice_index_or ds k no_wish).address other, rest) next
 
 places_back : (w : WishesView) (order : List ℕ) → AreDistinct (addresses w.drives) → AreBelow order (length w.drives) → places w.drives (map (address_at w) order) ≡ order
 places_back w [] apart below = refl

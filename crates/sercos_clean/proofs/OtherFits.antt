@@ -1,16 +1,11 @@
 -- The numbers of moves, plans, falls and totals fit the fields of their lines.
-use Rattle.std.proofs.Common.{◌≡◌, ℕ, zero, suc, ◌+◌, ◌*◌, ◌<◌, ◌≤◌, ◌==◌, nat_le, nat_lt, Bool, true, false, cond, not, ◌&&◌, List, [], ◌∷◌, ◌++◌, length, reverse, Option, Some, None, IfSome, is_some, is_none, slice_index_or, refl, sym, ◌∙◌, ap, subst, arith, if◌then◌else◌}
+use Rattle.std.proofs.Common.{◌≡◌, ℕ, zero, suc, ◌+◌, ◌*◌, ◌<◌, ◌≤◌, ◌==◌, nat_lt, Bool, true, false, List, [], ◌∷◌, ◌++◌, length, reverse, Option, Some, None, is_some, slice_index_or, refl, sym, ◌∙◌, ap, subst, arith, if◌then◌else◌}
 use Rattle.std.specs.Prelude.{slice_index}
-use Rattle.std.specs.Bool.{then_some}
 use Rattle.std.specs.List.{All}
 use Rattle.std.specs.Option.{option_or}
-use Rattle.std.proofs.lemmas.Bool.Decides.{nat_tests}
 use Rattle.std.proofs.lemmas.Grind.{reverse_onto}
 use Rattle.std.proofs.lemmas.List.Elements.{All-nil, All-cons, All-head, All-tail, All-append}
 use Rattle.std.proofs.lemmas.List.Sums.{length-filter, count_by-le-length}
-use Rattle.sercos_telegram.specs.declared.layout.Layout.{Layout}
-use Rattle.sercos_telegram.specs.declared.layout.Layout.TheVariants.{BadField}
-use Rattle.sercos_telegram.specs.Faults.{head_fault, mst_fault}
 use Rattle.sercos_timing.specs.Order.{wish}
 use Rattle.sercos_timing.specs.Valid.{IsValid}
 use Rattle.sercos_timing.specs.Views.{WishesView, PlanView}
@@ -20,9 +15,8 @@ use Rattle.sercos_block.specs.Rings.{wishes_of}
 use Rattle.sercos_block.specs.Views.{DriveView, RingView}
 use Rattle.sercos_text.specs.Templates.Value.{number as counted}
 use Rattle.sercos_text.specs.Templates.{field_of, AreOf, IsPart, IsOf, part_left}
-use Rattle.sercos_drive.specs.Heard.{DriveCall, Mst, Mdt, Restart, mst_in, mst_got, mdt_got}
-use Rattle.sercos_drive.specs.Moments.{Moment, phase_in, has_mst, has_missed, blocks_in}
-use Rattle.sercos_drive.specs.Annals.{has_passed, stands_in, takes, annals, phase_at}
+use Rattle.sercos_drive.specs.Heard.{DriveCall}
+use Rattle.sercos_drive.specs.Annals.{phase_at}
 use Rattle.sercos_trace.specs.declared.kind.LineKind.TheVariants as kind
 use Rattle.sercos_trace.specs.declared.record.Move.{Move}
 use Rattle.sercos_trace.specs.declared.record.Totals.{Totals}
@@ -48,37 +42,7 @@ use Rattle.sercos_clean.specs.Fields.{FitsMove, FitsPlan, FitsFall, FitsCycle, F
 use Rattle.sercos_clean.specs.Traces.{RunsFitOthers}
 use Rattle.sercos_clean.proofs.RunRules.{low}
 use Rattle.sercos_clean.proofs.TraceClean.{valid}
-
--- NO PHASE is above 4.
-mst_below : (content : List ℕ) → IfSome (mst_in content) (λ p. p ≤ 4)
-unfolding mst_in mst_fault
-mst_below content = by (head_fault 2 255 content) (nat_lt 4 (slice_index content 1)) refl
-  where
-    by : (head : Option Layout) (above : Bool) → nat_lt 4 (slice_index content 1) ≡ above
-        → IfSome (cond (is_none (option_or head (then_some above (BadField 1)))) (Some (slice_index content 1)) None) (λ p. p ≤ 4)
-    by None false e = grind (arith, nat_tests)
-    by None true e = tt
-    by (Some fault) above e = tt
-
-got_below : (content : Option (List ℕ)) → IfSome (mst_got content) (λ p. p ≤ 4)
-got_below None = tt
-got_below (Some content) = mst_below content
-
-either_below : (b : Bool) (p q : ℕ) → p ≤ 4 → q ≤ 4 → cond b p q ≤ 4
-either_below true p q one other = one
-either_below false p q one other = other
-
-stands_below : (d : DriveView) (rate cycle : ℕ) (got : Option ℕ) (past : List Moment) → IfSome got (λ p. p ≤ 4) → phase_in past ≤ 4 → stands_in d rate cycle got past ≤ 4
-stands_below d rate cycle None past got below = either_below (has_mst past) (phase_in past) 0 below (omega arith)
-stands_below d rate cycle (Some phase) past got below =
-    either_below (phase == phase_in past) phase _ got (either_below ((phase == phase_in past + 1) && has_passed d rate cycle phase past) phase 0 got (omega arith))
-
-phase_below : (d : DriveView) (rate : ℕ) (h : List DriveCall) → phase_at d rate h ≤ 4
-phase_below d rate [] = omega arith
-phase_below d rate (Mst cycle content ∷ h) = stands_below d rate cycle (mst_got content) (annals d rate h) (got_below content) (phase_below d rate h)
-phase_below d rate (Mdt content ∷ h) = let told = mdt_got d.address (phase_in (annals d rate h)) (blocks_in d (annals d rate h)) content in
-    either_below (nat_le 3 (phase_in (annals d rate h)) && (not (takes told (annals d rate h)) && has_missed (annals d rate h))) 0 (phase_in (annals d rate h)) (omega arith) (phase_below d rate h)
-phase_below d rate (Restart ∷ h) = omega arith
+use Rattle.sercos_drive.proofs.RecordLemmas.{phase_below}
 
 -- MOVES
 move_fits : (cycle : ℕ) (m : Move) → cycle ≤ 4294967295 → m.drive ≤ 255 → m.phase ≤ 255 → FitsMove cycle m

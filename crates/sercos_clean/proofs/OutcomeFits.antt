@@ -46,6 +46,7 @@ use Rattle.sercos_typed.proofs.Words.{AreWords, word_of, words_append, bytes_of_
 use Rattle.sercos_held.proofs.Runs.{Laws}
 use Rattle.sercos_headline.proofs.HeadlineRuns.{MoreLaws}
 use Rattle.sercos_clean.specs.Fields.{FitsEnded}
+use Rattle.sercos_typed.proofs.Records.{words_drop}
 
 -- WHAT THE MASTER HEARS are bytes, whatever the links make of what is sent.
 heard_bytes : (carry : Carry) (p : Passage) (content got : List ℕ) → heard carry p content ≡ Some got → AreBytes got
@@ -183,11 +184,6 @@ all_words : (answers : List Answer) → AreWordsOf answers → AreWords (answer_
 all_words [] are = tt
 all_words (a ∷ answers) are = words_append (answer_words answers) (a.word ∷ []) (all_words answers are.1) (are.0, tt)
 
-drop_words : (n : ℕ) (words : List ℕ) → AreWords words → AreWords (drop n words)
-drop_words zero words are = are
-drop_words (suc n) [] are = tt
-drop_words (suc n) (w ∷ words) are = drop_words n words are.1
-
 bytes_long : (words : List ℕ) → length (bytes_in words) ≡ 2 * length words
 bytes_long [] = refl
 bytes_long (w ∷ words) = let rest = bytes_long words in omega (arith, rest)
@@ -213,9 +209,9 @@ result_fits (request.Read idn e) words are count = by (shape_of e (attribute_rea
     n = steps_before e
 
     by : (s : Shape) → length words ≡ steps_before e + words_in s (slice_index words (steps_before e)) → AreBytes (bytes_read s (drop (steps_before e) words)) × (length (bytes_read s (drop (steps_before e) words)) ≤ 1024)
-    by shape.One count = let long = length-drop (steps_before e) words in let all = bytes_long (drop (steps_before e) words) in (bytes_of_words (drop (steps_before e) words) (drop_words (steps_before e) words are), omega (arith, long, all, count))
-    by shape.Two count = let long = length-drop (steps_before e) words in let all = bytes_long (drop (steps_before e) words) in (bytes_of_words (drop (steps_before e) words) (drop_words (steps_before e) words are), omega (arith, long, all, count))
-    by shape.List count = list_fits (drop (steps_before e) words) (drop_words (steps_before e) words are)
+    by shape.One count = let long = length-drop (steps_before e) words in let all = bytes_long (drop (steps_before e) words) in (bytes_of_words (drop (steps_before e) words) (words_drop (steps_before e) words are), omega (arith, long, all, count))
+    by shape.Two count = let long = length-drop (steps_before e) words in let all = bytes_long (drop (steps_before e) words) in (bytes_of_words (drop (steps_before e) words) (words_drop (steps_before e) words are), omega (arith, long, all, count))
+    by shape.List count = list_fits (drop (steps_before e) words) (words_drop (steps_before e) words are)
 result_fits (request.Write idn e bytes) words are count = no_bytes
 result_fits (request.Command idn) words are count = (bytes_of_words (slice_index words (length words - 2) ∷ []) (word_of words (length words - 2) are, tt), omega arith)
 

@@ -1,5 +1,5 @@
 -- What drives and master send in each phase.
-use Rattle.std.proofs.Common.{◌≡◌, ℕ, zero, suc, ◌+◌, ◌<◌, ◌≤◌, ◌==◌, nat_le, Bool, true, false, not, ◌&&◌, ◌||◌, if◌then◌else◌, List, [], ◌∷◌, length, Option, Some, None, option_map, unwrap_or, refl, ◌∙◌, ap, subst, arith}
+use Rattle.std.proofs.Common.{◌≡◌, ℕ, zero, suc, ◌+◌, ◌<◌, ◌≤◌, ◌==◌, nat_le, Bool, true, false, not, if◌then◌else◌, List, [], ◌∷◌, length, Option, Some, None, option_map, unwrap_or, refl, ◌∙◌, ap, subst, arith}
 use Rattle.std.specs.Prelude.{slice_index}
 use Rattle.std.proofs.lemmas.Bool.Decides.{nat_tests}
 use Rattle.sercos_telegram.specs.Spells.{fields}
@@ -19,6 +19,7 @@ use Rattle.sercos_views.proofs.Members.{member_is}
 use Rattle.sercos_check.specs.Seen.{is_drive}
 use Rattle.sercos_clean.proofs.SaidLemmas.{drive_there}
 use Rattle.sercos_clean.proofs.EarlyRules.{IsEarlyAt, IsEarlyMdt, IsEarlyIf}
+use Rattle.sercos_views.proofs.Coupled.{sends_so}
 
 -- WHAT A DRIVE SENDS
 pub record Sends (d : DriveView) (past : List Moment) (s : Said) : Type 0 where
@@ -28,11 +29,6 @@ pub record Sends (d : DriveView) (past : List Moment) (s : Said) : Type 0 where
   pub word : ℕ
   pub info : ℕ
   pub content : s.content ≡ d.address ∷ fields word info (values_in (cycle_in past) (phase_in past) (blocks_in d past))
-
-sends_so : (got took : Bool) (phase : ℕ) → (got && (nat_le 3 phase || (nat_le 1 phase && took))) ≡ true → (got ≡ true) × (1 ≤ phase)
-sends_so true true phase sent = (refl, grind (arith, nat_tests, sent))
-sends_so true false phase sent = (refl, grind (arith, nat_tests, sent))
-sends_so false took phase sent = cc
 
 pub sent_by : (d : DriveView) (rate : ℕ) (past : List Moment) (s : Said) → said_in d rate past ≡ Some s → Sends d past s
 sent_by d rate past s is = by (sends past) refl is

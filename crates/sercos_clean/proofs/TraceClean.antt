@@ -46,6 +46,7 @@ use Rattle.sercos_clean.proofs.LineLeads.{Stands, journal_leads, end_leads}
 use Rattle.sercos_clean.proofs.HeadLeads.{FitsDrive, FitsHead, header_leads}
 use Rattle.sercos_clean.proofs.RunRules.{runs_keep_rules, cycle_low}
 use Rattle.sercos_clean.proofs.FitRuns.{runs_fit_lines}
+use Rattle.sercos_held.proofs.Agreed.{wishes_count}
 
 -- THE VERDICT
 ended : (lines : List Line) → has_head lines ≡ true → capture_fault lines [] ≡ None
@@ -148,14 +149,6 @@ slave_low before (d ∷ drives) (suc k) are below = slave_low (before ++ d ∷ [
 all_wishes : (drives : List DriveView) → ((k : ℕ) → k < length drives → FitsDrive (wish_of (slice_index_or drives k no_drive))) → All FitsDrive (map wish_of drives)
 all_wishes [] each = All-nil FitsDrive
 all_wishes (d ∷ drives) each = All-cons FitsDrive (wish_of d) (map wish_of drives) (each 0 (omega arith)) (all_wishes drives (λ k low. each (suc k) (omega (arith, low))))
-
-wishes_count : (r : RingView) → length (wishes_of r).drives ≡ length r.drives
-unfolding wishes_of
-wishes_count r = by r.drives
-  where
-    by : (drives : List DriveView) → length (map wish_of drives) ≡ length drives
-    by [] = refl
-    by (d ∷ drives) = ap suc (by drives)
 
 module _ (laws : Laws) (more : MoreLaws) (r : RingView) (jobs : List Job) (opened : IsOpened r jobs) where
   pub valid : IsValid (wishes_of r)

@@ -1,4 +1,4 @@
 mod DriveLemmas
 mod FeedbackLemmas
-mod RecordLemmas
+pub mod RecordLemmas
 pub mod Worked

@@ -16,7 +16,7 @@ use Rattle.sercos_drive.specs.Moments.{Moment, AtMdt, phase_in, cycle_in, has_ms
 use Rattle.sercos_drive.specs.Annals.{has_passed, stands_in, takes, ends_in, after_mdt, annals, phase_at}
 use Rattle.sercos_drive.specs.Laws.{WereHanded}
 
-mst_below : (content : List ℕ) → IfSome (mst_in content) (λ p. p ≤ 4)
+pub mst_below : (content : List ℕ) → IfSome (mst_in content) (λ p. p ≤ 4)
 unfolding mst_in mst_fault
 mst_below content = by (head_fault 2 255 content) (nat_lt 4 (slice_index content 1)) refl
   where
@@ -34,7 +34,7 @@ either_below : (b : Bool) (p q : ℕ) → p ≤ 4 → q ≤ 4 → cond b p q ≤
 either_below true p q one other = one
 either_below false p q one other = other
 
-stands_below : (d : DriveView) (rate cycle : ℕ) (got : Option ℕ) (past : List Moment) → IfSome got (λ p. p ≤ 4) → phase_in past ≤ 4 → stands_in d rate cycle got past ≤ 4
+pub stands_below : (d : DriveView) (rate cycle : ℕ) (got : Option ℕ) (past : List Moment) → IfSome got (λ p. p ≤ 4) → phase_in past ≤ 4 → stands_in d rate cycle got past ≤ 4
 stands_below d rate cycle None past got below = either_below (has_mst past) (phase_in past) 0 below (omega arith)
 stands_below d rate cycle (Some phase) past got below =
     either_below (phase == phase_in past) phase _ got (either_below ((phase == phase_in past + 1) && has_passed d rate cycle phase past) phase 0 got (omega arith))

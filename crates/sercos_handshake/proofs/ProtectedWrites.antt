@@ -71,7 +71,7 @@ adds_bare t log w blocks b is alike found = by (t.step.write && ((t.step.element
         let none = no_cause (write_cause_in (find_block w.raw t.blocks) t.phase t.step.last words) (ap (λ (a : Answer). a.error) (sym (reply-word t log w.raw parts.0 more.0 opened)) ∙ well) in
         bare_in (find_block w.raw t.blocks) t.phase t.step.last words b (find-alike w.raw t.blocks blocks b alike found) none
 
-added_bare : (t : Taken) (h : List Taken) (w : Write) (blocks : List Block) (b : Block) → added_on t h ≡ Some w → AreAlike t.blocks blocks → find_block w.raw blocks ≡ Some b → is_protected b.attribute t.phase ≡ false
+pub added_bare : (t : Taken) (h : List Taken) (w : Write) (blocks : List Block) (b : Block) → added_on t h ≡ Some w → AreAlike t.blocks blocks → find_block w.raw blocks ≡ Some b → is_protected b.attribute t.phase ≡ false
 added_bare t h w blocks b is alike found = by (beq t.mhs (ahs h)) is
   where
     by : (v : Bool) → (if v then None else adds t (log_of h)) ≡ Some w → is_protected b.attribute t.phase ≡ false

@@ -125,13 +125,13 @@ holds_newest blocks past raw b plain found =
 
 -- The newest write.
 
-elsewhere : (raw : ℕ) (own others : List Write) → list_all (λ (g : Given). not (g.raw == raw)) (map given_of own) ≡ true → newest_to raw (own ++ others) ≡ newest_to raw others
+pub elsewhere : (raw : ℕ) (own others : List Write) → list_all (λ (g : Given). not (g.raw == raw)) (map given_of own) ≡ true → newest_to raw (own ++ others) ≡ newest_to raw others
 elsewhere raw [] others all = refl
 elsewhere raw (w ∷ own) others all =
     let parts = and_parts (not (w.raw == raw)) _ all in
     cond-false (w.raw == raw) _ _ (not-true (w.raw == raw) parts.0) ∙ elsewhere raw own others parts.1
 
-all-drop : (raw later : ℕ) (given : List Given) → list_all (λ (g : Given). not (g.raw == raw)) given ≡ true → list_all (λ (g : Given). not (g.raw == raw)) (drop later given) ≡ true
+pub all-drop : (raw later : ℕ) (given : List Given) → list_all (λ (g : Given). not (g.raw == raw)) given ≡ true → list_all (λ (g : Given). not (g.raw == raw)) (drop later given) ≡ true
 all-drop raw zero given all = all
 all-drop raw (suc later) [] all = refl
 all-drop raw (suc later) (g ∷ given) all = all-drop raw later given (and_parts (not (g.raw == raw)) _ all).1
@@ -141,7 +141,7 @@ own_elsewhere raw blocks b own (Complete bytes complete is) all = ap (list_all (
 own_elsewhere raw blocks b own (Refused code refused none) all = ap (λ (l : List Write). list_all (λ (g : Given). not (g.raw == raw)) (map given_of l)) none
 own_elsewhere raw blocks b own (Broken later on is) all = ap (list_all (λ (g : Given). not (g.raw == raw))) is ∙ all-drop raw later (given_by blocks b.request) all
 
-own_one : (raw : ℕ) (x : List ℕ) (own others : List Write) → map given_of own ≡ gives raw x ∷ [] → newest_to raw (own ++ others) ≡ Some x
+pub own_one : (raw : ℕ) (x : List ℕ) (own others : List Write) → map given_of own ≡ gives raw x ∷ [] → newest_to raw (own ++ others) ≡ Some x
 own_one raw x [] others is = absurd (cc)
 own_one raw x (w ∷ own) others is =
     let same : given_of w ≡ gives raw x = cc in

@@ -1,39 +1,36 @@
 -- In a cycle commanded 3 or 4 the telegrams are apart.
-use Rattle.std.proofs.Common.{◌≡◌, ◌⊎◌, inl, inr, ℕ, zero, suc, ◌+◌, ◌*◌, ◌<◌, ◌≤◌, Bool, true, false, List, [], ◌∷◌, ◌++◌, map, length, Option, Some, None, refl, sym, ◌∙◌, ap, ap₂, subst, arith, if◌then◌else◌}
-use Rattle.std.specs.Prelude.{◌==◌, nat_le, slice_index, slice_index_or, slice_get, pos, option_map}
-use Rattle.std.specs.List.{concat}
+use Rattle.std.proofs.Common.{◌≡◌, ◌⊎◌, inl, inr, ℕ, ◌+◌, ◌*◌, ◌<◌, ◌≤◌, Bool, true, false, List, [], ◌∷◌, ◌++◌, map, length, Option, Some, refl, sym, ◌∙◌, ap, ap₂, subst, arith, if◌then◌else◌}
+use Rattle.std.specs.Prelude.{◌==◌, nat_le, slice_index, pos}
 use Rattle.std.proofs.lemmas.Bool.Decides.{nat_tests}
 use Rattle.sercos_model.specs.Frames.{wire_bits}
 use Rattle.sercos_hdlc.specs.Stuffed.{frame_of}
 use Rattle.sercos_telegram.specs.declared.layout.Kind.TheVariants as kinds
-use Rattle.sercos_telegram.specs.Spells.{all_drives, fields}
+use Rattle.sercos_telegram.specs.Spells.{all_drives}
 use Rattle.sercos_step.specs.declared.request.Job.{Job}
 use Rattle.sercos_timing.specs.Views.{WishesView, PlanView}
-use Rattle.sercos_timing.specs.Order.{wish, record_bytes}
+use Rattle.sercos_timing.specs.Order.{record_bytes}
 use Rattle.sercos_timing.specs.declared.wishes.Wish.{Wish}
-use Rattle.sercos_block.specs.declared.block.Block.{Block}
-use Rattle.sercos_block.specs.Rings.{is_ring, wishes_of, wish_of, record_len}
+use Rattle.sercos_block.specs.Rings.{wishes_of, wish_of, record_len}
 use Rattle.sercos_block.specs.Stores.{IsStore, store_of}
 use Rattle.sercos_block.specs.Views.{DriveView, RingView}
 use Rattle.sercos_command.specs.Checks.{number_at, carried_len}
-use Rattle.sercos_drive.specs.Heard.{DriveCall}
-use Rattle.sercos_drive.specs.Moments.{Moment, phase_in, cycle_in, blocks_in}
-use Rattle.sercos_drive.specs.Says.{Said, values_in, start_in}
+use Rattle.sercos_drive.specs.Moments.{phase_in, cycle_in, blocks_in}
+use Rattle.sercos_drive.specs.Says.{Said, values_in}
 use Rattle.sercos_trace.specs.Views.{SentView, CycleView}
 use Rattle.sercos_slots.specs.Slots.{AtSlot, MdtSlot}
 use Rattle.sercos_slots.specs.Sending.{IsSending, IsApart}
 use Rattle.sercos_slots.proofs.Places.{length_records}
-use Rattle.sercos_seat.specs.Ring.{Known, known_of, IsKnown}
+use Rattle.sercos_seat.specs.Ring.{Known, known_of}
 use Rattle.sercos_seat.proofs.Sends.{fields_length}
 use Rattle.sercos_startup.specs.StartUp.{IsStoreOf, start_up, Holds}
 use Rattle.sercos_startup.specs.RingSlots.{held_by, AreSent, AllHold, RingSendsApart}
 use Rattle.sercos_startup.proofs.CheckPasses.{wish_is}
-use Rattle.sercos_master.specs.Annals.{Past, outcomes}
+use Rattle.sercos_master.specs.Annals.{Past}
 use Rattle.sercos_master.specs.Says.{Sent, records_from, joint, mdt_said}
 use Rattle.sercos_script.specs.Links.{Carry, Restarts}
-use Rattle.sercos_handshake.specs.Views.{View, standing, stood_in}
+use Rattle.sercos_handshake.specs.Views.{standing, stood_in}
 use Rattle.sercos_handshake.specs.RunLaws.{StandsAsCommanded}
-use Rattle.sercos_journal.specs.Runs.{drive_at, given_mst, sent_mdt, ats_said, said_below, mst_next, ats_next, mdt_next, IsNext}
+use Rattle.sercos_journal.specs.Runs.{drive_at, given_mst, sent_mdt, ats_said, mst_next, ats_next, mdt_next, IsNext}
 use Rattle.sercos_views.specs.RingViews.{at_start, behind_mdt, after_mst, view_of, views_of}
 use Rattle.sercos_views.proofs.Members.{IsSaid, members_count}
 use Rattle.sercos_views.proofs.ViewRuns.{IsSpelled}
@@ -45,16 +42,9 @@ use Rattle.sercos_headline.specs.Cycles.{takes_part, store_in_cycle, AreApartIn}
 use Rattle.sercos_headline.proofs.Placed.{Placed, placed_below, placed_said, IsPlaced, are_placed, are_ordered}
 use Rattle.sercos_headline.proofs.AtLengths.{carried_length}
 use Rattle.sercos_headline.proofs.ApartRuns.{ends_at_0, slot_of, all_slots, slots_ordered, Sends, sent_by, ats_sent}
+use Rattle.sercos_held.proofs.Agreed.{wishes_count}
 
 -- the ring's wishes
-wishes_count : (r : RingView) → length (wishes_of r).drives ≡ length r.drives
-unfolding wishes_of
-wishes_count r = by r.drives
-  where
-    by : (drives : List DriveView) → length (map wish_of drives) ≡ length drives
-    by [] = refl
-    by (d ∷ drives) = ap suc (by drives)
-
 record_lengths : (r : RingView) → map (λ (w : Wish). w.record_len) (wishes_of r).drives ≡ map record_len r.drives
 unfolding wishes_of
 record_lengths r = by r.drives

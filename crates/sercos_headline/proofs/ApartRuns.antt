@@ -1,42 +1,25 @@
 -- In a cycle commanded 3 or 4 the telegrams are apart.
-use Rattle.std.proofs.Common.{◌≡◌, ◌⊎◌, inl, inr, ℕ, zero, suc, ◌+◌, ◌*◌, ◌<◌, ◌≤◌, Bool, true, false, ◌&&◌, ◌||◌, List, [], ◌∷◌, ◌++◌, map, length, Option, Some, None, refl, sym, ◌∙◌, ap, ap₂, subst, arith, if◌then◌else◌}
-use Rattle.std.specs.Prelude.{◌-◌, nat_le, nat_lt, slice_index, slice_index_or, slice_get, ℤ, pos, negsuc, ◌+ℤ◌, unwrap_or, option_map}
-use Rattle.std.specs.List.{All, AllPairs, concat}
-use Rattle.std.proofs.lemmas.Bool.{le-leb}
+use Rattle.std.proofs.Common.{◌≡◌, ◌⊎◌, inl, inr, ℕ, zero, suc, ◌*◌, ◌<◌, ◌≤◌, Bool, true, false, List, [], ◌∷◌, map, length, Option, Some, None, refl, ap, subst, arith, if◌then◌else◌}
+use Rattle.std.specs.Prelude.{◌-◌, nat_lt, slice_index, pos, ◌+ℤ◌, unwrap_or}
+use Rattle.std.specs.List.{All, AllPairs}
 use Rattle.std.proofs.lemmas.Bool.Decides.{nat_tests}
 use Rattle.std.proofs.lemmas.List.Elements.{All-nil, All-cons}
 use Rattle.std.proofs.lemmas.List.Kept.{AllPairs-cons}
-use Rattle.sercos_model.specs.Frames.{wire_bits}
 use Rattle.sercos_hdlc.specs.Stuffed.{frame_of}
-use Rattle.sercos_telegram.specs.declared.layout.Kind.TheVariants as kinds
-use Rattle.sercos_telegram.specs.Spells.{all_drives, fields}
-use Rattle.sercos_timing.specs.Views.{WishesView, PlanView}
+use Rattle.sercos_telegram.specs.Spells.{fields}
+use Rattle.sercos_timing.specs.Views.{WishesView}
 use Rattle.sercos_timing.specs.Order.{wish}
-use Rattle.sercos_timing.specs.declared.wishes.Wish.{Wish}
-use Rattle.sercos_timing.specs.Valid.{IsValid}
-use Rattle.sercos_timing.specs.Inequalities.{Fits}
-use Rattle.sercos_block.specs.declared.block.Block.{Block}
-use Rattle.sercos_block.specs.Rings.{is_ring, wishes_of, wish_of, record_len}
-use Rattle.sercos_block.specs.Stores.{IsStore}
-use Rattle.sercos_block.specs.Views.{DriveView, RingView}
-use Rattle.sercos_command.specs.Checks.{number_at, carried_len}
+use Rattle.sercos_block.specs.Views.{DriveView}
 use Rattle.sercos_drive.specs.Heard.{DriveCall}
 use Rattle.sercos_drive.specs.Moments.{Moment, phase_in, cycle_in, has_mst, has_taken, blocks_in, commands_in, taken_in}
-use Rattle.sercos_drive.specs.Annals.{annals}
-use Rattle.sercos_drive.specs.Says.{Said, said, said_in, sends, shown_word, values_in, start_in, drive_says}
+use Rattle.sercos_drive.specs.Says.{Said, said, said_in, sends, shown_word, values_in, start_in}
 use Rattle.sercos_service_drive.specs.Says.{Shown, drive_says as channel_says}
-use Rattle.sercos_trace.specs.Views.{SentView, CycleView}
-use Rattle.sercos_slots.specs.Slots.{AtSlot, MdtSlot}
+use Rattle.sercos_slots.specs.Slots.{AtSlot}
 use Rattle.sercos_slots.specs.OnPlan.{IsSentBefore}
-use Rattle.sercos_slots.specs.Sending.{IsAtOf, AreAtsOf, IsSending, IsApart}
-use Rattle.sercos_seat.specs.Ring.{Known, known_of}
-use Rattle.sercos_seat.proofs.Sends.{fields_length}
-use Rattle.sercos_startup.specs.StartUp.{IsStoreOf, start_up, Holds}
-use Rattle.sercos_startup.specs.RingSlots.{held_by, AreSent, AllHold, RingSendsApart}
-use Rattle.sercos_startup.proofs.CheckPasses.{wish_is}
-use Rattle.sercos_journal.specs.Runs.{drive_at, sent_at, sent_mst, sent_mdt, start_before, ats_said, said_below}
-use Rattle.sercos_headline.proofs.Placed.{Placed, placed_below, placed_said, IsPlaced, ArePlaced, are_placed, ComesBefore, AreBehind, AreOrdered, are_ordered}
-use Rattle.sercos_headline.proofs.AtLengths.{carried_length}
+use Rattle.sercos_slots.specs.Sending.{AreAtsOf}
+use Rattle.sercos_journal.specs.Runs.{start_before, ats_said}
+use Rattle.sercos_headline.proofs.Placed.{Placed, IsPlaced, ArePlaced, ComesBefore, AreBehind, AreOrdered}
+use Rattle.sercos_views.proofs.Coupled.{sends_so}
 
 -- an MST ends at 0
 pub ends_at_0 : (n : ℕ) → start_before n +ℤ pos n ≡ pos 0
@@ -79,11 +62,6 @@ pub record Sends (d : DriveView) (rate : ℕ) (past : List Moment) (s : Said) : 
   pub stands : 1 ≤ phase_in past
   pub start : s.start ≡ start_in (phase_in past) (blocks_in d past)
   pub content : (word info : ℕ) × (s.content ≡ d.address ∷ fields word info (values_in (cycle_in past) (phase_in past) (blocks_in d past)))
-
-sends_so : (got took : Bool) (phase : ℕ) → (got && (nat_le 3 phase || (nat_le 1 phase && took))) ≡ true → (got ≡ true) × (1 ≤ phase)
-sends_so true true phase sent = (refl, grind (arith, nat_tests, sent))
-sends_so true false phase sent = (refl, grind (arith, nat_tests, sent))
-sends_so false took phase sent = cc
 
 pub sent_by : (d : DriveView) (rate : ℕ) (past : List Moment) (s : Said) → said_in d rate past ≡ Some s → Sends d rate past s
 sent_by d rate past s is = by (sends past) refl is

@@ -1,9 +1,8 @@
 -- An AT is as long as the list in its drive's store says.
-use Rattle.std.proofs.Common.{◌≡◌, ℕ, zero, suc, ◌+◌, ◌*◌, ◌%◌, ◌≤◌, Bool, true, false, not, ◌&&◌, ◌||◌, List, [], ◌∷◌, ◌++◌, length, Option, Some, None, refl, sym, ◌∙◌, ap, ap₂, subst, arith, if◌then◌else◌, cond, length-append}
-use Rattle.std.specs.Prelude.{◌==◌, nat_le, is_some, option_and_then, unwrap_or}
-use Rattle.std.specs.List.{sum_by, flat_map, list_all}
-use Rattle.std.specs.Int.{to_le_bytes, w16, w32}
-use Rattle.std.proofs.lemmas.Bool.{and_parts}
+use Rattle.std.proofs.Common.{◌≡◌, ℕ, ◌+◌, ◌*◌, ◌%◌, Bool, true, false, not, ◌&&◌, List, [], ◌∷◌, length, Option, Some, None, refl, ◌∙◌, ap, arith, if◌then◌else◌, length-append}
+use Rattle.std.specs.Prelude.{◌==◌, nat_le, option_and_then, unwrap_or}
+use Rattle.std.specs.List.{sum_by, flat_map}
+use Rattle.std.specs.Int.{to_le_bytes}
 use Rattle.std.proofs.lemmas.Bool.Decides.{nat_tests}
 use Rattle.std.proofs.lemmas.List.Concat.{flat_map-cons}
 use Rattle.std.proofs.lemmas.List.Sums.{sum_by-cons}
@@ -15,10 +14,11 @@ use Rattle.sercos_block.specs.declared.block.Block.{Block}
 use Rattle.sercos_block.specs.Blocks.{is_number, width_of, bits_in, number_end, bytes_for}
 use Rattle.sercos_block.specs.Rings.{number_len}
 use Rattle.sercos_block.specs.Stores.{IsStore, find_block, is_sound, is_len}
-use Rattle.sercos_block.proofs.SoundLemmas.{SoundParts, SoundParts-is_sound}
+use Rattle.sercos_block.proofs.SoundLemmas.{SoundParts-is_sound}
 use Rattle.sercos_command.specs.Checks.{cyclic_len, carried_len, idns_at}
 use Rattle.sercos_service_drive.specs.Replies.{data_in}
 use Rattle.sercos_drive.specs.Says.{bytes_in_cycle, value_in, values_in}
+use Rattle.sercos_block.proofs.SoundLemmas.{found_sound}
 
 number_length : (l : Length) (n : ℕ) → is_list l ≡ false → length (to_le_bytes (width_of l) n) ≡ item_len l
 number_length Two n single = refl
@@ -38,14 +38,6 @@ data_length cycle b single is = by (b.step == 0)
     by : (still : Bool) → length (if still then b.value else bytes_for b.attribute ((bits_in b.attribute b.value + b.step * cycle) % number_end b.attribute.length)) ≡ item_len b.attribute.length
     by true = value_len (length b.value) b.max_len (item_len b.attribute.length) (is_list b.attribute.length) single is
     by false = number_length b.attribute.length _ single
-
-found_sound : (raw : ℕ) (blocks : List Block) (b : Block) → list_all is_sound blocks ≡ true → find_block raw blocks ≡ Some b → is_sound b ≡ true
-found_sound raw [] b all found = cc
-found_sound raw (c ∷ blocks) b all found = by (c.idn.raw == raw) found (λ rest. found_sound raw blocks b (and_parts (is_sound c) _ all).1 rest)
-  where
-    by : (t : Bool) → cond t (Some c) (find_block raw blocks) ≡ Some b → (find_block raw blocks ≡ Some b → is_sound b ≡ true) → is_sound b ≡ true
-    by true is more = let same : c ≡ b = cc in subst (λ (x : Block). is_sound x ≡ true) same (and_parts (is_sound c) _ all).0
-    by false is more = more is
 
 not_list : (a b : Bool) → (not a && b) ≡ true → a ≡ false
 not_list false b is = refl

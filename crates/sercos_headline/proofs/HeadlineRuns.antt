@@ -1,5 +1,5 @@
 -- The headline, by induction over the cycles of a run.
-use Rattle.std.proofs.Common.{◌≡◌, ◌⊎◌, inl, inr, ℕ, zero, suc, ◌+◌, ◌<◌, ◌≤◌, Bool, true, false, List, [], ◌∷◌, ◌++◌, length, Option, Some, None, refl, sym, ◌∙◌, ap, subst, arith, max, if◌then◌else◌}
+use Rattle.std.proofs.Common.{◌≡◌, ◌⊎◌, inl, inr, ℕ, ◌<◌, ◌≤◌, Bool, true, false, List, [], ◌∷◌, ◌++◌, length, Option, Some, None, refl, sym, ap, subst, arith, max, if◌then◌else◌}
 use Rattle.std.specs.Prelude.{slice_index, IfSome}
 use Rattle.std.proofs.lemmas.List.Elements.{All-nil, All-cons}
 use Rattle.sercos_model.specs.Bits.{AreBytes}
@@ -8,19 +8,17 @@ use Rattle.sercos_hdlc.specs.Stuffed.{frame_of}
 use Rattle.sercos_telegram.specs.declared.layout.Kind.TheVariants as kinds
 use Rattle.sercos_step.specs.declared.request.Job.{Job}
 use Rattle.sercos_step.specs.declared.request.Outcome.{Outcome}
-use Rattle.sercos_block.specs.Rings.{is_ring}
 use Rattle.sercos_block.specs.Stores.{IsStore, store_of}
 use Rattle.sercos_block.specs.Views.{DriveView, RingView}
 use Rattle.sercos_service_drive.specs.Log.{Taken, Entry}
 use Rattle.sercos_service_drive.specs.Replies.{log_of}
 use Rattle.sercos_service_master.specs.Begun.{Begun}
-use Rattle.sercos_service_master.specs.Calls.{begun_by}
-use Rattle.sercos_drive.specs.Annals.{annals, accepted_at}
+use Rattle.sercos_drive.specs.Annals.{accepted_at}
 use Rattle.sercos_drive.specs.Laws.{HandedThose}
 use Rattle.sercos_drive.specs.Moments.{blocks_in}
 use Rattle.sercos_drive.specs.Says.{Said}
 use Rattle.sercos_trace.specs.Views.{SentView, EventsView, CycleView}
-use Rattle.sercos_seat.specs.Ring.{Known, known_of, tasks_for}
+use Rattle.sercos_seat.specs.Ring.{known_of, tasks_for}
 use Rattle.sercos_startup.specs.Kept.{BlocksKeep}
 use Rattle.sercos_startup.specs.RingSlots.{RingSendsApart}
 use Rattle.sercos_master.specs.Annals.{Call, Restart}
@@ -52,7 +50,7 @@ use Rattle.sercos_held.proofs.StoreOf.{AllowsWrites, store_of_so}
 use Rattle.sercos_held.proofs.Runs.{Laws, AllStand, all_first, all_next, s_known, small, kept_at_mst, begun_then}
 use Rattle.sercos_headline.specs.Cycles.{HaveRealBits, phase_before, StandsNoLater}
 use Rattle.sercos_headline.specs.Transfers.{OnStores, IsExactAt, IsToldAt, AreReportedIn, AreInStepAt}
-use Rattle.sercos_headline.specs.Headline.{KeepsAll, Headline}
+use Rattle.sercos_headline.specs.Headline.{KeepsAll}
 use Rattle.sercos_headline.proofs.ApartCycles.{AreFramed, apart_in}
 use Rattle.sercos_headline.proofs.WellRuns.{StopLaws, AllWell, all_well, stops_in}
 use Rattle.sercos_settings.proofs.WellSets.{well_first}

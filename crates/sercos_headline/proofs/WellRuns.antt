@@ -1,37 +1,30 @@
 -- The stops that are told in a cycle.
-use Rattle.std.proofs.Common.{◌≡◌, ℕ, ◌<◌, Bool, true, false, List, [], ◌∷◌, length, Option, Some, None, refl, sym, ◌∙◌, ap, subst, arith, if◌then◌else◌}
+use Rattle.std.proofs.Common.{◌≡◌, ℕ, ◌<◌, Bool, true, false, List, [], ◌∷◌, length, Option, Some, None, refl, sym, ◌∙◌, ap, if◌then◌else◌}
 use Rattle.std.specs.Option.{option_or}
-use Rattle.sercos_idn.specs.declared.idn.Idn.{Idn}
 use Rattle.sercos_step.specs.declared.request.Job.{Job}
-use Rattle.sercos_timing.specs.Views.{PlanView}
 use Rattle.sercos_timing.specs.Valid.{IsValid}
-use Rattle.sercos_timing.specs.Inequalities.{Fits}
-use Rattle.sercos_plan.specs.Views.{ChainView}
 use Rattle.sercos_block.specs.Rings.{wishes_of}
 use Rattle.sercos_block.specs.Stores.{IsStore, store_of}
 use Rattle.sercos_block.specs.Views.{RingView}
 use Rattle.sercos_drive.specs.Moments.{blocks_in}
-use Rattle.sercos_service_master.specs.Calls.{begun_by}
 use Rattle.sercos_trace.specs.Views.{EventsView, CycleView}
 use Rattle.sercos_trace.specs.declared.events.Stop.{Stop}
 use Rattle.sercos_trace.specs.declared.events.Stop.TheVariants as stop
-use Rattle.sercos_seat.specs.Ring.{Known, member, known_of, tasks_for}
+use Rattle.sercos_seat.specs.Ring.{member, known_of, tasks_for}
 use Rattle.sercos_startup.specs.Answers.{NoAttributeStops}
 use Rattle.sercos_startup.specs.Causes.{RingIsValid}
 use Rattle.sercos_master.specs.Annals.{Past, outcomes}
-use Rattle.sercos_master.specs.Reports.{events_told, restart_told, stop_told}
+use Rattle.sercos_master.specs.Reports.{restart_told, stop_told}
 use Rattle.sercos_master.proofs.Laws.{tasks_wait}
 use Rattle.sercos_script.specs.Links.{Carry, Restarts}
 use Rattle.sercos_handshake.specs.CommandTransfers.{SetsAndCancels, EndsWithStatus}
-use Rattle.sercos_handshake.specs.Epochs.{begun_in}
-use Rattle.sercos_handshake.specs.WholeRun.{AreSound}
-use Rattle.sercos_journal.specs.Runs.{drive_at, master_calls, looks_back, middle, no_events, restart_events, IsNext, IsRun, IsClear}
+use Rattle.sercos_journal.specs.Runs.{drive_at, master_calls, looks_back, middle, no_events, IsNext}
 use Rattle.sercos_agenda.specs.Reported.{AreRequests}
 use Rattle.sercos_agenda.specs.Stops.{Check127HasCause}
 use Rattle.sercos_views.specs.RingViews.{behind_mdt, after_mst, view_of, views_of}
 use Rattle.sercos_views.proofs.ViewRuns.{IsSpelled}
 use Rattle.sercos_settings.proofs.SetsWell.{LowerLaws}
-use Rattle.sercos_settings.proofs.WellSets.{IsWellSet, well_first, well_next}
+use Rattle.sercos_settings.proofs.WellSets.{IsWellSet, well_next}
 use Rattle.sercos_settings.proofs.NoCheck127.{stays, next_still, never_127_in}
 use Rattle.sercos_held.specs.Opened.{IsOpened}
 use Rattle.sercos_held.specs.Stored.{IsStored}

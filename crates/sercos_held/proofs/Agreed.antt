@@ -45,7 +45,7 @@ use Rattle.sercos_held.proofs.Laid.{records_of, records_concat, records_take, re
 use Rattle.std.proofs.lemmas.Option.{slice_get_within}
 
 -- a place of the ring has a wish
-wishes_count : (r : RingView) → length (wishes_of r).drives ≡ length r.drives
+pub wishes_count : (r : RingView) → length (wishes_of r).drives ≡ length r.drives
 unfolding wishes_of
 wishes_count r = by r.drives
   where

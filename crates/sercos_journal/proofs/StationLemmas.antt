@@ -65,7 +65,7 @@ unfolding is_ring has_drives
 few_drives r is = first_true _ _ (second_true _ _ (first_true _ _ (second_true _ _ is)))
 
 -- an AT has its drive's address
-said_address : (d : DriveView) (rate : ℕ) (h : List DriveCall) (s : Said) → drive_says d rate h ≡ Some s → slice_index s.content 0 ≡ d.address
+pub said_address : (d : DriveView) (rate : ℕ) (h : List DriveCall) (s : Said) → drive_says d rate h ≡ Some s → slice_index s.content 0 ≡ d.address
 said_address d rate h s is = by (sends (annals d rate h)) _ refl is
   where
     by : (b : Bool) (x : Said) → slice_index x.content 0 ≡ d.address → (if b then Some x else None) ≡ Some s → slice_index s.content 0 ≡ d.address

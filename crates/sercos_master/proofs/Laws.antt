@@ -52,7 +52,7 @@ waiting_due s p = by (is_plan_due s p)
 pub waiting_settled : (s : Known) (p : Past) → (settled s p).waiting ≡ p.waiting
 waiting_settled s p = waiting_due s (with_stop (first_trouble s p) p) ∙ waiting_stop (first_trouble s p) p
 
-get_dropped : {A : Type 0} (n : ℕ) (xs : List A) (i : ℕ) → slice_get (drop n xs) i ≡ slice_get xs (n + i)
+pub get_dropped : {A : Type 0} (n : ℕ) (xs : List A) (i : ℕ) → slice_get (drop n xs) i ≡ slice_get xs (n + i)
 get_dropped zero xs i = ap (slice_get xs) (omega arith)
 get_dropped (suc n) [] i = refl
 get_dropped (suc n) (x ∷ xs) i = let e : suc n + i ≡ suc (n + i) = omega arith in rw e (get_dropped n xs i)

@@ -1,7 +1,6 @@
 pub mod AllLemmas
 pub mod AnswerLemmas
 pub mod DivideLemmas
-pub mod FeedLemmas
 pub mod ListLemmas
 pub mod MomentLemmas
 pub mod OpenLemmas
@@ -13,4 +12,4 @@ pub mod RunLemmas
 pub mod TextLines
 pub mod TopLemmas
 pub mod WordLemmas
-pub mod LawLemmas
+pub mod TogetherLemmas

@@ -10,24 +10,7 @@ use Rattle.sercos_answer.specs.Lines.{with_front}
 use Rattle.sercos_multi.specs.Divided.{lines_in}
 use Rattle.sercos_multi.specs.Merged.{moment_line, together_line}
 use Rattle.sercos_multi.specs.OwnLines.{own_line, own_lines}
-
--- texts of whole lines
-pub begins_parts : (begins : Bool) (a b : List ℕ) → begins_after begins (a ++ b) ≡ begins_after (begins_after begins a) b
-unfolding begins_after
-begins_parts begins [] b = refl
-begins_parts begins (x ∷ a) b = begins_parts (is_feed x) a b
-
-pub lines_then : (a b : List ℕ) → AreLines a → AreLines b → AreLines (a ++ b)
-lines_then a b first second = begins_parts true a b ∙ ap (λ begins. begins_after begins b) first ∙ second
-
-pub no_lines : AreLines []
-unfolding begins_after
-no_lines = refl
-
-pub lines_one : (begins : Bool) (a : List ℕ) → begins_after begins (a ++ 10 ∷ []) ≡ true
-unfolding begins_after
-lines_one begins [] = refl
-lines_one begins (x ∷ a) = lines_one (is_feed x) a
+use Rattle.sercos_trace.proofs.MarkLemmas.{lines_one}
 
 -- a text that isn't empty has a line
 record HasLine (text : List ℕ) : Type 0 where

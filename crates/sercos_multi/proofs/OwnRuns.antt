@@ -21,7 +21,8 @@ use Rattle.sercos_multi.specs.Asking.{voice_of, voices_from}
 use Rattle.sercos_multi.specs.OwnLines.{own_lines, LinesAreTraces}
 use Rattle.sercos_multi.proofs.MomentLemmas.{none_before, range_same}
 use Rattle.sercos_multi.proofs.OpenLemmas.{mark_is}
-use Rattle.sercos_multi.proofs.OwnLemmas.{lines_then, no_lines, own_parts, own_none, own_marked, other_marked, marked_whole, moment_own, together_own, moment_whole}
+use Rattle.sercos_trace.proofs.MarkLemmas.{lines_then, no_lines}
+use Rattle.sercos_multi.proofs.OwnLemmas.{own_parts, own_none, own_marked, other_marked, marked_whole, moment_own, together_own, moment_whole}
 use Rattle.sercos_multi.proofs.TextLines.{all_whole, header_whole, first_whole}
 
 -- ---- of several rings, the lines of one

@@ -19,7 +19,7 @@ use Rattle.sercos_totals.specs.Totals.{totals_of}
 use Rattle.sercos_totals.specs.Counting.{AreFew, IsFew, with_cycle}
 use Rattle.sercos_trace.specs.Marked.{marked}
 use Rattle.sercos_trace.specs.MarkedWritten.{Seen, HasTaken, HasFailed, Writes}
-use Rattle.sercos_multi.proofs.FeedLemmas.{marked_none}
+use Rattle.sercos_trace.proofs.MarkLemmas.{marked_none}
 use Rattle.sercos_trace.proofs.MarkedLemmas.{taken_then}
 use Rattle.sercos_trace.proofs.WriteLemmas as plainly
 use Rattle.sercos_multi.specs.declared.part.Part.{Part}

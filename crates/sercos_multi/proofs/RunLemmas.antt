@@ -62,14 +62,17 @@ pub record IsTime (time : ℕ) : Type 0 where
 common_time : (time : ℕ) → is_common time ≡ true → IsTime time
 common_time time is = record { some = grind (arith, nat_tests, is); few = grind (arith, nat_tests, is) }
 
-pub time_is : (cycles : List ℕ) → 0 < length cycles → cycle_fault cycles ≡ None → IsTime (first_cycle cycles)
+pub common_is : (cycles : List ℕ) → 0 < length cycles → cycle_fault cycles ≡ None → is_common (first_cycle cycles) ≡ true
 unfolding cycle_fault first_cycle
-time_is [] some none = absurd (omega (arith, some))
-time_is (c ∷ cycles) some none = by (is_common c) refl none
+common_is [] some none = absurd (omega (arith, some))
+common_is (c ∷ cycles) some none = by (is_common c) none
   where
-    by : (b : Bool) → is_common c ≡ b → (if b then other_cycle c 2 cycles else Some (1, c)) ≡ None → IsTime c
-    by true is none = common_time c is
-    by false is none = absurd (cc)
+    by : (b : Bool) → (if b then other_cycle c 2 cycles else Some (1, c)) ≡ None → b ≡ true
+    by true none = refl
+    by false none = absurd (cc)
+
+pub time_is : (cycles : List ℕ) → 0 < length cycles → cycle_fault cycles ≡ None → IsTime (first_cycle cycles)
+time_is cycles some none = common_time (first_cycle cycles) (common_is cycles some none)
 
 -- the cycle times one by one
 pub next_cycle : {X : Type 0} (f : X → ℕ) (xs : List X) (k : ℕ) (x : X) (c : ℕ) → k < length xs → x ≡ get_or xs k x → c ≡ f x → drop k (map f xs) ≡ c ∷ drop (k + 1) (map f xs)

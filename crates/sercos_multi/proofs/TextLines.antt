@@ -20,7 +20,7 @@ use Rattle.sercos_trace.specs.Kinds.{line_of, line_with, tail_for, template_of}
 use Rattle.sercos_trace.specs.Marked.{AreLines}
 use Rattle.sercos_trace.specs.Texts.{header_text, ring_text, drive_text, order_text, cycle_text, end_text, sent_text, moves_text, move_text, events_text, outcome_text, ended_text, plan_text, plan_line, slots_text, slot_text, link_text, chain_text, bound_text, stop_text, fall_text}
 use Rattle.sercos_multi.specs.Merged.{first_text}
-use Rattle.sercos_multi.proofs.OwnLemmas.{lines_then, lines_one, no_lines}
+use Rattle.sercos_trace.proofs.MarkLemmas.{lines_then, lines_one, no_lines}
 
 line_whole : (kind : LineKind) (values : List Value) → AreLines (line_of kind values)
 line_whole kind values = lines_one true (line_text (template_of kind) values)

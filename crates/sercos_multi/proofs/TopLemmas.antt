@@ -23,7 +23,8 @@ use Rattle.sercos_multi.specs.Merged.{merged}
 use Rattle.sercos_multi.specs.RingRuns.{RingsMerged, RunsItsRings}
 use Rattle.std.proofs.lemmas.List.{length-map}
 use Rattle.sercos_multi.proofs.OwnRuns.{lines_are_traces}
-use Rattle.sercos_multi.proofs.RunLemmas.{documents_count, time_is}
+use Rattle.sercos_multi.proofs.RunLemmas.{common_is, documents_count, time_is}
+use Rattle.sercos_multi.proofs.TogetherLemmas.{together}
 
 -- answers are done or refused
 data IsEnded : Status → Type 0 where
@@ -79,7 +80,7 @@ pub command : (form : Option Form) → IsCommand form (reads_input form) rings_a
 command form = record {
   none = reads_form form;
   one = λ named is reads a b. absurd (false≢true (sym reads ∙ reads_none form named is));
-  given = λ bytes. ended_given (ended_rings bytes);
+  given = λ named is bytes. ended_given (ended_rings bytes);
 }
 
 -- an answer that is done
@@ -153,5 +154,6 @@ at_merged {form = form} {source = source} {sink = sink} law out e =
       runs = told.says is.two is.eight is.documents is.said;
       traces = lines_are_traces (first_cycle (cycles_of is.documents)) is.documents (time_is (cycles_of is.documents) (omega (arith, cycles, count, two)) is.common).some (omega (arith, count, eight))
           (λ k d within. (told.says is.two is.eight is.documents is.said k d within).some);
+      together = together (first_cycle (cycles_of is.documents)) is.documents (common_is (cycles_of is.documents) (omega (arith, cycles, count, two)) is.common);
       written = subst (λ text. Appends sink.held sink.held' text) is.output told.written;
     }

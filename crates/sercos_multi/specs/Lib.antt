@@ -11,4 +11,3 @@ pub mod OwnLines
 pub mod Ended
 pub mod Said
 pub mod Words
-pub mod Laws

@@ -3,14 +3,14 @@
 
 mod answering;
 mod divided;
-mod law;
 mod moments;
 mod opening;
+mod over_memory;
 mod own_lines;
 mod part;
 mod top_call;
 mod words;
 
-pub use law::{mark_law, together_law};
+pub use over_memory::rings_in_memory;
 pub use own_lines::lines_law;
 pub use top_call::rings;

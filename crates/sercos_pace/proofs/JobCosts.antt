@@ -25,7 +25,7 @@ costs_requests cost (b ∷ begun) =
     let more = costs_requests cost begun in
     let first = sum_by-cons cost b.request (map request_of begun) in omega (arith, more, first)
 
-list_shape : (l : Length) → is_list l ≡ true → shape_by l ≡ shape.List
+pub list_shape : (l : Length) → is_list l ≡ true → shape_by l ≡ shape.List
 list_shape len.Two is = absurd (cc)
 list_shape len.Four is = absurd (cc)
 list_shape len.List1 is = refl

@@ -41,7 +41,7 @@ use Rattle.sercos_pace.specs.Costs.{AreSpaced, IsListed, newest_at, value_steps,
 use Rattle.sercos_handshake.proofs.CommandEnds.{poll_word, last_ends, is_poll, command_last}
 
 -- the steps so far are at most those that are known from the words before the newest
-long_words : (entries : List Entry) → length (answer_words (replies_of entries)) ≡ length entries
+pub long_words : (entries : List Entry) → length (answer_words (replies_of entries)) ≡ length entries
 long_words entries = length-answer_words (replies_of entries) ∙ length-replies_of entries
 
 pub known_steps : (r : Request) (blocks : List Block) (e : Entry) (entries log : List Entry) → IsTransfer r blocks e entries log → suc (length entries) ≤ count_of r (answer_words (replies_of entries))

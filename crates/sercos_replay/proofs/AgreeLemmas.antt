@@ -1,7 +1,7 @@
 -- The capture of a run in which nothing is disturbed: its cycles are those of the journal, each station got there what it got in the run,
 -- and so said what it is to say.
-use Rattle.std.proofs.Common.{◌≡◌, inl, inr, ℕ, suc, zero, ◌+◌, ◌<◌, ◌==◌, nat_lt, Bool, true, false, not, cond, ◌||◌, List, [], ◌∷◌, ◌++◌, length, if◌then◌else◌, Option, Some, None, option_map, refl, sym, ◌∙◌, ap, subst, arith, append_assoc}
-use Rattle.std.specs.Prelude.{slice_index, option_and_then, unwrap_or}
+use Rattle.std.proofs.Common.{◌≡◌, inl, inr, ℕ, suc, zero, ◌+◌, ◌<◌, ◌==◌, nat_lt, Bool, true, false, not, cond, ◌||◌, List, [], ◌∷◌, ◌++◌, length, Option, Some, None, option_map, refl, sym, ◌∙◌, ap, subst, arith, append_assoc}
+use Rattle.std.specs.Prelude.{slice_index, option_and_then}
 use Rattle.std.specs.List.{find}
 use Rattle.std.proofs.lemmas.Bool.{cases_eq, eqb-true, eq-eqb}
 use Rattle.std.proofs.lemmas.Bool.Decides.{Decides-int_eq}
@@ -14,8 +14,7 @@ use Rattle.sercos_block.specs.Rings.{is_ring}
 use Rattle.sercos_trace.specs.Views.{SentView, CycleView}
 use Rattle.sercos_trace.specs.declared.reading.Line.{Line}
 use Rattle.sercos_drive.specs.Heard.{DriveCall, Mst, Mdt}
-use Rattle.sercos_drive.specs.Annals.{annals}
-use Rattle.sercos_drive.specs.Says.{Said, drive_says, sends}
+use Rattle.sercos_drive.specs.Says.{Said, drive_says}
 use Rattle.sercos_seat.specs.Ring.{known_of}
 use Rattle.sercos_master.specs.Annals.{Call, HearMst, HearAt, End}
 use Rattle.sercos_master.specs.Annals as master
@@ -38,6 +37,7 @@ use Rattle.sercos_replay.specs.Places.{PlaceView, is_same, agree, if_differs}
 use Rattle.sercos_replay.specs.Differences.{content_of, drive_calls, mst_calls, is_of, at_found, at_place, drive_differs, at_calls, mdt_calls, master_calls, looks_back, mst_place, mdt_at, mdt_place, master_differs}
 use Rattle.sercos_replay.specs.Captured.{lines_with, lines_of, NeverDisturbed}
 use Rattle.sercos_replay.proofs.OptionLemmas.{or-none}
+use Rattle.sercos_journal.proofs.StationLemmas.{said_address}
 
 -- WHAT IS THE SAME agrees.
 same-itself : (s : SentView) → is_same s s ≡ true
@@ -104,14 +104,6 @@ inserted-own rate a s (x ∷ ats) own none =
         → find (is_of a) (ats_said rate (cond b (s ∷ x ∷ ats) (x ∷ inserted s ats))) ≡ Some (sent_at rate s.start s.content)
     by true other later = ap (λ c. cond c (Some (sent_at rate s.start s.content)) (find (is_of a) (ats_said rate (x ∷ ats)))) own
     by false other later = ap (λ c. cond c (Some (sent_at rate x.start x.content)) (find (is_of a) (ats_said rate (inserted s ats)))) other ∙ later
-
--- an AT has its drive's address
-said_address : (d : DriveView) (rate : ℕ) (h : List DriveCall) (s : Said) → drive_says d rate h ≡ Some s → slice_index s.content 0 ≡ d.address
-said_address d rate h s is = by (sends (annals d rate h)) _ refl is
-  where
-    by : (b : Bool) (x : Said) → slice_index x.content 0 ≡ d.address → (if b then Some x else None) ≡ Some s → slice_index s.content 0 ≡ d.address
-    by true x address is = sym (ap (λ (o : Option Said). slice_index (unwrap_or o x).content 0) is) ∙ address
-    by false x address is = cc
 
 -- none of the first n has this address
 abbrev AreOthers : ℕ → (ℕ → DriveView) → ℕ → Type 0

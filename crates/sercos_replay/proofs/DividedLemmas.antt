@@ -1,8 +1,9 @@
 -- The line that divides an input, found line by line.
 use Rattle.std.proofs.Common.{◌≡◌, ℕ, suc, ◌+◌, ◌-◌, ◌<◌, ◌≤◌, Bool, true, false, List, [], ◌∷◌, length, Option, Some, None, refl, sym, ◌∙◌, ap, arith}
 use Rattle.std.specs.Prelude.{option_map}
-use Rattle.std.specs.List.{after_first, position_or_len}
+use Rattle.std.specs.List.{after_first}
 use Rattle.sercos_replay.specs.Divided.{is_feed, begins_capture, capture_place}
+use Rattle.sercos_trace.proofs.MarkLemmas.{after_feed, after_more, after_short}
 
 -- a place counted from k bytes earlier on
 abbrev pub shifted : ℕ → Option ℕ → Option ℕ
@@ -19,21 +20,6 @@ shift_suc k (Some p) = ap (λ (n : ℕ). Some n) (omega arith)
 shift_sum : (a b : ℕ) (o : Option ℕ) → shifted a (shifted b o) ≡ shifted (b + a) o
 shift_sum a b None = refl
 shift_sum a b (Some p) = ap (λ (n : ℕ). Some n) (omega arith)
-
-after_feed : (byte : ℕ) (bytes : List ℕ) → is_feed byte ≡ true → after_first is_feed (byte ∷ bytes) ≡ bytes
-after_feed byte bytes e = rw e refl
-
-after_more : (byte : ℕ) (bytes : List ℕ) → is_feed byte ≡ false → after_first is_feed (byte ∷ bytes) ≡ after_first is_feed bytes
-after_more byte bytes e =
-    let next : 1 + position_or_len is_feed bytes + 1 ≡ suc (position_or_len is_feed bytes + 1) = omega arith in rw (e, next) refl
-
-after_short : (bytes : List ℕ) → length (after_first is_feed bytes) ≤ length bytes
-after_short [] = omega arith
-after_short (byte ∷ bytes) = by (is_feed byte) refl (after_short bytes)
-  where
-    by : (feed : Bool) → is_feed byte ≡ feed → length (after_first is_feed bytes) ≤ length bytes → length (after_first is_feed (byte ∷ bytes)) ≤ length (byte ∷ bytes)
-    by true e rest = rw (after_feed byte bytes e) (omega arith)
-    by false e rest = rw (after_more byte bytes e) (omega (arith, rest))
 
 -- within a line that doesn't count, the place is found after it
 after_place : (text : List ℕ) (k : ℕ) → k + length (after_first is_feed text) ≡ length text → capture_place false text ≡ shifted k (capture_place true (after_first is_feed text))

@@ -1,5 +1,6 @@
 pub mod OptionLemmas
 pub mod CycleLemmas
+pub mod SharedLemmas
 pub mod DriveLemmas
 pub mod MasterLemmas
 pub mod Worked

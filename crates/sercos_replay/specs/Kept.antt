@@ -15,6 +15,20 @@ use Rattle.sercos_replay.specs.Cycles.{Cycle, cycles_of, GoesOn}
 use Rattle.sercos_replay.specs.Places.{PlaceView, if_differs, if_told}
 use Rattle.sercos_replay.specs.Differences.{drive_calls, mst_calls, at_found, at_place, drive_differs, drive_tells, heard_calls, master_calls, mst_place, master_differs, master_tells}
 
+-- THE SHAPE OF BOTH REPLAYS, over what holds while the newest cycle awaits its MDT, and what holds while no cycle is open.
+abbrev pub GoesIn : (Cycle → List Cycle → Type 0) → (List Cycle → Type 0) → Option SentView → Cycle → List Cycle → Type 0
+GoesIn Awaits Rests None t j = Awaits t j
+GoesIn Awaits Rests (Some mdt) t j = Rests (t ∷ j)
+
+abbrev pub Goes : (Cycle → List Cycle → Type 0) → (List Cycle → Type 0) → List Cycle → Type 0
+Goes Awaits Rests [] = Rests []
+Goes Awaits Rests (t ∷ j) = GoesIn Awaits Rests t.mdt t j
+
+-- A difference was told, and it is the first one; or none was told, and this holds.
+abbrev pub ToldOr : Bool → PlaceView → Option PlaceView → Type 0 → Type 0
+ToldOr true told first Holds = first ≡ Some told
+ToldOr false told first Holds = Holds
+
 -- the difference that was told
 abbrev pub drive_kept : DriveReplay → Option PlaceView
 drive_kept v = if_told v.differs v.told.value
@@ -47,29 +61,15 @@ pub record DriveRests (v : DriveReplay) (d : DriveView) (rate : ℕ) (j : List C
   pub stands : DriveStandsFor v.drive d rate (drive_calls j)
   pub before : drive_differs d rate j ≡ None
 
-abbrev pub DriveGoesIn : Option SentView → DriveReplay → DriveView → ℕ → Cycle → List Cycle → Type 0
-DriveGoesIn None v d rate t j = DriveAwaits v d rate t j
-DriveGoesIn (Some mdt) v d rate t j = DriveRests v d rate (t ∷ j)
-
 abbrev pub DriveGoes : DriveReplay → DriveView → ℕ → List Cycle → Type 0
-DriveGoes v d rate [] = DriveRests v d rate []
-DriveGoes v d rate (t ∷ j) = DriveGoesIn t.mdt v d rate t j
-
--- by whether a difference was told
-abbrev pub DriveStandsBy : Bool → DriveReplay → DriveView → ℕ → List Cycle → Type 0
-DriveStandsBy true v d rate j = drive_tells d rate j ≡ Some v.told.value
-DriveStandsBy false v d rate j = DriveGoes v d rate j
+DriveGoes v d rate j = Goes (DriveAwaits v d rate) (DriveRests v d rate) j
 
 abbrev pub DriveStandsIn : DriveReplay → DriveView → ℕ → List Cycle → Type 0
-DriveStandsIn v d rate j = DriveStandsBy v.differs v d rate j
+DriveStandsIn v d rate j = ToldOr v.differs v.told.value (drive_tells d rate j) (DriveGoes v d rate j)
 
 -- all cycles are closed, the newest one too
-abbrev pub DriveEndsBy : Bool → DriveReplay → DriveView → ℕ → List Cycle → Type 0
-DriveEndsBy true v d rate j = drive_differs d rate j ≡ Some v.told.value
-DriveEndsBy false v d rate j = DriveRests v d rate j
-
 abbrev pub DriveEndsIn : DriveReplay → DriveView → ℕ → List Cycle → Type 0
-DriveEndsIn v d rate j = DriveEndsBy v.differs v d rate j
+DriveEndsIn v d rate j = ToldOr v.differs v.told.value (drive_differs d rate j) (DriveRests v d rate j)
 
 -- The replay stands for these lines, the newest first; and it has finished after them.
 abbrev pub DriveReplayStandsFor : DriveReplay → DriveView → ℕ → List Line → Type 0
@@ -112,29 +112,15 @@ pub record MasterRests (v : MasterReplay) (s : Known) (jobs : List Job) (j : Lis
   pub stands : HasMaster v.master s jobs (master_calls j)
   pub before : master_differs s jobs j ≡ None
 
-abbrev pub MasterGoesIn : Option SentView → MasterReplay → Known → List Job → Cycle → List Cycle → Type 0
-MasterGoesIn None v s jobs t j = MasterAwaits v s jobs t j
-MasterGoesIn (Some mdt) v s jobs t j = MasterRests v s jobs (t ∷ j)
-
 abbrev pub MasterGoes : MasterReplay → Known → List Job → List Cycle → Type 0
-MasterGoes v s jobs [] = MasterRests v s jobs []
-MasterGoes v s jobs (t ∷ j) = MasterGoesIn t.mdt v s jobs t j
-
--- by whether a difference was told
-abbrev pub MasterStandsBy : Bool → MasterReplay → Known → List Job → List Cycle → Type 0
-MasterStandsBy true v s jobs j = master_tells s jobs j ≡ Some v.told.value
-MasterStandsBy false v s jobs j = MasterGoes v s jobs j
+MasterGoes v s jobs j = Goes (MasterAwaits v s jobs) (MasterRests v s jobs) j
 
 abbrev pub MasterStandsIn : MasterReplay → Known → List Job → List Cycle → Type 0
-MasterStandsIn v s jobs j = MasterStandsBy v.differs v s jobs j
+MasterStandsIn v s jobs j = ToldOr v.differs v.told.value (master_tells s jobs j) (MasterGoes v s jobs j)
 
 -- all cycles are closed, the newest one too
-abbrev pub MasterEndsBy : Bool → MasterReplay → Known → List Job → List Cycle → Type 0
-MasterEndsBy true v s jobs j = master_differs s jobs j ≡ Some v.told.value
-MasterEndsBy false v s jobs j = MasterRests v s jobs j
-
 abbrev pub MasterEndsIn : MasterReplay → Known → List Job → List Cycle → Type 0
-MasterEndsIn v s jobs j = MasterEndsBy v.differs v s jobs j
+MasterEndsIn v s jobs j = ToldOr v.differs v.told.value (master_differs s jobs j) (MasterRests v s jobs j)
 
 -- The replay stands for these lines, the newest first; and it has finished after them.
 abbrev pub MasterReplayStandsFor : MasterReplay → Known → List Job → List Line → Type 0

@@ -20,7 +20,7 @@ pub fn capture_place(text: &[u8]) -> Option<usize>
     None
 }
 
-/// The bytes before the line at a place.
+/// Returns the bytes before the line at a place: the document.
 pub fn document_part(bytes: &[u8], place: usize) -> &[u8]
     requires { place ≤ length bytes.now }
     ensures { result.now ≡ document_part bytes.now place }
@@ -28,7 +28,7 @@ pub fn document_part(bytes: &[u8], place: usize) -> &[u8]
     &bytes[..place]
 }
 
-/// The bytes after the line at a place.
+/// Returns the bytes after the line at a place: the capture.
 pub fn capture_part(bytes: &[u8], place: usize) -> &[u8]
     requires { place ≤ length bytes.now }
     ensures value { result.now ≡ capture_part bytes.now place }

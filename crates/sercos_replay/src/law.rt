@@ -14,6 +14,7 @@ ghost use Rattle.sercos_replay.specs.Cycles.{cycles_of, GoesOn};
 ghost use Rattle.sercos_replay.specs.Differences.{drive_differs, drive_tells, master_differs, master_tells};
 ghost use Rattle.sercos_replay.specs.Given.{if_given};
 ghost use Rattle.sercos_replay.specs.Captured.{lines_of, telegrams, NeverDisturbed};
+ghost use Rattle.sercos_replay.specs.Asking.{Replays};
 
 use sercos_typed::typed_law;
 
@@ -38,3 +39,11 @@ pub fn agreement_law()
 {
     typed_law();
 }
+
+/// A law and no code. `Done` is the answer exactly where an input asks for a replay and no place differs, and `No` where one does, or
+/// where the capture breaks a rule. Wherever an input asks for a replay, the answer is the first place that differs, or the number of
+/// cycles.
+#[tactic(auto, using(crate::proofs::AskingLemmas::replays))]
+pub fn asking_law()
+    ensures { (address : ℕ) (bytes : List ℕ) → Replays address bytes }
+{}

@@ -1,5 +1,5 @@
 //! The replay of one end of a ring against a capture: where a drive or the master first said something else than its rules give. And
-//! the answer of `replay A`, to a ring document and a capture.
+//! the answer of `replay A`, to an input that a line `capture` divides into a ring document and a capture.
 #![tactic(auto)]
 
 mod difference;
@@ -14,8 +14,9 @@ mod station;
 mod undisturbed;
 
 pub use difference::Difference;
+pub use divided::{capture_part, capture_place, document_part};
 pub use drive_replay::DriveReplay;
-pub use law::{agreement_law, capture_law};
+pub use law::{agreement_law, asking_law, capture_law};
 pub use master_replay::MasterReplay;
-pub use replaying::replay;
+pub use replaying::{replay_document, undivided_reply};
 pub use undisturbed::undisturbed_law;

@@ -1,21 +1,16 @@
 // `replay A`: where one end of a ring first said something else than its rules give.
-ghost use Rattle.std.specs.Prelude.{◌≡◌, ℕ, ◌⊎◌, ◌<◌, ◌≤◌, ◌==◌, true, List, [], length, Some, None, Ok, IfOk, MatchResult, ◌++◌, codes};
+ghost use Rattle.std.specs.Prelude.{◌≡◌, ℕ, ◌<◌, ◌≤◌, ◌==◌, true, List, [], length, Some, None, Ok, IfOk, ◌++◌, codes};
 ghost use Rattle.std.specs.List.{All};
-ghost use Rattle.sercos_io.specs.declared.status.Status.TheVariants.{Refused};
 ghost use Rattle.sercos_step.specs.Jobs.{AreJobs};
 ghost use Rattle.sercos_seat.specs.Ring.{known_of};
 ghost use Rattle.sercos_journal.specs.Runs.{drive_at};
 ghost use Rattle.sercos_answer.specs.Answer.{line_feed};
 ghost use Rattle.sercos_block.specs.Rings.{has_address, has_other_data, is_ring};
-ghost use Rattle.sercos_document.specs.Lines.{line_of};
-ghost use Rattle.sercos_config.specs.Document.{document_of};
 ghost use Rattle.sercos_checking.specs.declared.verdict.Verdict.TheVariants.{Clean};
 ghost use Rattle.sercos_checking.specs.Checking.{verdict_of};
-ghost use Rattle.sercos_replay.specs.Asking.{Replays};
 ghost use Rattle.sercos_replay.specs.Stations.{Station, ReplayStandsFor, drive_of, station_of, lines_read};
-ghost use Rattle.sercos_replay.specs.Replaying.{Says, refused, station_answer, verdict_answer, started_answer, ruled_answer, judged_answer, capture_answer, found_answer, document_answer, replay_answer};
+ghost use Rattle.sercos_replay.specs.Replaying.{Says, refused, station_answer, verdict_answer, started_answer, ruled_answer, judged_answer, capture_answer, found_answer};
 
-use crate::divided::{capture_part, capture_place, document_part};
 use crate::lines::{give_all, late_start};
 use crate::place_text::{number_reply, reply_with};
 use crate::station::{Replay, drive_place, open_drive, open_master};
@@ -23,7 +18,7 @@ use sercos_answer::Reply;
 use sercos_block::RingSetup;
 use sercos_checking::capture::verdict;
 use sercos_checking::{Verdict, verdict_line, verdict_status};
-use sercos_config::{BadDocument, Document, read_ring};
+use sercos_config::Document;
 use sercos_io::Status;
 use std::alloc::{AllocError, Global};
 
@@ -172,9 +167,12 @@ fn reply_addressed(
     }
 }
 
-// Replies to a document and a capture.
+/// Replies to a ring document that was read, and a capture: the first place at which the station with an address said something else
+/// than its rules give of all that the capture has before that place, with `No`; or the number of cycles, if there is none. The
+/// master has the address 0. An address that no drive has is refused, then a capture, and one that doesn't begin with cycle 0; a
+/// capture that breaks a rule is answered as `check` does. The error is `AllocError`.
 #[tactic(auto, unfolding(crate::specs::Replaying::found_answer, crate::specs::Stations::station_of))]
-fn reply_found(
+pub fn replay_document(
     alloc: Global,
     address: u8,
     document: Document,
@@ -192,63 +190,9 @@ fn reply_found(
     reply_addressed(alloc, address, &document.setup, capture)
 }
 
-// Replies to the two parts of an input.
-#[tactic(auto, unfolding(crate::specs::Replaying::document_answer))]
-fn reply_parts(
-    alloc: Global,
-    address: u8,
-    document: &[u8],
-    capture: &[u8],
-) -> Result<Reply, BadDocument>
-    requires { length capture.now ≤ 1048576 }
-    ensures { MatchResult result
-        (λ reply. Says reply (document_answer (document_of document.now) address capture.now))
-        (λ bad. (bad ≡ BadDocument.Memory)
-        ⊎ ((document_answer (document_of document.now) address capture.now).status ≡ Refused) × ((document_answer (document_of document.now) address capture.now).output ≡ line_of bad)) }
+/// Refuses an input without a capture. The error is `AllocError`.
+pub fn undivided_reply(alloc: Global) -> Result<Reply, AllocError>
+    ensures { IfOk result (λ reply. Says reply (refused (codes "refused 9 capture" ++ line_feed))) }
 {
-    let document = read_ring(alloc, document)?;
-    match reply_found(alloc, address, document, capture) {
-        Ok(reply) => Ok(reply),
-        Err(_) => Err(BadDocument::Memory),
-    }
-}
-
-// Refuses an input without a capture.
-fn reply_undivided(alloc: Global) -> Result<Reply, BadDocument>
-    ensures { MatchResult result
-        (λ reply. Says reply (refused (codes "refused 9 capture" ++ line_feed)))
-        (λ bad. bad ≡ BadDocument.Memory) }
-{
-    match reply_with(alloc, Status::Refused, b"refused 9 capture\n") {
-        Ok(reply) => Ok(reply),
-        Err(_) => Err(BadDocument::Memory),
-    }
-}
-
-/// Answers a ring document, a line that is exactly `capture`, and a capture: the first place at which the station with an address
-/// said something else than its rules give of all that the capture has before that place, with `No`; or the number of cycles, if
-/// there is none. The master has the address 0. An input without such a line is refused, then a document, an address that no drive
-/// has, a capture, and one that doesn't begin with cycle 0; a capture that breaks a rule is answered as `check` does. The error is the
-/// document's first refusal, or `Memory`.
-///
-/// `Done` comes exactly where the input asks for a replay and no place differs, and `No` where one does, or where the capture breaks a
-/// rule.
-#[tactic(auto, using(crate::proofs::AskingLemmas::replays), unfolding(crate::specs::Replaying::replay_answer, crate::specs::Replaying::parts_answer, crate::specs::Divided::divided))]
-pub fn replay(alloc: Global, address: u8, bytes: &[u8]) -> Result<Reply, BadDocument>
-    requires few { length bytes.now ≤ 1048576 }
-    ensures answer { MatchResult result
-        (λ reply. (reply.status ≡ (replay_answer address bytes.now).status) × (reply.text.items ≡ (replay_answer address bytes.now).output))
-        (λ bad. (bad ≡ BadDocument.Memory)
-        ⊎ ((replay_answer address bytes.now).status ≡ Refused) × ((replay_answer address bytes.now).output ≡ line_of bad)) }
-    ensures replays { Replays address bytes.now }
-{
-    match capture_place(bytes) {
-        Some(place) => reply_parts(
-            alloc,
-            address,
-            document_part(bytes, place),
-            capture_part(bytes, place),
-        ),
-        None => reply_undivided(alloc),
-    }
+    reply_with(alloc, Status::Refused, b"refused 9 capture\n")
 }

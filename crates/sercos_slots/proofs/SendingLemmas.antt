@@ -15,7 +15,7 @@ use Rattle.sercos_telegram.specs.Kinds.{is_mst, is_mdt}
 use Rattle.sercos_slots.specs.Sending.{bit_time, place_of, at_slot, ats_in, mdt_slot, IsInCycleBy, IsInCycle, IsAtOf, AreAtsOf, SendsSlots}
 
 -- the place of an address is that of its drive
-address_at : (ds : List Wish) (k : ℕ) → k < length ds → slice_index (addresses ds) k ≡ (slice_index_or ds k no_wish).address
+pub address_at : (ds : List Wish) (k : ℕ) → k < length ds → slice_index (addresses ds) k ≡ (slice_index_or ds k no_wish).address
 address_at [] k in' = absurd (omega arith)
 address_at (d ∷ ds) zero in' = refl
 address_at (d ∷ ds) (suc k) in' = address_at ds k (omega arith)
@@ -24,7 +24,7 @@ length_addresses : (ds : List Wish) → length (addresses ds) ≡ length ds
 length_addresses [] = refl
 length_addresses (d ∷ ds) = ap suc (length_addresses ds)
 
-place_by : (ds : List Wish) (k : ℕ) → AreDistinct (addresses ds) → k < length ds → position_or_len (λ (d : Wish). d.address == (slice_index_or ds k no_wish).address) ds ≡ k
+pub place_by : (ds : List Wish) (k : ℕ) → AreDistinct (addresses ds) → k < length ds → position_or_len (λ (d : Wish). d.address == (slice_index_or ds k no_wish).address) ds ≡ k
 place_by [] k apart in' = absurd (omega arith)
 place_by (d ∷ ds) zero apart in' = rw (eq-eqb d.address d.address refl) refl
 place_by (d ∷ ds) (suc k) apart in' =

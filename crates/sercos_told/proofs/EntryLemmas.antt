@@ -1,5 +1,5 @@
 -- The steps that a drive accepted in a run, and the transfers that they are parts of.
-use Rattle.std.proofs.Common.{◌≡◌, ◌⊎◌, inl, inr, ℕ, suc, ◌==◌, Bool, true, false, if◌then◌else◌, List, [], ◌∷◌, ◌++◌, length, Option, Some, None, refl, sym, ap, subst, ◌∙◌, append_assoc}
+use Rattle.std.proofs.Common.{◌≡◌, ◌⊎◌, inl, inr, ℕ, ◌==◌, Bool, true, false, if◌then◌else◌, List, [], ◌∷◌, ◌++◌, length, Option, Some, None, refl, sym, ap, subst, ◌∙◌, append_assoc}
 use Rattle.std.specs.Prelude.{nat_le, ◌&&◌}
 use mathlib.Core.Bool.{beq}
 use Rattle.sercos_step.specs.declared.request.Job.{Job}
@@ -17,11 +17,17 @@ use Rattle.sercos_handshake.specs.Views.{View, processed_of, processed_in, kept_
 use Rattle.sercos_handshake.specs.Epochs.{begun_in, epoch_begun}
 use Rattle.sercos_handshake.specs.WholeRun.{all_begun, all_entries, accepted_of, leaving, begun_ago}
 use Rattle.sercos_handshake.specs.Exact.{AreExact, IsExact}
+use Rattle.sercos_handshake.specs.Parts.{AreParts}
 use Rattle.sercos_handshake.specs.ReadTransfers.{entry_behind}
 use Rattle.sercos_headline.specs.Transfers.{OnStores}
 use Rattle.sercos_journal.specs.Runs.{drive_at, given_mst}
 use Rattle.sercos_views.specs.RingViews.{view_of, views_of}
-use Rattle.sercos_told.specs.Reads.{HasAccepted}
+use Rattle.sercos_views.proofs.ViewRuns.{views_count}
+
+-- this step is among those that a drive accepted
+abbrev pub HasAccepted : Entry → List Entry → Type 0
+HasAccepted e [] = ⊥
+HasAccepted e (x ∷ entries) = (x ≡ e) ⊎ HasAccepted e entries
 
 left_in : (e : Entry) (xs ys : List Entry) → HasAccepted e xs → HasAccepted e (xs ++ ys)
 left_in e [] ys has = absurd has
@@ -51,32 +57,51 @@ both_begun : (falls : Bool) (begun ago : List Begun) → (if falls then [] else 
 both_begun true begun ago = refl
 both_begun false begun ago = refl
 
-pub record IsBegunIn (all : List Begun) (b : Begun) : Type 0 where
-  pub newer : List Begun
+pub record IsBegunIn (all newer : List Begun) (b : Begun) : Type 0 where
   pub older : List Begun
   pub split : all ≡ newer ++ b ∷ older
 
-pub begun_among : (v : View) (past : List View) (newer older : List Begun) (b : Begun) → begun_in v past ≡ newer ++ b ∷ older → IsBegunIn (all_begun (v ∷ past)) b
+pub begun_among : (v : View) (past : List View) (newer older : List Begun) (b : Begun) → begun_in v past ≡ newer ++ b ∷ older → IsBegunIn (all_begun (v ∷ past)) newer b
 begun_among v past newer older b split =
     let ago : List Begun = leaving v.master_restarts (epoch_begun past) (begun_ago past) in record {
-      newer = newer;
       older = older ++ ago;
       split = both_begun v.falls (begun_in v past) ago ∙ ap (λ xs. xs ++ ago) split ∙ append_assoc newer (b ∷ older) ago;
     }
 
--- Among exact transfers each is exact, with steps that are among those accepted.
-pub record IsOneOf (blocks : List Block) (b : Begun) (entries : List Entry) : Type 0 where
-  pub part : List Entry
-  pub own : List Write
-  pub exact : IsExact blocks b part own
-  pub among : (e : Entry) → HasAccepted e part → HasAccepted e entries
+-- The steps that were accepted of exact transfers are their parts.
+parts_of : (blocks : List Block) (begun : List Begun) (entries : List Entry) (writes : List Write) → AreExact blocks begun entries writes → AreParts begun entries
+parts_of blocks [] entries writes exact = exact.0
+parts_of blocks (b ∷ begun) entries writes (part, rest, own, others, entries_are, writes_are, exact, more) = (part, rest, entries_are, exact.part_of, parts_of blocks begun rest others more)
 
-pub one_exact : (blocks : List Block) (newer older : List Begun) (b : Begun) (entries : List Entry) (writes : List Write) → AreExact blocks (newer ++ b ∷ older) entries writes → IsOneOf blocks b entries
+-- Among exact transfers each is exact, with a part of the steps accepted, which comes between the parts of the later ones and of the earlier ones.
+pub record IsOneOf (blocks : List Block) (newer : List Begun) (b : Begun) (older : List Begun) (entries : List Entry) : Type 0 where
+  pub after : List Entry
+  pub part : List Entry
+  pub behind : List Entry
+  pub own : List Write
+  pub split : entries ≡ after ++ part ++ behind
+  pub later_parts : AreParts newer after
+  pub exact : IsExact blocks b part own
+  pub earlier_parts : AreParts older behind
+
+pub one_exact : (blocks : List Block) (newer older : List Begun) (b : Begun) (entries : List Entry) (writes : List Write) → AreExact blocks (newer ++ b ∷ older) entries writes → IsOneOf blocks newer b older entries
 one_exact blocks [] older b entries writes (part, rest, own, others, entries_are, writes_are, exact, more) =
-    record { part = part; own = own; exact = exact; among = λ e has. subst (HasAccepted e) (sym entries_are) (left_in e part rest has) }
+    record { after = []; part = part; behind = rest; own = own; split = entries_are; later_parts = refl; exact = exact; earlier_parts = parts_of blocks older rest others more }
 one_exact blocks (x ∷ newer) older b entries writes (part, rest, own, others, entries_are, writes_are, exact, more) =
-    let one = one_exact blocks newer older b rest others more in
-    record { part = one.part; own = one.own; exact = one.exact; among = λ e has. subst (HasAccepted e) (sym entries_are) (right_in e part rest (one.among e has)) }
+    let one = one_exact blocks newer older b rest others more in record {
+      after = part ++ one.after;
+      part = one.part;
+      behind = one.behind;
+      own = one.own;
+      split = entries_are ∙ ap (λ l. part ++ l) one.split ∙ sym (append_assoc part (one.after ++ one.part) one.behind) ∙ ap (λ l. l ++ one.behind) (sym (append_assoc part one.after one.part));
+      later_parts = (part, one.after, refl, exact.part_of, one.later_parts);
+      exact = one.exact;
+      earlier_parts = one.earlier_parts;
+    }
+
+-- and the steps of its part are among all
+pub among_all : {blocks : List Block} {newer older : List Begun} {b : Begun} {entries : List Entry} (one : IsOneOf blocks newer b older entries) (e : Entry) → HasAccepted e one.part → HasAccepted e entries
+among_all one e has = subst (HasAccepted e) (sym one.split) (left_in e (one.after ++ one.part) one.behind (right_in e one.after one.part has))
 
 -- A step that was accepted in a run was accepted in one of its cycles, on the blocks that the drive then had.
 processed_so : (v : View) (cycle stood : ℕ) (got : Option Said) (t : Taken) → processed_of v cycle stood got ≡ Some t → (t.cycle ≡ cycle) × (t.blocks ≡ v.blocks)
@@ -105,10 +130,6 @@ one_more (Some t) h entries e has = by (beq t.mhs (ahs h))
     by true = has
     by false = inr has
 
-views_length : (r : RingView) (jobs : List Job) (carry : Carry) (restarts : Restarts) (k : ℕ) (j : List CycleView) → length (views_of r jobs carry restarts k j) ≡ length j
-views_length r jobs carry restarts k [] = refl
-views_length r jobs carry restarts k (t ∷ j) = ap suc (views_length r jobs carry restarts k j)
-
 pub record IsAcceptedIn (r : RingView) (carry : Carry) (restarts : Restarts) (k : ℕ) (run : List CycleView) (e : Entry) : Type 0 where
   pub newer : List CycleView
   pub cycle : CycleView
@@ -127,7 +148,7 @@ accepted_in r jobs carry restarts k (t ∷ j) e has =
         → (HasAccepted e (all_entries (views_of r jobs carry restarts k j)) → IsAcceptedIn r carry restarts k j e) → IsAcceptedIn r carry restarts k (t ∷ j) e
     by (inl is) rest =
         let so = processed_so (view_of r jobs carry restarts k t j) (length (views_of r jobs carry restarts k j)) (stood_in (view_of r jobs carry restarts k t j) (standing (views_of r jobs carry restarts k j))) (got_in (view_of r jobs carry restarts k t j)) e.taken is in
-        record { newer = []; cycle = t; older = j; cut = refl; at = so.0 ∙ views_length r jobs carry restarts k j; blocks = so.1 }
+        record { newer = []; cycle = t; older = j; cut = refl; at = so.0 ∙ views_count r jobs carry restarts k j; blocks = so.1 }
     by (inr has) rest =
         let one = rest has in
         record { newer = t ∷ one.newer; cycle = one.cycle; older = one.older; cut = ap (λ l. t ∷ l) one.cut; at = one.at; blocks = one.blocks }

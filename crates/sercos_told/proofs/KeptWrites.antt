@@ -1,4 +1,4 @@
--- A complete write of operation data is kept, if no later request writes to its block and the start-up doesn't.
+-- A complete write of operation data is kept, if no later request writes to its block: the start-up doesn't write it either.
 use Rattle.std.proofs.Common.{◌≡◌, ◌⊎◌, inl, inr, ℕ, zero, suc, ◌+◌, ◌<◌, ◌==◌, Bool, true, false, not, ◌||◌, if◌then◌else◌, List, [], ◌∷◌, ◌++◌, length, Option, Some, None, refl, sym, ap, subst, ◌∙◌, arith}
 use Rattle.std.specs.Prelude.{IfSome, option_map, nat_lt, drop, map, is_some, unwrap_or, slice_get, slice_index}
 use Rattle.std.specs.List.{list_all, list_any}
@@ -32,7 +32,7 @@ use Rattle.sercos_master.specs.Annals.{Call, HearMst, HearAt, Mdt, End, Restart,
 use Rattle.sercos_agenda.specs.Channels.{channel_at, CallsAreMoves}
 use Rattle.sercos_agenda.specs.Tasks.{IsTask, OfReads, OfWrites, Checks3, Lists3, Checks4, Lists4, OfWaiting, AreBegunTasks}
 use Rattle.sercos_agenda.specs.Reported.{AreNumbered, AreRequests}
-use Rattle.sercos_agenda.specs.Writes.{IsWrittenLast, WritesData, start_numbers}
+use Rattle.sercos_agenda.specs.Writes.{IsWrittenLast, WritesData}
 use Rattle.sercos_agenda.proofs.Requests.{numbered_drop}
 use Rattle.sercos_handshake.specs.Transfers.{stored}
 use Rattle.sercos_handshake.specs.WholeRun.{all_begun, all_writes, AreSound}
@@ -46,10 +46,14 @@ use Rattle.sercos_views.specs.RingViews.{behind_ats, behind_mdt, view_of, views_
 use Rattle.sercos_views.proofs.Members.{member_is, members_count}
 use Rattle.sercos_held.specs.Opened.{IsOpened}
 use Rattle.sercos_headline.specs.Headline.{Headline, KeepsAll}
-use Rattle.sercos_told.specs.Writes.{writes_to, IsLastTo, is_start, WritesAreKept}
-use Rattle.sercos_told.proofs.ToldLemmas.{told_cut, HasReported, get_dropped, IsRequestOf, request_of}
+use Rattle.sercos_told.specs.Writes.{writes_to, IsLastTo, WritesAreKept}
+use Rattle.sercos_told.proofs.ToldLemmas.{told_cut, HasReported, IsRequestOf, request_of}
+use Rattle.sercos_master.proofs.Laws.{get_dropped}
 use Rattle.sercos_told.proofs.ReadLemmas.{run_before, clear_before, reported_at, begun_as}
+use Rattle.sercos_told.proofs.StartNumbers.{all_start, is_start}
+use Rattle.sercos_told.proofs.StartBlocks.{StartLaws, not_start}
 use Rattle.sercos_told.proofs.LastWrites.{Elsewhere, newest_last, last_next, last_now}
+use Rattle.sercos_told.proofs.KnownBlocks.{known_block}
 use Rattle.sercos_told.proofs.LaterTasks.{IsAbove, AreAbove, AreLater, HasEnded, later_above, still, above_call, has_ended, ended_count}
 
 -- the laws below
@@ -60,6 +64,7 @@ pub record KeptLaws : Type 0 where
   pub left : (s : Known) (jobs : List Job) (h : List Call) (k : ℕ) → (n : ℕ) × ((past s (tasks_for s jobs) h).waiting k ≡ drop n (tasks_for s jobs k))
   pub requests : AreRequests
   pub write_data : WritesData
+  pub start : StartLaws
   pub newest : HoldsNewest
   pub fixed : StaysFixed
   pub sound : (r : RingView) (jobs : List Job) (carry : Carry) (restarts : Restarts) (j : List CycleView) (k : ℕ) → IsOpened r jobs → IsRun r jobs carry restarts j → IsClear j → k < length r.drives
@@ -97,8 +102,8 @@ any_not raw (x ∷ xs) (suc i) y none got = any_not raw xs i y (second (x == raw
     second false b off = off
     second true b off = absurd (cc)
 
-start_at : (raw : ℕ) (i y : ℕ) → is_start raw ≡ false → slice_get (21 ∷ 22 ∷ 127 ∷ 128 ∷ start_numbers) i ≡ Some y → (y == raw) ≡ false
-start_at raw i y none got = any_not raw (21 ∷ 22 ∷ 127 ∷ 128 ∷ start_numbers) i y none got
+start_at : (raw : ℕ) (i y : ℕ) → is_start raw ≡ false → slice_get all_start i ≡ Some y → (y == raw) ≡ false
+start_at raw i y none got = any_not raw all_start i y none got
 
 one_request : (r x : Request) → Some r ≡ Some x → r ≡ x
 one_request r x e = cc
@@ -362,7 +367,7 @@ module _ (laws : KeptLaws) (r : RingView) (jobs : List Job) (carry : Carry) (res
   in_store_of (t ∷ j) some run clear last b found = in_store t j run clear last b found
 
 pub writes_kept : KeptLaws → WritesAreKept
-writes_kept laws r jobs carry restarts run n job idn bytes whole opened is_run clear there writes told last none =
+writes_kept laws r jobs carry restarts run n job idn bytes whole opened is_run clear there writes told last =
     let at = told_cut run (n + 1) (outcome.Complete whole) told in
     let run_so = subst (IsRun r jobs carry restarts) at.cut is_run in
     let clear_so = subst IsClear at.cut clear in
@@ -372,15 +377,23 @@ writes_kept laws r jobs carry restarts run n job idn bytes whole opened is_run c
     let place = reported_at r jobs carry restarts at.one at.before (n + 1) whole keeps.reported at.told in
     let asked = begun_as r jobs carry restarts at.one at.before place.place n (outcome.Complete whole) keeps.reported place.below place.reported in
     let same : asked.job ≡ job = one_job asked.there there in
+    let (b, found) = known_block r jobs carry restarts at.one at.before place.place n idn 7 bytes whole (keeps.exact place.place place.below)
+    (laws.sound r jobs carry restarts (at.one ∷ at.before) place.place opened run_then clear_then place.below) asked (ap (λ (x : Job). x.request) same ∙ writes) in
     let drive : job.drive ≡ (drive_at r place.place).address = sym (ap (λ (x : Job). x.drive) same) ∙ asked.drive in
     let last_so = subst (λ (a : ℕ). IsLastTo jobs n a idn.raw) drive last in
+    let none = not_start laws.start r jobs carry restarts opened place.place place.below at.one at.before run_then clear_then n job idn bytes whole b there writes place.reported found in
     let now = kept_told laws r jobs carry restarts opened place.place n place.below idn.raw last_so none idn bytes refl at.one at.before job whole keeps there writes place.reported in
-    let later = kept_later laws r jobs carry restarts opened place.place n place.below idn.raw last_so none idn bytes refl at.later (at.one ∷ at.before) run_so clear_so now in record {
+    let later = kept_later laws r jobs carry restarts opened place.place n place.below idn.raw last_so none idn bytes refl at.later (at.one ∷ at.before) run_so clear_so now in
+    let (c, holds, written) = in_store_of laws r jobs carry restarts opened place.place place.below idn bytes none run (some_in run at.later at.one at.before at.cut) is_run clear
+    (subst (λ (l : List CycleView). IsWrittenLast (store_of (drive_at r place.place)) (all_begun (views_of r jobs carry restarts place.place l)) idn bytes) (sym at.cut) later.written) b found in record {
       place = place.place;
       below = place.below;
       drive = sym drive;
-      holds = λ b found. in_store_of laws r jobs carry restarts opened place.place place.below idn bytes none run (some_in run at.later at.one at.before at.cut) is_run clear
-          (subst (λ (l : List CycleView). IsWrittenLast (store_of (drive_at r place.place)) (all_begun (views_of r jobs carry restarts place.place l)) idn bytes) (sym at.cut) later.written) b found;
+      block = b;
+      found = found;
+      now = c;
+      holds = holds;
+      written = written;
     }
   where
     one_job : {a b : Job} {o : Option Job} → o ≡ Some a → o ≡ Some b → a ≡ b

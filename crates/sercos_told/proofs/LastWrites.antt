@@ -1,8 +1,8 @@
 -- The last write to a block, from cycle to cycle and through all epochs.
-use Rattle.std.proofs.Common.{◌≡◌, ℕ, zero, suc, Bool, true, false, not, List, [], ◌∷◌, ◌++◌, map, drop, Option, Some, None, refl, sym, ap, ◌∙◌, subst, if◌then◌else◌, append_assoc}
+use Rattle.std.proofs.Common.{◌≡◌, ℕ, Bool, true, false, not, List, [], ◌∷◌, ◌++◌, map, Option, Some, None, refl, sym, ap, ◌∙◌, subst, if◌then◌else◌, append_assoc}
 use Rattle.std.specs.Prelude.{◌==◌, is_some, IfSome}
 use Rattle.std.specs.List.{list_all}
-use Rattle.std.proofs.lemmas.Bool.{and_parts, cond-true, cond-false, eq-eqb, not-true}
+use Rattle.std.proofs.lemmas.Bool.{and_parts}
 use Rattle.sercos_idn.specs.declared.idn.Idn.{Idn}
 use Rattle.sercos_step.specs.declared.request.Request.{Request}
 use Rattle.sercos_step.specs.declared.request.Request.TheVariants as request
@@ -19,37 +19,20 @@ use Rattle.sercos_handshake.specs.Transfers.{stored}
 use Rattle.sercos_handshake.specs.Views.{Heard, View}
 use Rattle.sercos_handshake.specs.Epochs.{with_heard, with_begun, unless_restart, epoch_begun, begun_in}
 use Rattle.sercos_handshake.specs.WholeRun.{leaving, begun_ago, all_begun}
-use Rattle.sercos_handshake.specs.Exact.{Given, given_of, gives, written_to, given_by, AreWrites, Complete, Refused, Broken, AreExact}
+use Rattle.sercos_handshake.specs.Exact.{Given, given_of, written_to, given_by, AreWrites, Complete, Refused, Broken, AreExact}
 use Rattle.sercos_handshake.specs.Values.{newest_to, GiveElsewhere}
 use Rattle.sercos_agenda.specs.Writes.{IsWrittenLast}
+use Rattle.sercos_handshake.proofs.StoredValues.{elsewhere, all-drop, own_one}
 
 -- a request gives nothing to the number
 abbrev pub Elsewhere : ℕ → List Block → Request → Type 0
 Elsewhere raw blocks r = list_all (λ (g : Given). not (g.raw == raw)) (given_by blocks r) ≡ true
 
 -- The newest write.
-elsewhere : (raw : ℕ) (own others : List Write) → list_all (λ (g : Given). not (g.raw == raw)) (map given_of own) ≡ true → newest_to raw (own ++ others) ≡ newest_to raw others
-elsewhere raw [] others all = refl
-elsewhere raw (w ∷ own) others all =
-    let parts = and_parts (not (w.raw == raw)) _ all in
-    cond-false (w.raw == raw) _ _ (not-true (w.raw == raw) parts.0) ∙ elsewhere raw own others parts.1
-
-all-drop : (raw later : ℕ) (given : List Given) → list_all (λ (g : Given). not (g.raw == raw)) given ≡ true → list_all (λ (g : Given). not (g.raw == raw)) (drop later given) ≡ true
-all-drop raw zero given all = all
-all-drop raw (suc later) [] all = refl
-all-drop raw (suc later) (g ∷ given) all = all-drop raw later given (and_parts (not (g.raw == raw)) _ all).1
-
 own_elsewhere : (raw : ℕ) (blocks : List Block) (b : Begun) (own : List Write) → AreWrites blocks b own → Elsewhere raw blocks b.request → list_all (λ (g : Given). not (g.raw == raw)) (map given_of own) ≡ true
 own_elsewhere raw blocks b own (Complete bytes complete is) all = ap (list_all (λ (g : Given). not (g.raw == raw))) is ∙ all
 own_elsewhere raw blocks b own (Refused code refused none) all = ap (λ (l : List Write). list_all (λ (g : Given). not (g.raw == raw)) (map given_of l)) none
 own_elsewhere raw blocks b own (Broken later on is) all = ap (list_all (λ (g : Given). not (g.raw == raw))) is ∙ all-drop raw later (given_by blocks b.request) all
-
-own_one : (raw : ℕ) (x : List ℕ) (own others : List Write) → map given_of own ≡ gives raw x ∷ [] → newest_to raw (own ++ others) ≡ Some x
-own_one raw x [] others is = absurd (cc)
-own_one raw x (w ∷ own) others is =
-    let same : given_of w ≡ gives raw x = cc in
-    let named : w.raw ≡ raw = ap (λ (g : Given). g.raw) same in
-    cond-true (w.raw == raw) _ _ (eq-eqb w.raw raw named) ∙ ap (λ (g : Given). Some g.bytes) same
 
 module _ (blocks : List Block) (older : List Begun) (b : Begun) (idn : Idn) (bytes whole : List ℕ) (block : Block) (is : b.request ≡ request.Write idn 7 bytes) (complete : outcome_of b.request b.answers ≡ Some (outcome.Complete whole)) (found : find_block idn.raw blocks ≡ Some block) where
   own_newest : (own others : List Write) → AreWrites blocks b own → newest_to idn.raw (own ++ others) ≡ Some (stored block bytes)

@@ -8,14 +8,14 @@ use Rattle.sercos_timing.specs.Views.{PlanView}
 use Rattle.sercos_service_master.specs.Begun.{Begun}
 use Rattle.sercos_seat.specs.Ring.{Known, Task, member}
 use Rattle.sercos_seat.specs.Agenda.{reads_count, is_ready}
-use Rattle.sercos_seat.specs.Channel.{Report, count_requests, with_outcome, outcomes_in}
-use Rattle.sercos_seat.proofs.Queues.{ready_stays}
+use Rattle.sercos_seat.specs.Channel.{Report, count_requests, outcomes_in}
 use Rattle.sercos_master.specs.Annals.{Call, past}
 use Rattle.sercos_agenda.specs.Channels.{Channel, channel_at, beginning, Steps, Stays, Identifies, Hears, Plans, Begins, Moves, Within, Ends, Falls, newest, AreMoves, CallsAreMoves}
 use Rattle.sercos_agenda.specs.Tasks.{IsTask, OfReads, OfWrites, Checks3, Lists3, Checks4, Lists4, OfWaiting, AreBegunTasks}
 use Rattle.sercos_agenda.specs.Reported.{AreNumbered, Ascend, IsReportOf}
 use Rattle.sercos_agenda.proofs.ReportedRuns.{count_so}
-use Rattle.sercos_told.proofs.ToldLemmas.{get_dropped}
+use Rattle.sercos_master.proofs.Laws.{get_dropped}
+use Rattle.sercos_told.proofs.FewTasks.{ready_more}
 
 none≢some : {A : Type 0} {x : A} → None ≡ Some x → ⊥
 none≢some e = cc
@@ -104,6 +104,7 @@ pub record HasEnded (s : Known) (k : ℕ) (waiting : List Task) (begun : List Be
   pub got : slice_get waiting place ≡ Some task
   pub later : AreLater waiting place newer
   pub ready : is_ready (member s k) (outcomes_in begun) ≡ true
+  pub late : reads_count (member s k) + 13 ≤ length older
   pub long : reads_count (member s k) + (13 + place) < length begun
 
 module _ (s : Known) (k : ℕ) (plan : Option PlanView) (waiting : List Task) (phase : ℕ) where
@@ -131,10 +132,6 @@ module _ (s : Known) (k : ℕ) (plan : Option PlanView) (waiting : List Task) (p
   late_waited by_then outcomes t (Lists4 at ready same) late = absurd (omega (arith, at, late))
   late_waited by_then outcomes t (OfWaiting j at ready got) late = record { place = j; got = got; at = at; ready = ready }
 
-  ready_more : (all : List Outcome) (o : Option Outcome) → reads_count (member s k) + 12 < length all → is_ready (member s k) (with_outcome o all) ≡ is_ready (member s k) all
-  ready_more all None many = refl
-  ready_more all (Some o) many = ready_stays (member s k) all o many
-
   pub has_ended : (begun : List Begun) (tasks : List Task) (x : Report) → IsReportOf x begun tasks → AreBegunTasks s k plan waiting phase begun tasks → HasEnded s k waiting begun tasks x
   has_ended [] tasks x of are = absurd of
   has_ended (b ∷ older) [] x of are = absurd of
@@ -153,7 +150,8 @@ module _ (s : Known) (k : ℕ) (plan : Option PlanView) (waiting : List Task) (p
         place = w.place;
         got = w.got;
         later = tt;
-        ready = ready_more (outcomes_in older) (outcome_of b.request b.answers) (omega (arith, at)) ∙ w.ready;
+        ready = ready_more s k (outcomes_in older) (outcome_of b.request b.answers) (omega (arith, at)) ∙ w.ready;
+        late = omega (arith, at, ended);
         long = omega (arith, at, ended);
       }
   has_ended (b ∷ older) (t ∷ tasks) x (inr of) are =
@@ -173,7 +171,8 @@ module _ (s : Known) (k : ℕ) (plan : Option PlanView) (waiting : List Task) (p
         place = rest.place;
         got = rest.got;
         later = (rest.later, (w.place, t, omega (arith, at, ended, long), w.got, are.1.asks));
-        ready = ready_more (outcomes_in older) (outcome_of b.request b.answers) (omega (arith, long, ended)) ∙ rest.ready;
+        ready = ready_more s k (outcomes_in older) (outcome_of b.request b.answers) (omega (arith, long, ended)) ∙ rest.ready;
+        late = rest.late;
         long = omega (arith, long);
       }
 

@@ -2,5 +2,10 @@ pub mod ToldLemmas
 pub mod EntryLemmas
 pub mod ReadLemmas
 pub mod LastWrites
+pub mod GuardedWrites
+pub mod FewTasks
 pub mod LaterTasks
+pub mod StartNumbers
+pub mod StartBlocks
+pub mod KnownBlocks
 pub mod KeptWrites

@@ -16,7 +16,7 @@ use Rattle.sercos_service_master.specs.Calls.{begun_by}
 use Rattle.sercos_service_drive.specs.Log.{Entry}
 use Rattle.sercos_trace.specs.Views.{CycleView}
 use Rattle.sercos_script.specs.Links.{Carry, Restarts}
-use Rattle.sercos_seat.specs.Ring.{MemberView, member_of, known_of, tasks_for, member}
+use Rattle.sercos_seat.specs.Ring.{MemberView, Task, member_of, known_of, tasks_for, member}
 use Rattle.sercos_seat.specs.Channel.{Report, number_in}
 use Rattle.sercos_master.specs.Annals.{Past, fall_of, is_idle}
 use Rattle.sercos_master.specs.Reports.{broken, restart_told}
@@ -32,9 +32,10 @@ use Rattle.sercos_views.specs.RingViews.{behind_mdt, view_of, views_of}
 use Rattle.sercos_views.proofs.Members.{member_is}
 use Rattle.sercos_headline.specs.Headline.{Headline}
 use Rattle.sercos_headline.specs.Transfers.{AreReportedIn, IsExactAt}
-use Rattle.sercos_told.specs.Reads.{HasAccepted, IsReadFrom, ReadsAreExact}
-use Rattle.sercos_told.proofs.ToldLemmas.{told_cut, not_broken, HasReported, reported_at_end, ended_so, has_waited, get_dropped, request_of}
-use Rattle.sercos_told.proofs.EntryLemmas.{on_store, behind_in, begun_among, one_exact, accepted_in, accepted_later}
+use Rattle.sercos_told.specs.Reads.{IsReadFrom, ReadsAreExact}
+use Rattle.sercos_told.proofs.ToldLemmas.{told_cut, not_broken, HasReported, reported_at_end, ended_so, has_waited, request_of}
+use Rattle.sercos_master.proofs.Laws.{get_dropped}
+use Rattle.sercos_told.proofs.EntryLemmas.{HasAccepted, on_store, behind_in, begun_among, one_exact, among_all, accepted_in, accepted_later}
 
 -- the cycles up to one of a run
 pub clear_before : (later j : List CycleView) → IsClear (later ++ j) → IsClear j
@@ -90,6 +91,9 @@ pub record IsBegunAs (r : RingView) (jobs : List Job) (carry : Carry) (restarts 
   pub older : List Begun
   pub split : begun_by ((behind_mdt r jobs carry restarts t.sent j).calls k) ≡ newer ++ one ∷ older
   pub ended : outcome_of one.request one.answers ≡ Some o
+  pub task : Task
+  pub is_of : slice_get ((behind_mdt r jobs carry restarts t.sent j).tasks k) (length newer) ≡ Some task
+  pub number : task.number ≡ Some (n + 1)
   pub job : Job
   pub there : slice_get jobs n ≡ Some job
   pub drive : job.drive ≡ (drive_at r k).address
@@ -113,6 +117,9 @@ begun_as r jobs carry restarts t j k n o reported below has =
       older = so.older;
       split = so.split;
       ended = so.ended ∙ ap Some has.outcome;
+      task = so.task;
+      is_of = so.at;
+      number = number;
       job = of.job;
       there = sym (ap (slice_get jobs) place) ∙ of.there;
       drive = of.drive ∙ ap (λ (m : MemberView). m.address) (member_is r k);
@@ -121,29 +128,50 @@ begun_as r jobs carry restarts t j k n o reported below has =
 
 -- And it read what the drive's store has.
 read_at : (r : RingView) (jobs : List Job) (carry : Carry) (restarts : Restarts) (run later : List CycleView) (t : CycleView) (j : List CycleView) (k n : ℕ) (idn : Idn) (bytes : List ℕ) → k < length r.drives
-    → run ≡ later ++ t ∷ j → IsExactAt r jobs carry restarts t j k → (asked : IsBegunAs r jobs carry restarts t j k n (outcome.Complete bytes)) → asked.job.request ≡ request.Read idn data_element
-    → IsReadFrom r jobs carry restarts run asked.job.drive idn.raw bytes
-read_at r jobs carry restarts run later t j k n idn bytes below cut exact asked reads =
+    → run ≡ later ++ t ∷ j → HasOutcome t.events.outcomes (n + 1) (outcome.Complete bytes) → IsExactAt r jobs carry restarts t j k → (asked : IsBegunAs r jobs carry restarts t j k n (outcome.Complete bytes))
+    → asked.job.request ≡ request.Read idn data_element → IsReadFrom r jobs carry restarts run n asked.job.drive idn bytes
+read_at r jobs carry restarts run later t j k n idn bytes below cut told exact asked reads =
     let among = begun_among (view_of r jobs carry restarts k t j) (views_of r jobs carry restarts k j) asked.newer asked.older asked.one (exact.begun_now ∙ asked.split) in
-    let entries : List Entry = all_entries (views_of r jobs carry restarts k (t ∷ j)) in
-    let writes : List Write = all_writes (views_of r jobs carry restarts k (t ∷ j)) in
-    let one = one_exact (store_of (drive_at r k)) among.newer among.older asked.one entries writes (subst (λ all. AreExact (store_of (drive_at r k)) all entries writes) among.split exact.exact) in
+    let entries : List Entry = all_entries (views_of r jobs carry restarts k j) in
+    let writes : List Write = all_writes (views_of r jobs carry restarts k j) in
+    let one = one_exact (store_of (drive_at r k)) asked.newer among.older asked.one entries writes (subst (λ all. AreExact (store_of (drive_at r k)) all entries writes) among.split exact.before) in
     let (block, found, selection, behind, is) = one.exact.reads idn data_element bytes (asked.same ∙ reads) asked.ended in
-    let accepted : HasAccepted selection entries = one.among selection (behind_in _ selection one.part behind) in
-    let inside = accepted_in r jobs carry restarts k (later ++ t ∷ j) selection (accepted_later r jobs carry restarts k later (t ∷ j) selection accepted) in
-    let stored = on_store selection entries exact.stored accepted in record {
+    let accepted : HasAccepted selection entries = among_all one selection (behind_in _ selection one.part behind) in
+    let inside = accepted_in r jobs carry restarts k j selection accepted in
+    let stored = on_store selection (all_entries (views_of r jobs carry restarts k (t ∷ j))) exact.stored (accepted_later r jobs carry restarts k (t ∷ []) j selection accepted) in record {
       place = k;
       below = below;
       drive = sym asked.drive;
+      since = later;
+      told = t;
+      before = j;
+      up_to = cut;
+      is_told = told;
+      later = asked.newer;
+      begun = asked.one;
+      earlier = among.older;
+      among = among.split;
+      task = asked.task;
+      is_of = asked.is_of;
+      number = asked.number;
+      asked = asked.same ∙ reads;
+      ended = asked.ended;
+      after = one.after;
+      part = one.part;
+      behind = one.behind;
+      accepted = one.split;
+      later_parts = one.later_parts;
+      part_of = one.exact.part_of;
+      earlier_parts = one.earlier_parts;
+      selection = selection;
+      selects = behind;
+      reads = is.reads;
+      element = is.element;
       newer = inside.newer;
       cycle = inside.cycle;
       older = inside.older;
-      cut = cut ∙ inside.cut;
-      selection = selection;
-      accepted = subst (λ x. HasAccepted selection (all_entries (views_of r jobs carry restarts k x))) (sym cut) (accepted_later r jobs carry restarts k later (t ∷ j) selection accepted);
+      cut = inside.cut;
       at = inside.at;
-      reads = is.reads;
-      element = is.element;
       block = is.block;
       found = sym (ap (find_block idn.raw) inside.blocks) ∙ is.found;
       gives = is.gives (λ two. stored) ∙ ap (λ c. element_in data_element c is.block) inside.at;
@@ -161,5 +189,5 @@ reads_exact law r jobs carry restarts run n job idn bytes opened is_run clear th
     let place = reported_at r jobs carry restarts at.one at.before (n + 1) bytes keeps.reported at.told in
     let asked = begun_as r jobs carry restarts at.one at.before place.place n (outcome.Complete bytes) keeps.reported place.below place.reported in
     let same : asked.job ≡ job = one_job jobs n asked.job job asked.there there in
-    subst (λ (x : Job). IsReadFrom r jobs carry restarts run x.drive idn.raw bytes) same
-    (read_at r jobs carry restarts run at.later at.one at.before place.place n idn bytes place.below at.cut (keeps.exact place.place place.below) asked (ap (λ (x : Job). x.request) same ∙ reads))
+    subst (λ (x : Job). IsReadFrom r jobs carry restarts run n x.drive idn bytes) same
+    (read_at r jobs carry restarts run at.later at.one at.before place.place n idn bytes place.below at.cut at.told (keeps.exact place.place place.below) asked (ap (λ (x : Job). x.request) same ∙ reads))

@@ -1,6 +1,6 @@
 -- From what is told of a request to the request that was begun.
-use Rattle.std.proofs.Common.{◌≡◌, inl, inr, ℕ, zero, suc, ◌+◌, ◌==◌, Bool, true, false, if◌then◌else◌, List, [], ◌∷◌, ◌++◌, reverse, Option, Some, None, option_map, refl, sym, ap, ◌∙◌, arith, append-nil}
-use Rattle.std.specs.Prelude.{slice_get, drop}
+use Rattle.std.proofs.Common.{◌≡◌, inl, inr, ℕ, zero, suc, ◌+◌, ◌==◌, Bool, true, false, if◌then◌else◌, List, [], ◌∷◌, ◌++◌, length, reverse, Option, Some, None, option_map, refl, sym, ap, ◌∙◌, arith, append-nil}
+use Rattle.std.specs.Prelude.{slice_get}
 use Rattle.std.specs.List.{find, flat_map}
 use Rattle.std.specs.Option.{option_or}
 use Rattle.std.proofs.lemmas.Bool.Decides.{nat_tests}
@@ -22,6 +22,7 @@ use Rattle.sercos_agenda.specs.Tasks.{IsTask, AreBegunTasks}
 use Rattle.sercos_agenda.specs.Tasks.IsTask.{OfReads, OfWrites, Checks3, Lists3, Checks4, Lists4, OfWaiting}
 use Rattle.sercos_backup.specs.Tracking.{told_of}
 use Rattle.sercos_told.specs.Told.{told_in}
+use Rattle.sercos_backup.proofs.TrackLemmas.{map_or}
 
 none≢some : {A : Type 0} {x : A} → None ≡ Some x → ⊥
 none≢some e = cc
@@ -35,10 +36,6 @@ found_in (x ∷ xs) n o e = by (x.0 == n) refl e (found_in xs n o)
         → (told_of xs n ≡ Some o → HasOutcome xs n o) → HasOutcome (x ∷ xs) n o
     by true is e rest = let same : x.1 ≡ o = cc in inl (grind (arith, nat_tests), same)
     by false is e rest = inr (rest e)
-
-map_or : {A B : Type 0} (f : A → B) (x y : Option A) → option_map f (option_or x y) ≡ option_or (option_map f x) (option_map f y)
-map_or f None y = refl
-map_or f (Some a) y = refl
 
 told_append : (xs ys : List (ℕ × Outcome)) (n : ℕ) → told_of (xs ++ ys) n ≡ option_or (told_of xs n) (told_of ys n)
 told_append xs ys n =
@@ -101,12 +98,13 @@ reported_at_end true ended false (Some i) n bytes (inl is) = absurd (never is.1)
 reported_at_end true ended false (Some i) n bytes (inr told) = reported_one ended n (outcome.Complete bytes) told
 
 -- What is reported was begun, as the task with the number.
-pub record HasEndedSo (s : Known) (k : ℕ) (waiting : List Task) (begun : List Begun) (x : Report) : Type 0 where
+pub record HasEndedSo (s : Known) (k : ℕ) (waiting : List Task) (begun : List Begun) (tasks : List Task) (x : Report) : Type 0 where
   pub newer : List Begun
   pub one : Begun
   pub older : List Begun
   pub split : begun ≡ newer ++ one ∷ older
   pub task : Task
+  pub at : slice_get tasks (length newer) ≡ Some task
   pub number : task.number ≡ Some x.number
   pub ended : outcome_of one.request one.answers ≡ Some x.outcome
   pub asks : one.request ≡ task.request
@@ -114,14 +112,14 @@ pub record HasEndedSo (s : Known) (k : ℕ) (waiting : List Task) (begun : List 
   pub is : IsTask s k by_then waiting (outcomes_in older) task
 
 pub ended_so : (s : Known) (k : ℕ) (plan : Option PlanView) (waiting : List Task) (phase : ℕ) (begun : List Begun) (tasks : List Task) (x : Report) → IsReportOf x begun tasks
-    → AreBegunTasks s k plan waiting phase begun tasks → HasEndedSo s k waiting begun x
+    → AreBegunTasks s k plan waiting phase begun tasks → HasEndedSo s k waiting begun tasks x
 ended_so s k plan waiting phase [] tasks x of are = absurd of
 ended_so s k plan waiting phase (b ∷ older) [] x of are = absurd of
 ended_so s k plan waiting phase (b ∷ older) (t ∷ tasks) x (inl is) are =
-    record { newer = []; one = b; older = older; split = refl; task = t; number = is.0; ended = is.1; asks = are.1.asks; by_then = are.1.by_then; is = are.1.task }
+    record { newer = []; one = b; older = older; split = refl; task = t; at = refl; number = is.0; ended = is.1; asks = are.1.asks; by_then = are.1.by_then; is = are.1.task }
 ended_so s k plan waiting phase (b ∷ older) (t ∷ tasks) x (inr of) are =
     let rest = ended_so s k plan waiting phase older tasks x of are.0 in
-    record { newer = b ∷ rest.newer; one = rest.one; older = rest.older; split = ap (λ l. b ∷ l) rest.split; task = rest.task; number = rest.number; ended = rest.ended; asks = rest.asks; by_then = rest.by_then; is = rest.is }
+    record { newer = b ∷ rest.newer; one = rest.one; older = rest.older; split = ap (λ l. b ∷ l) rest.split; task = rest.task; at = rest.at; number = rest.number; ended = rest.ended; asks = rest.asks; by_then = rest.by_then; is = rest.is }
 
 -- A task with a number waited.
 pub has_waited : (s : Known) (k : ℕ) (plan : Option PlanView) (waiting : List Task) (outcomes : List Outcome) (t : Task) (n : ℕ) → IsTask s k plan waiting outcomes t → t.number ≡ Some n → (j : ℕ) × (slice_get waiting j ≡ Some t)
@@ -132,11 +130,6 @@ has_waited s k plan waiting outcomes t n (Lists3 at checked same) number = absur
 has_waited s k plan waiting outcomes t n (Checks4 at checked same) number = absurd (none≢some (sym (ap (λ (x : Task). x.number) same) ∙ number))
 has_waited s k plan waiting outcomes t n (Lists4 at ready same) number = absurd (none≢some (sym (ap (λ (x : Task). x.number) same) ∙ number))
 has_waited s k plan waiting outcomes t n (OfWaiting j at ready got) number = (j, got)
-
-pub get_dropped : {A : Type 0} (n : ℕ) (xs : List A) (i : ℕ) → slice_get (drop n xs) i ≡ slice_get xs (n + i)
-get_dropped zero xs i = ap (slice_get xs) (omega arith)
-get_dropped (suc n) [] i = refl
-get_dropped (suc n) (x ∷ xs) i = let e : suc n + i ≡ suc (n + i) = omega arith in rw e (get_dropped n xs i)
 
 -- The task with a number is the request with that number.
 pub record IsRequestOf (address i : ℕ) (jobs : List Job) (t : Task) (n : ℕ) : Type 0 where

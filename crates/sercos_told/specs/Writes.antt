@@ -1,6 +1,5 @@
 -- What complete writes of operation data leave at the end of a run. Journals have their newest item first.
-use Rattle.std.specs.Prelude.{◌≡◌, ℕ, ◌+◌, ◌<◌, ◌==◌, Bool, false, List, ◌∷◌, length, Some, slice_get}
-use Rattle.std.specs.List.{list_any}
+use Rattle.std.specs.Prelude.{◌≡◌, ℕ, ◌+◌, ◌<◌, ◌==◌, Bool, false, List, length, Some, slice_get}
 use Rattle.sercos_idn.specs.declared.idn.Idn.{Idn}
 use Rattle.sercos_idn.specs.Elements.{data_element}
 use Rattle.sercos_step.specs.declared.request.Request.{Request}
@@ -15,7 +14,6 @@ use Rattle.sercos_drive.specs.Annals.{store_at}
 use Rattle.sercos_script.specs.Links.{Carry, Restarts}
 use Rattle.sercos_trace.specs.Views.{CycleView}
 use Rattle.sercos_handshake.specs.Transfers.{stored}
-use Rattle.sercos_agenda.specs.Writes.{start_numbers}
 use Rattle.sercos_journal.specs.Runs.{IsRun, IsClear, drive_at, given_before}
 use Rattle.sercos_held.specs.Opened.{IsOpened}
 use Rattle.sercos_backup.specs.Tracking.{told_of}
@@ -31,22 +29,21 @@ writes_to raw (request.Command idn) = idn.raw == raw
 abbrev pub IsLastTo : List Job → ℕ → ℕ → ℕ → Type 0
 IsLastTo jobs n address raw = (m : ℕ) (job : Job) → n < m → slice_get jobs m ≡ Some job → job.drive ≡ address → writes_to raw job.request ≡ false
 
--- whether the start-up writes to the block with this number: the values of the plan, the two checks, and their lists
-abbrev pub is_start : ℕ → Bool
-is_start raw = list_any (λ (n : ℕ). n == raw) (21 ∷ 22 ∷ 127 ∷ 128 ∷ start_numbers)
-
--- After the cycles of a run the store of the drive with this address has these bytes as operation data of its block with this number,
--- filled as a write fills them, if the drive has one. They don't change by themselves from cycle to cycle.
+-- The drive with this address has a block with this number, and after the cycles of a run its store has these bytes as operation data of
+-- the block, filled as a write fills them. They don't change by themselves from cycle to cycle.
 pub record IsRestored (r : RingView) (carry : Carry) (restarts : Restarts) (run : List CycleView) (address raw : ℕ) (bytes : List ℕ) : Type 0 where
   pub place : ℕ
   pub below : place < length r.drives
   pub drive : (drive_at r place).address ≡ address
-  pub holds : (b : Block) → find_block raw (store_of (drive_at r place)) ≡ Some b
-      → (c : Block) × (find_block raw (store_at (drive_at r place) r.rate (given_before carry restarts run place)) ≡ Some c) × ((cycle : ℕ) → data_in cycle c ≡ stored b bytes)
+  pub block : Block
+  pub found : find_block raw (store_of (drive_at r place)) ≡ Some block
+  pub now : Block
+  pub holds : find_block raw (store_at (drive_at r place) r.rate (given_before carry restarts run place)) ≡ Some now
+  pub written : (cycle : ℕ) → data_in cycle now ≡ stored block bytes
 
--- So it is with each complete write of operation data to a block that the start-up doesn't write, if no later request to the drive writes
--- to it: in every run in which nothing was unseen, through all falls, restarts and start-ups.
+-- So it is with each complete write of operation data, if no later request to the drive writes to the block: in every run in which nothing was
+-- unseen, through all falls, restarts and start-ups.
 abbrev pub WritesAreKept : Type 0
 WritesAreKept = (r : RingView) (jobs : List Job) (carry : Carry) (restarts : Restarts) (run : List CycleView) (n : ℕ) (job : Job) (idn : Idn) (bytes whole : List ℕ) →
     IsOpened r jobs → IsRun r jobs carry restarts run → IsClear run → slice_get jobs n ≡ Some job → job.request ≡ request.Write idn data_element bytes →
-    told_of (told_in run) (n + 1) ≡ Some (outcome.Complete whole) → IsLastTo jobs n job.drive idn.raw → is_start idn.raw ≡ false → IsRestored r carry restarts run job.drive idn.raw bytes
+    told_of (told_in run) (n + 1) ≡ Some (outcome.Complete whole) → IsLastTo jobs n job.drive idn.raw → IsRestored r carry restarts run job.drive idn.raw bytes

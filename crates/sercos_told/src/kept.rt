@@ -15,10 +15,9 @@ use sercos_startup::{
 use sercos_typed::typed_law;
 
 /// A law and no code. In a run in which nothing was unseen, whatever was lost or damaged and whoever restarted: if a write of operation
-/// data is told as complete, and no later request to the drive writes to the same block, then after the last cycle the drive's store has
-/// the bytes of this write in the block. The bytes of a write that is no list are filled up with zeros to whole words, at least one. The
-/// block isn't one that the start-up writes: S-0-0001, 0002, 0006 to 0010, 0015, 0016, 0024 and 0089, the two checks S-0-0127 and 0128,
-/// and their lists S-0-0021 and 0022.
+/// data is told as complete, and no later request to the drive writes to the same block, then the drive has the block, and after the last
+/// cycle its store has the bytes of this write there. The bytes of a write that is no list are filled up with zeros to whole words, at
+/// least one. No start-up changes them: the blocks that it writes are write protected in phase 4, in which all requests are made.
 pub fn kept_law()
     ensures { WritesAreKept }
 {

@@ -3,8 +3,8 @@ ghost use Rattle.sercos_told.specs.Reads.{ReadsAreExact};
 
 use sercos_headline::headline_law;
 
-/// A law and no code. In a run in which nothing was unseen, the bytes that are told of a complete read of operation data are those that
-/// the drive had in the one cycle in which it accepted the selection.
+/// A law and no code. In a run in which nothing was unseen, the bytes that are told of a complete read of operation data are those of the
+/// block in the drive's store in the one cycle in which the drive accepted the selection of that read's own transfer.
 pub fn told_law()
     ensures reads { ReadsAreExact }
 {

@@ -1,6 +1,6 @@
 mod KindLemmas
 pub mod WriteLemmas
-mod MarkLemmas
+pub mod MarkLemmas
 pub mod MarkedLemmas
 mod Worked
 mod NumberLemmas

@@ -36,10 +36,10 @@ unfolding marked marked_from
 marked_none mark = refl
 
 -- a text that is marked line by line
-after_feed : (byte : ℕ) (bytes : List ℕ) → is_feed byte ≡ true → after_first is_feed (byte ∷ bytes) ≡ bytes
+pub after_feed : (byte : ℕ) (bytes : List ℕ) → is_feed byte ≡ true → after_first is_feed (byte ∷ bytes) ≡ bytes
 after_feed byte bytes e = rw e refl
 
-after_more : (byte : ℕ) (bytes : List ℕ) → is_feed byte ≡ false → after_first is_feed (byte ∷ bytes) ≡ after_first is_feed bytes
+pub after_more : (byte : ℕ) (bytes : List ℕ) → is_feed byte ≡ false → after_first is_feed (byte ∷ bytes) ≡ after_first is_feed bytes
 after_more byte bytes e =
     let next : 1 + position_or_len is_feed bytes + 1 ≡ suc (position_or_len is_feed bytes + 1) = omega arith in rw (e, next) refl
 

@@ -34,7 +34,7 @@ fn write_piece<K: Sink>(mark: &[u8], line: &[u8], sink: &mut K) -> Result<(), Wr
     write_bytes(line, sink)
 }
 
-// What a text has after so many bytes.
+// A text without its first `len` bytes.
 fn rest_of(text: &[u8], len: usize) -> &[u8]
     requires { len ≤ length text.now }
     ensures { result.now ≡ drop len text.now }

@@ -50,7 +50,7 @@ in_order_so : (run : List Taken) (words : List ℕ) → AreTaken run → AreWord
 in_order_so [] words are fit = fit
 in_order_so (t ∷ run) words are fit = in_order_so run (t.step.word ∷ words) are.1 (are.0.word, fit)
 
-words_drop : (n : ℕ) (words : List ℕ) → AreWords words → AreWords (drop n words)
+pub words_drop : (n : ℕ) (words : List ℕ) → AreWords words → AreWords (drop n words)
 words_drop zero words are = are
 words_drop (suc n) [] are = tt
 words_drop (suc n) (word ∷ words) are = words_drop n words are.1

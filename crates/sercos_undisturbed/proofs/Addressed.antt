@@ -56,9 +56,9 @@ place_found r k valid below =
     by : (m : ℕ) → place_of (known_of r) (drive_at r k).address ≡ Some m → place_of (known_of r) (drive_at r k).address ≡ Some k
     by m found = found ∙ ap (λ (i : ℕ). Some i) (sym (place_is r k m valid below found))
 
-is_place_some : (k : ℕ) (o : Option ℕ) → is_place k o ≡ true → o ≡ Some k
-is_place_some k None is = cc
-is_place_some k (Some i) is = ap (λ (n : ℕ). Some n) (sym (eqb-true k i is))
+pub place_so : (k : ℕ) (o : Option ℕ) → is_place k o ≡ true → o ≡ Some k
+place_so k None is = cc
+place_so k (Some i) is = ap (λ (n : ℕ). Some n) (sym (eqb-true k i is))
 
 pub place_some : (k : ℕ) (o : Option ℕ) → o ≡ Some k → is_place k o ≡ true
 place_some k o is = let same : (k == k) ≡ true = grind (arith, nat_tests) in ap (is_place k) is ∙ same
@@ -116,7 +116,7 @@ told_one p k to = by (nat_le 3 p.now.phase && is_some p.plan) (place_some k p.no
 pub told_early : (p : Past) (k : ℕ) → p.now.phase ≤ 2 → is_told p k ≡ true → p.now.addressed ≡ Some k
 told_early p k early told =
     let late : nat_le 3 p.now.phase ≡ false = grind (arith, nat_tests, early) in
-    is_place_some k p.now.addressed (sym (ap (λ (b : Bool). (b && is_some p.plan) || is_place k p.now.addressed) late) ∙ told)
+    place_so k p.now.addressed (sym (ap (λ (b : Bool). (b && is_some p.plan) || is_place k p.now.addressed) late) ∙ told)
 
 -- THE MDT THAT A DRIVE IS TOLD IN. A drive in the commanded phase gets its record of it.
 pub record IsTold (r : RingView) (p : Past) (k : ℕ) (blocks : List Block) : Type 0 where

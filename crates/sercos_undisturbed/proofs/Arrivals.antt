@@ -25,7 +25,7 @@ not_false true is = refl
 not_false false is = cc
 
 -- none of the places passes the test
-none_of : (n : ℕ) (test : ℕ → Bool) → any_below n test ≡ false → (i : ℕ) → i < n → test i ≡ false
+pub none_of : (n : ℕ) (test : ℕ → Bool) → any_below n test ≡ false → (i : ℕ) → i < n → test i ≡ false
 none_of zero test none i below = absurd (omega (arith, below))
 none_of (suc n) test none i below =
     let (before, last) = or_parts (any_below n test) (test n) none in

@@ -24,7 +24,8 @@ use Rattle.sercos_agenda.specs.Tasks.{BeginsTasks, BeginsNoneEarly, AreBegunTask
 use Rattle.sercos_agenda.proofs.OneTurn.{AtHears, SameAt, HeardAt, elsewhere_same, here_hears}
 use Rattle.sercos_views.specs.RingViews.{request_of}
 use Rattle.sercos_undisturbed.proofs.Arrivals.{not_false}
-use Rattle.sercos_undisturbed.proofs.StaysUp.{found_passes, place_so}
+use Rattle.sercos_undisturbed.proofs.StaysUp.{found_passes}
+use Rattle.sercos_undisturbed.proofs.Addressed.{place_so}
 use Rattle.sercos_views.proofs.MasterSame.{begun_so, turn_mdt}
 use Rattle.sercos_undisturbed.proofs.AfterAt.{after_at_so}
 use Rattle.sercos_undisturbed.proofs.Small.{some_is}

@@ -28,8 +28,7 @@ use Rattle.sercos_handshake.specs.InStep.{replies_of}
 use Rattle.sercos_handshake.specs.Transfers.{IsTransfer}
 use Rattle.sercos_handshake.specs.WholeRun.{AreSmall}
 use Rattle.sercos_handshake.proofs.AttributeReplies.{find-alike}
-use Rattle.sercos_step.proofs.Ends.{length-answer_words}
-use Rattle.sercos_handshake.proofs.TransferSteps.{length-replies_of, goes_on-outcome_of, newest_step, without_newest}
+use Rattle.sercos_handshake.proofs.TransferSteps.{goes_on-outcome_of, newest_step, without_newest}
 use Rattle.sercos_handshake.proofs.UnknownBlocks.{only_opening}
 use Rattle.sercos_service_drive.proofs.WriteAnswers.{length-in_order}
 use Rattle.sercos_handshake.proofs.WriteStages.{low_of, high_of, told, is_nil}
@@ -37,9 +36,7 @@ use Rattle.sercos_handshake.proofs.WriteStages as write
 use Rattle.sercos_undisturbed.proofs.RefusedRuns.{SaysShape}
 use Rattle.sercos_undisturbed.proofs.RefusedSteps.{reply_word}
 use Rattle.sercos_undisturbed.proofs.Small.{first_is, never_both, some_is}
-
-long_words : (entries : List Entry) → length (answer_words (replies_of entries)) ≡ length entries
-long_words entries = length-answer_words (replies_of entries) ∙ length-replies_of entries
+use Rattle.sercos_pace.proofs.TransferCosts.{long_words}
 
 -- THE CAUSE: an answer that is no error has none
 no_cause : (o : Option ℕ) (word : ℕ) (a : Answer) → a ≡ answer_by o word → a.error ≡ false → o ≡ None

@@ -25,7 +25,8 @@ use Rattle.sercos_undisturbed.proofs.Comes.{calm_in}
 use Rattle.sercos_undisturbed.proofs.AtsTaken.{unheard_ats}
 use Rattle.sercos_undisturbed.proofs.Identified.{starts_so, goes_so, heard_next}
 use Rattle.sercos_undisturbed.proofs.NoFalls.{heard_mdt, has_risen, no_fall}
-use Rattle.sercos_undisturbed.proofs.StaysUp.{addressed_first, place_so, phase_now, turns_now, whole_now, stands_so, idle_then}
+use Rattle.sercos_undisturbed.proofs.StaysUp.{addressed_first, phase_now, turns_now, whole_now, stands_so, idle_then}
+use Rattle.sercos_undisturbed.proofs.Addressed.{place_so}
 use Rattle.sercos_undisturbed.proofs.PhaseZero.{none_addressed, few_back, zero_waits}
 use Rattle.sercos_undisturbed.proofs.PhaseCounts.{Waits, Identifies, LastTo, IsZero, IsOne, zero_next, tenth_next, not_twice, first_unknown, all_known, one_next, one_done}
 

@@ -7,7 +7,6 @@ use Rattle.sercos_idn.specs.Codes.{is_list}
 use Rattle.sercos_idn.specs.declared.idn.Idn.{Idn}
 use Rattle.sercos_idn.specs.declared.kinds.Length.{Length}
 use Rattle.sercos_idn.specs.declared.kinds.Length.TheVariants as len
-use Rattle.sercos_step.specs.declared.shape.Shape.TheVariants as shape
 use Rattle.sercos_step.specs.Words.{bytes_in, words_of, shape_by, words_told}
 use Rattle.sercos_block.specs.BuiltIns.{built_in, built_in_block, row}
 use Rattle.sercos_block.specs.Rules.{blocks_fault}
@@ -30,6 +29,7 @@ use Rattle.sercos_handshake.proofs.WriteStages.{told}
 use Rattle.sercos_undisturbed.proofs.RefusedSteps.{IsCaused}
 use Rattle.sercos_handshake.proofs.WriteStages.{is_nil}
 use Rattle.sercos_undisturbed.proofs.Small.{none_some, some_is}
+use Rattle.sercos_pace.proofs.JobCosts.{list_shape}
 
 -- WORDS
 order_append : (taken : List Taken) (xs ys : List ℕ) → in_order taken (xs ++ ys) ≡ in_order taken xs ++ ys
@@ -58,13 +58,6 @@ starts_so x (y ∷ l) rest ys some same = record { others = l; is = ap (λ (n : 
 words_back : (words : List ℕ) → length (words_of (bytes_in words)) ≡ length words
 words_back [] = refl
 words_back (w ∷ words) = ap (λ (n : ℕ). suc n) (words_back words)
-
-list_shape : (l : Length) → is_list l ≡ true → shape_by l ≡ shape.List
-list_shape len.Two is = absurd (cc)
-list_shape len.Four is = absurd (cc)
-list_shape len.List1 is = refl
-list_shape len.List2 is = refl
-list_shape len.List4 is = refl
 
 -- so this is the cause of a number's word
 abbrev word_of : ℕ → ℕ

@@ -35,6 +35,7 @@ use Rattle.sercos_undisturbed.proofs.Comes.{calm_in}
 use Rattle.sercos_undisturbed.proofs.Identified.{phase_comes, mst_whole, starts_so, goes_so, heard_next}
 use Rattle.sercos_undisturbed.proofs.NoFalls.{heard_mdt, has_risen, no_fall}
 use Rattle.sercos_views.proofs.ViewRuns.{no_answer}
+use Rattle.sercos_undisturbed.proofs.Addressed.{place_so}
 
 -- what is heard on a channel is heard of the drive
 heard_of : (s : Known) (k : ℕ) (such : List ℕ → Type 0) (c : List Call) (q : Past) → HasHeard s k such c q → heard_last c ≡ None → is_some (heard_last (q.calls k)) ≡ true → q.now.heard k ≡ true
@@ -83,10 +84,6 @@ begun_none busy empty v past (run, next) early =
         by false low = (empty past run low).0
 
 -- THE DRIVE THAT IS ADDRESSED in phase 1 isn't identified.
-pub place_so : (k : ℕ) (o : Option ℕ) → is_place k o ≡ true → o ≡ Some k
-place_so k None is = absurd (false≢true is)
-place_so k (Some i) is = let same : k ≡ i = grind (arith, nat_tests, is) in ap (λ (n : ℕ). Some n) (sym same)
-
 pub found_passes : (k n i : ℕ) (test : ℕ → Bool) → first_from k n test ≡ Some i → test i ≡ true
 found_passes k zero i test found = cc
 found_passes k (suc n) i test found = by (test k) refl found (λ rest. found_passes (k + 1) n i test rest)

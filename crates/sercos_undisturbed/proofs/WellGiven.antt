@@ -30,15 +30,15 @@ use Rattle.sercos_handshake.specs.Epochs.{command, epoch_begun, epoch_taken, epo
 use Rattle.sercos_handshake.specs.InStep.{replies_of}
 use Rattle.sercos_handshake.specs.Parts.{IsRow, IsPart, Unsent, Heard, Unheard, AreParts}
 use Rattle.sercos_handshake.specs.Runs.{IsRun as IsViewRun}
-use Rattle.sercos_handshake.specs.Transfers.{HaveBlocks, IsTransfer}
+use Rattle.sercos_handshake.specs.Transfers.{IsTransfer}
 use Rattle.sercos_handshake.specs.Values.{newest_to}
 use Rattle.sercos_handshake.specs.Views.{View, processed_in, kept_in}
 use Rattle.sercos_handshake.specs.WholeRun.{AreSound, all_entries, write_of}
 use Rattle.sercos_handshake.proofs.AttributeReplies.{find-alike}
 use Rattle.sercos_handshake.proofs.EpochRuns.{in_step}
-use Rattle.sercos_handshake.proofs.ExactRuns.{IsEpoch, epoch, split_replies, split_blocks}
+use Rattle.sercos_handshake.proofs.ExactRuns.{IsEpoch, epoch}
 use Rattle.sercos_handshake.proofs.LogParts.{fall_into_parts}
-use Rattle.sercos_handshake.proofs.WholeRuns.{HasReplies, answered_replies, entries_ago, entries_in_epochs}
+use Rattle.sercos_handshake.proofs.WholeRuns.{answered_replies, entries_ago, entries_in_epochs}
 use Rattle.sercos_journal.specs.Runs.{drive_at, IsRun, IsClear}
 use Rattle.sercos_settings.specs.SetByWrites.{SettingsFollow, commands_left}
 use Rattle.sercos_settings.specs.WellSet.{HaveStores}

@@ -49,7 +49,7 @@ pub record Speaks (d : DriveView) (rate : ℕ) (past : List Moment) (content : L
   pub stands : 1 ≤ phase_in past
   pub shows : shown_by (status_of (word_at content 1)) (word_at content 3) ≡ channel_says d.busy (cycle_in past) (commands_in d rate past) (taken_in past)
 
-sends_so : (got took : Bool) (phase : ℕ) → (got && (nat_le 3 phase || (nat_le 1 phase && took))) ≡ true → (got ≡ true) × (1 ≤ phase)
+pub sends_so : (got took : Bool) (phase : ℕ) → (got && (nat_le 3 phase || (nat_le 1 phase && took))) ≡ true → (got ≡ true) × (1 ≤ phase)
 sends_so true true phase sent = (refl, grind (arith, nat_tests, sent))
 sends_so true false phase sent = (refl, grind (arith, nat_tests, sent))
 sends_so false took phase sent = cc

@@ -1,10 +1,9 @@
-use Rattle.std.proofs.Common.{◌≡◌, true, false, ap, sym, ◌∙◌, rules, subst}
+use Rattle.std.proofs.Common.{◌≡◌, true, false, ap, ◌∙◌, rules}
 use Rattle.sercos_script.specs.Links.{Carry, Restarts}
 use Rattle.sercos_backup.specs.Jobs.{list_jobs, data_jobs}
 use Rattle.sercos_backup.specs.Tracking.{lists_told}
 use Rattle.sercos_backup.specs.Texts.{failed_answer}
 use Rattle.sercos_app.specs.Saving.{run_tracked, data_answer}
-use Rattle.sercos_app.specs.Saved.{ReadsTyped}
 use Rattle.sercos_app.proofs.SavingLemmas.{is_reply, same_reply, lists_well, list_failed, list_well, few_lists, if_ok, typed_failed, typed_second, IfOk-of}
 use Rattle.sercos_app.proofs.backup_command.backup_reply.Goals as goal
 

@@ -1,4 +1,4 @@
-use Rattle.sercos_app.specs.Outcome.Replies.{replied}
+use Rattle.sercos_call.specs.Outcome.Replies.{replied}
 use Rattle.sercos_checking.specs.Checking.{check_answer}
 use Rattle.sercos_app.proofs.check_command.answer_check.Goals as goal
 

@@ -1,5 +1,5 @@
 use Rattle.std.proofs.Common.{refl}
-use Rattle.sercos_app.specs.Outcome.Replies.{none_found}
+use Rattle.sercos_call.specs.Outcome.Replies.{none_found}
 use Rattle.sercos_app.proofs.RunLemmas.{gen_replies}
 use Rattle.sercos_app.proofs.gen_command.answer_gen.Goals as goal
 

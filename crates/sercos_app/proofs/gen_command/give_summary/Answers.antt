@@ -1,5 +1,5 @@
 use Rattle.std.proofs.lemmas.Bool.{false≢true}
-use Rattle.sercos_app.specs.Outcome.Writes.{whole, short}
+use Rattle.sercos_call.specs.Outcome.Writes.{whole, short}
 use Rattle.sercos_app.proofs.gen_command.give_summary.Goals as goal
 
 pub returns-in-Ok : goal.returns-in-Ok

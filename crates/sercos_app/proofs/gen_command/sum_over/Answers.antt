@@ -1,6 +1,6 @@
 use Rattle.std.proofs.Common.{refl}
 use Rattle.sercos_block.specs.Rings.{wishes_of}
-use Rattle.sercos_app.specs.Outcome.Replies.{none_found, replied}
+use Rattle.sercos_call.specs.Outcome.Replies.{none_found, replied}
 use Rattle.sercos_app.proofs.gen_command.sum_over.Goals as goal
 
 pub count_cycles-totals-requires-clause-ring : goal.count_cycles-totals-requires-clause-ring

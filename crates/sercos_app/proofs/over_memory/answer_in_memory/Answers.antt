@@ -1,5 +1,5 @@
 use Rattle.std.proofs.Common.{◌≡◌, ◌<◌, inl, inr, ℕ, Bool, true, false, List, Some, length, refl, arith}
-use Rattle.sercos_app.specs.TopCall.{HasInput}
+use Rattle.sercos_call.specs.TopCall.{HasInput}
 use Rattle.std.proofs.lemmas.Bool.Decides.{nat_tests}
 use Rattle.sercos_model.specs.Streams.{Rose}
 use Rattle.sercos_io.specs.Memory.{SinkState, room_of}

@@ -1,4 +1,3 @@
-use Rattle.std.proofs.Common.{sym}
 use Rattle.sercos_backup.specs.Texts.{other_answer}
 use Rattle.sercos_app.proofs.SavingLemmas.{is_reply, other_place}
 use Rattle.sercos_app.proofs.restore_command.restore_reply.Goals as goal

@@ -1,5 +1,5 @@
 use Rattle.std.proofs.Common.{refl}
-use Rattle.sercos_app.specs.Outcome.Replies.{none_found, replied}
+use Rattle.sercos_call.specs.Outcome.Replies.{none_found, replied}
 use Rattle.sercos_app.proofs.run_command.run_over.Goals as goal
 
 pub returns-in-Ok : goal.returns-in-Ok

@@ -1,4 +1,4 @@
-use Rattle.sercos_app.proofs.ReplyLemmas.{made_replies}
+use Rattle.sercos_call.proofs.ReplyLemmas.{made_replies}
 use Rattle.sercos_app.proofs.top_call.answer_plan.Goals as goal
 
 pub returns : goal.returns

@@ -1,5 +1,5 @@
 use Rattle.std.proofs.Common.{rules}
-use Rattle.sercos_app.proofs.ReplyLemmas.{made_replies}
+use Rattle.sercos_call.proofs.ReplyLemmas.{made_replies}
 use Rattle.sercos_app.proofs.top_call.answer_show.Goals as goal
 
 pub returns : goal.returns

@@ -1,9 +1,11 @@
-use Rattle.sercos_headline.proofs.HeadlineRuns.{MoreLaws, first_store, all_stand}
+use Rattle.std.proofs.Common.{sym, ◌∙◌}
+use Rattle.sercos_headline.proofs.HeadlineRuns.{MoreLaws, first_store, all_stand, spelled_in, stored_in}
 use Rattle.sercos_headline.proofs.WellRuns.{StopLaws}
-use Rattle.sercos_held.proofs.Runs.{Laws, alike_so}
+use Rattle.sercos_held.proofs.Runs.{Laws, alike_so, small, phase_same}
 use Rattle.sercos_held.proofs.StoreOf.{store_of_so}
 use Rattle.sercos_journal.specs.Runs.{drive_at, given_before}
 use Rattle.sercos_told.proofs.KeptWrites.{KeptLaws, writes_kept}
+use Rattle.sercos_told.proofs.StartBlocks.{StartLaws}
 use Rattle.sercos_told.proofs.kept.kept_law.Goals as goal
 
 pub returns : goal.returns
@@ -76,7 +78,18 @@ returns c =
       frame = c.framing_law.ensures.frame;
       wire = c.framing_law.ensures.wire;
     } in
+    let start : StartLaws = record {
+      headline = c.headline_law.ensures;
+      transfers = record { once = c.transfer_law.ensures.writes_once; reads = c.transfer_law.ensures.reads_once };
+      left = c.master_law.ensures.left;
+      small = λ r jobs carry restarts k opened below. small laws r jobs carry restarts opened (first_store laws more r jobs carry restarts opened) k below;
+      next = λ r jobs carry restarts j k opened run clear below. (all_stand laws more r jobs carry restarts opened j run clear k below).sees.run;
+      sound = λ r jobs carry restarts j k opened run clear below. (all_stand laws more r jobs carry restarts opened j run clear k below).sound;
+      phase = λ r jobs carry restarts t j opened run clear. phase_same laws r jobs carry restarts opened (first_store laws more r jobs carry restarts opened) t j run.1 clear.1
+          (spelled_in laws more r jobs carry restarts opened t j run.1) (stored_in laws more r jobs carry restarts opened t j) (all_stand laws more r jobs carry restarts opened j run.0 clear.0) ∙ sym run.1.phase;
+    } in
     let kept : KeptLaws = record {
+      start = start;
       headline = c.headline_law.ensures;
       moves = c.channel_law.ensures.moves;
       first = c.master_law.ensures.first;

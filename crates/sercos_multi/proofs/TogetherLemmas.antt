@@ -1,33 +1,13 @@
--- Marks taken off, and moments that are multiples of the cycle time.
-use Rattle.std.proofs.Common.{◌≡◌, ℕ, zero, suc, ◌+◌, ◌-◌, ◌*◌, ◌<◌, ◌==◌, ◌⊎◌, inl, inr, Bool, true, false, ◌||◌, if◌then◌else◌, List, [], ◌∷◌, ◌++◌, length, refl, ◌∙◌, ap, subst, arith}
-use Rattle.std.specs.Prelude.{nat_le}
+-- Moments that are multiples of the cycle time.
+use Rattle.std.proofs.Common.{◌≡◌, ℕ, zero, suc, ◌+◌, ◌-◌, ◌*◌, ◌<◌, ◌≤◌, ◌==◌, ◌⊎◌, inl, inr, Bool, true, false, ◌||◌, if◌then◌else◌, List, [], ◌∷◌, refl, sym, ap, subst, arith}
+use Rattle.std.specs.Prelude.{Some, nat_le, slice_get}
 use Rattle.std.proofs.lemmas.Bool.{cases_lt}
 use Rattle.std.proofs.lemmas.Bool.Decides.{nat_tests}
 use Rattle.sercos_trace.specs.Views.{CycleView}
-use Rattle.sercos_trace.specs.Marked.{is_feed, marked, marked_from}
-use Rattle.sercos_multi.specs.Asking.{is_common}
-use Rattle.sercos_multi.specs.Merged.{begun, from_moment, is_cycle, is_timed, span}
-use Rattle.sercos_multi.specs.Laws.{BeginsTogether, unmarked, unmarked_from}
-
-skip_mark : (n : ℕ) (mark text : List ℕ) → unmarked_from n (length mark) (mark ++ text) ≡ unmarked_from n 0 text
-unfolding unmarked_from
-skip_mark n [] text = refl
-skip_mark n (m ∷ mark) text = skip_mark n mark text
-
-off : (begins : Bool) (mark text : List ℕ) → unmarked_from (length mark) (if begins then length mark else 0) (marked_from begins mark text) ≡ text
-unfolding unmarked_from marked_from
-off true mark [] = nothing (length mark) (length mark)
-  where
-    nothing : (n left : ℕ) → unmarked_from n left [] ≡ []
-    nothing n zero = refl
-    nothing n (suc left) = refl
-off false mark [] = refl
-off true mark (x ∷ text) = skip_mark (length mark) mark (x ∷ marked_from (is_feed x) mark text) ∙ ap (λ t. x ∷ t) (off (is_feed x) mark text)
-off false mark (x ∷ text) = ap (λ t. x ∷ t) (off (is_feed x) mark text)
-
-pub marks_off : (mark text : List ℕ) → unmarked (length mark) (marked mark text) ≡ text
-unfolding marked
-marks_off mark text = off true mark text
+use Rattle.sercos_multi.specs.Asking.{is_common, voice_of, voices_from}
+use Rattle.sercos_multi.specs.Merged.{Voice, begun, from_moment, is_cycle, is_timed, span}
+use Rattle.sercos_config.specs.Views.{DocumentView}
+use Rattle.sercos_multi.specs.RingRuns.{BeginTogether}
 
 -- each moment at which a cycle begins is a multiple of the cycle time
 record IsMultiple (time m : ℕ) : Type 0 where
@@ -84,8 +64,8 @@ more_times q r time = grind arith
 sum_times : (q s time : ℕ) → (q + s) * time ≡ q * time + s * time
 sum_times q s time = grind arith
 
-pub together : BeginsTogether
-together time u v m b common u_at v_at begins timed low high =
+begins_then : (time : ℕ) (u v : Voice) (m b : ℕ) → is_common time ≡ true → u.at ≡ 0 → v.at ≡ 0 → is_cycle (begun time m u) ≡ true → is_timed (begun time b v) ≡ true → b ≤ m → m < b + time → b ≡ m
+begins_then time u v m b common u_at v_at begins timed low high =
     let d = divides time common in
     let start : (a : ℕ) → a ≡ 0 → IsMultiple time a = λ a none. record { times = 0; is = omega (arith, none) } in
     let first = multiple time u.at u.later m d (start u.at u_at) begins in
@@ -105,3 +85,14 @@ together time u v m b common u_at v_at begins timed low high =
           let parts = sum_times p (q - p) time in
           omega (arith, m_is, b_is, product, parts, low)
     ]
+
+-- each ring begins its first cycle at 0
+starts_at_0 : (n : ℕ) (documents : List DocumentView) (k : ℕ) (v : Voice) → slice_get (voices_from n documents) k ≡ Some v → v.at ≡ 0
+unfolding voices_from
+starts_at_0 n [] k v got = cc
+starts_at_0 n (d ∷ documents) zero v got = let same : voice_of n d ≡ v = cc in sym (ap (λ (w : Voice). w.at) same)
+starts_at_0 n (d ∷ documents) (suc k) v got = starts_at_0 (n + 1) documents k v got
+
+pub together : (time : ℕ) (documents : List DocumentView) → is_common time ≡ true → BeginTogether time (voices_from 1 documents)
+together time documents common i k u v moment other first second begins timed low high =
+    begins_then time u v moment other common (starts_at_0 1 documents i u first) (starts_at_0 1 documents k v second) begins timed low high

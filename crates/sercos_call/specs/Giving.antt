@@ -4,7 +4,7 @@ use Rattle.sercos_io.specs.declared.status.Status.{Status}
 use Rattle.sercos_io.specs.declared.status.Status.TheVariants.{Memory}
 use Rattle.sercos_answer.specs.Answer.{Answer}
 use Rattle.sercos_answer.specs.declared.reply.Reply.{Reply}
-use Rattle.sercos_app.specs.Outcome.{SinkChange, Writes}
+use Rattle.sercos_call.specs.Outcome.{SinkChange, Writes}
 
 -- a reply is this answer
 pub record IsReply (reply : Reply) (answer : Answer) : Type 0 where

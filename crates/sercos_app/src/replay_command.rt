@@ -1,0 +1,79 @@
+// `replay`: the document is read, and one end of its ring is replayed against the capture.
+ghost use Rattle.std.specs.Prelude.{◌≡◌, ◌⊎◌, ◌≤◌, length, None, MatchResult};
+ghost use Rattle.sercos_io.specs.declared.status.Status.TheVariants.{Refused};
+ghost use Rattle.sercos_document.specs.Lines.{line_of};
+ghost use Rattle.sercos_config.specs.Document.{document_of};
+ghost use Rattle.sercos_replay.specs.Replaying.{Says, document_answer, parts_answer, replay_answer};
+ghost use Rattle.sercos_app.specs.OwnRun.{OpensIfRead, OpensItsRing};
+
+use sercos_answer::Reply;
+use sercos_config::{BadDocument, read_ring};
+use sercos_opened::show_opened;
+use sercos_replay::{capture_part, capture_place, document_part, replay_document, undivided_reply};
+use std::alloc::Global;
+
+// Replies to the two parts of an input.
+#[tactic(auto, unfolding(sercos_replay::specs::Replaying::document_answer))]
+fn reply_parts(
+    alloc: Global,
+    address: u8,
+    document: &[u8],
+    capture: &[u8],
+) -> Result<Reply, BadDocument>
+    requires { length capture.now ≤ 1048576 }
+    ensures answer { MatchResult result
+        (λ reply. Says reply (document_answer (document_of document.now) address capture.now))
+        (λ bad. (bad ≡ BadDocument.Memory)
+        ⊎ ((document_answer (document_of document.now) address capture.now).status ≡ Refused) × ((document_answer (document_of document.now) address capture.now).output ≡ line_of bad)) }
+    ensures opens { MatchResult result
+        (λ _. OpensIfRead document.now)
+        (λ bad. (bad ≡ BadDocument.Memory) ⊎ OpensIfRead document.now) }
+{
+    let document = read_ring(alloc, document)?;
+    show_opened(&document);
+    match replay_document(alloc, address, document, capture) {
+        Ok(reply) => Ok(reply),
+        Err(_) => Err(BadDocument::Memory),
+    }
+}
+
+// Refuses an input without a capture.
+#[tactic(auto, unfolding(sercos_replay::specs::Replaying::parts_answer))]
+fn reply_undivided(alloc: Global, address: u8) -> Result<Reply, BadDocument>
+    ensures { MatchResult result
+        (λ reply. Says reply (parts_answer None address))
+        (λ bad. bad ≡ BadDocument.Memory) }
+{
+    match undivided_reply(alloc) {
+        Ok(reply) => Ok(reply),
+        Err(_) => Err(BadDocument::Memory),
+    }
+}
+
+/// Answers a ring document, a line that is exactly `capture`, and a capture: the first place at which the station with an address
+/// said something else than its rules give of all that the capture has before that place, with `No`; or the number of cycles, if
+/// there is none. The master has the address 0. An input without such a line is refused, then a document, an address that no drive
+/// has, a capture, and one that doesn't begin with cycle 0; a capture that breaks a rule is answered as `check` does. The error is the
+/// document's first refusal, or `Memory`. Unless it is `Memory`, the document of the input may be opened with its requests, if there is
+/// one that isn't refused.
+#[tactic(auto, unfolding(sercos_replay::specs::Replaying::replay_answer, sercos_replay::specs::Replaying::parts_answer, sercos_replay::specs::Divided::divided))]
+pub fn replay(alloc: Global, address: u8, bytes: &[u8]) -> Result<Reply, BadDocument>
+    requires few { length bytes.now ≤ 1048576 }
+    ensures answer { MatchResult result
+        (λ reply. (reply.status ≡ (replay_answer address bytes.now).status) × (reply.text.items ≡ (replay_answer address bytes.now).output))
+        (λ bad. (bad ≡ BadDocument.Memory)
+        ⊎ ((replay_answer address bytes.now).status ≡ Refused) × ((replay_answer address bytes.now).output ≡ line_of bad)) }
+    ensures opens { MatchResult result
+        (λ _. OpensItsRing bytes.now)
+        (λ bad. (bad ≡ BadDocument.Memory) ⊎ OpensItsRing bytes.now) }
+{
+    match capture_place(bytes) {
+        Some(place) => reply_parts(
+            alloc,
+            address,
+            document_part(bytes, place),
+            capture_part(bytes, place),
+        ),
+        None => reply_undivided(alloc, address),
+    }
+}

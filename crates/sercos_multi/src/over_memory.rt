@@ -1,0 +1,30 @@
+// The top call of several rings over memory.
+ghost use Rattle.std.specs.Prelude.{◌≡◌, ◌≢◌, ◌≤◌, ◌<◌, ◌⊎◌, length, Some, None};
+ghost use Rattle.sercos_model.specs.Streams.{last_count};
+ghost use Rattle.sercos_call.specs.TopCall.{IsAnswer};
+ghost use Rattle.sercos_multi.specs.Asking.{rings_answer};
+ghost use Rattle.sercos_multi.specs.Words.{form_of};
+
+use crate::top_call::rings;
+use sercos_io::{MemorySink, PlainSource, Status, Words};
+use std::alloc::Global;
+
+/// The top call of several rings over a source that never fails and a sink in memory. Where the words are `run`, the input has at
+/// most 1,048,576 bytes, and the sink fails no call and has room for the whole output, nothing outside can fail: the answer is given
+/// whole, or `Memory` is returned.
+pub fn rings_in_memory(
+    alloc: Global,
+    words: &Words,
+    source: &mut PlainSource,
+    sink: &mut MemorySink,
+) -> Status
+    ensures { form_of words.now ≢ None
+        → length source.old ≤ 1048576
+        → length sink.old.failing ≡ 0
+        → sink.old.faults < last_count
+        → length (rings_answer source.old).output ≤ sink.old.spare
+        → (result ≡ Status.Memory)
+        ⊎ IsAnswer (rings_answer source.old) result (Some sink.old.held) (Some sink.new.held) }
+{
+    rings(alloc, words, source, sink)
+}
