@@ -46,7 +46,7 @@ unfoldable pub documents_from : ℕ → List (List ℕ) → Result (List Documen
 documents_from n [] = Ok []
 documents_from n (part ∷ parts) = with_document n (document_of part) (documents_from (n + 1) parts)
 
--- The first document whose cycle time, in microseconds, isn't the first one's, or the first one if its own is none that divides 1000:
+-- The first document whose cycle time, in microseconds, isn't the first one's, or the first one if its own doesn't divide 1000:
 -- its number, and its cycle time.
 unfoldable pub other_cycle : ℕ → ℕ → List ℕ → Option (ℕ × ℕ)
 other_cycle time n [] = None

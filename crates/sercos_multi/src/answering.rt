@@ -162,7 +162,7 @@ fn run_all<L: BitLink, K: Sink>(parts: &mut Vec<Part<L>>, sink: &mut K) -> Statu
     }
 }
 
-// Refuses a document that wasn't opened; if that is want of memory, nothing is written.
+// Refuses a document that wasn't opened; if that is `Memory`, nothing is written.
 fn refuse_unopened<K: Sink>(why: &Unopened, sink: &mut K) -> Status
     requires { IsTold why.now }
     ensures { EndsUnopened why.now (changed K.held K.faults K.room sink.old sink.new) (sink.new ≡ sink.old) result }
