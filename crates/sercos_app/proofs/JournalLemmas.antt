@@ -19,13 +19,12 @@ use Rattle.sercos_trace.specs.Written.{Seen, HasTaken, HasFailed}
 use Rattle.sercos_trace.specs.declared.record.Totals.{Totals}
 use Rattle.sercos_trace.proofs.WriteLemmas.{taken_none, taken_then, failed_early, failed_later}
 use Rattle.sercos_script.specs.Links.{Carry, Restarts}
-use Rattle.sercos_journal.specs.Runs.{IsRun, run_of, next_record}
-use Rattle.sercos_totals.specs.Totals.{totals_of}
-use Rattle.sercos_totals.specs.Counting.{AreFew, IsFew, with_cycle}
-use Rattle.sercos_totals.proofs.CountLemmas.{few_more}
+use Rattle.sercos_law_run.specs.Journal.Runs.{IsRun, run_of, next_record}
+use Rattle.sercos_law_run.specs.Totals.Totals.{totals_of}
+use Rattle.sercos_law_run.specs.Totals.Counting.{AreFew, IsFew, with_cycle}
+use Rattle.sercos_law_run.proofs.Theorems.{few_more, totals_more}
 use Rattle.sercos_app.specs.Journals.{IsRingOf, OfRun, Journal, HasCounted, HasWritten, HasStopped, WritesCycles, HasMade, cycles_text, journal_text}
 use Rattle.sercos_app.specs.RunWriting.{WritesRun}
-use Rattle.sercos_totals.proofs.TotalsLemmas.{totals_more}
 
 -- one cycle more, in the order of the cycles
 pub in_order : (m : CycleView) (j : List CycleView) → reverse (m ∷ j) ≡ reverse j ++ m ∷ []

@@ -50,7 +50,7 @@ use Rattle.sercos_call.proofs.Outcomes.{at_no, not_stopped, stops-few, told_whol
 use Rattle.sercos_call.proofs.ReplyLemmas.{answer_ends as answered_ends}
 use Rattle.sercos_app.specs.Outcome.{Ends}
 use Rattle.sercos_app.specs.TopCall.{NonePlanned, LeastPlanned, MarginsTold, ChainTold, ViolationTold, CleanTold, RunTraced, RunSummed}
-use Rattle.sercos_journal.proofs.RunLemmas.{length-run_of}
+use Rattle.sercos_law_run.proofs.Theorems.{length-run_of}
 
 IsGiven-fault : (fault : Option (ℕ × ℕ)) → IsGiven (show_status fault)
 unfolding show_status

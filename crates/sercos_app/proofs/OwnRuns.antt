@@ -16,18 +16,18 @@ use Rattle.sercos_trace.specs.Texts.{trace_of}
 use Rattle.sercos_checking.specs.declared.verdict.Verdict.TheVariants.{Clean}
 use Rattle.sercos_checking.specs.Checking.{verdict_of}
 use Rattle.sercos_script.specs.Links.{Carry, Restarts}
-use Rattle.sercos_journal.specs.Runs.{IsRun, IsClear, run_of}
+use Rattle.sercos_law_run.specs.Journal.Runs.{IsRun, IsClear, run_of}
 use Rattle.sercos_document.specs.declared.refusal.BadDocument.{BadDocument}
 use Rattle.sercos_document.specs.declared.refusal.BadDocument.TheVariants.{Memory}
-use Rattle.sercos_undisturbed.proofs.StaysClear.{stays_clear}
+use Rattle.sercos_law_run.proofs.Theorems.{stays_clear}
 use Rattle.sercos_replay.specs.Captured.{NeverDisturbed}
 use Rattle.sercos_replay.specs.Replaying.{late_start, place_answer, replay_answer}
 use Rattle.sercos_replay.specs.Asking.{Asks, Replays, cycles_in}
 use Rattle.sercos_replay.specs.Divided.{capture_part, capture_place, divided, document_part}
 use Rattle.sercos_replay.specs.Traced.{TracesAgree}
-use Rattle.sercos_totals.specs.Totals.{totals_of}
-use Rattle.sercos_clean.specs.Ruled.{RunsFitLines}
-use Rattle.sercos_clean.specs.Traces.{IsCleanTrace, RunsAreClean}
+use Rattle.sercos_law_run.specs.Totals.Totals.{totals_of}
+use Rattle.sercos_law_trace.specs.Clean.Ruled.{RunsFitLines}
+use Rattle.sercos_law_trace.specs.Clean.Traces.{IsCleanTrace, RunsAreClean}
 use Rattle.sercos_opened.specs.Kept.{carry_under, restarts_under, document_run}
 use Rattle.sercos_app.specs.OwnRun.{MayBeOpened, OpensIfRead, OpensItsRing, OwnRunsAgree, ReplaysItsRing}
 use Rattle.sercos_app.proofs.RunLemmas.{run_answer_of}

@@ -7,10 +7,10 @@ use Rattle.sercos_block.specs.Views.{RingView}
 use Rattle.sercos_script.specs.declared.fault.Fault.{Fault}
 use Rattle.sercos_script.specs.Links.{Carry, Restarts, carried_by_both, restarts_in_either}
 use Rattle.sercos_script.specs.Scripts.{carried, restarts_at}
-use Rattle.sercos_held.specs.Opened.{IsOpened}
-use Rattle.sercos_headline.specs.Headline.{Headline}
-use Rattle.sercos_undisturbed.specs.WholeRuns.{StartsUndisturbed}
-use Rattle.sercos_recovery.specs.Recovers.{Recovers}
+use Rattle.sercos_law_run.specs.Held.Opened.{IsOpened}
+use Rattle.sercos_law_run.specs.Headline.Headline.{Headline}
+use Rattle.sercos_law_run.specs.Undisturbed.WholeRuns.{StartsUndisturbed}
+use Rattle.sercos_law_run.specs.Recovery.Recovers.{Recovers}
 use Rattle.sercos_document.specs.declared.refusal.BadDocument.{BadDocument}
 use Rattle.sercos_document.specs.declared.refusal.BadDocument.TheVariants as bads
 use Rattle.sercos_document.specs.Lines.{line_of}

@@ -12,13 +12,13 @@ use Rattle.sercos_step.specs.declared.request.Job.{Job}
 use Rattle.sercos_block.specs.Views.{DriveView, RingView}
 use Rattle.sercos_block.specs.Rings.{is_ring}
 use Rattle.sercos_block.specs.Stores.{find_block, store_of}
-use Rattle.sercos_handshake.specs.WholeRun.{IsSound}
+use Rattle.sercos_law_channel.specs.Handshake.WholeRun.{IsSound}
 use Rattle.sercos_script.specs.Links.{Carry, Restarts}
-use Rattle.sercos_journal.specs.Runs.{no_drive, drive_at, run_of}
-use Rattle.sercos_typed.specs.Typed.{AreTypedJobs, IsTypedRequest}
-use Rattle.sercos_views.proofs.Members.{same_drive}
-use Rattle.sercos_held.specs.Opened.{IsOpened}
-use Rattle.sercos_headline.specs.Headline.{Headline}
+use Rattle.sercos_law_run.specs.Journal.Runs.{no_drive, drive_at, run_of}
+use Rattle.sercos_law_run.specs.Typed.Typed.{AreTypedJobs, IsTypedRequest}
+use Rattle.sercos_law_run.proofs.Theorems.{same_drive}
+use Rattle.sercos_law_run.specs.Held.Opened.{IsOpened}
+use Rattle.sercos_law_run.specs.Headline.Headline.{Headline}
 use Rattle.sercos_config.specs.Views.{DocumentView}
 use Rattle.sercos_backup.specs.Jobs.{list_number, reads_data, list_jobs}
 use Rattle.sercos_backup.proofs.ListLemmas.{IsRead, list_reads, data_reads}
@@ -29,9 +29,9 @@ use Rattle.sercos_backup.specs.declared.tracked.Tracked.{Tracked}
 use Rattle.sercos_backup.specs.Tracking.{told_of, idn_in}
 use Rattle.sercos_backup.proofs.TrackLemmas.{tracked_at}
 use Rattle.sercos_step.specs.declared.request.Outcome.TheVariants as outcome
-use Rattle.sercos_told.specs.Told.{told_in}
-use Rattle.sercos_told.specs.Reads.{IsReadFrom, ReadsAreExact}
-use Rattle.sercos_told.specs.Writes.{WritesAreKept}
+use Rattle.sercos_law_trace.specs.Told.Told.{told_in}
+use Rattle.sercos_law_trace.specs.Told.Reads.{IsReadFrom, ReadsAreExact}
+use Rattle.sercos_law_trace.specs.Told.Writes.{WritesAreKept}
 use Rattle.sercos_opened.proofs.OpenedLemmas.{of_jobs, all_at}
 use Rattle.sercos_opened.proofs.KeptLemmas.{AreNext, run_is, run_keeps}
 

@@ -14,7 +14,7 @@ use Rattle.sercos_script.specs.Links.{Carry, Restarts}
 use Rattle.sercos_document.specs.declared.refusal.BadDocument.{BadDocument}
 use Rattle.sercos_config.specs.Views.{DocumentView}
 use Rattle.sercos_config.specs.Document.{document_of}
-use Rattle.sercos_journal.specs.Runs.{run_of}
+use Rattle.sercos_law_run.specs.Journal.Runs.{run_of}
 use Rattle.sercos_answer.specs.Answer.{Answer}
 use Rattle.sercos_backup.specs.declared.tracked.Tracked.{Tracked}
 use Rattle.sercos_backup.specs.Jobs.{list_jobs, place_of_other}

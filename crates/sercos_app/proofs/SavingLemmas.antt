@@ -18,8 +18,8 @@ use Rattle.sercos_service_drive.specs.Replies.{data_in}
 use Rattle.sercos_script.specs.declared.fault.Fault.{Fault}
 use Rattle.sercos_script.specs.Links.{Carry, Restarts, carried_by_both, restarts_in_either}
 use Rattle.sercos_script.specs.Scripts.{carried, restarts_at}
-use Rattle.sercos_journal.specs.Runs.{run_of}
-use Rattle.sercos_typed.specs.Typed.{AreTypedJobs}
+use Rattle.sercos_law_run.specs.Journal.Runs.{run_of}
+use Rattle.sercos_law_run.specs.Typed.Typed.{AreTypedJobs}
 use Rattle.sercos_document.specs.declared.refusal.BadDocument.{BadDocument}
 use Rattle.sercos_document.specs.declared.refusal.BadDocument.TheVariants as bads
 use Rattle.sercos_document.specs.Lines.{line_of}

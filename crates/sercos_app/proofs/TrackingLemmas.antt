@@ -5,13 +5,13 @@ use Rattle.sercos_step.specs.declared.request.Outcome.{Outcome}
 use Rattle.sercos_block.specs.Views.{RingView}
 use Rattle.sercos_trace.specs.Views.{CycleView}
 use Rattle.sercos_script.specs.Links.{Carry, Restarts}
-use Rattle.sercos_journal.specs.Runs.{run_of}
+use Rattle.sercos_law_run.specs.Journal.Runs.{run_of}
 use Rattle.sercos_backup.specs.declared.tracked.Tracked.{Tracked}
 use Rattle.sercos_backup.specs.Tracking.{tracked}
 use Rattle.sercos_app.specs.Journals.{OfRun, HasMade}
-use Rattle.sercos_told.specs.Told.{told_in}
+use Rattle.sercos_law_trace.specs.Told.Told.{told_in}
 use Rattle.sercos_app.specs.Tracking.{HasNoted}
-use Rattle.sercos_told.proofs.ToldLemmas.{told_more}
+use Rattle.sercos_law_trace.proofs.Theorems.{told_more}
 use Rattle.sercos_app.proofs.JournalLemmas.{journal_more, journal_is, made_of}
 
 pub noted_none : {R : Type 0} (stands : R → RingView → List Job → Carry → Restarts → List CycleView → Type 0) (ring : R) (list : List Tracked) → HasNoted stands ring ring 0 list list

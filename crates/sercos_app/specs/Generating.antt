@@ -7,10 +7,10 @@ use Rattle.sercos_script.specs.Links.{Carry, Restarts}
 use Rattle.sercos_text.specs.Templates.{line_text}
 use Rattle.sercos_text.specs.Templates.Value.{number}
 use Rattle.sercos_trace.specs.declared.record.Totals.{Totals}
-use Rattle.sercos_journal.specs.Runs.{run_of}
+use Rattle.sercos_law_run.specs.Journal.Runs.{run_of}
 use Rattle.sercos_config.specs.Generated.{generated}
 use Rattle.sercos_answer.specs.Answer.{Answer, line_feed}
-use Rattle.sercos_totals.specs.Totals.{totals_of}
+use Rattle.sercos_law_run.specs.Totals.Totals.{totals_of}
 use Rattle.sercos_opened.specs.Kept.{document_run, IsDocumentRun}
 
 -- The summary of the run of n drives. In the parts of the line a `D` stands for a number: how many drives and cycles; the first

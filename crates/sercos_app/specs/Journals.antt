@@ -11,9 +11,9 @@ use Rattle.sercos_trace.specs.Texts.{cycle_text, trace_of}
 use Rattle.sercos_trace.specs.Written.{Seen, HasTaken, HasFailed}
 use Rattle.sercos_trace.specs.declared.record.Totals.{Totals}
 use Rattle.sercos_script.specs.Links.{Carry, Restarts}
-use Rattle.sercos_journal.specs.Runs.{run_of}
-use Rattle.sercos_totals.specs.Totals.{totals_of}
-use Rattle.sercos_totals.specs.Counting.{AreFew}
+use Rattle.sercos_law_run.specs.Journal.Runs.{run_of}
+use Rattle.sercos_law_run.specs.Totals.Totals.{totals_of}
+use Rattle.sercos_law_run.specs.Totals.Counting.{AreFew}
 
 -- the trace of a journal, whose newest cycle comes first
 abbrev pub journal_text : WishesView → List CycleView → List ℕ

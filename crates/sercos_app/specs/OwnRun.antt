@@ -1,7 +1,7 @@
 -- The replay of the trace that `run` writes.
 use Rattle.std.specs.Prelude.{◌≡◌, ℕ, ◌≤◌, List, length, Some, None, Ok}
 use Rattle.sercos_script.specs.Links.{Carry, Restarts}
-use Rattle.sercos_held.specs.Opened.{IsOpened}
+use Rattle.sercos_law_run.specs.Held.Opened.{IsOpened}
 use Rattle.sercos_config.specs.Views.{DocumentView}
 use Rattle.sercos_config.specs.Document.{document_of}
 use Rattle.sercos_checking.specs.declared.verdict.Verdict.TheVariants.{Clean}

@@ -7,7 +7,7 @@ use Rattle.sercos_trace.specs.Views.{CycleView}
 use Rattle.sercos_trace.specs.Written.{Seen, Writes}
 use Rattle.sercos_trace.specs.declared.record.Totals.{Totals}
 use Rattle.sercos_script.specs.Links.{Carry, Restarts}
-use Rattle.sercos_totals.specs.Totals.{totals_of}
+use Rattle.sercos_law_run.specs.Totals.Totals.{totals_of}
 use Rattle.sercos_app.specs.Journals.{OfRun, HasMade, journal_text}
 
 pub record WritesRun {R E : Type 0} (stands : R → RingView → List Job → Carry → Restarts → List CycleView → Type 0) (w : WishesView) (old new : R) (n : ℕ) (a b : Seen) (result : Result Totals E) : Type 0 where

@@ -5,7 +5,7 @@ use Rattle.sercos_step.specs.declared.request.Job.{Job}
 use Rattle.sercos_block.specs.Views.{RingView}
 use Rattle.sercos_block.specs.Rings.{wishes_of}
 use Rattle.sercos_script.specs.Links.{Carry, Restarts}
-use Rattle.sercos_journal.specs.Runs.{run_of}
+use Rattle.sercos_law_run.specs.Journal.Runs.{run_of}
 use Rattle.sercos_document.specs.declared.refusal.BadDocument.{BadDocument}
 use Rattle.sercos_document.specs.Lines.{line_of}
 use Rattle.sercos_config.specs.Views.{DocumentView}

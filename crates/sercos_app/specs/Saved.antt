@@ -8,16 +8,16 @@ use Rattle.sercos_step.specs.declared.request.Outcome.TheVariants as outcome
 use Rattle.sercos_block.specs.Views.{RingView}
 use Rattle.sercos_script.specs.Links.{Carry, Restarts}
 use Rattle.sercos_trace.specs.Views.{CycleView}
-use Rattle.sercos_handshake.specs.Transfers.{stored as filled}
-use Rattle.sercos_journal.specs.Runs.{IsRun, IsClear, run_of}
-use Rattle.sercos_typed.specs.Typed.{AreTypedJobs}
+use Rattle.sercos_law_channel.specs.Handshake.Transfers.{stored as filled}
+use Rattle.sercos_law_run.specs.Journal.Runs.{IsRun, IsClear, run_of}
+use Rattle.sercos_law_run.specs.Typed.Typed.{AreTypedJobs}
 use Rattle.sercos_config.specs.Views.{DocumentView}
 use Rattle.sercos_config.specs.Document.{document_of}
 use Rattle.sercos_backup.specs.declared.tracked.Tracked.{Tracked}
 use Rattle.sercos_backup.specs.Jobs.{list_jobs, data_jobs}
 use Rattle.sercos_backup.specs.Tracking.{are_well, lists_told}
-use Rattle.sercos_told.specs.Reads.{IsReadFrom}
-use Rattle.sercos_told.specs.Writes.{IsLastTo, IsRestored}
+use Rattle.sercos_law_trace.specs.Told.Reads.{IsReadFrom}
+use Rattle.sercos_law_trace.specs.Told.Writes.{IsLastTo, IsRestored}
 use Rattle.sercos_opened.specs.Kept.{KeepsThroughout, carry_under, restarts_under}
 use Rattle.sercos_app.specs.Saving.{run_tracked, last_data}
 

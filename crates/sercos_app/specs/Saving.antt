@@ -10,7 +10,7 @@ use Rattle.sercos_service_drive.specs.Replies.{data_in}
 use Rattle.sercos_drive.specs.Annals.{store_at}
 use Rattle.sercos_script.specs.Links.{Carry, Restarts}
 use Rattle.sercos_trace.specs.Views.{CycleView}
-use Rattle.sercos_journal.specs.Runs.{run_of, drive_at, given_before}
+use Rattle.sercos_law_run.specs.Journal.Runs.{run_of, drive_at, given_before}
 use Rattle.sercos_document.specs.declared.refusal.BadDocument.{BadDocument}
 use Rattle.sercos_document.specs.Lines.{line_of}
 use Rattle.sercos_config.specs.Views.{DocumentView}
@@ -20,7 +20,7 @@ use Rattle.sercos_backup.specs.declared.tracked.Tracked.{Tracked}
 use Rattle.sercos_backup.specs.Jobs.{list_jobs, data_jobs, place_of_other}
 use Rattle.sercos_backup.specs.Tracking.{tracked, are_well, lists_told}
 use Rattle.sercos_backup.specs.Texts.{failed_answer, many_answer, saved_answer, restored_answer, other_answer}
-use Rattle.sercos_told.specs.Told.{told_in}
+use Rattle.sercos_law_trace.specs.Told.Told.{told_in}
 use Rattle.sercos_opened.specs.Kept.{carry_under, restarts_under}
 
 -- requests, each with its outcome in the run of a ring, for the ring's number of cycles

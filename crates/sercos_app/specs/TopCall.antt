@@ -21,13 +21,13 @@ use Rattle.sercos_trace.specs.Views.{CycleView}
 use Rattle.sercos_trace.specs.Texts.{trace_of}
 use Rattle.std.specs.List.{flat_map}
 use Rattle.sercos_block.specs.Views.{RingView}
-use Rattle.sercos_journal.specs.Runs.{IsRun, run_of}
+use Rattle.sercos_law_run.specs.Journal.Runs.{IsRun, run_of}
 use Rattle.sercos_backup.specs.Jobs.{list_jobs, place_of_other}
 use Rattle.sercos_backup.specs.Tracking.{are_well}
 use Rattle.sercos_backup.specs.Texts.{failed_lines, many_answer, restored_line, saved_lines}
 use Rattle.sercos_app.specs.Saving.{last_data, run_tracked}
 use Rattle.sercos_app.specs.Saved.{IsRestoredRun, IsSaved, second_jobs}
-use Rattle.sercos_totals.specs.Totals.{totals_of}
+use Rattle.sercos_law_run.specs.Totals.Totals.{totals_of}
 use Rattle.sercos_opened.specs.Kept.{carry_under, restarts_under, KeepsThroughout, RecoversThroughout, StartsThroughout}
 use Rattle.sercos_config.specs.Views.{DocumentView}
 use Rattle.sercos_config.specs.Document.{document_of}

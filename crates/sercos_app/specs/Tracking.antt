@@ -7,7 +7,7 @@ use Rattle.sercos_script.specs.Links.{Carry, Restarts}
 use Rattle.sercos_backup.specs.declared.tracked.Tracked.{Tracked}
 use Rattle.sercos_backup.specs.Tracking.{tracked}
 use Rattle.sercos_app.specs.Journals.{Journal}
-use Rattle.sercos_told.specs.Told.{told_in}
+use Rattle.sercos_law_trace.specs.Told.Told.{told_in}
 
 -- a ring has made n cycles, and the outcomes that were told in them are noted
 pub record HasNoted {R : Type 0} (stands : R → RingView → List Job → Carry → Restarts → List CycleView → Type 0) (old new : R) (n : ℕ) (before after : List Tracked) : Type 0 where

@@ -19,12 +19,11 @@ use sercos_bits::Bytes;
 use sercos_block::{RingSetup, ring_law};
 use sercos_call::{give_if_made, refuse};
 use sercos_config::{Document, read_ring};
-use sercos_headline::headline_law;
 use sercos_io::{Sink, Status};
-use sercos_journal::run_law;
+use sercos_law_run::{headline_law, run_law};
+use sercos_law_trace::told_law;
 use sercos_opened::{show_jobs, show_opened};
 use sercos_script::{BitLink, Both, Scripted};
-use sercos_told::told_law;
 use std::alloc::{AllocError, Global};
 
 // The reply by the run that reads the blocks on these lists.

@@ -3,14 +3,13 @@ ghost use Rattle.std.specs.Prelude.{◌≡◌, ◌<◌, ◌≤◌, ◌^◌, List
 ghost use Rattle.sercos_timing.specs.Views.{WishesView};
 ghost use Rattle.sercos_trace.specs.Views.{CycleView};
 ghost use Rattle.sercos_ring.specs.Kept.{AfterCycle, RingStandsFor, cycles_made, newest};
-ghost use Rattle.sercos_totals.specs.Totals.{totals_of};
-ghost use Rattle.sercos_totals.specs.Counting.{HasRoom, IsFew, with_cycle};
+ghost use Rattle.sercos_law_run.specs.Totals.Totals.{totals_of};
+ghost use Rattle.sercos_law_run.specs.Totals.Counting.{HasRoom, IsFew, with_cycle};
 ghost use Rattle.sercos_app.specs.Journals.{IsRingOf, OfRun};
 
-use sercos_journal::run_law;
-use sercos_ring::{Ring, standing_law};
+use sercos_law_run::run_law;
+use sercos_ring::{Ring, count_made, no_totals, standing_law};
 use sercos_script::BitLink;
-use sercos_totals::{count_made, no_totals};
 use sercos_trace::Totals;
 
 // Goes on by a cycle, and counts it.

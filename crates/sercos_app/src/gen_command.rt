@@ -12,17 +12,14 @@ use crate::run_command::{cycles_of, drives_of};
 use sercos_block::RingSetup;
 use sercos_call::fault_status;
 use sercos_config::{Document, generate};
-use sercos_headline::headline_law;
 use sercos_io::{Sink, Status, write_all};
-use sercos_journal::run_law;
+use sercos_law_run::{headline_law, recovery_law, run_law, undisturbed_law};
 use sercos_opened::show_opened;
-use sercos_recovery::recovery_law;
 use sercos_ring::Ring;
 use sercos_script::{BitLink, Both, Scripted};
 use sercos_step::Job;
 use sercos_text::{Given, Line, push_line};
 use sercos_trace::Totals;
-use sercos_undisturbed::undisturbed_law;
 use std::alloc::Global;
 
 // Appends the number of drives and of cycles.

@@ -1,8 +1,8 @@
 // A law and no code.
 ghost use Rattle.sercos_app.specs.OwnRun.{OwnRunsAgree};
 
-use sercos_clean::clean_law;
-use sercos_journal::run_law;
+use sercos_law_run::run_law;
+use sercos_law_trace::clean_law;
 use sercos_replay::undisturbed_law;
 
 /// A law and no code. Where an input has a document that may be opened with its requests, and what `run` writes of it over whatever

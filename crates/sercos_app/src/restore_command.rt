@@ -9,7 +9,7 @@ ghost use Rattle.sercos_block.specs.Stores.{find_block};
 ghost use Rattle.sercos_block.specs.Rings.{is_ring};
 ghost use Rattle.sercos_script.specs.Links.{Carry, Restarts};
 ghost use Rattle.sercos_trace.specs.Views.{CycleView};
-ghost use Rattle.sercos_journal.specs.Runs.{run_of};
+ghost use Rattle.sercos_law_run.specs.Journal.Runs.{run_of};
 ghost use Rattle.sercos_ring.specs.Kept.{RingStandsFor, drives_in};
 ghost use Rattle.sercos_backup.specs.Tracking.{are_well};
 ghost use Rattle.sercos_backup.specs.Texts.{restored_line};
@@ -27,16 +27,15 @@ use sercos_bits::Bytes;
 use sercos_block::{RingSetup, Store};
 use sercos_call::{give_if_made, refuse};
 use sercos_config::{Document, read_ring};
-use sercos_headline::headline_law;
 use sercos_idn::{Idn, element};
 use sercos_io::{Sink, Status};
-use sercos_journal::run_law;
+use sercos_law_run::{headline_law, run_law};
+use sercos_law_trace::kept_law;
 use sercos_opened::show_opened;
 use sercos_ring::Ring;
 use sercos_script::{BitLink, Both, Scripted};
 use sercos_service_drive::push_data;
 use sercos_step::Job;
-use sercos_told::kept_law;
 use std::alloc::{AllocError, Global};
 
 // The place of the drive with an address.

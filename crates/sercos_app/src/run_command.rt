@@ -14,16 +14,13 @@ use crate::running::write_run;
 use sercos_block::{RingSetup, ring_law};
 use sercos_call::{fault_status, refuse};
 use sercos_config::{Document, read_ring};
-use sercos_headline::headline_law;
 use sercos_io::{Sink, Status};
-use sercos_journal::run_law;
+use sercos_law_run::{headline_law, recovery_law, run_law, undisturbed_law};
 use sercos_opened::show_opened;
-use sercos_recovery::recovery_law;
 use sercos_ring::Ring;
 use sercos_script::{BitLink, Both, Scripted};
 use sercos_step::Job;
 use sercos_timing::Wishes;
-use sercos_undisturbed::undisturbed_law;
 use std::alloc::Global;
 
 /// How many cycles a ring runs: 1 to 50,000.

@@ -9,28 +9,24 @@ ghost use Rattle.sercos_script.specs.Links.{Carry, Restarts};
 ghost use Rattle.sercos_trace.specs.Views.{CycleView};
 ghost use Rattle.sercos_trace.specs.Texts.{header_text, cycle_text, end_text};
 ghost use Rattle.sercos_trace.specs.Written.{seen, Writes};
-ghost use Rattle.sercos_journal.specs.Runs.{run_of};
-ghost use Rattle.sercos_held.specs.Opened.{IsOpened};
+ghost use Rattle.sercos_law_run.specs.Journal.Runs.{run_of};
+ghost use Rattle.sercos_law_run.specs.Held.Opened.{IsOpened};
 ghost use Rattle.sercos_ring.specs.Kept.{AfterCycle, RingStandsFor, cycles_made, newest};
-ghost use Rattle.sercos_totals.specs.Counting.{HasRoom, IsFew, with_cycle};
+ghost use Rattle.sercos_law_run.specs.Totals.Counting.{HasRoom, IsFew, with_cycle};
 ghost use Rattle.sercos_app.specs.Journals.{HasMade, IsRingOf, OfRun, WritesCycles, journal_text};
-ghost use Rattle.sercos_totals.specs.Totals.{totals_of};
+ghost use Rattle.sercos_law_run.specs.Totals.Totals.{totals_of};
 ghost use Rattle.sercos_app.specs.RunWriting.{WritesRun};
 ghost use Rattle.sercos_opened.specs.Kept.{KeepsThroughout, RecoversThroughout, StartsThroughout};
 
 use sercos_block::ring_law;
-use sercos_headline::headline_law;
 use sercos_io::{Sink, WriteFailed};
-use sercos_journal::run_law;
+use sercos_law_run::{headline_law, recovery_law, run_law, undisturbed_law};
 use sercos_master::master_law;
-use sercos_recovery::recovery_law;
-use sercos_ring::{Ring, standing_law};
+use sercos_ring::{Ring, count_made, no_totals, standing_law};
 use sercos_script::BitLink;
 use sercos_text::Line;
 use sercos_timing::Wishes;
-use sercos_totals::{count_made, no_totals};
 use sercos_trace::{CycleRecord, Totals, write_end, write_header, write_marked_cycle};
-use sercos_undisturbed::undisturbed_law;
 
 // Writes the head of a trace.
 fn write_head<K: Sink>(w: &Wishes, sink: &mut K) -> Result<(), WriteFailed>

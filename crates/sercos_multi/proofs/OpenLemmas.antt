@@ -9,11 +9,11 @@ use Rattle.sercos_block.specs.Rings.{is_ring, wishes_of}
 use Rattle.sercos_script.specs.Links.{Carry, Restarts}
 use Rattle.sercos_trace.specs.Views.{CycleView}
 use Rattle.sercos_trace.specs.declared.record.Totals.{Totals}
-use Rattle.sercos_journal.specs.Runs.{next_record, run_of}
+use Rattle.sercos_law_run.specs.Journal.Runs.{next_record, run_of}
 use Rattle.sercos_ring.specs.declared.ring.Ring.{Ring}
 use Rattle.sercos_ring.specs.Kept.{RingStandsFor}
-use Rattle.sercos_totals.specs.Totals.{totals_of}
-use Rattle.sercos_totals.specs.Counting.{AreFew, none_made}
+use Rattle.sercos_law_run.specs.Totals.Totals.{totals_of}
+use Rattle.sercos_law_run.specs.Totals.Counting.{AreFew, none_made}
 use Rattle.sercos_multi.specs.Merged.{mark_of}
 use Rattle.sercos_multi.specs.Going.{future}
 use Rattle.sercos_multi.specs.Parts.{IsAt}

@@ -11,7 +11,7 @@ use Rattle.sercos_trace.specs.Views.{CycleView}
 use Rattle.sercos_trace.specs.declared.record.Totals.{Totals}
 use Rattle.sercos_trace.specs.Marked.{marked, AreLines}
 use Rattle.sercos_trace.specs.Texts.{header_text, cycle_text, end_text, trace_of}
-use Rattle.sercos_journal.proofs.RunLemmas.{length-run_of}
+use Rattle.sercos_law_run.proofs.Theorems.{length-run_of}
 use Rattle.sercos_config.specs.Views.{DocumentView}
 use Rattle.sercos_opened.proofs.OpenedLemmas.{all_at}
 use Rattle.sercos_opened.specs.Kept.{script_carry, script_restarts, script_run}

@@ -12,11 +12,11 @@ use Rattle.sercos_trace.specs.Views.{CycleView}
 use Rattle.sercos_trace.specs.Texts.{cycle_text, end_text}
 use Rattle.sercos_trace.specs.declared.record.Totals.{Totals}
 use Rattle.sercos_trace.specs.Written as plain
-use Rattle.sercos_journal.specs.Runs.{IsNext, next_record}
+use Rattle.sercos_law_run.specs.Journal.Runs.{IsNext, next_record}
 use Rattle.sercos_ring.specs.declared.ring.Ring.{Ring}
 use Rattle.sercos_ring.specs.Kept.{AfterCycle, IsNextOf, newest}
-use Rattle.sercos_totals.specs.Totals.{totals_of}
-use Rattle.sercos_totals.specs.Counting.{AreFew, IsFew, with_cycle}
+use Rattle.sercos_law_run.specs.Totals.Totals.{totals_of}
+use Rattle.sercos_law_run.specs.Totals.Counting.{AreFew, IsFew, with_cycle}
 use Rattle.sercos_trace.specs.Marked.{marked}
 use Rattle.sercos_trace.specs.MarkedWritten.{Seen, HasTaken, HasFailed, Writes}
 use Rattle.sercos_trace.proofs.MarkLemmas.{marked_none}

@@ -8,8 +8,8 @@ use Rattle.sercos_script.specs.Links.{Carry, Restarts}
 use Rattle.sercos_script.specs.Scripts.{carried, restarts_at}
 use Rattle.sercos_text.specs.Templates.{line_text}
 use Rattle.sercos_text.specs.Templates.Value.{number}
-use Rattle.sercos_journal.specs.Runs.{run_of}
-use Rattle.sercos_totals.specs.Totals.{totals_of}
+use Rattle.sercos_law_run.specs.Journal.Runs.{run_of}
+use Rattle.sercos_law_run.specs.Totals.Totals.{totals_of}
 use Rattle.sercos_document.specs.declared.refusal.BadDocument.{BadDocument}
 use Rattle.sercos_document.specs.Lines.{line_of}
 use Rattle.sercos_config.specs.Views.{DocumentView}

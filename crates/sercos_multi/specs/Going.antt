@@ -5,7 +5,7 @@ use Rattle.sercos_step.specs.declared.request.Job.{Job}
 use Rattle.sercos_block.specs.Views.{RingView}
 use Rattle.sercos_script.specs.Links.{Carry, Restarts}
 use Rattle.sercos_trace.specs.Views.{CycleView}
-use Rattle.sercos_journal.specs.Runs.{next_record}
+use Rattle.sercos_law_run.specs.Journal.Runs.{next_record}
 use Rattle.sercos_multi.specs.Merged.{Voice, span, lines_at, moment_line}
 
 -- what is so of each, of one, and of each two at the same place

@@ -3,7 +3,7 @@ use Rattle.std.specs.Prelude.{◌≡◌, ℕ, ◌+◌, ◌==◌, ◌<◌, ◌≤
 use Rattle.std.specs.List.{All, flat_map}
 use Rattle.sercos_block.specs.Rings.{wishes_of}
 use Rattle.sercos_trace.specs.Texts.{trace_of}
-use Rattle.sercos_totals.specs.Totals.{totals_of}
+use Rattle.sercos_law_run.specs.Totals.Totals.{totals_of}
 use Rattle.sercos_config.specs.Views.{DocumentView}
 use Rattle.sercos_opened.specs.Kept.{script_run}
 use Rattle.sercos_multi.specs.Divided.{lines_in}

@@ -7,8 +7,8 @@ use Rattle.sercos_block.specs.Rings.{is_ring, wishes_of}
 use Rattle.sercos_script.specs.Links.{Carry, Restarts}
 use Rattle.sercos_trace.specs.Views.{CycleView}
 use Rattle.sercos_ring.specs.Kept.{RingStandsFor}
-use Rattle.sercos_totals.specs.Totals.{totals_of}
-use Rattle.sercos_totals.specs.Counting.{AreFew}
+use Rattle.sercos_law_run.specs.Totals.Totals.{totals_of}
+use Rattle.sercos_law_run.specs.Totals.Counting.{AreFew}
 use Rattle.sercos_trace.specs.Written as plain
 use Rattle.sercos_trace.specs.MarkedWritten.{Seen, Writes}
 use Rattle.sercos_multi.specs.declared.part.Part.{Part}

@@ -14,12 +14,11 @@ use crate::divided::cut_part;
 use crate::part::Part;
 use sercos_block::{RingSetup, ring_law};
 use sercos_config::{BadDocument, Document, read_ring};
-use sercos_journal::run_law;
+use sercos_law_run::{run_law, totals_law};
 use sercos_opened::{kept_law, show_opened};
-use sercos_ring::Ring;
+use sercos_ring::{Ring, no_totals};
 use sercos_script::{BitLink, Scripted};
 use sercos_step::Job;
-use sercos_totals::{no_totals, totals_law};
 use std::alloc::{AllocError, Global};
 
 /// Why the rings of documents aren't opened.

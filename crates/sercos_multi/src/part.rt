@@ -4,7 +4,7 @@ ghost use Rattle.sercos_trace.specs.Views.{CycleView};
 ghost use Rattle.sercos_trace.specs.Texts.{cycle_text, end_text};
 ghost use Rattle.sercos_trace.specs.Written as plain;
 ghost use Rattle.sercos_ring.specs.Kept.{AfterCycle, IsNextOf, RingStandsFor, cycles_made, newest};
-ghost use Rattle.sercos_totals.specs.Counting.{HasRoom, IsFew, IsMade, with_cycle};
+ghost use Rattle.sercos_law_run.specs.Totals.Counting.{HasRoom, IsFew, IsMade, with_cycle};
 ghost use Rattle.sercos_trace.specs.MarkedWritten.{seen, Writes};
 ghost use Rattle.sercos_multi.specs.Merged.{Voice, span};
 ghost use Rattle.sercos_multi.specs.Going.{IsFrom};
@@ -12,12 +12,11 @@ ghost use Rattle.sercos_multi.specs.Parts.{GoesOn, IsAt, Passes};
 ghost use Rattle.sercos_multi.specs.Rings.{IsRingOf};
 
 use sercos_io::{Sink, WriteFailed};
-use sercos_journal::run_law;
-use sercos_ring::{Ring, standing_law};
+use sercos_law_run::{plan_law, run_law, totals_law};
+use sercos_ring::{Ring, count_made, standing_law};
 use sercos_script::BitLink;
 use sercos_text::Line;
 use sercos_timing::Wishes;
-use sercos_totals::{count_made, plan_law, totals_law};
 use sercos_trace::{CycleRecord, Totals, write_marked_cycle, write_marked_end};
 
 /// A ring on its way: the cycles that it has made and their totals, how many are left, when the next one begins, in microseconds, and

@@ -4,11 +4,11 @@ use Rattle.sercos_step.specs.declared.request.Job.{Job}
 use Rattle.sercos_block.specs.Views.{RingView}
 use Rattle.sercos_script.specs.Links.{Carry, Restarts}
 use Rattle.sercos_trace.specs.Views.{CycleView}
-use Rattle.sercos_held.specs.Opened.{IsOpened}
-use Rattle.sercos_headline.specs.Headline.{Headline}
-use Rattle.sercos_undisturbed.specs.WholeRuns.{StartsUndisturbed}
-use Rattle.sercos_recovery.specs.Recovers.{Recovers}
-use Rattle.sercos_journal.specs.Runs.{IsNext, IsRun, next_record, run_of}
+use Rattle.sercos_law_run.specs.Held.Opened.{IsOpened}
+use Rattle.sercos_law_run.specs.Headline.Headline.{Headline}
+use Rattle.sercos_law_run.specs.Undisturbed.WholeRuns.{StartsUndisturbed}
+use Rattle.sercos_law_run.specs.Recovery.Recovers.{Recovers}
+use Rattle.sercos_law_run.specs.Journal.Runs.{IsNext, IsRun, next_record, run_of}
 use Rattle.sercos_opened.specs.Kept.{KeepsThroughout, RecoversThroughout, StartsThroughout, OpenedIsKept}
 
 -- each cycle that the function gives is the next one

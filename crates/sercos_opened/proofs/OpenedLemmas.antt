@@ -12,14 +12,12 @@ use Rattle.sercos_block.specs.declared.block.Block.{Block}
 use Rattle.sercos_block.specs.Views.{DriveView, RingView}
 use Rattle.sercos_block.specs.Stores.{find_block, store_of}
 use Rattle.sercos_block.specs.Rings.{block_attribute, has_address, has_other_data, is_no_command, is_ring}
-use Rattle.sercos_startup.proofs.BlockFinds.{attribute_store_of}
-use Rattle.sercos_startup.proofs.CheckPasses.{ring_drive}
+use Rattle.sercos_law_run.proofs.Theorems.{attribute_store_of, ring_drive, member_is}
 use Rattle.sercos_seat.specs.Ring.{Task, tasks_from, request_task}
-use Rattle.sercos_handshake.specs.WholeRun.{IsSound}
-use Rattle.sercos_journal.specs.Runs.{drive_at, no_drive}
-use Rattle.sercos_views.proofs.Members.{member_is}
-use Rattle.sercos_typed.specs.Typed.{AreTyped, AreTypedJobs, IsTypedRequest}
-use Rattle.sercos_held.specs.Opened.{IsOpened}
+use Rattle.sercos_law_channel.specs.Handshake.WholeRun.{IsSound}
+use Rattle.sercos_law_run.specs.Journal.Runs.{drive_at, no_drive}
+use Rattle.sercos_law_run.specs.Typed.Typed.{AreTyped, AreTypedJobs, IsTypedRequest}
+use Rattle.sercos_law_run.specs.Held.Opened.{IsOpened}
 
 -- Each task of a drive is a job to it.
 pub record IsOf (address : ℕ) (jobs : List Job) (t : Task) : Type 0 where

@@ -5,11 +5,11 @@ use Rattle.sercos_block.specs.Views.{RingView}
 use Rattle.sercos_script.specs.Links.{Carry, Restarts, carried_by_both, restarts_in_either}
 use Rattle.sercos_script.specs.Scripts.{carried, restarts_at}
 use Rattle.sercos_trace.specs.Views.{CycleView}
-use Rattle.sercos_journal.specs.Runs.{IsRun, IsClear, run_of}
-use Rattle.sercos_headline.specs.Headline.{KeepsAll}
-use Rattle.sercos_undisturbed.specs.WholeRuns.{NeverDisturbed, StartsUp}
-use Rattle.sercos_recovery.specs.Recovers.{RecoversIn}
-use Rattle.sercos_held.specs.Opened.{IsOpened}
+use Rattle.sercos_law_run.specs.Journal.Runs.{IsRun, IsClear, run_of}
+use Rattle.sercos_law_run.specs.Headline.Headline.{KeepsAll}
+use Rattle.sercos_law_run.specs.Undisturbed.WholeRuns.{NeverDisturbed, StartsUp}
+use Rattle.sercos_law_run.specs.Recovery.Recovers.{RecoversIn}
+use Rattle.sercos_law_run.specs.Held.Opened.{IsOpened}
 use Rattle.sercos_config.specs.Views.{DocumentView}
 
 -- The link of a document's ring is its script; with a link handed in, its script followed by that link.

@@ -6,8 +6,8 @@ ghost use Rattle.sercos_step.specs.Steps.{IsRequest};
 ghost use Rattle.sercos_step.specs.Jobs.{AreJobs};
 ghost use Rattle.sercos_block.specs.Stores.{is_typed};
 ghost use Rattle.sercos_block.specs.Rings.{has_address, has_other_data, is_ring};
-ghost use Rattle.sercos_typed.specs.Typed.{AreTypedJobs, IsTyped, IsTypedRequest};
-ghost use Rattle.sercos_held.specs.Opened.{IsOpened};
+ghost use Rattle.sercos_law_run.specs.Typed.Typed.{AreTypedJobs, IsTyped, IsTypedRequest};
+ghost use Rattle.sercos_law_run.specs.Held.Opened.{IsOpened};
 
 use sercos_block::{Block, DriveSetup, RingSetup};
 use sercos_config::Document;

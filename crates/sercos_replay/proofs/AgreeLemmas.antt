@@ -21,23 +21,18 @@ use Rattle.sercos_master.specs.Annals as master
 use Rattle.sercos_master.specs.Says.{Sent, mst_said, mdt_said}
 use Rattle.sercos_script.specs.declared.link.Passage.{Passage}
 use Rattle.sercos_script.specs.Links.{Carry, Restarts}
-use Rattle.sercos_journal.specs.Arrivals.{arrival, content_in, heard, passage, is_disturbed, disturbed_at, any_below, are_same}
-use Rattle.sercos_journal.specs.Records.{mst_in, ats_in, mdt_in}
-use Rattle.sercos_journal.specs.Runs.{drive_at, no_drive, with_restart, mdt_heard, station_of, station_from, sent_at, sent_mst, sent_mdt, inserted, with_said, said_below, ats_said, contents, given_mst, given_before, begins, middle, begin_calls, own_mst, is_disturbed_in, disturbs_mst, disturbs_mdt, disturbs_ats, mst_next, ats_next, mdt_next, IsNext, IsRun}
-use Rattle.sercos_journal.specs.Runs as journal
-use Rattle.sercos_journal.proofs.ClearLemmas.{same_bits}
-use Rattle.sercos_journal.proofs.RunLemmas.{ats_in-said, mdt_in-said}
-use Rattle.sercos_journal.proofs.StationLemmas.{station_found, drives_so}
-use Rattle.sercos_views.proofs.Members.{IsSaid, AreSaid, all_said, IsWhole}
-use Rattle.sercos_views.proofs.ViewRuns.{IsSpelled}
-use Rattle.sercos_typed.specs.Typed.{AreTyped, AreTypedJobs}
-use Rattle.sercos_typed.specs.Spelled.{SpelledNext}
+use Rattle.sercos_law_run.specs.Journal.Arrivals.{arrival, content_in, heard, passage, is_disturbed, disturbed_at, any_below, are_same}
+use Rattle.sercos_law_run.specs.Journal.Records.{mst_in, ats_in, mdt_in}
+use Rattle.sercos_law_run.specs.Journal.Runs.{drive_at, no_drive, with_restart, mdt_heard, station_of, station_from, sent_at, sent_mst, sent_mdt, inserted, with_said, said_below, ats_said, contents, given_mst, given_before, begins, middle, begin_calls, own_mst, is_disturbed_in, disturbs_mst, disturbs_mdt, disturbs_ats, mst_next, ats_next, mdt_next, IsNext, IsRun}
+use Rattle.sercos_law_run.specs.Journal.Runs as journal
+use Rattle.sercos_law_run.proofs.Theorems.{same_bits, ats_in-said, mdt_in-said, station_found, drives_so, IsSaid, AreSaid, all_said, IsWhole, IsSpelled, said_address}
+use Rattle.sercos_law_run.specs.Typed.Typed.{AreTyped, AreTypedJobs}
+use Rattle.sercos_law_run.specs.Typed.Spelled.{SpelledNext}
 use Rattle.sercos_replay.specs.Cycles.{Cycle, with_at, with_mdt, cycles_of}
 use Rattle.sercos_replay.specs.Places.{PlaceView, is_same, agree, if_differs}
 use Rattle.sercos_replay.specs.Differences.{content_of, drive_calls, mst_calls, is_of, at_found, at_place, drive_differs, at_calls, mdt_calls, master_calls, looks_back, mst_place, mdt_at, mdt_place, master_differs}
 use Rattle.sercos_replay.specs.Captured.{lines_with, lines_of, NeverDisturbed}
 use Rattle.sercos_replay.proofs.OptionLemmas.{or-none}
-use Rattle.sercos_journal.proofs.StationLemmas.{said_address}
 
 -- WHAT IS THE SAME agrees.
 same-itself : (s : SentView) → is_same s s ≡ true

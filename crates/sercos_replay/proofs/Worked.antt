@@ -7,7 +7,7 @@ use Rattle.sercos_seat.specs.Ring.{Known, known_of}
 use Rattle.sercos_trace.specs.declared.reading.Line.{Line}
 use Rattle.sercos_trace.specs.declared.reading.Line.TheVariants as line
 use Rattle.sercos_drive.proofs.Worked.{drive}
-use Rattle.sercos_journal.specs.Runs.{sent_at, sent_mst}
+use Rattle.sercos_law_run.specs.Journal.Runs.{sent_at, sent_mst}
 use Rattle.sercos_replay.specs.Cycles.{cycles_of}
 use Rattle.sercos_replay.specs.Places.{PlaceView, telegram_at}
 use Rattle.sercos_replay.specs.Differences.{drive_differs, drive_tells, master_differs, master_tells}

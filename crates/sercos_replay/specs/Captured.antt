@@ -5,7 +5,7 @@ use Rattle.sercos_trace.specs.Views.{SentView, CycleView}
 use Rattle.sercos_trace.specs.declared.reading.Line.{Line}
 use Rattle.sercos_trace.specs.declared.reading.Line.TheVariants as line
 use Rattle.sercos_script.specs.Links.{Carry, Restarts}
-use Rattle.sercos_journal.specs.Runs.{is_disturbed_in}
+use Rattle.sercos_law_run.specs.Journal.Runs.{is_disturbed_in}
 
 -- the lines of a cycle's telegrams after these
 abbrev pub lines_with : ℕ → List SentView → List Line → List Line

@@ -12,7 +12,7 @@ use Rattle.sercos_seat.specs.Ring.{Known, tasks_for}
 use Rattle.sercos_master.specs.Annals.{Past, Call, HearMst, HearAt, End, past}
 use Rattle.sercos_master.specs.Annals as master
 use Rattle.sercos_master.specs.Says.{Sent, mst_said, mdt_said}
-use Rattle.sercos_journal.specs.Runs.{sent_at, sent_mst}
+use Rattle.sercos_law_run.specs.Journal.Runs.{sent_at, sent_mst}
 use Rattle.sercos_replay.specs.Cycles.{Cycle}
 use Rattle.sercos_replay.specs.Places.{PlaceView, if_differs, telegram_at}
 

@@ -8,7 +8,7 @@ use Rattle.sercos_block.specs.Views.{DriveView, RingView}
 use Rattle.sercos_trace.specs.declared.reading.Line.{Line}
 use Rattle.sercos_trace.specs.declared.reading.Line.TheVariants as line
 use Rattle.sercos_seat.specs.Ring.{Known, known_of}
-use Rattle.sercos_journal.specs.Runs.{drive_at}
+use Rattle.sercos_law_run.specs.Journal.Runs.{drive_at}
 use Rattle.sercos_config.specs.Views.{DocumentView}
 use Rattle.sercos_checking.specs.Checking.{read_as}
 use Rattle.sercos_answer.specs.Lines.{lines_of}

@@ -9,8 +9,8 @@ use Rattle.sercos_trace.specs.Views.{SentView, CycleView}
 use Rattle.sercos_trace.specs.declared.record.Totals.{Totals}
 use Rattle.sercos_trace.specs.Texts.{trace_of}
 use Rattle.sercos_script.specs.Links.{Carry, Restarts}
-use Rattle.sercos_journal.specs.Runs.{IsRun}
-use Rattle.sercos_typed.specs.Typed.{AreTyped, AreTypedJobs}
+use Rattle.sercos_law_run.specs.Journal.Runs.{IsRun}
+use Rattle.sercos_law_run.specs.Typed.Typed.{AreTyped, AreTypedJobs}
 use Rattle.sercos_config.specs.Views.{DocumentView}
 use Rattle.sercos_replay.specs.Captured.{lines_of, telegrams, NeverDisturbed}
 use Rattle.sercos_replay.specs.Stations.{Station, lines_read}

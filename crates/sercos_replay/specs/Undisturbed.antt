@@ -3,8 +3,8 @@ use Rattle.std.specs.Prelude.{◌≡◌, ℕ, true, List, length, None}
 use Rattle.sercos_block.specs.Rings.{is_ring}
 use Rattle.sercos_trace.specs.Views.{CycleView}
 use Rattle.sercos_script.specs.Links.{Carry, Restarts}
-use Rattle.sercos_journal.specs.Runs.{IsRun}
-use Rattle.sercos_typed.specs.Typed.{AreTyped, AreTypedJobs}
+use Rattle.sercos_law_run.specs.Journal.Runs.{IsRun}
+use Rattle.sercos_law_run.specs.Typed.Typed.{AreTyped, AreTypedJobs}
 use Rattle.sercos_config.specs.Views.{DocumentView}
 use Rattle.sercos_replay.specs.Captured.{lines_of, telegrams, NeverDisturbed}
 use Rattle.sercos_replay.specs.Stations.{Station, lines_read}

@@ -10,7 +10,7 @@ ghost use Rattle.sercos_trace.specs.declared.reading.Line.{Line};
 ghost use Rattle.sercos_drive.specs.Heard.{DriveCall};
 ghost use Rattle.sercos_drive.specs.Says.{Said, drive_says};
 ghost use Rattle.sercos_drive.specs.Kept.{DriveStandsFor};
-ghost use Rattle.sercos_journal.specs.Runs.{drive_at, sent_at};
+ghost use Rattle.sercos_law_run.specs.Journal.Runs.{drive_at, sent_at};
 ghost use Rattle.sercos_replay.specs.Cycles.{Cycle, begun, with_at, with_mdt, with_telegram, cycles_of, newest_cycle, goes_on, GoesOn};
 ghost use Rattle.sercos_replay.specs.Places.{if_differs, if_told};
 ghost use Rattle.sercos_replay.specs.Differences.{content_of, is_of, at_place_of, drive_differs, drive_tells};

@@ -7,8 +7,8 @@ ghost use Rattle.sercos_trace.specs.Views.{CycleView};
 ghost use Rattle.sercos_trace.specs.declared.reading.Line.{Line};
 ghost use Rattle.sercos_seat.specs.Ring.{Known, known_of};
 ghost use Rattle.sercos_script.specs.Links.{Carry, Restarts};
-ghost use Rattle.sercos_journal.specs.Runs.{drive_at, IsRun};
-ghost use Rattle.sercos_typed.specs.Typed.{AreTyped, AreTypedJobs};
+ghost use Rattle.sercos_law_run.specs.Journal.Runs.{drive_at, IsRun};
+ghost use Rattle.sercos_law_run.specs.Typed.Typed.{AreTyped, AreTypedJobs};
 ghost use Rattle.sercos_check.specs.Verdicts.{IsClean};
 ghost use Rattle.sercos_replay.specs.Cycles.{cycles_of, GoesOn};
 ghost use Rattle.sercos_replay.specs.Differences.{drive_differs, drive_tells, master_differs, master_tells};
@@ -16,7 +16,7 @@ ghost use Rattle.sercos_replay.specs.Given.{if_given};
 ghost use Rattle.sercos_replay.specs.Captured.{lines_of, telegrams, NeverDisturbed};
 ghost use Rattle.sercos_replay.specs.Asking.{Replays};
 
-use sercos_typed::typed_law;
+use sercos_law_run::typed_law;
 
 /// A law and no code. In a clean capture no cycle goes back. What a replay tells of it is the first place that differs, if its telegram is
 /// there or one of a later place was given. Lines that are no telegrams say nothing to a replay.

@@ -7,7 +7,7 @@ ghost use Rattle.sercos_block.specs.Rings.{is_ring};
 ghost use Rattle.sercos_trace.specs.Views.{SentView};
 ghost use Rattle.sercos_trace.specs.declared.reading.Line.{Line};
 ghost use Rattle.sercos_seat.specs.Ring.{Known, known_of};
-ghost use Rattle.sercos_journal.specs.Runs.{start_before, sent_mst};
+ghost use Rattle.sercos_law_run.specs.Journal.Runs.{start_before, sent_mst};
 ghost use Rattle.sercos_hdlc.specs.Stuffed.{frame_of};
 ghost use Rattle.sercos_telegram.specs.declared.layout.Kind.TheVariants as telegram;
 ghost use Rattle.sercos_master.specs.Annals.{Call, HearMst, Mdt, End};

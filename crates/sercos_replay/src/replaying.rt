@@ -3,7 +3,7 @@ ghost use Rattle.std.specs.Prelude.{◌≡◌, ℕ, ◌<◌, ◌≤◌, ◌==◌
 ghost use Rattle.std.specs.List.{All};
 ghost use Rattle.sercos_step.specs.Jobs.{AreJobs};
 ghost use Rattle.sercos_seat.specs.Ring.{known_of};
-ghost use Rattle.sercos_journal.specs.Runs.{drive_at};
+ghost use Rattle.sercos_law_run.specs.Journal.Runs.{drive_at};
 ghost use Rattle.sercos_answer.specs.Answer.{line_feed};
 ghost use Rattle.sercos_block.specs.Rings.{has_address, has_other_data, is_ring};
 ghost use Rattle.sercos_checking.specs.declared.verdict.Verdict.TheVariants.{Clean};

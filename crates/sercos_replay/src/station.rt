@@ -6,7 +6,7 @@ ghost use Rattle.sercos_step.specs.Steps.{IsRequest};
 ghost use Rattle.sercos_block.specs.Rings.{is_ring};
 ghost use Rattle.sercos_trace.specs.declared.reading.Line.{Line};
 ghost use Rattle.sercos_seat.specs.Ring.{known_of};
-ghost use Rattle.sercos_journal.specs.Runs.{drive_at};
+ghost use Rattle.sercos_law_run.specs.Journal.Runs.{drive_at};
 ghost use Rattle.sercos_replay.specs.Cycles.{cycles_of, GoesOn};
 ghost use Rattle.sercos_replay.specs.Stations.{Station, ReplayStandsFor, station_differs, has};
 ghost use Rattle.sercos_replay.specs.Stations.Station.{master, drive};

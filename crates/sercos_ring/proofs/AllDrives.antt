@@ -8,7 +8,7 @@ use Rattle.std.proofs.lemmas.Bool.{cases_eq, lt-ltb, le-ltb, cases_Bool, ltb-tru
 use Rattle.sercos_block.specs.Views.{DriveView}
 use Rattle.sercos_drive.specs.Heard.{DriveCall}
 use Rattle.sercos_drive.specs.Kept.{DriveState, DriveStandsFor}
-use Rattle.sercos_journal.specs.Arrivals.{sum_below}
+use Rattle.sercos_law_run.specs.Journal.Arrivals.{sum_below}
 use Rattle.sercos_ring.specs.Stations.{AllStand}
 
 same_test : (i k : ℕ) → (k ≡ i → ⊥) → nat_lt k (i + 1) ≡ nat_lt k i

@@ -8,7 +8,7 @@ use Rattle.sercos_seat.specs.Ring.{known_of, member_of}
 use Rattle.sercos_master.specs.Annals.{Call, Restart}
 use Rattle.sercos_master.specs.Reports.{HasRestarted, AreOpen, inserted, with_report, with_reports, broken}
 use Rattle.sercos_script.specs.Links.{Carry, Restarts}
-use Rattle.sercos_journal.specs.Runs.{at_calls, with_at, mid_calls, own_mst, restart_events, looks_back}
+use Rattle.sercos_law_run.specs.Journal.Runs.{at_calls, with_at, mid_calls, own_mst, restart_events, looks_back}
 
 length-inserted : (i : ℕ) (o : Outcome) (l : List (ℕ × Outcome)) → length (inserted i o l) ≡ length l + 1
 length-inserted i o [] = refl

@@ -2,9 +2,9 @@
 use Rattle.std.proofs.Common.{◌≡◌, sym, subst}
 use Rattle.sercos_trace.specs.Views.{CycleView}
 use Rattle.sercos_script.specs.Links.{Carry, Restarts}
-use Rattle.sercos_headline.specs.Headline.{Headline}
-use Rattle.sercos_undisturbed.specs.WholeRuns.{StartsUndisturbed}
-use Rattle.sercos_recovery.specs.Recovers.{Recovers}
+use Rattle.sercos_law_run.specs.Headline.Headline.{Headline}
+use Rattle.sercos_law_run.specs.Undisturbed.WholeRuns.{StartsUndisturbed}
+use Rattle.sercos_law_run.specs.Recovery.Recovers.{Recovers}
 use Rattle.sercos_ring.specs.Kept.{IsNextOf, KeepsAllOf, RecoversOf, StartsUpOf}
 use Rattle.sercos_ring.specs.declared.ring.Ring.{Ring}
 

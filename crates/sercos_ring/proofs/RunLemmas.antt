@@ -14,13 +14,12 @@ use Rattle.sercos_master.specs.Annals.{Call, End}
 use Rattle.sercos_master.specs.Says.{Sent}
 use Rattle.std.specs.Prelude.{◌==◌}
 use Rattle.std.proofs.lemmas.Bool.{eq-eqb}
-use Rattle.sercos_journal.proofs.StationLemmas.{few_drives}
+use Rattle.sercos_law_run.proofs.Theorems.{few_drives, ats_in-said, mdt_in-said, AreParts, parts_next}
 use Rattle.sercos_script.specs.Links.{Carry, Restarts}
-use Rattle.sercos_journal.specs.Records.{mst_in, ats_in, mdt_in}
-use Rattle.sercos_journal.specs.Runs.{drive_at, with_restart, drive_calls, master_calls, given_before, mid_calls, at_mst, at_mdt, contents, content_of, IsNext}
+use Rattle.sercos_law_run.specs.Journal.Records.{mst_in, ats_in, mdt_in}
+use Rattle.sercos_law_run.specs.Journal.Runs.{drive_at, with_restart, drive_calls, master_calls, given_before, mid_calls, at_mst, at_mdt, contents, content_of, IsNext}
 use Rattle.sercos_ring.specs.Stations.{AllStand, AreBefore, list_below}
 use Rattle.sercos_ring.specs.Parts.{PartsStandFor}
-use Rattle.sercos_journal.proofs.RunLemmas.{ats_in-said, mdt_in-said, AreParts, parts_next}
 
 -- with what the drives and the master then stand for
 abbrev pub IsTurned : RingView → List Job → Carry → Restarts → List CycleView → CycleView → List DriveState → AnyMaster

@@ -8,9 +8,9 @@ use Rattle.sercos_drive.specs.Heard.{DriveCall}
 use Rattle.sercos_drive.specs.Says.{Said, drive_says}
 use Rattle.sercos_master.specs.declared.master.AnyMaster.{AnyMaster}
 use Rattle.sercos_master.specs.Annals.{Call}
-use Rattle.sercos_journal.specs.Arrivals.{sum_below}
+use Rattle.sercos_law_run.specs.Journal.Arrivals.{sum_below}
 use Rattle.sercos_script.specs.Links.{Carry}
-use Rattle.sercos_journal.specs.Runs.{sent_at, ats_said, at_calls, unseen_ats, contents, unseen_mdt}
+use Rattle.sercos_law_run.specs.Journal.Runs.{sent_at, ats_said, at_calls, unseen_ats, contents, unseen_mdt}
 use Rattle.sercos_ring.specs.Sendings.{AreSent, said_by, with_first}
 use Rattle.sercos_ring.specs.declared.turns.AtTurn.{AtTurn}
 

@@ -3,7 +3,7 @@ use Rattle.std.specs.Prelude.{◌≡◌, ℕ, ◌≤◌, true, false, List, leng
 use Rattle.sercos_hdlc.specs.Stuffed.{frame_of}
 use Rattle.sercos_telegram.specs.declared.layout.Kind.{Kind}
 use Rattle.sercos_script.specs.Links.{Carry, IsQuiet}
-use Rattle.sercos_journal.specs.Arrivals.{content_in}
+use Rattle.sercos_law_run.specs.Journal.Arrivals.{content_in}
 use Rattle.sercos_ring.specs.declared.receiving.Framed.{Framed}
 
 -- Its length, and its bits if they are made. If they are not, the link doesn't change this telegram, so that nobody needs them.

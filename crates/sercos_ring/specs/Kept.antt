@@ -9,11 +9,11 @@ use Rattle.sercos_master.specs.declared.master.AnyMaster.{AnyMaster}
 use Rattle.sercos_master.specs.Annals.{Call}
 use Rattle.sercos_master.specs.Any.{AnyStandsFor}
 use Rattle.sercos_script.specs.Links.{Carry, Restarts}
-use Rattle.sercos_journal.specs.Runs.{drive_at, master_calls, given_before, IsNext, IsRun, IsClear}
-use Rattle.sercos_held.specs.Opened.{IsOpened}
-use Rattle.sercos_headline.specs.Headline.{KeepsAll}
-use Rattle.sercos_undisturbed.specs.WholeRuns.{NeverDisturbed, StartsUp}
-use Rattle.sercos_recovery.specs.Recovers.{RecoversIn}
+use Rattle.sercos_law_run.specs.Journal.Runs.{drive_at, master_calls, given_before, IsNext, IsRun, IsClear}
+use Rattle.sercos_law_run.specs.Held.Opened.{IsOpened}
+use Rattle.sercos_law_run.specs.Headline.Headline.{KeepsAll}
+use Rattle.sercos_law_run.specs.Undisturbed.WholeRuns.{NeverDisturbed, StartsUp}
+use Rattle.sercos_law_run.specs.Recovery.Recovers.{RecoversIn}
 use Rattle.sercos_ring.specs.Stations.{AllStand, addresses_below}
 use Rattle.sercos_ring.specs.Parts.{PartsStandFor}
 use Rattle.sercos_ring.specs.declared.ring.Ring.{Ring}

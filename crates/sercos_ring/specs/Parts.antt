@@ -9,7 +9,7 @@ use Rattle.sercos_seat.specs.Ring.{known_of}
 use Rattle.sercos_master.specs.declared.master.AnyMaster.{AnyMaster}
 use Rattle.sercos_master.specs.Any.{AnyStandsFor}
 use Rattle.sercos_script.specs.Links.{Carry, Restarts}
-use Rattle.sercos_journal.specs.Runs.{drive_at, master_calls, given_before, IsRun}
+use Rattle.sercos_law_run.specs.Journal.Runs.{drive_at, master_calls, given_before, IsRun}
 use Rattle.sercos_ring.specs.Stations.{AllStand, addresses_below}
 
 -- What a link carries and whom it restarts; the number of the cycle, the rate and the addresses; the drives and the master: they

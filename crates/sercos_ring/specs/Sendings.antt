@@ -10,7 +10,7 @@ use Rattle.sercos_master.specs.declared.master.AnyMaster.{AnyMaster}
 use Rattle.sercos_master.specs.Annals.{Call}
 use Rattle.sercos_master.specs.Any.{AnyStandsFor}
 use Rattle.sercos_script.specs.Links.{Carry}
-use Rattle.sercos_journal.specs.Runs.{ats_said, at_calls, unseen_ats, contents, station_of}
+use Rattle.sercos_law_run.specs.Journal.Runs.{ats_said, at_calls, unseen_ats, contents, station_of}
 use Rattle.sercos_ring.specs.declared.turns.AtTurn.{AtTurn}
 
 -- what the drives at these turns say

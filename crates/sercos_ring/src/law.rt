@@ -5,7 +5,7 @@ ghost use Rattle.sercos_block.specs.Views.{RingView};
 ghost use Rattle.sercos_block.specs.Rings.{is_ring};
 ghost use Rattle.sercos_trace.specs.Views.{CycleView};
 ghost use Rattle.sercos_script.specs.Links.{Carry, Restarts};
-ghost use Rattle.sercos_journal.specs.Runs.{IsRun};
+ghost use Rattle.sercos_law_run.specs.Journal.Runs.{IsRun};
 ghost use Rattle.sercos_ring.specs.Kept.{RingStandsFor, cycles_made};
 ghost use Rattle.sercos_ring.specs.declared.ring.Ring.{Ring};
 

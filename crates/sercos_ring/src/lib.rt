@@ -1,6 +1,7 @@
-//! The ring: its drives and its master, and the link between them.
+//! The ring: its drives and its master, the link between them, and the totals of its run.
 #![tactic(auto)]
 
+mod counting;
 mod law;
 mod moves;
 mod opening;
@@ -10,5 +11,6 @@ mod sending;
 mod stations;
 mod turns;
 
+pub use counting::{count_made, no_totals};
 pub use law::standing_law;
 pub use ring::Ring;

@@ -3,7 +3,7 @@ ghost use Rattle.std.specs.Prelude.{◌≡◌, ℕ, ◌+◌, ◌≤◌, ◌<◌,
 ghost use Rattle.sercos_block.specs.Views.{DriveView};
 ghost use Rattle.sercos_drive.specs.Heard.{DriveCall};
 ghost use Rattle.sercos_drive.specs.Annals.{phase_at};
-ghost use Rattle.sercos_journal.specs.Runs.{move_of, moves_below};
+ghost use Rattle.sercos_law_run.specs.Journal.Runs.{move_of, moves_below};
 ghost use Rattle.sercos_ring.specs.Stations.{AllStand, phases_below, addresses_below};
 
 use arrayvec::ArrayVec;

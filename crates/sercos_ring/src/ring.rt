@@ -7,7 +7,7 @@ ghost use Rattle.sercos_step.specs.declared.request.Job.{Job};
 ghost use Rattle.sercos_block.specs.Views.{DriveView, RingView};
 ghost use Rattle.sercos_trace.specs.Views.{CycleView};
 ghost use Rattle.sercos_script.specs.Links.{Carry, Restarts};
-ghost use Rattle.sercos_journal.specs.Runs.{no_events, drive_at, given_before};
+ghost use Rattle.sercos_law_run.specs.Journal.Runs.{no_events, drive_at, given_before};
 ghost use Rattle.sercos_ring.specs.Parts.{PartsStandFor};
 ghost use Rattle.sercos_drive.specs.Heard.{DriveCall};
 ghost use Rattle.sercos_drive.specs.Kept.{DriveStandsFor};
@@ -28,14 +28,12 @@ use arrayvec::ArrayVec;
 use sercos_bits::Content;
 use sercos_block::RingSetup;
 use sercos_drive::Drive;
-use sercos_headline::headline_law;
+use sercos_law_run::{headline_law, recovery_law, undisturbed_law};
 use sercos_master::AnyMaster;
-use sercos_recovery::recovery_law;
 use sercos_script::BitLink;
 use sercos_step::Job;
 use sercos_telegram::Kind;
 use sercos_trace::{CycleRecord, Events, Move, Sent};
-use sercos_undisturbed::undisturbed_law;
 use std::alloc::{AllocError, Global};
 
 /// A ring: its drives, its master, and the links between them.

@@ -11,9 +11,9 @@ ghost use Rattle.sercos_seat.specs.Ring.{Known};
 ghost use Rattle.sercos_master.specs.Says.{sent_as};
 ghost use Rattle.sercos_master.specs.Any.{AnyStandsFor};
 ghost use Rattle.sercos_master.specs.Annals.{Call, HearMst};
-ghost use Rattle.sercos_journal.specs.Arrivals.{heard, passage, sum_below, unseen_at};
+ghost use Rattle.sercos_law_run.specs.Journal.Arrivals.{heard, passage, sum_below, unseen_at};
 ghost use Rattle.sercos_ring.specs.Frames.{IsSent};
-ghost use Rattle.sercos_journal.specs.Runs.{content_of, mdt_heard, own_mst, sent_at, sent_mdt, sent_mst, start_before, station_of, unseen_mdt, with_at};
+ghost use Rattle.sercos_law_run.specs.Journal.Runs.{content_of, mdt_heard, own_mst, sent_at, sent_mdt, sent_mst, start_before, station_of, unseen_mdt, with_at};
 ghost use Rattle.sercos_ring.specs.Stations.{AllStand};
 ghost use Rattle.sercos_ring.specs.Sendings.{said_by, AreSent, AreTurns};
 

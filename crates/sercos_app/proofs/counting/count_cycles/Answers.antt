@@ -1,6 +1,6 @@
 use Rattle.std.proofs.Common.{arith}
 use Rattle.sercos_ring.specs.Kept.{RingStandsFor, newest}
-use Rattle.sercos_totals.proofs.CountLemmas.{room_for, none_counted, none_few}
+use Rattle.sercos_law_run.proofs.Theorems.{room_for, none_counted, none_few}
 use Rattle.sercos_app.proofs.JournalLemmas.{counted_none, counted_next, counts_run, lawful, ring_more}
 use Rattle.sercos_app.proofs.counting.count_cycles.Goals as goal
 

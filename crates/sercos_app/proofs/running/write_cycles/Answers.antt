@@ -1,6 +1,6 @@
 use Rattle.std.proofs.Common.{arith}
 use Rattle.sercos_ring.specs.Kept.{RingStandsFor, newest}
-use Rattle.sercos_totals.proofs.CountLemmas.{room_for, none_counted, none_few}
+use Rattle.sercos_law_run.proofs.Theorems.{room_for, none_counted, none_few}
 use Rattle.sercos_app.proofs.JournalLemmas.{written_none, written_next, written_at, stopped_next, stopped_is, ring_more}
 use Rattle.sercos_app.proofs.running.write_cycles.Goals as goal
 

@@ -1,4 +1,4 @@
-use Rattle.sercos_totals.proofs.Bounds.{plan_starts, plan_positions}
+use Rattle.sercos_law_run.proofs.Theorems.{plan_starts, plan_positions}
 use Rattle.sercos_app.proofs.running.write_next.Goals as goal
 
 pub count_made-requires-clause-made : goal.count_made-requires-clause-made

@@ -1,7 +1,7 @@
 use Rattle.std.proofs.Common.{rules}
 use Rattle.std.specs.List.{All}
-use Rattle.sercos_journal.specs.Runs.{no_drive}
-use Rattle.sercos_typed.specs.Typed.{IsTyped, AreTypedJobs}
+use Rattle.sercos_law_run.specs.Journal.Runs.{no_drive}
+use Rattle.sercos_law_run.specs.Typed.Typed.{IsTyped, AreTypedJobs}
 use Rattle.sercos_opened.proofs.OpenedLemmas.{opened}
 use Rattle.sercos_opened.proofs.opened.show_opened.Goals as goal
 

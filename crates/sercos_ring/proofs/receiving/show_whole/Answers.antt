@@ -1,7 +1,7 @@
 use Rattle.std.proofs.Common.{rules, refl, sym}
 use Rattle.sercos_model.specs.Frames.{IsFrame}
 use Rattle.sercos_hdlc.specs.Stuffed.{frame_of}
-use Rattle.sercos_journal.specs.Arrivals.{content_in}
+use Rattle.sercos_law_run.specs.Journal.Arrivals.{content_in}
 use Rattle.sercos_ring.proofs.receiving.show_whole.Goals as goal
 
 pub returns : goal.returns

@@ -12,12 +12,12 @@ use Rattle.sercos_master.specs.Annals.{Call, Past}
 use Rattle.sercos_master.specs.Annals as master
 use Rattle.sercos_master.specs.Says.{Sent, sent_as, mst_said, mdt_said}
 use Rattle.sercos_master.specs.Reports.{AreOpen, events_told, restart_told}
-use Rattle.sercos_journal.specs.Arrivals.{heard, passage, sum_below, unseen_at}
+use Rattle.sercos_law_run.specs.Journal.Arrivals.{heard, passage, sum_below, unseen_at}
 use Rattle.sercos_script.specs.Links.{Carry, Restarts}
-use Rattle.sercos_journal.specs.Runs.{drive_at, master_calls, given_before, begin_calls, own_mst, mid_calls, at_calls, at_mst, at_mdt, mdt_heard, with_restart, said_below, contents, content_of, moves_below, unseen_ats, unseen_mst, unseen_mdt, looks_back, restart_events}
+use Rattle.sercos_law_run.specs.Journal.Runs.{drive_at, master_calls, given_before, begin_calls, own_mst, mid_calls, at_calls, at_mst, at_mdt, mdt_heard, with_restart, said_below, contents, content_of, moves_below, unseen_ats, unseen_mst, unseen_mdt, looks_back, restart_events}
 use Rattle.sercos_ring.specs.Stations.{AllStand, phases_below, addresses_below, turns_below}
 use Rattle.sercos_ring.specs.Sendings.{said_by, AreSent}
-use Rattle.sercos_journal.proofs.StationLemmas.{few_drives}
+use Rattle.sercos_law_run.proofs.Theorems.{few_drives}
 use Rattle.sercos_ring.proofs.TurnsSaid.{turns_said}
 use Rattle.sercos_ring.proofs.RunLemmas.{turned, before_cycle}
 use Rattle.sercos_ring.proofs.EventLemmas.{restart_fits}

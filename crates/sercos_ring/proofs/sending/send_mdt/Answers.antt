@@ -2,7 +2,7 @@ use Rattle.std.proofs.Common.{ℕ, ◌+◌, ◌∷◌, Option, Some, sym, subst,
 use Rattle.sercos_drive.specs.Heard.{Mdt}
 use Rattle.sercos_master.specs.Says.{sent_as}
 use Rattle.sercos_script.specs.Links.{Carry}
-use Rattle.sercos_journal.specs.Runs.{content_of, mdt_heard}
+use Rattle.sercos_law_run.specs.Journal.Runs.{content_of, mdt_heard}
 use Rattle.sercos_ring.specs.Stations.{AllStand}
 use Rattle.sercos_ring.proofs.SendLemmas.{no_unseen}
 use Rattle.sercos_ring.proofs.sending.send_mdt.Goals as goal

@@ -1,6 +1,6 @@
 use Rattle.std.proofs.Common.{rules, ◌≡◌}
 use Rattle.std.specs.Prelude.{slice_index_or}
-use Rattle.sercos_journal.proofs.StationLemmas.{sound_blocks}
+use Rattle.sercos_law_run.proofs.Theorems.{sound_blocks}
 use Rattle.sercos_replay.proofs.drive_replay.DriveReplay.open.Goals as goal
 
 pub open-requires-clause-blocks : goal.open-requires-clause-blocks

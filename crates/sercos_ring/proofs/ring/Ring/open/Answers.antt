@@ -1,6 +1,6 @@
 use Rattle.std.proofs.Common.{length}
 use Rattle.std.proofs.lemmas.Bool.{leb-true}
-use Rattle.sercos_journal.proofs.StationLemmas.{few_drives}
+use Rattle.sercos_law_run.proofs.Theorems.{few_drives}
 use Rattle.sercos_ring.proofs.ring.Ring.open.Goals as goal
 
 pub addresses_of-requires : goal.addresses_of-requires

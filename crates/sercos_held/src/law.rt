@@ -1,1 +1,0 @@
-// Laws and no code.

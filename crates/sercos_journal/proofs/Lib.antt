@@ -1,4 +1,0 @@
-pub mod ClearLemmas
-pub mod StationLemmas
-pub mod RunLemmas
-mod Worked

@@ -1,0 +1,182 @@
+-- A complete setting of a procedure command gives the data status of the last poll, the step that reads it.
+use Rattle.std.proofs.Common.{◌≡◌, ℕ, suc, ◌-◌, ◌/◌, ◌%◌, ◌<◌, ◌≤◌, Bool, true, false, not, ◌&&◌, List, [], ◌∷◌, ◌++◌, length, drop, refl, sym, ap, ap₂, ◌∙◌, arith, if◌then◌else◌, length-append}
+use Rattle.std.specs.Prelude.{◌==◌, Option, Some, None, slice_get, slice_index}
+use Rattle.std.specs.List.{list_all}
+use Rattle.std.proofs.lemmas.Bool.{cond-true, leb-true}
+use mathlib.Core.Bool.{beq}
+use Rattle.sercos_idn.specs.declared.idn.Idn.{Idn}
+use Rattle.sercos_step.specs.declared.step.Step.{Step}
+use Rattle.sercos_step.specs.declared.step.Answer.{Answer}
+use Rattle.sercos_step.specs.declared.request.Request.{Request}
+use Rattle.sercos_step.specs.declared.request.Request.TheVariants as request
+use Rattle.sercos_step.specs.declared.request.Outcome.TheVariants as outcome
+use Rattle.sercos_step.specs.Words.{bytes_in}
+use Rattle.sercos_step.specs.Steps.{a_step, polling, steps_of, outcome_of, answer_words, is_whole, result_of}
+use Rattle.sercos_block.specs.declared.block.Block.{Block}
+use Rattle.sercos_block.specs.Stores.{find_block}
+use Rattle.sercos_command.specs.Settings.{find_set, status_in}
+use Rattle.sercos_service_drive.specs.Log.{Taken, Entry, open_idn, run_before}
+use Rattle.sercos_service_drive.specs.Replies.{answer_by, copy, read_cause, reply_of}
+use Rattle.sercos_law_channel.specs.Handshake.InStep.{replies_of}
+use Rattle.sercos_law_channel.specs.Handshake.Transfers.{IsTransfer, is_complete}
+use Rattle.sercos_law_channel.specs.Handshake.CommandTransfers.{GivesStatus, EndsWithStatus, idn_of}
+use Rattle.sercos_law_channel.proofs.Handshake.AttributeReplies.{reply-read}
+use Rattle.sercos_step.proofs.Ends.{length-answer_words}
+use Rattle.sercos_law_channel.proofs.Handshake.TransferSteps.{all-slice_get, newest_step, without_newest, length-replies_of, complete-outcome_of, goes_on-outcome_of}
+use Rattle.sercos_law_channel.proofs.Handshake.UnknownBlocks.{refuses_unknown}
+use Rattle.sercos_law_channel.proofs.Handshake.ElementReads.{status_small}
+use Rattle.sercos_law_channel.proofs.Handshake.CommandStages.{Poll, Reads, Cancels, Stage, AtOpening, AtSetting, AtPoll, next_poll, whole_cancels, stage_before}
+
+-- each step of such a request is the last word of its element
+abbrev are_last : List Step → Bool
+are_last steps = list_all (λ (s : Step). s.last) steps
+
+polling_last : (words : List ℕ) → are_last (polling words) ≡ true
+polling_last [] = refl
+polling_last (status ∷ words) = by (status == 7) (polling_last words)
+  where
+    by : (v : Bool) → are_last (polling words) ≡ true → are_last (if v then polling words else a_step true true 7 0 ∷ []) ≡ true
+    by true more = more
+    by false more = refl
+
+pub last_ends : (write : Bool) (element : ℕ) (e : Entry) (log : List Entry) → e.taken.step.last ≡ true → run_before write element (e ∷ log) ≡ []
+last_ends write element e log last = by (beq e.taken.step.write write) (e.taken.step.element == element) e.taken.step.last last
+  where
+    by : (u v w : Bool) → w ≡ true → (if u && (v && (not w && not e.answer.error)) then e.taken ∷ run_before write element log else []) ≡ []
+    by true true true on = refl
+    by true false w on = refl
+    by false v w on = refl
+    by true true false on = absurd (cc)
+
+-- the reply to a poll
+pub poll_word : (raw : ℕ) (t : Taken) (all : List Entry) → t.step ≡ a_step false true 1 0 → open_idn all ≡ Some raw → run_before false 1 all ≡ [] → (reply_of t all).word ≡ status_in t.commands raw t.cycle
+poll_word raw t all is opened free =
+    let one : (t.step.element == 1) ≡ true = ap (λ (s : Step). s.element == 1) is in
+    let there : read_cause raw t ≡ None = cond-true (t.step.element == 1) None _ one in
+    ap (λ (a : Answer). a.word) (reply-read raw 1 0 true t all [] refl is opened free ∙ ap (λ (o : Option ℕ). answer_by o (slice_index (copy raw t) 0)) there)
+    ∙ ap (λ (l : List ℕ). slice_index l 0) (cond-true (t.step.element == 1) (status_in t.commands raw t.cycle ∷ []) _ one)
+
+two_long : (words : List ℕ) → 1 ≤ length words → 2 ≤ length (polling words)
+two_long [] long = absurd (omega arith)
+two_long (status ∷ words) long = by (status == 7)
+  where
+    more : (ws : List ℕ) → 1 ≤ length (polling ws)
+    more [] = omega arith
+    more (s ∷ ws) = omega arith
+
+    by : (v : Bool) → 2 ≤ suc (length (if v then polling words else a_step true true 7 0 ∷ []))
+    by true = let at = more words in omega arith
+    by false = omega arith
+
+pub one_long : (words : List ℕ) → 1 ≤ length (polling words)
+one_long [] = omega arith
+one_long (status ∷ words) = omega arith
+
+length-drop_two : (words : List ℕ) → 3 ≤ length words → 1 ≤ length (drop 2 words)
+length-drop_two [] long = absurd (omega arith)
+length-drop_two (a ∷ []) long = absurd (omega arith)
+length-drop_two (a ∷ b ∷ []) long = absurd (omega arith)
+length-drop_two (a ∷ b ∷ c ∷ words) long = omega arith
+
+-- the last word but one
+index_two : (words : List ℕ) (a b : ℕ) → slice_index ((words ++ a ∷ []) ++ b ∷ []) (length words) ≡ a
+index_two [] a b = refl
+index_two (w ∷ words) a b = index_two words a b
+
+module _ (idn : Idn) (blocks : List Block) (b : Block) (found : find_block idn.raw blocks ≡ Some b) where
+  whole_words : (e : Entry) (entries : List Entry) (bytes : List ℕ) → outcome_of (request.Command idn) (replies_of (e ∷ entries)) ≡ Some (outcome.Complete bytes) →
+      (is_whole (request.Command idn) (answer_words (replies_of entries) ++ e.answer.word ∷ []) ≡ true) × (bytes ≡ result_of (request.Command idn) (answer_words (replies_of entries) ++ e.answer.word ∷ []))
+  whole_words e entries bytes complete = by e.answer.error (is_whole (request.Command idn) (answer_words (replies_of entries) ++ e.answer.word ∷ [])) refl complete
+    where
+      by : (error whole : Bool) → is_whole (request.Command idn) (answer_words (replies_of entries) ++ e.answer.word ∷ []) ≡ whole →
+          (if error then Some (outcome.Refused (record { raw = e.answer.word })) else (if whole then Some (outcome.Complete (result_of (request.Command idn) (answer_words (replies_of entries) ++ e.answer.word ∷ []))) else None)) ≡ Some (outcome.Complete bytes) →
+          (is_whole (request.Command idn) (answer_words (replies_of entries) ++ e.answer.word ∷ []) ≡ true) × (bytes ≡ result_of (request.Command idn) (answer_words (replies_of entries) ++ e.answer.word ∷ []))
+      by true whole is got = absurd (cc)
+      by false true is got = (is, cc)
+      by false false is got = absurd (cc)
+
+  -- at least an opening, a setting and a poll come before the cancel
+  three_before : (e : Entry) (entries : List Entry) → is_whole (request.Command idn) (answer_words (replies_of entries) ++ e.answer.word ∷ []) ≡ true → 3 ≤ length entries
+  three_before e entries whole =
+      let words = answer_words (replies_of entries) ++ e.answer.word ∷ [] in
+      let many : length (steps_of (request.Command idn) words) ≤ length words = leb-true (length (steps_of (request.Command idn) words)) (length words) whole in
+      let first = one_long (drop 2 words) in
+      let three : 3 ≤ length words = omega arith in
+      let second = two_long (drop 2 words) (length-drop_two words three) in
+      let count = length-append (answer_words (replies_of entries)) (e.answer.word ∷ []) in
+      let same = length-answer_words (replies_of entries) in
+      let as_many = length-replies_of entries in
+      omega arith
+
+  pub command_last : (e : Entry) (entries log : List Entry) → IsTransfer (request.Command idn) blocks e entries log → e.taken.step.last ≡ true
+  command_last e entries log is =
+      let words = answer_words (replies_of entries) in
+      all-slice_get (λ (s : Step). s.last) (steps_of (request.Command idn) words) (length words) e.taken.step (polling_last (drop 2 words)) (newest_step (request.Command idn) blocks log e entries is)
+
+  -- the entry before the cancel is a poll
+  pub is_poll : (d o : Entry) (past log : List Entry) → 2 ≤ length (o ∷ past) → IsTransfer (request.Command idn) blocks d (o ∷ past) log → is_whole (request.Command idn) (answer_words (replies_of (o ∷ past)) ++ d.answer.word ∷ []) ≡ false →
+      (d.taken.step ≡ a_step false true 1 0) × (open_idn ((o ∷ past) ++ log) ≡ Some idn.raw)
+  is_poll d o past log long is on = by (newest_step (request.Command idn) blocks log d (o ∷ past) is) (stage_before idn b blocks found d (o ∷ past) log is).0
+    where
+      by : slice_get (steps_of (request.Command idn) (answer_words (replies_of (o ∷ past)))) (length (answer_words (replies_of (o ∷ past)))) ≡ Some d.taken.step →
+          Stage idn b (answer_words (replies_of (o ∷ past))) (o ∷ past) ((o ∷ past) ++ log) → (d.taken.step ≡ a_step false true 1 0) × (open_idn ((o ∷ past) ++ log) ≡ Some idn.raw)
+      by next (AtOpening those words) = absurd (cc)
+      by next (AtSetting p w those words opened free) = let short : length (o ∷ past) ≡ 1 = ap length those in absurd (omega arith)
+      by next (AtPoll p q before w v polled those words opened free two) = which (next_poll idn b (answer_words (replies_of (o ∷ past))) d.taken.step w v polled words next)
+        where
+          which : Poll polled d.taken.step → (d.taken.step ≡ a_step false true 1 0) × (open_idn ((o ∷ past) ++ log) ≡ Some idn.raw)
+          which (Reads step many) = (step, opened)
+          which (Cancels step many) = let whole = whole_cancels idn b (answer_words (replies_of (o ∷ past))) w v polled d.answer.word words (many d.answer.word) in absurd (cc)
+
+  status_given : (e d : Entry) (entries : List Entry) → result_of (request.Command idn) (answer_words (replies_of (d ∷ entries)) ++ e.answer.word ∷ []) ≡ bytes_in (d.answer.word ∷ [])
+  status_given e d entries =
+      let words = answer_words (replies_of entries) in
+      let one = length-append words (d.answer.word ∷ []) in
+      let two = length-append (words ++ d.answer.word ∷ []) (e.answer.word ∷ []) in
+      let at : length ((words ++ d.answer.word ∷ []) ++ e.answer.word ∷ []) - 2 ≡ length words = omega arith in
+      ap (λ (n : ℕ). bytes_in (n ∷ [])) (ap (slice_index ((words ++ d.answer.word ∷ []) ++ e.answer.word ∷ [])) at ∙ index_two words d.answer.word e.answer.word)
+
+  small_word : (n : ℕ) → n < 256 → bytes_in (n ∷ []) ≡ n ∷ 0 ∷ []
+  small_word n small = let low : n % 256 ≡ n = omega arith in let high : n / 256 ≡ 0 = omega arith in ap₂ (λ (x y : ℕ). x ∷ y ∷ []) low high
+
+  command_ends : (e : Entry) (entries log : List Entry) (bytes : List ℕ) → IsTransfer (request.Command idn) blocks e entries log → outcome_of (request.Command idn) (replies_of (e ∷ entries)) ≡ Some (outcome.Complete bytes) → GivesStatus idn.raw bytes (e ∷ entries)
+  command_ends e entries log bytes is complete = by entries is (whole_words e entries bytes complete)
+    where
+      by : (entries : List Entry) → IsTransfer (request.Command idn) blocks e entries log →
+          (is_whole (request.Command idn) (answer_words (replies_of entries) ++ e.answer.word ∷ []) ≡ true) × (bytes ≡ result_of (request.Command idn) (answer_words (replies_of entries) ++ e.answer.word ∷ [])) →
+          GivesStatus idn.raw bytes (e ∷ entries)
+      by [] is (whole, gives) = let long = three_before e [] whole in absurd (omega arith)
+      by (d ∷ []) is (whole, gives) = let long = three_before e (d ∷ []) whole in absurd (omega arith)
+      by (d ∷ o ∷ past) is (whole, gives) =
+          let long = three_before e (d ∷ o ∷ past) whole in
+          let was = without_newest (request.Command idn) blocks log e d (o ∷ past) is in
+          let on = goes_on-outcome_of (request.Command idn) d.answer (replies_of (o ∷ past)) is.goes_on in
+          let poll = is_poll d o past log (omega arith) was on.1 in
+          let free = last_ends false 1 o (past ++ log) (command_last o past log (without_newest (request.Command idn) blocks log d o past was)) in
+          let word : d.answer.word ≡ status_in d.taken.commands idn.raw d.taken.cycle = ap (λ (a : Answer). a.word) was.replies.1 ∙ poll_word idn.raw d.taken ((o ∷ past) ++ log) poll.0 poll.1 free in
+          let small = status_small d.taken.commands.time d.taken.cycle (find_set idn.raw d.taken.commands.set) in (
+            e,
+            d,
+            o ∷ past,
+            refl,
+            ap (λ (s : Step). s.write) poll.0,
+            ap (λ (s : Step). s.element) poll.0,
+            gives ∙ status_given e d (o ∷ past) ∙ ap (λ (n : ℕ). bytes_in (n ∷ [])) word ∙ small_word (status_in d.taken.commands idn.raw d.taken.cycle) small,
+          )
+
+-- a transfer that is refused at its opening isn't complete
+pub unknown_incomplete : (r : Request) (blocks : List Block) (e : Entry) (entries log : List Entry) (bytes : List ℕ) → find_block (idn_of r).raw blocks ≡ None → IsTransfer r blocks e entries log →
+    outcome_of r (replies_of (e ∷ entries)) ≡ Some (outcome.Complete bytes) → ⊥
+unknown_incomplete r blocks e entries log bytes none is complete =
+    by e.answer.error (is_whole r (answer_words (replies_of entries) ++ e.answer.word ∷ [])) (ap (λ (a : Answer). a.error) (refuses_unknown r blocks e entries log none is).1) (sym (complete-outcome_of r e.answer (replies_of entries)) ∙ ap is_complete complete)
+  where
+    by : (error whole : Bool) → error ≡ true → (not error && whole) ≡ true → ⊥
+    by true whole on is = absurd (cc)
+    by false whole on is = absurd (cc)
+
+pub ends_with_status : EndsWithStatus
+ends_with_status idn bytes blocks e entries log is complete = by (find_block idn.raw blocks) refl
+  where
+    by : (o : Option Block) → find_block idn.raw blocks ≡ o → GivesStatus idn.raw bytes (e ∷ entries)
+    by None none = absurd (unknown_incomplete (request.Command idn) blocks e entries log bytes none is complete)
+    by (Some b) found = command_ends idn blocks b found e entries log bytes is complete

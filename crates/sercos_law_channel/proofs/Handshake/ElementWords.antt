@@ -1,0 +1,147 @@
+-- The words of an element that a store keeps, read as the attribute says, are its bytes.
+use Rattle.std.proofs.Common.{◌≡◌, ℕ, ◌+◌, ◌/◌, ◌≤◌, ◌<◌, Bool, true, false, not, ◌&&◌, List, [], ◌∷◌, length, take, refl, ap, sym, ◌∙◌, arith, if◌then◌else◌}
+use Rattle.std.specs.Prelude.{◌==◌, nat_le, Option, Some, None, is_none, option_map, unwrap_or, slice_index, min}
+use Rattle.std.specs.List.{list_all}
+use Rattle.std.specs.Int.{w16, w32, to_le_bytes}
+use Rattle.std.proofs.lemmas.Bool.Decides.{nat_tests}
+use Rattle.sercos_model.specs.Bits.{AreBytes}
+use Rattle.sercos_idn.specs.declared.attribute.Attribute.{Attribute}
+use Rattle.sercos_idn.specs.declared.kinds.Length.{Length}
+use Rattle.sercos_idn.specs.declared.kinds.Length.TheVariants as len
+use Rattle.sercos_idn.specs.Codes.{is_list, item_len}
+use Rattle.sercos_step.specs.declared.shape.Shape.{Shape}
+use Rattle.sercos_step.specs.declared.shape.Shape.TheVariants as shape
+use Rattle.sercos_step.specs.Words.{words_of, bytes_in, bytes_read, words_in, shape_by, as_value}
+use Rattle.sercos_block.specs.Blocks.{width_of, bytes_for}
+use Rattle.sercos_block.specs.Rules.{is_text, is_printable, is_limit}
+use Rattle.sercos_service_drive.specs.Replies.{list_words}
+use Rattle.sercos_step.proofs.ReadBack.{low_back, high_back, bytes_back}
+use Rattle.sercos_law_channel.proofs.Handshake.ReadRows.{row, row-all}
+
+-- the bytes that these words give, as many of them as the first says
+abbrev pub read_from : Shape → List ℕ → List ℕ
+read_from s words = bytes_read s (row (words_in s (slice_index words 0)) words)
+
+length-words_of : (bytes : List ℕ) → length (words_of bytes) ≡ (length bytes + 1) / 2
+length-words_of [] = refl
+length-words_of (low ∷ []) = refl
+length-words_of (low ∷ high ∷ bytes) = let more = length-words_of bytes in omega arith
+
+min-first : (n m : ℕ) → n ≤ m → min n m ≡ n
+min-first n m less = grind (arith, nat_tests)
+
+pub list_read : (bytes : List ℕ) (longest : ℕ) → length bytes ≤ 1024 → AreBytes bytes → read_from shape.List (list_words longest bytes) ≡ bytes
+list_read bytes longest few are =
+    let least : min (length bytes) 1024 ≡ length bytes = min-first (length bytes) 1024 few in
+    let half : (min (length bytes) 1024 + 1) / 2 ≡ length (words_of bytes) = ap (λ (n : ℕ). (n + 1) / 2) least ∙ sym (length-words_of bytes) in
+    let count : 2 + (min (length bytes) 1024 + 1) / 2 ≡ length (list_words longest bytes) = omega (arith, half) in
+    ap (λ (n : ℕ). bytes_read shape.List (row n (list_words longest bytes))) count ∙ ap (bytes_read shape.List) (row-all (list_words longest bytes))
+    ∙ ap (λ (n : ℕ). take n (bytes_in (words_of bytes))) least ∙ bytes_back bytes are
+
+two_read : (bytes : List ℕ) → length bytes ≡ 2 → AreBytes bytes → read_from shape.One (words_of bytes) ≡ bytes
+unfolding AreBytes
+two_read [] is are = absurd (omega arith)
+two_read (a ∷ []) is are = absurd (omega arith)
+two_read (a ∷ b ∷ []) is are = rw (low_back a b are.0, high_back a b are.0) refl
+two_read (a ∷ b ∷ c ∷ bytes) is are = absurd (omega arith)
+
+four_read : (bytes : List ℕ) → length bytes ≡ 4 → AreBytes bytes → read_from shape.Two (words_of bytes) ≡ bytes
+unfolding AreBytes
+four_read [] is are = absurd (omega arith)
+four_read (a ∷ []) is are = absurd (omega arith)
+four_read (a ∷ b ∷ []) is are = absurd (omega arith)
+four_read (a ∷ b ∷ c ∷ []) is are = absurd (omega arith)
+four_read (a ∷ b ∷ c ∷ d ∷ []) is are = rw (low_back a b are.0, high_back a b are.0, low_back c d are.1.1.0, high_back c d are.1.1.0) refl
+four_read (a ∷ b ∷ c ∷ d ∷ e ∷ bytes) is are = absurd (omega arith)
+
+are_two : (n : ℕ) → AreBytes (to_le_bytes w16 n)
+unfolding AreBytes
+are_two n = (omega arith, (omega arith, tt))
+
+are_four : (n : ℕ) → AreBytes (to_le_bytes w32 n)
+unfolding AreBytes
+are_four n = (omega arith, (omega arith, (omega arith, (omega arith, tt))))
+
+pub word_read : (n : ℕ) → read_from shape.Two (words_of (to_le_bytes w32 n)) ≡ to_le_bytes w32 n
+word_read n = four_read (to_le_bytes w32 n) refl (are_four n)
+
+limit_read : (l : Length) (n : ℕ) → is_list l ≡ false → read_from (as_value (shape_by l)) (words_of (to_le_bytes (width_of l) n)) ≡ to_le_bytes (width_of l) n
+limit_read len.Two n no_list = two_read (to_le_bytes w16 n) refl (are_two n)
+limit_read len.Four n no_list = four_read (to_le_bytes w32 n) refl (are_four n)
+limit_read len.List1 n no_list = absurd (cc)
+limit_read len.List2 n no_list = absurd (cc)
+limit_read len.List4 n no_list = absurd (cc)
+
+pub bound_read : (a : Attribute) (o : Option ℕ) → is_limit a o ≡ true → is_none (option_map (bytes_for a) o) ≡ false →
+    read_from (as_value (shape_by a.length)) (words_of (unwrap_or (option_map (bytes_for a) o) [])) ≡ unwrap_or (option_map (bytes_for a) o) []
+bound_read a None fits there = absurd (cc)
+bound_read a (Some bits) fits there = limit_read a.length bits (number (is_list a.length) (not a.command) _ fits)
+  where
+    number : (v u w : Bool) → ((not v && u) && w) ≡ true → v ≡ false
+    number false u w on = refl
+    number true u w on = absurd (cc)
+
+printable_bytes : (text : List ℕ) → list_all is_printable text ≡ true → AreBytes text
+unfolding AreBytes
+printable_bytes [] all = tt
+printable_bytes (byte ∷ text) all = (by (nat_le 0x20 byte) (nat_le byte 0x7e) (list_all is_printable text) refl all, printable_bytes text (rest (is_printable byte) (list_all is_printable text) all))
+  where
+    by : (u v w : Bool) → nat_le byte 0x7e ≡ v → ((u && v) && w) ≡ true → byte < 256
+    by true true w is on = grind (arith, nat_tests)
+    by true false w is on = absurd (cc)
+    by false v w is on = absurd (cc)
+
+    rest : (u v : Bool) → (u && v) ≡ true → v ≡ true
+    rest true v on = on
+    rest false v on = absurd (cc)
+
+pub text_read : (most : ℕ) (o : Option (List ℕ)) → most ≤ 1024 → is_text most o ≡ true → read_from shape.List (list_words most (unwrap_or o [])) ≡ unwrap_or o []
+text_read most None small fits = list_read [] most (omega arith) (printable_bytes [] refl)
+text_read most (Some text) small fits =
+    let kept = kept_by (nat_le 1 (length text)) (nat_le (length text) most) (list_all is_printable text) refl fits in
+    list_read text most (omega (arith, kept.0)) (printable_bytes text kept.1)
+  where
+    kept_by : (u v w : Bool) → nat_le (length text) most ≡ v → (u && (v && w)) ≡ true → (length text ≤ most) × (w ≡ true)
+    kept_by true true w is on = (grind (arith, nat_tests), on)
+    kept_by true false w is on = absurd (cc)
+    kept_by false v w is on = absurd (cc)
+
+-- a number's own bytes, or those that it has grown to
+abbrev grown : Length → Bool → List ℕ → ℕ → List ℕ
+grown l still value n = if still then value else to_le_bytes (width_of l) n
+
+length-grown : (l : Length) (still : Bool) (value : List ℕ) (n : ℕ) → is_list l ≡ false → length value ≡ item_len l → length (grown l still value n) ≡ item_len l
+length-grown l true value n no_list is = is
+length-grown len.Two false value n no_list is = refl
+length-grown len.Four false value n no_list is = refl
+length-grown len.List1 false value n no_list is = absurd (cc)
+length-grown len.List2 false value n no_list is = absurd (cc)
+length-grown len.List4 false value n no_list is = absurd (cc)
+
+are_grown : (l : Length) (still : Bool) (value : List ℕ) (n : ℕ) → is_list l ≡ false → AreBytes value → AreBytes (grown l still value n)
+are_grown l true value n no_list are = are
+are_grown len.Two false value n no_list are = are_two n
+are_grown len.Four false value n no_list are = are_four n
+are_grown len.List1 false value n no_list are = absurd (cc)
+are_grown len.List2 false value n no_list are = absurd (cc)
+are_grown len.List4 false value n no_list are = absurd (cc)
+
+is_same : (n m : ℕ) → (n == m) ≡ true → n ≡ m
+is_same n m same = grind (arith, nat_tests)
+
+most_of : (n longest : ℕ) (v : Bool) → nat_le n longest ≡ true → (nat_le 1 longest && (nat_le longest 1024 && v)) ≡ true → n ≤ 1024
+most_of n longest v less fits = by (nat_le 1 longest) (nat_le longest 1024) refl fits
+  where
+    by : (x y : Bool) → nat_le longest 1024 ≡ y → (x && (y && v)) ≡ true → n ≤ 1024
+    by true true is on = grind (arith, nat_tests)
+    by true false is on = absurd (cc)
+    by false y is on = absurd (cc)
+
+pub data_read : (l : Length) (still : Bool) (value : List ℕ) (n longest : ℕ) (v : Bool) → (if is_list l then nat_le (length value) longest else length value == item_len l) ≡ true →
+    (if is_list l then nat_le 1 longest && (nat_le longest 1024 && v) else longest == 0) ≡ true → AreBytes value →
+    read_from (shape_by l) (if is_list l then list_words longest value else words_of (grown l still value n)) ≡ (if not (is_list l) then grown l still value n else value)
+data_read len.Two still value n longest v fits most are = two_read (grown len.Two still value n) (length-grown len.Two still value n refl (is_same (length value) 2 fits)) (are_grown len.Two still value n refl are)
+data_read len.Four still value n longest v fits most are = four_read (grown len.Four still value n) (length-grown len.Four still value n refl (is_same (length value) 4 fits)) (are_grown len.Four still value n refl are)
+data_read len.List1 still value n longest v fits most are = list_read value longest (most_of (length value) longest v fits most) are
+data_read len.List2 still value n longest v fits most are = list_read value longest (most_of (length value) longest v fits most) are
+data_read len.List4 still value n longest v fits most are = list_read value longest (most_of (length value) longest v fits most) are

@@ -1,0 +1,287 @@
+-- What one transfer writes and reads, whether it is complete, refused, open or broken.
+use Rattle.std.proofs.Common.{◌≡◌, ℕ, ◌+◌, ◌≤◌, Bool, true, false, not, ◌&&◌, List, [], ◌∷◌, ◌++◌, map, drop, length, refl, sym, ap, ◌∙◌, subst, arith, if◌then◌else◌, length-append}
+use Rattle.std.specs.Prelude.{◌==◌, Option, Some, None, IfSome}
+use Rattle.std.proofs.lemmas.Bool.{leb-true, cond-true, cond-false, eqb-true}
+use Rattle.sercos_model.specs.Bits.{AreBytes}
+use Rattle.sercos_idn.specs.declared.attribute.Attribute.{Attribute}
+use Rattle.sercos_idn.specs.declared.code.Code.{Code}
+use Rattle.sercos_idn.specs.declared.idn.Idn.{Idn}
+use Rattle.sercos_step.specs.declared.step.Answer.{Answer}
+use Rattle.sercos_step.specs.declared.request.Request.{Request}
+use Rattle.sercos_step.specs.declared.request.Request.TheVariants as request
+use Rattle.sercos_step.specs.declared.request.Outcome.TheVariants as outcome
+use Rattle.sercos_step.specs.Steps.{steps_before, steps_of, outcome_of, answer_words, is_whole, result_of, AreAnswers}
+use Rattle.sercos_block.specs.declared.block.Block.{Block}
+use Rattle.sercos_block.specs.Blocks.{is_protected}
+use Rattle.sercos_block.specs.Stores.{find_block}
+use Rattle.sercos_service_drive.specs.Log.{Entry}
+use Rattle.sercos_service_drive.specs.Writes.{Write, writes_of}
+use Rattle.sercos_service_master.specs.Begun.{Begun}
+use Rattle.sercos_law_channel.specs.Handshake.InStep.{replies_of}
+use Rattle.sercos_law_channel.specs.Handshake.Parts.{IsRow, IsPart, Unsent, Heard, Unheard}
+use Rattle.sercos_law_channel.specs.Handshake.Transfers.{AreReplies, HaveBlocks, IsTransfer, stored, is_complete, WritesOnce}
+use Rattle.sercos_law_channel.specs.Handshake.CommandTransfers.{AreProtected, setting, second_of, set_by, cancelled_by}
+use Rattle.sercos_law_channel.specs.Handshake.ReadTransfers.{ReadsOnce, entry_behind, IsReadAt}
+use Rattle.sercos_law_channel.proofs.Handshake.UnknownBlocks.{writes_nowhere}
+use Rattle.sercos_law_channel.proofs.Handshake.QuietSteps.{writes_nothing}
+use Rattle.sercos_law_channel.proofs.Handshake.CommandStages.{sets_and_cancels}
+use Rattle.sercos_law_channel.proofs.Handshake.CommandRefusals.{refused_adds_nothing}
+use Rattle.sercos_step.proofs.Ends.{length-answer_words}
+use Rattle.sercos_law_channel.proofs.Handshake.TransferSteps.{length-replies_of, complete-outcome_of, goes_on-outcome_of}
+use Rattle.sercos_law_channel.specs.Handshake.WholeRun.{IsSound, AreSmall}
+use Rattle.sercos_law_channel.specs.Handshake.Exact.{Given, given_of, gives, written_to, given_by, AreWrites, Complete, Refused, Broken, AreInPhase, ReadsExactly, EndsExactly, IsExact}
+use Rattle.sercos_law_channel.proofs.Handshake.CommandEnds.{one_long, unknown_incomplete, ends_with_status}
+use Rattle.sercos_law_channel.proofs.Handshake.OnePhase.{IsNamed, IsSteady, in_one_phase}
+
+-- the two laws on transfers that stand on what the master takes for an attribute
+pub record Laws : Type 0 where
+  pub once : WritesOnce
+  pub reads : ReadsOnce
+
+-- how a request ends
+pub data Ends (r : Request) (h : List Answer) : Type 0 where
+  GoesOn : outcome_of r h ≡ None → Ends r h
+  IsWhole : (bytes : List ℕ) → outcome_of r h ≡ Some (outcome.Complete bytes) → Ends r h
+  IsRefused : (code : Code) → outcome_of r h ≡ Some (outcome.Refused code) → Ends r h
+
+pub ends_so : (r : Request) (h : List Answer) → Ends r h
+ends_so r [] = GoesOn refl
+ends_so r (a ∷ h) = by a.error (is_whole r (answer_words h ++ a.word ∷ [])) refl
+  where
+    by : (error whole : Bool) → outcome_of r (a ∷ h) ≡ (if error then Some (outcome.Refused (record { raw = a.word })) else (if whole then Some (outcome.Complete (result_of r (answer_words h ++ a.word ∷ []))) else None)) → Ends r (a ∷ h)
+    by true whole is = IsRefused (record { raw = a.word }) is
+    by false true is = IsWhole (result_of r (answer_words h ++ a.word ∷ [])) is
+    by false false is = GoesOn is
+
+abbrev with : Request → List Answer → Begun
+with r answers = record { request = r; answers = answers }
+
+-- where a transfer gives nothing it writes nothing
+pub gives_nothing : (blocks : List Block) (r : Request) (answers : List Answer) → given_by blocks r ≡ [] → AreWrites blocks (with r answers) []
+gives_nothing blocks r answers none = by (ends_so r answers)
+  where
+    by : Ends r answers → AreWrites blocks (with r answers) []
+    by (GoesOn on) = Broken 0 on (sym none)
+    by (IsWhole bytes is) = Complete bytes is (sym none)
+    by (IsRefused code is) = Refused code is refl
+
+-- where all entries are of one phase, what is protected at one of them was so at each
+protected_so : (a : Attribute) (phase at : ℕ) (entries : List Entry) → at ≡ phase → AreInPhase phase entries → is_protected a at ≡ true → AreProtected a entries
+protected_so a phase at [] same are on = tt
+protected_so a phase at (e ∷ entries) same are on = (protected_so a phase at entries same are.0 on, ap (is_protected a) (are.1 ∙ sym same) ∙ on)
+
+-- what is written, and that it is what the transfer gives
+pub record Wrote (blocks : List Block) (b : Begun) (entries log : List Entry) : Type 0 where
+  pub own : List Write
+  pub adds : writes_of (entries ++ log) ≡ own ++ writes_of log
+  pub writes : AreWrites blocks b own
+
+-- the requests of a row: those whose answers were all taken, or all but the newest
+pub data Took (r : Request) (e : Entry) (entries : List Entry) (answers : List Answer) : Type 0 where
+  All : answers ≡ replies_of (e ∷ entries) → Took r e entries answers
+  AllButOne : answers ≡ replies_of entries → outcome_of r answers ≡ None → Took r e entries answers
+
+module _ (laws : Laws) (blocks : List Block) (small : AreSmall blocks) where
+  -- a transfer that adds no write, and gives none
+  adds_nothing : (r : Request) (e : Entry) (entries log : List Entry) (answers : List Answer) → given_by blocks r ≡ [] → writes_of ((e ∷ entries) ++ log) ≡ writes_of log → Wrote blocks (with r answers) (e ∷ entries) log
+  adds_nothing r e entries log answers none same = record { own = []; adds = same; writes = gives_nothing blocks r answers none }
+
+  -- a write of operation data
+  written : (idn : Idn) (bytes : List ℕ) (b : Block) (e : Entry) (entries log : List Entry) (answers : List Answer) → AreBytes bytes → find_block idn.raw blocks ≡ Some b →
+      IsTransfer (request.Write idn 7 bytes) blocks e entries log → Took (request.Write idn 7 bytes) e entries answers → Wrote blocks (with (request.Write idn 7 bytes) answers) (e ∷ entries) log
+  written idn bytes b e entries log answers are found is took = by (ends_so (request.Write idn 7 bytes) (replies_of (e ∷ entries))) took
+    where
+      given : given_by blocks (request.Write idn 7 bytes) ≡ gives idn.raw (stored b bytes) ∷ []
+      given = ap (written_to idn.raw bytes) found
+
+      law : writes_of ((e ∷ entries) ++ log) ≡ (if is_complete (outcome_of (request.Write idn 7 bytes) (replies_of (e ∷ entries))) then (record { cycle = e.taken.cycle; raw = idn.raw; bytes = stored b bytes }) ∷ writes_of log else writes_of log)
+      law = laws.once idn bytes blocks b e entries log are found (small idn.raw b found) is
+
+      whole : (x : List ℕ) → outcome_of (request.Write idn 7 bytes) (replies_of (e ∷ entries)) ≡ Some (outcome.Complete x) → writes_of ((e ∷ entries) ++ log) ≡ (record { cycle = e.taken.cycle; raw = idn.raw; bytes = stored b bytes }) ∷ writes_of log
+      whole x complete = law ∙ cond-true _ _ _ (ap is_complete complete)
+
+      by : Ends (request.Write idn 7 bytes) (replies_of (e ∷ entries)) → Took (request.Write idn 7 bytes) e entries answers → Wrote blocks (with (request.Write idn 7 bytes) answers) (e ∷ entries) log
+      by (GoesOn on) (All same) = record { own = []; adds = law ∙ cond-false _ _ _ (ap is_complete on); writes = Broken 1 (ap (outcome_of (request.Write idn 7 bytes)) same ∙ on) (sym (ap (drop 1) given)) }
+      by (GoesOn on) (AllButOne same before) = record { own = []; adds = law ∙ cond-false _ _ _ (ap is_complete on); writes = Broken 1 before (sym (ap (drop 1) given)) }
+      by (IsWhole x complete) (All same) = record { own = (record { cycle = e.taken.cycle; raw = idn.raw; bytes = stored b bytes }) ∷ []; adds = whole x complete; writes = Complete x (ap (outcome_of (request.Write idn 7 bytes)) same ∙ complete) (sym given) }
+      by (IsWhole x complete) (AllButOne same before) = record { own = (record { cycle = e.taken.cycle; raw = idn.raw; bytes = stored b bytes }) ∷ []; adds = whole x complete; writes = Broken 0 before (sym given) }
+      by (IsRefused code refused) (All same) = record { own = []; adds = law ∙ cond-false _ _ _ (ap is_complete refused); writes = Refused code (ap (outcome_of (request.Write idn 7 bytes)) same ∙ refused) refl }
+      by (IsRefused code refused) (AllButOne same before) = record { own = []; adds = law ∙ cond-false _ _ _ (ap is_complete refused); writes = Broken 1 before (sym (ap (drop 1) given)) }
+
+  -- a setting of a procedure command
+
+  given_front : (idn : Idn) (o : Option Entry) → (later : ℕ) × (map given_of (set_by idn.raw o) ≡ drop later (given_by blocks (request.Command idn)))
+  given_front idn None = (2, refl)
+  given_front idn (Some x) = by x.answer.error
+    where
+      by : (v : Bool) → (later : ℕ) × (map given_of (if v then [] else setting idn.raw 3 x ∷ []) ≡ drop later (given_by blocks (request.Command idn)))
+      by true = (2, refl)
+      by false = (1, refl)
+
+  -- after two answers without error it is set
+  is_set : (idn : Idn) (d : Entry) (entries : List Entry) → AreAnswers (request.Command idn) (replies_of (d ∷ entries)) → outcome_of (request.Command idn) (replies_of (d ∷ entries)) ≡ None → 1 ≤ length entries →
+      map given_of (set_by idn.raw (second_of (d ∷ entries))) ≡ gives idn.raw (3 ∷ 0 ∷ []) ∷ []
+  is_set idn d [] are on long = absurd (omega arith)
+  is_set idn d (o ∷ []) are on long =
+      ap (λ (v : Bool). map given_of (if v then [] else setting idn.raw 3 d ∷ [])) (goes_on-outcome_of (request.Command idn) d.answer (replies_of (o ∷ [])) on).0
+  is_set idn d (o ∷ p ∷ past) are on long = is_set idn o (p ∷ past) are.0 are.1 (omega arith)
+
+  complete_long : (idn : Idn) (e : Entry) (entries : List Entry) (bytes : List ℕ) → outcome_of (request.Command idn) (replies_of (e ∷ entries)) ≡ Some (outcome.Complete bytes) → 2 ≤ length entries
+  complete_long idn e entries bytes complete =
+      let words = answer_words (replies_of entries) ++ e.answer.word ∷ [] in
+      let whole = (both (not e.answer.error) (is_whole (request.Command idn) words) (sym (complete-outcome_of (request.Command idn) e.answer (replies_of entries)) ∙ ap is_complete complete)).1 in
+      let many : length (steps_of (request.Command idn) words) ≤ length words = leb-true (length (steps_of (request.Command idn) words)) (length words) whole in
+      let more = one_long (drop 2 words) in
+      let count : length words ≡ length (answer_words (replies_of entries)) + 1 = length-append (answer_words (replies_of entries)) (e.answer.word ∷ []) in
+      let same = length-answer_words (replies_of entries) in
+      let as_many = length-replies_of entries in
+      omega arith
+    where
+      both : (a b : Bool) → (a && b) ≡ true → (a ≡ true) × (b ≡ true)
+      both true b on = (refl, on)
+      both false b on = absurd (cc)
+
+  command_front : (idn : Idn) (e : Entry) (entries log : List Entry) (answers : List Answer) → IsTransfer (request.Command idn) blocks e entries log → is_complete (outcome_of (request.Command idn) (replies_of (e ∷ entries))) ≡ false →
+      outcome_of (request.Command idn) answers ≡ None → Wrote blocks (with (request.Command idn) answers) (e ∷ entries) log
+  command_front idn e entries log answers is off on =
+      let front = given_front idn (second_of (e ∷ entries)) in record {
+        own = set_by idn.raw (second_of (e ∷ entries));
+        adds = sets_and_cancels idn blocks e entries log is ∙ ap (λ (v : Bool). cancelled_by idn.raw v e ++ (set_by idn.raw (second_of (e ∷ entries)) ++ writes_of log)) off;
+        writes = Broken front.0 on front.1;
+      }
+
+  command_whole : (idn : Idn) (e : Entry) (entries log : List Entry) (bytes : List ℕ) → IsTransfer (request.Command idn) blocks e entries log → outcome_of (request.Command idn) (replies_of (e ∷ entries)) ≡ Some (outcome.Complete bytes) →
+      (own : List Write) × (writes_of ((e ∷ entries) ++ log) ≡ own ++ writes_of log) × (map given_of own ≡ given_by blocks (request.Command idn))
+  command_whole idn e entries log bytes is complete = (
+    setting idn.raw 0 e ∷ set_by idn.raw (second_of (e ∷ entries)),
+    sets_and_cancels idn blocks e entries log is ∙ ap (λ (v : Bool). cancelled_by idn.raw v e ++ (set_by idn.raw (second_of (e ∷ entries)) ++ writes_of log)) (ap is_complete complete),
+    ap (λ (l : List Given). gives idn.raw (0 ∷ 0 ∷ []) ∷ l) (by entries is (complete_long idn e entries bytes complete)),
+  )
+    where
+      by : (entries : List Entry) → IsTransfer (request.Command idn) blocks e entries log → 2 ≤ length entries → map given_of (set_by idn.raw (second_of (e ∷ entries))) ≡ gives idn.raw (3 ∷ 0 ∷ []) ∷ []
+      by [] is two = absurd (omega arith)
+      by (d ∷ []) is two = absurd (omega arith)
+      by (d ∷ o ∷ past) is two = is_set idn d (o ∷ past) is.in_turn is.goes_on (omega arith)
+
+  commanded : (idn : Idn) (b : Block) (e : Entry) (entries log : List Entry) (answers : List Answer) → find_block idn.raw blocks ≡ Some b → b.attribute.command ≡ true → (phase : ℕ) → AreInPhase phase (e ∷ entries) →
+      IsTransfer (request.Command idn) blocks e entries log → Took (request.Command idn) e entries answers → Wrote blocks (with (request.Command idn) answers) (e ∷ entries) log
+  commanded idn b e entries log answers found command phase at is took = by (ends_so (request.Command idn) (replies_of (e ∷ entries))) took
+    where
+      by : Ends (request.Command idn) (replies_of (e ∷ entries)) → Took (request.Command idn) e entries answers → Wrote blocks (with (request.Command idn) answers) (e ∷ entries) log
+      by (GoesOn on) (All same) = command_front idn e entries log answers is (ap is_complete on) (ap (outcome_of (request.Command idn)) same ∙ on)
+      by (GoesOn on) (AllButOne same before) = command_front idn e entries log answers is (ap is_complete on) before
+      by (IsWhole x complete) (All same) = let w = command_whole idn e entries log x is complete in record { own = w.0; adds = w.1; writes = Complete x (ap (outcome_of (request.Command idn)) same ∙ complete) w.2 }
+      by (IsWhole x complete) (AllButOne same before) = let w = command_whole idn e entries log x is complete in record { own = w.0; adds = w.1; writes = Broken 0 before w.2 }
+      by (IsRefused code refused) (All same) = record {
+        own = [];
+        adds = refused_adds_nothing idn blocks b e entries log code found command (λ on. protected_so b.attribute phase e.taken.phase entries at.1 at.0 on) is refused;
+        writes = Refused code (ap (outcome_of (request.Command idn)) same ∙ refused) refl;
+      }
+      by (IsRefused code refused) (AllButOne same before) = command_front idn e entries log answers is (ap is_complete refused) before
+
+  -- where the drive hasn't the block, the opening is refused
+  unknown_command : (idn : Idn) (e : Entry) (entries log : List Entry) (answers : List Answer) → find_block idn.raw blocks ≡ None → IsTransfer (request.Command idn) blocks e entries log → Took (request.Command idn) e entries answers →
+      Wrote blocks (with (request.Command idn) answers) (e ∷ entries) log
+  unknown_command idn e entries log answers none is took = by (ends_so (request.Command idn) answers)
+    where
+      by : Ends (request.Command idn) answers → Wrote blocks (with (request.Command idn) answers) (e ∷ entries) log
+      by (GoesOn on) = record { own = []; adds = writes_nowhere (request.Command idn) blocks e entries log none is; writes = Broken 2 on refl }
+      by (IsRefused code refused) = record { own = []; adds = writes_nowhere (request.Command idn) blocks e entries log none is; writes = Refused code refused refl }
+      by (IsWhole bytes complete) = absurd (never took)
+        where
+          never : Took (request.Command idn) e entries answers → ⊥
+          never (All same) = unknown_incomplete (request.Command idn) blocks e entries log bytes none is (ap (outcome_of (request.Command idn)) (sym same) ∙ complete)
+          never (AllButOne same on) = cc
+
+  -- each transfer
+  wrote : (r : Request) (e : Entry) (entries log : List Entry) (answers : List Answer) → IsSound blocks r → (phase : ℕ) → AreInPhase phase (e ∷ entries) → IsTransfer r blocks e entries log → Took r e entries answers → Wrote blocks (with r answers) (e ∷ entries) log
+  wrote (request.Read idn e) s entries log answers sound phase at is took = adds_nothing (request.Read idn e) s entries log answers refl (writes_nothing (request.Read idn e) blocks s entries log refl is)
+  wrote (request.Write idn e bytes) s entries log answers sound phase at is took = by (e == 7) refl
+    where
+      of_data : (o : Option Block) → find_block idn.raw blocks ≡ o → e ≡ 7 → Wrote blocks (with (request.Write idn e bytes) answers) (s ∷ entries) log
+      of_data (Some b) found seven = rw seven (written idn bytes b s entries log answers sound.1 found (rw seven at is) (rw seven at took))
+      of_data None none seven = rw seven (adds_nothing (request.Write idn 7 bytes) s entries log answers (ap (written_to idn.raw bytes) none) (writes_nowhere (request.Write idn 7 bytes) blocks s entries log none (rw seven at is)))
+
+      by : (v : Bool) → (e == 7) ≡ v → Wrote blocks (with (request.Write idn e bytes) answers) (s ∷ entries) log
+      by true on = of_data (find_block idn.raw blocks) refl (eqb-true e 7 on)
+      by false off = adds_nothing (request.Write idn e bytes) s entries log answers (cond-false (e == 7) _ [] off) (writes_nothing (request.Write idn e bytes) blocks s entries log (ap not off) is)
+  wrote (request.Command idn) s entries log answers sound phase at is took = by (find_block idn.raw blocks) refl sound
+    where
+      by : (o : Option Block) → find_block idn.raw blocks ≡ o → IfSome o (λ b. b.attribute.command ≡ true) → Wrote blocks (with (request.Command idn) answers) (s ∷ entries) log
+      by None none command = unknown_command idn s entries log answers none is took
+      by (Some b) found command = commanded idn b s entries log answers found command phase at is took
+
+  -- a complete read
+  read_exactly : (r : Request) (s : Entry) (entries log : List Entry) (answers : List Answer) → IsSound blocks r → IsTransfer r blocks s entries log → Took r s entries answers → ReadsExactly blocks (with r answers) (s ∷ entries)
+  read_exactly r s entries log answers sound is (AllButOne same on) idn e bytes names complete = absurd (cc)
+  read_exactly r s entries log answers sound is (All same) idn e bytes names complete =
+      by (find_block idn.raw blocks) refl (subst (IsSound blocks) names sound) (subst (λ (q : Request). IsTransfer q blocks s entries log) names is) (ap (λ (q : Request). outcome_of q (replies_of (s ∷ entries))) (sym names) ∙ ap (outcome_of r) (sym same) ∙ complete)
+    where
+      by : (o : Option Block) → find_block idn.raw blocks ≡ o → IsSound blocks (request.Read idn e) → IsTransfer (request.Read idn e) blocks s entries log → outcome_of (request.Read idn e) (replies_of (s ∷ entries)) ≡ Some (outcome.Complete bytes) →
+          (block : Block) × (find_block idn.raw blocks ≡ Some block) × (selection : Entry) × (entry_behind (steps_before e) (s ∷ entries) ≡ Some selection) × IsReadAt idn.raw e block bytes selection.taken
+      by None none range t whole = absurd (unknown_incomplete (request.Read idn e) blocks s entries log bytes none t whole)
+      by (Some b) found range t whole = let got = laws.reads idn e bytes blocks b s entries log range.0 range.1 found (small idn.raw b found) t whole in (b, found, got.0, got.1, got.2)
+
+  -- a complete setting of a procedure command
+  ends_exactly : (r : Request) (s : Entry) (entries log : List Entry) (answers : List Answer) → IsTransfer r blocks s entries log → Took r s entries answers → EndsExactly (with r answers) (s ∷ entries)
+  ends_exactly r s entries log answers is (AllButOne same on) idn bytes names complete = absurd (cc)
+  ends_exactly r s entries log answers is (All same) idn bytes names complete =
+      ends_with_status idn bytes blocks s entries log (subst (λ (q : Request). IsTransfer q blocks s entries log) names is) (ap (λ (q : Request). outcome_of q (replies_of (s ∷ entries))) (sym names) ∙ ap (outcome_of r) (sym same) ∙ complete)
+
+  -- a part of the log
+  pub record PartIs (b : Begun) (part rest : List Entry) : Type 0 where
+    pub own : List Write
+    pub adds : writes_of (part ++ rest) ≡ own ++ writes_of rest
+    pub exact : IsExact blocks b part own
+
+  named_so : (r : Request) → IsSound blocks r → IsNamed r
+  named_so (request.Read idn e) sound = tt
+  named_so (request.Write idn e bytes) sound = sound.0
+  named_so (request.Command idn) sound = tt
+
+  of_row : (b : Begun) (e : Entry) (entries rest : List Entry) → IsSound blocks b.request → AreReplies (e ∷ entries) rest → HaveBlocks blocks (e ∷ entries) → IsSteady ((e ∷ entries) ++ rest) → IsRow b e entries → Took b.request e entries b.answers →
+      IsPart b (e ∷ entries) → PartIs b (e ∷ entries) rest
+  of_row b e entries rest sound replies alike steady row took part =
+      let is : IsTransfer b.request blocks e entries rest = record { steps = row.steps; in_turn = row.in_turn; goes_on = row.goes_on; replies = replies; alike = alike } in
+      let at = in_one_phase b.request blocks e entries rest (named_so b.request sound) steady is in
+      let w = wrote b.request e entries rest b.answers sound e.taken.phase at is took in record {
+        own = w.own;
+        adds = w.adds;
+        exact = record { part_of = part; in_phase = (e.taken.phase, at); writes = w.writes; reads = read_exactly b.request e entries rest b.answers sound is took; ends = ends_exactly b.request e entries rest b.answers is took };
+      }
+
+  unsent_reads : (b : Begun) (part : List Entry) → b.answers ≡ [] → ReadsExactly blocks b part
+  unsent_reads b part none idn e bytes names complete = let goes_on : outcome_of b.request b.answers ≡ None = ap (outcome_of b.request) none in absurd (cc)
+
+  unsent_ends : (b : Begun) (part : List Entry) → b.answers ≡ [] → EndsExactly b part
+  unsent_ends b part none idn bytes names complete = let goes_on : outcome_of b.request b.answers ≡ None = ap (outcome_of b.request) none in absurd (cc)
+
+  pub part_is : (b : Begun) (part rest : List Entry) → IsSound blocks b.request → AreReplies part rest → HaveBlocks blocks part → IsSteady (part ++ rest) → IsPart b part → PartIs b part rest
+  part_is b part rest sound replies alike steady (Unsent none unheard) = record {
+    own = [];
+    adds = ap (λ (l : List Entry). writes_of (l ++ rest)) none;
+    exact = record {
+      part_of = Unsent none unheard;
+      in_phase = (0, subst (AreInPhase 0) (sym none) tt);
+      writes = unsent_writes;
+      reads = unsent_reads b part unheard;
+      ends = unsent_ends b part unheard;
+    };
+  }
+    where
+      unsent_writes : AreWrites blocks b []
+      unsent_writes = let front = none_of b.request in Broken front.0 (ap (outcome_of b.request) unheard) front.1
+        where
+          none_of : (r : Request) → (later : ℕ) × (map given_of [] ≡ drop later (given_by blocks r))
+          none_of r = (length (given_by blocks r), sym (drop_all (given_by blocks r)))
+            where
+              drop_all : (xs : List Given) → drop (length xs) xs ≡ []
+              drop_all [] = refl
+              drop_all (x ∷ xs) = drop_all xs
+  part_is b part rest sound replies alike steady (Heard e entries those row answers) =
+      subst (λ (l : List Entry). PartIs b l rest) (sym those)
+      (of_row b e entries rest sound (subst (λ (l : List Entry). AreReplies l rest) those replies) (subst (HaveBlocks blocks) those alike) (subst (λ (l : List Entry). IsSteady (l ++ rest)) those steady) row (All answers) (Heard e entries refl row answers))
+  part_is b part rest sound replies alike steady (Unheard e entries those row answers) =
+      subst (λ (l : List Entry). PartIs b l rest) (sym those)
+      (of_row b e entries rest sound (subst (λ (l : List Entry). AreReplies l rest) those replies) (subst (HaveBlocks blocks) those alike) (subst (λ (l : List Entry). IsSteady (l ++ rest)) those steady) row
+      (AllButOne answers (ap (outcome_of b.request) answers ∙ row.goes_on)) (Unheard e entries refl row answers))

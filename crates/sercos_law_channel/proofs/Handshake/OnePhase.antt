@@ -1,0 +1,184 @@
+-- The entries of a transfer are of one phase, since the master doesn't rise while a step is open.
+use Rattle.std.proofs.Common.{◌≡◌, ◌⊎◌, inl, inr, ⊎_elim, ℕ, suc, ◌+◌, ◌*◌, ◌≤◌, Bool, true, false, not, ◌&&◌, List, [], ◌∷◌, ◌++◌, length, drop, replicate, refl, sym, ap, ◌∙◌, subst, arith, if◌then◌else◌, length-append}
+use Rattle.std.specs.Prelude.{◌==◌, Option, Some, None, is_some, slice_get}
+use Rattle.std.specs.List.{list_all}
+use Rattle.std.proofs.lemmas.Bool.{not-true}
+use Rattle.std.proofs.lemmas.Bool.Decides.{nat_tests}
+use mathlib.Core.Bool.{beq}
+use Rattle.sercos_telegram.specs.declared.words.Status.{Status}
+use Rattle.sercos_step.specs.declared.step.Step.{Step}
+use Rattle.sercos_step.specs.declared.step.Answer.{Answer}
+use Rattle.sercos_step.specs.declared.shape.Shape.{Shape}
+use Rattle.sercos_step.specs.declared.shape.Shape.TheVariants as shape
+use Rattle.sercos_step.specs.declared.request.Request.{Request}
+use Rattle.sercos_step.specs.declared.request.Request.TheVariants as request
+use Rattle.sercos_step.specs.Words.{shape_of, words_in_list, words_told}
+use Rattle.sercos_step.specs.Steps.{run, reading, writing, attribute_then, asks_attribute, polling, steps_of, answer_words, next_step}
+use Rattle.sercos_service_drive.specs.Log.{Taken, Entry, opens}
+use Rattle.sercos_service_master.specs.Begun.{Begun, step_at, with_step, steps_in, open_in, is_odd, mhs_in, answers_it, answer_in, with_answer, step_or_none, master_says}
+use Rattle.sercos_block.specs.declared.block.Block.{Block}
+use Rattle.sercos_law_channel.specs.Handshake.InStep.{Idle, Sent, Kept, AreInStep, replies_of, steps_of as log_steps}
+use Rattle.sercos_law_channel.specs.Handshake.Transfers.{IsTransfer}
+use Rattle.sercos_law_channel.proofs.Handshake.TransferSteps.{all-slice_get, newest_step, without_newest}
+use Rattle.sercos_law_channel.specs.Handshake.Moves.{with_status, said_in, with_taken}
+use Rattle.sercos_law_channel.proofs.Handshake.HandshakeMoves.{parity, quiet_bit, said_bit, said_step, beq-self}
+use Rattle.sercos_law_channel.proofs.Handshake.UnknownBlocks.{first_step}
+use Rattle.sercos_law_channel.specs.Handshake.Exact.{AreInPhase}
+
+-- The steps of a request after the first open no identifier number.
+
+abbrev is_inner : Step → Bool
+is_inner s = not (opens s)
+
+abbrev are_inner : List Step → Bool
+are_inner steps = list_all is_inner steps
+
+run_inner : (write : Bool) (e : ℕ) (words : List ℕ) → not (write && (e == 1)) ≡ true → are_inner (run write e words) ≡ true
+run_inner write e [] off = refl
+run_inner write e (word ∷ []) off = rw off refl
+run_inner write e (word ∷ next ∷ words) off = rw off (run_inner write e (next ∷ words) off)
+
+reading_inner : (s : Shape) (e : ℕ) (words : List ℕ) → are_inner (reading s e words) ≡ true
+reading_inner shape.One e words = refl
+reading_inner shape.Two e words = refl
+reading_inner shape.List e [] = refl
+reading_inner shape.List e (actual ∷ words) = run_inner false e (replicate (words_in_list actual) 0) refl
+
+attribute_inner : (rest : ℕ → List ℕ → List Step) (words : List ℕ) → ((word : ℕ) (after : List ℕ) → are_inner (rest word after) ≡ true) → are_inner (attribute_then rest words) ≡ true
+attribute_inner rest [] all = refl
+attribute_inner rest (low ∷ []) all = refl
+attribute_inner rest (low ∷ high ∷ words) all = all (low + 65536 * high) words
+
+polling_inner : (words : List ℕ) → are_inner (polling words) ≡ true
+polling_inner [] = refl
+polling_inner (status ∷ words) = by (status == 7) (polling_inner words)
+  where
+    by : (v : Bool) → are_inner (polling words) ≡ true → are_inner (if v then polling words else (record { write = true; last = true; element = 7; word = 0 }) ∷ []) ≡ true
+    by true more = more
+    by false more = refl
+
+-- a write names an element from 2 on
+abbrev pub IsNamed : Request → Type 0
+IsNamed (request.Read idn e) = Unit {0}
+IsNamed (request.Write idn e bytes) = 2 ≤ e
+IsNamed (request.Command idn) = Unit {0}
+
+chosen_inner : (v : Bool) (x y : List Step) → are_inner x ≡ true → are_inner y ≡ true → are_inner (if v then x else y) ≡ true
+chosen_inner true x y of_x of_y = of_x
+chosen_inner false x y of_x of_y = of_y
+
+not_one : (e : ℕ) → 2 ≤ e → not (true && (e == 1)) ≡ true
+not_one e two = grind (arith, nat_tests)
+
+rest_inner : (r : Request) (words : List ℕ) → IsNamed r → are_inner (drop 1 (steps_of r words)) ≡ true
+rest_inner (request.Read idn e) words named =
+    chosen_inner (asks_attribute e) _ _ (attribute_inner (λ attribute after. reading (shape_of e attribute) e after) (drop 1 words) (λ word after. reading_inner (shape_of e word) e after)) (reading_inner (shape_of e 0) e (drop 1 words))
+rest_inner (request.Write idn e bytes) words named =
+    chosen_inner (e == 7) _ _ (attribute_inner (λ attribute after. writing (shape_of 7 attribute) 7 bytes) (drop 1 words) (λ word after. run_inner true 7 (words_told (shape_of 7 word) bytes) refl)) (run_inner true e (words_told (shape_of e 0) bytes) (not_one e named))
+rest_inner (request.Command idn) words named = polling_inner (drop 2 words)
+
+get_drop : {A : Type 0} (xs : List A) (k : ℕ) (x : A) → slice_get xs (suc k) ≡ Some x → slice_get (drop 1 xs) k ≡ Some x
+get_drop [] k x got = absurd (cc)
+get_drop (y ∷ xs) k x got = got
+
+-- the next step after an answer opens none
+pub later_step : (r : Request) (a : Answer) (h : List Answer) (s : Step) → IsNamed r → next_step r (a ∷ h) ≡ Some s → opens s ≡ false
+later_step r a h s named next =
+    let words = answer_words h ++ a.word ∷ [] in
+    let long : length words ≡ suc (length (answer_words h)) = length-append (answer_words h) (a.word ∷ []) ∙ one (length (answer_words h)) in
+    let got : slice_get (steps_of r words) (suc (length (answer_words h))) ≡ Some s = ap (slice_get (steps_of r words)) (sym long) ∙ next in
+    not-true (opens s) (all-slice_get is_inner (drop 1 (steps_of r words)) (length (answer_words h)) s (rest_inner r words named) (get_drop (steps_of r words) (length (answer_words h)) s got))
+  where
+    one : (n : ℕ) → n + 1 ≡ suc n
+    one n = omega arith
+
+-- A log whose steps come in the phase of the step before, but for openings.
+
+abbrev pub HeadIn : ℕ → List Entry → Type 0
+HeadIn phase [] = Unit {0}
+HeadIn phase (e ∷ log) = e.taken.phase ≡ phase
+
+abbrev pub IsSteady : List Entry → Type 0
+IsSteady [] = Unit {0}
+IsSteady (e ∷ log) = IsSteady log × (opens e.taken.step ≡ false → HeadIn e.taken.phase log)
+
+-- the request that was begun last has no answer yet
+abbrev is_unanswered : List Answer → Bool
+is_unanswered [] = true
+is_unanswered (a ∷ answers) = false
+
+abbrev pub is_fresh : List Begun → Bool
+is_fresh [] = true
+is_fresh (b ∷ past) = is_unanswered b.answers
+
+-- While a step is open, the newest step that was accepted of its request came in the phase that is commanded.
+pub record IsLevel (phase : ℕ) (begun : List Begun) (log : List Entry) : Type 0 where
+  pub steady : IsSteady log
+  pub level : is_some (open_in begun) ≡ true → (is_fresh begun ≡ false) ⊎ (steps_in begun ≡ log_steps log) → HeadIn phase log
+
+-- where an answer is taken, all that was begun was accepted
+all_accepted : (begun : List Begun) (log : List Entry) (status : Status) → AreInStep begun log → status.ahs ≡ is_odd log → answers_it begun status ≡ true → (is_some (open_in begun) ≡ true) × (steps_in begun ≡ log_steps log)
+all_accepted begun log status (Idle none s a) bit takes = let off : answers_it begun status ≡ false = ap (λ (o : Option Step). is_some o && (beq status.ahs (mhs_in begun) && not status.busy)) none in absurd (cc)
+all_accepted begun log status (Sent step opened s a) bit takes = let off = quiet_bit begun log step status s bit opened in absurd (cc)
+all_accepted begun log status (Kept e past opened is s a) bit takes = (ap is_some opened, s)
+
+pub heard_level : (phase : ℕ) (begun : List Begun) (log : List Entry) (status : Status) (word : ℕ) → AreInStep begun log → status.ahs ≡ is_odd log → IsLevel phase begun log → IsLevel phase (with_status status word begun) log
+heard_level phase begun log status word h bit l = by (answers_it begun status) refl
+  where
+    by : (v : Bool) → answers_it begun status ≡ v → IsLevel phase (if v then with_answer (answer_in status word) begun else begun) log
+    by false off = l
+    by true takes = let all = all_accepted begun log status h bit takes in record { steady = l.steady; level = λ some which. l.level all.0 (inr all.1) }
+
+pub no_longer : {A : Type 0} (x : A) (xs : List A) → x ∷ xs ≡ xs → ⊥
+no_longer x xs is = let long : suc (length xs) ≡ length xs = ap length is in omega arith
+
+idle_steps : (begun : List Begun) (log : List Entry) → AreInStep begun log → open_in begun ≡ None → steps_in begun ≡ log_steps log
+idle_steps begun log (Idle none s a) shut = s
+idle_steps begun log (Sent step opened s a) shut = absurd (cc)
+idle_steps begun log (Kept e past opened is s a) shut = absurd (cc)
+
+pub begun_level : (phase : ℕ) (begun : List Begun) (log : List Entry) (r : Request) → AreInStep begun log → open_in begun ≡ None → IsLevel phase begun log → IsLevel phase ((record { request = r; answers = [] }) ∷ begun) log
+begun_level phase begun log r h shut l = record { steady = l.steady; level = λ some which. absurd (⊎_elim (λ fresh. cc) (λ same. by (step_at r []) some same) which) }
+  where
+    by : (o : Option Step) → is_some o ≡ true → with_step o [] ++ steps_in begun ≡ log_steps log → ⊥
+    by None some same = cc
+    by (Some s) some same = no_longer s (log_steps log) (ap (λ (l : List Step). s ∷ l) (sym (idle_steps begun log h shut)) ∙ same)
+
+-- a fresh request's open step opens its identifier number
+fresh_opens : (begun : List Begun) (s : Step) → open_in begun ≡ Some s → is_fresh begun ≡ true → opens s ≡ true
+fresh_opens [] s opened fresh = absurd (cc)
+fresh_opens (b ∷ past) s opened fresh = by b.answers opened fresh
+  where
+    by : (answers : List Answer) → step_at b.request answers ≡ Some s → is_unanswered answers ≡ true → opens s ≡ true
+    by [] opened fresh = ap opens (first_step b.request s opened)
+    by (a ∷ answers) opened fresh = absurd (cc)
+
+pub taken_level : (phase : ℕ) (begun : List Begun) (log : List Entry) (t : Taken) (answer : Answer) → AreInStep begun log → said_in t ≡ master_says begun → t.phase ≡ phase → IsLevel phase begun log → IsLevel phase begun (with_taken t answer log)
+taken_level phase begun log t answer h says at l = by (beq t.mhs (is_odd log)) refl
+  where
+    is_last : AreInStep begun log → beq t.mhs (is_odd log) ≡ false → (is_some (open_in begun) ≡ true) × (open_in begun ≡ Some t.step)
+    is_last (Idle none s a) off = let on : beq t.mhs (is_odd log) ≡ true = ap (λ (b : Bool). beq b (is_odd log)) (said_bit t begun says ∙ parity (steps_in begun) log s) ∙ beq-self (is_odd log) in absurd (cc)
+    is_last (Sent step opened s a) off = (ap is_some opened, opened ∙ ap (λ (x : Step). Some x) (sym (said_step t begun says ∙ ap step_or_none opened)))
+    is_last (Kept e past opened is s a) off = let on : beq t.mhs (is_odd log) ≡ true = ap (λ (b : Bool). beq b (is_odd log)) (said_bit t begun says ∙ parity (steps_in begun) log s) ∙ beq-self (is_odd log) in absurd (cc)
+
+    steady : beq t.mhs (is_odd log) ≡ false → opens t.step ≡ false → HeadIn t.phase log
+    steady off shut =
+        let last = is_last h off in
+        let head : HeadIn phase log = l.level last.0 (inl (fresh_or (is_fresh begun) refl)) in
+        subst (λ (p : ℕ). HeadIn p log) (sym at) head
+      where
+        fresh_or : (v : Bool) → is_fresh begun ≡ v → is_fresh begun ≡ false
+        fresh_or false is = is
+        fresh_or true is = let opened = fresh_opens begun t.step (is_last h off).1 is in absurd (cc)
+
+    by : (v : Bool) → beq t.mhs (is_odd log) ≡ v → IsLevel phase begun (if v then log else (record { taken = t; answer = answer }) ∷ log)
+    by true on = l
+    by false off = record { steady = (l.steady, steady off); level = λ some which. at }
+
+-- So the entries of a transfer are of one phase.
+pub in_one_phase : (r : Request) (blocks : List Block) (e : Entry) (entries log : List Entry) → IsNamed r → IsSteady ((e ∷ entries) ++ log) → IsTransfer r blocks e entries log → AreInPhase e.taken.phase (e ∷ entries)
+in_one_phase r blocks e [] log named steady is = (tt, refl)
+in_one_phase r blocks e (d ∷ entries) log named steady is =
+    let later : opens e.taken.step ≡ false = later_step r d.answer (replies_of entries) e.taken.step named (newest_step r blocks log e (d ∷ entries) is) in
+    let same : d.taken.phase ≡ e.taken.phase = steady.1 later in
+    (subst (λ (p : ℕ). AreInPhase p (d ∷ entries)) same (in_one_phase r blocks d entries log named steady.0 (without_newest r blocks log e d entries is)), refl)

@@ -1,0 +1,101 @@
+-- The steps of the entries of a transfer, one by one.
+use Rattle.std.proofs.Common.{◌≡◌, ℕ, zero, suc, ◌≤◌, Bool, true, false, not, ◌&&◌, List, [], ◌∷◌, ◌++◌, length, refl, sym, ap, ◌∙◌, arith, if◌then◌else◌}
+use Rattle.std.specs.Prelude.{◌==◌, Option, Some, None, is_some, slice_get}
+use Rattle.std.specs.List.{list_all}
+use Rattle.std.proofs.lemmas.Bool.{and_parts, cond-false}
+use Rattle.sercos_step.specs.declared.step.Step.{Step}
+use Rattle.sercos_step.specs.declared.step.Answer.{Answer}
+use Rattle.sercos_step.specs.declared.request.Request.{Request}
+use Rattle.sercos_step.specs.declared.request.Outcome.TheVariants as outcome
+use Rattle.sercos_step.specs.Steps.{outcome_of, next_step, answer_words, is_whole, result_of}
+use Rattle.sercos_service_master.specs.Begun.{step_at, with_step, steps_begun}
+use Rattle.sercos_block.specs.declared.block.Block.{Block}
+use Rattle.sercos_service_drive.specs.Log.{Entry}
+use Rattle.sercos_service_drive.specs.Writes.{Write, with_added, writes_of, takes_effect}
+use Rattle.sercos_law_channel.specs.Handshake.InStep.{steps_of, replies_of}
+use Rattle.sercos_law_channel.specs.Handshake.Transfers.{IsTransfer, is_complete}
+
+pub length-steps_of : (entries : List Entry) → length (steps_of entries) ≡ length entries
+length-steps_of [] = refl
+length-steps_of (e ∷ entries) = ap suc (length-steps_of entries)
+
+pub length-replies_of : (entries : List Entry) → length (replies_of entries) ≡ length entries
+length-replies_of [] = refl
+length-replies_of (e ∷ entries) = ap suc (length-replies_of entries)
+
+-- what holds of all steps holds of each
+pub all-slice_get : (p : Step → Bool) (steps : List Step) (k : ℕ) (s : Step) → list_all p steps ≡ true → slice_get steps k ≡ Some s → p s ≡ true
+all-slice_get p [] k s all got = absurd (cc)
+all-slice_get p (x ∷ steps) zero s all got = let same : x ≡ s = cc in ap p (sym same) ∙ (and_parts (p x) (list_all p steps) all).0
+all-slice_get p (x ∷ steps) (suc k) s all got = all-slice_get p steps k s (and_parts (p x) (list_all p steps) all).1 got
+
+length-with_step : (o : Option Step) (steps : List Step) → length (with_step o steps) ≤ suc (length steps)
+length-with_step None steps = omega arith
+length-with_step (Some s) steps = omega arith
+
+pub length-steps_begun : (r : Request) (h : List Answer) → length (steps_begun r h) ≤ suc (length h)
+length-steps_begun r [] = length-with_step (step_at r []) []
+length-steps_begun r (a ∷ h) =
+    let before = length-steps_begun r h in
+    let more = length-with_step (step_at r (a ∷ h)) (steps_begun r h) in omega arith
+
+-- where one step more was begun, it was begun last
+begun_last : (o : Option Step) (s : Step) (steps more : List Step) → s ∷ steps ≡ with_step o more → length more ≤ length steps → (o ≡ Some s) × (steps ≡ more)
+begun_last None s steps more is few = let long : suc (length steps) ≡ length more = ap length is in absurd (omega arith)
+begun_last (Some x) s steps more is few = (cc, cc)
+
+next-step_at : (r : Request) (h : List Answer) (s : Step) → step_at r h ≡ Some s → next_step r h ≡ Some s
+next-step_at r h s at = next (is_some (outcome_of r h)) at
+  where
+    next : (v : Bool) → (if v then None else next_step r h) ≡ Some s → next_step r h ≡ Some s
+    next true at = absurd (cc)
+    next false at = at
+
+module _ (r : Request) (blocks : List Block) (log : List Entry) where
+  -- the newest step is the next one after the others
+  pub newest_step : (e : Entry) (entries : List Entry) → IsTransfer r blocks e entries log → next_step r (replies_of entries) ≡ Some e.taken.step
+  newest_step e [] is = next-step_at r [] e.taken.step (begun_last (step_at r []) e.taken.step [] [] is.steps (omega arith)).0
+  newest_step e (d ∷ entries) is =
+      let few = length-steps_begun r (replies_of entries) in
+      let long = length-steps_of entries in
+      let many = length-replies_of entries in
+      next-step_at r (replies_of (d ∷ entries)) e.taken.step
+      (begun_last (step_at r (replies_of (d ∷ entries))) e.taken.step (steps_of (d ∷ entries)) (steps_begun r (replies_of entries)) is.steps (omega arith)).0
+
+  -- the entries without the newest are a transfer's
+  pub without_newest : (e d : Entry) (entries : List Entry) → IsTransfer r blocks e (d ∷ entries) log → IsTransfer r blocks d entries log
+  without_newest e d entries is =
+      let few = length-steps_begun r (replies_of entries) in
+      let long = length-steps_of entries in
+      let many = length-replies_of entries in record {
+        steps = (begun_last (step_at r (replies_of (d ∷ entries))) e.taken.step (steps_of (d ∷ entries)) (steps_begun r (replies_of entries)) is.steps (omega arith)).1;
+        in_turn = is.in_turn.0;
+        goes_on = is.in_turn.1;
+        replies = is.replies.0;
+        alike = is.alike.0;
+      }
+
+-- an answer completes a transfer where it is no error, and the last
+pub complete-outcome_of : (r : Request) (a : Answer) (h : List Answer) → is_complete (outcome_of r (a ∷ h)) ≡ (not a.error && is_whole r (answer_words h ++ a.word ∷ []))
+complete-outcome_of r a h = by a.error (is_whole r (answer_words h ++ a.word ∷ [])) a.word (result_of r (answer_words h ++ a.word ∷ []))
+  where
+    by : (error whole : Bool) (code : ℕ) (bytes : List ℕ) → is_complete (if error then Some (outcome.Refused (record { raw = code })) else (if whole then Some (outcome.Complete bytes) else None)) ≡ (not error && whole)
+    by true whole code bytes = refl
+    by false true code bytes = refl
+    by false false code bytes = refl
+
+pub goes_on-outcome_of : (r : Request) (a : Answer) (h : List Answer) → outcome_of r (a ∷ h) ≡ None → (a.error ≡ false) × (is_whole r (answer_words h ++ a.word ∷ []) ≡ false)
+goes_on-outcome_of r a h on = by a.error (is_whole r (answer_words h ++ a.word ∷ [])) a.word (result_of r (answer_words h ++ a.word ∷ [])) on
+  where
+    by : (error whole : Bool) (code : ℕ) (bytes : List ℕ) → (if error then Some (outcome.Refused (record { raw = code })) else (if whole then Some (outcome.Complete bytes) else None)) ≡ None → (error ≡ false) × (whole ≡ false)
+    by true whole code bytes on = absurd (cc)
+    by false true code bytes on = absurd (cc)
+    by false false code bytes on = (refl, refl)
+
+-- what takes no effect adds no write
+pub adds_none : (e : Entry) (all : List Entry) → takes_effect e ≡ false → writes_of (e ∷ all) ≡ writes_of all
+adds_none e all off = ap (λ (o : Option Write). with_added o (writes_of all)) (cond-false (takes_effect e) _ None off)
+
+-- as it does by its step and its answer
+pub effect_by : (s : Step) (e : Entry) → e.taken.step ≡ s → takes_effect e ≡ (s.write && ((s.element == 7) && (s.last && not e.answer.error)))
+effect_by s e is = ap (λ (x : Step). x.write && ((x.element == 7) && (x.last && not e.answer.error))) is

@@ -1,0 +1,90 @@
+-- Transfers that are refused at the cancel, worked out from the definitions: so neither condition of the law can be left out.
+use Rattle.std.proofs.Common.{◌≡◌, ℕ, ◌<◌, Bool, true, false, List, [], ◌∷◌, refl, arith}
+use Rattle.std.specs.Prelude.{Option, Some, None}
+use Rattle.sercos_idn.specs.declared.attribute.Attribute.{Attribute}
+use Rattle.sercos_idn.specs.declared.kinds.Length.TheVariants.{Two}
+use Rattle.sercos_idn.specs.declared.kinds.Form.TheVariants as forms
+use Rattle.sercos_step.specs.declared.request.Request.{Request}
+use Rattle.sercos_step.specs.declared.request.Request.TheVariants as request
+use Rattle.sercos_step.specs.declared.request.Outcome.TheVariants as outcome
+use Rattle.sercos_step.specs.declared.step.Step.{Step}
+use Rattle.sercos_step.specs.declared.step.Answer.{Answer}
+use Rattle.sercos_step.specs.Steps.{a_step, outcome_of}
+use Rattle.sercos_block.specs.declared.block.Block.{Block}
+use Rattle.sercos_command.specs.Settings.{CommandsView}
+use Rattle.sercos_service_drive.specs.Log.{Entry}
+use Rattle.sercos_service_drive.specs.Replies.{good, refused, bytes_written, write_cause}
+use Rattle.sercos_service_drive.specs.Writes.{writes_of}
+use Rattle.sercos_law_channel.specs.Handshake.InStep.{replies_of}
+use Rattle.sercos_law_channel.specs.Handshake.Transfers.{IsTransfer}
+use Rattle.sercos_law_channel.specs.Handshake.CommandTransfers.{setting}
+
+-- a procedure command, or a number, that is write protected from phase 3 on
+abbrev attribute : Bool → Attribute
+attribute command = record {
+  factor = 1;
+  length = Two;
+  command = command;
+  form = forms.Unsigned;
+  decimals = 0;
+  protect2 = false;
+  protect3 = true;
+  protect4 = true;
+  decimals_in_range = in_range;
+  command_is_two = is_two command;
+}
+  where
+    in_range : 0 < 16
+    in_range = omega arith
+
+    is_two : (v : Bool) → v ≡ true → Two ≡ Two
+    is_two v on = refl
+
+abbrev block : Bool → Option ℕ → Block
+block command min = record { idn = record { raw = 1 }; attribute = attribute command; name = None; unit = None; min = min; max = None; value = 0 ∷ 0 ∷ []; max_len = 0; fixed = false; step = 0; fails = false }
+
+abbrev commands : CommandsView
+commands = record { rate = 2; time = 3; set = []; passed_127 = None; passed_128 = None }
+
+abbrev asked : Request
+asked = request.Command (record { raw = 1 })
+
+abbrev entry : ℕ → ℕ → Bool → Block → Step → Answer → Entry
+entry cycle phase mhs b step answer = record { taken = record { cycle = cycle; phase = phase; mhs = mhs; step = step; blocks = b ∷ []; commands = commands }; answer = answer }
+
+-- it is set in phase 2, and its data status is 0
+abbrev others : Block → List Entry
+others b = entry 2 2 true b (a_step false true 1 0) (good 0) ∷ entry 1 2 false b (a_step true true 7 3) (good 0) ∷ entry 0 2 true b (a_step true true 1 1) (good 0) ∷ []
+
+abbrev last : ℕ → Block → ℕ → Entry
+last phase b code = entry 3 phase false b (a_step true true 7 0) (refused code)
+
+-- a procedure command that is write protected at the cancel, and wasn't at the setting
+abbrev command : Block
+command = block true None
+
+transfer : IsTransfer asked (command ∷ []) (last 3 command 0x7005) (others command) []
+unfolding bytes_written write_cause
+transfer = record { steps = refl; in_turn = ((((tt, refl), refl), refl)); goes_on = refl; replies = ((((tt, refl), refl), refl), refl); alike = ((((tt, refl), refl), refl), refl) }
+
+is_refused : outcome_of asked (replies_of (last 3 command 0x7005 ∷ others command)) ≡ Some (outcome.Refused (record { raw = 0x7005 }))
+is_refused = refl
+
+stays_set : writes_of (last 3 command 0x7005 ∷ others command) ≡ setting 1 3 (entry 1 2 false command (a_step true true 7 3) (good 0)) ∷ []
+unfolding bytes_written
+stays_set = refl
+
+-- a number whose minimum is 1
+abbrev number : Block
+number = block false (Some 1)
+
+number_transfer : IsTransfer asked (number ∷ []) (last 2 number 0x7006) (others number) []
+unfolding bytes_written write_cause
+number_transfer = record { steps = refl; in_turn = ((((tt, refl), refl), refl)); goes_on = refl; replies = ((((tt, refl), refl), refl), refl); alike = ((((tt, refl), refl), refl), refl) }
+
+number_refused : outcome_of asked (replies_of (last 2 number 0x7006 ∷ others number)) ≡ Some (outcome.Refused (record { raw = 0x7006 }))
+number_refused = refl
+
+number_stays : writes_of (last 2 number 0x7006 ∷ others number) ≡ setting 1 3 (entry 1 2 false number (a_step true true 7 3) (good 0)) ∷ []
+unfolding bytes_written
+number_stays = refl

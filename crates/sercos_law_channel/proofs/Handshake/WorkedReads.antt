@@ -1,0 +1,95 @@
+-- A read worked out from the definitions: of a number of four bytes, 64500, that grows by 10 in each cycle.
+use Rattle.std.proofs.Common.{◌≡◌, ℕ, ◌<◌, ◌≤◌, Bool, true, false, List, [], ◌∷◌, refl, arith}
+use Rattle.std.specs.Prelude.{Some, None}
+use Rattle.sercos_model.specs.Bits.{AreBytes}
+use Rattle.sercos_idn.specs.declared.attribute.Attribute.{Attribute}
+use Rattle.sercos_idn.specs.declared.kinds.Length.TheVariants.{Two, Four}
+use Rattle.sercos_idn.specs.declared.kinds.Form.TheVariants as forms
+use Rattle.sercos_idn.specs.Codes.{attribute_fault}
+use Rattle.sercos_idn.specs.Attributes.{attribute_of}
+use Rattle.sercos_step.specs.declared.request.Request.{Request}
+use Rattle.sercos_step.specs.declared.request.Request.TheVariants as request
+use Rattle.sercos_step.specs.declared.request.Outcome.TheVariants as outcome
+use Rattle.sercos_step.specs.declared.step.Step.{Step}
+use Rattle.sercos_step.specs.Steps.{a_step, outcome_of}
+use Rattle.sercos_block.specs.declared.block.Block.{Block}
+use Rattle.sercos_block.specs.Blocks.{element_of}
+use Rattle.sercos_block.specs.Stores.{IsStore, are_ascending, is_sound, is_typed}
+use Rattle.sercos_command.specs.Settings.{CommandsView}
+use Rattle.sercos_service_drive.specs.Log.{Taken, Entry}
+use Rattle.sercos_service_drive.specs.Replies.{good, data_in, element_words}
+use Rattle.sercos_law_channel.specs.Handshake.InStep.{replies_of}
+use Rattle.sercos_law_channel.specs.Handshake.Transfers.{IsTransfer}
+use Rattle.sercos_law_channel.specs.Handshake.ReadTransfers.{entry_behind, bytes_at}
+
+no_command : false ≡ true → Four ≡ Two
+no_command off = absurd (cc)
+
+abbrev number : Attribute
+number = record {
+  factor = 1;
+  length = Four;
+  command = false;
+  form = forms.Signed;
+  decimals = 0;
+  protect2 = false;
+  protect3 = false;
+  protect4 = false;
+  decimals_in_range = in_range;
+  command_is_two = no_command;
+}
+  where
+    in_range : 0 < 16
+    in_range = omega arith
+
+abbrev block : Block
+block = record { idn = record { raw = 51 }; attribute = number; name = None; unit = None; min = None; max = None; value = 0xf4 ∷ 0xfb ∷ 0 ∷ 0 ∷ []; max_len = 0; fixed = false; step = 10; fails = false }
+
+abbrev commands : CommandsView
+commands = record { rate = 2; time = 3; set = []; passed_127 = None; passed_128 = None }
+
+abbrev asked : Request
+asked = request.Read (record { raw = 51 }) 7
+
+abbrev taken_in : ℕ → Bool → Step → Taken
+taken_in cycle mhs step = record { cycle = cycle; phase = 2; mhs = mhs; step = step; blocks = block ∷ []; commands = commands }
+
+abbrev entry : ℕ → Bool → Step → ℕ → Entry
+entry cycle mhs step word = record { taken = taken_in cycle mhs step; answer = good word }
+
+abbrev last : Entry
+last = entry 104 true (a_step false true 7 0) 0
+
+abbrev selection : Entry
+selection = entry 103 false (a_step false false 7 0) 0xfffa
+
+abbrev others : List Entry
+others = selection ∷ entry 102 true (a_step false true 3 0) 0x22 ∷ entry 101 false (a_step false false 3 0) 1 ∷ entry 100 true (a_step true true 1 51) 0 ∷ []
+
+-- the premises of the law on reads hold of it
+transfer : IsTransfer asked (block ∷ []) last others []
+unfolding attribute_fault attribute_of element_of element_words data_in
+transfer = record { steps = refl; in_turn = (((((tt, refl), refl), refl), refl)); goes_on = refl; replies = (((((tt, refl), refl), refl), refl), refl); alike = (((((tt, refl), refl), refl), refl), refl) }
+
+completes : outcome_of asked (replies_of (last ∷ others)) ≡ Some (outcome.Complete (0xfa ∷ 0xff ∷ 0 ∷ 0 ∷ []))
+unfolding attribute_fault attribute_of
+completes = refl
+
+store : IsStore (block ∷ [])
+unfolding are_ascending is_sound is_typed
+store = record { few = few; ascending = refl; sound = refl; typed = refl }
+  where
+    few : 1 ≤ 57
+    few = omega arith
+
+bytes : AreBytes block.value
+unfolding AreBytes
+bytes = (omega arith, (omega arith, (omega arith, (omega arith, tt))))
+
+-- the selection, and the bytes then
+selects : entry_behind 3 (last ∷ others) ≡ Some selection
+selects = refl
+
+gives : bytes_at 51 7 block (taken_in 103 false (a_step false false 7 0)) ≡ 0xfa ∷ 0xff ∷ 0 ∷ 0 ∷ []
+unfolding data_in
+gives = refl

@@ -1,0 +1,85 @@
+-- A run of steps that write words, and what it adds to the writes.
+use Rattle.std.proofs.Common.{◌≡◌, ℕ, suc, ◌+◌, Bool, true, false, not, ◌&&◌, List, [], ◌∷◌, length, take, drop, refl, ap, ap₂, ◌∙◌, arith, if◌then◌else◌}
+use Rattle.std.specs.Prelude.{◌==◌, Option, Some, None, slice_get, slice_index, option_map, option_and_then}
+use mathlib.Core.Bool.{beq}
+use Rattle.std.proofs.lemmas.Bool.{cond-true, cond-false}
+use Rattle.sercos_idn.specs.Codes.{is_list}
+use Rattle.sercos_step.specs.Words.{bytes_in}
+use Rattle.sercos_step.specs.declared.step.Step.{Step}
+use Rattle.sercos_step.specs.Steps.{a_step, run}
+use Rattle.sercos_block.specs.declared.block.Block.{Block}
+use Rattle.sercos_block.specs.Stores.{find_block}
+use Rattle.sercos_service_drive.specs.Log.{Taken, Entry, opens, open_idn, run_before, in_order}
+use Rattle.sercos_service_drive.specs.Replies.{bytes_written}
+use Rattle.sercos_service_drive.specs.Writes.{Write, AreAlike, without_data, written_by, with_added, writes_of, takes_effect}
+use Rattle.sercos_law_channel.proofs.Handshake.AttributeReplies.{find-alike}
+use Rattle.sercos_law_channel.proofs.Handshake.TransferSteps.{effect_by}
+
+-- the steps after those of a run are those of the words that are left
+run-get : (taken : List Taken) (word : ℕ) (rest : List ℕ) (k j : ℕ) → k ≡ length taken + j →
+    slice_get (run true 7 (in_order taken (word ∷ rest))) k ≡ slice_get (run true 7 (word ∷ rest)) j
+run-get [] word rest k j is = let same : k ≡ j = omega arith in ap (slice_get (run true 7 (word ∷ rest))) same
+run-get (t ∷ taken) word rest k j is = run-get taken t.step.word (word ∷ rest) k (suc j) (omega arith)
+
+pub run_next : (taken : List Taken) (word : ℕ) (rest : List ℕ) → slice_get (run true 7 (in_order taken (word ∷ rest))) (length taken) ≡ slice_get (run true 7 (word ∷ rest)) 0
+run_next taken word rest = run-get taken word rest (length taken) 0 (omega arith)
+
+-- one step more of a run
+pub run_grows : (s : Step) (write : Bool) (element : ℕ) (e : Entry) (all : List Entry) (taken : List Taken) → e.taken.step ≡ s → e.answer.error ≡ false → run_before write element all ≡ taken →
+    (beq s.write write && ((s.element == element) && not s.last)) ≡ true → run_before write element (e ∷ all) ≡ e.taken ∷ taken
+run_grows s write element e all taken is well before fits =
+    cond-true (beq e.taken.step.write write && ((e.taken.step.element == element) && (not e.taken.step.last && not e.answer.error))) (e.taken ∷ run_before write element all) []
+    (ap₂ (λ (x : Step) (b : Bool). beq x.write write && ((x.element == element) && (not x.last && not b))) is well ∙ all_three (beq s.write write) (s.element == element) (not s.last) fits)
+    ∙ ap (λ (l : List Taken). e.taken ∷ l) before
+  where
+    all_three : (a b c : Bool) → (a && (b && c)) ≡ true → (a && (b && (c && true))) ≡ true
+    all_three true true true on = refl
+    all_three true true false on = on
+    all_three true false c on = on
+    all_three false b c on = on
+
+pub run_starts : (s : Step) (write : Bool) (element : ℕ) (e : Entry) (all : List Entry) → e.taken.step ≡ s → (beq s.write write && ((s.element == element) && not s.last)) ≡ false → run_before write element (e ∷ all) ≡ []
+run_starts s write element e all is other =
+    cond-false (beq e.taken.step.write write && ((e.taken.step.element == element) && (not e.taken.step.last && not e.answer.error))) (e.taken ∷ run_before write element all) []
+    (ap (λ (x : Step). beq x.write write && ((x.element == element) && (not x.last && not e.answer.error))) is ∙ not_all (beq s.write write) (s.element == element) (not s.last) (not e.answer.error) other)
+  where
+    not_all : (a b c d : Bool) → (a && (b && c)) ≡ false → (a && (b && (c && d))) ≡ false
+    not_all true true true d off = absurd (cc)
+    not_all true true false d off = refl
+    not_all true false c d off = refl
+    not_all false b c d off = refl
+
+-- the identifier number that is open after a step
+pub open_by : (s : Step) (e : Entry) (all : List Entry) → e.taken.step ≡ s → e.answer.error ≡ false →
+    open_idn (e ∷ all) ≡ (if opens s then Some s.word else (if s.element == 0 then None else open_idn all))
+open_by s e all is well =
+    ap₂ (λ (x : Step) (b : Bool). if opens x then (if b then None else Some x.word) else (if x.element == 0 then None else open_idn all)) is well
+
+bytes_alike : (c d : Block) (words : List ℕ) → without_data c ≡ without_data d → bytes_written c words ≡ bytes_written d words
+unfolding bytes_written
+bytes_alike c d words same =
+    ap (λ (x : Block). if is_list x.attribute.length then take (slice_index words 0) (bytes_in (drop 2 words)) else bytes_in words) same
+
+-- the write of a last word
+written_found : (t : Taken) (taken : List Taken) (raw : ℕ) (blocks : List Block) (b : Block) (words : List ℕ) → AreAlike t.blocks blocks → find_block raw blocks ≡ Some b → in_order taken (t.step.word ∷ []) ≡ words →
+    written_by t taken raw ≡ Some (record { cycle = t.cycle; raw = raw; bytes = bytes_written b words })
+written_found t taken raw blocks b words alike found ordered = by (find_block raw t.blocks) (in_order taken (t.step.word ∷ [])) (find-alike raw t.blocks blocks b alike found) ordered
+  where
+    by : (o : Option Block) (ws : List ℕ) → option_map without_data o ≡ Some (without_data b) → ws ≡ words →
+        option_map (λ (c : Block). (let w : Write = record { cycle = t.cycle; raw = raw; bytes = bytes_written c ws } in w)) o ≡ Some (record { cycle = t.cycle; raw = raw; bytes = bytes_written b words })
+    by None ws same is = absurd (cc)
+    by (Some c) ws same is =
+        let alike_blocks : without_data c ≡ without_data b = cc in
+        ap (λ (bytes : List ℕ). (let w : Write = record { cycle = t.cycle; raw = raw; bytes = bytes } in Some w)) (bytes_alike c b ws alike_blocks ∙ ap (bytes_written b) is)
+
+pub last_word : (word : ℕ) (e : Entry) (all : List Entry) (taken : List Taken) (raw : ℕ) (blocks : List Block) (b : Block) (words : List ℕ) →
+    e.taken.step ≡ a_step true true 7 word → e.answer.error ≡ false → open_idn all ≡ Some raw → run_before true 7 all ≡ taken → in_order taken (word ∷ []) ≡ words →
+    AreAlike e.taken.blocks blocks → find_block raw blocks ≡ Some b →
+    writes_of (e ∷ all) ≡ (record { cycle = e.taken.cycle; raw = raw; bytes = bytes_written b words }) ∷ writes_of all
+last_word word e all taken raw blocks b words is well opened before ordered alike found =
+    let effect : takes_effect e ≡ true = effect_by (a_step true true 7 word) e is ∙ ap not well in
+    let same : in_order taken (e.taken.step.word ∷ []) ≡ words = ap (λ (s : Step). in_order taken (s.word ∷ [])) is ∙ ordered in
+    ap (λ (o : Option Write). with_added o (writes_of all))
+    (cond-true (takes_effect e) _ None effect
+    ∙ ap₂ (λ (l : List Taken) (o : Option ℕ). option_and_then (written_by e.taken l) o) before opened
+    ∙ written_found e.taken taken raw blocks b words alike found same)

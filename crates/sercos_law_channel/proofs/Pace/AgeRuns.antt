@@ -1,0 +1,213 @@
+-- For how many cycles a step is open, and channels that never idle.
+use Rattle.std.proofs.Common.{◌≡◌, ◌⊎◌, inl, inr, ℕ, suc, ◌+◌, ◌*◌, ◌<◌, ◌≤◌, Bool, true, false, List, [], ◌∷◌, ◌++◌, length, refl, sym, ap, ◌∙◌, arith, if◌then◌else◌}
+use Rattle.std.specs.Prelude.{◌==◌, Option, is_some}
+use Rattle.std.proofs.lemmas.Bool.{cond-true, cond-false, eqb-true, eq-eqb}
+use mathlib.Core.Bool.{beq}
+use Rattle.sercos_step.specs.declared.step.Step.{Step}
+use Rattle.sercos_service_drive.specs.Log.{Taken, Entry}
+use Rattle.sercos_service_drive.specs.Replies.{reply_of, log_of}
+use Rattle.sercos_service_master.specs.Begun.{Begun, open_in, steps_in, answers_in, is_odd}
+use Rattle.sercos_law_channel.specs.Handshake.InStep.{steps_of}
+use Rattle.sercos_law_channel.proofs.Handshake.HandshakeMoves.{log-taken}
+use Rattle.sercos_law_channel.proofs.Handshake.TransferSteps.{length-steps_of}
+use Rattle.sercos_law_channel.specs.Handshake.Views.{View, standing, stood_in, record_in, with_record}
+use Rattle.sercos_law_channel.specs.Handshake.Epochs.{unless_restart, epoch_begun, begun_in, epoch_taken, taken_in, epoch_log, log_in}
+use Rattle.sercos_law_channel.specs.Handshake.Runs.{IsRun}
+use Rattle.sercos_law_channel.specs.Pace.Times.{one_more, open_cycles, AreUndisturbed, IsOnTime, Rests, Waits}
+use Rattle.sercos_law_channel.specs.Pace.Stretches.{IsClean, AreClean, open_since, IsInTime, RestsNow, WaitsNow}
+use Rattle.sercos_law_channel.specs.Pace.Passages.{BeginsEpoch}
+use Rattle.sercos_law_channel.specs.Pace.Ages.{age_by, age_in, AgesInTime, AgesWhereDead, OpensAlways, KeepsTime}
+use Rattle.sercos_law_channel.proofs.Handshake.PhaseMoves.{Processes, Nothing, Record, processes}
+use Rattle.sercos_law_channel.proofs.Pace.OnTimeRuns.{on_time, time_of}
+use Rattle.sercos_law_channel.proofs.Pace.LateRuns.{comes_in_time}
+use Rattle.sercos_law_channel.proofs.Pace.WholeCycles.{stays_dead}
+use Rattle.sercos_law_channel.proofs.Pace.EpochBegins.{none_begun}
+
+-- a cycle adds no entry to the log, or one of this cycle
+pub log_grows : (v : View) (past : List View) → v.master_restarts ≡ false → (log_in v past ≡ epoch_log past) ⊎ ((x : Entry) × (log_in v past ≡ x ∷ epoch_log past) × (x.taken.cycle ≡ length past))
+log_grows v past on = by (processes v past)
+  where
+    same : log_of (unless_restart v (epoch_taken past)) ≡ epoch_log past
+    same = ap log_of (cond-false v.master_restarts [] (epoch_taken past) on)
+
+    by : Processes v past → (log_in v past ≡ epoch_log past) ⊎ ((x : Entry) × (log_in v past ≡ x ∷ epoch_log past) × (x.taken.cycle ≡ length past))
+    by (Nothing none) = inl (ap (λ (o : Option Taken). log_of (with_record o (unless_restart v (epoch_taken past)))) none ∙ same)
+    by (Record s got came two some) = which (beq t.mhs (is_odd log)) (ap (λ (o : Option Taken). log_of (with_record o (unless_restart v (epoch_taken past)))) some ∙ log-taken t (unless_restart v (epoch_taken past)))
+      where
+        t : Taken
+        t = record_in v (length past) (stood_in v (standing past)) s
+
+        log : List Entry
+        log = log_of (unless_restart v (epoch_taken past))
+
+        which : (b : Bool) → log_in v past ≡ (if b then log else (record { taken = t; answer = reply_of t log }) ∷ log) → (log_in v past ≡ epoch_log past) ⊎ ((x : Entry) × (log_in v past ≡ x ∷ epoch_log past) × (x.taken.cycle ≡ length past))
+        which true is = inl (is ∙ same)
+        which false is = inr (record { taken = t; answer = reply_of t log }, is ∙ ap (λ (l : List Entry). (record { taken = t; answer = reply_of t log }) ∷ l) same, refl)
+
+-- where nothing was begun, no step is open
+none_old : (past : List View) → epoch_begun past ≡ [] → age_in past ≡ 0
+none_old [] none = refl
+none_old (v ∷ past) none = by v.falls none
+  where
+    by : (falls : Bool) → (if falls then [] else begun_in v past) ≡ []
+        → (if falls then 0 else age_by (is_some (open_in (begun_in v past))) (length (steps_in (begun_in v past)) == length (steps_in (unless_restart v (epoch_begun past)))) (age_in past)) ≡ 0
+    by true none = refl
+    by false none = ap (λ (l : List Begun). age_by (is_some (open_in l)) (length (steps_in (begun_in v past)) == length (steps_in (unless_restart v (epoch_begun past)))) (age_in past)) none
+
+-- so it is while phase 0 is commanded
+pub nothing_old : (busy : ℕ) (past : List View) → IsRun busy past → BeginsEpoch past → age_in past ≡ 0
+nothing_old busy past run begins = none_old past (none_begun busy past run begins)
+
+module _ (busy : ℕ) where
+  -- an open step is no older than its entry, but for its age before the stretch
+  abbrev AgesSo : List View → List View → Type 0
+  AgesSo all past = (e : Entry) (log : List Entry) → epoch_log all ≡ e ∷ log → is_some (open_in (epoch_begun all)) ≡ true → age_in all + e.taken.cycle ≤ length all + age_in past
+
+  -- one cycle more
+  module _ (v : View) (all past : List View) (clean : IsClean v all) where
+    pub begun : epoch_begun (v ∷ all) ≡ begun_in v all
+    begun = cond-false v.falls [] (begun_in v all) clean.stays
+
+    pub logged : epoch_log (v ∷ all) ≡ log_in v all
+    logged = ap log_of (cond-false v.falls [] (taken_in v all) clean.stays)
+
+    pub before : unless_restart v (epoch_begun all) ≡ epoch_begun all
+    before = cond-false v.master_restarts [] (epoch_begun all) clean.goes_on
+
+    pub aged : age_in (v ∷ all) ≡ age_by (is_some (open_in (begun_in v all))) (length (steps_in (begun_in v all)) == length (steps_in (unless_restart v (epoch_begun all)))) (age_in all)
+    aged = cond-false v.falls 0 _ clean.stays
+
+    pub aged_open : is_some (open_in (epoch_begun (v ∷ all))) ≡ true → age_in (v ∷ all) ≡ (if length (steps_in (begun_in v all)) == length (steps_in (unless_restart v (epoch_begun all))) then age_in all + 1 else 1)
+    aged_open some =
+        let at : is_some (open_in (begun_in v all)) ≡ true = ap (λ (l : List Begun). is_some (open_in l)) (sym begun) ∙ some in
+        aged ∙ cond-true (is_some (open_in (begun_in v all))) _ 0 at
+
+    -- a new step is open
+    new_age : (e : Entry) → e.taken.cycle < length (v ∷ all) → age_in (v ∷ all) ≤ 1 → age_in (v ∷ all) + e.taken.cycle ≤ length (v ∷ all) + age_in past
+    new_age e earlier young = omega arith
+
+    -- the step that was open is open still
+    old_age : (e f : Entry) (log rest : List Entry) → epoch_log (v ∷ all) ≡ e ∷ log → epoch_log all ≡ f ∷ rest → e.taken.cycle < length (v ∷ all) → is_some (open_in (epoch_begun (v ∷ all))) ≡ true →
+        steps_in (epoch_begun (v ∷ all)) ≡ steps_of (epoch_log (v ∷ all)) → steps_in (epoch_begun all) ≡ steps_of (epoch_log all) → age_in all + f.taken.cycle ≤ length all + age_in past → age_in (v ∷ all) + e.taken.cycle ≤ length (v ∷ all) + age_in past
+    old_age e f log rest those were earlier some now then_ old = by (length (steps_in (begun_in v all)) == length (steps_in (unless_restart v (epoch_begun all)))) refl (aged_open some)
+      where
+        by : (same : Bool) → (length (steps_in (begun_in v all)) == length (steps_in (unless_restart v (epoch_begun all)))) ≡ same → age_in (v ∷ all) ≡ (if same then age_in all + 1 else 1) → age_in (v ∷ all) + e.taken.cycle ≤ length (v ∷ all) + age_in past
+        by false is age = omega arith
+        by true is age = elim (log_grows v all clean.goes_on) [
+          | inl stays ↦
+              let one : e ∷ log ≡ f ∷ rest = sym those ∙ logged ∙ stays ∙ were in
+              let entry : e ≡ f = cc in
+              let cycle = ap (λ (x : Entry). x.taken.cycle) entry in omega (arith, age, cycle, old)
+          | inr (x, grows, at) ↦
+              let count : length (steps_in (begun_in v all)) ≡ length (steps_in (unless_restart v (epoch_begun all))) = eqb-true _ _ is in
+              let left : length (steps_in (begun_in v all)) ≡ length (steps_of (epoch_log (v ∷ all))) = ap (λ (l : List Begun). length (steps_in l)) (sym begun) ∙ ap length now in
+              let right : length (steps_in (unless_restart v (epoch_begun all))) ≡ length (steps_of (epoch_log all)) = ap (λ (l : List Begun). length (steps_in l)) before ∙ ap length then_ in
+              let long = length-steps_of (epoch_log (v ∷ all)) in
+              let short = length-steps_of (epoch_log all) in
+              let more : length (epoch_log (v ∷ all)) ≡ suc (length (epoch_log all)) = ap length (logged ∙ grows) in absurd (omega (arith, count, left, right, long, short, more))
+        ]
+
+  ages_so : (v : View) (cycles past : List View) → IsRun busy (v ∷ (cycles ++ past)) → AreClean (v ∷ cycles) past → IsInTime busy (v ∷ cycles) past → AgesSo (v ∷ (cycles ++ past)) past
+  ages_so v cycles past run clean (RestsNow none is) e log those some = absurd (cc)
+  ages_so v [] past run clean (WaitsNow x rest at opened all earlier late sum) e log those some =
+      let same : x ≡ e = (let one : x ∷ rest ≡ e ∷ log = sym at ∙ those in cc) in
+      let cycle = ap (λ (y : Entry). y.taken.cycle) same in
+      let age = aged_open v past past clean.1 some in
+      let le = age_choice (length (steps_in (begun_in v past)) == length (steps_in (unless_restart v (epoch_begun past)))) (age_in past) in omega (arith, cycle, age, le, earlier)
+    where
+      age_choice : (b : Bool) (n : ℕ) → (if b then n + 1 else 1) ≤ n + 1
+      age_choice true n = omega arith
+      age_choice false n = omega arith
+  ages_so v (u ∷ cycles) past run clean (WaitsNow x rest at opened all earlier late sum) e log those some =
+      let same : x ≡ e = (let one : x ∷ rest ≡ e ∷ log = sym at ∙ those in cc) in
+      let cycle = ap (λ (y : Entry). y.taken.cycle) same in
+      let soon : e.taken.cycle < length (v ∷ u ∷ (cycles ++ past)) = omega (arith, cycle, earlier) in
+      behind (comes_in_time busy u cycles past run.0 clean.0) (ages_so u cycles past run.0 clean.0 (comes_in_time busy u cycles past run.0 clean.0)) soon
+    where
+      before_all : List View
+      before_all = u ∷ (cycles ++ past)
+
+      behind : IsInTime busy (u ∷ cycles) past → AgesSo (u ∷ (cycles ++ past)) past → e.taken.cycle < length (v ∷ u ∷ (cycles ++ past)) → age_in (v ∷ u ∷ (cycles ++ past)) + e.taken.cycle ≤ length (v ∷ u ∷ (cycles ++ past)) + age_in past
+      behind (WaitsNow f more were was steps before_ late_ sum_) old soon =
+          old_age v before_all past clean.1 e f log more those were soon some all steps (old f more were (ap is_some was))
+      behind (RestsNow none is) old soon =
+          let zero : age_in before_all ≡ 0 = aged u (cycles ++ past) past clean.0.1 ∙ ap (λ (o : Option Step). age_by (is_some o) (length (steps_in (begun_in u (cycles ++ past))) == length (steps_in (unless_restart u (epoch_begun (cycles ++ past))))) (age_in (cycles ++ past)))
+          (ap open_in (sym (begun u (cycles ++ past) past clean.0.1)) ∙ none) in
+          let age = aged_open v before_all past clean.1 some in
+          let le = age_choice (length (steps_in (begun_in v before_all)) == length (steps_in (unless_restart v (epoch_begun before_all)))) (age_in before_all) zero in
+          new_age v before_all past clean.1 e soon (omega (arith, age, le))
+        where
+          age_choice : (b : Bool) (n : ℕ) → n ≡ 0 → (if b then n + 1 else 1) ≤ 1
+          age_choice true n z = omega arith
+          age_choice false n z = omega arith
+
+  pub ages_in_time : AgesInTime busy
+  ages_in_time v cycles past run clean = by (comes_in_time busy v cycles past run clean) (ages_so v cycles past run clean (comes_in_time busy v cycles past run clean))
+    where
+      by : IsInTime busy (v ∷ cycles) past → AgesSo (v ∷ (cycles ++ past)) past → age_in (v ∷ (cycles ++ past)) ≤ age_in past + (busy + 1)
+      by (RestsNow none is) so =
+          let zero : age_in (v ∷ (cycles ++ past)) ≡ 0 = aged v (cycles ++ past) past clean.1 ∙ ap (λ (o : Option Step). age_by (is_some o) (length (steps_in (begun_in v (cycles ++ past))) == length (steps_in (unless_restart v (epoch_begun (cycles ++ past))))) (age_in (cycles ++ past)))
+          (ap open_in (sym (begun v (cycles ++ past) past clean.1)) ∙ none) in omega (arith, zero)
+      by (WaitsNow e log those opened all earlier late sum) so = let le = so e log those (ap is_some opened) in omega (arith, le, late)
+
+  pub ages_where_dead : AgesWhereDead busy
+  ages_where_dead v past run zero two stays goes_on some =
+      let same : unless_restart v (epoch_begun past) ≡ epoch_begun past = cond-false v.master_restarts [] (epoch_begun past) goes_on in
+      let still : begun_in v past ≡ unless_restart v (epoch_begun past) = (stays_dead busy v past run zero two).waits (ap (λ (l : List Begun). is_some (open_in l)) same ∙ some) in
+      let open_now : is_some (open_in (begun_in v past)) ≡ true = ap (λ (l : List Begun). is_some (open_in l)) (still ∙ same) ∙ some in
+      let count : (length (steps_in (begun_in v past)) == length (steps_in (unless_restart v (epoch_begun past)))) ≡ true = eq-eqb _ _ (ap (λ (l : List Begun). length (steps_in l)) still) in (
+        cond-false v.falls 0 _ stays ∙ cond-true (is_some (open_in (begun_in v past))) _ 0 open_now ∙ cond-true _ (age_in past + 1) 1 count,
+        ap (λ (l : List Begun). is_some (open_in l)) (cond-false v.falls [] (begun_in v past) stays) ∙ open_now,
+      )
+
+  -- A channel that never idles.
+
+  pub opens_always : OpensAlways
+  opens_always [] past work = refl
+  opens_always (v ∷ cycles) past work =
+      let before = opens_always cycles past work.0 in
+      ap (λ (b : Bool). one_more b (open_since cycles past)) work.1 ∙ (omega (arith, before))
+
+  -- a stretch in which nothing is lost continues such an epoch
+  pub undisturbed_on : (cycles past : List View) → AreClean cycles past → AreUndisturbed past → AreUndisturbed (cycles ++ past)
+  undisturbed_on [] past clean are = are
+  undisturbed_on (v ∷ cycles) past clean are = λ on. (clean.1.undisturbed, λ still. undisturbed_on cycles past clean.0 are)
+
+  -- the epoch's cycles with an open step are those of the stretch and those before
+  open_in_all : (cycles past : List View) → AreClean cycles past → open_cycles (cycles ++ past) ≡ open_since cycles past + open_cycles past
+  open_in_all [] past clean = omega arith
+  open_in_all (v ∷ cycles) past clean =
+      cond-false v.falls 0 _ clean.1.stays
+      ∙ ap (one_more (is_some (open_in (begun_in v (cycles ++ past))))) (cond-false v.master_restarts 0 (open_cycles (cycles ++ past)) clean.1.goes_on ∙ open_in_all cycles past clean.0)
+      ∙ more (is_some (open_in (begun_in v (cycles ++ past)))) (open_since cycles past) (open_cycles past)
+    where
+      more : (b : Bool) (n k : ℕ) → one_more b (n + k) ≡ one_more b n + k
+      more true n k = omega arith
+      more false n k = refl
+
+  pub keeps_time : KeepsTime busy
+  keeps_time v cycles past run clean undisturbed rests work =
+      by (on_time busy (v ∷ (cycles ++ past)) run (undisturbed_on (v ∷ cycles) past clean undisturbed)) (on_time busy past (run_behind (v ∷ cycles) run) undisturbed)
+    where
+      run_behind : (xs : List View) → IsRun busy (xs ++ past) → IsRun busy past
+      run_behind [] run = run
+      run_behind (x ∷ xs) run = run_behind xs run.0
+
+      opened_now : is_some (open_in (epoch_begun (v ∷ (cycles ++ past)))) ≡ true
+      opened_now = ap (λ (l : List Begun). is_some (open_in l)) (begun v (cycles ++ past) past clean.1) ∙ work.1
+
+      spent : open_cycles (v ∷ (cycles ++ past)) ≡ length (v ∷ cycles) + open_cycles past
+      spent = open_in_all (v ∷ cycles) past clean ∙ ap (λ (n : ℕ). n + open_cycles past) (opens_always (v ∷ cycles) past work)
+
+      by : IsOnTime busy (v ∷ (cycles ++ past)) → IsOnTime busy past →
+          (e : Entry) × (log : List Entry) × (epoch_log (v ∷ (cycles ++ past)) ≡ e ∷ log) × (e.taken.cycle ≤ length (cycles ++ past)) × (length (cycles ++ past) ≤ e.taken.cycle + busy)
+          × (length (v ∷ cycles) + (busy + 1) * length (answers_in (epoch_begun past)) + e.taken.cycle ≡ (busy + 1) * length (answers_in (epoch_begun (v ∷ (cycles ++ past)))) + length (v ∷ (cycles ++ past)))
+      by (Rests none is) then_ = let off : is_some (open_in (epoch_begun (v ∷ (cycles ++ past)))) ≡ false = ap is_some none in absurd (apart opened_now off)
+        where
+          apart : {b : Bool} → b ≡ true → b ≡ false → ⊥
+          apart on off = let no : true ≡ false = sym on ∙ off in cc
+      by (Waits e log those opened all earlier late sum) (Waits f more were was steps before_ late_ sum_) = absurd (cc)
+      by (Waits e log those opened all earlier late sum) (Rests none is) =
+          let now = time_of busy (answers_in (epoch_begun (v ∷ (cycles ++ past)))) in
+          let past_time = time_of busy (answers_in (epoch_begun past)) in
+          (e, log, those, omega (arith, earlier), omega (arith, late), omega (arith, sum, is, now, past_time, spent))

@@ -1,0 +1,163 @@
+-- What the requests of a start-up cost, and those after it.
+use Rattle.std.proofs.Common.{◌≡◌, ℕ, suc, ◌+◌, ◌*◌, ◌≤◌, Bool, true, false, List, [], ◌∷◌, ◌++◌, length, map, refl, ap, ◌∙◌, arith, if◌then◌else◌}
+use Rattle.std.specs.Prelude.{◌==◌, Option, Some, None}
+use Rattle.std.specs.List.{sum_by}
+use Rattle.std.proofs.lemmas.List.Sums.{sum_by-cons, sum_by-append}
+use Rattle.sercos_idn.specs.Codes.{is_list}
+use Rattle.sercos_idn.specs.declared.idn.Idn.{Idn}
+use Rattle.sercos_idn.specs.declared.kinds.Length.{Length}
+use Rattle.sercos_idn.specs.declared.kinds.Length.TheVariants as len
+use Rattle.sercos_step.specs.declared.shape.Shape.{Shape}
+use Rattle.sercos_step.specs.declared.shape.Shape.TheVariants as shape
+use Rattle.sercos_step.specs.declared.request.Request.{Request}
+use Rattle.sercos_step.specs.declared.request.Request.TheVariants as request
+use Rattle.sercos_step.specs.Words.{shape_of, shape_by, words_of, words_told}
+use Rattle.sercos_step.proofs.AnswerCounts.{times_le}
+use Rattle.sercos_step.proofs.WrittenWords.{few_told, length-words_of, length-at_least_one}
+use Rattle.sercos_block.specs.declared.block.Block.{Block}
+use Rattle.sercos_block.specs.Stores.{find_block}
+use Rattle.sercos_law_channel.specs.Pace.Costs.{value_steps, read_steps, write_steps, cost_of}
+use Rattle.sercos_law_channel.specs.Pace.Jobs.{request_of, CostsRequests, AreWords, AreWordWrites, WordReadCosts, AttributeCosts, ListReadCosts, WordWriteCosts, ListWriteCosts, ReadsCost, WritesCost, RequestCosts}
+
+pub costs_requests : CostsRequests
+costs_requests cost [] = refl
+costs_requests cost (b ∷ begun) =
+    let more = costs_requests cost begun in
+    let first = sum_by-cons cost b.request (map request_of begun) in omega (arith, more, first)
+
+pub list_shape : (l : Length) → is_list l ≡ true → shape_by l ≡ shape.List
+list_shape len.Two is = absurd (cc)
+list_shape len.Four is = absurd (cc)
+list_shape len.List1 is = refl
+list_shape len.List2 is = refl
+list_shape len.List4 is = refl
+
+module _ (busy : ℕ) where
+  read_by : (longest : ℕ) (o : Option Block) (b : Block) (s : Shape) → o ≡ Some b → shape_by b.attribute.length ≡ s → (busy + 1) * read_steps longest 7 o ≡ (busy + 1) * value_steps longest s
+  read_by longest o b s found is = ap (λ (x : Option Block). (busy + 1) * read_steps longest 7 x) found ∙ ap (λ (x : Shape). (busy + 1) * value_steps longest x) is
+
+  pub word_read_costs : WordReadCosts busy
+  word_read_costs time longest blocks idn (b, found, two) = read_by (longest idn.raw) (find_block idn.raw blocks) b shape.One found (ap shape_by two)
+
+  pub list_read_costs : ListReadCosts busy
+  list_read_costs time longest blocks idn (b, found, list) = read_by (longest idn.raw) (find_block idn.raw blocks) b shape.List found (list_shape b.attribute.length list)
+
+  pub attribute_costs : AttributeCosts busy
+  attribute_costs time longest blocks idn = by (find_block idn.raw blocks)
+    where
+      by : (o : Option Block) → (busy + 1) * read_steps (longest idn.raw) 3 o ≤ (busy + 1) * 3
+      by None = times_le (busy + 1) 1 3 (omega arith)
+      by (Some b) = times_le (busy + 1) 3 3 (omega arith)
+
+  write_by : (bytes : List ℕ) (o : Option Block) (b : Block) (s : Shape) (k : ℕ) → o ≡ Some b → shape_by b.attribute.length ≡ s → 3 + length (words_told s bytes) ≤ k → (busy + 1) * write_steps 7 bytes o ≤ (busy + 1) * k
+  write_by bytes o b s k found is le =
+      let same : write_steps 7 bytes o ≡ 3 + length (words_told s bytes) = ap (write_steps 7 bytes) found ∙ ap (λ (x : Shape). 3 + length (words_told x bytes)) is in
+      times_le (busy + 1) (write_steps 7 bytes o) k (omega (arith, same, le))
+
+  pub word_write_costs : WordWriteCosts busy
+  word_write_costs time longest blocks idn bytes (b, found, two) short =
+      let one = length-at_least_one (words_of bytes) in
+      let words = length-words_of bytes in
+      write_by bytes (find_block idn.raw blocks) b shape.One 4 found (ap shape_by two) (omega (arith, one, words, short))
+
+  pub list_write_costs : ListWriteCosts busy
+  list_write_costs time longest blocks idn bytes k (b, found, list) short =
+      let words = length-words_of bytes in
+      write_by bytes (find_block idn.raw blocks) b shape.List (5 + k) found (list_shape b.attribute.length list) (omega (arith, words, short))
+
+  suc_times : (c n : ℕ) → (busy + 1) * (c * suc n) ≡ (busy + 1) * c + (busy + 1) * (c * n)
+  suc_times c n = grind arith
+
+  times_sum : (n k : ℕ) → (busy + 1) * (n + k) ≡ (busy + 1) * n + (busy + 1) * k
+  times_sum n k = grind arith
+
+  pub reads_cost : ReadsCost busy
+  reads_cost time longest blocks values idns are six =
+      let parts = sum_by-append (cost_of busy time longest blocks) (map (λ (idn : Idn). request.Read idn 7) values) (map (λ (idn : Idn). request.Read idn 3) idns) in
+      let first = of_values values are in
+      let second = of_attributes idns in
+      let count : (busy + 1) * (4 * length values) ≡ (busy + 1) * 24 = ap (λ (n : ℕ). (busy + 1) * (4 * n)) six in
+      let sum = times_sum 24 (3 * length idns) in omega (arith, parts, first, second, count, sum)
+    where
+      of_values : (values : List Idn) → AreWords blocks values → sum_by (cost_of busy time longest blocks) (map (λ (idn : Idn). request.Read idn 7) values) ≤ (busy + 1) * (4 * length values)
+      of_values [] are = omega arith
+      of_values (idn ∷ values) are =
+          let one = word_read_costs time longest blocks idn are.1 in
+          let more = of_values values are.0 in
+          let first = sum_by-cons (cost_of busy time longest blocks) (request.Read idn 7) (map (λ (x : Idn). request.Read x 7) values) in
+          let next = suc_times 4 (length values) in omega (arith, one, more, first, next)
+
+      of_attributes : (idns : List Idn) → sum_by (cost_of busy time longest blocks) (map (λ (idn : Idn). request.Read idn 3) idns) ≤ (busy + 1) * (3 * length idns)
+      of_attributes [] = omega arith
+      of_attributes (idn ∷ idns) =
+          let one = attribute_costs time longest blocks idn in
+          let more = of_attributes idns in
+          let first = sum_by-cons (cost_of busy time longest blocks) (request.Read idn 3) (map (λ (x : Idn). request.Read x 3) idns) in
+          let next = suc_times 3 (length idns) in omega (arith, one, more, first, next)
+
+  words_cost : (time : ℕ) (longest : ℕ → ℕ) (blocks : List Block) (rs : List Request) → AreWordWrites blocks rs → sum_by (cost_of busy time longest blocks) rs ≤ (busy + 1) * (4 * length rs)
+  words_cost time longest blocks [] are = omega arith
+  words_cost time longest blocks (r ∷ rs) are =
+      let w = are.1 in
+      let cost : cost_of busy time longest blocks r ≡ cost_of busy time longest blocks (request.Write w.idn 7 w.bytes) = ap (cost_of busy time longest blocks) w.writes in
+      let one = word_write_costs time longest blocks w.idn w.bytes w.word w.short in
+      let more = words_cost time longest blocks rs are.0 in
+      let first = sum_by-cons (cost_of busy time longest blocks) r rs in
+      let next = suc_times 4 (length rs) in omega (arith, cost, one, more, first, next)
+
+  -- over any cost, of which only the parts matter
+  sum_parts : (cost : Request → ℕ) (before after : List Request) (a b c : Request) → sum_by cost (before ++ a ∷ b ∷ (after ++ c ∷ [])) ≡ sum_by cost before + cost a + cost b + sum_by cost after + cost c
+  sum_parts cost before after a b c =
+      let all = sum_by-append cost before (a ∷ b ∷ (after ++ c ∷ [])) in
+      let first = sum_by-cons cost a (b ∷ (after ++ c ∷ [])) in
+      let second = sum_by-cons cost b (after ++ c ∷ []) in
+      let rest = sum_by-append cost after (c ∷ []) in
+      let last = sum_by-cons cost c [] in omega (arith, all, first, second, rest, last)
+
+  pub writes_cost : WritesCost busy
+  writes_cost time longest blocks before after ats mdts at mdt k m command some others nine ats_list mdts_list short_at short_mdt =
+      let parts = sum_parts (cost_of busy time longest blocks) before after (request.Write ats 7 at) (request.Write mdts 7 mdt) (request.Command command) in
+      let early = words_cost time longest blocks before some in
+      let late = words_cost time longest blocks after others in
+      let one = list_write_costs time longest blocks ats at k ats_list short_at in
+      let two = list_write_costs time longest blocks mdts mdt m mdts_list short_mdt in
+      let words : (busy + 1) * (4 * length before) + (busy + 1) * (4 * length after) ≡ (busy + 1) * (4 * 9) = sum_four (length before) (length after) ∙ ap (λ (n : ℕ). (busy + 1) * (4 * n)) nine in
+      let all = sums k m in omega (arith, parts, early, late, one, two, words, all)
+    where
+      sum_four : (x y : ℕ) → (busy + 1) * (4 * x) + (busy + 1) * (4 * y) ≡ (busy + 1) * (4 * (x + y))
+      sum_four x y = grind arith
+
+      sums : (k m : ℕ) → (busy + 1) * (4 * 9) + (busy + 1) * (5 + k) + (busy + 1) * (5 + m) + 4 * (busy + 1) ≡ (busy + 1) * (50 + (k + m))
+      sums k m = grind arith
+
+  most : (time n : ℕ) → n ≤ 517 → (busy + 1) * n ≤ (busy + 2) * (520 + time)
+  most time n le =
+      let few = times_le (busy + 1) n 517 le in
+      let all : (busy + 2) * (520 + time) ≡ 520 * busy + busy * time + 1040 + 2 * time = grind arith in omega (arith, few, all)
+
+  pub request_costs : RequestCosts busy
+  request_costs time longest blocks (request.Read idn e) short ok = most time (read_steps (longest idn.raw) e (find_block idn.raw blocks)) (by (find_block idn.raw blocks))
+    where
+      value : (s : Shape) → value_steps (longest idn.raw) s ≤ 517
+      value shape.One = omega arith
+      value shape.Two = omega arith
+      value shape.List = let le = short idn.raw in omega (arith, le)
+
+      by : (o : Option Block) → read_steps (longest idn.raw) e o ≤ 517
+      by None = omega arith
+      by (Some b) = which (e == 3) (e == 7)
+        where
+          which : (three seven : Bool) → (if three then 3 else (if seven then value_steps (longest idn.raw) (shape_by b.attribute.length) else 517)) ≤ 517
+          which true seven = omega arith
+          which false true = value (shape_by b.attribute.length)
+          which false false = omega arith
+  request_costs time longest blocks (request.Write idn e bytes) short ok = most time (write_steps e bytes (find_block idn.raw blocks)) (by (find_block idn.raw blocks))
+    where
+      by : (o : Option Block) → write_steps e bytes o ≤ 517
+      by None = omega arith
+      by (Some b) = which (e == 7)
+        where
+          which : (seven : Bool) → (if seven then 3 + length (words_told (shape_by b.attribute.length) bytes) else 1 + length (words_told (shape_of e 0) bytes)) ≤ 517
+          which true = let few = few_told (shape_by b.attribute.length) bytes ok in omega (arith, few)
+          which false = let few = few_told (shape_of e 0) bytes ok in omega (arith, few)
+  request_costs time longest blocks (request.Command idn) short ok = let all : (busy + 2) * (520 + time) ≡ 520 * busy + busy * time + 1040 + 2 * time = grind arith in omega (arith, all)

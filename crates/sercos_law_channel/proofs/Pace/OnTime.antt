@@ -1,0 +1,166 @@
+-- If nothing is lost, each answer comes busy time and one cycle after its step.
+use Rattle.std.proofs.Common.{◌≡◌, ℕ, ◌+◌, ◌-◌, ◌<◌, ◌≤◌, Bool, true, false, not, ◌&&◌, List, [], ◌∷◌, refl, sym, ap, ap₂, ◌∙◌, subst, arith, if◌then◌else◌}
+use Rattle.std.specs.Prelude.{nat_le, Option, Some, None, IsSome, is_some}
+use Rattle.std.proofs.lemmas.Bool.{cond-true, cond-false, leb-true}
+use Rattle.std.proofs.lemmas.Bool.Decides.{nat_tests}
+use mathlib.Core.Bool.{beq}
+use Rattle.sercos_telegram.specs.declared.words.Status.{Status}
+use Rattle.sercos_step.specs.declared.step.Step.{Step}
+use Rattle.sercos_step.specs.declared.step.Answer.{Answer}
+use Rattle.sercos_step.specs.declared.request.Request.{Request}
+use Rattle.sercos_command.specs.Settings.{CommandsView, change_in}
+use Rattle.sercos_service_drive.specs.Log.{Taken, Entry, ahs}
+use Rattle.sercos_service_drive.specs.Replies.{log_of}
+use Rattle.sercos_service_drive.specs.Says.{Shown, shown, drive_says, shown_by}
+use Rattle.sercos_service_master.specs.Begun.{Begun, open_in, steps_in, answers_in, is_odd, answers_it, answer_in, with_answer, master_says, step_or_none}
+use Rattle.sercos_law_channel.specs.Handshake.InStep.{AreInStep, Idle, Sent, Kept, steps_of, replies_of}
+use Rattle.sercos_law_channel.specs.Handshake.Moves.{with_status, said_in, with_taken}
+use Rattle.sercos_law_channel.proofs.Handshake.HandshakeMoves.{said_bit, said_step, parity, parity_sent, ahs-log}
+use Rattle.sercos_law_channel.proofs.Handshake.OnePhase.{no_longer}
+use Rattle.sercos_law_channel.specs.Handshake.Epochs.{with_begun}
+use Rattle.sercos_law_channel.specs.Pace.Times.{time_for}
+
+-- At a place in cycle c, with `spent` cycles of the epoch before it: no step is open; or one that the drive hasn't accepted; or one
+-- that it has accepted and shows as busy.
+pub data Works (busy c spent : ℕ) (begun : List Begun) (log : List Entry) : Type 0 where
+  Free : open_in begun ≡ None → spent ≡ time_for busy (answers_in begun) → Works busy c spent begun log
+  New : (s : Step) → open_in begun ≡ Some s → steps_in begun ≡ s ∷ steps_of log → spent ≡ time_for busy (answers_in begun) → Works busy c spent begun log
+  Busy : (e : Entry) (past : List Entry) → log ≡ e ∷ past → open_in begun ≡ Some e.taken.step → steps_in begun ≡ steps_of log → e.taken.cycle ≤ c → c ≤ e.taken.cycle + busy → spent + e.taken.cycle ≡ time_for busy (answers_in begun) + c → Works busy c spent begun log
+
+-- if every accepted step has its answer, none is busy
+settled : (busy c spent : ℕ) (begun : List Begun) (log : List Entry) → AreInStep begun log → answers_in begun ≡ replies_of log → spent ≡ time_for busy (answers_in begun) → Works busy c spent begun log
+settled busy c spent begun log (Idle none s a) all is = Free none is
+settled busy c spent begun log (Sent step opened s a) all is = New step opened s is
+settled busy c spent begun log (Kept e past opened those s a) all is = absurd (no_longer e.answer (replies_of past) (ap replies_of (sym those) ∙ sym all ∙ a))
+
+pub answered-answers : (a : Answer) (begun : List Begun) (s : Step) → open_in begun ≡ Some s → answers_in (with_answer a begun) ≡ a ∷ answers_in begun
+answered-answers a [] s opened = absurd (cc)
+answered-answers a (b ∷ past) s opened = refl
+
+-- the master hears what the drive shows of an accepted step
+pub shown_busy : (busy c cycle : ℕ) → nat_le (c - cycle) busy ≡ true → c ≤ cycle + busy
+shown_busy busy c cycle is = let le = leb-true (c - cycle) busy is in omega arith
+
+shown_free : (busy c cycle : ℕ) → nat_le (c - cycle) busy ≡ false → cycle ≤ c → cycle + (busy + 1) ≤ c
+shown_free busy c cycle is before = grind (arith, nat_tests)
+
+module _ (busy c spent : ℕ) (begun : List Begun) (log : List Entry) (h : AreInStep begun log) where
+  -- a step that is open and accepted has no answer yet
+  pub one_waits : (e : Entry) (past : List Entry) → log ≡ e ∷ past → open_in begun ≡ Some e.taken.step → steps_in begun ≡ steps_of log → answers_in begun ≡ replies_of past
+  one_waits e past those opened all = by h
+    where
+      by : AreInStep begun log → answers_in begun ≡ replies_of past
+      by (Idle none s a) = absurd (cc)
+      by (Sent step at s a) = absurd (no_longer step (steps_of log) (sym s ∙ all))
+      by (Kept x rest at is s a) = let same : x ∷ rest ≡ e ∷ past = sym is ∙ those in let tail : rest ≡ past = cc in a ∙ ap replies_of tail
+
+  pub heard_works : (cycle : ℕ) (showing : CommandsView) (status : Status) (word : ℕ) (taken : List Taken) (e : Entry) (past : List Entry) → log ≡ log_of taken → AreInStep (with_status status word begun) log →
+      shown_by status word ≡ drive_says busy c showing taken → log ≡ e ∷ past → open_in begun ≡ Some e.taken.step → steps_in begun ≡ steps_of log → e.taken.cycle < c → c ≤ e.taken.cycle + (busy + 1) →
+      spent + e.taken.cycle ≡ time_for busy (answers_in begun) + c → Works busy c spent (with_status status word begun) log
+  heard_works cycle showing status word taken e past of after says those opened all earlier late sum =
+      by (nat_le (c - e.taken.cycle) busy) refl (says ∙ ap (shown busy c (ahs taken) (change_in showing c)) (sym of ∙ those))
+    where
+      quiet : answers_it begun status ≡ false → with_status status word begun ≡ begun
+      quiet off = cond-false (answers_it begun status) (with_answer (answer_in status word) begun) begun off
+
+      by : (v : Bool) → nat_le (c - e.taken.cycle) busy ≡ v →
+          shown_by status word ≡ (if v then record { ahs = ahs taken; busy = true; error = false; change = change_in showing c; word = 0 } else record { ahs = ahs taken; busy = false; error = e.answer.error; change = change_in showing c; word = e.answer.word }) →
+          Works busy c spent (with_status status word begun) log
+      by true is shows =
+          let on : status.busy ≡ true = ap (λ (s : Shown). s.busy) shows in
+          let off : answers_it begun status ≡ false = ap (λ (b : Bool). is_some (open_in begun) && (beq status.ahs (is_odd (steps_in begun)) && not b)) on ∙ none (is_some (open_in begun)) (beq status.ahs (is_odd (steps_in begun))) in
+          subst (λ (l : List Begun). Works busy c spent l log) (sym (quiet off)) (Busy e past those opened all (omega arith) (shown_busy busy c e.taken.cycle is) sum)
+        where
+          none : (a b : Bool) → (a && (b && false)) ≡ false
+          none true true = refl
+          none true false = refl
+          none false b = refl
+      by false is shows =
+          let same : answer_in status word ≡ e.answer = ap (λ (s : Shown). (let a : Answer = record { error = s.error; word = s.word } in a)) shows in
+          let bit : status.ahs ≡ is_odd log = ap (λ (s : Shown). s.ahs) shows ∙ ahs-log taken ∙ ap (λ (l : List Entry). is_odd l) (sym of) in
+          let free : status.busy ≡ false = ap (λ (s : Shown). s.busy) shows in
+          let takes : answers_it begun status ≡ true = rw (opened, bit, parity (steps_in begun) log all, free) (on (is_odd log)) in
+          let with_one : with_status status word begun ≡ with_answer e.answer begun = cond-true (answers_it begun status) _ _ takes ∙ ap (λ (a : Answer). with_answer a begun) same in
+          let answers : answers_in (with_status status word begun) ≡ e.answer ∷ answers_in begun = ap answers_in with_one ∙ answered-answers e.answer begun e.taken.step opened in
+          let whole : answers_in (with_status status word begun) ≡ replies_of log = answers ∙ ap (λ (l : List Answer). e.answer ∷ l) (one_waits e past those opened all) ∙ ap replies_of (sym those) in
+          let due = shown_free busy c e.taken.cycle is (omega arith) in
+          let time : spent ≡ time_for busy (answers_in begun) + (busy + 1) = omega arith in
+          settled busy c spent (with_status status word begun) log after whole (time ∙ ap (time_for busy) (sym answers))
+        where
+          on : (b : Bool) → (true && (beq b b && not false)) ≡ true
+          on true = refl
+          on false = refl
+
+-- at the end of the cycle
+pub data EndsSo (busy c spent : ℕ) (begun : List Begun) (after : List Entry) : Type 0 where
+  RestsSo : open_in begun ≡ None → spent ≡ time_for busy (answers_in begun) → EndsSo busy c spent begun after
+  WaitsSo : (e : Entry) (past : List Entry) → after ≡ e ∷ past → open_in begun ≡ Some e.taken.step → steps_in begun ≡ steps_of after → e.taken.cycle ≤ c → c ≤ e.taken.cycle + busy →
+      spent + e.taken.cycle ≡ time_for busy (answers_in begun) + c → EndsSo busy c spent begun after
+
+module _ (busy c spent : ℕ) (begun : List Begun) (log : List Entry) where
+  -- a record that was sent before is dropped
+  pub dropped : (t : Taken) (answer : Answer) → said_in t ≡ master_says begun → steps_in begun ≡ steps_of log → with_taken t answer log ≡ log
+  dropped t answer says all = cond-true (beq t.mhs (is_odd log)) log _ (ap (λ (b : Bool). beq b (is_odd log)) (said_bit t begun says ∙ parity (steps_in begun) log all) ∙ same (is_odd log))
+    where
+      same : (b : Bool) → beq b b ≡ true
+      same true = refl
+      same false = refl
+
+  pub joins : (t : Taken) (answer : Answer) (s : Step) → said_in t ≡ master_says begun → steps_in begun ≡ s ∷ steps_of log → with_taken t answer log ≡ (record { taken = t; answer = answer }) ∷ log
+  joins t answer s says more = cond-false (beq t.mhs (is_odd log)) log _ (ap (λ (b : Bool). beq b (is_odd log)) (said_bit t begun says ∙ parity_sent (steps_in begun) s log more) ∙ other (is_odd log))
+    where
+      other : (b : Bool) → beq (not b) b ≡ false
+      other true = refl
+      other false = refl
+
+  pub taken_works : (t : Taken) (answer : Answer) → said_in t ≡ master_says begun → t.cycle ≡ c → Works busy c spent begun log → EndsSo busy c spent begun (with_taken t answer log)
+  taken_works t answer says at (Free none is) = RestsSo none is
+  taken_works t answer says at (New s opened more is) =
+      let grown = joins t answer s says more in
+      let step : t.step ≡ s = said_step t begun says ∙ ap step_or_none opened in
+      WaitsSo (record { taken = t; answer = answer }) log grown (opened ∙ ap (λ (x : Step). Some x) (sym step)) (more ∙ ap (λ (x : Step). x ∷ steps_of log) (sym step) ∙ ap steps_of (sym grown)) (omega arith) (omega arith) (ap₂ (λ (n k : ℕ). n + k) is at)
+  taken_works t answer says at (Busy e past those opened all earlier late sum) =
+      let same = dropped t answer says all in
+      WaitsSo e past (same ∙ those) opened (all ∙ ap steps_of (sym same)) earlier late sum
+
+  pub silent_works : open_in begun ≡ None → Works busy c spent begun log → EndsSo busy c spent begun log
+  silent_works none (Free x is) = RestsSo none is
+  silent_works none (New s opened more is) = absurd (cc)
+  silent_works none (Busy e past those opened all earlier late sum) = absurd (cc)
+
+pub begun_works : (busy c spent : ℕ) (o : Option Request) (begun : List Begun) (log : List Entry) → (IsSome o → open_in begun ≡ None) → AreInStep begun log → AreInStep (with_begun o begun) log → Works busy c spent begun log → Works busy c spent (with_begun o begun) log
+begun_works busy c spent None begun log shut h after w = w
+begun_works busy c spent (Some r) begun log shut h after w = settled busy c spent ((record { request = r; answers = [] }) ∷ begun) log after (idle_answers h (shut refl)) (rests w)
+  where
+    idle_answers : AreInStep begun log → open_in begun ≡ None → answers_in begun ≡ replies_of log
+    idle_answers (Idle none s a) off = a
+    idle_answers (Sent step opened s a) off = absurd (cc)
+    idle_answers (Kept e past opened is s a) off = absurd (cc)
+
+    rests : Works busy c spent begun log → spent ≡ time_for busy (answers_in begun)
+    rests (Free none is) = is
+    rests (New s opened more is) = is
+    rests (Busy e past those opened all earlier late sum) = let off = shut refl in absurd (cc)
+
+-- a status that is an answer shows that the drive is no longer busy
+pub late_answer : (busy c : ℕ) (showing : CommandsView) (status : Status) (word : ℕ) (begun : List Begun) (taken : List Taken) (e : Entry) (past : List Entry) → shown_by status word ≡ drive_says busy c showing taken → log_of taken ≡ e ∷ past →
+    answers_it begun status ≡ true → e.taken.cycle < c → e.taken.cycle + (busy + 1) ≤ c
+late_answer busy c showing status word begun taken e past says those takes earlier = by (nat_le (c - e.taken.cycle) busy) refl (says ∙ ap (shown busy c (ahs taken) (change_in showing c)) those)
+  where
+    by : (v : Bool) → nat_le (c - e.taken.cycle) busy ≡ v →
+        shown_by status word ≡ (if v then record { ahs = ahs taken; busy = true; error = false; change = change_in showing c; word = 0 } else record { ahs = ahs taken; busy = false; error = e.answer.error; change = change_in showing c; word = e.answer.word }) →
+        e.taken.cycle + (busy + 1) ≤ c
+    by false is shows = shown_free busy c e.taken.cycle is (omega arith)
+    by true is shows =
+        let on : status.busy ≡ true = ap (λ (s : Shown). s.busy) shows in
+        let off : answers_it begun status ≡ false = ap (λ (b : Bool). is_some (open_in begun) && (beq status.ahs (is_odd (steps_in begun)) && not b)) on ∙ none (is_some (open_in begun)) (beq status.ahs (is_odd (steps_in begun))) in
+        absurd (both (answers_it begun status) takes off)
+      where
+        none : (a b : Bool) → (a && (b && false)) ≡ false
+        none true true = refl
+        none true false = refl
+        none false b = refl
+
+        both : (v : Bool) → v ≡ true → v ≡ false → ⊥
+        both true on off = cc
+        both false on off = cc

@@ -1,0 +1,162 @@
+-- A procedure command that runs was set by the newest write to it.
+use Rattle.std.proofs.Common.{◌≡◌, ◌⊎◌, inl, inr, ℕ, suc, ◌+◌, ◌<◌, ◌≤◌, Bool, true, false, not, List, [], ◌∷◌, ◌++◌, length, refl, sym, ap, ◌∙◌, arith, if◌then◌else◌}
+use Rattle.std.specs.Prelude.{nat_le, ◌==◌, Option, Some, None, is_some, option_map, option_and_then}
+use Rattle.std.proofs.lemmas.Bool.{eqb-true, cond-true, cond-false}
+use Rattle.std.proofs.lemmas.Bool.Decides.{nat_tests}
+use mathlib.Core.Bool.{beq}
+use Rattle.sercos_block.specs.declared.block.Block.{Block}
+use Rattle.sercos_block.specs.Stores.{find_block, with_data}
+use Rattle.sercos_command.specs.declared.commands.SetCommand.{SetCommand}
+use Rattle.sercos_command.specs.Settings.{CommandsView, find_set, without, with_set, is_command, ends_well, has_ended, status_by, with_write}
+use Rattle.sercos_service_drive.specs.Log.{Taken, ahs, open_idn, run_before, in_order}
+use Rattle.sercos_service_drive.specs.Replies.{reply_of, log_of, bytes_written}
+use Rattle.sercos_service_drive.specs.Writes.{Write, takes_effect, written_by, with_added, adds, setting_in, commands_with, added_on}
+use Rattle.sercos_law_channel.specs.Handshake.Views.{View, standing, stood_in, record_in, processed_in, kept_in}
+use Rattle.sercos_law_channel.specs.Handshake.WholeRun.{write_of, all_writes}
+use Rattle.sercos_law_channel.specs.Pace.Costs.{newest_at, IsTimed, set_after, IsCarried, AreCarried, ComesTimed}
+use Rattle.sercos_law_channel.proofs.Handshake.PhaseMoves.{Processes, Nothing, Record, processes}
+
+-- each set command was set at the newest write to it or earlier, and that write came before a cycle
+abbrev AreSetBy : List SetCommand → List Write → ℕ → Type 0
+AreSetBy set writes c = (raw : ℕ) (s : SetCommand) → find_set raw set ≡ Some s → (at : ℕ) × (newest_at raw writes ≡ Some at) × (s.cycle ≤ at) × (at < c)
+
+later_set : (set : List SetCommand) (writes : List Write) (c k : ℕ) → c ≤ k → AreSetBy set writes c → AreSetBy set writes k
+later_set set writes c k le are raw s found = let is = are raw s found in (is.0, is.1, is.2, (let less = is.3 in omega (arith, less)))
+
+-- one more write that sets nothing
+with_write_more : (set : List SetCommand) (writes : List Write) (c : ℕ) (w : Write) → w.cycle ≡ c → AreSetBy set writes c → AreSetBy set (w ∷ writes) (suc c)
+with_write_more set writes c w at are raw s found = let is = are raw s found in by (w.raw == raw) is
+  where
+    by : (same : Bool) → (old : ℕ) × (newest_at raw writes ≡ Some old) × (s.cycle ≤ old) × (old < c) → (new : ℕ) × ((if same then Some w.cycle else newest_at raw writes) ≡ Some new) × (s.cycle ≤ new) × (new < suc c)
+    by true is = (w.cycle, refl, (let a = is.2 in let b = is.3 in omega (arith, a, b, at)), omega (arith, at))
+    by false is = (is.0, is.1, is.2, (let less = is.3 in omega (arith, less)))
+
+-- a command that is found after a cancel was there before
+found_without : (raw other : ℕ) (set : List SetCommand) (s : SetCommand) → find_set raw (without other set) ≡ Some s → find_set raw set ≡ Some s
+found_without raw other [] s found = found
+found_without raw other (x ∷ set) s found = by (x.idn.raw == other) (x.idn.raw == raw) refl refl found (found_without raw other set s)
+  where
+    none_left : (set : List SetCommand) → find_set other (without other set) ≡ None
+    none_left [] = refl
+    none_left (y ∷ set) = which (y.idn.raw == other) refl (none_left set)
+      where
+        which : (gone : Bool) → (y.idn.raw == other) ≡ gone → find_set other (without other set) ≡ None → find_set other (if not gone then y ∷ without other set else without other set) ≡ None
+        which true is none = none
+        which false is none = cond-false (y.idn.raw == other) (Some y) (find_set other (without other set)) is ∙ none
+
+    by : (gone same : Bool) → (x.idn.raw == other) ≡ gone → (x.idn.raw == raw) ≡ same → find_set raw (if not gone then x ∷ without other set else without other set) ≡ Some s → (find_set raw (without other set) ≡ Some s → find_set raw set ≡ Some s) →
+        (if same then Some x else find_set raw set) ≡ Some s
+    by true true is e found more =
+        let one = eqb-true x.idn.raw other is in
+        let two = eqb-true x.idn.raw raw e in
+        let none : find_set raw (without other set) ≡ None = ap (λ (n : ℕ). find_set n (without other set)) (sym two ∙ one) ∙ none_left set in absurd (cc)
+    by true false is e found more = more found
+    by false true is e found more = sym (cond-true (x.idn.raw == raw) (Some x) (find_set raw (without other set)) e) ∙ found
+    by false false is e found more = more (sym (cond-false (x.idn.raw == raw) (Some x) (find_set raw (without other set)) e) ∙ found)
+
+-- .. and one that is found after a setting was there, or is the new one
+found_added : (raw : ℕ) (set : List SetCommand) (n s : SetCommand) → find_set raw (set ++ n ∷ []) ≡ Some s → (find_set raw set ≡ Some s) ⊎ (((n.idn.raw == raw) ≡ true) × (n ≡ s))
+found_added raw [] n s found = by (n.idn.raw == raw) refl found
+  where
+    by : (same : Bool) → (n.idn.raw == raw) ≡ same → (if same then Some n else None) ≡ Some s → (find_set raw [] ≡ Some s) ⊎ (((n.idn.raw == raw) ≡ true) × (n ≡ s))
+    by true is found = inr (is, cc)
+    by false is found = absurd (cc)
+found_added raw (x ∷ set) n s found = by (x.idn.raw == raw) found (found_added raw set n s)
+  where
+    by : (same : Bool) → (if same then Some x else find_set raw (set ++ n ∷ [])) ≡ Some s → (find_set raw (set ++ n ∷ []) ≡ Some s → (find_set raw set ≡ Some s) ⊎ (((n.idn.raw == raw) ≡ true) × (n ≡ s))) →
+        ((if same then Some x else find_set raw set) ≡ Some s) ⊎ (((n.idn.raw == raw) ≡ true) × (n ≡ s))
+    by true found more = inl found
+    by false found more = more found
+
+set_by_command : (c : CommandsView) (writes : List Write) (cycle value : ℕ) (blocks : List Block) (w : Write) → w.cycle ≡ cycle → AreSetBy c.set writes cycle →
+    AreSetBy (if value == 0 then without w.raw c.set else with_set (record { idn = record { raw = w.raw }; cycle = w.cycle; well = ends_well c.rate w.raw blocks }) c.set) (w ∷ writes) (suc cycle)
+set_by_command c writes cycle value blocks w at are = by (value == 0)
+  where
+    n : SetCommand
+    n = record { idn = record { raw = w.raw }; cycle = w.cycle; well = ends_well c.rate w.raw blocks }
+
+    old : AreSetBy c.set (w ∷ writes) (suc cycle)
+    old = with_write_more c.set writes cycle w at are
+
+    added : (there : Bool) → AreSetBy (if there then c.set else c.set ++ n ∷ []) (w ∷ writes) (suc cycle)
+    added true raw s found = old raw s found
+    added false raw s found = elim (found_added raw c.set n s found) [
+      | inl was ↦ old raw s was
+      | inr (same, is) ↦
+          let cycles = ap (λ (x : SetCommand). x.cycle) is in
+          (w.cycle, cond-true (w.raw == raw) (Some w.cycle) (newest_at raw writes) same, omega (arith, cycles), omega (arith, at))
+    ]
+
+    by : (zero : Bool) → AreSetBy (if zero then without w.raw c.set else with_set n c.set) (w ∷ writes) (suc cycle)
+    by true = λ raw s found. old raw s (found_without raw w.raw c.set s found)
+    by false = added (is_some (find_set w.raw c.set))
+
+set_by_write : (c : CommandsView) (writes : List Write) (cycle : ℕ) (blocks : List Block) (w : Write) → w.cycle ≡ cycle → AreSetBy c.set writes cycle → AreSetBy (commands_with (Some w) blocks c).set (w ∷ writes) (suc cycle)
+unfolding with_write
+set_by_write c writes cycle blocks w at are = by (is_command blocks w.raw)
+  where
+    by : (command : Bool) → AreSetBy (let k : CommandsView = if command then with_write w.raw (setting_in w) w.cycle (with_data w.raw w.bytes blocks) c else record c { passed_127 = None; passed_128 = None } in k.set) (w ∷ writes) (suc cycle)
+    by true = set_by_command c writes cycle (setting_in w) (with_data w.raw w.bytes blocks) w at are
+    by false = with_write_more c.set writes cycle w at are
+
+set_by_any : (o : Option Write) (c : CommandsView) (writes : List Write) (cycle : ℕ) (blocks : List Block) → ((w : Write) → o ≡ Some w → w.cycle ≡ cycle) → AreSetBy c.set writes cycle → AreSetBy (commands_with o blocks c).set (with_added o writes) (suc cycle)
+set_by_any None c writes cycle blocks at are = later_set c.set writes cycle (suc cycle) (omega arith) are
+set_by_any (Some w) c writes cycle blocks at are = set_by_write c writes cycle blocks w (at w refl) are
+
+-- a write is of the cycle of its record
+cycle_of : (t : Taken) (h : List Taken) (w : Write) → added_on t h ≡ Some w → w.cycle ≡ t.cycle
+cycle_of t h w is = by (beq t.mhs (ahs h)) is
+  where
+    of_block : (run : List Taken) (raw : ℕ) (o : Option Block) → option_map (λ (b : Block). (let x : Write = record { cycle = t.cycle; raw = raw; bytes = bytes_written b (in_order run (t.step.word ∷ [])) } in x)) o ≡ Some w → w.cycle ≡ t.cycle
+    of_block run raw None is = absurd (cc)
+    of_block run raw (Some b) is = let x : Write = record { cycle = t.cycle; raw = raw; bytes = bytes_written b (in_order run (t.step.word ∷ [])) } in let same : x ≡ w = cc in ap (λ (y : Write). y.cycle) (sym same)
+
+    of_idn : (run : List Taken) (o : Option ℕ) → option_and_then (written_by t run) o ≡ Some w → w.cycle ≡ t.cycle
+    of_idn run None is = absurd (cc)
+    of_idn run (Some raw) is = of_block run raw (find_block raw t.blocks) is
+
+    effect : (b : Bool) (run : List Taken) (o : Option ℕ) → (if b then option_and_then (written_by t run) o else None) ≡ Some w → w.cycle ≡ t.cycle
+    effect true run o is = of_idn run o is
+    effect false run o is = absurd (cc)
+
+    by : (b : Bool) → (if b then None else adds t (log_of h)) ≡ Some w → w.cycle ≡ t.cycle
+    by true is = absurd (cc)
+    by false is = effect (takes_effect (record { taken = t; answer = reply_of t (log_of h) })) (run_before true 7 (log_of h)) (open_idn (log_of h)) is
+
+written_now : (v : View) (past : List View) (w : Write) → write_of (processed_in v past) (kept_in v past) ≡ Some w → w.cycle ≡ length past
+written_now v past w is = by (processes v past)
+  where
+    by : Processes v past → w.cycle ≡ length past
+    by (Nothing none) = let off : write_of (processed_in v past) (kept_in v past) ≡ None = ap (λ (o : Option Taken). write_of o (kept_in v past)) none in absurd (cc)
+    by (Record s got came two some) =
+        let t : Taken = record_in v (length past) (stood_in v (standing past)) s in
+        cycle_of t (kept_in v past) w (sym (ap (λ (o : Option Taken). write_of o (kept_in v past)) some) ∙ is)
+
+carried_set : (time : ℕ) (v : View) (past : List View) → IsCarried time v past → AreSetBy (set_after past) (all_writes past) (length past) → AreSetBy v.commands.set (all_writes past) (length past)
+carried_set time v past is are raw s found = are raw s (is.carried raw s found)
+
+set_in : (time : ℕ) (past : List View) → AreCarried time past → AreSetBy (set_after past) (all_writes past) (length past)
+set_in time [] are = λ raw s found. absurd (cc)
+set_in time (v ∷ past) are =
+    set_by_any (write_of (processed_in v past) (kept_in v past)) v.commands (all_writes past) (length past) v.blocks (written_now v past) (carried_set time v past are.1 (set_in time past are.0))
+
+running : (time cycle : ℕ) (o : Option SetCommand) → status_by time o cycle ≡ 7 → (s : SetCommand) × (o ≡ Some s) × (cycle < s.cycle + time)
+running time cycle None seven = absurd (cc)
+running time cycle (Some s) seven = by (has_ended time cycle s) s.well refl seven
+  where
+    by : (ended well : Bool) → nat_le (s.cycle + time) cycle ≡ ended → (let n : ℕ = if ended then (if well then 3 else 15) else 7 in n) ≡ 7 → (x : SetCommand) × (Some s ≡ Some x) × (cycle < x.cycle + time)
+    by true true is seven = absurd (cc)
+    by true false is seven = absurd (cc)
+    by false well is seven = (s, refl, grind (arith, nat_tests))
+
+is_timed : (time : ℕ) (v : View) (past : List View) → IsCarried time v past → AreSetBy (set_after past) (all_writes past) (length past) → IsTimed time v past
+is_timed time v past is are raw seven =
+    let runs = running v.commands.time (length past) (find_set raw v.commands.set) seven in
+    let by_write = carried_set time v past is are raw runs.0 runs.1 in
+    let late = runs.2 in
+    let earlier = by_write.2 in
+    let takes = is.takes in (by_write.0, by_write.1, omega (arith, late, earlier, takes))
+
+pub comes_timed : ComesTimed
+comes_timed time [] are = tt
+comes_timed time (v ∷ past) are = (comes_timed time past are.0, is_timed time v past are.1 (set_in time past are.0))

@@ -1,0 +1,254 @@
+-- Cycles in which every telegram comes.
+use Rattle.std.proofs.Common.{◌≡◌, ◌⊎◌, inl, inr, ℕ, ◌+◌, ◌≤◌, Bool, true, false, not, ◌&&◌, ◌||◌, List, [], ◌∷◌, ◌++◌, length, refl, sym, ap, ap₂, ◌∙◌, arith, if◌then◌else◌}
+use Rattle.std.specs.Prelude.{nat_le, ◌==◌, Option, Some, None, IsSome, IfSome, is_some}
+use Rattle.std.proofs.lemmas.Bool.{cases_eq, and_from, leb-true, le-leb, eq-eqb, ne_eqb, cond-true, cond-false}
+use Rattle.sercos_step.specs.declared.request.Request.{Request}
+use Rattle.sercos_service_master.specs.Begun.{Begun, Said, open_in, answers_in}
+use Rattle.sercos_law_channel.specs.Handshake.Views.{Heard, View, Standing, afresh, before_mst, moved, got_in, takes_in, standing, stood_in, record_in, processed_of}
+use Rattle.sercos_law_channel.specs.Handshake.Epochs.{command, with_heard, with_begun, unless_restart, epoch_begun, begun_in}
+use Rattle.sercos_law_channel.specs.Handshake.Runs.{IsShown, IsRun}
+use Rattle.sercos_law_channel.specs.Pace.Stretches.{IsClean, AreClean}
+use Rattle.sercos_law_channel.specs.Pace.Passages.{was_addressed, IsWhole, AreWhole, IsPassed, IsUp, AreUp, StandsThroughout, StaysClean, AreHeard, HearsThroughout, IsCleanOrDown, RecoversInTime, StaysDead}
+use Rattle.sercos_law_channel.proofs.Handshake.PhaseMoves.{Stands, Down, Moves, Stays, stands, ends}
+use Rattle.sercos_law_channel.proofs.Handshake.EpochRuns.{commanded, start, start_begun}
+use Rattle.sercos_law_channel.proofs.Handshake.RunFacts.{stands_as_commanded, stays_down, comes_to, moved_same}
+use Rattle.sercos_law_channel.proofs.Pace.LateRuns.{takes_time_since}
+use Rattle.sercos_law_channel.proofs.Pace.EpochBegins.{none_begun}
+
+two_ways : (p : ℕ) → (p ≤ 1) ⊎ (2 ≤ p)
+two_ways p = elim (cases_eq p 0) [ inl z ↦ inl (omega arith) | inr nz ↦ elim (cases_eq p 1) [ inl one ↦ inl (omega arith) | inr more ↦ inr (omega arith) ] ]
+
+some_of : {A : Type 0} (o : Option A) → is_some o ≡ true → (x : A) × (o ≡ Some x)
+some_of None some = absurd (cc)
+some_of (Some x) some = (x, refl)
+
+-- a record that is sent comes to the drive
+pub got_some : (v : View) → v.mdt_comes ≡ true → is_some v.sent ≡ true → is_some (got_in v) ≡ true
+got_some v comes sent = ap is_some (cond-true v.mdt_comes v.sent None comes) ∙ sent
+
+processed_some : (v : View) (cycle stood : ℕ) (o : Option Said) → v.mst_comes ≡ true → 2 ≤ stood → is_some o ≡ true → is_some (processed_of v cycle stood o) ≡ true
+processed_some v cycle stood None came two some = absurd (cc)
+processed_some v cycle stood (Some s) came two some = ap is_some (cond-true (v.mst_comes && nat_le 2 stood) (Some (record_in v cycle stood s)) None (and_from v.mst_comes (nat_le 2 stood) came (le-leb 2 stood two)))
+
+-- the step up to the next phase
+pub moved_next : (checked : Bool) (p q : ℕ) → q + 1 ≡ p → (3 ≤ p → checked ≡ true) → moved checked p q ≡ p
+moved_next checked p q up on =
+    let other : (p == q) ≡ false = ne_eqb p q (λ same. omega arith) in
+    let next : (p == q + 1) ≡ true = eq-eqb p (q + 1) (sym up) in
+    cond-false (p == q) p _ other ∙ cond-true ((p == q + 1) && (nat_le p 2 || checked)) p 0 (and_from (p == q + 1) (nat_le p 2 || checked) next (allowed (nat_le p 2) refl))
+  where
+    allowed : (low : Bool) → nat_le p 2 ≡ low → (low || checked) ≡ true
+    allowed true is = refl
+    allowed false is = on (grind (arith, is))
+
+pub same_drive : (v : View) (past : List View) → v.drive_restarts ≡ false → (before_mst v (standing past)).ended ≡ (standing past).ended
+same_drive v past still = ap (λ (f : Standing). f.ended) (cond-false v.drive_restarts afresh (standing past) still)
+
+-- a drive in the commanded phase, or in the one below with its check passed, comes to it in a whole cycle and stays
+pub up_by : (v : View) (past : List View) → IsWhole v past → IsPassed v past → ((standing past).ended ≡ v.phase) ⊎ ((standing past).ended + 1 ≡ v.phase) → IsUp v past
+up_by v past whole passed was = (stood, ended)
+  where
+    stood : stood_in v (standing past) ≡ v.phase
+    stood = comes_to v (standing past) (standing past).ended whole.mst (same_drive v past whole.drive) ∙ elim was [
+      | inl e ↦ ap (moved v.checked v.phase) e ∙ moved_same v.checked v.phase
+      | inr up ↦ moved_next v.checked v.phase (standing past).ended up (λ late. passed late up)
+    ]
+
+    ended : (standing (v ∷ past)).ended ≡ v.phase
+    ended = by (nat_le 3 (stood_in v (standing past))) refl
+      where
+        took : 3 ≤ stood_in v (standing past) → takes_in v (stood_in v (standing past)) ≡ true
+        took three =
+            let sent = whole.joint (omega (arith, stood, three)) in
+            let got = got_some v (whole.mdt sent (omega (arith, three))) sent in
+            and_from v.mst_comes _ whole.mst (and_from (nat_le 1 (stood_in v (standing past))) (is_some (got_in v)) (le-leb 1 (stood_in v (standing past)) (omega (arith, three))) got)
+
+        by : (late : Bool) → nat_le 3 (stood_in v (standing past)) ≡ late → (standing (v ∷ past)).ended ≡ v.phase
+        by true on =
+            let on_time = took (leb-true 3 (stood_in v (standing past)) on) in
+            ap₂ (λ (a t : Bool). if a && (not t && (before_mst v (standing past)).missed_mdt) then 0 else stood_in v (standing past)) on on_time ∙ stood
+        by false off = ap (λ (a : Bool). if a && (not (takes_in v (stood_in v (standing past))) && (before_mst v (standing past)).missed_mdt) then 0 else stood_in v (standing past)) off ∙ stood
+
+-- the phase that is commanded after a cycle without a fall
+pub next_phase : (u : View) (past : List View) → u.falls ≡ false → (command (u ∷ past) ≡ u.phase) ⊎ (command (u ∷ past) ≡ u.phase + 1)
+next_phase u past on = by u.rises (cond-false u.falls 0 (if u.rises then u.phase + 1 else u.phase) on)
+  where
+    by : (rises : Bool) → command (u ∷ past) ≡ (if rises then u.phase + 1 else u.phase) → (command (u ∷ past) ≡ u.phase) ⊎ (command (u ∷ past) ≡ u.phase + 1)
+    by true is = inr is
+    by false is = inl is
+
+module _ (busy : ℕ) where
+  no_restart : {A : Type 0} (v : View) (xs : List A) → v.master_restarts ≡ false → unless_restart v xs ≡ xs
+  no_restart v xs on = cond-false v.master_restarts [] xs on
+
+  -- while a step is open, phase 2 or later is commanded
+  pub open_late : (v : View) (past : List View) → IsRun busy (v ∷ past) → is_some (open_in (begun_in v past)) ≡ true → 2 ≤ v.phase
+  open_late v past run some = elim (two_ways v.phase) [
+    | inl low ↦ let none : open_in (begun_in v past) ≡ None = ap open_in (start_begun busy v past run.1 low (start busy v past run low).0) in absurd (cc)
+    | inr two ↦ two
+  ]
+
+  open_later : (v : View) (past : List View) → IsRun busy (v ∷ past) → is_some (open_in (unless_restart v (epoch_begun past))) ≡ true → 2 ≤ v.phase
+  open_later v past run some = elim (two_ways v.phase) [
+    | inl low ↦ let none : open_in (unless_restart v (epoch_begun past)) ≡ None = ap open_in (start busy v past run low).0 in absurd (cc)
+    | inr two ↦ two
+  ]
+
+  -- a step that is open at the end of a whole cycle was sent in it, and came to the drive
+  addressed : (u : View) (past : List View) → IsRun busy (u ∷ past) → IsWhole u past → (2 ≤ u.phase → 1 ≤ stood_in u (standing past)) → is_some (open_in (epoch_begun (u ∷ past))) ≡ true → was_addressed (u ∷ past) ≡ true
+  addressed u past run whole up some =
+      let at : is_some (open_in (begun_in u past)) ≡ true = ap (λ (l : List Begun). is_some (open_in l)) (sym (cond-false u.falls [] (begun_in u past) whole.stays)) ∙ some in
+      let sent = whole.sends at in
+      and_from u.mst_comes (is_some (got_in u)) whole.mst (got_some u (whole.mdt sent (up (open_late u past run at))) sent)
+
+  -- a whole cycle in which the drive stands in the commanded phase is clean, if an open step came to it in the cycle before
+  clean_so : (v : View) (past : List View) → IsRun busy (v ∷ past) → IsWhole v past → (2 ≤ v.phase → is_some (open_in (epoch_begun past)) ≡ true → was_addressed past ≡ true) → (2 ≤ v.phase → stood_in v (standing past) ≡ v.phase) → IsClean v past
+  clean_so v past run whole addressed up = record {
+    stays = whole.stays;
+    goes_on = whole.master;
+    undisturbed = record {
+      hears = λ some.
+          let two = open_later v past run some in
+          let at : is_some (open_in (epoch_begun past)) ≡ true = ap (λ (l : List Begun). is_some (open_in l)) (sym (no_restart v (epoch_begun past) whole.master)) ∙ some in
+          let same = up two in
+          whole.hears at (addressed two at) (omega arith);
+      takes = λ some.
+          let two = open_late v past run some in
+          let same = up two in
+          let sent = whole.sends some in
+          let comes = whole.mdt sent (omega arith) in
+          processed_some v (length past) (stood_in v (standing past)) (got_in v) whole.mst (omega arith) (got_some v comes sent);
+    };
+  }
+
+  -- while 2 to 4 is commanded, a drive in phase 0 stands there
+  stands_down : (v : View) (past : List View) → (standing past).ended ≡ 0 → 2 ≤ v.phase → stood_in v (standing past) ≡ 0
+  stands_down v past zero two = by (stands v (standing past))
+    where
+      low : (before_mst v (standing past)).ended ≡ 0
+      low = which v.drive_restarts
+        where
+          which : (r : Bool) → (let f : Standing = if r then afresh else standing past in f.ended) ≡ 0
+          which true = refl
+          which false = zero
+
+      by : Stands v (standing past) → stood_in v (standing past) ≡ 0
+      by (Down z) = z
+      by (Moves m is down up) = absurd (omega (arith, low))
+      by (Stays missed got_mst still is) = is ∙ zero
+
+  -- so one that stands later was up in the cycle before
+  was_up : (v u : View) (past : List View) → 2 ≤ v.phase → stood_in v (standing (u ∷ past)) ≡ v.phase → 1 ≤ stood_in u (standing past)
+  was_up v u past two up = elim (cases_eq (standing (u ∷ past)).ended 0) [
+    | inl z ↦ let down = stands_down v (u ∷ past) z two in absurd (omega arith)
+    | inr nz ↦ elim (ends u past) [ inl z ↦ absurd (nz z) | inr same ↦ omega (arith, same, nz) ]
+  ]
+
+  -- From the start of an epoch on.
+
+  -- in phase 0 only the MST is needed
+  zero_up : (v : View) (past : List View) → IsWhole v past → v.phase ≡ 0 → IsUp v past
+  zero_up v past whole zero =
+      let stood : stood_in v (standing past) ≡ 0 = elim (stands_as_commanded v past whole.mst) [ inl z ↦ z | inr same ↦ same ∙ zero ] in
+      (stood ∙ sym zero, elim (ends v past) [ inl z ↦ z ∙ sym zero | inr same ↦ same ∙ stood ∙ sym zero ])
+
+  phase_is : (v : View) (past : List View) → IsRun busy (v ∷ past) → IsWhole v past → v.phase ≡ command past
+  phase_is v past run whole = elim (commanded v past run.1.commanded) [ inl r ↦ absurd (let on = r.0 in let off = whole.master in cc) | inr c ↦ c.1 ]
+
+  pub stands_throughout : StandsThroughout busy
+  stands_throughout [] past run begins whole passed = tt
+  stands_throughout (v ∷ []) past run begins whole passed = (tt, zero_up v past whole.1 (phase_is v past run whole.1 ∙ begins))
+  stands_throughout (v ∷ u ∷ cycles) past run begins whole passed =
+      let before = stands_throughout (u ∷ cycles) past run.0 begins whole.0 passed.0 in
+      let is = phase_is v (u ∷ (cycles ++ past)) run whole.1 in
+      (before, up_by v (u ∷ (cycles ++ past)) whole.1 passed.1 (elim (next_phase u (cycles ++ past) whole.0.1.stays) [ inl same ↦ inl (before.1.1 ∙ sym same ∙ sym is) | inr up ↦ inr (let at = before.1.1 in omega arith) ]))
+
+  pub stays_clean : StaysClean busy
+  stays_clean cycles past run begins whole passed = by cycles run whole (stands_throughout cycles past run begins whole passed)
+    where
+      by : (cycles : List View) → IsRun busy (cycles ++ past) → AreWhole cycles past → AreUp cycles past → AreClean cycles past
+      by [] run whole up = tt
+      by (v ∷ []) run whole up = (tt, clean_so v past run whole.1 (λ two some. let none : open_in (epoch_begun past) ≡ None = ap open_in (none_begun busy past run.0 begins) in absurd (cc)) (λ two. up.1.0))
+      by (v ∷ u ∷ cycles) run whole up = (by (u ∷ cycles) run.0 whole.0 up.0, clean_so v (u ∷ (cycles ++ past)) run whole.1 (λ two. addressed u (cycles ++ past) run.0 whole.0.1 (λ late. let same = up.0.1.0 in omega (arith, same, late))) (λ two. up.1.0))
+
+  -- so the master hears it
+  pub hears_throughout : HearsThroughout busy
+  hears_throughout cycles past run begins whole passed = by cycles whole (stands_throughout cycles past run begins whole passed)
+    where
+      by : (cycles : List View) → AreWhole cycles past → AreUp cycles past → AreHeard cycles past
+      by [] whole up = tt
+      by (v ∷ cycles) whole up = (by cycles whole.0 up.0, λ late. let stood = up.1.0 in whole.1.listens late (omega (arith, stood, late)))
+
+  -- After whatever was lost.
+
+  abbrev StandsUp : List View → List View → Type 0
+  StandsUp [] past = Unit {0}
+  StandsUp (v ∷ cycles) past = StandsUp cycles past × (2 ≤ v.phase → stood_in v (standing (cycles ++ past)) ≡ v.phase)
+
+  low_before : (v u : View) (past : List View) → IsRun busy (v ∷ u ∷ past) → IsWhole v (u ∷ past) → IsWhole u past → v.phase ≤ 1 → u.phase ≤ 1
+  low_before v u past run whole earlier low =
+      let is = phase_is v (u ∷ past) run whole in
+      elim (next_phase u past earlier.stays) [ inl same ↦ omega arith | inr up ↦ omega arith ]
+
+  low_up : (v : View) (cycles past : List View) → IsRun busy (v ∷ (cycles ++ past)) → AreWhole (v ∷ cycles) past → v.phase ≤ 1 → StandsUp (v ∷ cycles) past
+  low_up v [] past run whole low = (tt, λ two. absurd (omega arith))
+  low_up v (u ∷ cycles) past run whole low = (low_up u cycles past run.0 whole.0 (low_before v u (cycles ++ past) run whole.1 whole.0.1 low), λ two. absurd (omega arith))
+
+  stood_up : (v : View) (past : List View) → IsWhole v past → ((standing (v ∷ past)).ended ≡ 0 → ⊥) → stood_in v (standing past) ≡ v.phase
+  stood_up v past whole up = elim (stands_as_commanded v past whole.mst) [ inl z ↦ absurd (up (elim (ends v past) [ inl y ↦ y | inr same ↦ same ∙ z ])) | inr is ↦ is ]
+
+  up_or_down : (cycles past : List View) → IsRun busy (cycles ++ past) → AreWhole cycles past → ((standing (cycles ++ past)).ended ≡ 0) ⊎ StandsUp cycles past
+  up_or_down [] past run whole = inr tt
+  up_or_down (v ∷ cycles) past run whole = elim (two_ways v.phase) [
+    | inl low ↦ inr (low_up v cycles past run whole low)
+    | inr two ↦ elim (cases_eq (standing (v ∷ (cycles ++ past))).ended 0) [
+      | inl z ↦ inl z
+      | inr nz ↦ elim (up_or_down cycles past run.0 whole.0) [
+        | inl down ↦ absurd (nz (stays_down v (cycles ++ past) down two))
+        | inr up ↦ inr (up, λ late. stood_up v (cycles ++ past) whole.1 nz)
+      ]
+    ]
+  ]
+
+  pub is_clean_or_down : IsCleanOrDown busy
+  is_clean_or_down cycles first past run one whole = elim (up_or_down cycles (first ∷ past) run whole) [ inl down ↦ inl down | inr up ↦ inr (by cycles run whole up) ]
+    where
+      by : (cycles : List View) → IsRun busy (cycles ++ first ∷ past) → AreWhole cycles (first ∷ past) → StandsUp cycles (first ∷ past) → AreClean cycles (first ∷ past)
+      by [] run whole up = tt
+      by (v ∷ []) run whole up = (tt, clean_so v (first ∷ past) run whole.1 (λ two. addressed first past run.0 one (λ late. was_up v first past two (up.1 two))) up.1)
+      by (v ∷ u ∷ cycles) run whole up = (by (u ∷ cycles) run.0 whole.0 up.0, clean_so v (u ∷ (cycles ++ first ∷ past)) run whole.1 (λ two. addressed u (cycles ++ first ∷ past) run.0 whole.0.1 (λ late. was_up v u (cycles ++ first ∷ past) two (up.1 two))) up.1)
+
+  pub recovers_in_time : RecoversInTime busy
+  recovers_in_time cycles first past run one whole = elim (is_clean_or_down cycles first past run one whole) [ inl down ↦ inl down | inr clean ↦ inr (takes_time_since busy cycles (first ∷ past) run clean) ]
+
+  -- A drive in phase 0.
+
+  pub stays_dead : StaysDead busy
+  stays_dead v past run zero two = record {
+    stands = stood;
+    ended = stays_down v past zero two;
+    heard = none;
+    answers = with_none v.begins;
+    waits = λ some. still v.begins some run.1.begins;
+  }
+    where
+      stood : stood_in v (standing past) ≡ 0
+      stood = stands_down v past zero two
+
+      none : v.heard ≡ None
+      none = by v.heard run.1.heard
+        where
+          by : (o : Option Heard) → IfSome o (λ a. IsShown busy a v past) → o ≡ None
+          by None shown = refl
+          by (Some a) shown = let up = shown.stands in absurd (omega (arith, stood))
+
+      unheard : with_heard v.heard (unless_restart v (epoch_begun past)) ≡ unless_restart v (epoch_begun past)
+      unheard = ap (λ (o : Option Heard). with_heard o (unless_restart v (epoch_begun past))) none
+
+      with_none : (o : Option Request) → answers_in (with_begun o (with_heard v.heard (unless_restart v (epoch_begun past)))) ≡ answers_in (unless_restart v (epoch_begun past))
+      with_none None = ap answers_in unheard
+      with_none (Some r) = ap answers_in unheard
+
+      still : (o : Option Request) → is_some (open_in (unless_restart v (epoch_begun past))) ≡ true → (IsSome o → open_in (with_heard v.heard (unless_restart v (epoch_begun past))) ≡ None) → with_begun o (with_heard v.heard (unless_restart v (epoch_begun past))) ≡ unless_restart v (epoch_begun past)
+      still None some shut = unheard
+      still (Some r) some shut = let off : open_in (unless_restart v (epoch_begun past)) ≡ None = ap open_in (sym unheard) ∙ shut refl in absurd (cc)

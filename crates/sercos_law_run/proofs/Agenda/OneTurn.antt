@@ -1,0 +1,278 @@
+-- In phase 2 at most one channel has an open transfer.
+use Rattle.std.proofs.Common.{◌≡◌, inl, inr, ℕ, zero, suc, ◌+◌, ◌<◌, ◌≤◌, Bool, true, false, not, ◌&&◌, List, [], ◌∷◌, length, refl, sym, ap, ap₂, ◌∙◌, subst, arith, if◌then◌else◌}
+use Rattle.std.specs.Prelude.{◌==◌, nat_le, Option, Some, None, is_some, is_none, slice_index}
+use Rattle.std.specs.Option.{option_or}
+use Rattle.std.proofs.lemmas.Bool.{and_parts, or_cases, eqb-true, eq-eqb, leb-true, cases_eq}
+use mathlib.Core.Bool.{beq}
+use Rattle.sercos_telegram.specs.declared.words.Status.{Status}
+use Rattle.sercos_telegram.specs.Words.{status_of}
+use Rattle.sercos_telegram.specs.Spells.{word_at}
+use Rattle.sercos_step.specs.declared.step.Step.{Step}
+use Rattle.sercos_step.specs.declared.step.Answer.{Answer}
+use Rattle.sercos_step.specs.declared.request.Outcome.{Outcome}
+use Rattle.sercos_step.specs.Steps.{outcome_of, next_step}
+use Rattle.sercos_timing.specs.Views.{PlanView}
+use Rattle.sercos_service_master.specs.Calls as channel
+use Rattle.sercos_service_master.specs.Begun.{Begun, open_in, mhs_in, answers_it, answer_in, with_answer, outcome_with}
+use Rattle.sercos_service_master.specs.Calls.{Send, begun_by}
+use Rattle.sercos_law_channel.specs.Handshake.Moves.{with_status}
+use Rattle.sercos_seat.proofs.Channels.{going_on}
+use Rattle.sercos_seat.specs.Ring.{Known, Task, member}
+use Rattle.sercos_seat.specs.Agenda.{is_read, is_checked}
+use Rattle.sercos_seat.specs.Channel.{with_outcome, outcomes_in, is_place, of_phase}
+use Rattle.sercos_seat.specs.Seats.{AreWaiting}
+use Rattle.sercos_master.proofs.Laws.{all_waiting}
+use Rattle.sercos_master.proofs.Configured.{mdt_adds, leaves}
+use Rattle.sercos_master.specs.Annals.{Call, HearMst, HearAt, Mdt, End, Restart, Past, first_from, outcomes, is_idle, is_taken, calls_with, after_taken, after_at_of, after_at, place_of, in_turn, has_turn, next_task, begins, with_begin, settled, begun, is_sent_to, addressed_in, ready_to_send, after_mdt, fall_of, is_done, goes_on, new_epoch, still_waiting, past}
+use Rattle.sercos_master.proofs.Followed.{HasNext}
+use Rattle.sercos_law_run.specs.Agenda.Channels.{outcome_in}
+use Rattle.sercos_law_run.specs.Agenda.Tasks.{IsTask, OfReads, OfWrites, Checks3, Lists3, Checks4, Lists4, OfWaiting, AreBegunTasks}
+use Rattle.sercos_law_run.specs.Agenda.Turns.{HasTurn}
+use Rattle.sercos_law_run.proofs.Agenda.TaskRuns.{begun_tasks}
+
+-- A STATUS IS HEARD. Where no step is open, it changes nothing.
+pub idle_hears : (status : Status) (word : ℕ) (begun : List Begun) → is_none (open_in begun) ≡ true → with_status status word begun ≡ begun
+idle_hears status word begun idle = by (open_in begun) idle refl
+  where
+    by : (o : Option Step) → is_none o ≡ true → open_in begun ≡ o → with_status status word begun ≡ begun
+    by None idle is = ap (λ (v : Bool). if v && (beq status.ahs (mhs_in begun) && not status.busy) then with_answer (answer_in status word) begun else begun) (ap is_some is)
+    by (Some x) idle is = absurd (cc)
+
+-- otherwise it adds the outcome, if it brings one, and then no step is open any more
+pub record HearsSo (status : Status) (word : ℕ) (begun : List Begun) : Type 0 where
+  pub adds : outcomes_in (with_status status word begun) ≡ with_outcome (outcome_in begun status word) (outcomes_in begun)
+  pub was_open : is_some (outcome_in begun status word) ≡ true → is_some (open_in begun) ≡ true
+  pub closes : is_some (outcome_in begun status word) ≡ true → is_none (open_in (with_status status word begun)) ≡ true
+
+answered_so : (a : Answer) (begun : List Begun) → is_some (open_in begun) ≡ true →
+    (outcomes_in (with_answer a begun) ≡ with_outcome (outcome_with a begun) (outcomes_in begun)) × (is_some (outcome_with a begun) ≡ true → is_none (open_in (with_answer a begun)) ≡ true)
+answered_so a [] on = absurd (cc)
+answered_so a (b ∷ older) on =
+    (ap (λ (l : List Outcome). with_outcome (outcome_of b.request (a ∷ b.answers)) l) (sym (ap (λ (o : Option Outcome). with_outcome o (outcomes_in older)) (going_on b older on))), closed (outcome_of b.request (a ∷ b.answers)))
+  where
+    closed : (o : Option Outcome) → is_some o ≡ true → is_none (if is_some o then None else next_step b.request (a ∷ b.answers)) ≡ true
+    closed None on = absurd (cc)
+    closed (Some o) on = refl
+
+pub hears_so : (status : Status) (word : ℕ) (begun : List Begun) → HearsSo status word begun
+hears_so status word begun = record {
+  adds = adds (answers_it begun status) refl;
+  was_open = λ some. open_so (answers_it begun status) refl some;
+  closes = closes (answers_it begun status) refl;
+}
+  where
+    on_open : answers_it begun status ≡ true → is_some (open_in begun) ≡ true
+    on_open on = (and_parts (is_some (open_in begun)) _ on).0
+
+    adds : (v : Bool) → answers_it begun status ≡ v → outcomes_in (if v then with_answer (answer_in status word) begun else begun) ≡ with_outcome (if v then outcome_with (answer_in status word) begun else None) (outcomes_in begun)
+    adds true on = (answered_so (answer_in status word) begun (on_open on)).0
+    adds false off = refl
+
+    open_so : (v : Bool) → answers_it begun status ≡ v → is_some (if v then outcome_with (answer_in status word) begun else None) ≡ true → is_some (open_in begun) ≡ true
+    open_so true on some = on_open on
+    open_so false off some = absurd (cc)
+
+    closes : (v : Bool) → answers_it begun status ≡ v → is_some (if v then outcome_with (answer_in status word) begun else None) ≡ true → is_none (open_in (if v then with_answer (answer_in status word) begun else begun)) ≡ true
+    closes true on some = (answered_so (answer_in status word) begun (on_open on)).1 some
+    closes false off some = absurd (cc)
+
+-- The first of the places is the same where the outcomes are.
+pub from_same : (n k : ℕ) (f g : ℕ → Bool) → ((j : ℕ) → f j ≡ g j) → first_from k n f ≡ first_from k n g
+from_same zero k f g same = refl
+from_same (suc n) k f g same = ap₂ (λ (v : Bool) (o : Option ℕ). if v then Some k else o) (same k) (from_same n (k + 1) f g same)
+
+pub turn_same : (s : Known) (p q : Past) → ((j : ℕ) → outcomes q j ≡ outcomes p j) → in_turn s q ≡ in_turn s p
+turn_same s p q same =
+    ap₂ (λ (a b : Option ℕ). option_or a b)
+    (from_same (length s.drives) 0 (λ k. not (is_read (member s k) (outcomes q k))) (λ k. not (is_read (member s k) (outcomes p k))) (λ j. ap (λ (l : List Outcome). not (is_read (member s j) l)) (same j)))
+    (from_same (length s.drives) 0 (λ k. not (is_checked (member s k) (outcomes q k))) (λ k. not (is_checked (member s k) (outcomes p k))) (λ j. ap (λ (l : List Outcome). not (is_checked (member s j) l)) (same j)))
+
+-- What an AT does to a channel: nothing, or its status is heard.
+pub data AtHears (p q : Past) (k : ℕ) : Type 0 where
+  SameAt : begun_by (q.calls k) ≡ begun_by (p.calls k) → AtHears p q k
+  HeardAt : (status : Status) → (word : ℕ) → begun_by (q.calls k) ≡ with_status status word (begun_by (p.calls k)) → AtHears p q k
+
+pub other_place : (k i : ℕ) → (k ≡ i → ⊥) → (k == i) ≡ false
+other_place k i other = which (k == i) refl
+  where
+    which : (v : Bool) → (k == i) ≡ v → (k == i) ≡ false
+    which false is = is
+    which true is = absurd (other (eqb-true k i is))
+
+pub elsewhere_same : (i k : ℕ) (content : List ℕ) (p : Past) → (k ≡ i → ⊥) → begun_by ((after_taken i content p).calls k) ≡ begun_by (p.calls k)
+elsewhere_same i k content p other = ap (λ (v : Bool). begun_by (if v then calls_with (p.now.phase == 1) i content p else p.calls k)) (other_place k i other)
+
+pub here_hears : (i : ℕ) (content : List ℕ) (p : Past) → AtHears p (after_taken i content p) i
+here_hears i content p = by (p.now.phase == 1) refl
+  where
+    place : begun_by ((after_taken i content p).calls i) ≡ begun_by (calls_with (p.now.phase == 1) i content p)
+    place = ap (λ (v : Bool). begun_by (if v then calls_with (p.now.phase == 1) i content p else p.calls i)) (eq-eqb i i refl)
+
+    by : (v : Bool) → (p.now.phase == 1) ≡ v → AtHears p (after_taken i content p) i
+    by true on = SameAt (place ∙ ap (λ (v : Bool). begun_by (calls_with v i content p)) on)
+    by false off = HeardAt (status_of (word_at content 1)) (word_at content 3) (place ∙ ap (λ (v : Bool). begun_by (calls_with v i content p)) off)
+
+module _ (s : Known) where
+  abbrev pub AllHaveTurn : Past → Type 0
+  AllHaveTurn p = (k : ℕ) → k < length s.drives → HasTurn s p k
+
+  -- an AT
+  taken_turn : (i : ℕ) (content : List ℕ) (p : Past) → i < length s.drives → AllHaveTurn p → AllHaveTurn (after_taken i content p)
+  taken_turn i content p inside have k there two opens = by (here_hears i content p)
+    where
+      q : Past
+      q = after_taken i content p
+
+      both : (v : Bool) → v ≡ true → v ≡ false → ⊥
+      both true on off = cc
+      both false on off = cc
+
+      same_all : begun_by ((after_taken i content p).calls i) ≡ begun_by (p.calls i) → in_turn s (after_taken i content p) ≡ Some k
+      same_all here = turn_same s p (after_taken i content p) (λ j. each j) ∙ have k there two (ap (λ (l : List Begun). is_none (open_in l)) (sym (at k)) ∙ opens)
+        where
+          at : (j : ℕ) → begun_by ((after_taken i content p).calls j) ≡ begun_by (p.calls j)
+          at j = elim (cases_eq j i) [ inl same ↦ subst (λ (m : ℕ). begun_by ((after_taken i content p).calls m) ≡ begun_by (p.calls m)) (sym same) here | inr other ↦ elsewhere_same i j content p other ]
+
+          each : (j : ℕ) → outcomes (after_taken i content p) j ≡ outcomes p j
+          each j = ap outcomes_in (at j)
+
+      by : AtHears p (after_taken i content p) i → in_turn s (after_taken i content p) ≡ Some k
+      by (SameAt here) = same_all here
+      by (HeardAt status word here) = which (outcome_in (begun_by (p.calls i)) status word) refl
+        where
+          so : HearsSo status word (begun_by (p.calls i))
+          so = hears_so status word (begun_by (p.calls i))
+
+          -- a channel that is open was open before
+          before : (j : ℕ) → is_idle (after_taken i content p) j ≡ false → is_idle p j ≡ false
+          before j on = elim (cases_eq j i) [
+            | inl same ↦ subst (λ (m : ℕ). is_idle p m ≡ false) (sym same) (was (is_idle p i) refl (subst (λ (m : ℕ). is_idle (after_taken i content p) m ≡ false) same on))
+            | inr other ↦ ap (λ (l : List Begun). is_none (open_in l)) (sym (elsewhere_same i j content p other)) ∙ on
+          ]
+            where
+              was : (v : Bool) → is_idle p i ≡ v → is_idle (after_taken i content p) i ≡ false → is_idle p i ≡ false
+              was false is on = is
+              was true is on = absurd (both (is_idle (after_taken i content p) i) (ap (λ (l : List Begun). is_none (open_in l)) (here ∙ idle_hears status word (begun_by (p.calls i)) is) ∙ is) on)
+
+          which : (o : Option Outcome) → outcome_in (begun_by (p.calls i)) status word ≡ o → in_turn s (after_taken i content p) ≡ Some k
+          which None none = turn_same s p (after_taken i content p) (λ j. each j) ∙ have k there two (before k opens)
+            where
+              each : (j : ℕ) → outcomes (after_taken i content p) j ≡ outcomes p j
+              each j = elim (cases_eq j i) [
+                | inl same ↦ subst (λ (m : ℕ). outcomes (after_taken i content p) m ≡ outcomes p m) (sym same) (ap outcomes_in here ∙ so.adds ∙ ap (λ (o : Option Outcome). with_outcome o (outcomes p i)) none)
+                | inr other ↦ ap outcomes_in (elsewhere_same i j content p other)
+              ]
+          which (Some o) some =
+              let on : is_some (outcome_in (begun_by (p.calls i)) status word) ≡ true = ap is_some some in
+              let was = was_open (open_in (begun_by (p.calls i))) (so.was_open on) in
+              let mine = have i inside two was in
+              let its = have k there two (before k opens) in
+              let same : i ≡ k = one i k (sym mine ∙ its) in
+              let closed : is_idle (after_taken i content p) i ≡ true = ap (λ (l : List Begun). is_none (open_in l)) here ∙ so.closes on in
+              absurd (both (is_idle (after_taken i content p) k) (subst (λ (m : ℕ). is_idle (after_taken i content p) m ≡ true) same closed) opens)
+            where
+              one : (a b : ℕ) → Some a ≡ Some b → a ≡ b
+              one a b e = cc
+
+              was_open : (x : Option Step) → is_some x ≡ true → is_none x ≡ false
+              was_open None on = absurd (cc)
+              was_open (Some x) on = refl
+
+  -- a place that is found is one of the ring
+  from_inside : (n k : ℕ) (test : ℕ → Bool) (i : ℕ) → first_from k n test ≡ Some i → i < k + n
+  from_inside zero k test i is = absurd (cc)
+  from_inside (suc n) k test i is = by (test k) is (from_inside n (k + 1) test i)
+    where
+      by : (v : Bool) → (if v then Some k else first_from (k + 1) n test) ≡ Some i → (first_from (k + 1) n test ≡ Some i → i < (k + 1) + n) → i < k + suc n
+      by true is more = let same : k ≡ i = cc in omega arith
+      by false is more = let less = more is in omega arith
+
+  at_turn : (content : List ℕ) (p : Past) → AllHaveTurn p → AllHaveTurn (after_at s content p)
+  at_turn content p have = by (place_of s (slice_index content 0)) refl
+    where
+      by : (o : Option ℕ) → place_of s (slice_index content 0) ≡ o → AllHaveTurn (after_at_of s o content p)
+      by None is = have
+      by (Some i) is = which (is_taken s p i content)
+        where
+          which : (on : Bool) → AllHaveTurn (if on then after_taken i content p else p)
+          which true = let less = from_inside (length s.drives) 0 (λ k. (member s k).address == slice_index content 0) i is in taken_turn i content p (omega arith) have
+          which false = have
+
+  -- the MDT
+  pub send_same : (on : Bool) (calls : List channel.Call) → begun_by (if on then Send ∷ calls else calls) ≡ begun_by calls
+  send_same true calls = refl
+  send_same false calls = refl
+
+  mdt_turn : (p : Past) → AllHaveTurn p → AllHaveTurn (after_mdt s p)
+  mdt_turn p have k there two opens = by (begins s (settled s p) k) refl (ap (λ (l : List Begun). is_none (open_in l)) (sym (send_same (is_sent_to (ready_to_send s p) (addressed_in s (ready_to_send s p)) k) ((ready_to_send s p).calls k))) ∙ opens)
+    where
+      all : (settled s p).calls ≡ p.calls
+      all = (leaves s p).calls
+
+      phase : p.now.phase ≡ 2
+      phase = sym (leaves s p).phase ∙ two
+
+      settled_turn : in_turn s (settled s p) ≡ in_turn s p
+      settled_turn = turn_same s p (settled s p) (λ j. ap (λ (calls : ℕ → List channel.Call). outcomes_in (begun_by (calls j))) (leaves s p).calls)
+
+      by : (o : Option Task) → begins s (settled s p) k ≡ o → is_none (open_in (begun_by (with_begin o ((settled s p).calls k)))) ≡ false → in_turn s (after_mdt s p) ≡ Some k
+      by None none opens = turn_same s p (after_mdt s p) (λ j. mdt_adds s p j) ∙ have k there phase (ap (λ (calls : ℕ → List channel.Call). is_none (open_in (begun_by (calls k)))) (sym all) ∙ opens)
+      by (Some t) some opens = turn_same s p (after_mdt s p) (λ j. mdt_adds s p j) ∙ sym settled_turn ∙ which (is_none (settled s p).stop && (is_idle (settled s p) k && has_turn s (settled s p) k)) refl some
+        where
+          place : (o : Option ℕ) → is_place k o ≡ true → o ≡ Some k
+          place None on = absurd (cc)
+          place (Some i) on = ap (λ (n : ℕ). Some n) (sym (eqb-true k i on))
+
+          which : (v : Bool) → (is_none (settled s p).stop && (is_idle (settled s p) k && has_turn s (settled s p) k)) ≡ v → (if v then of_phase (settled s p).now.phase (next_task s (settled s p) k) else None) ≡ Some t → in_turn s (settled s p) ≡ Some k
+          which false off got = absurd (cc)
+          which true on got =
+              let more = (and_parts (is_none (settled s p).stop) _ on).1 in
+              let turn = (and_parts (is_idle (settled s p) k) _ more).1 in
+              elim (or_cases (nat_le 3 (settled s p).now.phase) (((settled s p).now.phase == 2) && is_place k (in_turn s (settled s p))) turn) [
+                | inl late ↦ let three = leb-true 3 (settled s p).now.phase late in absurd (omega arith)
+                | inr same ↦ place (in_turn s (settled s p)) (and_parts ((settled s p).now.phase == 2) _ same).1
+              ]
+
+  -- In phases 0 and 1 nothing was begun.
+  task_two : (k : ℕ) (plan : Option PlanView) (waiting : List Task) (outcomes : List Outcome) (t : Task) → AreWaiting waiting → IsTask s k plan waiting outcomes t → 2 ≤ t.phase
+  task_two k plan waiting outcomes t are (OfReads r less got same) = let e = ap (λ (x : Task). x.phase) same in omega (arith, e)
+  task_two k plan waiting outcomes t are (OfWrites p i r planned less at got same) = let e = ap (λ (x : Task). x.phase) same in omega (arith, e)
+  task_two k plan waiting outcomes t are (Checks3 p planned at same) = let e = ap (λ (x : Task). x.phase) same in omega (arith, e)
+  task_two k plan waiting outcomes t are (Lists3 at failed same) = let e = ap (λ (x : Task). x.phase) same in omega (arith, e)
+  task_two k plan waiting outcomes t are (Checks4 at checked same) = let e = ap (λ (x : Task). x.phase) same in omega (arith, e)
+  task_two k plan waiting outcomes t are (Lists4 at failed same) = let e = ap (λ (x : Task). x.phase) same in omega (arith, e)
+  task_two k plan waiting outcomes t are (OfWaiting j at ready got) = let e = are j t got in omega (arith, e)
+
+  pub none_begun : (k : ℕ) (plan : Option PlanView) (waiting : List Task) (phase : ℕ) (begun : List Begun) (tasks : List Task) → AreWaiting waiting → AreBegunTasks s k plan waiting phase begun tasks → phase ≤ 1 → begun ≡ []
+  none_begun k plan waiting phase [] tasks are tasks_are low = refl
+  none_begun k plan waiting phase (b ∷ older) [] are tasks_are low = absurd tasks_are
+  none_begun k plan waiting phase (b ∷ older) (t ∷ tasks) are tasks_are low = let two = task_two k tasks_are.1.by_then waiting (outcomes_in older) t are tasks_are.1.task in let early = tasks_are.1.early in absurd (omega (arith, two, early, low))
+
+  module _ (has_next : HasNext) (requests : ℕ → List Task) (are : (j : ℕ) → AreWaiting (requests j)) where
+    pub none_early : (h : List Call) (k : ℕ) → k < length s.drives → (past s requests h).now.phase ≤ 1 → begun_by ((past s requests h).calls k) ≡ []
+    none_early h k there low =
+        let p = past s requests h in
+        none_begun k p.plan (p.waiting k) p.now.phase (begun_by (p.calls k)) (p.tasks k) (all_waiting s requests h are k) (begun_tasks s k has_next there requests h) low
+
+    end_turn : (h : List Call) → AllHaveTurn (past s requests h) → AllHaveTurn (past s requests (End ∷ h))
+    end_turn h have k there = by (is_some (fall_of s (past s requests h))) (is_done s (past s requests h))
+      where
+        p : Past
+        p = past s requests h
+
+        both : (v : Bool) → v ≡ true → v ≡ false → ⊥
+        both true on off = cc
+        both false on off = cc
+
+        by : (fell done : Bool) → HasTurn s (if fell then new_epoch (p.cycle + 1) (still_waiting p) else goes_on (if done then p.now.phase + 1 else p.now.phase) p) k
+        by true done = λ two opens. absurd (omega (arith, two))
+        by false false = λ two opens. turn_same s p (goes_on p.now.phase p) (λ j. refl) ∙ have k there two opens
+        by false true = λ two opens. let idle : is_idle p k ≡ true = ap (λ (l : List Begun). is_none (open_in l)) (none_early h k there (omega (arith, two))) in absurd (both (is_idle p k) idle opens)
+
+    pub all_in_turn : (h : List Call) → AllHaveTurn (past s requests h)
+    all_in_turn [] k there = λ two opens. absurd (omega (arith, two))
+    all_in_turn (HearMst content ∷ h) k there = all_in_turn h k there
+    all_in_turn (HearAt content ∷ h) k there = at_turn content (past s requests h) (all_in_turn h) k there
+    all_in_turn (Mdt ∷ h) k there = mdt_turn (past s requests h) (all_in_turn h) k there
+    all_in_turn (End ∷ h) k there = end_turn h (all_in_turn h) k there
+    all_in_turn (Restart ∷ h) k there = λ two opens. absurd (omega (arith, two))

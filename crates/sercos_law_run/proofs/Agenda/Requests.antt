@@ -1,0 +1,28 @@
+-- The requests to a drive: all are of phase 4 and have a number, and the numbers ascend.
+use Rattle.std.proofs.Common.{ℕ, zero, suc, ◌+◌, ◌≤◌, Bool, true, false, List, [], ◌∷◌, drop, refl, arith, if◌then◌else◌}
+use Rattle.std.specs.Prelude.{◌==◌}
+use Rattle.sercos_step.specs.declared.request.Job.{Job}
+use Rattle.sercos_seat.specs.Ring.{Task, member, request_task, tasks_from}
+use Rattle.sercos_master.proofs.InOrder.{tasks_numbered}
+use Rattle.sercos_master.proofs.Laws.{tasks_wait}
+use Rattle.sercos_law_run.specs.Agenda.Reported.{AreNumbered, Ascend, AreRequests}
+
+pub numbered_drop : (n : ℕ) (tasks : List Task) → AreNumbered tasks → AreNumbered (drop n tasks)
+numbered_drop zero tasks are = are
+numbered_drop (suc n) [] are = are
+numbered_drop (suc n) (t ∷ tasks) are = numbered_drop n tasks (λ i u got. are (suc i) u got)
+
+lower : (i j : ℕ) (tasks : List Task) → i ≤ j → Ascend j tasks → Ascend i tasks
+lower i j [] less up = tt
+lower i j (t ∷ tasks) less up = let high = up.2 in (up.0, up.1, omega (arith, less, high), up.3)
+
+ascend_from : (address i : ℕ) (jobs : List Job) → Ascend i (tasks_from address i jobs)
+ascend_from address i [] = tt
+ascend_from address i (job ∷ jobs) = by (job.drive == address) (ascend_from address (i + 1) jobs)
+  where
+    by : (v : Bool) → Ascend (i + 1) (tasks_from address (i + 1) jobs) → Ascend i (if v then request_task i job.request ∷ tasks_from address (i + 1) jobs else tasks_from address (i + 1) jobs)
+    by true up = (i, refl, omega arith, up)
+    by false up = lower i (i + 1) (tasks_from address (i + 1) jobs) (omega arith) up
+
+pub are_requests : AreRequests
+are_requests s jobs k = (tasks_wait (member s k).address 1 jobs, λ i t got. (tasks_numbered (member s k).address 1 jobs i t got).1, ascend_from (member s k).address 1 jobs)

@@ -1,0 +1,216 @@
+-- After any calls a stop has its cause.
+use Rattle.std.proofs.Common.{◌≡◌, inl, inr, ℕ, zero, suc, ◌+◌, ◌<◌, Bool, true, false, ◌&&◌, List, [], ◌∷◌, length, refl, sym, ap, ◌∙◌, subst, arith, if◌then◌else◌, ap₂}
+use Rattle.std.specs.Prelude.{◌==◌, nat_le, Option, Some, None, Result, Ok, Err, is_some, is_none, slice_index, slice_get}
+use Rattle.std.specs.Option.{option_or}
+use Rattle.std.proofs.lemmas.Option.{get_or_from_slice_get, slice_get_within}
+use Rattle.std.proofs.lemmas.Bool.{leb-true, and_parts, cases_eq}
+use Rattle.sercos_idn.specs.declared.idn.Idn.{Idn}
+use Rattle.sercos_step.specs.declared.request.Outcome.{Outcome}
+use Rattle.sercos_step.specs.Steps.{outcome_of, next_step}
+use Rattle.sercos_timing.specs.Order.{record_bytes}
+use Rattle.sercos_timing.specs.Views.{PlanView, WishesView}
+use Rattle.sercos_plan.specs.Views.{ChainView}
+use Rattle.sercos_plan.specs.ChainOf.{planned}
+use Rattle.sercos_service_master.specs.Begun.{Begun, open_in}
+use Rattle.sercos_service_master.specs.Calls.{begun_by}
+use Rattle.sercos_trace.specs.declared.events.Stop.{Stop}
+use Rattle.sercos_trace.specs.declared.events.Stop.TheVariants as stop
+use Rattle.sercos_seat.specs.Agenda.{is_read, reads_count, stop_by, asked_by, wishes_given, mdt_attributes, last_long, long_stop, last_long_stop}
+use Rattle.sercos_seat.specs.Ring.{no_member, Known, Task, MemberView, member}
+use Rattle.sercos_seat.specs.Channel.{with_outcome, outcomes_in, last_outcome, trouble_by, of_phase}
+use Rattle.sercos_master.proofs.Configured.{each_passes}
+use Rattle.sercos_master.proofs.Planned.{Adds, part_before, asks_same, at_adds}
+use Rattle.sercos_master.specs.Annals.{Call, HearMst, HearAt, Mdt, End, Restart, Past, outcomes, is_idle, trouble, first_trouble_from, first_trouble, is_taken, after_taken, after_at_of, after_at, place_of, all_read, with_stop, is_plan_due, with_plan, planned_by, with_due_plan, settled, has_turn, next_task, begins, with_begin, with_task, is_sent_to, addressed_in, ready_to_send, after_mdt, fall_of, next_phase, goes_on, new_epoch, still_waiting, after_end, past}
+use Rattle.sercos_law_run.specs.Agenda.Stops.{AreTooLong}
+use Rattle.sercos_law_run.proofs.Agenda.OneTurn.{AtHears, SameAt, HeardAt, idle_hears, elsewhere_same, here_hears, send_same}
+
+-- A stop is what the outcome of a task of the start-up brought, the newest of its channel; or no plan fits what was read; or the
+-- records are too long for an MDT by what was read.
+pub data StopsFor (s : Known) (p : Past) (x : Stop) : Type 0 where
+  OfTask : (k : ℕ) → (b : Begun) → (older : List Begun) → (t : Task) → (tasks : List Task) → (o : Outcome) → k < length s.drives → begun_by (p.calls k) ≡ b ∷ older → p.tasks k ≡ t ∷ tasks → t.number ≡ None →
+      outcome_of b.request b.answers ≡ Some o → stop_by (member s k).address (asked_by t.request) o ≡ Some x → StopsFor s p x
+  OfPlan : (chain : ChainView) → x ≡ stop.NoFit chain → all_read s p ≡ true → planned (wishes_given s (outcomes p)) ≡ Err chain → StopsFor s p x
+  OfLength : (address : ℕ) → (i : Idn) → (word : ℕ) → x ≡ stop.BadConfig address i word → AreTooLong s p x → StopsFor s p x
+
+abbrev pub StopHasCause : Known → Past → Type 0
+StopHasCause s p = (x : Stop) → p.stop ≡ Some x → StopsFor s p x
+
+-- the newest request, where it has ended, leaves no open step
+pub ended_idle : (begun : List Begun) (b : Begun) (older : List Begun) (o : Outcome) → begun ≡ b ∷ older → outcome_of b.request b.answers ≡ Some o → is_none (open_in begun) ≡ true
+ended_idle begun b older o is ended = ap (λ (l : List Begun). is_none (open_in l)) is ∙ ap (λ (x : Option Outcome). is_none (if is_some x then None else next_step b.request b.answers)) ended
+
+-- records too long for an MDT are a bad configuration
+long_bad : (drives : List MemberView) (k : ℕ) (all : ℕ → List Outcome) (x : Stop) → last_long_stop drives k all ≡ Some x → (address : ℕ) × (i : Idn) × (word : ℕ) × (x ≡ stop.BadConfig address i word)
+long_bad [] k all x is = absurd (cc)
+long_bad (d ∷ drives) k all x is = by (is_some (last_long_stop drives (k + 1) all)) is (long_bad drives (k + 1) all x)
+  where
+    here : (o : Option (Idn × ℕ)) → long_stop d.address o ≡ Some x → (address : ℕ) × (i : Idn) × (word : ℕ) × (x ≡ stop.BadConfig address i word)
+    here None is = absurd (cc)
+    here (Some f) is = let same : stop.BadConfig d.address f.0 f.1 ≡ x = one is in (d.address, f.0, f.1, sym same)
+      where
+        one : Some (stop.BadConfig d.address f.0 f.1) ≡ Some x → stop.BadConfig d.address f.0 f.1 ≡ x
+        one e = cc
+
+    by : (v : Bool) → (if v then last_long_stop drives (k + 1) all else long_stop d.address (last_long d.mdt (mdt_attributes d (all k)))) ≡ Some x →
+        (last_long_stop drives (k + 1) all ≡ Some x → (address : ℕ) × (i : Idn) × (word : ℕ) × (x ≡ stop.BadConfig address i word)) → (address : ℕ) × (i : Idn) × (word : ℕ) × (x ≡ stop.BadConfig address i word)
+    by true is more = more is
+    by false is more = here (last_long d.mdt (mdt_attributes d (all k))) is
+
+-- what is the last value of four bytes stays, if outcomes come after the reads alone
+attributes_stay : (d : MemberView) (all : List Outcome) (o : Option Outcome) → is_read d all ≡ true → mdt_attributes d (with_outcome o all) ≡ mdt_attributes d all
+attributes_stay d all None read = refl
+attributes_stay d all (Some o) read = let many = leb-true (reads_count d) (length all) read in part_before all o (6 + length d.at) (length d.mdt) (omega (arith, many))
+
+longs_same : (drives : List MemberView) (k : ℕ) (f g : ℕ → List Outcome) → ((j : ℕ) (d : MemberView) → slice_get drives j ≡ Some d → mdt_attributes d (g (k + j)) ≡ mdt_attributes d (f (k + j))) → last_long_stop drives k g ≡ last_long_stop drives k f
+longs_same [] k f g same = refl
+longs_same (d ∷ drives) k f g same =
+    ap₂ (λ (o : Option Stop) (l : List ℕ). if is_some o then o else long_stop d.address (last_long d.mdt l))
+    (longs_same drives (k + 1) f g (λ j e got. let n : k + suc j ≡ (k + 1) + j = omega arith in subst (λ (m : ℕ). mdt_attributes e (g m) ≡ mdt_attributes e (f m)) n (same (suc j) e got)))
+    (let z : k + 0 ≡ k = omega arith in subst (λ (n : ℕ). mdt_attributes d (g n) ≡ mdt_attributes d (f n)) z (same 0 d refl))
+
+longs_after : (s : Known) (p q : Past) → Adds p q → all_read s p ≡ true → last_long_stop s.drives 0 (outcomes q) ≡ last_long_stop s.drives 0 (outcomes p)
+longs_after s p q adds all = longs_same s.drives 0 (outcomes p) (outcomes q) each
+  where
+    each : (j : ℕ) (d : MemberView) → slice_get s.drives j ≡ Some d → mdt_attributes d (outcomes q (0 + j)) ≡ mdt_attributes d (outcomes p (0 + j))
+    each j d got =
+        let below = slice_get_within s.drives j d got in
+        let passes : is_read (member s j) (outcomes p j) ≡ true = each_passes (length s.drives) 0 (λ k. is_read (member s k) (outcomes p k)) all j (omega arith) (omega (arith, below)) in
+        let read : is_read d (outcomes p j) ≡ true = subst (λ (m : MemberView). is_read m (outcomes p j) ≡ true) (get_or_from_slice_get s.drives j d no_member got) passes in
+        let zero_is : 0 + j ≡ j = omega arith in
+        subst (λ (n : ℕ). mdt_attributes d (outcomes q n) ≡ mdt_attributes d (outcomes p n)) (sym zero_is) (ap (mdt_attributes d) (adds j).1 ∙ attributes_stay d (outcomes p j) (adds j).0 read)
+
+module _ (s : Known) where
+  -- a cause stays, where idle channels stay as they are and outcomes come at the end alone
+  moved : (p q : Past) (x : Stop) → ((k : ℕ) → is_idle p k ≡ true → begun_by (q.calls k) ≡ begun_by (p.calls k)) → ((k : ℕ) → q.tasks k ≡ p.tasks k) → ((j : ℕ) → (o : Option Outcome) × (outcomes q j ≡ with_outcome o (outcomes p j))) →
+      StopsFor s p x → StopsFor s q x
+  moved p q x same tasks_same adds (OfTask k b older t tasks o there begun begun_tasks number ended is) =
+      OfTask k b older t tasks o there (same k (ended_idle (begun_by (p.calls k)) b older o begun ended) ∙ begun) (tasks_same k ∙ begun_tasks) number ended is
+  moved p q x same tasks_same adds (OfPlan chain is all made) = let after = asks_same s p q adds all in OfPlan chain is after.0 (ap planned after.1 ∙ made)
+  moved p q x same tasks_same adds (OfLength address i word is (all, long, last)) = let after = asks_same s p q adds all in OfLength address i word is (after.0, ap (λ (w : WishesView). nat_le (record_bytes w.drives) 2047) after.1 ∙ long, longs_after s p q adds all ∙ last)
+
+  has_moved : (p q : Past) → ((k : ℕ) → is_idle p k ≡ true → begun_by (q.calls k) ≡ begun_by (p.calls k)) → ((k : ℕ) → q.tasks k ≡ p.tasks k) → ((j : ℕ) → (o : Option Outcome) × (outcomes q j ≡ with_outcome o (outcomes p j))) → q.stop ≡ p.stop →
+      StopHasCause s p → StopHasCause s q
+  has_moved p q same tasks_same adds stop_same has x is = moved p q x same tasks_same adds (has x (sym stop_same ∙ is))
+
+  -- an AT
+  taken_has : (i : ℕ) (content : List ℕ) (p : Past) → StopHasCause s p → StopHasCause s (after_taken i content p)
+  taken_has i content p has = has_moved p (after_taken i content p) (λ k idle. kept k idle) (λ k. refl) (λ j. at_adds i content p j) refl has
+    where
+      here : is_idle p i ≡ true → AtHears p (after_taken i content p) i → begun_by ((after_taken i content p).calls i) ≡ begun_by (p.calls i)
+      here idle (SameAt same) = same
+      here idle (HeardAt status word same) = same ∙ idle_hears status word (begun_by (p.calls i)) idle
+
+      kept : (k : ℕ) → is_idle p k ≡ true → begun_by ((after_taken i content p).calls k) ≡ begun_by (p.calls k)
+      kept k idle = elim (cases_eq k i) [
+        | inl same ↦ subst (λ (n : ℕ). begun_by ((after_taken i content p).calls n) ≡ begun_by (p.calls n)) (sym same) (here (subst (λ (n : ℕ). is_idle p n ≡ true) same idle) (here_hears i content p))
+        | inr other ↦ elsewhere_same i k content p other
+      ]
+
+  at_has : (content : List ℕ) (p : Past) → StopHasCause s p → StopHasCause s (after_at s content p)
+  at_has content p has = by (place_of s (slice_index content 0))
+    where
+      by : (o : Option ℕ) → StopHasCause s (after_at_of s o content p)
+      by None = has
+      by (Some i) = which (is_taken s p i content)
+        where
+          which : (on : Bool) → StopHasCause s (if on then after_taken i content p else p)
+          which true = taken_has i content p has
+          which false = has
+
+  -- a stop that comes
+  stop_has : (o : Option Stop) (p : Past) → ((x : Stop) → o ≡ Some x → StopsFor s p x) → StopHasCause s p → StopHasCause s (with_stop o p)
+  stop_has None p cause has = has
+  stop_has (Some y) p cause has = which (is_some p.stop)
+    where
+      same : (x : Stop) → Some y ≡ Some x → StopsFor s p x
+      same x is = cause x is
+
+      which : (on : Bool) → StopHasCause s (if on then p else record p { now = record p.now { stops = true }; stop = Some y })
+      which true = has
+      which false = λ x is. moved p (record p { now = record p.now { stops = true }; stop = Some y }) x (λ k idle. refl) (λ k. refl) (λ j. (None, refl)) (same x is)
+
+  pub found : (p : Past) (n k : ℕ) (x : Stop) → first_trouble_from s p k n ≡ Some x → (i : ℕ) × (i < k + n) × (trouble s p i ≡ Some x)
+  found p zero k x is = absurd (cc)
+  found p (suc n) k x is = by (trouble s p k) refl is (found p n (k + 1) x)
+    where
+      by : (o : Option Stop) → trouble s p k ≡ o → option_or o (first_trouble_from s p (k + 1) n) ≡ Some x → (first_trouble_from s p (k + 1) n ≡ Some x → (i : ℕ) × (i < (k + 1) + n) × (trouble s p i ≡ Some x)) → (i : ℕ) × (i < k + suc n) × (trouble s p i ≡ Some x)
+      by None none is more = let m = more is in let less = m.1 in (m.0, omega arith, m.2)
+      by (Some y) some is more = (k, omega arith, some ∙ is)
+
+  of_trouble : (p : Past) (k : ℕ) (x : Stop) → k < length s.drives → trouble s p k ≡ Some x → StopsFor s p x
+  of_trouble p k x there is = by (p.tasks k) (begun_by (p.calls k)) refl refl is
+    where
+      by : (tasks : List Task) (begun : List Begun) → p.tasks k ≡ tasks → begun_by (p.calls k) ≡ begun → trouble_by (member s k).address tasks (last_outcome begun) ≡ Some x → StopsFor s p x
+      by [] begun ts bs is = absurd (cc)
+      by (t ∷ tasks) [] ts bs is = absurd (cc)
+      by (t ∷ tasks) (b ∷ older) ts bs is = ended (outcome_of b.request b.answers) refl is
+        where
+          numbered : (o : Outcome) (n : Option ℕ) → t.number ≡ n → outcome_of b.request b.answers ≡ Some o → (if is_some n then None else stop_by (member s k).address (asked_by t.request) o) ≡ Some x → StopsFor s p x
+          numbered o None none some is = OfTask k b older t tasks o there bs ts none some is
+          numbered o (Some i) none some is = absurd (cc)
+
+          ended : (o : Option Outcome) → outcome_of b.request b.answers ≡ o → trouble_by (member s k).address (t ∷ tasks) o ≡ Some x → StopsFor s p x
+          ended None none is = absurd (cc)
+          ended (Some o) some is = numbered o t.number refl some is
+
+  due_has : (p : Past) → StopHasCause s p → StopHasCause s (with_due_plan s p)
+  due_has p has = which (is_plan_due s p) refl
+    where
+      result : (r : Result PlanView ChainView) → planned (wishes_given s (outcomes p)) ≡ r → all_read s p ≡ true → StopHasCause s (with_plan r p)
+      result (Ok plan) made all = has_moved p (with_plan (Ok plan) p) (λ k idle. refl) (λ k. refl) (λ j. (None, refl)) refl has
+      result (Err chain) made all = stop_has (Some (stop.NoFit chain)) p (λ x is. let same : stop.NoFit chain ≡ x = one (stop.NoFit chain) x is in OfPlan chain (sym same) all made) has
+        where
+          one : (a c : Stop) → Some a ≡ Some c → a ≡ c
+          one a c e = cc
+
+      made : all_read s p ≡ true → StopHasCause s (planned_by s p)
+      made all = fits (nat_le (record_bytes (wishes_given s (outcomes p)).drives) 2047) refl
+        where
+          fits : (on : Bool) → nat_le (record_bytes (wishes_given s (outcomes p)).drives) 2047 ≡ on → StopHasCause s (if on then with_plan (planned (wishes_given s (outcomes p))) p else with_stop (last_long_stop s.drives 0 (outcomes p)) p)
+          fits true short = result (planned (wishes_given s (outcomes p))) refl all
+          fits false long = stop_has (last_long_stop s.drives 0 (outcomes p)) p (λ x is. let bad = long_bad s.drives 0 (outcomes p) x is in OfLength bad.0 bad.1 bad.2 bad.3 (all, long, is)) has
+
+      which : (on : Bool) → is_plan_due s p ≡ on → StopHasCause s (if on then planned_by s p else p)
+      which false off = has
+      which true on =
+          let more = (and_parts (p.now.phase == 2) _ on).1 in
+          let two = (and_parts (is_none p.stop) _ more).1 in
+          made (and_parts (is_none p.plan) (all_read s p) two).1
+
+  settled_has : (p : Past) → StopHasCause s p → StopHasCause s (settled s p)
+  settled_has p has =
+      due_has (with_stop (first_trouble s p) p)
+      (stop_has (first_trouble s p) p (λ x is. let f = found p (length s.drives) 0 x is in let less = f.1 in of_trouble p f.0 x (omega arith) f.2) has)
+
+  -- after a stop nothing begins
+  mdt_has : (p : Past) → StopHasCause s p → StopHasCause s (after_mdt s p)
+  mdt_has p has x is = moved (settled s p) (after_mdt s p) x (λ k idle. begun_same k) (λ k. tasks_same k) (λ j. (None, ap outcomes_in (begun_same j))) (settled_has p has x is)
+    where
+      stopped : is_none (settled s p).stop ≡ false
+      stopped = ap is_none is
+
+      none : (k : ℕ) → begins s (settled s p) k ≡ None
+      none k = ap (λ (v : Bool). if v && (is_idle (settled s p) k && has_turn s (settled s p) k) then of_phase (settled s p).now.phase (next_task s (settled s p) k) else None) stopped
+
+      begun_same : (k : ℕ) → begun_by ((after_mdt s p).calls k) ≡ begun_by ((settled s p).calls k)
+      begun_same k =
+          send_same s (is_sent_to (ready_to_send s p) (addressed_in s (ready_to_send s p)) k) ((ready_to_send s p).calls k)
+          ∙ ap (λ (t : Option Task). begun_by (with_begin t ((settled s p).calls k))) (none k)
+
+      tasks_same : (k : ℕ) → (after_mdt s p).tasks k ≡ (settled s p).tasks k
+      tasks_same k = ap (λ (t : Option Task). with_task t ((settled s p).tasks k)) (none k)
+
+  end_has : (p : Past) → StopHasCause s p → StopHasCause s (after_end s p)
+  end_has p has = by (is_some (fall_of s p))
+    where
+      by : (fell : Bool) → StopHasCause s (if fell then new_epoch (p.cycle + 1) (still_waiting p) else goes_on (next_phase s p) p)
+      by true = λ x is. absurd (cc)
+      by false = has_moved p (goes_on (next_phase s p) p) (λ k idle. refl) (λ k. refl) (λ j. (None, refl)) refl has
+
+  pub stop_has_cause : (requests : ℕ → List Task) (h : List Call) → StopHasCause s (past s requests h)
+  stop_has_cause requests [] = λ x is. absurd (cc)
+  stop_has_cause requests (HearMst content ∷ h) = has_moved (past s requests h) (past s requests (HearMst content ∷ h)) (λ k idle. refl) (λ k. refl) (λ j. (None, refl)) refl (stop_has_cause requests h)
+  stop_has_cause requests (HearAt content ∷ h) = at_has content (past s requests h) (stop_has_cause requests h)
+  stop_has_cause requests (Mdt ∷ h) = mdt_has (past s requests h) (stop_has_cause requests h)
+  stop_has_cause requests (End ∷ h) = end_has (past s requests h) (stop_has_cause requests h)
+  stop_has_cause requests (Restart ∷ h) = λ x is. absurd (cc)

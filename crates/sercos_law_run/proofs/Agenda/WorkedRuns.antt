@@ -1,0 +1,160 @@
+-- Calls that were worked out by hand, computed from the definitions: what the laws ask for is met.
+use Rattle.std.specs.Prelude.{◌≡◌, ℕ, zero, suc, ◌/◌, ◌%◌, Bool, true, false, List, [], ◌∷◌, length, Option, Some, is_some, refl}
+use Rattle.sercos_telegram.specs.Spells.{mst_content}
+use Rattle.sercos_telegram.specs.Faults as Faults
+use Rattle.sercos_telegram.specs.Spells as Spells
+use Rattle.sercos_telegram.specs.Words as Words
+use Rattle.sercos_idn.specs.declared.idn.Idn.{Idn}
+use Rattle.sercos_idn.specs.Codes as Codes
+use Rattle.sercos_idn.specs.Attributes as Attributes
+use Rattle.sercos_step.specs.declared.request.Request.TheVariants as request
+use Rattle.sercos_step.specs.declared.request.Outcome.TheVariants as outcome
+use Rattle.sercos_block.specs.Rings as Rings
+use Rattle.sercos_plan.specs.ChainOf as ChainOf
+use Rattle.sercos_plan.specs.LeastTimes as LeastTimes
+use Rattle.sercos_service_master.specs.Calls.{begun_by}
+use Rattle.sercos_trace.specs.declared.events.Stop.{Stop}
+use Rattle.sercos_trace.specs.declared.events.Stop.TheVariants as stop
+use Rattle.sercos_seat.specs.Ring.{Known, Task, request_task}
+use Rattle.sercos_seat.specs.Agenda.{idn}
+use Rattle.sercos_master.specs.Annals.{Call, HearMst, HearAt, Mdt, End, Restart, past, in_turn, is_idle}
+use Rattle.sercos_law_run.specs.Agenda.Channels.{channel_at}
+use Rattle.sercos_law_run.specs.Agenda.Reported.{RestartsAtStart, still_to_tell, told}
+
+-- A ring of one drive with address 1, of 4 megabits and cycles of 250 microseconds; the AT carries these values.
+abbrev ring : List Idn → Known
+ring at = record { rate = 4; cycle = 250; control = 250; gap = 5; order = 0 ∷ []; drives = (record { address = 1; slave = 1; at = at; mdt = [] }) ∷ [] }
+
+abbrev no_requests : ℕ → List Task
+no_requests k = []
+
+-- a cycle without an AT, and one with an AT; the calls before it come last
+abbrev silent : ℕ → List Call → List Call
+silent phase h = End ∷ Mdt ∷ HearMst (Some (mst_content phase)) ∷ h
+
+abbrev heard : ℕ → List ℕ → List Call → List Call
+heard phase at h = End ∷ Mdt ∷ HearAt at ∷ HearMst (Some (mst_content phase)) ∷ h
+
+abbrev silences : ℕ → List Call → List Call
+silences zero h = h
+silences (suc n) h = silent 0 (silences n h)
+
+-- An AT for each of these words, with handshake bits 1, 0, 1, 0 .. or 0, 1, 0, 1 ..
+abbrev at : ℕ → ℕ → List ℕ
+at status word = 1 ∷ status ∷ 0 ∷ (word % 256) ∷ (word / 256) ∷ []
+
+abbrev answers : ℕ → ℕ → List ℕ → List Call → List Call
+answers phase bit [] h = h
+answers phase zero (word ∷ words) h = answers phase 1 words (heard phase (at 0 word) h)
+answers phase (suc bit) (word ∷ words) h = answers phase 0 words (heard phase (at 1 word) h)
+
+-- the answers to a read of a word, and of a list of one identifier number; and to a write of a word, and of an empty list
+abbrev read_word : ℕ → List ℕ → List ℕ
+read_word word rest = 0 ∷ 1 ∷ 24593 ∷ word ∷ rest
+
+abbrev read_list : ℕ → List ℕ → List ℕ
+read_list word rest = 0 ∷ 1 ∷ 24661 ∷ 2 ∷ 128 ∷ word ∷ rest
+
+abbrev write_word : List ℕ → List ℕ
+write_word rest = 0 ∷ 1 ∷ 24593 ∷ 0 ∷ rest
+
+abbrev write_list : List ℕ → List ℕ
+write_list rest = 0 ∷ 1 ∷ 24661 ∷ 0 ∷ 0 ∷ rest
+
+-- the answers to a check that ends with this data status
+abbrev check : ℕ → List ℕ → List ℕ
+check status rest = 0 ∷ 0 ∷ status ∷ 0 ∷ rest
+
+-- T1min 10, TATMT 6, T4min this, TATAT 5, TMTSY 10, TMTSG 20
+abbrev times : ℕ → List ℕ → List ℕ
+times t4min rest = read_word 10 (read_word 6 (read_word t4min (read_word 5 (read_word 10 (read_word 20 rest)))))
+
+abbrev eleven_writes : List ℕ → List ℕ
+eleven_writes rest = write_word (write_word (write_word (write_word (write_word (write_word (write_word (write_word (write_list (write_list (write_word rest))))))))))
+
+-- ten cycles of phase 0, two of phase 1 with the identification, and the first of phase 2; and the same with such answers after it
+abbrev to_2 : List Call
+to_2 = silent 2 (heard 1 (at 0 0) (silent 1 (silences 10 [])))
+
+abbrev in_2 : List ℕ → List Call
+in_2 words = answers 2 1 words to_2
+
+-- the whole start-up, up to the first cycle of phase 3, and of phase 4
+abbrev to_3 : List Call
+to_3 = silent 3 (in_2 (times 20 (eleven_writes (check 3 []))))
+
+abbrev to_4 : List Call
+to_4 = silent 4 (answers 3 1 (check 3 []) to_3)
+
+-- PHASE 2. A transfer is open there, and the turn is the drive's.
+opens : is_idle (past (ring []) no_requests to_2) 0 ≡ false
+unfolding Faults.mst_fault Faults.head_fault Spells.word_bytes Spells.word_at Spells.fields Words.status_of Rings.attribute_in Codes.attribute_fault Attributes.attribute_of ChainOf.chain_of LeastTimes.least_plan LeastTimes.least_t2 LeastTimes.least_t3
+opens = refl
+
+turn : in_turn (ring []) (past (ring []) no_requests to_2) ≡ Some 0
+unfolding Faults.mst_fault Faults.head_fault Spells.word_bytes Spells.word_at Spells.fields Words.status_of Rings.attribute_in Codes.attribute_fault Attributes.attribute_of ChainOf.chain_of LeastTimes.least_plan LeastTimes.least_t2 LeastTimes.least_t3
+turn = refl
+
+-- THE PLAN comes with the last of the reads.
+plan_made : is_some (past (ring []) no_requests (in_2 (times 20 []))).plan ≡ true
+unfolding Faults.mst_fault Faults.head_fault Spells.word_bytes Spells.word_at Spells.fields Words.status_of Rings.attribute_in Codes.attribute_fault Attributes.attribute_of ChainOf.chain_of LeastTimes.least_plan LeastTimes.least_t2 LeastTimes.least_t3
+plan_made = refl
+
+-- THE CHECK FOR PHASE 3 is begun after the eleven writes: 18 requests are more than 6 reads and 11; and the phase rises after it.
+check_begun : length (begun_by ((past (ring []) no_requests (in_2 (times 20 (eleven_writes [])))).calls 0)) ≡ 18
+unfolding Faults.mst_fault Faults.head_fault Spells.word_bytes Spells.word_at Spells.fields Words.status_of Rings.attribute_in Codes.attribute_fault Attributes.attribute_of ChainOf.chain_of LeastTimes.least_plan LeastTimes.least_t2 LeastTimes.least_t3
+check_begun = refl
+
+rises_to_3 : (past (ring []) no_requests (in_2 (times 20 (eleven_writes (check 3 []))))).now.phase ≡ 3
+unfolding Faults.mst_fault Faults.head_fault Spells.word_bytes Spells.word_at Spells.fields Words.status_of Rings.attribute_in Codes.attribute_fault Attributes.attribute_of ChainOf.chain_of LeastTimes.least_plan LeastTimes.least_t2 LeastTimes.least_t3
+rises_to_3 = refl
+
+rises_to_4 : (past (ring []) no_requests to_4).now.phase ≡ 4
+unfolding Faults.mst_fault Faults.head_fault Spells.word_bytes Spells.word_at Spells.fields Words.status_of Rings.attribute_in Codes.attribute_fault Attributes.attribute_of ChainOf.chain_of LeastTimes.least_plan LeastTimes.least_t2 LeastTimes.least_t3
+rises_to_4 = refl
+
+abbrev is_no_fit : Option Stop → Bool
+is_no_fit (Some (stop.NoFit chain)) = true
+is_no_fit _ = false
+
+-- EACH STOP. No plan fits, where T4min is above the cycle.
+no_fit : is_no_fit (past (ring []) no_requests (in_2 (times 251 []))).stop ≡ true
+unfolding Faults.mst_fault Faults.head_fault Spells.word_bytes Spells.word_at Spells.fields Words.status_of Rings.attribute_in Codes.attribute_fault Attributes.attribute_of ChainOf.chain_of LeastTimes.least_plan LeastTimes.least_t2 LeastTimes.least_t3
+no_fit = refl
+
+-- The first write is refused with code 7006 (hexadecimal).
+refused : (past (ring []) no_requests (heard 2 (at 4 28678) (answers 2 1 (0 ∷ 1 ∷ 24593 ∷ []) (in_2 (times 20 []))))).stop ≡ Some (stop.Refused 1 (idn 1) (record { raw = 28678 }))
+unfolding Faults.mst_fault Faults.head_fault Spells.word_bytes Spells.word_at Spells.fields Words.status_of Rings.attribute_in Codes.attribute_fault Attributes.attribute_of ChainOf.chain_of LeastTimes.least_plan LeastTimes.least_t2 LeastTimes.least_t3
+refused = refl
+
+-- The attribute of a value of the AT is that of a list.
+bad_config : (past (ring (idn 51 ∷ [])) no_requests (in_2 (times 20 (0 ∷ 1 ∷ 24661 ∷ [])))).stop ≡ Some (stop.BadConfig 1 (idn 51) 1616183297)
+unfolding Faults.mst_fault Faults.head_fault Spells.word_bytes Spells.word_at Spells.fields Words.status_of Rings.attribute_in Codes.attribute_fault Attributes.attribute_of ChainOf.chain_of LeastTimes.least_plan LeastTimes.least_t2 LeastTimes.least_t3
+bad_config = refl
+
+-- A check ends with data status 15, and then the list has one identifier number.
+check127 : (past (ring []) no_requests (in_2 (times 20 (eleven_writes (check 15 (read_list 32778 [])))))).stop ≡ Some (stop.Check127 1 (record { items = idn 32778 ∷ [] }))
+unfolding Faults.mst_fault Faults.head_fault Spells.word_bytes Spells.word_at Spells.fields Words.status_of Rings.attribute_in Codes.attribute_fault Attributes.attribute_of ChainOf.chain_of LeastTimes.least_plan LeastTimes.least_t2 LeastTimes.least_t3
+check127 = refl
+
+check128 : (past (ring []) no_requests (answers 3 1 (check 15 (read_list 32778 [])) to_3)).stop ≡ Some (stop.Check128 1 (record { items = idn 32778 ∷ [] }))
+unfolding Faults.mst_fault Faults.head_fault Spells.word_bytes Spells.word_at Spells.fields Words.status_of Rings.attribute_in Codes.attribute_fault Attributes.attribute_of ChainOf.chain_of LeastTimes.least_plan LeastTimes.least_t2 LeastTimes.least_t3
+check128 = refl
+
+-- REPORTS of three requests. The first is read whole; the second is at work where the master restarts; the third waits.
+abbrev three_reads : ℕ → List Task
+three_reads k = request_task 1 (request.Read (idn 51) 7) ∷ request_task 2 (request.Read (idn 40) 7) ∷ request_task 3 (request.Read (idn 51) 7) ∷ []
+
+abbrev restarted : List Call
+restarted = Restart ∷ answers 4 1 (read_word 250 []) to_4
+
+at_start : RestartsAtStart restarted
+at_start = (tt, tt)
+
+two_told : told (ring []) three_reads 0 restarted ≡ (record { number = 2; outcome = outcome.Broken }) ∷ (record { number = 1; outcome = outcome.Complete (250 ∷ 0 ∷ []) }) ∷ []
+unfolding Faults.mst_fault Faults.head_fault Spells.word_bytes Spells.word_at Spells.fields Words.status_of Rings.attribute_in Codes.attribute_fault Attributes.attribute_of ChainOf.chain_of LeastTimes.least_plan LeastTimes.least_t2 LeastTimes.least_t3
+two_told = refl
+
+one_left : still_to_tell (channel_at (past (ring []) three_reads restarted) 0) ≡ Some 3 ∷ []
+unfolding Faults.mst_fault Faults.head_fault Spells.word_bytes Spells.word_at Spells.fields Words.status_of Rings.attribute_in Codes.attribute_fault Attributes.attribute_of ChainOf.chain_of LeastTimes.least_plan LeastTimes.least_t2 LeastTimes.least_t3
+one_left = refl

@@ -1,0 +1,146 @@
+-- The bounds, from sums over the drives.
+use Rattle.std.proofs.Common.{◌≡◌, ◌⊎◌, inl, inr, ℕ, zero, suc, ◌+◌, ◌*◌, ◌≤◌, List, [], ◌∷◌, ◌++◌, length, refl, ap, arith, max, ◌∙◌}
+use Rattle.std.specs.List.{sum_by, sum}
+use Rattle.std.proofs.lemmas.Bool.{cases_eq}
+use Rattle.std.proofs.lemmas.List.Sums.{sum_by-cons}
+use Rattle.sercos_block.specs.Views.{DriveView}
+use Rattle.sercos_block.specs.Startup.{startup_of}
+use Rattle.sercos_law_run.specs.Bounds.Bounds.{listed, greatest, slowest, read_cycles, write_cycles, command_cycles, refusal_cycles, section_cycles, FewWrites, FewStatuses, IsStarted, IsRefusedEarly, IsRefusedLate, AreShort, IsReported, IsBackAtOnce, IsBackLater, AreSections, IsBelowGreatest}
+
+-- Products over plain numbers, each by itself, so that everything else is linear.
+times_le : (p n k : ℕ) → n ≤ k → p * n ≤ p * k
+times_le p n k le = grind arith
+
+times_sum : (b n k : ℕ) → (b + 1) * (n + k) ≡ (b + 1) * n + (b + 1) * k
+times_sum b n k = grind arith
+
+times_suc : (n k : ℕ) → suc n * k ≡ n * k + k
+times_suc n k = grind arith
+
+opened_startup : (b m t : ℕ) → (b + 2) * (82 + 4 * m + 2 * t) ≡ 82 * b + 164 + 4 * (b * m) + 8 * m + 2 * (b * t) + 4 * t
+opened_startup b m t = grind arith
+
+opened_reads : (b m : ℕ) → (b + 1) * (24 + 3 * m) ≡ 24 * b + 24 + 3 * (b * m) + 3 * m
+opened_reads b m = grind arith
+
+opened_writes : (b m : ℕ) → (b + 1) * (50 + m) ≡ 50 * b + 50 + b * m + m
+opened_writes b m = grind arith
+
+-- The polls of a command.
+writes_of : (b m t polls : ℕ) → (b + 1) * polls ≤ t + (b + 1) → (b + 1) * (49 + m + polls) ≤ (b + 1) * (50 + m) + t
+writes_of b m t polls le =
+    let one : (b + 1) * (49 + m + polls) ≡ (b + 1) * (49 + m) + (b + 1) * polls = grind arith in
+    let two : (b + 1) * (50 + m) ≡ (b + 1) * (49 + m) + (b + 1) = grind arith in omega arith
+
+pub few_writes : FewWrites
+few_writes d polls le = writes_of d.busy (listed d) d.command polls le
+
+statuses_of : (b t polls : ℕ) → (b + 1) * polls ≤ t + (b + 1) → (b + 1) * (3 + polls) ≤ (b + 1) * 4 + t
+statuses_of b t polls le =
+    let one : (b + 1) * (3 + polls) ≡ (b + 1) * 3 + (b + 1) * polls = grind arith in omega arith
+
+pub few_statuses : FewStatuses
+few_statuses d polls le = statuses_of d.busy d.command polls le
+
+-- A start-up: what a drive needs in phases 2 and 3 is within its part of the bound.
+startup_parts : (d : DriveView) → read_cycles d + write_cycles d + command_cycles d ≤ startup_of d
+startup_parts d =
+    let s = opened_startup d.busy (listed d) d.command in
+    let r = opened_reads d.busy (listed d) in
+    let w = opened_writes d.busy (listed d) in omega (arith, s, r, w)
+
+early_total : (ring : List DriveView) → sum_by read_cycles ring + sum_by write_cycles ring + greatest command_cycles ring ≤ sum_by startup_of ring
+early_total [] = omega arith
+early_total (d ∷ ring) =
+    let one = startup_parts d in
+    let more = early_total ring in omega (arith, one, more, sum_by-cons read_cycles d ring, sum_by-cons write_cycles d ring, sum_by-cons startup_of d ring)
+
+pub is_started : IsStarted
+is_started r two three four a b c = let sum = early_total r.drives in omega (arith, sum)
+
+pub is_refused_early : IsRefusedEarly
+is_refused_early r two stop a b = let sum = early_total r.drives in omega (arith, sum)
+
+late_greatest : (ring : List DriveView) → greatest refusal_cycles ring ≤ greatest command_cycles ring + 41 * (slowest ring + 1)
+late_greatest [] = omega arith
+late_greatest (d ∷ ring) = let more = late_greatest ring in omega (arith, more)
+
+pub is_refused_late : IsRefusedLate
+is_refused_late r two three stop a b c = let sum = early_total r.drives in let late = late_greatest r.drives in omega (arith, sum, late)
+
+-- Requests.
+short_one : (b t n : ℕ) → (n ≤ 517) ⊎ ((b + 1) * n ≤ t + 4 * (b + 1)) → (b + 1) * n ≤ (b + 2) * (520 + t)
+short_one b t n (inl few) =
+    let le = times_le (b + 1) n 517 few in
+    let all : (b + 2) * (520 + t) ≡ 520 * b + b * t + 1040 + 2 * t = grind arith in omega (arith, all)
+short_one b t n (inr few) =
+    let all : (b + 2) * (520 + t) ≡ 520 * b + b * t + 1040 + 2 * t = grind arith in omega (arith, all)
+
+short_sum : (d : DriveView) (counts : List ℕ) → AreShort d counts → (d.busy + 1) * sum counts ≤ length counts * ((d.busy + 2) * (520 + d.command))
+short_sum d [] are = omega arith
+short_sum d (n ∷ counts) are =
+    let one = short_one d.busy d.command n are.1 in
+    let more = short_sum d counts are.0 in
+    let first : (d.busy + 1) * sum (n ∷ counts) ≡ (d.busy + 1) * (n + sum counts) = ap (λ (x : ℕ). (d.busy + 1) * x) (sum_by-cons (λ x. x) n counts) in
+    let left = times_sum d.busy n (sum counts) in
+    let right = times_suc (length counts) ((d.busy + 2) * (520 + d.command)) in omega (arith, one, more, first, left, right)
+
+pub is_reported : IsReported
+is_reported d counts limit four cycle are le at = let sum = short_sum d counts are in omega (arith, sum)
+
+-- Recovery without a fall.
+slow_startup : (ring : List DriveView) → 1 ≤ length ring → 82 * (slowest ring + 2) ≤ sum_by startup_of ring
+slow_startup [] some = absurd (omega arith)
+slow_startup (d ∷ []) some = let s = opened_startup d.busy (listed d) d.command in omega (arith, s)
+slow_startup (d ∷ e ∷ ring) some =
+    let s = opened_startup d.busy (listed d) d.command in
+    let more = slow_startup (e ∷ ring) (omega arith) in omega (arith, s, more, sum_by-cons startup_of d (e ∷ ring))
+
+pub is_back_at_once : IsBackAtOnce
+is_back_at_once r lost cycle at some = let sum = slow_startup r.drives some in omega (arith, sum)
+
+-- The drive that was in phase 0, among the others.
+sum_by-middle : (f : DriveView → ℕ) (before after : List DriveView) (d : DriveView) → sum_by f (before ++ d ∷ after) ≡ f d + sum_by f (before ++ after)
+sum_by-middle f [] after d = sum_by-cons f d after
+sum_by-middle f (e ∷ before) after d =
+    let more = sum_by-middle f before after d in omega (arith, more, sum_by-cons f e (before ++ d ∷ after), sum_by-cons f e (before ++ after))
+
+greatest-middle : (f : DriveView → ℕ) (before after : List DriveView) (d : DriveView) → greatest f (before ++ d ∷ after) ≡ max (f d) (greatest f (before ++ after))
+greatest-middle f [] after d = refl
+greatest-middle f (e ∷ before) after d = let more = greatest-middle f before after d in omega (arith, more)
+
+-- a section leaves 32 steps of a drive's part of the bound
+section_of : (b m t : ℕ) → (b + 1) * max (24 + 3 * m) (50 + m) + t + 32 * (b + 2) ≤ (b + 2) * (82 + 4 * m + 2 * t)
+section_of b m t =
+    let s = opened_startup b m t in
+    let r = opened_reads b m in
+    let w = opened_writes b m in elim (cases_max (24 + 3 * m) (50 + m)) [
+      | inl e ↦ let same : (b + 1) * max (24 + 3 * m) (50 + m) ≡ (b + 1) * (24 + 3 * m) = ap (λ (n : ℕ). (b + 1) * n) e in omega (arith, s, r, w, same)
+      | inr e ↦ let same : (b + 1) * max (24 + 3 * m) (50 + m) ≡ (b + 1) * (50 + m) = ap (λ (n : ℕ). (b + 1) * n) e in omega (arith, s, r, w, same)
+    ]
+  where
+    cases_max : (x y : ℕ) → (max x y ≡ x) ⊎ (max x y ≡ y)
+    cases_max x y = elim (cases_eq (max x y) x) [ inl e ↦ inl e | inr ne ↦ inr (omega (arith, ne)) ]
+
+spared : (ring : List DriveView) → sum_by section_cycles ring + 32 * slowest ring ≤ sum_by startup_of ring
+spared [] = omega arith
+spared (d ∷ ring) =
+    let one = section_of d.busy (listed d) d.command in
+    let more = spared ring in omega (arith, one, more, sum_by-cons section_cycles d ring, sum_by-cons startup_of d ring)
+
+pub is_back_later : IsBackLater
+is_back_later r before after d lost fall cycle same slow at late =
+    let sum = spared (before ++ after) in
+    let shares = ap (sum_by startup_of) same ∙ sum_by-middle startup_of before after d in
+    let slowest_of = ap (greatest (λ x. x.busy)) same ∙ greatest-middle (λ x. x.busy) before after d in
+    let own = opened_startup d.busy (listed d) d.command in omega (arith, sum, shares, slowest_of, own, slow, at, late)
+
+pub are_sections : AreSections
+are_sections d =
+    let r = times_le (d.busy + 1) (24 + 3 * (listed d)) (max (24 + 3 * (listed d)) (50 + (listed d))) (omega arith) in
+    let w = times_le (d.busy + 1) (50 + (listed d)) (max (24 + 3 * (listed d)) (50 + (listed d))) (omega arith) in (omega (arith, r), omega (arith, w))
+
+pub is_below_greatest : IsBelowGreatest
+is_below_greatest bound [] k d cycles got le = absurd (cc)
+is_below_greatest bound (e ∷ drives) zero d cycles got le = let same : e ≡ d = cc in let here = ap bound same in omega (arith, here, le)
+is_below_greatest bound (e ∷ drives) (suc k) d cycles got le = let more = is_below_greatest bound drives k d cycles got le in omega (arith, more)

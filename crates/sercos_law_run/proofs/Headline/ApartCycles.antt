@@ -1,0 +1,198 @@
+-- In a cycle commanded 3 or 4 the telegrams are apart.
+use Rattle.std.proofs.Common.{◌≡◌, ◌⊎◌, inl, inr, ℕ, ◌+◌, ◌*◌, ◌<◌, ◌≤◌, Bool, true, false, List, [], ◌∷◌, ◌++◌, map, length, Option, Some, refl, sym, ◌∙◌, ap, ap₂, subst, arith, if◌then◌else◌}
+use Rattle.std.specs.Prelude.{◌==◌, nat_le, slice_index, pos}
+use Rattle.std.proofs.lemmas.Bool.Decides.{nat_tests}
+use Rattle.sercos_model.specs.Frames.{wire_bits}
+use Rattle.sercos_hdlc.specs.Stuffed.{frame_of}
+use Rattle.sercos_telegram.specs.declared.layout.Kind.TheVariants as kinds
+use Rattle.sercos_telegram.specs.Spells.{all_drives}
+use Rattle.sercos_step.specs.declared.request.Job.{Job}
+use Rattle.sercos_timing.specs.Views.{WishesView, PlanView}
+use Rattle.sercos_timing.specs.Order.{record_bytes}
+use Rattle.sercos_timing.specs.declared.wishes.Wish.{Wish}
+use Rattle.sercos_block.specs.Rings.{wishes_of, wish_of, record_len}
+use Rattle.sercos_block.specs.Stores.{IsStore, store_of}
+use Rattle.sercos_block.specs.Views.{DriveView, RingView}
+use Rattle.sercos_command.specs.Checks.{number_at, carried_len}
+use Rattle.sercos_drive.specs.Moments.{phase_in, cycle_in, blocks_in}
+use Rattle.sercos_drive.specs.Says.{Said, values_in}
+use Rattle.sercos_trace.specs.Views.{SentView, CycleView}
+use Rattle.sercos_law_run.specs.Slots.Slots.{AtSlot, MdtSlot}
+use Rattle.sercos_law_run.specs.Slots.Sending.{IsSending, IsApart}
+use Rattle.sercos_law_run.proofs.Slots.Places.{length_records}
+use Rattle.sercos_seat.specs.Ring.{Known, known_of}
+use Rattle.sercos_seat.proofs.Sends.{fields_length}
+use Rattle.sercos_law_run.specs.Start.StartUp.{IsStoreOf, start_up, Holds}
+use Rattle.sercos_law_run.specs.Start.RingSlots.{held_by, AreSent, AllHold, RingSendsApart}
+use Rattle.sercos_law_run.proofs.Start.CheckPasses.{wish_is}
+use Rattle.sercos_master.specs.Annals.{Past}
+use Rattle.sercos_master.specs.Says.{Sent, records_from, joint, mdt_said}
+use Rattle.sercos_script.specs.Links.{Carry, Restarts}
+use Rattle.sercos_law_channel.specs.Handshake.Views.{standing, stood_in}
+use Rattle.sercos_law_channel.specs.Handshake.RunLaws.{StandsAsCommanded}
+use Rattle.sercos_law_run.specs.Journal.Runs.{drive_at, given_mst, sent_mdt, ats_said, mst_next, ats_next, mdt_next, IsNext}
+use Rattle.sercos_law_run.specs.Views.RingViews.{at_start, behind_mdt, after_mst, view_of, views_of}
+use Rattle.sercos_law_run.proofs.Views.Members.{IsSaid, members_count}
+use Rattle.sercos_law_run.proofs.Views.ViewRuns.{IsSpelled}
+use Rattle.sercos_law_run.specs.Held.Opened.{IsOpened}
+use Rattle.sercos_law_run.specs.Held.Stored.{IsStored}
+use Rattle.sercos_law_run.proofs.Held.Laid.{records_of, records_concat, records_lengths}
+use Rattle.sercos_law_run.proofs.Held.Runs.{Laws, AllStand, IsPlannedIn, drive_got, got_inside, s_known, holding, one_plan, phase_same, kept_at_mst}
+use Rattle.sercos_law_run.specs.Headline.Cycles.{takes_part, store_in_cycle, AreApartIn}
+use Rattle.sercos_law_run.proofs.Headline.Placed.{Placed, placed_below, placed_said, IsPlaced, are_placed, are_ordered}
+use Rattle.sercos_law_run.proofs.Headline.AtLengths.{carried_length}
+use Rattle.sercos_law_run.proofs.Headline.ApartRuns.{ends_at_0, slot_of, all_slots, slots_ordered, Sends, sent_by, ats_sent}
+use Rattle.sercos_law_run.proofs.Held.Agreed.{wishes_count}
+
+-- the ring's wishes
+record_lengths : (r : RingView) → map (λ (w : Wish). w.record_len) (wishes_of r).drives ≡ map record_len r.drives
+unfolding wishes_of
+record_lengths r = by r.drives
+  where
+    by : (drives : List DriveView) → map (λ (w : Wish). w.record_len) (map wish_of drives) ≡ map record_len drives
+    by [] = refl
+    by (d ∷ drives) = ap (λ (l : List ℕ). record_len d ∷ l) (by drives)
+
+-- no frame is longer than its content may need
+pub record AreFramed (r : RingView) (jobs : List Job) (carry : Carry) (restarts : Restarts) (t : CycleView) (j : List CycleView) : Type 0 where
+  pub ats : (content : List ℕ) → IsSaid (length r.drives) (drive_at r) r.rate (given_mst carry restarts t.sent j) content → length (frame_of content) ≤ wire_bits (length content)
+  pub mdt : (m : Sent) → mdt_said (known_of r) (behind_mdt r jobs carry restarts t.sent j) ≡ Some m → length (frame_of m.content) ≤ wire_bits (length m.content)
+
+-- the MDT to all
+pub joint_said : (s : Known) (p : Past) (plan : PlanView) → 3 ≤ p.now.phase → p.plan ≡ Some plan → mdt_said s p ≡ Some (joint s p plan)
+joint_said s p plan late has =
+    let one : (p.now.phase == 1) ≡ false = grind (arith, nat_tests, late) in
+    let two : (p.now.phase == 2) ≡ false = grind (arith, nat_tests, late) in
+    let three : nat_le 3 p.now.phase ≡ true = grind (arith, nat_tests, late) in
+    rw (one, two, three, has) refl
+
+first_apart : {A : Type 0} (x : A) (xs ys : List A) → (x ∷ xs) ++ ys ≡ x ∷ (xs ++ ys)
+first_apart x xs ys = refl
+
+module _ (laws : Laws) (sends_apart : RingSendsApart) (commanded : StandsAsCommanded) (r : RingView) (jobs : List Job) (carry : Carry) (restarts : Restarts) (opened : IsOpened r jobs)
+    (first : (k : ℕ) → k < length r.drives → IsStore (store_of (drive_at r k))) (t : CycleView) (j : List CycleView) (next : IsNext r jobs carry restarts t j) (clear : t.unseen ≡ 0)
+    (spelled : IsSpelled r jobs carry restarts t j) (stored : (k : ℕ) → k < length r.drives → IsStored (drive_at r k) (blocks_in (drive_at r k) (after_mst r carry restarts t.sent j k)))
+    (all : AllStand r jobs carry restarts j) (framed : AreFramed r jobs carry restarts t j) where
+  -- a drive that sends stands in the commanded phase
+  sender_phase : (k : ℕ) → k < length r.drives → (s : Said) → Sends (drive_at r k) r.rate (after_mst r carry restarts t.sent j k) s → phase_in (after_mst r carry restarts t.sent j k) ≡ t.phase
+  sender_phase k below s sending =
+      let kept = kept_at_mst laws r jobs carry restarts opened first t j next clear spelled stored all k below in
+      let comes : (view_of r jobs carry restarts k t j).mst_comes ≡ true = sym kept.got ∙ sending.got in
+      let up = sending.stands in
+      by (commanded (view_of r jobs carry restarts k t j) (views_of r jobs carry restarts k j) comes) kept.ended up
+    where
+      by : (stood_in (view_of r jobs carry restarts k t j) (standing (views_of r jobs carry restarts k j)) ≡ 0) ⊎ (stood_in (view_of r jobs carry restarts k t j) (standing (views_of r jobs carry restarts k j)) ≡ t.phase)
+          → phase_in (after_mst r carry restarts t.sent j k) ≡ stood_in (view_of r jobs carry restarts k t j) (standing (views_of r jobs carry restarts k j)) → 1 ≤ phase_in (after_mst r carry restarts t.sent j k)
+          → phase_in (after_mst r carry restarts t.sent j k) ≡ t.phase
+      by (inl none) is up = absurd (omega (arith, none, is, up))
+      by (inr same) is up = is ∙ same
+
+  abbrev placed : List Placed
+  placed = placed_below (length r.drives) (drive_at r) r.rate (given_mst carry restarts t.sent j)
+
+  -- an AT by its place
+  sending_of : (x : Placed) → IsPlaced (length r.drives) (drive_at r) r.rate (given_mst carry restarts t.sent j) x → Sends (drive_at r x.place) r.rate (after_mst r carry restarts t.sent j x.place) x.says
+  sending_of x (low, says) = sent_by (drive_at r x.place) r.rate (after_mst r carry restarts t.sent j x.place) x.says says
+
+  -- with the plan
+  module _ (late : 3 ≤ (at_start r jobs carry restarts j).now.phase) (plan : PlanView) (planned : IsPlannedIn r jobs carry restarts t j plan) where
+    late_mdt : 3 ≤ (behind_mdt r jobs carry restarts t.sent j).now.phase
+    late_mdt = subst (λ n. 3 ≤ n) (sym (phase_same laws r jobs carry restarts opened first t j next clear spelled stored all)) late
+
+    said : mdt_said (known_of r) (behind_mdt r jobs carry restarts t.sent j) ≡ Some (joint (known_of r) (behind_mdt r jobs carry restarts t.sent j) plan)
+    said = joint_said (known_of r) (behind_mdt r jobs carry restarts t.sent j) plan late_mdt planned.now
+
+    abbrev ats : List AtSlot
+    ats = map (slot_of r.rate) placed
+
+    abbrev content : List ℕ
+    content = all_drives ∷ records_from (known_of r) (behind_mdt r jobs carry restarts t.sent j) 0 (length (known_of r).drives)
+
+    abbrev mdt : MdtSlot
+    mdt = record { start = r.rate * plan.t2; bits = length (frame_of content); records = records_of (known_of r) (behind_mdt r jobs carry restarts t.sent j) 0 (length (known_of r).drives) }
+
+    abbrev last : SentView
+    last = record { kind = kinds.Mdt; start = pos (r.rate * plan.t2); bits = length (frame_of content); content = content }
+
+    sent_is : t.sent ≡ mst_next r jobs carry restarts j ∷ (ats_said r.rate (map (λ (x : Placed). x.says) placed) ++ last ∷ [])
+    sent_is = next.sent ∙ first_apart (mst_next r jobs carry restarts j) (ats_next r carry restarts t.sent j) (mdt_next r jobs carry restarts t.sent j)
+        ∙ ap₂ (λ (l : List Said) (m : Option Sent). mst_next r jobs carry restarts j ∷ (ats_said r.rate l ++ sent_mdt r.rate m)) (sym (placed_said (length r.drives) (drive_at r) r.rate (given_mst carry restarts t.sent j))) said
+
+    holds : AllHold r plan (takes_part r carry restarts t j) (store_in_cycle r carry restarts t j)
+    holds k d got takes =
+        let (low, same) = got_inside r.drives k d got in
+        let (made, by, there) = holding laws r jobs carry restarts opened first t j next clear spelled stored all late k low in
+        let one : made ≡ plan = one_plan laws r jobs carry restarts opened first t j next clear spelled stored all by.before planned.before in
+        subst (λ (x : DriveView). IsStoreOf x (store_in_cycle r carry restarts t j k) × Holds (store_in_cycle r carry restarts t j k) (start_up r.control r.cycle plan k x.at x.mdt)) (sym same)
+        ((stored k low).1, subst (λ (p : PlanView). Holds (store_in_cycle r carry restarts t j k) (start_up r.control r.cycle p k (drive_at r k).at (drive_at r k).mdt)) one there)
+
+    lengths : map length (records_of (known_of r) (behind_mdt r jobs carry restarts t.sent j) 0 (length (known_of r).drives)) ≡ map (λ (w : Wish). w.record_len) (wishes_of r).drives
+    lengths = records_lengths (known_of r) (behind_mdt r jobs carry restarts t.sent j) ∙ ap (λ (w : WishesView). map (λ (x : Wish). x.record_len) w.drives) planned.asked
+
+    long : length content ≡ 1 + plan.mdt_len
+    long =
+        let whole : length (records_from (known_of r) (behind_mdt r jobs carry restarts t.sent j) 0 (length (known_of r).drives)) ≡ record_bytes (wishes_of r).drives =
+        ap (λ (l : List ℕ). length l) (sym (records_concat (known_of r) (behind_mdt r jobs carry restarts t.sent j) 0 (length (known_of r).drives))) ∙ length_records _ (wishes_of r).drives lengths in
+        let total = planned.of.least.fits.rule_12.1 in
+        omega (arith, whole, total)
+
+    -- an AT in its slot
+    phase_of : (x : Placed) → IsPlaced (length r.drives) (drive_at r) r.rate (given_mst carry restarts t.sent j) x → nat_le 3 (phase_in (after_mst r carry restarts t.sent j x.place)) ≡ true
+    phase_of x is = let same = sender_phase x.place is.0 x.says (sending_of x is) in let first_is = next.phase in grind (arith, nat_tests, same, late, first_is)
+
+    framed_at : (x : Placed) → IsPlaced (length r.drives) (drive_at r) r.rate (given_mst carry restarts t.sent j) x → length (frame_of x.says.content) ≤ wire_bits (1 + carried_len (store_in_cycle r carry restarts t j x.place) 16)
+    framed_at x is =
+        let sending = sending_of x is in
+        let (word, info, spelled_so) = sending.content in
+        let bits = framed.ats x.says.content (record { place = x.place; says = x.says; inside = is.0; said = is.1; content_is = refl }) in
+        let carried = carried_length (cycle_in (after_mst r carry restarts t.sent j x.place)) (phase_in (after_mst r carry restarts t.sent j x.place)) (store_in_cycle r carry restarts t j x.place) (stored x.place is.0).0 (phase_of x is) in
+        let fields_long = fields_length word info (values_in (cycle_in (after_mst r carry restarts t.sent j x.place)) (phase_in (after_mst r carry restarts t.sent j x.place)) (blocks_in (drive_at r x.place) (after_mst r carry restarts t.sent j x.place))) in
+        let whole : length x.says.content ≡ 1 + carried_len (store_in_cycle r carry restarts t j x.place) 16 = ap (λ (l : List ℕ). length l) spelled_so ∙ omega (arith, carried, fields_long) in
+        subst (λ (n : ℕ). length (frame_of x.says.content) ≤ wire_bits n) whole bits
+
+    sent : AreSent r plan (takes_part r carry restarts t j) (store_in_cycle r carry restarts t j) ats mdt
+    sent = record {
+      senders = all_slots (λ (a : AtSlot). (a.drive < length r.drives) × (takes_part r carry restarts t j a.drive ≡ true)) r.rate (length r.drives) (drive_at r) (given_mst carry restarts t.sent j) placed
+          (are_placed (length r.drives) (drive_at r) r.rate (given_mst carry restarts t.sent j)) (λ x is. (is.0, phase_of x is));
+      starts = all_slots (λ (a : AtSlot). a.start ≡ r.rate * number_at (store_in_cycle r carry restarts t j a.drive) 6) r.rate (length r.drives) (drive_at r) (given_mst carry restarts t.sent j) placed
+          (are_placed (length r.drives) (drive_at r) r.rate (given_mst carry restarts t.sent j))
+          (λ x is. ap (λ (n : ℕ). r.rate * n) ((sending_of x is).start ∙ ap (λ (b : Bool). if b then number_at (store_in_cycle r carry restarts t j x.place) 6 else 300) (phase_of x is)));
+      bits = all_slots (λ (a : AtSlot). a.bits ≤ wire_bits (1 + carried_len (store_in_cycle r carry restarts t j a.drive) 16)) r.rate (length r.drives) (drive_at r) (given_mst carry restarts t.sent j) placed
+          (are_placed (length r.drives) (drive_at r) r.rate (given_mst carry restarts t.sent j)) framed_at;
+      in_order = slots_ordered r.rate (s_known laws r jobs carry restarts opened first).cycles.rate placed (are_ordered (length r.drives) (drive_at r) r.rate (given_mst carry restarts t.sent j));
+      mdt_start = refl;
+      mdt_bits = subst (λ (n : ℕ). length (frame_of content) ≤ wire_bits n) long (framed.mdt (joint (known_of r) (behind_mdt r jobs carry restarts t.sent j) plan) said);
+      records = lengths ∙ record_lengths r;
+    }
+
+    sending : IsSending (wishes_of r) ats mdt (mst_next r jobs carry restarts j) (ats_said r.rate (map (λ (x : Placed). x.says) placed)) last
+    sending = record {
+      mst_kind = refl;
+      mst_end = ends_at_0 (mst_next r jobs carry restarts j).bits;
+      are_ats = ats_sent (wishes_of r) r.rate (length r.drives) (drive_at r) (given_mst carry restarts t.sent j) placed (are_placed (length r.drives) (drive_at r) r.rate (given_mst carry restarts t.sent j)) (λ x is.
+          let (word, info, spelled_so) = (sending_of x is).content in
+          let wide = wishes_count r in
+          let low = is.0 in
+          (ap (λ (l : List ℕ). slice_index l 0) spelled_so ∙ sym (ap (λ (w : Wish). w.address) (wish_is r x.place (drive_at r x.place) (drive_got r x.place low))), omega (arith, low, wide)));
+      mdt_kind = refl;
+      mdt_start = refl;
+      mdt_bits = refl;
+      mdt_is = ap (λ (l : List ℕ). all_drives ∷ l) (sym (records_concat (known_of r) (behind_mdt r jobs carry restarts t.sent j) 0 (length (known_of r).drives)));
+    }
+
+    pub apart_with : (records : List (List ℕ)) × IsApart (wishes_of r) (held_by (takes_part r carry restarts t j) (store_in_cycle r carry restarts t j)) records t.sent
+    apart_with = (
+      records_of (known_of r) (behind_mdt r jobs carry restarts t.sent j) 0 (length (known_of r).drives),
+      subst (λ (l : List SentView). IsApart (wishes_of r) (held_by (takes_part r carry restarts t j) (store_in_cycle r carry restarts t j)) (records_of (known_of r) (behind_mdt r jobs carry restarts t.sent j) 0 (length (known_of r).drives)) l) (sym sent_is)
+          (sends_apart r plan (takes_part r carry restarts t j) (store_in_cycle r carry restarts t j) ats mdt (mst_next r jobs carry restarts j) (ats_said r.rate (map (λ (x : Placed). x.says) placed)) last opened.valid planned.of.valid planned.of.least.fits
+          holds sent sending),
+    )
+
+  some : 0 < length r.drives
+  some = let most = (s_known laws r jobs carry restarts opened first).some in let count = members_count r in omega (arith, most, count)
+
+  pub apart_in : AreApartIn r carry restarts t j
+  apart_in late =
+      let early : 3 ≤ (at_start r jobs carry restarts j).now.phase = subst (λ n. 3 ≤ n) next.phase late in
+      let (plan, planned, holds) = holding laws r jobs carry restarts opened first t j next clear spelled stored all early 0 some in
+      apart_with early plan planned

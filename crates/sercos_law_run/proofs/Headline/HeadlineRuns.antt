@@ -1,0 +1,247 @@
+-- The headline, by induction over the cycles of a run.
+use Rattle.std.proofs.Common.{◌≡◌, ◌⊎◌, inl, inr, ℕ, ◌<◌, ◌≤◌, Bool, true, false, List, [], ◌∷◌, ◌++◌, length, Option, Some, None, refl, sym, ap, subst, arith, max, if◌then◌else◌}
+use Rattle.std.specs.Prelude.{slice_index, IfSome}
+use Rattle.std.proofs.lemmas.List.Elements.{All-nil, All-cons}
+use Rattle.sercos_model.specs.Bits.{AreBytes}
+use Rattle.sercos_model.specs.Frames.{wire_bits, IsFrame}
+use Rattle.sercos_hdlc.specs.Stuffed.{frame_of}
+use Rattle.sercos_telegram.specs.declared.layout.Kind.TheVariants as kinds
+use Rattle.sercos_step.specs.declared.request.Job.{Job}
+use Rattle.sercos_step.specs.declared.request.Outcome.{Outcome}
+use Rattle.sercos_block.specs.Stores.{IsStore, store_of}
+use Rattle.sercos_block.specs.Views.{DriveView, RingView}
+use Rattle.sercos_service_drive.specs.Log.{Taken, Entry}
+use Rattle.sercos_service_drive.specs.Replies.{log_of}
+use Rattle.sercos_service_master.specs.Begun.{Begun}
+use Rattle.sercos_drive.specs.Annals.{accepted_at}
+use Rattle.sercos_drive.specs.Laws.{HandedThose}
+use Rattle.sercos_drive.specs.Moments.{blocks_in}
+use Rattle.sercos_drive.specs.Says.{Said}
+use Rattle.sercos_trace.specs.Views.{SentView, EventsView, CycleView}
+use Rattle.sercos_seat.specs.Ring.{known_of, tasks_for}
+use Rattle.sercos_law_run.specs.Start.Kept.{BlocksKeep}
+use Rattle.sercos_law_run.specs.Start.RingSlots.{RingSendsApart}
+use Rattle.sercos_master.specs.Annals.{Call, Restart}
+use Rattle.sercos_master.specs.Says.{Sent, mst_said, mdt_said}
+use Rattle.sercos_script.specs.Links.{Carry, Restarts}
+use Rattle.sercos_law_channel.specs.Handshake.Views.{Heard, View, standing, stood_in}
+use Rattle.sercos_law_channel.specs.Handshake.Runs.{IsShown, IsNext as IsNextView}
+use Rattle.sercos_law_channel.specs.Handshake.Epochs.{begun_in}
+use Rattle.sercos_law_channel.specs.Handshake.InStep.{AreInStep}
+use Rattle.sercos_law_channel.specs.Handshake.RunLaws.{StandsNoLater as NoLaterInViews, StandsAsCommanded, Handshake, phase_commanded}
+use Rattle.sercos_law_channel.specs.Handshake.WholeRun.{all_entries}
+use Rattle.sercos_law_run.specs.Journal.Arrivals.{heard, passage}
+use Rattle.sercos_law_run.specs.Journal.Records.{mst_in, ats_in}
+use Rattle.sercos_law_run.specs.Journal.Runs.{drive_at, station_of, with_at, at_calls, begin_calls, own_mst, given_before, given_mst, master_calls, looks_back, no_events, restart_events, begins, sent_at, sent_mst, sent_mdt, ats_said, said_below, middle, IsNext, IsRun, IsClear}
+use Rattle.sercos_law_run.specs.Agenda.Events.{HasOutcome, AreTold, AreToldAtRestart}
+use Rattle.sercos_law_run.specs.Agenda.Reported.{IsAtStart, RestartsAtStart, AreRequests, TellsInOrder, TellsOnce, TellsRight}
+use Rattle.sercos_law_run.specs.Typed.Keeps.{KeepsAlways, KeepsWithin}
+use Rattle.sercos_law_run.specs.Typed.Spelled.{SpelledNext}
+use Rattle.sercos_law_run.proofs.Typed.Ats.{IsContent, at_content}
+use Rattle.sercos_law_run.proofs.Typed.Mdts.{mdt_whole}
+use Rattle.sercos_law_run.specs.Views.RingViews.{behind_mdt, after_mst, view_of, views_of}
+use Rattle.sercos_law_run.proofs.Views.Members.{members_count}
+use Rattle.sercos_law_run.proofs.Views.Received.{address_of}
+use Rattle.sercos_law_run.proofs.Views.ViewRuns.{IsSpelled}
+use Rattle.sercos_law_run.specs.Held.Opened.{IsOpened}
+use Rattle.sercos_law_run.specs.Held.Stored.{IsStored}
+use Rattle.sercos_law_run.proofs.Held.AnsweredRuns.{EntriesStored, entries_stored}
+use Rattle.sercos_law_run.proofs.Held.StoreOf.{AllowsWrites, store_of_so}
+use Rattle.sercos_law_run.proofs.Held.Runs.{Laws, AllStand, all_first, all_next, s_known, small, kept_at_mst, begun_then}
+use Rattle.sercos_law_run.specs.Headline.Cycles.{HaveRealBits, phase_before, StandsNoLater}
+use Rattle.sercos_law_run.specs.Headline.Transfers.{OnStores, IsExactAt, IsToldAt, AreReportedIn, AreInStepAt}
+use Rattle.sercos_law_run.specs.Headline.Headline.{KeepsAll}
+use Rattle.sercos_law_run.proofs.Headline.ApartCycles.{AreFramed, apart_in}
+use Rattle.sercos_law_run.proofs.Headline.WellRuns.{StopLaws, AllWell, all_well, stops_in}
+use Rattle.sercos_law_run.proofs.Settings.WellSets.{well_first}
+
+-- and these laws
+pub record MoreLaws : Type 0 where
+  pub always : KeepsAlways
+  pub within : KeepsWithin
+  pub spelled : SpelledNext
+  pub sends_apart : RingSendsApart
+  pub commanded : StandsAsCommanded
+  pub no_later : NoLaterInViews
+  pub handshake : (busy : ℕ) → Handshake busy
+  pub requests : AreRequests
+  pub in_order : TellsInOrder
+  pub once : TellsOnce
+  pub right : TellsRight
+  pub told : AreTold
+  pub told_at_restart : AreToldAtRestart
+  pub stop_laws : StopLaws
+  pub keep : BlocksKeep
+  pub allows : AllowsWrites
+  pub those : HandedThose
+  pub frame : (content : List ℕ) → AreBytes content → 0 < length content → length content ≤ 2048 → IsFrame content (frame_of content)
+  pub wire : (content : List ℕ) (bits : List Bool) → IsFrame content bits → length bits ≤ wire_bits (length content)
+
+-- the master is restarted at the start of a cycle alone
+starts : (r : RingView) (carry : Carry) (restarts : Restarts) (j : List CycleView) → IsAtStart (master_calls r carry restarts j)
+starts r carry restarts [] = tt
+starts r carry restarts (t ∷ j) = tt
+
+ats_start : (r : RingView) (carry : Carry) (cycle : ℕ) (ats : List (List ℕ)) (h : List Call) → RestartsAtStart h → RestartsAtStart (at_calls r carry cycle ats h)
+ats_start r carry cycle [] h are = are
+ats_start r carry cycle (at ∷ ats) h are = ats_start r carry cycle ats _ (by (heard carry (passage cycle kinds.At (station_of r (slice_index at 0)) 0) at))
+  where
+    by : (o : Option (List ℕ)) → RestartsAtStart (with_at o h)
+    by None = are
+    by (Some content) = are
+
+pub restarts_so : (r : RingView) (carry : Carry) (restarts : Restarts) (j : List CycleView) → RestartsAtStart (master_calls r carry restarts j)
+restarts_so r carry restarts [] = tt
+restarts_so r carry restarts (t ∷ j) = ats_start r carry (length j) (ats_in t.sent) (own_mst carry (length j) (mst_in t.sent) (begin_calls restarts (length j) (master_calls r carry restarts j))) (by (restarts (length j) 0) (restarts_so r carry restarts j) (starts r carry restarts j))
+  where
+    by : (b : Bool) → RestartsAtStart (master_calls r carry restarts j) → IsAtStart (master_calls r carry restarts j) → RestartsAtStart (if b then Restart ∷ master_calls r carry restarts j else master_calls r carry restarts j)
+    by true are at = (are, at)
+    by false are at = are
+
+on_stores : (d : DriveView) (entries : List Entry) → EntriesStored d entries → OnStores entries
+on_stores d [] are = tt
+on_stores d (e ∷ entries) are = (on_stores d entries are.0, are.1.0)
+
+-- A cycle may follow others whether its MDT comes to the drive or not.
+abbrev without_mdt : View → View
+without_mdt v = record v { mdt_comes = false }
+
+shown_without : (busy : ℕ) (v : View) (past : List View) (o : Option Heard) → IfSome o (λ a. IsShown busy a v past) → IfSome o (λ a. IsShown busy a (without_mdt v) past)
+shown_without busy v past None is = is
+shown_without busy v past (Some a) is = record { got_mst = is.got_mst; stands = is.stands; says = is.says }
+
+next_without : (busy : ℕ) (v : View) (past : List View) → IsNextView busy v past → IsNextView busy (without_mdt v) past
+next_without busy v past next = record {
+  commanded = next.commanded;
+  heard = shown_without busy v past v.heard next.heard;
+  late = next.late;
+  begins = next.begins;
+  sent = next.sent;
+  ten = next.ten;
+  rests = next.rests;
+  top = next.top;
+}
+
+before_is : (r : RingView) (jobs : List Job) (carry : Carry) (restarts : Restarts) (k : ℕ) (j : List CycleView) → phase_commanded (views_of r jobs carry restarts k j) ≡ phase_before j
+before_is r jobs carry restarts k [] = refl
+before_is r jobs carry restarts k (t ∷ j) = refl
+
+-- each telegram of a cycle has the bits of its frame
+real_mdt : (rate : ℕ) (m : Option Sent) → HaveRealBits (sent_mdt rate m)
+real_mdt rate None = All-nil (λ (s : SentView). s.bits ≡ length (frame_of s.content))
+real_mdt rate (Some m) = All-cons (λ (s : SentView). s.bits ≡ length (frame_of s.content)) _ [] refl (All-nil (λ (s : SentView). s.bits ≡ length (frame_of s.content)))
+
+real_ats : (rate : ℕ) (ats : List Said) (m : Option Sent) → HaveRealBits (ats_said rate ats ++ sent_mdt rate m)
+real_ats rate [] m = real_mdt rate m
+real_ats rate (a ∷ ats) m = All-cons (λ (s : SentView). s.bits ≡ length (frame_of s.content)) (sent_at rate a.start a.content) (ats_said rate ats ++ sent_mdt rate m) refl (real_ats rate ats m)
+
+real_bits : (rate : ℕ) (mst : List ℕ) (ats : List Said) (m : Option Sent) → HaveRealBits ((sent_mst mst ∷ ats_said rate ats) ++ sent_mdt rate m)
+real_bits rate mst ats m = All-cons (λ (s : SentView). s.bits ≡ length (frame_of s.content)) (sent_mst mst) (ats_said rate ats ++ sent_mdt rate m) refl (real_ats rate ats m)
+
+module _ (laws : Laws) (more : MoreLaws) (r : RingView) (jobs : List Job) (carry : Carry) (restarts : Restarts) (opened : IsOpened r jobs) where
+  pub first_store : (k : ℕ) → k < length r.drives → IsStore (store_of (drive_at r k))
+  first_store k below = (more.always r carry restarts [] k opened.valid opened.typed below).store
+
+  pub stored_in : (t : CycleView) (j : List CycleView) (k : ℕ) → k < length r.drives → IsStored (drive_at r k) (blocks_in (drive_at r k) (after_mst r carry restarts t.sent j k))
+  stored_in t j k below = (
+    (more.within r carry restarts t.sent j k opened.valid opened.typed below).store,
+    (store_of_so more.keep more.allows more.those (drive_at r k) r.rate (given_mst carry restarts t.sent j k) (first_store k below).ascending).0,
+  )
+
+  pub spelled_in : (t : CycleView) (j : List CycleView) → IsNext r jobs carry restarts t j → IsSpelled r jobs carry restarts t j
+  spelled_in t j next = more.spelled r jobs carry restarts t j opened.valid opened.typed opened.jobs_typed next
+
+  pub all_stand : (j : List CycleView) → IsRun r jobs carry restarts j → IsClear j → AllStand r jobs carry restarts j
+  all_stand [] run clear = all_first r jobs carry restarts
+  all_stand (t ∷ j) (run, next) (before, clear) =
+      all_next laws r jobs carry restarts opened first_store t j next clear (spelled_in t j next) (stored_in t j) (all_stand j run before)
+
+  pub well : (j : List CycleView) → IsRun r jobs carry restarts j → IsClear j → AllWell laws more.stop_laws r jobs carry restarts opened first_store j
+  well [] run clear = λ k below. well_first r jobs carry restarts k
+  well (t ∷ j) (run, next) (before, clear) =
+      all_well laws more.stop_laws r jobs carry restarts opened first_store t j next clear (spelled_in t j next) (stored_in t j) (all_stand j run before) (all_stand (t ∷ j) (run, next) (before, clear)) (well j run before)
+
+  framed_so : (content : List ℕ) → IsContent content → length (frame_of content) ≤ wire_bits (length content)
+  framed_so content is = more.wire content (frame_of content) (more.frame content is.bytes is.some is.most)
+
+  framed_in : (t : CycleView) (j : List CycleView) → AreFramed r jobs carry restarts t j
+  framed_in t j = record {
+    ats = λ content is. framed_so content (subst IsContent (sym is.content_is) (let high = (address_of r is.place opened.valid is.inside).1 in
+        at_content (drive_at r is.place) r.rate (given_mst carry restarts t.sent j is.place) is.says (omega (arith, high)) (more.within r carry restarts t.sent j is.place opened.valid opened.typed is.inside) is.said));
+    mdt = λ m said. framed_so m.content (mdt_whole (known_of r) (behind_mdt r jobs carry restarts t.sent j) m (s_known laws r jobs carry restarts opened first_store)
+        (laws.planned (known_of r) (tasks_for (known_of r) jobs) (middle r carry restarts t.sent j)) said);
+  }
+
+  pub keeps_all : (t : CycleView) (j : List CycleView) → IsRun r jobs carry restarts (t ∷ j) → IsClear (t ∷ j) → KeepsAll r jobs carry restarts t j
+  keeps_all t j (run, next) (before, clear) = record {
+    apart = apart_in laws more.sends_apart more.commanded r jobs carry restarts opened first_store t j next clear (spelled_in t j next) (stored_in t j) (all_stand j run before) (framed_in t j);
+    real = subst (λ (l : List SentView). HaveRealBits l) (sym next.sent) (real_bits r.rate (mst_said (looks_back r jobs (begins r carry restarts j))) (said_below (length r.drives) (drive_at r) r.rate (given_mst carry restarts t.sent j))
+        (mdt_said (known_of r) (behind_mdt r jobs carry restarts t.sent j)));
+    no_later = no_later_in;
+    exact = exact_in;
+    told = told_in;
+    reported = reported_in;
+    stops = stops_in laws more.stop_laws r jobs carry restarts opened first_store t j next clear (spelled_in t j next) (stored_in t j) (all_stand j run before) at_end (well (t ∷ j) (run, next) (before, clear));
+    in_step = in_step_in;
+  }
+    where
+      at_end : AllStand r jobs carry restarts (t ∷ j)
+      at_end = all_stand (t ∷ j) (run, next) (before, clear)
+
+      no_later_in : (k : ℕ) → k < length r.drives → StandsNoLater r carry restarts t j k
+      no_later_in k below =
+          let kept = kept_at_mst laws r jobs carry restarts opened first_store t j next clear (spelled_in t j next) (stored_in t j) (all_stand j run before) k below in
+          let bound = more.no_later (view_of r jobs carry restarts k t j) (views_of r jobs carry restarts k j) in
+          subst (λ (n : ℕ). n ≤ max t.phase (phase_before j)) (sym kept.ended) (subst (λ (n : ℕ). stood_in (view_of r jobs carry restarts k t j) (standing (views_of r jobs carry restarts k j)) ≤ max t.phase n) (before_is r jobs carry restarts k j) bound)
+
+      exact_in : (k : ℕ) → k < length r.drives → IsExactAt r jobs carry restarts t j k
+      exact_in k below =
+          let stands = at_end k below in
+          record {
+            exact = laws.exact (drive_at r k).busy (store_of (drive_at r k)) (views_of r jobs carry restarts k (t ∷ j)) (small laws r jobs carry restarts opened first_store k below) stands.sees.run stands.sound;
+            before = laws.exact (drive_at r k).busy (store_of (drive_at r k)) (without_mdt (view_of r jobs carry restarts k t j) ∷ views_of r jobs carry restarts k j) (small laws r jobs carry restarts opened first_store k below)
+                (stands.sees.run.0, next_without (drive_at r k).busy (view_of r jobs carry restarts k t j) (views_of r jobs carry restarts k j) stands.sees.run.1) stands.sound;
+            writes = sym stands.sees.drive.writes;
+            accepted = ap log_of (sym stands.sees.drive.taken);
+            begun = sym stands.sees.master.begun_are;
+            begun_now = sym (begun_then laws r jobs carry restarts opened first_store t j next clear (spelled_in t j next) (stored_in t j) (all_stand j run before) k below);
+            stored = on_stores (drive_at r k) (all_entries (views_of r jobs carry restarts k (t ∷ j))) (entries_stored (drive_at r k) (views_of r jobs carry restarts k (t ∷ j)) stands.stored);
+          }
+
+      told_in : (k : ℕ) → k < length r.drives → IsToldAt r jobs carry restarts (t ∷ j) k
+      told_in k below =
+          let count = members_count r in
+          let inside : k < length (known_of r).drives = omega (arith, below, count) in
+          record {
+            in_order = more.in_order (known_of r) (tasks_for (known_of r) jobs) (master_calls r carry restarts (t ∷ j)) k (more.requests (known_of r) jobs k).1 inside (restarts_so r carry restarts (t ∷ j));
+            once = more.once (known_of r) jobs (master_calls r carry restarts (t ∷ j)) k inside (restarts_so r carry restarts (t ∷ j));
+          }
+
+      -- nothing stands in the events before a restart
+      only : {A B : Type 0} → (A → ⊥ ⊎ B) → A → B
+      only f a = by (f a)
+        where
+          by : {B : Type 0} → ⊥ ⊎ B → B
+          by (inl none) = absurd none
+          by (inr b) = b
+
+      reported_in : AreReportedIn r jobs carry restarts t j
+      reported_in = record {
+        events = λ number o.
+            let same = more.told (known_of r) (behind_mdt r jobs carry restarts t.sent j) (restart_events r jobs restarts (length j) (master_calls r carry restarts j)) number o in
+            let outcomes = ap (λ (e : EventsView). e.outcomes) next.events in
+            (λ has. same.0 (subst (λ (l : List (ℕ × Outcome)). HasOutcome l number o) outcomes has), λ has. subst (λ (l : List (ℕ × Outcome)). HasOutcome l number o) (sym outcomes) (same.1 has));
+        at_restart = λ number o.
+            let same = more.told_at_restart (known_of r) (looks_back r jobs (master_calls r carry restarts j)) no_events number o in
+            (λ has. only same.0 has, λ has. same.1 (inr has));
+        tasks = λ k below. let count = members_count r in laws.tasks (known_of r) (tasks_for (known_of r) jobs) (middle r carry restarts t.sent j) k (omega (arith, below, count));
+        right = λ k x below is. let count = members_count r in more.right (known_of r) (tasks_for (known_of r) jobs) (middle r carry restarts t.sent j) k x (omega (arith, below, count)) is;
+      }
+
+      in_step_in : (k : ℕ) → k < length r.drives → AreInStepAt r jobs carry restarts t j k
+      in_step_in k below two stands =
+          let sees = (at_end k below).sees in
+          let joined = more.handshake (drive_at r k).busy (view_of r jobs carry restarts k t j) (views_of r jobs carry restarts k j) sees.run two (subst (λ (n : ℕ). 2 ≤ n) sees.drive.ended stands) in
+          subst (λ (l : List Begun). AreInStep l (accepted_at (drive_at r k) r.rate (given_before carry restarts (t ∷ j) k)))
+          (sym (begun_then laws r jobs carry restarts opened first_store t j next clear (spelled_in t j next) (stored_in t j) (all_stand j run before) k below))
+          (subst (λ (h : List Taken). AreInStep (begun_in (view_of r jobs carry restarts k t j) (views_of r jobs carry restarts k j)) (log_of h)) (sym sees.drive.taken) joined)

@@ -1,0 +1,263 @@
+-- In a run of a ring in which nothing is unseen the master stops with `NoFit` only if no plan fits, and never at what is configured.
+use Rattle.std.proofs.Common.{◌≡◌, ℕ, zero, suc, ◌<◌, ◌≤◌, Bool, true, false, ◌||◌, List, [], ◌∷◌, ◌++◌, map, length, Option, Some, None, Result, Err, refl, sym, ap, ◌∙◌, subst, arith, if◌then◌else◌, append_assoc}
+use Rattle.std.specs.Prelude.{◌==◌, nat_le, slice_get, is_some, is_none, OnErr}
+use Rattle.std.specs.List.{list_any}
+use Rattle.std.proofs.lemmas.Bool.{eq-eqb, false≢true, le-leb}
+use Rattle.std.proofs.lemmas.Option.{get_or_from_slice_get, slice_get_within}
+use Rattle.sercos_idn.specs.declared.idn.Idn.{Idn}
+use Rattle.sercos_step.specs.declared.request.Request.{Request}
+use Rattle.sercos_step.specs.declared.request.Request.TheVariants as request
+use Rattle.sercos_step.specs.declared.request.Outcome.{Outcome}
+use Rattle.sercos_step.specs.declared.request.Outcome.TheVariants as outcome
+use Rattle.sercos_step.specs.declared.request.Job.{Job}
+use Rattle.sercos_step.specs.Steps.{outcome_of}
+use Rattle.sercos_timing.specs.Order.{record_bytes}
+use Rattle.sercos_timing.specs.Valid.{IsValid}
+use Rattle.sercos_timing.specs.Views.{PlanView, WishesView}
+use Rattle.sercos_block.specs.Rings.{wishes_of}
+use Rattle.sercos_block.specs.Stores.{IsStore, store_of}
+use Rattle.sercos_block.specs.Views.{DriveView, RingView}
+use Rattle.sercos_plan.specs.Least.{NoneFits}
+use Rattle.sercos_plan.specs.ChainOf.{planned}
+use Rattle.sercos_plan.specs.Views.{ChainView}
+use Rattle.sercos_plan.proofs.AnswerLemmas.{planned_none}
+use Rattle.sercos_service_master.specs.Begun.{Begun}
+use Rattle.sercos_service_master.specs.Calls.{begun_by}
+use Rattle.sercos_trace.specs.declared.events.Stop.{Stop}
+use Rattle.sercos_trace.specs.declared.events.Stop.TheVariants as stop
+use Rattle.sercos_seat.specs.Agenda.{idn, declared_times, reads, reads_count, asked_by, stop_by, long_in, len_said, attribute_stop, wishes_given}
+use Rattle.sercos_seat.specs.Channel.{with_outcome, outcomes_in, trouble_by, last_outcome}
+use Rattle.sercos_seat.specs.Ring.{Task, MemberView, member, member_of, known_of, tasks_for}
+use Rattle.sercos_seat.proofs.Agendas.{reads_length}
+use Rattle.sercos_law_run.specs.Start.Answers.{IsAnswer, AreAnswers, NoAttributeStops}
+use Rattle.sercos_law_run.specs.Start.Causes.{RingIsValid}
+use Rattle.sercos_law_run.proofs.Start.CheckPasses.{ring_drive}
+use Rattle.sercos_master.specs.Annals.{Call, Past, outcomes, trouble}
+use Rattle.sercos_script.specs.Links.{carried_clean, never_restarts}
+use Rattle.sercos_law_channel.specs.Handshake.Views.{View}
+use Rattle.sercos_law_channel.specs.Handshake.Epochs.{epoch_begun}
+use Rattle.sercos_law_channel.specs.Handshake.Runs.{IsRun}
+use Rattle.sercos_law_channel.specs.Handshake.WholeRun.{all_entries, all_writes, all_begun, begun_ago, AreSound}
+use Rattle.sercos_law_channel.specs.Handshake.Exact.{AreExact}
+use Rattle.sercos_law_run.specs.Journal.Runs.{no_drive, drive_at, looks_back}
+use Rattle.sercos_law_run.specs.Agenda.Reported.{AreNumbered}
+use Rattle.sercos_law_run.specs.Agenda.Tasks.{IsTask, OfReads, OfWrites, Checks3, Lists3, Checks4, Lists4, OfWaiting, AreBegunTasks, HasEndedAt}
+use Rattle.sercos_law_run.proofs.Agenda.AgendaTasks.{IsIn, First, After, is_in, mapped}
+use Rattle.sercos_law_run.proofs.Agenda.ReadWell.{AllComplete, last_is}
+use Rattle.sercos_law_run.proofs.Agenda.Requests.{numbered_drop, are_requests}
+use Rattle.sercos_law_run.proofs.Agenda.StopCauses.{element_asked, Says, SaysRefused, SaysBad, Says127, Says128, says_so}
+use Rattle.sercos_law_run.proofs.Agenda.StopRuns.{StopsFor, OfTask, OfPlan, OfLength, stop_has_cause}
+use Rattle.sercos_law_run.proofs.Agenda.WritesDone.{raw_of, IsDataWrite, DataWrite, all_data_writes}
+use Rattle.sercos_law_run.proofs.Views.Members.{member_is, members_count}
+use Rattle.sercos_law_run.specs.Held.Opened.{IsOpened}
+use Rattle.sercos_law_run.specs.Held.Stored.{AreStored}
+use Rattle.sercos_law_run.proofs.Held.AnsweredRuns.{is_read_request, as_read, read_of, read_answers, answered_by, entries_stored}
+use Rattle.sercos_law_run.proofs.Held.Runs.{Laws, drive_got, wishes_so}
+use Rattle.sercos_law_run.proofs.Headline.StopReads.{StopsSo, OfOutcome, WithReads, stops_so}
+
+one_request : (x y : Request) → Some x ≡ Some y → x ≡ y
+one_request x y e = cc
+
+any_at : (xs : List Idn) (n : ℕ) (i : Idn) (raw : ℕ) → slice_get xs n ≡ Some i → i.raw ≡ raw → list_any (λ (c : Idn). c.raw == raw) xs ≡ true
+any_at [] n i raw got is = absurd (cc)
+any_at (x ∷ xs) zero i raw got is =
+    let same : x ≡ i = cc in
+    ap (λ (b : Bool). b || list_any (λ (c : Idn). c.raw == raw) xs) (eq-eqb x.raw raw (ap (λ (c : Idn). c.raw) same ∙ is))
+any_at (x ∷ xs) (suc n) i raw got is = by (x.raw == raw) (any_at xs n i raw got is)
+  where
+    by : (b : Bool) → list_any (λ (c : Idn). c.raw == raw) xs ≡ true → (b || list_any (λ (c : Idn). c.raw == raw) xs) ≡ true
+    by true rest = refl
+    by false rest = rest
+
+-- an attribute that is read is that of a configured value
+configured_read : (m : MemberView) (n : ℕ) (x : Request) (i : Idn) → slice_get (reads m) n ≡ Some x → x ≡ request.Read i 3 → list_any (λ (c : Idn). c.raw == i.raw) (m.at ++ m.mdt) ≡ true
+configured_read m n x i got asks = by (is_in (map (λ raw. request.Read (idn raw) 7) declared_times) (map (λ c. request.Read c 3) (m.at ++ m.mdt)) n x got)
+  where
+    by : IsIn (map (λ raw. request.Read (idn raw) 7) declared_times) (map (λ c. request.Read c 3) (m.at ++ m.mdt)) n x → list_any (λ (c : Idn). c.raw == i.raw) (m.at ++ m.mdt) ≡ true
+    by (First less is) =
+        let f = mapped (λ raw. request.Read (idn raw) 7) declared_times n x is in
+        let e : 7 ≡ 3 = sym (ap element_asked f.2) ∙ ap element_asked asks in absurd (omega (arith, e))
+    by (After j at is) =
+        let f = mapped (λ c. request.Read c 3) (m.at ++ m.mdt) j x is in
+        any_at (m.at ++ m.mdt) j f.0 i.raw f.1 (sym (ap raw_of f.2) ∙ ap raw_of asks)
+
+-- the stops that come of what is configured, or of the plan
+abbrev is_of_plan : Stop → Bool
+is_of_plan (stop.NoFit chain) = true
+is_of_plan (stop.Refused address i code) = false
+is_of_plan (stop.BadConfig address i word) = true
+is_of_plan (stop.Check127 address list) = false
+is_of_plan (stop.Check128 address list) = false
+
+-- a drive and its channel, by these views, with what the master looks back on
+pub record IsFollowed (r : RingView) (jobs : List Job) (h : List Call) (views : ℕ → List View) (k : ℕ) : Type 0 where
+  pub run : IsRun (drive_at r k).busy (views k)
+  pub sound : AreSound (store_of (drive_at r k)) (views k)
+  pub stored : AreStored (drive_at r k) (views k)
+  pub begun_are : begun_by ((looks_back r jobs h).calls k) ≡ epoch_begun (views k)
+
+module _ (laws : Laws) (ring_valid : RingIsValid) (no_stops : NoAttributeStops) (r : RingView) (jobs : List Job) (opened : IsOpened r jobs)
+    (first : (k : ℕ) → k < length r.drives → IsStore (store_of (drive_at r k))) (h : List Call) (views : ℕ → List View) (all : (k : ℕ) → k < length r.drives → IsFollowed r jobs h views k) where
+  abbrev now : Past
+  now = looks_back r jobs h
+
+  place_inside : (k : ℕ) → k < length r.drives → k < length (known_of r).drives
+  place_inside k below = let count = members_count r in omega (arith, below, count)
+
+  place_outside : (k : ℕ) → k < length (known_of r).drives → k < length r.drives
+  place_outside k below = let count = members_count r in omega (arith, below, count)
+
+  -- A COMPLETE READ gave the drive's element.
+  answer_of : (k n : ℕ) (x : Request) (bytes : List ℕ) → k < length r.drives → n < reads_count (member (known_of r) k) → slice_get (reads (member (known_of r) k)) n ≡ Some x →
+      slice_get (outcomes now k) n ≡ Some (outcome.Complete bytes) → IsAnswer (drive_at r k) x (outcome.Complete bytes)
+  answer_of k n x bytes below early got complete =
+      let at = laws.ends (known_of r) (tasks_for (known_of r) jobs) h k n (outcome.Complete bytes) (place_inside k below) complete in by at at.is.task
+    where
+      by : (at : HasEndedAt (known_of r) k now.plan (now.waiting k) now.now.phase (begun_by (now.calls k)) n (outcome.Complete bytes)) → IsTask (known_of r) k at.is.by_then (now.waiting k) (outcomes_in at.older) at.task →
+          IsAnswer (drive_at r k) x (outcome.Complete bytes)
+      by at (OfReads y less found same) =
+          let stands = all k below in
+          let rules = (ring_drive r k (drive_at r k) opened.valid (drive_got r k below)).blocks in
+          let place : length (outcomes_in at.older) ≡ n = at.is.ended ∙ at.place in
+          let one : y ≡ x = one_request y x (sym found ∙ ap (slice_get (reads (member (known_of r) k))) place ∙ got) in
+          let is = is_read_request (member (known_of r) k) n x got in
+          let (i, e, is_read, other) = as_read x is in
+          let asks : at.one.request ≡ request.Read i e = at.is.asks ∙ ap (λ (t : Task). t.request) same ∙ one ∙ is_read in
+          let begun : all_begun (views k) ≡ at.newer ++ at.one ∷ (at.older ++ begun_ago (views k)) =
+          ap (λ (l : List Begun). l ++ begun_ago (views k)) (sym stands.begun_are ∙ at.split) ∙ append_assoc at.newer (at.one ∷ at.older) (begun_ago (views k)) in
+          subst (λ (y : Request). IsAnswer (drive_at r k) y (outcome.Complete bytes)) (sym is_read)
+          (read_answers (drive_at r k) x i e bytes rules is is_read
+          (read_of (drive_at r k) (store_of (drive_at r k)) (at.older ++ begun_ago (views k)) at.one i e bytes other asks at.ended at.newer (all_entries (views k)) (all_writes (views k))
+          (subst (λ (l : List Begun). AreExact (store_of (drive_at r k)) l (all_entries (views k)) (all_writes (views k))) begun
+          (laws.exact (drive_at r k).busy (store_of (drive_at r k)) (views k) (λ raw b found. (laws.types (store_of (drive_at r k)) raw b (first k below) found).0) stands.run stands.sound))
+          (entries_stored (drive_at r k) (views k) stands.stored)))
+      by at (OfWrites pl i y planned less at_i found same) = let a = at.is.ended in let b = at.place in absurd (omega (arith, a, b, at_i, early))
+      by at (Checks3 pl planned at_i same) = let a = at.is.ended in let b = at.place in absurd (omega (arith, a, b, at_i, early))
+      by at (Lists3 at_i failed same) = let a = at.is.ended in let b = at.place in absurd (omega (arith, a, b, at_i, early))
+      by at (Checks4 at_i checked same) = let a = at.is.ended in let b = at.place in absurd (omega (arith, a, b, at_i, early))
+      by at (Lists4 at_i failed same) = let a = at.is.ended in let b = at.place in absurd (omega (arith, a, b, at_i, early))
+      by at (OfWaiting i at_i ready found) = let a = at.is.ended in let b = at.place in absurd (omega (arith, a, b, at_i, early))
+
+  -- If all reads are complete, the master asks of the plan what the ring asks.
+  answers : AllComplete (known_of r) now → (k : ℕ) → k < length r.drives → AreAnswers (drive_at r k) (reads (member_of (drive_at r k))) (outcomes now k)
+  answers whole k below = subst (λ (m : MemberView). AreAnswers (drive_at r k) (reads m) (outcomes now k)) (member_is r k) (answered_by (drive_at r k) (reads (member (known_of r) k)) (outcomes now k) each)
+    where
+      each : (n : ℕ) (x : Request) → slice_get (reads (member (known_of r) k)) n ≡ Some x → (o : Outcome) × (slice_get (outcomes now k) n ≡ Some o) × IsAnswer (drive_at r k) x o
+      each n x got =
+          let less = slice_get_within (reads (member (known_of r) k)) n x got in
+          let long = reads_length (member (known_of r) k) in
+          let early : n < reads_count (member (known_of r) k) = omega (arith, less, long) in
+          let (bytes, complete) = whole k (place_inside k below) n early in
+          (outcome.Complete bytes, complete, answer_of k n x bytes below early got complete)
+
+  asked : AllComplete (known_of r) now → wishes_given (known_of r) (outcomes now) ≡ wishes_of r
+  asked whole = wishes_so laws r jobs carried_clean never_restarts opened first (outcomes now) (answers whole)
+
+  pub valid_wishes : IsValid (wishes_of r)
+  valid_wishes = ring_valid r opened.valid (λ k d got.
+      let low = slice_get_within r.drives k d got in
+      subst (λ (x : DriveView). (length x.at ≤ 16) × (length x.mdt ≤ 16)) (get_or_from_slice_get r.drives k d no_drive got) ((opened.typed k low).at, (opened.typed k low).mdt))
+
+  -- NO ATTRIBUTE THAT IS CONFIGURED STOPS.
+  waits_numbered : (k : ℕ) → AreNumbered (now.waiting k)
+  waits_numbered k =
+      let left = laws.left (known_of r) jobs h k in
+      subst AreNumbered (sym left.1) (numbered_drop left.0 (tasks_for (known_of r) jobs k) (are_requests (known_of r) jobs k).1)
+
+  no_bad : (k : ℕ) (b : Begun) (older : List Begun) (t : Task) (tasks : List Task) (i : Idn) (bytes : List ℕ) → k < length r.drives → begun_by (now.calls k) ≡ b ∷ older → now.tasks k ≡ t ∷ tasks → t.number ≡ None →
+      t.request ≡ request.Read i 3 → outcome_of b.request b.answers ≡ Some (outcome.Complete bytes) → len_said (long_in bytes) ≡ None → ⊥
+  no_bad k b older t tasks i bytes below begun tasks_are number asks ended none = by are.1.by_then are.1.task
+    where
+      are : AreBegunTasks (known_of r) k now.plan (now.waiting k) now.now.phase (b ∷ older) (t ∷ tasks)
+      are = subst (λ (l : List Begun). AreBegunTasks (known_of r) k now.plan (now.waiting k) now.now.phase l (t ∷ tasks)) begun
+          (subst (AreBegunTasks (known_of r) k now.plan (now.waiting k) now.now.phase (begun_by (now.calls k))) tasks_are
+          (laws.tasks (known_of r) (tasks_for (known_of r) jobs) h k (place_inside k below)))
+
+      there : slice_get (outcomes now k) (length (outcomes_in older)) ≡ Some (outcome.Complete bytes)
+      there =
+          ap (λ (l : List Begun). slice_get (outcomes_in l) (length (outcomes_in older))) begun
+          ∙ ap (λ (x : Option Outcome). slice_get (with_outcome x (outcomes_in older)) (length (outcomes_in older))) ended
+          ∙ last_is (outcomes_in older) (outcome.Complete bytes) (length (outcomes_in older)) refl
+
+      other : (e : ℕ) (i' : Idn) → (e ≡ 3 → ⊥) → t.request ≡ request.Read i' e → ⊥
+      other e i' differs is = differs (sym (ap element_asked is) ∙ ap element_asked asks)
+
+      by : (by_then : Option PlanView) → IsTask (known_of r) k by_then (now.waiting k) (outcomes_in older) t → ⊥
+      by by_then (OfReads x less got same) =
+          let reads_it : x ≡ request.Read i 3 = sym (ap (λ (u : Task). u.request) same) ∙ asks in
+          let answer : IsAnswer (drive_at r k) (request.Read i 3) (outcome.Complete bytes) =
+          subst (λ (y : Request). IsAnswer (drive_at r k) y (outcome.Complete bytes)) reads_it (answer_of k (length (outcomes_in older)) x bytes below less got there) in
+          let listed : list_any (λ (c : Idn). c.raw == i.raw) ((drive_at r k).at ++ (drive_at r k).mdt) ≡ true =
+          subst (λ (m : MemberView). list_any (λ (c : Idn). c.raw == i.raw) (m.at ++ m.mdt) ≡ true) (member_is r k) (configured_read (member (known_of r) k) (length (outcomes_in older)) x i got reads_it) in
+          let quiet : attribute_stop 0 i (long_in bytes) ≡ None = no_stops r k (drive_at r k) 0 i (outcome.Complete bytes) opened.valid (drive_got r k below) (laws.factors (drive_at r k) (opened.typed k below).blocks) listed answer in
+          let stopped : attribute_stop 0 i (long_in bytes) ≡ Some (stop.BadConfig 0 i (long_in bytes)) = ap (λ (o : Option ℕ). if is_none o then Some (stop.BadConfig 0 i (long_in bytes)) else None) none in
+          let both : None ≡ Some (stop.BadConfig 0 i (long_in bytes)) = sym quiet ∙ stopped in cc
+      by by_then (OfWrites p n x has less at got same) = written (all_data_writes (known_of r) p k n x got)
+        where
+          written : IsDataWrite x → ⊥
+          written (DataWrite v values form) = let e : 0 ≡ 3 = sym (ap element_asked (ap (λ (u : Task). u.request) same ∙ form)) ∙ ap element_asked asks in omega (arith, e)
+      by by_then (Checks3 p has at same) = let e : 0 ≡ 3 = sym (ap element_asked (ap (λ (u : Task). u.request) same)) ∙ ap element_asked asks in omega (arith, e)
+      by by_then (Lists3 at failed same) = other 7 (idn 21) (λ e. omega (arith, e)) (ap (λ (u : Task). u.request) same)
+      by by_then (Checks4 at checked same) = let e : 0 ≡ 3 = sym (ap element_asked (ap (λ (u : Task). u.request) same)) ∙ ap element_asked asks in omega (arith, e)
+      by by_then (Lists4 at failed same) = other 7 (idn 22) (λ e. omega (arith, e)) (ap (λ (u : Task). u.request) same)
+      by by_then (OfWaiting n at ready got) = false≢true (sym (ap (λ (o : Option ℕ). is_some o) number) ∙ waits_numbered k n t got)
+
+  -- So no outcome of the start-up brings such a stop.
+  no_task : (x : Stop) → is_of_plan x ≡ true → (k : ℕ) (b : Begun) (older : List Begun) (t : Task) (tasks : List Task) (o : Outcome) → k < length r.drives → begun_by (now.calls k) ≡ b ∷ older → now.tasks k ≡ t ∷ tasks → t.number ≡ None →
+      outcome_of b.request b.answers ≡ Some o → stop_by (member (known_of r) k).address (asked_by t.request) o ≡ Some x → ⊥
+  no_task x of k b older t tasks o below begun tasks_are number ended is = by (says_so (member (known_of r) k).address t.request o x is)
+    where
+      by : Says (member (known_of r) k).address t.request o x → ⊥
+      by (SaysRefused code same other) = false≢true (sym (ap is_of_plan other) ∙ of)
+      by (SaysBad i bytes asks complete none other) = no_bad k b older t tasks i bytes below begun tasks_are number asks (ended ∙ ap (λ (y : Outcome). Some y) complete) none
+      by (Says127 i bytes asks raw complete other) = false≢true (sym (ap is_of_plan other) ∙ of)
+      by (Says128 i bytes asks raw complete other) = false≢true (sym (ap is_of_plan other) ∙ of)
+
+  no_trouble : (x : Stop) → is_of_plan x ≡ true → (k : ℕ) → k < length r.drives → trouble (known_of r) now k ≡ Some x → ⊥
+  no_trouble x of k below is = by (now.tasks k) (begun_by (now.calls k)) refl refl is
+    where
+      by : (tasks : List Task) (begun : List Begun) → now.tasks k ≡ tasks → begun_by (now.calls k) ≡ begun → trouble_by (member (known_of r) k).address tasks (last_outcome begun) ≡ Some x → ⊥
+      by [] begun ts bs is = cc
+      by (t ∷ tasks) [] ts bs is = cc
+      by (t ∷ tasks) (b ∷ older) ts bs is = outcome_so (outcome_of b.request b.answers) refl is
+        where
+          numbered : (o : Outcome) (n : Option ℕ) → t.number ≡ n → outcome_of b.request b.answers ≡ Some o → (if is_some n then None else stop_by (member (known_of r) k).address (asked_by t.request) o) ≡ Some x → ⊥
+          numbered o None none some is = no_task x of k b older t tasks o below bs ts none some is
+          numbered o (Some i) none some is = cc
+
+          outcome_so : (o : Option Outcome) → outcome_of b.request b.answers ≡ o → trouble_by (member (known_of r) k).address (t ∷ tasks) o ≡ Some x → ⊥
+          outcome_so None none is = cc
+          outcome_so (Some o) some is = numbered o t.number refl some is
+
+  -- At such a stop all reads are complete.
+  whole_at : (x : Stop) → is_of_plan x ≡ true → now.stop ≡ Some x → AllComplete (known_of r) now
+  whole_at x of is = by (stops_so (known_of r) laws.tasks (tasks_for (known_of r) jobs) h x is)
+    where
+      by : StopsSo (known_of r) now x → AllComplete (known_of r) now
+      by (OfOutcome k there brought) = absurd (no_trouble x of k (place_outside k there) brought)
+      by (WithReads whole) = whole
+
+  -- With `NoFit` the stop has the chain of what the ring asks.
+  pub no_plan_made : (chain : ChainView) → now.stop ≡ Some (stop.NoFit chain) → planned (wishes_of r) ≡ Err chain
+  no_plan_made chain is = by (stop_has_cause (known_of r) (tasks_for (known_of r) jobs) h (stop.NoFit chain) is)
+    where
+      by : StopsFor (known_of r) now (stop.NoFit chain) → planned (wishes_of r) ≡ Err chain
+      by (OfTask k b older t tasks o there begun tasks_are number ended brought) = absurd (no_task (stop.NoFit chain) refl k b older t tasks o (place_outside k there) begun tasks_are number ended brought)
+      by (OfPlan other same read made) =
+          let one : chain ≡ other = cc in
+          sym (ap planned (asked (whole_at (stop.NoFit chain) refl is))) ∙ made ∙ ap (λ (c : ChainView). Err c) (sym one)
+      by (OfLength address i word same long) = absurd (cc)
+
+  pub no_fit : (chain : ChainView) → now.stop ≡ Some (stop.NoFit chain) → NoneFits (wishes_of r)
+  no_fit chain is = subst (λ (q : Result PlanView ChainView). OnErr q (NoneFits (wishes_of r))) (no_plan_made chain is) (planned_none (wishes_of r) valid_wishes (planned (wishes_of r)) refl)
+
+  pub no_bad_config : (address : ℕ) (i : Idn) (word : ℕ) → now.stop ≡ Some (stop.BadConfig address i word) → ⊥
+  no_bad_config address i word is = by (stop_has_cause (known_of r) (tasks_for (known_of r) jobs) h (stop.BadConfig address i word) is)
+    where
+      by : StopsFor (known_of r) now (stop.BadConfig address i word) → ⊥
+      by (OfTask k b older t tasks o there begun tasks_are number ended brought) = no_task (stop.BadConfig address i word) refl k b older t tasks o (place_outside k there) begun tasks_are number ended brought
+      by (OfPlan other same read made) = cc
+      by (OfLength place c v same long) =
+          let asks = asked (whole_at (stop.BadConfig address i word) refl is) in
+          let most : record_bytes (wishes_of r).drives ≤ 2047 = valid_wishes.drives.mdt_len in
+          false≢true (sym long.1 ∙ ap (λ (w : WishesView). nat_le (record_bytes w.drives) 2047) asks ∙ le-leb (record_bytes (wishes_of r).drives) 2047 most)

@@ -1,0 +1,224 @@
+-- If there is a plan, a drive has answered the first reads as it has its elements.
+use Rattle.std.proofs.Common.{◌≡◌, ℕ, zero, suc, ◌+◌, ◌<◌, ◌≤◌, Bool, true, false, not, ◌&&◌, List, [], ◌∷◌, ◌++◌, map, length, Option, Some, None, refl, sym, ap, ◌∙◌, subst, arith, if◌then◌else◌, append_assoc}
+use Rattle.std.specs.Prelude.{◌==◌, slice_get, option_map, option_and_then, unwrap_or}
+use Rattle.std.specs.Option.{option_or}
+use mathlib.Core.Bool.{beq}
+use Rattle.sercos_idn.specs.declared.idn.Idn.{Idn}
+use Rattle.sercos_idn.specs.Codes.{is_list}
+use Rattle.sercos_step.specs.declared.request.Request.{Request}
+use Rattle.sercos_step.specs.declared.request.Request.TheVariants as request
+use Rattle.sercos_step.specs.declared.request.Outcome.{Outcome}
+use Rattle.sercos_step.specs.declared.request.Outcome.TheVariants as outcome
+use Rattle.sercos_step.specs.Steps.{outcome_of, steps_before}
+use Rattle.sercos_step.specs.declared.request.Job.{Job}
+use Rattle.sercos_timing.specs.Views.{PlanView}
+use Rattle.sercos_block.specs.declared.block.Block.{Block}
+use Rattle.sercos_block.specs.Blocks.{element_of, is_fixed}
+use Rattle.sercos_block.specs.BuiltIns.{built_in}
+use Rattle.sercos_block.specs.Rules.{blocks_fault}
+use Rattle.sercos_block.specs.Stores.{find_block, store_of}
+use Rattle.sercos_block.specs.Views.{DriveView, RingView}
+use Rattle.sercos_service_drive.specs.Log.{Taken, Entry, ahs}
+use Rattle.sercos_service_drive.specs.Replies.{data_in, reply_of, log_of}
+use Rattle.sercos_service_drive.specs.Writes.{Write}
+use Rattle.sercos_service_master.specs.Begun.{Begun}
+use Rattle.sercos_service_master.specs.Calls.{begun_by}
+use Rattle.sercos_trace.specs.Views.{CycleView}
+use Rattle.sercos_seat.specs.Agenda.{idn, declared_times, reads, reads_count}
+use Rattle.sercos_seat.specs.Channel.{outcomes_in}
+use Rattle.sercos_seat.specs.Ring.{Known, Task, MemberView, member, startup, known_of, tasks_for}
+use Rattle.sercos_seat.proofs.Agendas.{reads_length}
+use Rattle.sercos_law_run.specs.Start.StartUp.{IsStoreOf, is_given, kept}
+use Rattle.sercos_law_run.specs.Start.Answers.{element_read, IsAnswer, AreAnswers}
+use Rattle.sercos_law_run.proofs.Start.BlockFinds.{find_store_of, same_kept}
+use Rattle.sercos_master.specs.Annals.{Past, outcomes}
+use Rattle.sercos_script.specs.Links.{Carry, Restarts}
+use Rattle.sercos_law_channel.specs.Handshake.ReadTransfers.{entry_behind, element_in, IsReadAt}
+use Rattle.sercos_law_channel.specs.Handshake.Views.{View, standing, stood_in, record_in, kept_in}
+use Rattle.sercos_law_channel.specs.Handshake.WholeRun.{accepted_of, all_entries, all_writes, all_begun, begun_ago, AreSound, AreSmall}
+use Rattle.sercos_law_channel.specs.Handshake.Exact.{AreExact, RunsAreExact}
+use Rattle.sercos_law_channel.proofs.Theorems.{Processes, Nothing, Record, processes}
+use Rattle.sercos_law_run.specs.Journal.Runs.{drive_at, master_calls, looks_back}
+use Rattle.sercos_law_run.specs.Agenda.Tasks.{IsTask, OfReads, OfWrites, Checks3, Lists3, Checks4, Lists4, OfWaiting, HasEndedAt, EndsTasks}
+use Rattle.sercos_law_run.specs.Agenda.Reads.{ReadsWell}
+use Rattle.sercos_law_run.proofs.Agenda.AgendaTasks.{mapped}
+use Rattle.sercos_law_run.specs.Views.RingViews.{views_of}
+use Rattle.sercos_law_run.proofs.Views.ViewRuns.{Sees}
+use Rattle.sercos_law_run.specs.Held.Stored.{IsStored, AreStored}
+use Rattle.std.proofs.lemmas.Option.{slice_get_within}
+
+-- each accepted step was accepted on a store of the drive
+abbrev pub EntriesStored : DriveView → List Entry → Type 0
+EntriesStored d [] = Unit {0}
+EntriesStored d (e ∷ entries) = EntriesStored d entries × IsStored d e.taken.blocks
+
+pub entries_stored : (d : DriveView) (past : List View) → AreStored d past → EntriesStored d (all_entries past)
+entries_stored d [] have = tt
+entries_stored d (v ∷ past) have = by (processes v past) (entries_stored d past have.0)
+  where
+    dropped : (t : Taken) (same : Bool) → IsStored d t.blocks → EntriesStored d (all_entries past) →
+        EntriesStored d (if same then all_entries past else (record { taken = t; answer = reply_of t (log_of (kept_in v past)) }) ∷ all_entries past)
+    dropped t true is before = before
+    dropped t false is before = (before, is)
+
+    by : Processes v past → EntriesStored d (all_entries past) → EntriesStored d (all_entries (v ∷ past))
+    by (Nothing none) before = subst (λ (o : Option Taken). EntriesStored d (accepted_of o (kept_in v past) (all_entries past))) (sym none) before
+    by (Record s got came two some) before =
+        subst (λ (o : Option Taken). EntriesStored d (accepted_of o (kept_in v past) (all_entries past))) (sym some)
+        (dropped (record_in v (length past) (stood_in v (standing past)) s) (beq s.mhs (ahs (kept_in v past))) have.1 before)
+
+stored_left : (d : DriveView) (xs ys : List Entry) → EntriesStored d (xs ++ ys) → EntriesStored d xs
+stored_left d [] ys have = tt
+stored_left d (e ∷ xs) ys have = (stored_left d xs ys have.0, have.1)
+
+stored_right : (d : DriveView) (xs ys : List Entry) → EntriesStored d (xs ++ ys) → EntriesStored d ys
+stored_right d [] ys have = have
+stored_right d (e ∷ xs) ys have = stored_right d xs ys have.0
+
+stored_behind : (d : DriveView) (n : ℕ) (part : List Entry) (e : Entry) → EntriesStored d part → entry_behind n part ≡ Some e → IsStored d e.taken.blocks
+stored_behind d n [] e have got = absurd (cc)
+stored_behind d n (x ∷ part) e have got = by (length part == n) got (stored_behind d n part e have.0)
+  where
+    by : (b : Bool) → (if b then Some x else entry_behind n part) ≡ Some e → (entry_behind n part ≡ Some e → IsStored d e.taken.blocks) → IsStored d e.taken.blocks
+    by true got more = let same : x ≡ e = cc in subst (λ (y : Entry). IsStored d y.taken.blocks) same have.1
+    by false got more = more got
+
+-- a complete read gave the element of a block, in a store of the drive
+pub record IsReadOf (d : DriveView) (raw e : ℕ) (bytes : List ℕ) : Type 0 where
+  pub taken : Taken
+  pub stored_is : IsStored d taken.blocks
+  pub block : Block
+  pub found : find_block raw taken.blocks ≡ Some block
+  pub gives : bytes ≡ element_in e taken.cycle block
+
+-- a complete read among those that were begun
+pub read_of : (d : DriveView) (blocks : List Block) (older : List Begun) (b : Begun) (i : Idn) (e : ℕ) (bytes : List ℕ) → (e == 1) ≡ false → b.request ≡ request.Read i e → outcome_of b.request b.answers ≡ Some (outcome.Complete bytes)
+    → (newer : List Begun) (entries : List Entry) (writes : List Write) → AreExact blocks (newer ++ b ∷ older) entries writes → EntriesStored d entries → IsReadOf d i.raw e bytes
+read_of d blocks older b i e bytes other asks complete [] entries writes (part, rest, own, others, of_entries, of_writes, exact, behind) have =
+    let (first, found_first, selection, there, read) = exact.reads i e bytes asks complete in
+    let stored = stored_behind d (steps_before e) part selection (stored_left d part rest (subst (EntriesStored d) of_entries have)) there in
+    record { taken = selection.taken; stored_is = stored; block = read.block; found = read.found; gives = read.gives (λ two. stored.0) ∙ rw other refl }
+read_of d blocks older b i e bytes other asks complete (x ∷ newer) entries writes (part, rest, own, others, of_entries, of_writes, exact, behind) have =
+    read_of d blocks older b i e bytes other asks complete newer rest others behind (stored_right d part rest (subst (EntriesStored d) of_entries have))
+
+-- WHAT THE START-UP READS: a declared time, or an attribute
+pub data IsRead (r : Request) : Type 0 where
+  Time : (raw : ℕ) → ((d : DriveView) → option_map (λ (b : Block). b.step) (find_block raw (built_in d)) ≡ Some 0) → r ≡ request.Read (idn raw) 7 → IsRead r
+  Attribute : (i : Idn) → r ≡ request.Read i 3 → IsRead r
+
+pub is_read_request : (m : MemberView) (j : ℕ) (r : Request) → slice_get (reads m) j ≡ Some r → IsRead r
+unfolding built_in
+is_read_request m zero r got = Time 3 (λ d. refl) (cc)
+is_read_request m (suc zero) r got = Time 4 (λ d. refl) (cc)
+is_read_request m (suc (suc zero)) r got = Time 5 (λ d. refl) (cc)
+is_read_request m (suc (suc (suc zero))) r got = Time 87 (λ d. refl) (cc)
+is_read_request m (suc (suc (suc (suc zero)))) r got = Time 88 (λ d. refl) (cc)
+is_read_request m (suc (suc (suc (suc (suc zero))))) r got = Time 90 (λ d. refl) (cc)
+is_read_request m (suc (suc (suc (suc (suc (suc j)))))) r got = let (i, there, is) = mapped (λ i. request.Read i 3) (m.at ++ m.mdt) j r got in Attribute i is
+
+-- the step of a built-in block without one stays 0
+kept_step : (b : Block) → (kept b).step ≡ b.step
+kept_step b = by (is_fixed b && not (is_given b.idn.raw))
+  where
+    by : (t : Bool) → (if t then b else record b { value = [] }).step ≡ b.step
+    by true = refl
+    by false = refl
+
+map_step : (o : Option Block) → option_map (λ (b : Block). b.step) (option_map kept o) ≡ option_map (λ (b : Block). b.step) o
+map_step None = refl
+map_step (Some b) = ap (λ (n : ℕ). Some n) (kept_step b)
+
+built_first : (o own : Option Block) (n : ℕ) → option_map (λ (b : Block). b.step) o ≡ Some n → option_map (λ (b : Block). b.step) (option_or o own) ≡ Some n
+built_first None own n is = cc
+built_first (Some b) own n is = is
+
+no_step : (d : DriveView) (blocks : List Block) (raw : ℕ) (b : Block) → blocks_fault [] d.blocks ≡ None → IsStoreOf d blocks → option_map (λ (b : Block). b.step) (find_block raw (built_in d)) ≡ Some 0 → find_block raw blocks ≡ Some b → b.step ≡ 0
+no_step d blocks raw b rules stored built found =
+    let same : option_map (λ (b : Block). b.step) (find_block raw blocks) ≡ Some 0 =
+    sym (map_step (find_block raw blocks)) ∙ ap (option_map (λ (b : Block). b.step)) (same_kept raw d blocks stored) ∙ map_step (find_block raw (store_of d))
+    ∙ ap (option_map (λ (b : Block). b.step)) (find_store_of raw d rules) ∙ built_first (find_block raw (built_in d)) (find_block raw d.blocks) 0 built in
+    one b.step 0 (sym (ap (option_map (λ (b : Block). b.step)) found) ∙ same)
+  where
+    one : (m n : ℕ) → Some m ≡ Some n → m ≡ n
+    one m n e = cc
+
+-- so what was read is the element
+time_read : (cycle : ℕ) (b : Block) → b.step ≡ 0 → element_in 7 cycle b ≡ unwrap_or (element_of b 7) []
+unfolding data_in element_of
+time_read cycle b still = rw still (by (not (is_list b.attribute.length)))
+  where
+    by : (t : Bool) → (if t then b.value else b.value) ≡ b.value
+    by true = refl
+    by false = refl
+
+pub read_answers : (d : DriveView) (r : Request) (i : Idn) (e : ℕ) (bytes : List ℕ) → blocks_fault [] d.blocks ≡ None → IsRead r → r ≡ request.Read i e → IsReadOf d i.raw e bytes → IsAnswer d (request.Read i e) (outcome.Complete bytes)
+read_answers d r i e bytes rules (Time raw built is) asks read =
+    let same : request.Read i e ≡ request.Read (idn raw) 7 = sym asks ∙ is in
+    let number : i.raw ≡ raw = cc in
+    let element : e ≡ 7 = cc in
+    let still = no_step d read.taken.blocks i.raw read.block rules read.stored_is.1 (rw number (built d)) read.found in
+    (read.taken.blocks, read.stored_is.1, ap (λ (l : List ℕ). outcome.Complete l) (read.gives ∙ rw (element, read.found) (time_read read.taken.cycle read.block still)))
+read_answers d r i e bytes rules (Attribute x is) asks read =
+    let same : request.Read i e ≡ request.Read x 3 = sym asks ∙ is in
+    let element : e ≡ 3 = cc in
+    (read.taken.blocks, read.stored_is.1, ap (λ (l : List ℕ). outcome.Complete l) (read.gives ∙ rw (element, read.found) refl))
+
+-- each request has its answer
+pub answered_by : (d : DriveView) (requests : List Request) (all : List Outcome) → ((j : ℕ) (r : Request) → slice_get requests j ≡ Some r → (o : Outcome) × (slice_get all j ≡ Some o) × IsAnswer d r o) → AreAnswers d requests all
+answered_by d [] all each = tt
+answered_by d (r ∷ requests) [] each = let (o, got, is) = each 0 r refl in absurd (cc)
+answered_by d (r ∷ requests) (o ∷ all) each =
+    let (x, got, is) = each 0 r refl in
+    let same : x ≡ o = cc in
+    (subst (λ (y : Outcome). IsAnswer d r y) same is, answered_by d requests all (λ j y there. each (suc j) y there))
+
+request_at : (x y : Request) → Some x ≡ Some y → x ≡ y
+request_at x y e = cc
+
+pub as_read : (r : Request) → IsRead r → (i : Idn) × (e : ℕ) × (r ≡ request.Read i e) × ((e == 1) ≡ false)
+as_read r (Time raw built is) = (idn raw, 7, is, refl)
+as_read r (Attribute i is) = (i, 3, is, refl)
+
+pub reads_answered : EndsTasks → ReadsWell → (r : RingView) (jobs : List Job) (carry : Carry) (restarts : Restarts) (k : ℕ) (j : List CycleView) (blocks : List Block) (plan : PlanView) → k < length (known_of r).drives
+    → ((busy : ℕ) → RunsAreExact busy) → AreSmall blocks → blocks_fault [] (drive_at r k).blocks ≡ None → Sees r jobs carry restarts k j → AreSound blocks (views_of r jobs carry restarts k j) → AreStored (drive_at r k) (views_of r jobs carry restarts k j)
+    → (looks_back r jobs (master_calls r carry restarts j)).plan ≡ Some plan → AreAnswers (drive_at r k) (reads (member (known_of r) k)) (outcomes (looks_back r jobs (master_calls r carry restarts j)) k)
+reads_answered ends well r jobs carry restarts k j blocks plan below exact small rules sees sound have has = answered_by (drive_at r k) (reads (member (known_of r) k)) (outcomes p k) each
+  where
+    p : Past
+    p = looks_back r jobs (master_calls r carry restarts j)
+
+    m : MemberView
+    m = member (known_of r) k
+
+    each : (n : ℕ) (x : Request) → slice_get (reads (member (known_of r) k)) n ≡ Some x → (o : Outcome) × (slice_get (outcomes (looks_back r jobs (master_calls r carry restarts j)) k) n ≡ Some o) × IsAnswer (drive_at r k) x o
+    each n x got =
+        let less = slice_get_within (reads m) n x got in
+        let long = reads_length m in
+        let early : n < reads_count m = omega (arith, less, long) in
+        let (bytes, complete) = well (known_of r) (tasks_for (known_of r) jobs) (master_calls r carry restarts j) plan has k below n early in
+        let at = ends (known_of r) (tasks_for (known_of r) jobs) (master_calls r carry restarts j) k n (outcome.Complete bytes) below complete in
+        (outcome.Complete bytes, complete, by n x got early bytes at at.is.task)
+      where
+        by : (n : ℕ) (x : Request) → slice_get (reads (member (known_of r) k)) n ≡ Some x → n < reads_count (member (known_of r) k) → (bytes : List ℕ)
+            → (at : HasEndedAt (known_of r) k (looks_back r jobs (master_calls r carry restarts j)).plan ((looks_back r jobs (master_calls r carry restarts j)).waiting k) (looks_back r jobs (master_calls r carry restarts j)).now.phase
+            (begun_by ((looks_back r jobs (master_calls r carry restarts j)).calls k)) n (outcome.Complete bytes))
+            → IsTask (known_of r) k at.is.by_then ((looks_back r jobs (master_calls r carry restarts j)).waiting k) (outcomes_in at.older) at.task → IsAnswer (drive_at r k) x (outcome.Complete bytes)
+        by n x got early bytes at (OfReads y less found same) =
+            let place : length (outcomes_in at.older) ≡ n = at.is.ended ∙ at.place in
+            let one : y ≡ x = request_at y x (sym found ∙ ap (slice_get (reads (member (known_of r) k))) place ∙ got) in
+            let is = is_read_request (member (known_of r) k) n x got in
+            let (i, e, is_read, other) = as_read x is in
+            let asks : at.one.request ≡ request.Read i e = at.is.asks ∙ ap (λ (t : Task). t.request) same ∙ one ∙ is_read in
+            let all : all_begun (views_of r jobs carry restarts k j) ≡ at.newer ++ at.one ∷ (at.older ++ begun_ago (views_of r jobs carry restarts k j)) =
+            ap (λ (l : List Begun). l ++ begun_ago (views_of r jobs carry restarts k j)) (sym sees.master.begun_are ∙ at.split) ∙ append_assoc at.newer (at.one ∷ at.older) (begun_ago (views_of r jobs carry restarts k j)) in
+            subst (λ (y : Request). IsAnswer (drive_at r k) y (outcome.Complete bytes)) (sym is_read)
+            (read_answers (drive_at r k) x i e bytes rules is is_read
+            (read_of (drive_at r k) blocks (at.older ++ begun_ago (views_of r jobs carry restarts k j)) at.one i e bytes other asks at.ended at.newer (all_entries (views_of r jobs carry restarts k j)) (all_writes (views_of r jobs carry restarts k j))
+            (subst (λ (l : List Begun). AreExact blocks l (all_entries (views_of r jobs carry restarts k j)) (all_writes (views_of r jobs carry restarts k j))) all
+            (exact (drive_at r k).busy blocks (views_of r jobs carry restarts k j) small sees.run sound)) (entries_stored (drive_at r k) (views_of r jobs carry restarts k j) have)))
+        by n x got early bytes at (OfWrites pl i y planned less at_i found same) = let a = at.is.ended in let b = at.place in absurd (omega (arith, a, b, at_i, early))
+        by n x got early bytes at (Checks3 pl planned at_i same) = let a = at.is.ended in let b = at.place in absurd (omega (arith, a, b, at_i, early))
+        by n x got early bytes at (Lists3 at_i failed same) = let a = at.is.ended in let b = at.place in absurd (omega (arith, a, b, at_i, early))
+        by n x got early bytes at (Checks4 at_i checked same) = let a = at.is.ended in let b = at.place in absurd (omega (arith, a, b, at_i, early))
+        by n x got early bytes at (Lists4 at_i failed same) = let a = at.is.ended in let b = at.place in absurd (omega (arith, a, b, at_i, early))
+        by n x got early bytes at (OfWaiting i at_i ready found) = let a = at.is.ended in let b = at.place in absurd (omega (arith, a, b, at_i, early))

@@ -1,0 +1,59 @@
+-- Within a cycle outcomes only come to those that are there.
+use Rattle.std.proofs.Common.{◌≡◌, ℕ, zero, suc, ◌+◌, ◌≤◌, Bool, true, false, List, [], ◌∷◌, ◌++◌, length, Option, Some, None, refl, sym, ap, ◌∙◌, subst, arith, if◌then◌else◌}
+use Rattle.std.specs.Prelude.{is_some}
+use Rattle.std.proofs.lemmas.Bool.{and_parts}
+use Rattle.sercos_telegram.specs.declared.words.Status.{Status}
+use Rattle.sercos_step.specs.declared.request.Request.{Request}
+use Rattle.sercos_step.specs.declared.request.Outcome.{Outcome}
+use Rattle.sercos_step.specs.declared.step.Answer.{Answer}
+use Rattle.sercos_step.specs.declared.step.Step.{Step}
+use Rattle.sercos_step.specs.Steps.{outcome_of}
+use Rattle.sercos_block.specs.Views.{DriveView}
+use Rattle.sercos_service_master.specs.Begun.{Begun, open_in, step_at, answers_it, answer_in, with_answer}
+use Rattle.sercos_seat.specs.Channel.{outcomes_in, with_outcome}
+use Rattle.sercos_law_run.specs.Start.Answers.{IsAnswer, AreAnswers}
+use Rattle.sercos_law_channel.specs.Handshake.Moves.{with_status}
+use Rattle.sercos_law_channel.specs.Handshake.Views.{Heard}
+use Rattle.sercos_law_channel.specs.Handshake.Epochs.{with_heard, with_begun}
+
+-- one outcome more, or none
+abbrev pub Extends : List Outcome → List Outcome → Type 0
+Extends old new = (o : Option Outcome) × (new ≡ with_outcome o old)
+
+no_outcome : (b : Begun) → is_some (step_at b.request b.answers) ≡ true → outcome_of b.request b.answers ≡ None
+no_outcome b waits = by (outcome_of b.request b.answers) refl
+  where
+    by : (o : Option Outcome) → outcome_of b.request b.answers ≡ o → outcome_of b.request b.answers ≡ None
+    by None is = is
+    by (Some o) is = let closed : step_at b.request b.answers ≡ None = rw is refl in let f : false ≡ true = sym (ap (λ (x : Option Step). is_some x) closed) ∙ waits in absurd (cc)
+
+answered_more : (a : Answer) (begun : List Begun) → is_some (open_in begun) ≡ true → Extends (outcomes_in begun) (outcomes_in (with_answer a begun))
+answered_more a [] waits = cc
+answered_more a (b ∷ older) waits =
+    let none : outcome_of b.request b.answers ≡ None = no_outcome b waits in
+    (outcome_of b.request (a ∷ b.answers), sym (ap (λ (o : Option Outcome). with_outcome (outcome_of b.request (a ∷ b.answers)) (with_outcome o (outcomes_in older))) none))
+
+status_more : (status : Status) (word : ℕ) (begun : List Begun) → Extends (outcomes_in begun) (outcomes_in (with_status status word begun))
+status_more status word begun = by (answers_it begun status) refl
+  where
+    by : (t : Bool) → answers_it begun status ≡ t → Extends (outcomes_in begun) (outcomes_in (if t then with_answer (answer_in status word) begun else begun))
+    by true is = answered_more (answer_in status word) begun (and_parts (is_some (open_in begun)) _ is).0
+    by false is = (None, refl)
+
+pub heard_more : (o : Option Heard) (begun : List Begun) → Extends (outcomes_in begun) (outcomes_in (with_heard o begun))
+heard_more None begun = (None, refl)
+heard_more (Some a) begun = status_more a.status a.word begun
+
+pub begun_same : (o : Option Request) (begun : List Begun) → outcomes_in (with_begun o begun) ≡ outcomes_in begun
+begun_same None begun = refl
+begun_same (Some r) begun = refl
+
+-- so answers stay
+answers_longer : (d : DriveView) (requests : List Request) (all more : List Outcome) → AreAnswers d requests all → AreAnswers d requests (all ++ more)
+answers_longer d [] all more are = tt
+answers_longer d (r ∷ requests) [] more are = absurd are
+answers_longer d (r ∷ requests) (o ∷ all) more are = (are.0, answers_longer d requests all more are.1)
+
+pub answers_stay : (d : DriveView) (requests : List Request) (old new : List Outcome) → Extends old new → AreAnswers d requests old → AreAnswers d requests new
+answers_stay d requests old new (None, is) are = subst (λ (l : List Outcome). AreAnswers d requests l) (sym is) are
+answers_stay d requests old new (Some o, is) are = subst (λ (l : List Outcome). AreAnswers d requests l) (sym is) (answers_longer d requests old (o ∷ []) are)

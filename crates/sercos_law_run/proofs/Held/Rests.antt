@@ -1,0 +1,106 @@
+-- The phase rises only where no step is open.
+use Rattle.std.proofs.Common.{◌≡◌, inl, inr, ℕ, zero, suc, ◌+◌, ◌<◌, ◌≤◌, Bool, true, false, List, [], ◌∷◌, length, Option, Some, None, refl, sym, ap, ◌∙◌, subst, arith, if◌then◌else◌}
+use Rattle.std.specs.Prelude.{◌==◌, ◌&&◌, nat_le, is_some, is_none, slice_get, slice_index, option_map, unwrap_or}
+use Rattle.std.proofs.lemmas.Bool.{and_parts, cases_eq, false≢true}
+use Rattle.std.proofs.lemmas.Bool.Decides.{nat_tests}
+use Rattle.sercos_step.specs.declared.request.Outcome.{Outcome}
+use Rattle.sercos_step.specs.Steps.{outcome_of}
+use Rattle.sercos_service_master.specs.Begun.{Begun, open_in, step_at}
+use Rattle.sercos_service_master.specs.Calls.{begun_by}
+use Rattle.sercos_timing.specs.Views.{PlanView}
+use Rattle.sercos_seat.specs.Agenda.{bytes_of, given, ended_well, reads_count, is_checked, is_ready}
+use Rattle.sercos_seat.specs.Channel.{outcomes_in}
+use Rattle.sercos_seat.specs.Ring.{Known, MemberView, Task, member}
+use Rattle.sercos_seat.specs.Seats.{AreWaiting}
+use Rattle.sercos_master.specs.Annals.{Past, Call, outcomes, is_done, is_done_in, all_checked, all_ready, past}
+use Rattle.sercos_master.proofs.Configured.{each_passes}
+use Rattle.sercos_law_run.specs.Agenda.Tasks.{IsTask, OfReads, OfWrites, Checks3, Lists3, Checks4, Lists4, OfWaiting, IsBegunTask, AreBegunTasks}
+
+-- an outcome that says that a check has ended well is there
+none_given : (outs : List Outcome) (i : ℕ) → length outs ≤ i → given outs i ≡ []
+none_given [] zero past = refl
+none_given [] (suc i) past = refl
+none_given (o ∷ outs) zero past = absurd (omega (arith, past))
+none_given (o ∷ outs) (suc i) past = none_given outs i (omega (arith, past))
+
+pub well_there : (outs : List Outcome) (i : ℕ) → ended_well (given outs i) ≡ true → i < length outs
+well_there outs i well = by (nat_le (length outs) i) refl
+  where
+    by : (b : Bool) → nat_le (length outs) i ≡ b → i < length outs
+    by true past = absurd (false≢true (subst (λ (l : List ℕ). ended_well l ≡ true) (none_given outs i (grind (arith, nat_tests, past))) well))
+    by false inside = grind (arith, nat_tests, inside)
+
+-- No request is open if the drive's part of the phase is done.
+pub record IsDoneAt (s : Known) (k phase : ℕ) (outs : List Outcome) : Type 0 where
+  pub below : phase < 4
+  pub checked : phase ≡ 2 → is_checked (member s k) outs ≡ true
+  pub ready : phase ≡ 3 → is_ready (member s k) outs ≡ true
+
+closed_task : (s : Known) (k phase : ℕ) (plan : Option PlanView) (waiting : List Task) (outs : List Outcome) (t : Task) → AreWaiting waiting → IsDoneAt s k phase outs → t.phase ≤ phase → IsTask s k plan waiting outs t → ⊥
+closed_task s k phase plan waiting outs t waits done early task = elim (cases_eq phase 2) [
+  | inl two ↦ second two (done.checked two) (well_there outs (reads_count (member s k) + 11) (done.checked two)) task
+  | inr other ↦ elim (cases_eq phase 3) [
+    | inl three ↦
+        let parts = and_parts (is_checked (member s k) outs) (ended_well (given outs (reads_count (member s k) + 12))) (done.ready three) in
+        third three (done.ready three) (well_there outs (reads_count (member s k) + 12) parts.1) task
+    | inr neither ↦ let low = done.below in first (omega (arith, other, neither, low)) task
+  ]
+]
+  where
+    start : (n : ℕ) → t.phase ≡ n → n ≤ phase
+    start n is = subst (λ m. m ≤ phase) is early
+
+    phase_of : (x : Task) → t ≡ x → t.phase ≡ x.phase
+    phase_of x is = ap (λ (y : Task). y.phase) is
+
+    first : phase < 2 → IsTask s k plan waiting outs t → ⊥
+    first low (OfReads r less found is) = let e = start 2 (phase_of _ is) in absurd (omega (arith, low, e))
+    first low (OfWrites p i r planned less at found is) = let e = start 2 (phase_of _ is) in absurd (omega (arith, low, e))
+    first low (Checks3 p planned at is) = let e = start 2 (phase_of _ is) in absurd (omega (arith, low, e))
+    first low (Lists3 at failed is) = let e = start 2 (phase_of _ is) in absurd (omega (arith, low, e))
+    first low (Checks4 at checked is) = let e = start 3 (phase_of _ is) in absurd (omega (arith, low, e))
+    first low (Lists4 at failed is) = let e = start 3 (phase_of _ is) in absurd (omega (arith, low, e))
+    first low (OfWaiting j at ready found) = let e = start 4 (waits j t found) in absurd (omega (arith, low, e))
+
+    second : phase ≡ 2 → is_checked (member s k) outs ≡ true → reads_count (member s k) + 11 < length outs → IsTask s k plan waiting outs t → ⊥
+    second two checked many (OfReads r less found is) = absurd (omega (arith, many, less))
+    second two checked many (OfWrites p i r planned less at found is) = absurd (omega (arith, many, less, at))
+    second two checked many (Checks3 p planned at is) = absurd (omega (arith, many, at))
+    second two checked many (Lists3 at failed is) = false≢true (sym failed ∙ checked)
+    second two checked many (Checks4 at good is) = let e = start 3 (phase_of _ is) in absurd (omega (arith, two, e))
+    second two checked many (Lists4 at failed is) = let e = start 3 (phase_of _ is) in absurd (omega (arith, two, e))
+    second two checked many (OfWaiting j at ready found) = let e = start 4 (waits j t found) in absurd (omega (arith, two, e))
+
+    third : phase ≡ 3 → is_ready (member s k) outs ≡ true → reads_count (member s k) + 12 < length outs → IsTask s k plan waiting outs t → ⊥
+    third three ready many (OfReads r less found is) = absurd (omega (arith, many, less))
+    third three ready many (OfWrites p i r planned less at found is) = absurd (omega (arith, many, less, at))
+    third three ready many (Checks3 p planned at is) = absurd (omega (arith, many, at))
+    third three ready many (Lists3 at failed is) = absurd (omega (arith, many, at))
+    third three ready many (Checks4 at good is) = absurd (omega (arith, many, at))
+    third three ready many (Lists4 at failed is) = false≢true (sym failed ∙ ready)
+    third three ready many (OfWaiting j at good found) = let e = start 4 (waits j t found) in absurd (omega (arith, three, e))
+
+open_none : (s : Known) (k phase : ℕ) (plan : Option PlanView) (waiting : List Task) (begun : List Begun) (tasks : List Task) → AreWaiting waiting → AreBegunTasks s k plan waiting phase begun tasks → IsDoneAt s k phase (outcomes_in begun) → open_in begun ≡ None
+open_none s k phase plan waiting [] tasks waits are done = refl
+open_none s k phase plan waiting (b ∷ older) [] waits are done = absurd are
+open_none s k phase plan waiting (b ∷ older) (t ∷ tasks) waits are done = by (outcome_of b.request b.answers) refl
+  where
+    by : (o : Option Outcome) → outcome_of b.request b.answers ≡ o → step_at b.request b.answers ≡ None
+    by (Some o) ended = rw ended refl
+    by None ended = absurd (closed_task s k phase are.1.by_then waiting (outcomes_in older) t waits (rw ended at done) are.1.early are.1.task)
+
+pub rests_so : (s : Known) (p : Past) (k : ℕ) → k < length s.drives → AreWaiting (p.waiting k) → AreBegunTasks s k p.plan (p.waiting k) p.now.phase (begun_by (p.calls k)) (p.tasks k) → is_done s p ≡ true → open_in (begun_by (p.calls k)) ≡ None
+rests_so s p k below waits are done = open_none s k p.now.phase p.plan (p.waiting k) (begun_by (p.calls k)) (p.tasks k) waits are (record {
+  below = low p.now.phase done;
+  checked = λ two. each_passes (length s.drives) 0 (λ j. is_checked (member s j) (outcomes p j)) (second p.now.phase two done) k (omega arith) (omega (arith, below));
+  ready = λ three. each_passes (length s.drives) 0 (λ j. is_ready (member s j) (outcomes p j)) (third p.now.phase three done) k (omega arith) (omega (arith, below));
+})
+  where
+    low : (n : ℕ) → is_done_in n s p ≡ true → n < 4
+    low n is = grind (arith, nat_tests, is)
+
+    second : (n : ℕ) → n ≡ 2 → is_done_in n s p ≡ true → all_checked s p ≡ true
+    second n two is = rw two at is
+
+    third : (n : ℕ) → n ≡ 3 → is_done_in n s p ≡ true → all_ready s p ≡ true
+    third n three is = rw three at is

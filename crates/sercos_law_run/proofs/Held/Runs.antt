@@ -1,0 +1,326 @@
+-- Through a run of a ring in which nothing is unseen: each drive and its channel are a run of views, the requests are sound, and in
+-- phases 3 and 4 each drive holds the plan.
+use Rattle.std.proofs.Common.{◌≡◌, ◌⊎◌, inl, inr, ℕ, zero, suc, ◌+◌, ◌^◌, ◌%◌, ◌<◌, ◌≤◌, Bool, true, false, not, ◌&&◌, List, [], ◌∷◌, ◌++◌, map, length, drop, Option, Some, None, refl, sym, ◌∙◌, ap, ap₂, subst, arith, if◌then◌else◌}
+use Rattle.std.specs.Prelude.{◌==◌, slice_get, slice_index_or, IfSome, option_map}
+use Rattle.std.specs.List.{All}
+use Rattle.sercos_model.specs.Bits.{AreBytes}
+use Rattle.sercos_idn.specs.declared.attribute.Attribute.{Attribute}
+use Rattle.sercos_idn.specs.declared.idn.Idn.{Idn}
+use Rattle.sercos_step.specs.declared.request.Request.{Request}
+use Rattle.sercos_step.specs.declared.request.Outcome.{Outcome}
+use Rattle.sercos_step.specs.declared.request.Job.{Job}
+use Rattle.sercos_timing.specs.Views.{WishesView, PlanView}
+use Rattle.sercos_timing.specs.declared.wishes.Wish.{Wish}
+use Rattle.sercos_block.specs.declared.block.Block.{Block}
+use Rattle.sercos_block.specs.Blocks.{is_fixed, is_protected}
+use Rattle.sercos_block.specs.Rings.{is_ring, wishes_of}
+use Rattle.sercos_block.specs.Rules.{blocks_fault}
+use Rattle.sercos_block.specs.ValidRings.{IsRing}
+use Rattle.sercos_block.specs.Stores.{IsStore, find_block, store_of}
+use Rattle.sercos_block.specs.Views.{DriveView, RingView}
+use Rattle.sercos_service_drive.specs.Writes.{AreAlike, without_data}
+use Rattle.sercos_service_master.specs.Begun.{Begun, open_in}
+use Rattle.sercos_service_master.specs.Calls.{begun_by}
+use Rattle.sercos_drive.specs.Heard.{DriveCall}
+use Rattle.sercos_drive.specs.Moments.{phase_in, blocks_in}
+use Rattle.sercos_drive.specs.Annals.{annals}
+use Rattle.sercos_trace.specs.Views.{SentView, CycleView}
+use Rattle.sercos_seat.specs.Agenda.{reads, writes, wishes_given, wishes_from}
+use Rattle.sercos_seat.specs.Channel.{outcomes_in}
+use Rattle.sercos_seat.specs.Ring.{Known, MemberView, Task, member, member_of, known_of, tasks_for, IsKnown}
+use Rattle.sercos_seat.specs.Seats.{AreWaiting}
+use Rattle.sercos_law_run.specs.Start.StartUp.{IsStoreOf, is_given, kept, start_up, Holds, AreAsLong}
+use Rattle.sercos_law_run.specs.Start.Answers.{AreAnswers, HaveFactors, AsksAsRing, TypedHaveFactors}
+use Rattle.sercos_law_run.specs.Start.Held as held
+use Rattle.sercos_law_run.specs.Start.Later.{AreProtectedLater, StartUpIsProtected, StoresStartUpWhole}
+use Rattle.sercos_law_run.proofs.Start.CheckPasses.{ring_drive}
+use Rattle.sercos_master.specs.Annals.{Past, Call, IsPlanned, outcomes, begins, settled, is_done, past}
+use Rattle.sercos_master.proofs.Laws.{tasks_wait, jobs_waiting}
+use Rattle.sercos_script.specs.Links.{Carry, Restarts}
+use Rattle.sercos_law_channel.specs.Handshake.Views.{View, standing, before_mst, kept_in}
+use Rattle.sercos_law_channel.specs.Handshake.Epochs.{with_begun, begun_in}
+use Rattle.sercos_law_channel.specs.Handshake.RunLaws.{BeginsEmpty}
+use Rattle.sercos_law_channel.specs.Handshake.WholeRun.{all_writes, IsSound, AreSound, AreSmall}
+use Rattle.sercos_law_channel.specs.Handshake.Exact.{RunsAreExact}
+use Rattle.sercos_law_channel.specs.Handshake.Values.{store_in, HoldsNewest, StaysProtected, StaysWritten}
+use Rattle.sercos_law_run.specs.Journal.Records.{mst_in, ats_in}
+use Rattle.sercos_law_run.specs.Journal.Runs.{no_drive, drive_at, with_restart, given_before, master_calls, looks_back, middle, IsNext}
+use Rattle.sercos_law_run.specs.Agenda.Tasks.{BeginsTasks, EndsTasks, HasBegunTasks}
+use Rattle.sercos_law_run.specs.Agenda.Reads.{ReadsWell}
+use Rattle.sercos_law_run.specs.Agenda.Writes.{start_numbers, WritesData, ConfiguresAtRise}
+use Rattle.sercos_law_run.specs.Views.RingViews.{at_start, behind_mst, behind_ats, behind_mdt, heard_last, request_of, after_mst, view_of, views_of}
+use Rattle.sercos_law_run.proofs.Views.MasterSame.{AfterAts, ats_none, begun_cycle, begun_so, heard_so, same_started, turn_mdt}
+use Rattle.sercos_law_run.proofs.Views.Members.{AreHeardAs, member_is, members_count}
+use Rattle.sercos_law_run.proofs.Views.Coupled.{ats_heard}
+use Rattle.sercos_law_run.proofs.Views.Received.{Agrees}
+use Rattle.sercos_law_run.proofs.Views.ViewRuns.{IsSpelled, Sees, sees_first, sees_next, started, at_mst, behind}
+use Rattle.sercos_law_run.proofs.Views.DriveSame.{IsSame, standing_at}
+use Rattle.sercos_law_run.proofs.Typed.Plans.{ring_known, ring_timed, all_members}
+use Rattle.sercos_law_run.proofs.Typed.Steps.{AreBegun}
+use Rattle.sercos_law_run.proofs.Typed.Begun.{tasks_so, IsTypedPast, typed_past}
+use Rattle.sercos_law_run.specs.Held.Held.{AreHeld, AreProtected, HoldsThePlan}
+use Rattle.sercos_law_run.specs.Held.Stored.{IsStored, AreStored}
+use Rattle.sercos_law_run.specs.Held.Opened.{IsOpened}
+use Rattle.sercos_law_run.proofs.Held.HoldsRuns.{holds_next, holds_first}
+use Rattle.sercos_law_run.proofs.Held.PlanStays.{plan_kept}
+use Rattle.sercos_law_run.proofs.Held.AnsweredRuns.{reads_answered}
+use Rattle.sercos_law_run.proofs.Held.Rests.{rests_so}
+use Rattle.sercos_law_run.proofs.Held.Planned.{IsPlanOf, plan_of}
+use Rattle.sercos_law_run.proofs.Held.Sound.{newest_sound, got_behind}
+use Rattle.sercos_law_run.proofs.Held.Agreed.{agrees_so, held_holds}
+use Rattle.sercos_law_run.proofs.Held.Extended.{Extends, heard_more, begun_same, answers_stay}
+
+-- a plan of zeros
+abbrev no_plan : PlanView
+no_plan = record { t1 = []; t2 = 0; t3 = 0; t4 = 0; position = []; mdt_len = 0 }
+
+-- the laws below, of drive, master, channel, plans and stores
+pub record Laws : Type 0 where
+  pub empty : (busy : ℕ) → BeginsEmpty busy
+  pub exact : (busy : ℕ) → RunsAreExact busy
+  pub written : (busy : ℕ) → StaysWritten busy
+  pub protected : StaysProtected
+  pub newest : HoldsNewest
+  pub tasks : BeginsTasks
+  pub ends : EndsTasks
+  pub reads : ReadsWell
+  pub write_data : WritesData
+  pub configures : ConfiguresAtRise
+  pub planned : (s : Known) (requests : ℕ → List Task) (h : List Call) → IsPlanned s (past s requests h)
+  pub left : (s : Known) (jobs : List Job) (h : List Call) (k : ℕ) → (n : ℕ) × ((past s (tasks_for s jobs) h).waiting k ≡ drop n (tasks_for s jobs k))
+  pub ring : (r : RingView) → is_ring r ≡ true → IsRing r
+  pub types : (blocks : List Block) (raw : ℕ) (b : Block) → IsStore blocks → find_block raw blocks ≡ Some b → (b.attribute.factor < 2 ^ 16) × AreBytes b.value
+  pub holds_plan : held.HoldsPlan
+  pub as_long : AreAsLong
+  pub writes_start : held.WritesStartUp
+  pub whole : StoresStartUpWhole
+  pub asks : AsksAsRing
+  pub factors : TypedHaveFactors
+  pub guarded : StartUpIsProtected
+
+-- what is known of the drive at a place
+pub record Stands (r : RingView) (jobs : List Job) (carry : Carry) (restarts : Restarts) (j : List CycleView) (k : ℕ) : Type 0 where
+  pub sees : Sees r jobs carry restarts k j
+  pub sound : AreSound (store_of (drive_at r k)) (views_of r jobs carry restarts k j)
+  pub stored : AreStored (drive_at r k) (views_of r jobs carry restarts k j)
+  pub holds : HoldsThePlan (known_of r) k (store_of (drive_at r k)) (looks_back r jobs (master_calls r carry restarts j)) (all_writes (views_of r jobs carry restarts k j))
+
+abbrev pub AllStand : RingView → List Job → Carry → Restarts → List CycleView → Type 0
+AllStand r jobs carry restarts j = (k : ℕ) → k < length r.drives → Stands r jobs carry restarts j k
+
+pub all_first : (r : RingView) (jobs : List Job) (carry : Carry) (restarts : Restarts) → AllStand r jobs carry restarts []
+all_first r jobs carry restarts k below = record { sees = sees_first r jobs carry restarts k; sound = tt; stored = tt; holds = holds_first r jobs k (store_of (drive_at r k)) [] }
+
+-- the drive at a place, in both ways of saying it
+get_drive : (drives : List DriveView) (k : ℕ) → k < length drives → slice_get drives k ≡ Some (slice_index_or drives k no_drive)
+get_drive [] k below = absurd (omega (arith, below))
+get_drive (d ∷ drives) zero below = refl
+get_drive (d ∷ drives) (suc k) below = get_drive drives k (omega (arith, below))
+
+pub drive_got : (r : RingView) (k : ℕ) → k < length r.drives → slice_get r.drives k ≡ Some (drive_at r k)
+drive_got r k below = get_drive r.drives k below
+
+pub got_inside : (drives : List DriveView) (k : ℕ) (d : DriveView) → slice_get drives k ≡ Some d → (k < length drives) × (d ≡ slice_index_or drives k no_drive)
+got_inside [] k d got = cc
+got_inside (c ∷ drives) zero d got = (omega arith, cc)
+got_inside (c ∷ drives) (suc k) d got = let (low, same) = got_inside drives k d got in (omega (arith, low), same)
+
+-- what no write changes has all but the operation data
+alike_kept : (blocks : List Block) → map without_data (map kept blocks) ≡ map without_data blocks
+alike_kept [] = refl
+alike_kept (b ∷ blocks) = ap₂ (λ (x : Block) (l : List Block). x ∷ l) (by (is_fixed b && not (is_given b.idn.raw))) (alike_kept blocks)
+  where
+    by : (t : Bool) → without_data (if t then b else record b { value = [] }) ≡ without_data b
+    by true = refl
+    by false = refl
+
+pub alike_so : (d : DriveView) (blocks : List Block) → IsStoreOf d blocks → AreAlike blocks (store_of d)
+alike_so d blocks stored = sym (alike_kept blocks) ∙ ap (map without_data) stored ∙ alike_kept (store_of d)
+
+-- the start-up's blocks are protected in phases 3 and 4
+guarded_so : (blocks : List Block) (values : List (ℕ × List ℕ)) → AreProtectedLater blocks values → AreProtected blocks (map (λ (v : ℕ × List ℕ). v.0) values)
+guarded_so blocks [] are = tt
+guarded_so blocks (v ∷ values) are = (λ b found. one are.0.0 b are.0.1 are.0.3 are.0.4 found, guarded_so blocks values are.1)
+  where
+    attribute : {a c : Attribute} → Some a ≡ Some c → a ≡ c
+    attribute e = cc
+
+    one : (a : Attribute) (b : Block) → option_map (λ (x : Block). x.attribute) (find_block v.0 blocks) ≡ Some a → a.protect3 ≡ true → a.protect4 ≡ true → find_block v.0 blocks ≡ Some b → (is_protected b.attribute 3 ≡ true) × (is_protected b.attribute 4 ≡ true)
+    one a b has three four found =
+        let same : b.attribute ≡ a = attribute (sym (ap (option_map (λ (x : Block). x.attribute)) found) ∙ has) in
+        (ap (λ (c : Attribute). c.protect3) same ∙ three, ap (λ (c : Attribute). c.protect4) same ∙ four)
+
+-- the drive's blocks are those of the cycle before
+blocks_then : (d : DriveView) (rate : ℕ) (b : Bool) (h : List DriveCall) → blocks_in d (annals d rate (with_restart b h)) ≡ blocks_in d (annals d rate h)
+blocks_then d rate true h = refl
+blocks_then d rate false h = refl
+
+-- In a cycle commanded 3 or 4 the plan is that of the ring, and the drives have answered.
+pub record IsPlannedIn (r : RingView) (jobs : List Job) (carry : Carry) (restarts : Restarts) (t : CycleView) (j : List CycleView) (plan : PlanView) : Type 0 where
+  pub before : (looks_back r jobs (master_calls r carry restarts j)).plan ≡ Some plan
+  pub now : (behind_mdt r jobs carry restarts t.sent j).plan ≡ Some plan
+  pub asked : wishes_given (known_of r) (outcomes (behind_mdt r jobs carry restarts t.sent j)) ≡ wishes_of r
+  pub of : IsPlanOf (wishes_of r) plan
+
+module _ (laws : Laws) (r : RingView) (jobs : List Job) (carry : Carry) (restarts : Restarts) (opened : IsOpened r jobs) (first : (k : ℕ) → k < length r.drives → IsStore (store_of (drive_at r k))) where
+  pub s_known : IsKnown (known_of r)
+  s_known = ring_known laws.ring r opened.valid opened.typed
+
+  inside : (k : ℕ) → k < length r.drives → k < length (known_of r).drives
+  inside k below = let count = members_count r in omega (arith, below, count)
+
+  -- THE PLAN is that of the ring, if all drives have answered
+  pub plan_is : (p : Past) (plan : PlanView) → IsPlanned (known_of r) p → p.plan ≡ Some plan → wishes_given (known_of r) (outcomes p) ≡ wishes_of r → IsPlanOf (wishes_of r) plan
+  plan_is p plan planned has same = subst (λ (w : WishesView). IsPlanOf w plan) same (plan_of (known_of r) p plan s_known planned has)
+
+  pub wishes_so : (outs : ℕ → List Outcome) → ((k : ℕ) → k < length r.drives → AreAnswers (drive_at r k) (reads (member_of (drive_at r k))) (outs k)) → wishes_given (known_of r) outs ≡ wishes_of r
+  wishes_so outs answers = laws.asks r outs opened.valid (λ k d got.
+      let (low, same) = got_inside r.drives k d got in
+      subst (λ (x : DriveView). HaveFactors x × AreAnswers x (reads (member_of x)) (outs k)) (sym same) (laws.factors (drive_at r k) (opened.typed k low).blocks, answers k low))
+
+  pub small : (k : ℕ) → k < length r.drives → AreSmall (store_of (drive_at r k))
+  small k below raw b found = (laws.types (store_of (drive_at r k)) raw b (first k below) found).0
+
+  -- at the end of a journal
+  pub answers_at : (j : List CycleView) (plan : PlanView) → AllStand r jobs carry restarts j → (looks_back r jobs (master_calls r carry restarts j)).plan ≡ Some plan
+      → (k : ℕ) → k < length r.drives → AreAnswers (drive_at r k) (reads (member_of (drive_at r k))) (outcomes (looks_back r jobs (master_calls r carry restarts j)) k)
+  answers_at j plan all has k below =
+      let stands = all k below in
+      let rules = (ring_drive r k (drive_at r k) opened.valid (drive_got r k below)).blocks in
+      subst (λ (m : MemberView). AreAnswers (drive_at r k) (reads m) (outcomes (looks_back r jobs (master_calls r carry restarts j)) k)) (member_is r k)
+      (reads_answered laws.ends laws.reads r jobs carry restarts k j (store_of (drive_at r k)) plan (inside k below) laws.exact (small k below) rules stands.sees stands.sound stands.stored has)
+
+  -- A CYCLE
+  module _ (t : CycleView) (j : List CycleView) (next : IsNext r jobs carry restarts t j) (clear : t.unseen ≡ 0) (spelled : IsSpelled r jobs carry restarts t j)
+      (stored : (k : ℕ) → k < length r.drives → IsStored (drive_at r k) (blocks_in (drive_at r k) (after_mst r carry restarts t.sent j k))) (all : AllStand r jobs carry restarts j) where
+    at_first : at_start r jobs carry restarts j ≡ begun_cycle (restarts (length j) 0) (looks_back r jobs (master_calls r carry restarts j))
+    at_first = started r jobs (restarts (length j) 0) (master_calls r carry restarts j)
+
+    -- in phase 3 or 4 the master hasn't restarted
+    kept_on : 3 ≤ (at_start r jobs carry restarts j).now.phase → at_start r jobs carry restarts j ≡ looks_back r jobs (master_calls r carry restarts j)
+    kept_on late = at_first ∙ by (restarts (length j) 0) (subst (λ (p : Past). 3 ≤ p.now.phase) at_first late)
+      where
+        by : (b : Bool) → 3 ≤ (begun_cycle b (looks_back r jobs (master_calls r carry restarts j))).now.phase → begun_cycle b (looks_back r jobs (master_calls r carry restarts j)) ≡ looks_back r jobs (master_calls r carry restarts j)
+        by true some = absurd (omega (arith, some))
+        by false some = refl
+
+    -- what a cycle leaves at the MDT's place
+    passed_by : (k : ℕ) → AfterAts (known_of r) k (λ content. Unit {0}) (behind_mst r jobs carry restarts t.sent j) (behind_ats r jobs carry restarts t.sent j)
+    passed_by k = ats_heard r jobs carry (length j) k (λ content. Unit {0}) (behind_mst r jobs carry restarts t.sent j) (ats_in t.sent) _ (ats_none (known_of r) k (λ content. Unit {0}) (behind_mst r jobs carry restarts t.sent j)) (any (ats_in t.sent))
+      where
+        any : (ats : List (List ℕ)) → AreHeardAs (λ content. Unit {0}) r carry (length j) ats
+        any [] = tt
+        any (at ∷ ats) = (λ content came. tt, any ats)
+
+    pub phase_same : (behind_mdt r jobs carry restarts t.sent j).now.phase ≡ (at_start r jobs carry restarts j).now.phase
+    phase_same = (turn_mdt (known_of r) (behind_ats r jobs carry restarts t.sent j)).phase_is ∙ (passed_by 0).phase_is
+
+    unheard : (k : ℕ) → k < length r.drives → heard_last ((at_start r jobs carry restarts j).calls k) ≡ None
+    unheard k below = subst (λ (p : Past). heard_last (p.calls k) ≡ None) (sym at_first)
+        (same_started (restarts (length j) 0) (looks_back r jobs (master_calls r carry restarts j)) k _ _ _ (all k below).sees.master).unheard
+
+    extends : (k : ℕ) → k < length r.drives → Extends (outcomes (at_start r jobs carry restarts j) k) (outcomes (behind_mdt r jobs carry restarts t.sent j) k)
+    extends k below =
+        let (o, is) = heard_more (heard_last ((behind_ats r jobs carry restarts t.sent j).calls k)) (begun_by ((behind_mst r jobs carry restarts t.sent j).calls k)) in (
+          o,
+          ap outcomes_in (begun_so (known_of r) (behind_ats r jobs carry restarts t.sent j) k) ∙ begun_same (request_of (begins (known_of r) (settled (known_of r) (behind_ats r jobs carry restarts t.sent j)) k)) (begun_by ((behind_ats r jobs carry restarts t.sent j).calls k))
+              ∙ ap outcomes_in (heard_so (known_of r) k (λ content. Unit {0}) (behind_mst r jobs carry restarts t.sent j) (behind_ats r jobs carry restarts t.sent j) (passed_by k) (unheard k below)) ∙ is,
+        )
+
+    pub planned_in : (plan : PlanView) → 3 ≤ (at_start r jobs carry restarts j).now.phase → (looks_back r jobs (master_calls r carry restarts j)).plan ≡ Some plan → IsPlannedIn r jobs carry restarts t j plan
+    planned_in plan late has =
+        let p4 = behind_mdt r jobs carry restarts t.sent j in
+        let same_start = kept_on late in
+        let more : (k : ℕ) → k < length r.drives → Extends (outcomes (looks_back r jobs (master_calls r carry restarts j)) k) (outcomes p4 k) =
+        λ k below. subst (λ (p : Past). Extends (outcomes p k) (outcomes p4 k)) same_start (extends k below) in
+        let asked : wishes_given (known_of r) (outcomes p4) ≡ wishes_of r = wishes_so (outcomes p4) (λ k below.
+        answers_stay (drive_at r k) (reads (member_of (drive_at r k))) _ (outcomes p4 k) (more k below) (answers_at j plan all has k below)) in
+        let now : p4.plan ≡ Some plan = plan_kept r jobs carry restarts t j plan (omega (arith, late)) has in
+        record { before = has; now = now; asked = asked; of = plan_is p4 plan (laws.planned (known_of r) (tasks_for (known_of r) jobs) (middle r carry restarts t.sent j)) now asked }
+
+    -- what the drive's store is at the MDT's place
+    pub store_is : (k : ℕ) → k < length r.drives → blocks_in (drive_at r k) (after_mst r carry restarts t.sent j k) ≡ store_in (store_of (drive_at r k)) (views_of r jobs carry restarts k j)
+    store_is k below = blocks_then (drive_at r k) r.rate (restarts (length j) (k + 1)) (given_before carry restarts j k) ∙ (all k below).sees.drive.blocks
+
+    pub rules : (k : ℕ) → k < length r.drives → blocks_fault [] (drive_at r k).blocks ≡ None
+    rules k below = (ring_drive r k (drive_at r k) opened.valid (drive_got r k below)).blocks
+
+    -- If phase 3 or 4 is commanded, there is a plan, which is that of the ring, and the store of each drive holds its values.
+    pub holding : 3 ≤ (at_start r jobs carry restarts j).now.phase → (k : ℕ) → k < length r.drives → (plan : PlanView) × IsPlannedIn r jobs carry restarts t j plan
+        × Holds (blocks_in (drive_at r k) (after_mst r carry restarts t.sent j k)) (start_up r.control r.cycle plan k (drive_at r k).at (drive_at r k).mdt)
+    holding late k below =
+        let stands = all k below in
+        let early : 3 ≤ (looks_back r jobs (master_calls r carry restarts j)).now.phase = subst (λ (p : Past). 3 ≤ p.now.phase) (kept_on late) late in
+        let (plan, has, own) = stands.holds early in
+        let planned = planned_in plan late has in (
+          plan,
+          planned,
+          subst (λ (b : List Block). Holds b (start_up r.control r.cycle plan k (drive_at r k).at (drive_at r k).mdt)) (sym (store_is k below))
+              (held_holds laws.newest laws.write_data laws.writes_start laws.whole r plan k (drive_at r k) (views_of r jobs carry restarts k j) opened.valid planned.of.valid planned.of.least.fits (drive_got r k below) (rules k below) own),
+        )
+
+    pub one_plan : {o : Option PlanView} {a b : PlanView} → o ≡ Some a → o ≡ Some b → a ≡ b
+    one_plan is same = let e = sym is ∙ same in cc
+
+    pub agrees : (k : ℕ) → k < length r.drives → (plan : PlanView) → 3 ≤ (behind_mdt r jobs carry restarts t.sent j).now.phase → 3 ≤ phase_in (after_mst r carry restarts t.sent j k) → (behind_mdt r jobs carry restarts t.sent j).plan ≡ Some plan
+        → Agrees (known_of r) (behind_mdt r jobs carry restarts t.sent j) k (blocks_in (drive_at r k) (after_mst r carry restarts t.sent j k))
+    agrees k below plan late stands has =
+        let (made, planned, holds) = holding (subst (λ n. 3 ≤ n) phase_same late) k below in
+        agrees_so laws.holds_plan laws.as_long r (behind_mdt r jobs carry restarts t.sent j) made k (drive_at r k) (blocks_in (drive_at r k) (after_mst r carry restarts t.sent j k)) planned.of.valid planned.of.least.fits below (drive_got r k below)
+        (rules k below) (stored k below).1 holds planned.asked
+
+    -- the requests that begin
+    tasks_then : (k : ℕ) → k < length r.drives → HasBegunTasks (known_of r) (behind_mdt r jobs carry restarts t.sent j) k
+    tasks_then k below = laws.tasks (known_of r) (tasks_for (known_of r) jobs) (middle r carry restarts t.sent j) k (inside k below)
+
+    -- and they are typed
+    typed_then : IsTypedPast (behind_mdt r jobs carry restarts t.sent j)
+    typed_then = typed_past (known_of r) s_known (ring_timed r s_known opened.valid) (λ k. all_members r k opened.valid opened.typed) (tasks_for (known_of r) jobs) (λ h. laws.planned (known_of r) (tasks_for (known_of r) jobs) h)
+        (λ k. tasks_so (known_of r) jobs k opened.jobs_typed) (middle r carry restarts t.sent j)
+
+    waits_sound : (k : ℕ) → k < length r.drives → (i : ℕ) (x : Task) → slice_get ((behind_mdt r jobs carry restarts t.sent j).waiting k) i ≡ Some x → IsSound (store_of (drive_at r k)) x.request
+    waits_sound k below i x got =
+        let (n, is) = laws.left (known_of r) jobs (middle r carry restarts t.sent j) k in
+        let (m, there) = got_behind (tasks_for (known_of r) jobs k) n i x (ap (λ (l : List Task). slice_get l i) (sym is) ∙ got) in
+        opened.requests k m x below there
+
+    begins_sound : (k : ℕ) → k < length r.drives → IfSome (request_of (begins (known_of r) (settled (known_of r) (behind_ats r jobs carry restarts t.sent j)) k)) (λ q. IsSound (store_of (drive_at r k)) q)
+    begins_sound k below = by (request_of (begins (known_of r) (settled (known_of r) (behind_ats r jobs carry restarts t.sent j)) k)) (begun_so (known_of r) (behind_ats r jobs carry restarts t.sent j) k)
+      where
+        p4 : Past
+        p4 = behind_mdt r jobs carry restarts t.sent j
+
+        by : (o : Option Request) → begun_by ((behind_mdt r jobs carry restarts t.sent j).calls k) ≡ with_begun o (begun_by ((behind_ats r jobs carry restarts t.sent j).calls k)) → IfSome o (λ q. IsSound (store_of (drive_at r k)) q)
+        by None is = tt
+        by (Some q) is = newest_sound laws.write_data (known_of r) k (behind_mdt r jobs carry restarts t.sent j).now.phase (behind_mdt r jobs carry restarts t.sent j).plan ((behind_mdt r jobs carry restarts t.sent j).waiting k) (drive_at r k)
+            (begun_by ((behind_mdt r jobs carry restarts t.sent j).calls k)) ((behind_mdt r jobs carry restarts t.sent j).tasks k) (rules k below) (waits_sound k below) (tasks_then k below)
+            (record { request = q; answers = [] }) (begun_by ((behind_ats r jobs carry restarts t.sent j).calls k)) is (subst AreBegun is (typed_then.begun k)).0
+
+    pub rests : (k : ℕ) → k < length r.drives → is_done (known_of r) (behind_mdt r jobs carry restarts t.sent j) ≡ true → open_in (begun_by ((behind_mdt r jobs carry restarts t.sent j).calls k)) ≡ None
+    rests k below = rests_so (known_of r) (behind_mdt r jobs carry restarts t.sent j) k (inside k below) (jobs_waiting (known_of r) jobs (middle r carry restarts t.sent j) k) (tasks_then k below)
+
+    -- what the drive keeps after the MST's place
+    pub kept_at_mst : (k : ℕ) → k < length r.drives → IsSame (drive_at r k) (after_mst r carry restarts t.sent j k)
+        (standing_at (view_of r jobs carry restarts k t j) (before_mst (view_of r jobs carry restarts k t j) (standing (views_of r jobs carry restarts k j)))) (kept_in (view_of r jobs carry restarts k t j) (views_of r jobs carry restarts k j))
+        (all_writes (views_of r jobs carry restarts k j)) (store_in (store_of (drive_at r k)) (views_of r jobs carry restarts k j))
+    kept_at_mst k below = at_mst laws.empty r jobs carry restarts opened.valid t j next clear spelled k below (all k below).sees (agrees k below) (rests k below)
+
+    -- what the channel has begun when the MDT is sent
+    pub begun_then : (k : ℕ) → k < length r.drives → begun_by ((behind_mdt r jobs carry restarts t.sent j).calls k) ≡ begun_in (view_of r jobs carry restarts k t j) (views_of r jobs carry restarts k j)
+    begun_then k below = (behind laws.empty r jobs carry restarts opened.valid t j next clear spelled k below (all k below).sees (agrees k below) (rests k below)).begun_are
+
+    -- THE NEXT CYCLE
+    pub all_next : AllStand r jobs carry restarts (t ∷ j)
+    all_next k below =
+        let before = all k below in
+        let sees = sees_next laws.empty r jobs carry restarts opened.valid t j next clear spelled k below before.sees (agrees k below) (rests k below) in
+        let sound : AreSound (store_of (drive_at r k)) (views_of r jobs carry restarts k (t ∷ j)) = (before.sound, (alike_so (drive_at r k) _ (stored k below).1, begins_sound k below)) in
+        let guard : AreProtected (store_of (drive_at r k)) start_numbers = guarded_so (store_of (drive_at r k)) (start_up 0 0 no_plan k (drive_at r k).at (drive_at r k).mdt)
+        (laws.guarded (drive_at r k) (store_of (drive_at r k)) 0 0 k no_plan (rules k below) refl) in
+        record {
+          sees = sees;
+          sound = sound;
+          stored = (before.stored, stored k below);
+          holds = holds_next laws.write_data laws.configures laws.written laws.protected r jobs carry restarts (λ i. tasks_wait (member (known_of r) i).address 1 jobs) k (inside k below) (store_of (drive_at r k)) (small k below) guard
+              t j next before.sees sees sound before.holds;
+        }

@@ -1,0 +1,4 @@
+pub mod ClearLemmas
+pub mod StationLemmas
+pub mod RunLemmas
+pub mod Worked

@@ -1,0 +1,55 @@
+-- Where no arrival is unseen, a station hears what was sent, or nothing.
+use Rattle.std.proofs.Common.{◌≡◌, inl, inr, ◌⊎◌, ℕ, Bool, true, false, not, ◌&&◌, List, [], ◌∷◌, Option, Some, None, is_none, refl, sym, ◌∙◌, ap}
+use Rattle.std.specs.Prelude.{option_and_then, is_some, IfSome}
+use Rattle.sercos_hdlc.specs.Reason.{reason_of}
+use Rattle.sercos_hdlc.specs.Stuffed.{frame_of}
+use Rattle.sercos_script.specs.declared.link.Passage.{Passage}
+use Rattle.sercos_law_run.specs.Journal.Arrivals.{arrival, heard, content_in, is_unseen, are_same}
+use Rattle.sercos_script.specs.Links.{Carry, IsQuiet}
+
+pub same_bits : (xs ys : List Bool) → are_same xs ys ≡ true → xs ≡ ys
+same_bits [] [] same = refl
+same_bits [] (y ∷ ys) same = cc
+same_bits (x ∷ xs) [] same = cc
+same_bits (true ∷ xs) (true ∷ ys) same = ap (λ (zs : List Bool). true ∷ zs) (same_bits xs ys same)
+same_bits (true ∷ xs) (false ∷ ys) same = cc
+same_bits (false ∷ xs) (true ∷ ys) same = cc
+same_bits (false ∷ xs) (false ∷ ys) same = ap (λ (zs : List Bool). false ∷ zs) (same_bits xs ys same)
+
+unread : (came : List Bool) (o : Bool) → is_none (reason_of came) ≡ o → o ≡ false → content_in came ≡ None
+unfolding content_in
+unread came o is no_frame = rw (is, no_frame) refl
+
+pub heard-clear : (carry : Carry) (p : Passage) (content : List ℕ) → content_in (frame_of content) ≡ Some content
+    → is_unseen (frame_of content) (arrival carry p content) ≡ false → (heard carry p content ≡ None) ⊎ (heard carry p content ≡ Some content)
+unfolding is_unseen
+heard-clear carry p content whole clear = by (arrival carry p content) clear
+  where
+    came_as : (came : List Bool) (same : Bool) → are_same came (frame_of content) ≡ same → (not same && is_none (reason_of came)) ≡ false
+        → (content_in came ≡ None) ⊎ (content_in came ≡ Some content)
+    came_as came true is clear = inr (rw (same_bits came (frame_of content) is) whole)
+    came_as came false is clear = inl (unread came _ refl clear)
+
+    by : (o : Option (List Bool)) → is_unseen (frame_of content) o ≡ false → (option_and_then content_in o ≡ None) ⊎ (option_and_then content_in o ≡ Some content)
+    by None clear = inl refl
+    by (Some came) clear = came_as came (are_same came (frame_of content)) refl clear
+
+pub are_same-refl : (bits : List Bool) → are_same bits bits ≡ true
+are_same-refl [] = refl
+are_same-refl (true ∷ bits) = are_same-refl bits
+are_same-refl (false ∷ bits) = are_same-refl bits
+
+-- where a link changes nothing, what was said is heard
+pub heard-quiet : (carry : Carry) (p : Passage) (content : List ℕ) → IsQuiet carry p.cycle p.kind p.from → content_in (frame_of content) ≡ Some content → Some content ≡ heard carry p content
+heard-quiet carry p content quiet whole = sym (ap (λ (o : Option (List Bool)). option_and_then content_in o) (quiet p (frame_of content) refl refl refl) ∙ whole)
+
+pub unseen-quiet : (carry : Carry) (p : Passage) (content : List ℕ) → IsQuiet carry p.cycle p.kind p.from → false ≡ is_unseen (frame_of content) (arrival carry p content)
+unfolding is_unseen
+unseen-quiet carry p content quiet = rw (quiet p (frame_of content) refl refl refl, are_same-refl (frame_of content)) refl
+
+-- what arrives as it was sent has the content that was said
+pub same_heard : (o : Option (List Bool)) (said content : List ℕ) (sent bits : List Bool) → content_in sent ≡ Some said → is_some o ≡ true
+    → IfSome o (λ came. bits ≡ came) → are_same bits sent ≡ true → content ≡ said → Some content ≡ option_and_then content_in o
+same_heard None said content sent bits whole some is same copied = cc
+same_heard (Some came) said content sent bits whole some is same copied =
+    ap (λ (c : List ℕ). Some c) copied ∙ sym whole ∙ ap content_in (sym (same_bits bits sent same) ∙ is)

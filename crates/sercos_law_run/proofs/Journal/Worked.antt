@@ -1,0 +1,180 @@
+-- Runs of worked rings, computed from the definitions, down to the bits of each telegram.
+use Rattle.std.proofs.Common.{◌≡◌, ℕ, ◌+◌, List, [], ◌∷◌, Option, Some, None, refl, take}
+use Rattle.std.specs.Prelude.{pos, negsuc}
+use Rattle.sercos_idn.specs.Attributes.{attribute_of}
+use Rattle.sercos_block.specs.Views.{DriveView, RingView}
+use Rattle.sercos_telegram.specs.declared.layout.Kind.TheVariants as kinds
+use Rattle.sercos_step.specs.declared.request.Job.{Job}
+use Rattle.sercos_step.specs.declared.request.Request.TheVariants as request
+use Rattle.sercos_script.specs.Links.{carried_clean, never_restarts}
+use Rattle.sercos_script.specs.declared.fault.Damage.{Damage}
+use Rattle.sercos_script.specs.declared.fault.Damage.TheVariants.{Lose, Flip, Deaf, Restart}
+use Rattle.sercos_script.specs.declared.fault.Fault.{Fault}
+use Rattle.sercos_script.specs.Scripts.{carried, restarts_at, acts}
+use Rattle.sercos_telegram.specs.declared.layout.Kind.{Kind}
+use Rattle.sercos_step.specs.declared.request.Outcome.{Outcome}
+use Rattle.sercos_step.specs.declared.request.Outcome.TheVariants as outcome
+use Rattle.sercos_trace.specs.declared.events.Fall.{Fall}
+use Rattle.sercos_trace.specs.declared.events.Fall.TheVariants as fall
+use Rattle.sercos_trace.specs.Views.{SentView, CycleView}
+use Rattle.sercos_law_run.specs.Journal.Runs.{run_of}
+use Rattle.sercos_trace.specs.declared.record.Move.{Move}
+use Rattle.sercos_law_run.specs.Journal.Arrivals as Arrivals
+use Rattle.sercos_model.specs.Bits as Bits
+use Rattle.sercos_model.specs.CheckSequence as CheckSequence
+use Rattle.sercos_hdlc.specs.Reason as Reason
+use Rattle.sercos_hdlc.specs.Stuffed as Stuffed
+use Rattle.sercos_telegram.specs.Faults as Faults
+use Rattle.sercos_telegram.specs.Spells as Spells
+use Rattle.sercos_telegram.specs.Words as Words
+use Rattle.sercos_idn.specs.Codes as Codes
+use Rattle.sercos_idn.specs.Attributes as Attributes
+use Rattle.sercos_block.specs.Blocks as Blocks
+use Rattle.sercos_block.specs.BuiltIns as BuiltIns
+use Rattle.sercos_timing.specs.Valid as Valid
+use Rattle.sercos_block.specs.Rings as Rings
+use Rattle.sercos_block.specs.Stores as Stores
+use Rattle.sercos_command.specs.Checks as Checks
+use Rattle.sercos_command.specs.Settings as Settings
+use Rattle.sercos_service_drive.specs.Replies as Replies
+use Rattle.sercos_plan.specs.ChainOf as ChainOf
+use Rattle.sercos_plan.specs.LeastTimes as LeastTimes
+use Rattle.sercos_drive.proofs.Worked.{drive}
+use Rattle.sercos_drive.specs.Heard as Heard
+use Rattle.sercos_drive.specs.Says as Says
+
+-- a ring of one drive, which sends S-0-0051 and is sent S-0-0047; S-0-0051 grows by 10 in each cycle
+abbrev ring : RingView
+ring = record { rate = 4; cycle = 250; control = 250; gap = 5; cycles = 300; order = 0 ∷ []; drives = drive ∷ [] }
+
+-- What happened in the cycles of a run, the newest first: the cycles in which drives moved, with their addresses and phases; the
+-- falls; the outcomes of requests; and how many arrivals were unseen.
+record Happened : Type 0 where
+  moves : List (ℕ × List (ℕ × ℕ))
+  falls : List (ℕ × Fall)
+  outcomes : List (ℕ × ℕ × Outcome)
+  unseen : ℕ
+
+abbrev pairs : List Move → List (ℕ × ℕ)
+pairs [] = []
+pairs (m ∷ moves) = (m.drive, m.phase) ∷ pairs moves
+
+abbrev with_moves : ℕ → List Move → List (ℕ × List (ℕ × ℕ)) → List (ℕ × List (ℕ × ℕ))
+with_moves cycle [] others = others
+with_moves cycle (m ∷ moves) others = (cycle, pairs (m ∷ moves)) ∷ others
+
+abbrev with_fall : ℕ → Option Fall → List (ℕ × Fall) → List (ℕ × Fall)
+with_fall cycle None others = others
+with_fall cycle (Some f) others = (cycle, f) ∷ others
+
+abbrev with_outcomes : ℕ → List (ℕ × Outcome) → List (ℕ × ℕ × Outcome) → List (ℕ × ℕ × Outcome)
+with_outcomes cycle [] others = others
+with_outcomes cycle (o ∷ outcomes) others = (cycle, o.0, o.1) ∷ with_outcomes cycle outcomes others
+
+abbrev happened : List CycleView → Happened
+happened [] = record { moves = []; falls = []; outcomes = []; unseen = 0 }
+happened (t ∷ j) = with_cycle (happened j)
+  where
+    with_cycle : Happened → Happened
+    with_cycle before = record {
+      moves = with_moves t.cycle t.moves before.moves;
+      falls = with_fall t.cycle t.events.fall before.falls;
+      outcomes = with_outcomes t.cycle t.events.outcomes before.outcomes;
+      unseen = before.unseen + t.unseen;
+    }
+
+-- the first n cycles under a script
+abbrev under : List Job → List Fault → ℕ → Happened
+under jobs faults n = happened (run_of ring jobs (carried 1 faults) (restarts_at faults) n)
+
+abbrev fault : ℕ → ℕ → Kind → ℕ → Damage → Fault
+fault cycle last kind from damage = record { cycle = cycle; last = last; every = 1; kind = kind; from = from; damage = damage }
+
+-- S-0-0047 is written, and read
+abbrev write : Job
+write = record { drive = 1; request = request.Write (record { raw = 47 }) 7 (1 ∷ 0 ∷ 0 ∷ 0 ∷ []) }
+
+abbrev read : Job
+read = record { drive = 1; request = request.Read (record { raw = 47 }) 7 }
+
+-- the moves of the start-up
+abbrev started : List (ℕ × List (ℕ × ℕ))
+started = (100, (1, 4) ∷ []) ∷ (95, (1, 3) ∷ []) ∷ (12, (1, 2) ∷ []) ∷ (10, (1, 1) ∷ []) ∷ []
+
+-- Six bits of the MST are flipped in cycle 5, which makes it one of phase 1, and no check sequence tells: the drive moves.
+abbrev flip : ℕ → Fault
+flip bit = fault 5 5 kinds.Mst 0 (Flip 0 bit)
+
+-- the drive and the master each got it
+flipped : under [] (flip 17 ∷ flip 25 ∷ flip 28 ∷ flip 32 ∷ flip 33 ∷ flip 37 ∷ []) 18
+    ≡ record { moves = (16, (1, 1) ∷ []) ∷ (6, (1, 0) ∷ []) ∷ (5, (1, 1) ∷ []) ∷ []; falls = []; outcomes = []; unseen = 2 }
+unfolding carried restarts_at acts Bits.bits_of Bits.low_bits Bits.is_odd Bits.number_of Bits.bytes_of CheckSequence.fcs_of CheckSequence.divided CheckSequence.added CheckSequence.sum_of Arrivals.content_in Arrivals.is_unseen Reason.begins_with_six Reason.is_five Reason.ends_in_five Reason.six_place Reason.unstuffed Reason.given Reason.unclosed Reason.unreadable Reason.reason_of Stuffed.stuffed Stuffed.frame_of Faults.mst_fault Faults.head_fault Spells.word_bytes Spells.word_at Spells.fields Words.control_of Words.status_of Codes.attribute_fault Attributes.attribute_of Blocks.element_of BuiltIns.built_in Rings.attribute_in Valid.is_cycle Stores.inserted Stores.with_own Stores.store_of Checks.number_at Checks.idns_at Checks.carried_len Checks.breaks_1 Checks.breaks_2 Checks.breaks_6 Checks.breaks_7 Checks.breaks_8 Checks.breaks_9 Checks.breaks_10 Checks.breaks_15 Checks.breaks_list Checks.breaks_89 Checks.unfit_for_phase_3 Checks.unfit_for_phase_4 Settings.with_write Settings.with_lists Replies.data_in Replies.element_words Replies.bytes_written Replies.write_cause ChainOf.chain_of LeastTimes.least_plan LeastTimes.least_t2 LeastTimes.least_t3 Heard.mst_in Heard.single_in Heard.joint_in Says.value_in
+flipped = refl
+
+-- The AT of one cycle is lost: the request is complete all the same.
+written : under (write ∷ []) (fault 105 105 kinds.At 1 (Lose 1) ∷ []) 110
+    ≡ record { moves = started; falls = []; outcomes = (106, 1, outcome.Complete []) ∷ []; unseen = 0 }
+unfolding carried restarts_at acts Bits.bits_of Bits.low_bits Bits.is_odd Bits.number_of Bits.bytes_of CheckSequence.fcs_of CheckSequence.divided CheckSequence.added CheckSequence.sum_of Arrivals.content_in Arrivals.is_unseen Reason.begins_with_six Reason.is_five Reason.ends_in_five Reason.six_place Reason.unstuffed Reason.given Reason.unclosed Reason.unreadable Reason.reason_of Stuffed.stuffed Stuffed.frame_of Faults.mst_fault Faults.head_fault Spells.word_bytes Spells.word_at Spells.fields Words.control_of Words.status_of Codes.attribute_fault Attributes.attribute_of Blocks.element_of BuiltIns.built_in Rings.attribute_in Valid.is_cycle Stores.inserted Stores.with_own Stores.store_of Checks.number_at Checks.idns_at Checks.carried_len Checks.breaks_1 Checks.breaks_2 Checks.breaks_6 Checks.breaks_7 Checks.breaks_8 Checks.breaks_9 Checks.breaks_10 Checks.breaks_15 Checks.breaks_list Checks.breaks_89 Checks.unfit_for_phase_3 Checks.unfit_for_phase_4 Settings.with_write Settings.with_lists Replies.data_in Replies.element_words Replies.bytes_written Replies.write_cause ChainOf.chain_of LeastTimes.least_plan LeastTimes.least_t2 LeastTimes.least_t3 Heard.mst_in Heard.single_in Heard.joint_in Says.value_in
+written = refl
+
+-- Those of two cycles in a row: the ring falls, the request is broken, and after a new start-up the next one runs.
+fallen : under (write ∷ read ∷ []) (fault 105 106 kinds.At 1 (Lose 1) ∷ []) 213
+    ≡ record {
+      moves = (207, (1, 4) ∷ []) ∷ (202, (1, 3) ∷ []) ∷ (119, (1, 2) ∷ []) ∷ (117, (1, 1) ∷ []) ∷ (107, (1, 0) ∷ []) ∷ started;
+      falls = (106, fall.AtLost 1) ∷ [];
+      outcomes = (212, 2, outcome.Complete (1 ∷ 0 ∷ 0 ∷ 0 ∷ [])) ∷ (106, 1, outcome.Broken) ∷ [];
+      unseen = 0;
+    }
+unfolding carried restarts_at acts Bits.bits_of Bits.low_bits Bits.is_odd Bits.number_of Bits.bytes_of CheckSequence.fcs_of CheckSequence.divided CheckSequence.added CheckSequence.sum_of Arrivals.content_in Arrivals.is_unseen Reason.begins_with_six Reason.is_five Reason.ends_in_five Reason.six_place Reason.unstuffed Reason.given Reason.unclosed Reason.unreadable Reason.reason_of Stuffed.stuffed Stuffed.frame_of Faults.mst_fault Faults.head_fault Spells.word_bytes Spells.word_at Spells.fields Words.control_of Words.status_of Codes.attribute_fault Attributes.attribute_of Blocks.element_of BuiltIns.built_in Rings.attribute_in Valid.is_cycle Stores.inserted Stores.with_own Stores.store_of Checks.number_at Checks.idns_at Checks.carried_len Checks.breaks_1 Checks.breaks_2 Checks.breaks_6 Checks.breaks_7 Checks.breaks_8 Checks.breaks_9 Checks.breaks_10 Checks.breaks_15 Checks.breaks_list Checks.breaks_89 Checks.unfit_for_phase_3 Checks.unfit_for_phase_4 Settings.with_write Settings.with_lists Replies.data_in Replies.element_words Replies.bytes_written Replies.write_cause ChainOf.chain_of LeastTimes.least_plan LeastTimes.least_t2 LeastTimes.least_t3 Heard.mst_in Heard.single_in Heard.joint_in Says.value_in
+fallen = refl
+
+-- The ring falls, and the drive doesn't get the two MSTs after it: in the first of these cycles it still stands in phase 4.
+deaf : under [] (fault 120 121 kinds.At 1 (Lose 1) ∷ fault 122 123 kinds.Mst 0 (Deaf 1) ∷ []) 223
+    ≡ record {
+      moves = (222, (1, 4) ∷ []) ∷ (217, (1, 3) ∷ []) ∷ (134, (1, 2) ∷ []) ∷ (132, (1, 1) ∷ []) ∷ (123, (1, 0) ∷ []) ∷ started;
+      falls = (121, fall.AtLost 1) ∷ [];
+      outcomes = [];
+      unseen = 0;
+    }
+unfolding carried restarts_at acts Bits.bits_of Bits.low_bits Bits.is_odd Bits.number_of Bits.bytes_of CheckSequence.fcs_of CheckSequence.divided CheckSequence.added CheckSequence.sum_of Arrivals.content_in Arrivals.is_unseen Reason.begins_with_six Reason.is_five Reason.ends_in_five Reason.six_place Reason.unstuffed Reason.given Reason.unclosed Reason.unreadable Reason.reason_of Stuffed.stuffed Stuffed.frame_of Faults.mst_fault Faults.head_fault Spells.word_bytes Spells.word_at Spells.fields Words.control_of Words.status_of Codes.attribute_fault Attributes.attribute_of Blocks.element_of BuiltIns.built_in Rings.attribute_in Valid.is_cycle Stores.inserted Stores.with_own Stores.store_of Checks.number_at Checks.idns_at Checks.carried_len Checks.breaks_1 Checks.breaks_2 Checks.breaks_6 Checks.breaks_7 Checks.breaks_8 Checks.breaks_9 Checks.breaks_10 Checks.breaks_15 Checks.breaks_list Checks.breaks_89 Checks.unfit_for_phase_3 Checks.unfit_for_phase_4 Settings.with_write Settings.with_lists Replies.data_in Replies.element_words Replies.bytes_written Replies.write_cause ChainOf.chain_of LeastTimes.least_plan LeastTimes.least_t2 LeastTimes.least_t3 Heard.mst_in Heard.single_in Heard.joint_in Says.value_in
+deaf = refl
+
+-- The drive restarts.
+drive_restarts : under [] (fault 120 120 kinds.Mst 0 (Restart 1) ∷ []) 223
+    ≡ record {
+      moves = (222, (1, 4) ∷ []) ∷ (217, (1, 3) ∷ []) ∷ (134, (1, 2) ∷ []) ∷ (132, (1, 1) ∷ []) ∷ (120, (1, 0) ∷ []) ∷ started;
+      falls = (121, fall.AtLost 1) ∷ [];
+      outcomes = [];
+      unseen = 0;
+    }
+unfolding carried restarts_at acts Bits.bits_of Bits.low_bits Bits.is_odd Bits.number_of Bits.bytes_of CheckSequence.fcs_of CheckSequence.divided CheckSequence.added CheckSequence.sum_of Arrivals.content_in Arrivals.is_unseen Reason.begins_with_six Reason.is_five Reason.ends_in_five Reason.six_place Reason.unstuffed Reason.given Reason.unclosed Reason.unreadable Reason.reason_of Stuffed.stuffed Stuffed.frame_of Faults.mst_fault Faults.head_fault Spells.word_bytes Spells.word_at Spells.fields Words.control_of Words.status_of Codes.attribute_fault Attributes.attribute_of Blocks.element_of BuiltIns.built_in Rings.attribute_in Valid.is_cycle Stores.inserted Stores.with_own Stores.store_of Checks.number_at Checks.idns_at Checks.carried_len Checks.breaks_1 Checks.breaks_2 Checks.breaks_6 Checks.breaks_7 Checks.breaks_8 Checks.breaks_9 Checks.breaks_10 Checks.breaks_15 Checks.breaks_list Checks.breaks_89 Checks.unfit_for_phase_3 Checks.unfit_for_phase_4 Settings.with_write Settings.with_lists Replies.data_in Replies.element_words Replies.bytes_written Replies.write_cause ChainOf.chain_of LeastTimes.least_plan LeastTimes.least_t2 LeastTimes.least_t3 Heard.mst_in Heard.single_in Heard.joint_in Says.value_in
+drive_restarts = refl
+
+-- The master restarts while a request is open.
+master_restarts : under (write ∷ read ∷ []) (fault 105 106 kinds.At 1 (Lose 1) ∷ fault 105 105 kinds.Mst 0 (Restart 0) ∷ []) 211
+    ≡ record {
+      moves = (205, (1, 4) ∷ []) ∷ (200, (1, 3) ∷ []) ∷ (117, (1, 2) ∷ []) ∷ (115, (1, 1) ∷ []) ∷ (105, (1, 0) ∷ []) ∷ started;
+      falls = (105, fall.Restart) ∷ [];
+      outcomes = (210, 2, outcome.Complete (1 ∷ 0 ∷ 0 ∷ 0 ∷ [])) ∷ (105, 1, outcome.Broken) ∷ [];
+      unseen = 0;
+    }
+unfolding carried restarts_at acts Bits.bits_of Bits.low_bits Bits.is_odd Bits.number_of Bits.bytes_of CheckSequence.fcs_of CheckSequence.divided CheckSequence.added CheckSequence.sum_of Arrivals.content_in Arrivals.is_unseen Reason.begins_with_six Reason.is_five Reason.ends_in_five Reason.six_place Reason.unstuffed Reason.given Reason.unclosed Reason.unreadable Reason.reason_of Stuffed.stuffed Stuffed.frame_of Faults.mst_fault Faults.head_fault Spells.word_bytes Spells.word_at Spells.fields Words.control_of Words.status_of Codes.attribute_fault Attributes.attribute_of Blocks.element_of BuiltIns.built_in Rings.attribute_in Valid.is_cycle Stores.inserted Stores.with_own Stores.store_of Checks.number_at Checks.idns_at Checks.carried_len Checks.breaks_1 Checks.breaks_2 Checks.breaks_6 Checks.breaks_7 Checks.breaks_8 Checks.breaks_9 Checks.breaks_10 Checks.breaks_15 Checks.breaks_list Checks.breaks_89 Checks.unfit_for_phase_3 Checks.unfit_for_phase_4 Settings.with_write Settings.with_lists Replies.data_in Replies.element_words Replies.bytes_written Replies.write_cause ChainOf.chain_of LeastTimes.least_plan LeastTimes.least_t2 LeastTimes.least_t3 Heard.mst_in Heard.single_in Heard.joint_in Says.value_in
+master_restarts = refl
+
+-- A ring of two drives: what is sent in the first cycles commanded phase 3, the newest first.
+abbrev second : DriveView
+second = record drive { address = 2; slave = 2; times = record { t1min = 12; tatmt = 6; t4min = 20; tatat = 5; tmtsy = 10; tmtsg = 20 } }
+
+abbrev ring_2 : RingView
+ring_2 = record ring { order = 0 ∷ 1 ∷ []; drives = drive ∷ second ∷ [] }
+
+abbrev all_sent : List CycleView → List (List SentView)
+all_sent [] = []
+all_sent (t ∷ j) = t.sent ∷ all_sent j
+
+two_sent : take 3 (all_sent (run_of ring_2 [] carried_clean never_restarts 181)) ≡
+    ((record { kind = kinds.Mst; start = negsuc 49; bits = 50; content = 255 ∷ 3 ∷ [] }) ∷ (record { kind = kinds.At; start = pos 40; bits = 105; content = 1 ∷ 32 ∷ 0 ∷ 0 ∷ 0 ∷ 252 ∷ 2 ∷ 1 ∷ 0 ∷ [] }) ∷ (record { kind = kinds.At; start = pos 184; bits = 105; content = 2 ∷ 32 ∷ 0 ∷ 0 ∷ 0 ∷ 252 ∷ 2 ∷ 1 ∷ 0 ∷ [] }) ∷ (record { kind = kinds.Mdt; start = pos 332; bits = 169; content = 255 ∷ 13 ∷ 0 ∷ 0 ∷ 0 ∷ 180 ∷ 0 ∷ 0 ∷ 0 ∷ 13 ∷ 0 ∷ 0 ∷ 0 ∷ 180 ∷ 0 ∷ 0 ∷ 0 ∷ [] }) ∷ [])
+    ∷ ((record { kind = kinds.Mst; start = negsuc 49; bits = 50; content = 255 ∷ 3 ∷ [] }) ∷ (record { kind = kinds.At; start = pos 40; bits = 105; content = 1 ∷ 1 ∷ 0 ∷ 0 ∷ 0 ∷ 242 ∷ 2 ∷ 1 ∷ 0 ∷ [] }) ∷ (record { kind = kinds.At; start = pos 184; bits = 105; content = 2 ∷ 1 ∷ 0 ∷ 0 ∷ 0 ∷ 242 ∷ 2 ∷ 1 ∷ 0 ∷ [] }) ∷ (record { kind = kinds.Mdt; start = pos 332; bits = 171; content = 255 ∷ 62 ∷ 0 ∷ 3 ∷ 0 ∷ 179 ∷ 0 ∷ 0 ∷ 0 ∷ 62 ∷ 0 ∷ 3 ∷ 0 ∷ 179 ∷ 0 ∷ 0 ∷ 0 ∷ [] }) ∷ [])
+    ∷ ((record { kind = kinds.Mst; start = negsuc 49; bits = 50; content = 255 ∷ 3 ∷ [] }) ∷ (record { kind = kinds.At; start = pos 40; bits = 104; content = 1 ∷ 0 ∷ 0 ∷ 0 ∷ 0 ∷ 232 ∷ 2 ∷ 1 ∷ 0 ∷ [] }) ∷ (record { kind = kinds.At; start = pos 184; bits = 104; content = 2 ∷ 0 ∷ 0 ∷ 0 ∷ 0 ∷ 232 ∷ 2 ∷ 1 ∷ 0 ∷ [] }) ∷ (record { kind = kinds.Mdt; start = pos 332; bits = 171; content = 255 ∷ 15 ∷ 0 ∷ 128 ∷ 0 ∷ 178 ∷ 0 ∷ 0 ∷ 0 ∷ 15 ∷ 0 ∷ 128 ∷ 0 ∷ 178 ∷ 0 ∷ 0 ∷ 0 ∷ [] }) ∷ []) ∷ []
+unfolding carried restarts_at acts Bits.bits_of Bits.low_bits Bits.is_odd Bits.number_of Bits.bytes_of CheckSequence.fcs_of CheckSequence.divided CheckSequence.added CheckSequence.sum_of Arrivals.content_in Arrivals.is_unseen Reason.begins_with_six Reason.is_five Reason.ends_in_five Reason.six_place Reason.unstuffed Reason.given Reason.unclosed Reason.unreadable Reason.reason_of Stuffed.stuffed Stuffed.frame_of Faults.mst_fault Faults.head_fault Spells.word_bytes Spells.word_at Spells.fields Words.control_of Words.status_of Codes.attribute_fault Attributes.attribute_of Blocks.element_of BuiltIns.built_in Rings.attribute_in Valid.is_cycle Stores.inserted Stores.with_own Stores.store_of Checks.number_at Checks.idns_at Checks.carried_len Checks.breaks_1 Checks.breaks_2 Checks.breaks_6 Checks.breaks_7 Checks.breaks_8 Checks.breaks_9 Checks.breaks_10 Checks.breaks_15 Checks.breaks_list Checks.breaks_89 Checks.unfit_for_phase_3 Checks.unfit_for_phase_4 Settings.with_write Settings.with_lists Replies.data_in Replies.element_words Replies.bytes_written Replies.write_cause ChainOf.chain_of LeastTimes.least_plan LeastTimes.least_t2 LeastTimes.least_t3 Heard.mst_in Heard.single_in Heard.joint_in Says.value_in
+two_sent = refl

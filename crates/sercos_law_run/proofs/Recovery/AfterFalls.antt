@@ -1,0 +1,80 @@
+-- After a fall, if no later cycle is disturbed.
+use Rattle.std.proofs.Common.{◌≡◌, ◌⊎◌, inl, inr, ◌≤◌, Bool, true, false, List, ◌∷◌, ◌++◌, length, Option, Some, None, refl, sym, ap, ◌∙◌, subst, arith, if◌then◌else◌}
+use Rattle.std.specs.Prelude.{is_some}
+use Rattle.std.specs.Option.{option_or}
+use Rattle.sercos_step.specs.declared.request.Job.{Job}
+use Rattle.sercos_block.specs.Views.{RingView}
+use Rattle.sercos_trace.specs.Views.{CycleView, EventsView}
+use Rattle.sercos_trace.specs.declared.events.Fall.{Fall}
+use Rattle.sercos_trace.specs.declared.events.Stop.{Stop}
+use Rattle.sercos_seat.specs.Ring.{known_of}
+use Rattle.sercos_master.specs.Annals.{fall_of}
+use Rattle.sercos_master.specs.Reports.{restart_told}
+use Rattle.sercos_script.specs.Links.{Carry, Restarts}
+use Rattle.sercos_law_run.specs.Journal.Runs.{looks_back, master_calls, no_events, IsClear, IsNext, IsRun}
+use Rattle.sercos_law_run.specs.Views.RingViews.{behind_mdt}
+use Rattle.sercos_law_run.specs.Held.Opened.{IsOpened}
+use Rattle.sercos_law_run.specs.Undisturbed.Ends.{StaysAtItsEnd}
+use Rattle.sercos_law_run.specs.Undisturbed.EpochStarts.{StartsAtFall, StartsAtRestart, StartsEpoch}
+use Rattle.sercos_law_run.specs.Undisturbed.Fit.{FitsInThree, OwnFitsInFour}
+use Rattle.sercos_law_run.specs.Undisturbed.Reports.{ReportsInTime}
+use Rattle.sercos_law_run.specs.Undisturbed.StartUps.{AnswersUndisturbed, NoneFalls, StaysUpUndisturbed, TellsNoFallUndisturbed}
+use Rattle.sercos_law_run.specs.Undisturbed.StopsInTwo.{StopsForTheCycleTime, StopsForThePlan}
+use Rattle.sercos_law_run.specs.Undisturbed.StopsLater.{EndsStartUp, IsRight, RisesIfRight, StopsForTheCheck}
+use Rattle.sercos_law_run.specs.Undisturbed.Undisturbed.{AreUndisturbed}
+use Rattle.sercos_law_run.specs.Undisturbed.WholeRuns.{HasTold, StopsForCause}
+use Rattle.sercos_law_run.proofs.Undisturbed.WholeRuns.{caused}
+use Rattle.sercos_law_run.specs.Recovery.AfterFalls.{AfterFall, StartsAgain}
+use Rattle.sercos_law_run.proofs.Recovery.EpochStops.{once_since, told_since}
+use Rattle.sercos_law_run.proofs.Recovery.Stretches.{rest_runs}
+
+-- a fall that is told is one of the ring, or a restart
+fell_so : (o : Option Fall) (b : Bool) (e f : EventsView) (x : Fall) → f.fall ≡ None → option_or o (if b then e else f).fall ≡ Some x → (is_some o ≡ true) ⊎ (b ≡ true)
+fell_so (Some y) b e f x quiet told = inl refl
+fell_so None true e f x quiet told = inr refl
+fell_so None false e f x quiet told = let same : None ≡ Some x = sym quiet ∙ told in absurd (cc)
+
+module _ (at_fall : StartsAtFall) (at_restart : StartsAtRestart) (tells : TellsNoFallUndisturbed) (rises : RisesIfRight) (fit : FitsInThree) (own : OwnFitsInFour) (at_end : StaysAtItsEnd) (outcome : EndsStartUp) (answers : AnswersUndisturbed) (reports : ReportsInTime) (up : StaysUpUndisturbed)
+    (r : RingView) (jobs : List Job) (carry : Carry) (restarts : Restarts) (opened : IsOpened r jobs) where
+  -- then an epoch begins
+  epoch_begins : (f : CycleView) (before : List CycleView) (x : Fall) → IsNext r jobs carry restarts f before → f.events.fall ≡ Some x → StartsEpoch r jobs carry restarts (f ∷ before)
+  epoch_begins f before x next told = elim (fell_so (fall_of (known_of r) (behind_mdt r jobs carry restarts f.sent before)) (restarts (length before) 0) (restart_told (known_of r) (looks_back r jobs (master_calls r carry restarts before)) no_events)
+      no_events x refl (sym (ap (λ (e : EventsView). e.fall) next.events) ∙ told)) [
+        | inl falls ↦ (at_fall r jobs carry restarts f before falls).0
+        | inr restarted ↦ (at_restart r jobs carry restarts f before restarted).0
+      ]
+
+  -- an epoch in which nothing is disturbed, from phase 0 on
+  starts_again : (t : CycleView) (cycles before : List CycleView) → IsRun r jobs carry restarts (t ∷ (cycles ++ before)) → IsClear (t ∷ (cycles ++ before)) → StartsEpoch r jobs carry restarts before
+      → AreUndisturbed r carry restarts (t ∷ cycles) before → StartsAgain r jobs carry restarts t cycles before
+  starts_again t cycles before run clear starts calm = record {
+    tells = tells r jobs carry restarts t cycles before opened run clear starts calm;
+    rises = λ late right. rises r jobs carry restarts t cycles before opened run clear starts calm late right;
+    right = λ four. (fit r jobs carry restarts t (cycles ++ before) opened run clear (let low : 3 ≤ t.phase = omega (arith, four) in low), λ k below. own r jobs carry restarts t (cycles ++ before) k opened run clear below four);
+    fit = λ late. fit r jobs carry restarts t (cycles ++ before) opened run clear late;
+    stays = λ u older is four. (at_end r jobs carry restarts t u older before opened (subst (λ (l : List CycleView). IsRun r jobs carry restarts (t ∷ (l ++ before))) is run) (subst (λ (l : List CycleView). IsClear (t ∷ (l ++ before))) is clear) starts
+        (subst (λ (l : List CycleView). AreUndisturbed r carry restarts (t ∷ l) before) is calm)).0 four;
+    ends = λ late. by (outcome r jobs carry restarts t cycles before opened run clear starts calm late);
+    once = λ x y told more. once_since r jobs carry restarts t cycles before x y run calm stays told more;
+    answers = λ k a below hears fits. answers r jobs carry restarts t cycles before opened run clear starts calm k a below hears fits;
+    reports = λ four k i x below got late. reports r jobs carry restarts t cycles before opened run clear starts calm four k i x below got late;
+  }
+    where
+      stays : NoneFalls r jobs carry restarts (t ∷ cycles) before
+      stays = (up r jobs carry restarts (t ∷ cycles) before opened run clear starts calm).stays
+
+      by : ((t.phase ≡ 4) × ((behind_mdt r jobs carry restarts t.sent (cycles ++ before)).stop ≡ None) × IsRight r)
+          ⊎ ((x : Stop) × ((behind_mdt r jobs carry restarts t.sent (cycles ++ before)).stop ≡ Some x)
+          × (StopsForThePlan r x ⊎ (StopsForTheCycleTime r x ⊎ StopsForTheCheck r (behind_mdt r jobs carry restarts t.sent (cycles ++ before)) x)))
+          → ((t.phase ≡ 4) × IsRight r) ⊎ ((x : Stop) × HasTold x (t ∷ cycles) × StopsForCause r x)
+      by (inl (four, none, right)) = inl (four, right)
+      by (inr (x, is, cause)) = inr (x, told_since r jobs carry restarts before starts t cycles x run calm stays is, caused r jobs carry restarts t (cycles ++ before) x cause)
+
+  pub after_fall_in : (t f : CycleView) (cycles before : List CycleView) (x : Fall) → IsRun r jobs carry restarts (t ∷ (cycles ++ f ∷ before)) → IsClear (t ∷ (cycles ++ f ∷ before)) → AreUndisturbed r carry restarts (t ∷ cycles) (f ∷ before)
+      → f.events.fall ≡ Some x → StartsAgain r jobs carry restarts t cycles (f ∷ before)
+  after_fall_in t f cycles before x run clear calm told =
+      starts_again t cycles (f ∷ before) run clear (epoch_begins f before x (rest_runs r jobs carry restarts (t ∷ cycles) (f ∷ before) run).1 told) calm
+
+pub after_fall : StartsAtFall → StartsAtRestart → TellsNoFallUndisturbed → RisesIfRight → FitsInThree → OwnFitsInFour → StaysAtItsEnd → EndsStartUp → AnswersUndisturbed → ReportsInTime → StaysUpUndisturbed → AfterFall
+after_fall at_fall at_restart tells rises fit own at_end outcome answers reports up r jobs carry restarts t f cycles before x opened run clear calm told =
+    after_fall_in at_fall at_restart tells rises fit own at_end outcome answers reports up r jobs carry restarts opened t f cycles before x run clear calm told

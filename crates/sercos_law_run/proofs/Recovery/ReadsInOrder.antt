@@ -1,0 +1,92 @@
+-- Up to phase 2, where something of a drive has begun, each drive before it in the ring has been read.
+use Rattle.std.proofs.Common.{◌≡◌, inl, inr, ℕ, ◌+◌, ◌<◌, ◌≤◌, Bool, true, false, not, List, [], ◌∷◌, length, Option, Some, None, refl, sym, ap, ◌∙◌, arith, if◌then◌else◌}
+use Rattle.std.specs.Prelude.{is_none, is_some}
+use Rattle.std.specs.Option.{option_or}
+use Rattle.std.proofs.lemmas.Bool.{cases_lt, leb-true, le-leb}
+use Rattle.sercos_step.specs.declared.request.Outcome.{Outcome}
+use Rattle.sercos_service_master.specs.Begun.{Begun}
+use Rattle.sercos_service_master.specs.Calls.{begun_by}
+use Rattle.sercos_service_master.specs.Calls as channel
+use Rattle.sercos_seat.specs.Agenda.{reads_count, is_checked, is_read}
+use Rattle.sercos_seat.specs.Channel.{outcomes_in, with_outcome}
+use Rattle.sercos_seat.specs.Ring.{Known, MemberView, Task, member}
+use Rattle.sercos_master.specs.Annals.{Call, HearMst, HearAt, Mdt, End, Restart, Past, outcomes, first_place, after_taken, settled, in_turn, begins, fall_of, is_done, goes_on, new_epoch, still_waiting, past}
+use Rattle.sercos_master.proofs.Configured.{each_passes, leaves, mdt_adds}
+use Rattle.sercos_master.proofs.Planned.{at_adds}
+use Rattle.sercos_law_channel.specs.Handshake.Epochs.{with_begun}
+use Rattle.sercos_law_run.specs.Views.RingViews.{request_of}
+use Rattle.sercos_law_run.proofs.Views.MasterSame.{begun_so, turn_mdt}
+use Rattle.sercos_law_run.proofs.Undisturbed.AfterAt.{after_at_so}
+use Rattle.sercos_law_run.proofs.Undisturbed.EpochCycles.{longer}
+use Rattle.sercos_law_run.proofs.Undisturbed.Arrivals.{not_false}
+use Rattle.sercos_law_run.proofs.Undisturbed.InOrder.{at_leaves_count, before_first, begins_in_turn}
+use Rattle.sercos_law_run.proofs.Undisturbed.Small.{some_is}
+
+-- a drive that has been read stays so
+read_stays : (m : MemberView) (outs : List Outcome) (o : Option Outcome) → is_read m outs ≡ true → is_read m (with_outcome o outs) ≡ true
+read_stays m outs o read =
+    let had = leb-true (reads_count m) (length outs) read in
+    let more = longer o outs in le-leb (reads_count m) (length (with_outcome o outs)) (omega (arith, had, more))
+
+-- a drive that has its turn comes after drives that have been read
+turn_reads : (s : Known) (p : Past) (k : ℕ) → k < length s.drives → in_turn s p ≡ Some k → (j : ℕ) → j < k → is_read (member s j) (outcomes p j) ≡ true
+turn_reads s p k there turn j low = by (first_place s (λ i. not (is_read (member s i) (outcomes p i)))) refl turn
+  where
+    by : (o : Option ℕ) → first_place s (λ i. not (is_read (member s i) (outcomes p i))) ≡ o → option_or o (first_place s (λ i. not (is_checked (member s i) (outcomes p i)))) ≡ Some k → is_read (member s j) (outcomes p j) ≡ true
+    by None none second = each_passes (length s.drives) 0 (λ i. is_read (member s i) (outcomes p i)) (ap (λ (o : Option ℕ). is_none o) none) j (omega arith) (omega (arith, low, there))
+    by (Some i) found first =
+        let same : i ≡ k = some_is i k first in
+        not_false _ (before_first 0 (length s.drives) (λ m. not (is_read (member s m) (outcomes p m))) i found j (omega arith) (omega (arith, same, low)))
+
+module _ (s : Known) (requests : ℕ → List Task) where
+  abbrev AreReadInOrder : Past → Type 0
+  AreReadInOrder p = p.now.phase ≤ 2 → (k : ℕ) → k < length s.drives → 1 ≤ length (begun_by (p.calls k)) → (j : ℕ) → j < k → is_read (member s j) (outcomes p j) ≡ true
+
+  -- AN AT
+  taken_order : (i : ℕ) (content : List ℕ) (p : Past) → AreReadInOrder p → AreReadInOrder (after_taken i content p)
+  taken_order i content p have two k there more j low =
+      let adds = at_adds i content p j in
+      ap (is_read (member s j)) adds.1 ∙ read_stays (member s j) (outcomes p j) adds.0 (have two k there (let same = at_leaves_count i content p k in omega (arith, more, same)) j low)
+
+  -- THE MDT
+  mdt_order : (h : List Call) → AreReadInOrder (past s requests h) → AreReadInOrder (past s requests (Mdt ∷ h))
+  mdt_order h have two k there more j low =
+      ap (is_read (member s j)) (mdt_adds s p j) ∙ elim (cases_lt 0 (length (begun_by (p.calls k)))) [
+        | inl had ↦ have before k there (omega (arith, had)) j low
+        | inr few ↦ fresh (begins s (settled s p) k) refl (omega (arith, few))
+      ]
+    where
+      p : Past
+      p = past s requests h
+
+      before : (past s requests h).now.phase ≤ 2
+      before = let same = (turn_mdt s (past s requests h)).phase_is in omega (arith, same, two)
+
+      same_outs : (i : ℕ) → outcomes (settled s (past s requests h)) i ≡ outcomes (past s requests h) i
+      same_outs i = ap (λ (calls : ℕ → List channel.Call). outcomes_in (begun_by (calls i))) (leaves s (past s requests h)).calls
+
+      fresh : (o : Option Task) → begins s (settled s (past s requests h)) k ≡ o → length (begun_by ((past s requests h).calls k)) ≤ 0 → is_read (member s j) (outcomes (past s requests h) j) ≡ true
+      fresh None none few =
+          let same = ap (λ (l : List Begun). length l) (begun_so s (past s requests h) k ∙ ap (λ (o : Option Task). with_begun (request_of o) (begun_by ((past s requests h).calls k))) none) in
+          absurd (omega (arith, few, more, same))
+      fresh (Some t) some few = ap (is_read (member s j)) (sym (same_outs j)) ∙ turn_reads s (settled s (past s requests h)) k there turn j low
+        where
+          turn : in_turn s (settled s (past s requests h)) ≡ Some k
+          turn = begins_in_turn s (settled s (past s requests h)) k t (let same = (leaves s (past s requests h)).phase in let low_is = before in omega (arith, same, low_is)) some
+
+  -- THE END OF A CYCLE
+  end_order : (h : List Call) → AreReadInOrder (past s requests h) → AreReadInOrder (past s requests (End ∷ h))
+  end_order h have = by (is_some (fall_of s (past s requests h))) (is_done s (past s requests h))
+    where
+      by : (fell done : Bool) → AreReadInOrder (if fell then new_epoch ((past s requests h).cycle + 1) (still_waiting (past s requests h)) else goes_on (if done then (past s requests h).now.phase + 1 else (past s requests h).now.phase) (past s requests h))
+      by true done two k there more j low = absurd (omega (arith, more))
+      by false false two k there more j low = have two k there more j low
+      by false true two k there more j low = have (omega (arith, two)) k there more j low
+
+  pub reads_in_order : (h : List Call) → AreReadInOrder (past s requests h)
+  reads_in_order [] = λ two k there more j low. absurd (omega (arith, more))
+  reads_in_order (HearMst content ∷ h) = reads_in_order h
+  reads_in_order (HearAt content ∷ h) = after_at_so AreReadInOrder s content (past s requests h) (reads_in_order h) (λ i. taken_order i content (past s requests h) (reads_in_order h))
+  reads_in_order (Mdt ∷ h) = mdt_order h (reads_in_order h)
+  reads_in_order (End ∷ h) = end_order h (reads_in_order h)
+  reads_in_order (Restart ∷ h) = λ two k there more j low. absurd (omega (arith, more))

@@ -1,0 +1,377 @@
+-- So the ring is back in time after the last disturbed cycle.
+use Rattle.std.proofs.Common.{◌≡◌, ◌⊎◌, inl, inr, ℕ, suc, ◌+◌, ◌*◌, ◌<◌, ◌≤◌, true, List, [], ◌∷◌, ◌++◌, length, Option, Some, None, refl, sym, ap, ◌∙◌, subst, arith, length-append}
+use Rattle.std.specs.Prelude.{is_some}
+use Rattle.std.specs.List.{sum_by}
+use Rattle.std.proofs.lemmas.Bool.{cases_eq, cases_lt, false≢true}
+use Rattle.std.proofs.lemmas.List.Sums.{sum_by-cons}
+use Rattle.sercos_step.specs.declared.request.Job.{Job}
+use Rattle.sercos_block.specs.Startup.{startup_bound}
+use Rattle.sercos_block.specs.Views.{DriveView, RingView}
+use Rattle.sercos_law_run.specs.Bounds.Bounds.{listed, recovery_bound, section_cycles, slowest, AreSections, IsBackLater, IsBelowGreatest, IsStarted}
+use Rattle.sercos_trace.specs.Views.{CycleView}
+use Rattle.sercos_trace.specs.declared.events.Fall.{Fall}
+use Rattle.sercos_trace.specs.declared.events.Stop.{Stop}
+use Rattle.sercos_seat.specs.Ring.{known_of, tasks_for}
+use Rattle.sercos_master.specs.Annals.{Past, fall_of}
+use Rattle.sercos_script.specs.Links.{Carry, Restarts}
+use Rattle.sercos_law_channel.specs.Handshake.RunLaws.{ComesUp}
+use Rattle.sercos_law_channel.specs.Handshake.Views.{standing}
+use Rattle.sercos_law_channel.specs.Pace.Ages.{AgesWhereDead}
+use Rattle.sercos_law_channel.specs.Pace.ChannelCalls.{AgesBeforeEnd}
+use Rattle.sercos_law_channel.specs.Pace.Costs.{ComesTimed}
+use Rattle.sercos_law_channel.specs.Pace.Jobs.{ListReadCosts, ReadsCost, WritesCost}
+use Rattle.sercos_law_channel.specs.Pace.Passages.{StaysDead}
+use Rattle.sercos_law_channel.specs.Pace.StartCosts.{RecoversInCost, RecoversSince}
+use Rattle.sercos_law_run.specs.Journal.Runs.{begins, IsClear, IsRun}
+use Rattle.sercos_law_run.specs.Agenda.Tasks.{BeginsNoneEarly}
+use Rattle.sercos_law_run.specs.Agenda.Turns.{WorkInTurn, WorksInThree, WorksInTwo}
+use Rattle.sercos_law_run.proofs.Typed.Mdts.{phase_low}
+use Rattle.sercos_law_run.specs.Views.RingViews.{behind_mdt, views_of}
+use Rattle.sercos_law_run.specs.Held.Opened.{IsOpened}
+use Rattle.sercos_law_run.proofs.Held.Runs.{Laws}
+use Rattle.sercos_law_run.proofs.Headline.HeadlineRuns.{MoreLaws}
+use Rattle.sercos_law_run.specs.Undisturbed.EpochStarts.{StartsAtFall, StartsEpoch}
+use Rattle.sercos_law_run.specs.Undisturbed.Fit.{FitsInThree, OwnFitsInFour}
+use Rattle.sercos_law_run.specs.Undisturbed.StartUps.{NoneFalls, StaysUpUndisturbed}
+use Rattle.sercos_law_run.specs.Undisturbed.StopsInTwo.{StopsForTheCycleTime, StopsForThePlan, StopsInTwo}
+use Rattle.sercos_law_run.specs.Undisturbed.StopsLater.{EndsStartUp, IsRight, NoStopInFour, StopsForTheCheck, StopsInThree}
+use Rattle.sercos_law_run.specs.Undisturbed.Undisturbed.{AreUndisturbed, IsUndisturbed}
+use Rattle.sercos_law_run.proofs.Undisturbed.Comes.{calm_in}
+use Rattle.sercos_law_run.proofs.Undisturbed.InTime.{within_bound}
+use Rattle.sercos_law_run.proofs.Undisturbed.NeverFalls.{busy_low}
+use Rattle.sercos_law_run.proofs.Undisturbed.PhaseTwo.{section_two}
+use Rattle.sercos_law_run.proofs.Undisturbed.StopStays.{stop_after}
+use Rattle.sercos_law_run.proofs.Undisturbed.WholeRuns.{caused}
+use Rattle.sercos_law_run.specs.Recovery.AfterFalls.{AfterFall}
+use Rattle.sercos_law_run.specs.Recovery.FallsInTime.{IsSpared}
+use Rattle.sercos_law_run.specs.Recovery.Recovers.{IsBack, RecoversIn}
+use Rattle.sercos_law_run.specs.Recovery.Stretches.{IsDown, IsStretch}
+use Rattle.sercos_law_run.proofs.Recovery.ComesBack.{comes_back}
+use Rattle.sercos_law_run.proofs.Recovery.DownSince.{up_all}
+use Rattle.sercos_law_run.proofs.Recovery.EarlyPhases.{early_or_entered}
+use Rattle.sercos_law_run.proofs.Recovery.EarlyStops.{stands_at}
+use Rattle.sercos_law_run.proofs.Recovery.EpochStops.{same_start}
+use Rattle.sercos_law_run.proofs.Recovery.FallsInTime.{falls_in_time, greatest_low, late_now}
+use Rattle.sercos_law_run.proofs.Recovery.FallsSoon.{down_or_up, falls_soon}
+use Rattle.sercos_law_run.proofs.Recovery.LateDown.{no_lower}
+use Rattle.sercos_law_run.proofs.Recovery.SpareStops.{falls_anyway}
+use Rattle.sercos_law_run.proofs.Recovery.Stretches.{rest_clear, rest_runs}
+
+-- THE BOUND has room for phase 1, and for the time that a step needs, beside a whole start-up and a refusal.
+two_share : (b m t : ℕ) → 74 * b + 74 ≤ (b + 1) * (24 + 3 * m) + ((b + 1) * (50 + m) + t)
+two_share b m t =
+    let reads : (b + 1) * (24 + 3 * m) ≡ 24 * b + 24 + 3 * (b * m) + 3 * m = grind arith in
+    let writes : (b + 1) * (50 + m) ≡ 50 * b + 50 + b * m + m = grind arith in omega (arith, reads, writes)
+
+slow_two : (drives : List DriveView) → 1 ≤ length drives → 74 * slowest drives + 74 ≤ sum_by section_two drives
+slow_two [] some = absurd (omega arith)
+slow_two (d ∷ []) some = let one = two_share d.busy (listed d) d.command in omega (arith, one)
+slow_two (d ∷ e ∷ drives) some =
+    let one = two_share d.busy (listed d) d.command in
+    let more = slow_two (e ∷ drives) (omega arith) in omega (arith, one, more, sum_by-cons section_two d (e ∷ drives))
+
+room : IsStarted → (r : RingView) → 1 ≤ length r.drives → startup_bound r + 41 * (slowest r.drives + 2) + slowest r.drives + length r.drives + 200 ≤ recovery_bound r
+room started r some = let within = within_bound started r in let slow = slow_two r.drives some in omega (arith, within, slow)
+
+module _ (laws : Laws) (more : MoreLaws) (turn : WorkInTurn) (early : BeginsNoneEarly) (works : WorksInTwo) (works_three : WorksInThree) (comes_up : (busy : ℕ) → ComesUp busy)
+    (r : RingView) (jobs : List Job) (carry : Carry) (restarts : Restarts) (opened : IsOpened r jobs)
+    (dead : (busy : ℕ) → StaysDead busy) (ages : (busy : ℕ) → AgesWhereDead busy) (counts : (busy : ℕ) → AgesBeforeEnd busy) (recovers : (busy : ℕ) → RecoversInCost busy) (since : (busy : ℕ) → RecoversSince busy) (timed : ComesTimed)
+    (sections : AreSections) (reads_cost : (busy : ℕ) → ReadsCost busy) (writes_cost : (busy : ℕ) → WritesCost busy) (list_costs : (busy : ℕ) → ListReadCosts busy) (started : IsStarted) (below_greatest : IsBelowGreatest) (later : IsBackLater)
+    (stops_two : StopsInTwo) (stops_three : StopsInThree) (none_four : NoStopInFour) (fit : FitsInThree) (own : OwnFitsInFour) (outcome : EndsStartUp) (stays_up : StaysUpUndisturbed) (at_fall : StartsAtFall) where
+  some_drive : 1 ≤ length r.drives
+  some_drive = (laws.ring r opened.valid).some
+
+  slow : slowest r.drives ≤ 20
+  slow = greatest_low (λ x. x.busy) 20 r.drives (λ k low. busy_low r k opened.valid low)
+
+  -- phase 4 says that the ring is right
+  right : (t : CycleView) (j : List CycleView) → IsRun r jobs carry restarts (t ∷ j) → IsClear (t ∷ j) → t.phase ≡ 4 → IsRight r
+  right t j run clear four = (fit r jobs carry restarts t j opened run clear (omega (arith, four)), λ k below. own r jobs carry restarts t j k opened run clear below four)
+
+  abbrev IsCause : CycleView → List CycleView → Stop → Type 0
+  IsCause t j x = StopsForThePlan r x ⊎ (StopsForTheCycleTime r x ⊎ StopsForTheCheck r (behind_mdt r jobs carry restarts t.sent j) x)
+
+  stands : (t : CycleView) (j : List CycleView) (x : Stop) → IsRun r jobs carry restarts (t ∷ j) → fall_of (known_of r) (behind_mdt r jobs carry restarts t.sent j) ≡ None → (behind_mdt r jobs carry restarts t.sent j).stop ≡ Some x → IsCause t j x → IsBack r t j
+  stands t j x run stays is cause = inr (x, stands_at more early r jobs carry restarts t j x run stays is, caused r jobs carry restarts t j x cause)
+
+  -- A STOP of phase 2 or later has a cause.
+  at_stop : (t : CycleView) (j : List CycleView) (x : Stop) → IsRun r jobs carry restarts (t ∷ j) → IsClear (t ∷ j) → fall_of (known_of r) (behind_mdt r jobs carry restarts t.sent j) ≡ None → 2 ≤ t.phase → (behind_mdt r jobs carry restarts t.sent j).stop ≡ Some x
+      → IsBack r t j
+  at_stop t j x run clear stays late is = elim (cases_eq t.phase 2) [
+    | inl two ↦ stands t j x run stays is (by (stops_two r jobs carry restarts t j x opened run clear stays two is))
+    | inr not_two ↦ elim (cases_eq t.phase 3) [
+      | inl three ↦ stands t j x run stays is (inr (inr (stops_three r jobs carry restarts t j x opened run clear stays three is)))
+      | inr not_three ↦
+          let none = none_four r jobs carry restarts t j opened run clear stays (omega (arith, late, low, not_two, not_three)) in
+          let both : None ≡ Some x = sym none ∙ is in absurd (cc)
+    ]
+  ]
+    where
+      low : t.phase ≤ 4
+      low = let most = phase_low (known_of r) (tasks_for (known_of r) jobs) (begins r carry restarts j) in let same = run.1.phase in omega (arith, most, same)
+
+      by : StopsForThePlan r x ⊎ StopsForTheCycleTime r x → IsCause t j x
+      by (inl plan) = inl plan
+      by (inr time) = inr (inl time)
+
+  -- AN EPOCH without disturbance
+  after_start : (t : CycleView) (cycles before : List CycleView) → IsRun r jobs carry restarts (t ∷ (cycles ++ before)) → IsClear (t ∷ (cycles ++ before)) → StartsEpoch r jobs carry restarts before → AreUndisturbed r carry restarts (t ∷ cycles) before
+      → startup_bound r + 41 * (slowest r.drives + 2) ≤ length cycles → IsBack r t (cycles ++ before)
+  after_start t cycles before run clear starts calm long = elim (outcome r jobs carry restarts t cycles before opened run clear starts calm long) [
+    | inl four ↦ inl (four.0, four.2)
+    | inr stop ↦ stands t (cycles ++ before) stop.0 run (stays_up r jobs carry restarts (t ∷ cycles) before opened run clear starts calm).stays.1 stop.1 stop.2
+  ]
+
+  -- a drive that isn't in phase 0 after a first cycle of phase 2 or later never is
+  not_down : (cycles : List CycleView) (first : CycleView) (before : List CycleView) → IsRun r jobs carry restarts (cycles ++ first ∷ before) → IsClear (cycles ++ first ∷ before) → IsStretch r jobs carry restarts cycles first before → 2 ≤ first.phase
+      → (k : ℕ) → k < length r.drives → (IsDown r jobs carry restarts k (first ∷ before) → ⊥) → IsDown r jobs carry restarts k (cycles ++ first ∷ before) → ⊥
+  not_down [] first before run clear stretch late k below up down = up down
+  not_down (t ∷ cycles) first before run clear stretch late k below up down =
+      let stands : (standing (views_of r jobs carry restarts k (t ∷ (cycles ++ first ∷ before)))).ended ≡ t.phase = (up_all laws more turn r jobs carry restarts opened (t ∷ cycles) first before run clear stretch k below up).1 in
+      let least = late_now laws more turn early works r jobs carry restarts opened dead ages counts recovers since timed sections reads_cost writes_cost t cycles first before run clear stretch late k below in
+      omega (arith, stands, least, down)
+
+  -- WITHOUT A FALL, from a first cycle of phase 2 or later on
+  late_back : (t : CycleView) (cycles : List CycleView) (first : CycleView) (before : List CycleView) → IsRun r jobs carry restarts (t ∷ (cycles ++ first ∷ before)) → IsClear (t ∷ (cycles ++ first ∷ before)) → IsStretch r jobs carry restarts (t ∷ cycles) first before
+      → 2 ≤ first.phase → startup_bound r + 41 * (slowest r.drives + 2) ≤ length cycles + 1 → ((d : ℕ) → d < length r.drives → IsDown r jobs carry restarts d (first ∷ before) → IsSpared r 65 (suc (length cycles)) → ⊥) → IsBack r t (cycles ++ first ∷ before)
+  late_back t cycles first before run clear stretch late long never = by (behind_mdt r jobs carry restarts t.sent (cycles ++ first ∷ before)).stop refl
+    where
+      late_too : 2 ≤ t.phase
+      late_too = late_now laws more turn early works r jobs carry restarts opened dead ages counts recovers since timed sections reads_cost writes_cost t cycles first before run clear stretch late 0 (let some = some_drive in omega (arith, some))
+
+      by : (o : Option Stop) → (behind_mdt r jobs carry restarts t.sent (cycles ++ first ∷ before)).stop ≡ o → IsBack r t (cycles ++ first ∷ before)
+      by (Some x) is = at_stop t (cycles ++ first ∷ before) x run clear stretch.stays.1 late_too is
+      by None none = elim (down_or_up r jobs carry restarts (first ∷ before)) [
+        | inl down ↦ absurd (never down.0 down.1 down.2 (falls_in_time laws more turn early works r jobs carry restarts opened dead ages counts recovers since timed sections reads_cost writes_cost down.0 down.1 (t ∷ cycles) first before
+            run clear stretch late (stop_after r jobs carry restarts t (cycles ++ first ∷ before) stretch.stays.1 ∙ none) down.2))
+        | inr up ↦ elim (comes_back laws more turn early works works_three r jobs carry restarts opened dead ages counts recovers since timed sections reads_cost writes_cost list_costs started below_greatest first before late up t cycles run clear stretch long) [
+          | inl four ↦ inl (four, right t (cycles ++ first ∷ before) run clear four)
+          | inr stop ↦ absurd (false≢true (sym (ap (λ (o : Option Stop). is_some o) none) ∙ stop))
+        ]
+      ]
+
+  -- A FALL, from a first cycle of phase 2 or later on, if no drive is in phase 0
+  module _ (f : CycleView) (cycles : List CycleView) (first : CycleView) (before : List CycleView) (run : IsRun r jobs carry restarts (f ∷ (cycles ++ first ∷ before))) (clear : IsClear (f ∷ (cycles ++ first ∷ before)))
+      (stretch : IsStretch r jobs carry restarts cycles first before) (calm : IsUndisturbed r carry restarts f (cycles ++ first ∷ before)) (falls : is_some (fall_of (known_of r) (behind_mdt r jobs carry restarts f.sent (cycles ++ first ∷ before))) ≡ true)
+      (late : 2 ≤ first.phase) where
+    late_f : 2 ≤ f.phase
+    late_f = by cycles run clear stretch calm
+      where
+        by : (l : List CycleView) → IsRun r jobs carry restarts (f ∷ (l ++ first ∷ before)) → IsClear (f ∷ (l ++ first ∷ before)) → IsStretch r jobs carry restarts l first before → IsUndisturbed r carry restarts f (l ++ first ∷ before) → 2 ≤ f.phase
+        by [] run clear s calm =
+            let least = no_lower laws more turn r jobs carry restarts opened f first before run clear s.first_stays ((calm_in r carry restarts f (first ∷ before) calm).stays 0 (omega arith)) 0 (let some = some_drive in omega (arith, some)) in omega (arith, least, late)
+        by (u ∷ l) run clear s calm =
+            let least = no_lower laws more turn r jobs carry restarts opened f u (l ++ first ∷ before) run clear s.stays.1 ((calm_in r carry restarts f (u ∷ (l ++ first ∷ before)) calm).stays 0 (omega arith)) 0 (let some = some_drive in omega (arith, some)) in
+            let before_that = late_now laws more turn early works r jobs carry restarts opened dead ages counts recovers since timed sections reads_cost writes_cost u l first before run.0 clear.0 s late 0 (let some = some_drive in omega (arith, some)) in
+            omega (arith, least, before_that)
+
+    soon : ((k : ℕ) → k < length r.drives → IsDown r jobs carry restarts k (first ∷ before) → ⊥) → length cycles ≤ slowest r.drives + 1
+    soon up = falls_soon laws more turn comes_up r jobs carry restarts opened recovers timed counts below_greatest f cycles first before run clear stretch calm late_f
+        (λ k below. not_down cycles first before run.0 clear.0 stretch late k below (up k below)) falls
+
+    in_time : (d : ℕ) → d < length r.drives → IsDown r jobs carry restarts d (first ∷ before) → IsSpared r 65 (length cycles)
+    in_time d there down = falls_anyway laws more turn early works r jobs carry restarts opened dead ages counts recovers since timed sections reads_cost writes_cost d there comes_up stops_two stops_three f cycles first before run clear stretch calm late falls down
+
+  -- THE FIRST UNDISTURBED CYCLE after `lost`
+  module _ (lost : CycleView) (before : List CycleView) where
+    record IsOpenedBy (j : List CycleView) : Type 0 where
+      newer : List CycleView
+      first : CycleView
+      is : j ≡ newer ++ first ∷ lost ∷ before
+      stretch : IsStretch r jobs carry restarts newer first (lost ∷ before)
+
+    first_of : (u : CycleView) (cycles : List CycleView) → AreUndisturbed r carry restarts (u ∷ cycles) (lost ∷ before) → NoneFalls r jobs carry restarts (u ∷ cycles) (lost ∷ before) → IsOpenedBy (u ∷ (cycles ++ lost ∷ before))
+    first_of u [] calm stays = record { newer = []; first = u; is = refl; stretch = record { calm = tt; stays = tt; first_calm = calm.1; first_stays = stays.1 } }
+    first_of u (w ∷ cycles) calm stays =
+        let o = first_of w cycles calm.0 stays.0 in
+        record {
+          newer = u ∷ o.newer;
+          first = o.first;
+          is = ap (λ (l : List CycleView). u ∷ l) o.is;
+          stretch = record {
+            calm = (o.stretch.calm, subst (λ (l : List CycleView). IsUndisturbed r carry restarts u l) o.is calm.1);
+            stays = (o.stretch.stays, subst (λ (l : List CycleView). fall_of (known_of r) (behind_mdt r jobs carry restarts u.sent l) ≡ None) o.is stays.1);
+            first_calm = o.stretch.first_calm;
+            first_stays = o.stretch.first_stays;
+          };
+        }
+
+    -- where the first one is commanded phase 0, an epoch begins with it
+    zero_at_first : (cycles : List CycleView) (first : CycleView) → IsRun r jobs carry restarts (cycles ++ first ∷ lost ∷ before) → IsUndisturbed r carry restarts first (lost ∷ before) → first.phase ≡ 0 → StartsEpoch r jobs carry restarts (lost ∷ before)
+    zero_at_first cycles first run calm zero_phase =
+        sym ((rest_runs r jobs carry restarts cycles (first ∷ lost ∷ before) run).1.phase ∙ ap (λ (p : Past). p.now.phase) (same_start r jobs carry restarts (lost ∷ before) ((calm_in r carry restarts first (lost ∷ before) calm).stays 0 (omega arith)))) ∙ zero_phase
+
+    -- A FALL in the cycle f comes in time
+    module _ (f : CycleView) where
+      abbrev IsInTime : List CycleView → Type 0
+      IsInTime j = length j + 1 + startup_bound r + 41 * (slowest r.drives + 2) ≤ length before + recovery_bound r
+
+      abbrev Falls : List CycleView → Type 0
+      Falls j = is_some (fall_of (known_of r) (behind_mdt r jobs carry restarts f.sent j)) ≡ true
+
+      after_two : (cycles : List CycleView) (first : CycleView) → IsRun r jobs carry restarts (f ∷ (cycles ++ first ∷ lost ∷ before)) → IsClear (f ∷ (cycles ++ first ∷ lost ∷ before)) → IsStretch r jobs carry restarts cycles first (lost ∷ before)
+          → IsUndisturbed r carry restarts f (cycles ++ first ∷ lost ∷ before) → Falls (cycles ++ first ∷ lost ∷ before) → 2 ≤ first.phase → IsInTime (cycles ++ first ∷ lost ∷ before)
+      after_two cycles first run clear stretch calm falls late = elim (down_or_up r jobs carry restarts (first ∷ lost ∷ before)) [
+        | inl down ↦
+            let is = in_time f cycles first (lost ∷ before) run clear stretch calm falls late down.0 down.1 down.2 in
+            let few = is.few in
+            let long = length-append cycles (first ∷ lost ∷ before) in
+            later r is.earlier is.later is.one (length before) (length (cycles ++ first ∷ lost ∷ before)) (length (cycles ++ first ∷ lost ∷ before) + 1 + startup_bound r + 41 * (slowest r.drives + 2)) is.are slow
+            (omega (arith, few, long)) (omega arith)
+        | inr up ↦
+            let few = soon f cycles first (lost ∷ before) run clear stretch calm falls late up in
+            let long = length-append cycles (first ∷ lost ∷ before) in
+            let room_is = room started r some_drive in omega (arith, few, long, room_is)
+      ]
+
+      entered : (cycles : List CycleView) (two : CycleView) (older : List CycleView) → IsRun r jobs carry restarts (f ∷ (cycles ++ two ∷ older)) → IsClear (f ∷ (cycles ++ two ∷ older)) → IsStretch r jobs carry restarts cycles two older
+          → IsUndisturbed r carry restarts f (cycles ++ two ∷ older) → Falls (cycles ++ two ∷ older) → two.phase ≡ 2 → length older ≤ length before + 2 + length r.drives
+          → ((k : ℕ) → k < length r.drives → IsDown r jobs carry restarts k (two ∷ older) → ⊥) → IsInTime (cycles ++ two ∷ older)
+      entered cycles two older run clear stretch calm falls is_two most up =
+          let few = soon f cycles two older run clear stretch calm falls (omega (arith, is_two)) up in
+          let long = length-append cycles (two ∷ older) in
+          let room_is = room started r some_drive in omega (arith, few, long, most, room_is)
+
+      after_one : (cycles : List CycleView) (first : CycleView) → IsRun r jobs carry restarts (f ∷ (cycles ++ first ∷ lost ∷ before)) → IsClear (f ∷ (cycles ++ first ∷ lost ∷ before)) → IsStretch r jobs carry restarts cycles first (lost ∷ before)
+          → IsUndisturbed r carry restarts f (cycles ++ first ∷ lost ∷ before) → Falls (cycles ++ first ∷ lost ∷ before) → first.phase ≡ 1 → IsInTime (cycles ++ first ∷ lost ∷ before)
+      after_one cycles first run clear stretch calm falls one = elim (early_or_entered laws more turn comes_up r jobs carry restarts opened first (lost ∷ before) one cycles run.0 clear.0 stretch) [
+        | inl few ↦ let long = length-append cycles (first ∷ lost ∷ before) in let room_is = room started r some_drive in omega (arith, few, long, room_is)
+        | inr e ↦ subst IsInTime (sym e.is) (entered e.newer e.two e.older (subst (λ (l : List CycleView). IsRun r jobs carry restarts (f ∷ l)) e.is run) (subst (λ (l : List CycleView). IsClear (f ∷ l)) e.is clear) e.stretch
+            (subst (λ (l : List CycleView). IsUndisturbed r carry restarts f l) e.is calm) (subst Falls e.is falls) e.phase_is (let most = e.few in omega (arith, most)) e.up)
+      ]
+
+      falls_in : (cycles : List CycleView) → IsRun r jobs carry restarts (f ∷ (cycles ++ lost ∷ before)) → IsClear (f ∷ (cycles ++ lost ∷ before)) → AreUndisturbed r carry restarts (f ∷ cycles) (lost ∷ before)
+          → NoneFalls r jobs carry restarts cycles (lost ∷ before) → Falls (cycles ++ lost ∷ before) → IsInTime (cycles ++ lost ∷ before)
+      falls_in [] run clear calm stays falls = let room_is = room started r some_drive in omega (arith, room_is)
+      falls_in (u ∷ cycles) run clear calm stays falls = by (first_of u cycles calm.0 stays)
+        where
+          never : StartsEpoch r jobs carry restarts (lost ∷ before) → ⊥
+          never starts = false≢true (sym (ap (λ (o : Option Fall). is_some o) (stays_up r jobs carry restarts (f ∷ u ∷ cycles) (lost ∷ before) opened run clear starts calm).stays.1) ∙ falls)
+
+          by : IsOpenedBy (u ∷ (cycles ++ lost ∷ before)) → IsInTime (u ∷ (cycles ++ lost ∷ before))
+          by o =
+              let run_is : IsRun r jobs carry restarts (f ∷ (o.newer ++ o.first ∷ lost ∷ before)) = subst (λ (l : List CycleView). IsRun r jobs carry restarts (f ∷ l)) o.is run in
+              let clear_is : IsClear (f ∷ (o.newer ++ o.first ∷ lost ∷ before)) = subst (λ (l : List CycleView). IsClear (f ∷ l)) o.is clear in
+              let calm_is : IsUndisturbed r carry restarts f (o.newer ++ o.first ∷ lost ∷ before) = subst (λ (l : List CycleView). IsUndisturbed r carry restarts f l) o.is calm.1 in
+              let falls_is : Falls (o.newer ++ o.first ∷ lost ∷ before) = subst Falls o.is falls in
+              subst IsInTime (sym o.is) (elim (cases_lt 1 o.first.phase) [
+                | inl late ↦ after_two o.newer o.first run_is clear_is o.stretch calm_is falls_is (omega (arith, late))
+                | inr low ↦ elim (cases_eq o.first.phase 1) [
+                  | inl one ↦ after_one o.newer o.first run_is clear_is o.stretch calm_is falls_is one
+                  | inr other ↦ absurd (never (zero_at_first o.newer o.first run_is.0 o.stretch.first_calm (omega (arith, low, other))))
+                ]
+              ])
+
+    -- WITHOUT A FALL
+    abbrev pub BackAt : List CycleView → Type 0
+    BackAt [] = Unit {0}
+    BackAt (t ∷ j) = length before + recovery_bound r ≤ length j → IsBack r t j
+
+    late_at : (cycles : List CycleView) (first : CycleView) → IsRun r jobs carry restarts (cycles ++ first ∷ lost ∷ before) → IsClear (cycles ++ first ∷ lost ∷ before) → IsStretch r jobs carry restarts cycles first (lost ∷ before) → 2 ≤ first.phase
+        → BackAt (cycles ++ first ∷ lost ∷ before)
+    late_at [] first run clear stretch late = λ long. absurd (let room_is = room started r some_drive in omega (arith, long, room_is))
+    late_at (t ∷ cycles) first run clear stretch late = λ long. late_back t cycles first (lost ∷ before) run clear stretch late
+        (let length_is = length-append cycles (first ∷ lost ∷ before) in let room_is = room started r some_drive in omega (arith, long, length_is, room_is))
+        (λ d there down is.
+        let few = is.few in
+        let length_is = length-append cycles (first ∷ lost ∷ before) in
+        let most = later r is.earlier is.later is.one (length before) (length before + 67 + sum_by section_cycles (is.earlier ++ is.later))
+        (length before + 67 + sum_by section_cycles (is.earlier ++ is.later) + 1 + startup_bound r + 41 * (slowest r.drives + 2)) is.are slow (omega arith) (omega arith) in
+        omega (arith, few, length_is, most, long))
+
+    entered_at : (cycles : List CycleView) (two : CycleView) (older : List CycleView) → IsRun r jobs carry restarts (cycles ++ two ∷ older) → IsClear (cycles ++ two ∷ older) → IsStretch r jobs carry restarts cycles two older → two.phase ≡ 2
+        → length older ≤ length before + 2 + length r.drives → ((k : ℕ) → k < length r.drives → IsDown r jobs carry restarts k (two ∷ older) → ⊥) → BackAt (cycles ++ two ∷ older)
+    entered_at [] two older run clear stretch is_two most up = λ long. absurd (let room_is = room started r some_drive in omega (arith, long, most, room_is))
+    entered_at (t ∷ cycles) two older run clear stretch is_two most up = λ long. late_back t cycles two older run clear stretch (omega (arith, is_two))
+        (let length_is = length-append cycles (two ∷ older) in let room_is = room started r some_drive in omega (arith, long, length_is, most, room_is))
+        (λ d there down is. up d there down)
+
+    one_at : (cycles : List CycleView) (first : CycleView) → IsRun r jobs carry restarts (cycles ++ first ∷ lost ∷ before) → IsClear (cycles ++ first ∷ lost ∷ before) → IsStretch r jobs carry restarts cycles first (lost ∷ before) → first.phase ≡ 1
+        → BackAt (cycles ++ first ∷ lost ∷ before)
+    one_at cycles first run clear stretch one = elim (early_or_entered laws more turn comes_up r jobs carry restarts opened first (lost ∷ before) one cycles run clear stretch) [
+      | inl few ↦ short cycles few
+      | inr e ↦ subst BackAt (sym e.is) (entered_at e.newer e.two e.older (subst (λ (l : List CycleView). IsRun r jobs carry restarts l) e.is run) (subst (λ (l : List CycleView). IsClear l) e.is clear) e.stretch e.phase_is (let most = e.few in omega (arith, most)) e.up)
+    ]
+      where
+        short : (l : List CycleView) → length l ≤ length r.drives → BackAt (l ++ first ∷ lost ∷ before)
+        short [] few = λ long. absurd (let room_is = room started r some_drive in omega (arith, long, room_is))
+        short (t ∷ l) few = λ long. absurd (let room_is = room started r some_drive in let length_is = length-append l (first ∷ lost ∷ before) in omega (arith, long, few, room_is, length_is))
+
+    from_start : (cycles : List CycleView) → IsRun r jobs carry restarts (cycles ++ lost ∷ before) → IsClear (cycles ++ lost ∷ before) → StartsEpoch r jobs carry restarts (lost ∷ before) → AreUndisturbed r carry restarts cycles (lost ∷ before)
+        → BackAt (cycles ++ lost ∷ before)
+    from_start [] run clear starts calm = λ long. absurd (let room_is = room started r some_drive in omega (arith, long, room_is))
+    from_start (t ∷ cycles) run clear starts calm = λ long. after_start t cycles (lost ∷ before) run clear starts calm
+        (let length_is = length-append cycles (lost ∷ before) in let room_is = room started r some_drive in omega (arith, long, length_is, room_is))
+
+    none_falls_at : (cycles : List CycleView) → IsRun r jobs carry restarts (cycles ++ lost ∷ before) → IsClear (cycles ++ lost ∷ before) → AreUndisturbed r carry restarts cycles (lost ∷ before) → NoneFalls r jobs carry restarts cycles (lost ∷ before)
+        → BackAt (cycles ++ lost ∷ before)
+    none_falls_at [] run clear calm stays = λ long. absurd (let room_is = room started r some_drive in omega (arith, long, room_is))
+    none_falls_at (u ∷ cycles) run clear calm stays = by (first_of u cycles calm stays)
+      where
+        by : IsOpenedBy (u ∷ (cycles ++ lost ∷ before)) → BackAt (u ∷ (cycles ++ lost ∷ before))
+        by o =
+            let run_is : IsRun r jobs carry restarts (o.newer ++ o.first ∷ lost ∷ before) = subst (λ (l : List CycleView). IsRun r jobs carry restarts l) o.is run in
+            let clear_is : IsClear (o.newer ++ o.first ∷ lost ∷ before) = subst (λ (l : List CycleView). IsClear l) o.is clear in
+            elim (cases_lt 1 o.first.phase) [
+              | inl late ↦ subst BackAt (sym o.is) (late_at o.newer o.first run_is clear_is o.stretch (omega (arith, late)))
+              | inr low ↦ elim (cases_eq o.first.phase 1) [
+                | inl one ↦ subst BackAt (sym o.is) (one_at o.newer o.first run_is clear_is o.stretch one)
+                | inr other ↦ from_start (u ∷ cycles) run clear (zero_at_first o.newer o.first run_is o.stretch.first_calm (omega (arith, low, other))) calm
+              ]
+            ]
+
+    -- THE OLDEST FALL after `lost`, if there is one
+    record IsFell (j : List CycleView) : Type 0 where
+      newer : List CycleView
+      one : CycleView
+      older : List CycleView
+      is : j ≡ newer ++ one ∷ (older ++ lost ∷ before)
+      calm : AreUndisturbed r carry restarts newer (one ∷ (older ++ lost ∷ before))
+      calm_then : AreUndisturbed r carry restarts (one ∷ older) (lost ∷ before)
+      stays : NoneFalls r jobs carry restarts older (lost ∷ before)
+      falls : is_some (fall_of (known_of r) (behind_mdt r jobs carry restarts one.sent (older ++ lost ∷ before))) ≡ true
+
+    fell_or_not : (cycles : List CycleView) → AreUndisturbed r carry restarts cycles (lost ∷ before) → NoneFalls r jobs carry restarts cycles (lost ∷ before) ⊎ IsFell (cycles ++ lost ∷ before)
+    fell_or_not [] calm = inl tt
+    fell_or_not (t ∷ cycles) calm = elim (fell_or_not cycles calm.0) [
+      | inl stays ↦ by (fall_of (known_of r) (behind_mdt r jobs carry restarts t.sent (cycles ++ lost ∷ before))) refl stays
+      | inr x ↦ inr (record {
+        newer = t ∷ x.newer;
+        one = x.one;
+        older = x.older;
+        is = ap (λ (l : List CycleView). t ∷ l) x.is;
+        calm = (x.calm, subst (λ (l : List CycleView). IsUndisturbed r carry restarts t l) x.is calm.1);
+        calm_then = x.calm_then;
+        stays = x.stays;
+        falls = x.falls;
+      })
+    ]
+      where
+        by : (o : Option Fall) → fall_of (known_of r) (behind_mdt r jobs carry restarts t.sent (cycles ++ lost ∷ before)) ≡ o → NoneFalls r jobs carry restarts cycles (lost ∷ before)
+            → NoneFalls r jobs carry restarts (t ∷ cycles) (lost ∷ before) ⊎ IsFell (t ∷ (cycles ++ lost ∷ before))
+        by None is stays = inl (stays, is)
+        by (Some f) is stays = inr (record { newer = []; one = t; older = cycles; is = refl; calm = tt; calm_then = calm; stays = stays; falls = ap (λ (o : Option Fall). is_some o) is })
+
+    fell_at : (newer : List CycleView) (one : CycleView) (older : List CycleView) → IsRun r jobs carry restarts (newer ++ one ∷ (older ++ lost ∷ before)) → IsClear (newer ++ one ∷ (older ++ lost ∷ before))
+        → AreUndisturbed r carry restarts newer (one ∷ (older ++ lost ∷ before)) → AreUndisturbed r carry restarts (one ∷ older) (lost ∷ before) → NoneFalls r jobs carry restarts older (lost ∷ before)
+        → is_some (fall_of (known_of r) (behind_mdt r jobs carry restarts one.sent (older ++ lost ∷ before))) ≡ true → BackAt (newer ++ one ∷ (older ++ lost ∷ before))
+    fell_at [] one older run clear calm calm_then stays falls = λ long. absurd (let soon_is = falls_in one older run clear calm_then stays falls in omega (arith, long, soon_is))
+    fell_at (t ∷ newer) one older run clear calm calm_then stays falls = λ long.
+        let soon_is = falls_in one older (rest_runs r jobs carry restarts (t ∷ newer) (one ∷ (older ++ lost ∷ before)) run) (rest_clear (t ∷ newer) (one ∷ (older ++ lost ∷ before)) clear) calm_then stays falls in
+        let length_is = length-append newer (one ∷ (older ++ lost ∷ before)) in
+        after_start t newer (one ∷ (older ++ lost ∷ before)) run clear (at_fall r jobs carry restarts one (older ++ lost ∷ before) falls).0 calm (omega (arith, soon_is, length_is, long))
+
+    -- THE RING IS BACK
+    pub back_after : (cycles : List CycleView) → IsRun r jobs carry restarts (cycles ++ lost ∷ before) → IsClear (cycles ++ lost ∷ before) → AreUndisturbed r carry restarts cycles (lost ∷ before) → BackAt (cycles ++ lost ∷ before)
+    back_after cycles run clear calm = by (fell_or_not cycles calm)
+      where
+        by : NoneFalls r jobs carry restarts cycles (lost ∷ before) ⊎ IsFell (cycles ++ lost ∷ before) → BackAt (cycles ++ lost ∷ before)
+        by (inl stays) = none_falls_at cycles run clear calm stays
+        by (inr x) = subst BackAt (sym x.is) (fell_at x.newer x.one x.older (subst (λ (l : List CycleView). IsRun r jobs carry restarts l) x.is run) (subst (λ (l : List CycleView). IsClear l) x.is clear) x.calm x.calm_then x.stays x.falls)
+
+  pub recovers_in : AfterFall → (t : CycleView) (j : List CycleView) → IsRun r jobs carry restarts (t ∷ j) → IsClear (t ∷ j) → RecoversIn r jobs carry restarts t j
+  recovers_in again t j run clear = record {
+    after_fall = λ cycles before f x is calm told. again r jobs carry restarts t f cycles before x opened (subst (λ (l : List CycleView). IsRun r jobs carry restarts (t ∷ l)) is run) (subst (λ (l : List CycleView). IsClear (t ∷ l)) is clear) calm told;
+    back = λ cycles before lost is calm long. subst (λ (l : List CycleView). IsBack r t l) (sym is)
+        (back_after lost before (t ∷ cycles) (subst (λ (l : List CycleView). IsRun r jobs carry restarts (t ∷ l)) is run) (subst (λ (l : List CycleView). IsClear (t ∷ l)) is clear) calm (subst (λ (l : List CycleView). length before + recovery_bound r ≤ length l) is long));
+  }

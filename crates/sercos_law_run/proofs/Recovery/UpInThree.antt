@@ -1,0 +1,119 @@
+-- How long phase 3 lasts for a drive that isn't in phase 0.
+use Rattle.std.proofs.Common.{◌≡◌, inl, inr, ℕ, suc, ◌+◌, ◌*◌, ◌<◌, ◌≤◌, true, List, [], ◌∷◌, ◌++◌, length, Option, Some, None, refl, sym, ap, ◌∙◌, subst, arith}
+use Rattle.std.specs.Prelude.{is_some, slice_get}
+use Rattle.sercos_step.specs.declared.request.Job.{Job}
+use Rattle.sercos_step.specs.declared.request.Outcome.{Outcome}
+use Rattle.sercos_timing.specs.Views.{PlanView}
+use Rattle.sercos_block.specs.Views.{RingView}
+use Rattle.sercos_law_run.specs.Bounds.Bounds.{command_cycles}
+use Rattle.sercos_service_master.specs.Begun.{Begun, answers_in, open_in}
+use Rattle.sercos_trace.specs.Views.{CycleView}
+use Rattle.sercos_seat.specs.Agenda.{is_checked, reads_count}
+use Rattle.sercos_seat.specs.Ring.{known_of, member, tasks_for}
+use Rattle.sercos_seat.proofs.Agendas.{ended_there}
+use Rattle.sercos_master.specs.Annals.{Past, outcomes}
+use Rattle.sercos_script.specs.Links.{Carry, Restarts}
+use Rattle.sercos_law_channel.specs.Handshake.Epochs.{epoch_begun}
+use Rattle.sercos_law_channel.specs.Handshake.Views.{View}
+use Rattle.sercos_law_channel.specs.Pace.Costs.{ComesTimed}
+use Rattle.sercos_law_channel.specs.Pace.Jobs.{ListReadCosts}
+use Rattle.sercos_law_channel.specs.Pace.StartCosts.{RecoversSince}
+use Rattle.sercos_law_channel.specs.Pace.Stretches.{open_since}
+use Rattle.sercos_law_run.specs.Journal.Runs.{drive_at, looks_back, master_calls, middle, IsClear, IsRun}
+use Rattle.sercos_law_run.specs.Agenda.Turns.{WorkInTurn, WorksInThree}
+use Rattle.sercos_law_run.proofs.Start.CheckPasses.{ring_drive}
+use Rattle.sercos_law_run.specs.Views.RingViews.{behind_mdt, views_of}
+use Rattle.sercos_law_run.proofs.Views.Members.{members_count}
+use Rattle.sercos_law_run.specs.Held.Opened.{IsOpened}
+use Rattle.sercos_law_run.proofs.Held.Runs.{Laws, drive_got}
+use Rattle.sercos_law_run.proofs.Headline.HeadlineRuns.{MoreLaws, first_store}
+use Rattle.sercos_law_run.specs.Agenda.Tasks.{BeginsNoneEarly}
+use Rattle.sercos_law_run.specs.Undisturbed.Jobs.{jobs_of, AreAt}
+use Rattle.sercos_law_run.specs.Undisturbed.Sections.{AreInThree}
+use Rattle.sercos_law_run.specs.Undisturbed.ViewsSince.{views_since}
+use Rattle.sercos_law_run.proofs.Undisturbed.BehindRests.{Follow, follow_since}
+use Rattle.sercos_law_run.proofs.Undisturbed.Comes.{calm_in}
+use Rattle.sercos_law_run.proofs.Undisturbed.JobsBegun.{places_now}
+use Rattle.sercos_law_run.proofs.Undisturbed.JobsCost.{list_fits}
+use Rattle.sercos_law_run.proofs.Undisturbed.PassedCycles.{views_split}
+use Rattle.sercos_law_run.proofs.Undisturbed.PhaseCounts.{end_kept}
+use Rattle.sercos_law_run.proofs.Undisturbed.Reached.{all_checked_in}
+use Rattle.sercos_law_run.proofs.Undisturbed.Sections.{never_idle}
+use Rattle.sercos_law_run.proofs.Undisturbed.ShortLists.{few_blocks, lists_short, longest_list}
+use Rattle.sercos_law_run.specs.Recovery.Stretches.{IsDown, IsStretch}
+use Rattle.sercos_law_run.proofs.Recovery.DownSince.{shorter, up_all}
+use Rattle.sercos_law_run.proofs.Recovery.EpochStops.{same_start}
+use Rattle.sercos_law_run.proofs.Recovery.LateDown.{phase_now}
+use Rattle.sercos_law_run.proofs.Recovery.Stretches.{costs_since, rest_clear, rest_runs, whole_all}
+use Rattle.sercos_law_run.proofs.Recovery.UpSections.{answers_more, ended_by, got_there}
+
+some_plan_is : (o : Option PlanView) → is_some o ≡ true → (p : PlanView) × (o ≡ Some p)
+some_plan_is None some = cc
+some_plan_is (Some p) some = (p, refl)
+
+module _ (laws : Laws) (more : MoreLaws) (turn : WorkInTurn) (early : BeginsNoneEarly) (works : WorksInThree) (r : RingView) (jobs : List Job) (carry : Carry) (restarts : Restarts) (opened : IsOpened r jobs)
+    (since : (busy : ℕ) → RecoversSince busy) (timed : ComesTimed) (list_costs : (busy : ℕ) → ListReadCosts busy) (k : ℕ) (below : k < length r.drives) where
+  -- the check for phase 3 has ended well in the first cycle
+  checked_first : (t : CycleView) (cycles : List CycleView) (first : CycleView) (before : List CycleView) → IsRun r jobs carry restarts (t ∷ (cycles ++ first ∷ before)) → IsStretch r jobs carry restarts (t ∷ cycles) first before
+      → AreInThree r jobs carry restarts k (t ∷ cycles) (first ∷ before) → is_checked (member (known_of r) k) (outcomes (behind_mdt r jobs carry restarts first.sent before) k) ≡ true
+  checked_first t [] first before run stretch three =
+      let start = same_start r jobs carry restarts (first ∷ before) ((calm_in r carry restarts t (first ∷ before) stretch.calm.1).stays 0 (omega arith)) in
+      let phase : (looks_back r jobs (master_calls r carry restarts (first ∷ before))).now.phase ≡ 3 = sym (phase_now r jobs carry restarts t (first ∷ before) run.1 ∙ run.1.phase ∙ ap (λ (p : Past). p.now.phase) start) ∙ three.1.phase in
+      let count = members_count r in
+      ap (λ (p : Past). is_checked (member (known_of r) k) (outcomes p k)) (sym (end_kept (known_of r) (behind_mdt r jobs carry restarts first.sent before) stretch.first_stays))
+      ∙ all_checked_in (known_of r) (tasks_for (known_of r) jobs) (master_calls r carry restarts (first ∷ before)) (omega (arith, phase)) k (omega (arith, count, below))
+  checked_first t (u ∷ cycles) first before run stretch three = checked_first u cycles first before run.0 (shorter laws more turn r jobs carry restarts opened t (u ∷ cycles) first before stretch) three.0
+
+  pub up_in_three : (cycles : List CycleView) (first : CycleView) (before : List CycleView) → IsRun r jobs carry restarts (cycles ++ first ∷ before) → IsClear (cycles ++ first ∷ before) → IsStretch r jobs carry restarts cycles first before
+      → AreInThree r jobs carry restarts k cycles (first ∷ before) → (IsDown r jobs carry restarts k (first ∷ before) → ⊥) → length cycles ≤ command_cycles (drive_at r k) + ((drive_at r k).busy + 1) * 42
+  up_in_three [] first before run clear stretch three up = omega arith
+  up_in_three (t ∷ cycles) first before run clear stretch three up = by cut
+    where
+      first_run : IsRun r jobs carry restarts (first ∷ before)
+      first_run = rest_runs r jobs carry restarts (t ∷ cycles) (first ∷ before) run
+
+      first_clear : IsClear (first ∷ before)
+      first_clear = rest_clear (t ∷ cycles) (first ∷ before) clear
+
+      low : k < length (known_of r).drives
+      low = let count = members_count r in omega (arith, count, below)
+
+      got : (o : Outcome) × (slice_get (outcomes (behind_mdt r jobs carry restarts first.sent before) k) (reads_count (member (known_of r) k) + 11) ≡ Some o)
+      got = got_there (outcomes (behind_mdt r jobs carry restarts first.sent before) k) (reads_count (member (known_of r) k) + 11)
+          (ended_there (outcomes (behind_mdt r jobs carry restarts first.sent before) k) (reads_count (member (known_of r) k) + 11) (checked_first t cycles first before run stretch three))
+
+      cut : (newer old : List Begun) × (epoch_begun (views_of r jobs carry restarts k (first ∷ before)) ≡ newer ++ old) × (length old ≡ reads_count (member (known_of r) k) + 12) × (open_in old ≡ None)
+      cut = ended_by laws more turn early r jobs carry restarts opened first before first_run first_clear stretch.first_stays k below (reads_count (member (known_of r) k) + 11) (reads_count (member (known_of r) k) + 12) got.0 (omega arith)
+          (laws.ends (known_of r) (tasks_for (known_of r) jobs) (middle r carry restarts first.sent before) k (reads_count (member (known_of r) k) + 11) got.0 low got.1)
+
+      plan : (p : PlanView) × ((behind_mdt r jobs carry restarts t.sent (cycles ++ first ∷ before)).plan ≡ Some p)
+      plan = some_plan_is (behind_mdt r jobs carry restarts t.sent (cycles ++ first ∷ before)).plan three.1.planned
+
+      never_down : IsDown r jobs carry restarts k (t ∷ (cycles ++ first ∷ before)) → ⊥
+      never_down down =
+          let zero_phase : t.phase ≡ 0 = sym (up_all laws more turn r jobs carry restarts opened (t ∷ cycles) first before run clear stretch k below up).1 ∙ down in
+          let is : t.phase ≡ 3 = sym (phase_now r jobs carry restarts t (cycles ++ first ∷ before) run.1) ∙ three.1.phase in absurd (omega (arith, zero_phase, is))
+
+      places : AreAt (jobs_of (known_of r) (Some plan.0) k) (epoch_begun (views_of r jobs carry restarts k (t ∷ (cycles ++ first ∷ before))))
+      places = subst (λ (o : Option PlanView). AreAt (jobs_of (known_of r) o k) (epoch_begun (views_of r jobs carry restarts k (t ∷ (cycles ++ first ∷ before))))) plan.1
+          (places_now laws more r jobs carry restarts opened t (cycles ++ first ∷ before) run clear stretch.stays.1 k below (let is = three.1.phase in omega (arith, is)))
+
+      counted : suc (length cycles) ≤ open_since (views_since r jobs carry restarts k (t ∷ cycles) (first ∷ before)) (views_of r jobs carry restarts k (first ∷ before))
+      counted = never_idle laws more works r jobs carry restarts opened k below (t ∷ cycles) (first ∷ before) run clear three
+
+      by : (newer old : List Begun) × (epoch_begun (views_of r jobs carry restarts k (first ∷ before)) ≡ newer ++ old) × (length old ≡ reads_count (member (known_of r) k) + 12) × (open_in old ≡ None)
+          → suc (length cycles) ≤ command_cycles (drive_at r k) + ((drive_at r k).busy + 1) * 42
+      by (newer, old, is, long, rests) =
+          let rules = (ring_drive r k (drive_at r k) opened.valid (drive_got r k below)).blocks in
+          let split = views_split r jobs carry restarts k (t ∷ cycles) (first ∷ before) in
+          let recently : Follow old (epoch_begun (views_of r jobs carry restarts k (t ∷ (cycles ++ first ∷ before)))) = subst (λ (l : List View). Follow old (epoch_begun l)) (sym split)
+          (follow_since (views_since r jobs carry restarts k (t ∷ cycles) (first ∷ before)) (views_of r jobs carry restarts k (first ∷ before)) old
+          (whole_all laws more turn r jobs carry restarts opened (t ∷ cycles) (first ∷ before) run clear stretch.calm stretch.stays k below) rests (newer, is)) in
+          elim (costs_since laws more turn r jobs carry restarts opened (t ∷ cycles) first before run clear stretch k below since timed longest_list recently.0 old
+          (lists_short more.keep more.allows more.those r jobs carry restarts k rules (few_blocks r k opened.valid below) (first_store laws more r jobs carry restarts opened k below).ascending (t ∷ (cycles ++ first ∷ before))) recently.1 rests
+          (subst (λ (l : List Begun). length (answers_in old) ≤ length (answers_in l)) (sym is) (answers_more newer old))) [
+            | inl is_down ↦ absurd (never_down is_down)
+            | inr few ↦
+                let cost = list_fits longest_list (drive_at r k) rules (list_costs (drive_at r k).busy) (known_of r) plan.0 k recently.0 old (subst (λ (l : List Begun). AreAt (jobs_of (known_of r) (Some plan.0) k) l) recently.1 places) long in
+                let all = counted in omega (arith, all, few, cost)
+          ]

@@ -1,0 +1,124 @@
+-- In a run in which each check for phase 3 was set well, each complete one of an epoch gives 3.
+use Rattle.std.proofs.Common.{◌≡◌, ℕ, Bool, true, false, List, [], ◌∷◌, ◌++◌, refl, sym, ap, ap₂, ◌∙◌, subst, if◌then◌else◌, append_assoc}
+use Rattle.std.specs.Prelude.{Option, Some, None}
+use mathlib.Core.Bool.{beq}
+use Rattle.sercos_step.specs.declared.request.Request.{Request}
+use Rattle.sercos_step.specs.declared.request.Request.TheVariants as request
+use Rattle.sercos_step.specs.declared.request.Outcome.TheVariants as outcome
+use Rattle.sercos_step.specs.Steps.{outcome_of}
+use Rattle.sercos_block.specs.declared.block.Block.{Block}
+use Rattle.sercos_command.specs.Settings.{is_command}
+use Rattle.sercos_service_drive.specs.Log.{Taken, Entry, ahs, accepted}
+use Rattle.sercos_service_drive.specs.Replies.{answered, reply_of, log_of}
+use Rattle.sercos_service_master.specs.Begun.{Begun}
+use Rattle.sercos_law_channel.specs.Handshake.InStep.{replies_of}
+use Rattle.sercos_law_channel.specs.Handshake.Transfers.{HaveBlocks, IsTransfer}
+use Rattle.sercos_law_channel.specs.Handshake.Parts.{IsRow, IsPart, Unsent, Heard, Unheard, AreParts}
+use Rattle.sercos_law_channel.specs.Handshake.CommandTransfers.{SetsAndCancels, EndsWithStatus}
+use Rattle.sercos_law_channel.proofs.Theorems.{fall_into_parts, Processes, Nothing, Record, processes, in_step, HasReplies, answered_replies, IsEpoch, epoch, split_replies, split_blocks}
+use Rattle.sercos_law_channel.specs.Handshake.Views.{View, processed_in, with_record}
+use Rattle.sercos_law_channel.specs.Handshake.Epochs.{command, unless_restart, epoch_begun, epoch_taken, epoch_log}
+use Rattle.sercos_law_channel.specs.Handshake.Runs.{IsRun}
+use Rattle.sercos_law_channel.specs.Handshake.WholeRun.{AreSound}
+use Rattle.sercos_seat.specs.Agenda.{idn}
+use Rattle.sercos_law_run.specs.Settings.WellSet.{HaveStores}
+use Rattle.sercos_law_run.specs.Settings.WellSet.{are_well_set, AreSetWell, StandWell}
+use Rattle.sercos_law_run.specs.Settings.SetByWrites.{SettingsFollow}
+use Rattle.sercos_law_run.proofs.Settings.WellRuns.{stand_well}
+use Rattle.sercos_law_run.proofs.Settings.SetInEpoch.{set_at_entry}
+use Rattle.sercos_law_run.proofs.Settings.CheckGives3.{check_gives_3}
+
+-- the part of a request in the log
+pub record IsPartAt (log : List Entry) (b : Begun) : Type 0 where
+  pub front : List Entry
+  pub part : List Entry
+  pub rest : List Entry
+  pub split : log ≡ front ++ (part ++ rest)
+  pub is : IsPart b part
+
+pub part_at : (newer older : List Begun) (b : Begun) (log : List Entry) → AreParts (newer ++ b ∷ older) log → IsPartAt log b
+part_at [] older b log (part, rest, those, is, others) = record { front = []; part = part; rest = rest; split = those; is = is }
+part_at (x ∷ newer) older b log (part, rest, those, is, others) =
+    let more = part_at newer older b rest others in
+    record { front = part ++ more.front; part = more.part; rest = more.rest; split = those ∙ ap (λ (l : List Entry). part ++ l) more.split ∙ sym (append_assoc part more.front (more.part ++ more.rest)); is = more.is }
+
+-- where it has begun, and where one of its further records is
+split_at : (log : List Entry) (b : Begun) (at : IsPartAt log b) (e : Entry) (entries : List Entry) → at.part ≡ e ∷ entries → log ≡ at.front ++ ((e ∷ entries) ++ at.rest)
+split_at log b at e entries part = at.split ∙ ap (λ (l : List Entry). at.front ++ (l ++ at.rest)) part
+
+pub poll_at : (log : List Entry) (b : Begun) (at : IsPartAt log b) (e : Entry) (entries : List Entry) → at.part ≡ e ∷ entries → (poll : Entry) (before : List Entry) → entries ≡ poll ∷ before
+    → log ≡ (at.front ++ e ∷ []) ++ poll ∷ (before ++ at.rest)
+poll_at log b at e entries part poll before behind =
+    split_at log b at e entries part ∙ ap (λ (l : List Entry). at.front ++ ((e ∷ l) ++ at.rest)) behind ∙ sym (append_assoc at.front (e ∷ []) (poll ∷ (before ++ at.rest)))
+
+-- it is a transfer
+pub transfer_at : (blocks : List Block) (log : List Entry) (b : Begun) (at : IsPartAt log b) (e : Entry) (entries : List Entry) → HasReplies log → HaveBlocks blocks log → at.part ≡ e ∷ entries → IsRow b e entries
+    → IsTransfer b.request blocks e entries at.rest
+transfer_at blocks log b at e entries replied same part row =
+    let log_is = split_at log b at e entries part in
+    record {
+      steps = row.steps;
+      in_turn = row.in_turn;
+      goes_on = row.goes_on;
+      replies = (split_replies (e ∷ entries) at.rest (split_replies at.front ((e ∷ entries) ++ at.rest) (subst HasReplies log_is replied)).1).0;
+      alike = (split_blocks blocks (e ∷ entries) at.rest (split_blocks blocks at.front ((e ∷ entries) ++ at.rest) (subst (HaveBlocks blocks) log_is same)).1).0;
+    }
+
+-- at each of these records, each check for phase 3 that is set ends well
+abbrev pub WellAt : List Taken → Type 0
+WellAt [] = Unit {0}
+WellAt (t ∷ h) = WellAt h × (are_well_set t.commands ≡ true)
+
+entry_well : (h : List Taken) (newer : List Entry) (e : Entry) (behind : List Entry) → WellAt h → log_of h ≡ newer ++ e ∷ behind → are_well_set e.taken.commands ≡ true
+entry_well [] [] e behind well is = absurd (cc)
+entry_well [] (x ∷ newer) e behind well is = absurd (cc)
+entry_well (t ∷ h) newer e behind well is = by (beq t.mhs (ahs h)) is (λ n more. entry_well h n e behind well.0 more)
+  where
+    one : (x : Entry) (n : List Entry) → x ∷ log_of h ≡ n ++ e ∷ behind → x.taken ≡ t → ((m : List Entry) → log_of h ≡ m ++ e ∷ behind → are_well_set e.taken.commands ≡ true) → are_well_set e.taken.commands ≡ true
+    one x [] is taken more = let first : x ≡ e = cc in ap (λ (y : Entry). are_well_set y.taken.commands) (sym first) ∙ ap (λ (y : Taken). are_well_set y.commands) taken ∙ well.1
+    one x (y ∷ n) is taken more = let rest : log_of h ≡ n ++ e ∷ behind = cc in more n rest
+
+    by : (v : Bool) → answered (if v then accepted h else t ∷ accepted h) ≡ newer ++ e ∷ behind → ((m : List Entry) → log_of h ≡ m ++ e ∷ behind → are_well_set e.taken.commands ≡ true) → are_well_set e.taken.commands ≡ true
+    by true is more = more newer is
+    by false is more = one (record { taken = t; answer = reply_of t (log_of h) }) newer is refl more
+
+epoch_well : (past : List View) → StandWell past → WellAt (epoch_taken past)
+epoch_well [] well = tt
+epoch_well (v ∷ past) well = fell v.falls (recorded (processes v past) (restarted v.master_restarts (epoch_well past well.0)))
+  where
+    restarted : (r : Bool) → WellAt (epoch_taken past) → WellAt (if r then [] else epoch_taken past)
+    restarted true all = tt
+    restarted false all = all
+
+    recorded : Processes v past → WellAt (unless_restart v (epoch_taken past)) → WellAt (with_record (processed_in v past) (unless_restart v (epoch_taken past)))
+    recorded (Nothing none) all = subst (λ (o : Option Taken). WellAt (with_record o (unless_restart v (epoch_taken past)))) (sym none) all
+    recorded (Record s got came two some) all = subst (λ (o : Option Taken). WellAt (with_record o (unless_restart v (epoch_taken past)))) (sym some) (all, well.1)
+
+    fell : (f : Bool) → WellAt (with_record (processed_in v past) (unless_restart v (epoch_taken past))) → WellAt (if f then [] else with_record (processed_in v past) (unless_restart v (epoch_taken past)))
+    fell true all = tt
+    fell false all = all
+
+module _ (sets : SetsAndCancels) (ends : EndsWithStatus) (busy : ℕ) (blocks : List Block) where
+  -- EACH COMPLETE CHECK for phase 3 of the epoch gives 3
+  pub checks_give_3 : (past : List View) → IsRun busy past → AreSound blocks past → SettingsFollow past → AreSetWell past → HaveStores (λ blocks. is_command blocks 127 ≡ true) past →
+      (newer older : List Begun) (b : Begun) (bytes : List ℕ) → epoch_begun past ≡ newer ++ b ∷ older → b.request ≡ request.Command (idn 127) → outcome_of b.request b.answers ≡ Some (outcome.Complete bytes) → bytes ≡ 3 ∷ 0 ∷ []
+  checks_give_3 past run sound follow well have newer older b bytes split asks complete = of_part at.part refl at.is
+    where
+      is_epoch : IsEpoch blocks (command past) (epoch_begun past) (epoch_taken past)
+      is_epoch = epoch blocks busy past run sound
+
+      at : IsPartAt (epoch_log past) b
+      at = part_at newer older b (epoch_log past) (subst (λ (l : List Begun). AreParts l (epoch_log past)) split (fall_into_parts (epoch_begun past) (epoch_log past) is_epoch.in_turn (in_step busy past run)))
+
+      whole : (e : Entry) (entries : List Entry) → at.part ≡ e ∷ entries → IsRow b e entries → b.answers ≡ replies_of (e ∷ entries) → bytes ≡ 3 ∷ 0 ∷ []
+      whole e entries part row answers =
+          let transfer = transfer_at blocks (epoch_log past) b at e entries (answered_replies (accepted (epoch_taken past))) is_epoch.alike part row in
+          check_gives_3 sets ends blocks e entries at.rest bytes (subst (λ (r : Request). IsTransfer r blocks e entries at.rest) asks transfer)
+          (sym (ap₂ (λ (r : Request) (h : List _). outcome_of r h) asks answers) ∙ complete)
+          (λ poll before behind. entry_well (epoch_taken past) (at.front ++ e ∷ []) poll (before ++ at.rest) (epoch_well past (stand_well past well)) (poll_at (epoch_log past) b at e entries part poll before behind))
+          (λ poll before behind newest. set_at_entry 127 busy past (at.front ++ e ∷ []) poll (before ++ at.rest) (3 ∷ 0 ∷ []) run follow have (poll_at (epoch_log past) b at e entries part poll before behind) newest refl)
+
+      of_part : (part : List Entry) → at.part ≡ part → IsPart b at.part → bytes ≡ 3 ∷ 0 ∷ []
+      of_part part same (Unsent none answers) = let on : outcome_of b.request b.answers ≡ None = ap (outcome_of b.request) answers in absurd (cc)
+      of_part part same (Heard e entries those row answers) = whole e entries those row answers
+      of_part part same (Unheard e entries those row answers) = let on : outcome_of b.request b.answers ≡ None = ap (outcome_of b.request) answers ∙ row.goes_on in absurd (cc)

@@ -1,0 +1,142 @@
+-- Which request the newest write of a log belongs to. In phase 2 only the check for phase 3 gives anything to S-0-0127.
+use Rattle.std.proofs.Common.{◌≡◌, ℕ, zero, suc, ◌+◌, ◌<◌, ◌≤◌, Bool, true, false, not, List, [], ◌∷◌, ◌++◌, map, drop, length, refl, sym, ap, ◌∙◌, subst, arith, if◌then◌else◌}
+use Rattle.std.specs.Prelude.{◌==◌, Option, Some, None, slice_get}
+use Rattle.std.specs.List.{list_all}
+use Rattle.std.proofs.lemmas.Bool.{and_parts, eq-eqb, not-true, false≢true}
+use Rattle.sercos_idn.specs.declared.idn.Idn.{Idn}
+use Rattle.sercos_step.specs.declared.request.Request.{Request}
+use Rattle.sercos_step.specs.declared.request.Request.TheVariants as request
+use Rattle.sercos_timing.specs.Views.{PlanView}
+use Rattle.sercos_block.specs.declared.block.Block.{Block}
+use Rattle.sercos_service_drive.specs.Log.{Entry}
+use Rattle.sercos_service_drive.specs.Writes.{Write}
+use Rattle.sercos_service_master.specs.Begun.{Begun, answers_it, answer_in, with_answer}
+use Rattle.sercos_law_channel.specs.Handshake.Views.{Heard}
+use Rattle.sercos_law_channel.specs.Handshake.Epochs.{with_heard}
+use Rattle.sercos_law_channel.specs.Handshake.Exact.{Given, given_of, given_by, AreWrites, Complete, Refused, Broken, AreExact}
+use Rattle.sercos_seat.specs.Ring.{Known, Task, member, startup}
+use Rattle.sercos_seat.specs.Agenda.{idn, reads, reads_count, writes}
+use Rattle.sercos_seat.specs.Channel.{outcomes_in}
+use Rattle.sercos_seat.specs.Seats.{AreWaiting}
+use Rattle.sercos_law_run.specs.Agenda.Tasks.{IsTask, OfReads, OfWrites, Checks3, Lists3, Checks4, Lists4, OfWaiting, IsBegunTask, AreBegunTasks}
+use Rattle.sercos_law_run.specs.Agenda.Writes.{start_numbers}
+use Rattle.sercos_law_run.proofs.Agenda.WritesDone.{raw_of, number_at, IsDataWrite, DataWrite, all_data_writes, write_away}
+
+-- what holds of all items of a list holds of each
+pub all_at : {A : Type 0} (p : A → Bool) (xs : List A) (i : ℕ) (x : A) → list_all p xs ≡ true → slice_get xs i ≡ Some x → p x ≡ true
+all_at p [] i x all got = absurd (cc)
+all_at p (y ∷ xs) zero x all got = let same : y ≡ x = cc in ap p (sym same) ∙ (and_parts (p y) (list_all p xs) all).0
+all_at p (y ∷ xs) (suc i) x all got = all_at p xs i x (and_parts (p y) (list_all p xs) all).1 got
+
+-- all of these go to other identifier numbers
+abbrev pub are_away : ℕ → List Given → Bool
+are_away raw given = list_all (λ (g : Given). not (g.raw == raw)) given
+
+pub drop_away : (raw n : ℕ) (given : List Given) → are_away raw given ≡ true → are_away raw (drop n given) ≡ true
+drop_away raw zero given all = all
+drop_away raw (suc n) [] all = refl
+drop_away raw (suc n) (g ∷ given) all = drop_away raw n given (and_parts (not (g.raw == raw)) _ all).1
+
+not_away : (w : Write) (own : List Write) → are_away w.raw (map given_of (w ∷ own)) ≡ true → ⊥
+not_away w own all = false≢true (sym (not-true (w.raw == w.raw) (and_parts (not (w.raw == w.raw)) _ all).0) ∙ eq-eqb w.raw w.raw refl)
+
+gives_one : (blocks : List Block) (b : Begun) (w : Write) (own : List Write) → AreWrites blocks b (w ∷ own) → are_away w.raw (given_by blocks b.request) ≡ true → ⊥
+gives_one blocks b w own (Complete bytes is same) all = not_away w own (ap (are_away w.raw) same ∙ all)
+gives_one blocks b w own (Refused code is none) all = cc
+gives_one blocks b w own (Broken later is same) all = not_away w own (ap (are_away w.raw) same ∙ drop_away w.raw later (given_by blocks b.request) all)
+
+-- one of these requests gives something to the identifier number
+pub record IsGiven (blocks : List Block) (begun : List Begun) (raw : ℕ) : Type 0 where
+  pub newer : List Begun
+  pub one : Begun
+  pub older : List Begun
+  pub split : begun ≡ newer ++ one ∷ older
+  pub gives : are_away raw (given_by blocks one.request) ≡ true → ⊥
+
+given_more : (blocks : List Block) (b : Begun) (begun : List Begun) (raw : ℕ) → IsGiven blocks begun raw → IsGiven blocks (b ∷ begun) raw
+given_more blocks b begun raw is = record { newer = b ∷ is.newer; one = is.one; older = is.older; split = ap (λ (l : List Begun). b ∷ l) is.split; gives = is.gives }
+
+-- the newest write
+pub gives_newest : (blocks : List Block) (begun : List Begun) (entries : List Entry) (w : Write) (writes : List Write) → AreExact blocks begun entries (w ∷ writes) → IsGiven blocks begun w.raw
+gives_newest blocks [] entries w writes (none, no_writes) = absurd (cc)
+gives_newest blocks (b ∷ past) entries w writes (part, rest, own, others, of_entries, of_writes, is, behind) = by own of_writes is.writes (λ same. gives_newest blocks past rest w writes (subst (AreExact blocks past rest) (sym same) behind))
+  where
+    by : (o : List Write) → w ∷ writes ≡ o ++ others → AreWrites blocks b o → (w ∷ writes ≡ others → IsGiven blocks past w.raw) → IsGiven blocks (b ∷ past) w.raw
+    by [] same are more = given_more blocks b past w.raw (more same)
+    by (x ∷ o) same are more =
+        let one : x ≡ w = cc in
+        record { newer = []; one = b; older = past; split = refl; gives = gives_one blocks b w o (subst (λ (y : Write). AreWrites blocks b (y ∷ o)) one are) }
+
+-- an answer more to the newest request changes no request
+pub given_heard : (blocks : List Block) (o : Option Heard) (begun : List Begun) (raw : ℕ) → IsGiven blocks (with_heard o begun) raw → IsGiven blocks begun raw
+given_heard blocks None begun raw is = is
+given_heard blocks (Some a) begun raw is = by (answers_it begun a.status) is
+  where
+    answered : (l : List Begun) → IsGiven blocks (with_answer (answer_in a.status a.word) l) raw → IsGiven blocks l raw
+    answered [] is = is
+    answered (b ∷ past) is = which is.newer is.one is.older is.split is.gives
+      where
+        which : (newer : List Begun) (one : Begun) (older : List Begun) → (record b { answers = answer_in a.status a.word ∷ b.answers }) ∷ past ≡ newer ++ one ∷ older → (are_away raw (given_by blocks one.request) ≡ true → ⊥) → IsGiven blocks (b ∷ past) raw
+        which [] one older split gives =
+            let first : (record b { answers = answer_in a.status a.word ∷ b.answers }) ≡ one = cc in
+            record { newer = []; one = b; older = past; split = refl; gives = subst (λ (x : Begun). are_away raw (given_by blocks x.request) ≡ true → ⊥) (sym first) gives }
+        which (x ∷ newer) one older split gives = let rest : past ≡ newer ++ one ∷ older = cc in given_more blocks b past raw (record { newer = newer; one = one; older = older; split = rest; gives = gives })
+
+    by : (t : Bool) → IsGiven blocks (if t then with_answer (answer_in a.status a.word) begun else begun) raw → IsGiven blocks begun raw
+    by true is = answered begun is
+    by false is = is
+
+-- THE CHECK FOR PHASE 3. The first tasks are reads.
+abbrev pub is_reading : Request → Bool
+is_reading (request.Read i e) = true
+is_reading (request.Write i e bytes) = false
+is_reading (request.Command i) = false
+
+pub attributes_read : (idns : List Idn) → list_all is_reading (map (λ i. request.Read i 3) idns) ≡ true
+attributes_read [] = refl
+attributes_read (i ∷ idns) = attributes_read idns
+
+pub reading_away : (blocks : List Block) (raw : ℕ) (r : Request) → is_reading r ≡ true → are_away raw (given_by blocks r) ≡ true
+reading_away blocks raw (request.Read i e) is = refl
+reading_away blocks raw (request.Write i e bytes) is = absurd (cc)
+reading_away blocks raw (request.Command i) is = absurd (cc)
+
+module _ (s : Known) (k : ℕ) (blocks : List Block) (plan : Option PlanView) (waiting : List Task) (phase : ℕ) (low : phase ≤ 2) (waits : AreWaiting waiting) where
+  is_check : (b : Begun) (t : Task) (older : List Begun) (tasks : List Task) → IsBegunTask s k plan waiting phase b t older tasks → (are_away 127 (given_by blocks b.request) ≡ true → ⊥) → length older ≡ reads_count (member s k) + 11
+  is_check b t older tasks begun gives = by begun.task
+    where
+      away : (r : Request) → t.request ≡ r → are_away 127 (given_by blocks r) ≡ true → ⊥
+      away r is all = gives (ap (λ (x : Request). are_away 127 (given_by blocks x)) (begun.asks ∙ is) ∙ all)
+
+      asked : (n : ℕ) (r : Request) → t ≡ startup n r → t.request ≡ r
+      asked n r same = ap (λ (x : Task). x.request) same
+
+      early : (n : ℕ) (r : Request) → t ≡ startup n r → n ≤ 2
+      early n r same = let e : t.phase ≡ n = ap (λ (x : Task). x.phase) same in let le = begun.early in omega (arith, e, le, low)
+
+      writes_away : (p : PlanView) (i : ℕ) (r : Request) → slice_get (writes s p k) i ≡ Some r → IsDataWrite r → are_away 127 (given_by blocks r) ≡ true
+      writes_away p i r got (DataWrite w bytes is) =
+          let number : slice_get start_numbers i ≡ Some w.raw = number_at s p k i r got ∙ ap (λ (x : Request). Some (raw_of x)) is in
+          let other = not-true (w.raw == 127) (all_at (λ (n : ℕ). not (n == 127)) start_numbers i w.raw refl number) in
+          ap (λ (x : Request). are_away 127 (given_by blocks x)) is ∙ write_away blocks 127 w bytes (λ e. false≢true (sym other ∙ eq-eqb w.raw 127 e))
+
+      by : IsTask s k begun.by_then waiting (outcomes_in older) t → length older ≡ reads_count (member s k) + 11
+      by (OfReads r less got same) = absurd (away r (asked 2 r same) (reading_away blocks 127 r (all_at is_reading (reads (member s k)) (length (outcomes_in older)) r (attributes_read ((member s k).at ++ (member s k).mdt)) got)))
+      by (OfWrites p i r planned less at got same) = absurd (away r (asked 2 r same) (writes_away p i r got (all_data_writes s p k i r got)))
+      by (Checks3 p planned at same) = sym begun.ended ∙ at
+      by (Lists3 at failed same) = absurd (away (request.Read (idn 21) 7) (asked 2 (request.Read (idn 21) 7) same) refl)
+      by (Checks4 at checked same) = let n = early 3 (request.Command (idn 128)) same in absurd (omega (arith, n))
+      by (Lists4 at failed same) = let n = early 3 (request.Read (idn 22) 7) same in absurd (omega (arith, n))
+      by (OfWaiting j at ready got) = let late = begun.early in let four = waits j t got in absurd (omega (arith, late, four, low))
+
+  begun_by_split : (newer : List Begun) (one : Begun) (older : List Begun) (tasks : List Task) → AreBegunTasks s k plan waiting phase (newer ++ one ∷ older) tasks → (are_away 127 (given_by blocks one.request) ≡ true → ⊥) → reads_count (member s k) + 11 < length (newer ++ one ∷ older)
+  begun_by_split [] one older [] are gives = absurd are
+  begun_by_split [] one older (t ∷ tasks) are gives = let at = is_check one t older tasks are.1 gives in omega (arith, at)
+  begun_by_split (x ∷ newer) one older [] are gives = absurd are
+  begun_by_split (x ∷ newer) one older (t ∷ tasks) are gives = let more = begun_by_split newer one older tasks are.0 gives in omega (arith, more)
+
+  -- if a request gives something to S-0-0127, the check has been begun
+  pub check_begun : (begun : List Begun) (tasks : List Task) → AreBegunTasks s k plan waiting phase begun tasks → IsGiven blocks begun 127 → reads_count (member s k) + 11 < length begun
+  check_begun begun tasks are is =
+      subst (λ (l : List Begun). reads_count (member s k) + 11 < length l) (sym is.split)
+      (begun_by_split is.newer is.one is.older tasks (subst (λ (l : List Begun). AreBegunTasks s k plan waiting phase l tasks) is.split are) is.gives)

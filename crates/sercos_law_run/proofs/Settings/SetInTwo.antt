@@ -1,0 +1,122 @@
+-- A drive accepts a setting of the check for phase 3 in phase 2 alone, and after the check has been begun.
+use Rattle.std.proofs.Common.{◌≡◌, ℕ, Bool, true, false, List, [], ◌∷◌, length, refl, sym, ap, ◌∙◌, subst, arith, if◌then◌else◌}
+use Rattle.std.specs.Prelude.{◌==◌, Option, Some, None, IfSome, option_map, option_and_then}
+use Rattle.std.specs.Bool.{then_some}
+use Rattle.std.proofs.lemmas.Bool.{and_parts, eqb-true, false≢true}
+use mathlib.Core.Bool.{beq}
+use Rattle.sercos_model.proofs.FaultLemmas.{none_of-or, none_of-then}
+use Rattle.sercos_idn.specs.declared.attribute.Attribute.{Attribute}
+use Rattle.sercos_step.specs.declared.request.Request.{Request}
+use Rattle.sercos_step.specs.declared.request.Request.TheVariants as request
+use Rattle.sercos_block.specs.declared.block.Block.{Block}
+use Rattle.sercos_block.specs.Blocks.{is_fixed, is_protected}
+use Rattle.sercos_block.specs.Stores.{find_block, write_fault, data_fault, put_fault}
+use Rattle.sercos_service_drive.specs.Log.{Taken, ahs, open_idn, run_before}
+use Rattle.sercos_service_drive.specs.Replies.{reply_of, log_of}
+use Rattle.sercos_service_drive.specs.Writes.{Write, written_by, with_added, writes_of, adds, added_on, takes_effect}
+use Rattle.sercos_service_master.specs.Begun.{Begun, Said, step_at, step_or_none, master_says}
+use Rattle.sercos_law_channel.specs.Handshake.Views.{View, standing, stood_in, record_in, processed_in, with_record, kept_in}
+use Rattle.sercos_law_channel.specs.Handshake.Epochs.{command, command_in, with_heard, with_begun, unless_restart, epoch_begun, epoch_taken, begun_in, log_in}
+use Rattle.sercos_law_channel.specs.Handshake.Runs.{IsRun}
+use Rattle.sercos_law_channel.specs.Handshake.WholeRun.{write_of, AreSound, AreSmall}
+use Rattle.sercos_law_channel.specs.Handshake.Exact.{AreExact}
+use Rattle.sercos_law_channel.proofs.Theorems.{Processes, Nothing, Record, processes, processed_phase, said_of, written, kept_same, Laws, cycle_exact, AreAllowed, those_kept, those_since}
+use Rattle.sercos_service_drive.proofs.AllowedWrites.{those_moved}
+use Rattle.sercos_law_run.specs.Start.Later.{IsProtectedLater}
+use Rattle.sercos_law_run.proofs.Settings.Givers.{IsGiven, gives_newest, given_heard}
+
+-- if a write isn't refused, the block isn't write protected
+pub bare : (o : Option Block) (phase : ℕ) (bytes : List ℕ) (a : Attribute) → option_map (λ (b : Block). b.attribute) o ≡ Some a → put_fault o phase bytes ≡ None → is_protected a phase ≡ false
+bare None phase bytes a has none = absurd (cc)
+bare (Some b) phase bytes a has none =
+    let same : b.attribute ≡ a = cc in
+    let write = (none_of-or (write_fault (Some b) phase) (data_fault b bytes) none).0 in
+    ap (λ (x : Attribute). is_protected x phase) (sym same) ∙ none_of-then (is_protected b.attribute phase) 0x7005 (none_of-or (then_some (is_fixed b) 0x7004) (then_some (is_protected b.attribute phase) 0x7005) write).1
+
+-- so the phase is 2, if the block is write protected in phases 3 and 4
+in_two : (a : Attribute) (phase : ℕ) → a.protect3 ≡ true → a.protect4 ≡ true → is_protected a phase ≡ false → phase ≡ 2
+in_two a phase three four off = by (phase == 2) (phase == 3) refl off
+  where
+    by : (two other : Bool) → (phase == 2) ≡ two → (if two then a.protect2 else (if other then a.protect3 else a.protect4)) ≡ false → phase ≡ 2
+    by true other is off = eqb-true phase 2 is
+    by false true is off = absurd (false≢true (sym off ∙ three))
+    by false false is off = absurd (false≢true (sym off ∙ four))
+
+-- a write comes with a step of operation data
+writes_data : (t : Taken) (h : List Taken) (w : Write) → added_on t h ≡ Some w → (t.step.element == 7) ≡ true
+writes_data t h w is = dropped (beq t.mhs (ahs h)) is
+  where
+    effect : (v : Bool) → takes_effect (record { taken = t; answer = reply_of t (log_of h) }) ≡ v → (if v then option_and_then (written_by t (run_before true 7 (log_of h))) (open_idn (log_of h)) else None) ≡ Some w → (t.step.element == 7) ≡ true
+    effect true on is = (and_parts (t.step.element == 7) _ (and_parts t.step.write _ on).1).0
+    effect false on is = absurd (cc)
+
+    dropped : (v : Bool) → (if v then None else adds t (log_of h)) ≡ Some w → (t.step.element == 7) ≡ true
+    dropped true is = absurd (cc)
+    dropped false is = effect (takes_effect (record { taken = t; answer = reply_of t (log_of h) })) refl is
+
+-- each request begins with its opening, and that writes element 1
+opens_first : (r : Request) → (step_or_none (step_at r [])).element ≡ 1
+opens_first (request.Read i e) = refl
+opens_first (request.Write i e bytes) = refl
+opens_first (request.Command i) = refl
+
+-- so if a step of operation data is said, no request begins in this cycle
+none_begins : (o : Option Request) (begun : List Begun) → ((master_says (with_begun o begun)).step.element == 7) ≡ true → with_begun o begun ≡ begun
+none_begins None begun seven = refl
+none_begins (Some r) begun seven = let e : 1 ≡ 7 = sym (opens_first r) ∙ eqb-true (master_says (with_begun (Some r) begun)).step.element 7 seven in absurd (omega (arith, e))
+
+going : (v : View) (past : List View) (begun : List Begun) → v.phase ≡ 2 → v.phase ≡ command_in v past → (unless_restart v begun ≡ begun) × (command past ≡ 2)
+going v past begun two commanded = by v.master_restarts (sym commanded ∙ two)
+  where
+    by : (r : Bool) → (if r then 0 else command past) ≡ 2 → ((if r then [] else begun) ≡ begun) × (command past ≡ 2)
+    by true is = absurd (omega (arith, is))
+    by false is = (refl, is)
+
+-- What a setting of the check for phase 3 says of its cycle: phase 2 is commanded, the write isn't refused, and a request that was
+-- begun in this epoch, before the cycle, gives something to the check's identifier number.
+pub record IsSetIn (blocks : List Block) (v : View) (past : List View) (w : Write) : Type 0 where
+  pub phase : ℕ
+  pub none : put_fault (find_block w.raw v.blocks) phase w.bytes ≡ None
+  pub two : command past ≡ 2
+  pub given : IsGiven blocks (epoch_begun past) w.raw
+
+module _ (allowed : AreAllowed) (laws : Laws) (busy : ℕ) (blocks : List Block) (small : AreSmall blocks) (v : View) (past : List View) (run : IsRun busy (v ∷ past)) (sound : AreSound blocks (v ∷ past)) where
+  pub set_in : (w : Write) → IsProtectedLater v.blocks w.raw → write_of (processed_in v past) (kept_in v past) ≡ Some w → IsSetIn blocks v past w
+  set_in w (a, has, second, third, fourth) is = by (processes v past)
+    where
+      by : Processes v past → IsSetIn blocks v past w
+      by (Nothing none) = let no : Some w ≡ None = sym is ∙ ap (λ (o : Option Taken). write_of o (kept_in v past)) none in absurd (cc)
+      by (Record s got came two some) = record { phase = t.phase; none = fault; two = (going v past [] commanded run.1.commanded).1; given = gave }
+        where
+          t : Taken
+          t = record_in v (length past) (stood_in v (standing past)) s
+
+          adds_it : added_on (record_in v (length past) (stood_in v (standing past)) s) (kept_in v past) ≡ Some w
+          adds_it = sym (ap (λ (o : Option Taken). write_of o (kept_in v past)) some) ∙ is
+
+          fault : put_fault (find_block w.raw v.blocks) (stood_in v (standing past)) w.bytes ≡ None
+          fault = subst (λ (o : Option Write). IfSome o (λ w. put_fault (find_block w.raw v.blocks) (stood_in v (standing past)) w.bytes ≡ None)) adds_it
+              (allowed (record_in v (length past) (stood_in v (standing past)) s) (kept_in v past) (those_moved blocks v.blocks (kept_in v past) sound.1.0 (those_kept blocks v past (those_since blocks past sound.0))))
+
+          commanded : v.phase ≡ 2
+          commanded = sym (processed_phase v past came (omega (arith, two))) ∙ in_two a (stood_in v (standing past)) third fourth (bare (find_block w.raw v.blocks) (stood_in v (standing past)) w.bytes a has fault)
+
+          grown : writes_of (log_in v past) ≡ w ∷ writes_of (log_of (unless_restart v (epoch_taken past)))
+          grown =
+              let same = kept_same busy v past run (record_in v (length past) (stood_in v (standing past)) s) some in
+              ap (λ (o : Option Taken). writes_of (log_of (with_record o (unless_restart v (epoch_taken past))))) some
+              ∙ sym (written (record_in v (length past) (stood_in v (standing past)) s) (unless_restart v (epoch_taken past)))
+              ∙ ap (λ (o : Option Write). with_added o (writes_of (log_of (unless_restart v (epoch_taken past)))))
+              (ap (added_on (record_in v (length past) (stood_in v (standing past)) s)) (sym same) ∙ adds_it)
+
+          said : s ≡ master_says (begun_in v past)
+          said = said_of busy v past run.1.sent s got
+
+          before : begun_in v past ≡ with_heard v.heard (epoch_begun past)
+          before =
+              none_begins v.begins (with_heard v.heard (unless_restart v (epoch_begun past))) (ap (λ (x : Said). x.step.element == 7) (sym said) ∙ writes_data (record_in v (length past) (stood_in v (standing past)) s) (kept_in v past) w adds_it)
+              ∙ ap (with_heard v.heard) (going v past (epoch_begun past) commanded run.1.commanded).0
+
+          gave : IsGiven blocks (epoch_begun past) w.raw
+          gave = given_heard blocks v.heard (epoch_begun past) w.raw (subst (λ (l : List Begun). IsGiven blocks l w.raw) before
+              (gives_newest blocks (begun_in v past) (log_in v past) w _ (subst (AreExact blocks (begun_in v past) (log_in v past)) grown (cycle_exact blocks busy laws small v past run sound))))

@@ -1,0 +1,104 @@
+-- A procedure command is set if the newest write to it isn't 0.
+use Rattle.std.proofs.Common.{◌≡◌, ℕ, Bool, true, false, not, List, [], ◌∷◌, ◌++◌, refl, sym, ap, ◌∙◌, if◌then◌else◌}
+use Rattle.std.specs.Prelude.{◌==◌, Option, Some, None, is_some}
+use Rattle.std.specs.Int.{w16, from_le_bytes}
+use Rattle.std.proofs.lemmas.Bool.{eqb-true, eq-eqb}
+use Rattle.sercos_block.specs.declared.block.Block.{Block}
+use Rattle.sercos_block.specs.Stores.{with_data}
+use Rattle.sercos_command.specs.declared.commands.SetCommand.{SetCommand}
+use Rattle.sercos_command.specs.Settings.{CommandsView, find_set, without, with_set, is_command, ends_well, with_write, without_checks}
+use Rattle.sercos_service_drive.specs.Replies.{log_of}
+use Rattle.sercos_service_drive.specs.Writes.{Write, with_added, added_on, setting_in, commands_with, writes_of}
+use Rattle.sercos_law_channel.specs.Handshake.Values.{newest_to}
+use Rattle.sercos_law_channel.proofs.Theorems.{written}
+use Rattle.sercos_law_run.specs.Settings.SetByWrites.{IsSetByWrites}
+
+-- other settings stay
+find_append : (raw : ℕ) (set : List SetCommand) (s : SetCommand) → is_some (find_set raw set) ≡ true → is_some (find_set raw (set ++ s ∷ [])) ≡ true
+find_append raw [] s on = absurd (cc)
+find_append raw (x ∷ set) s on = by (x.idn.raw == raw) on (find_append raw set s)
+  where
+    by : (v : Bool) → is_some (if v then Some x else find_set raw set) ≡ true → (is_some (find_set raw set) ≡ true → is_some (find_set raw (set ++ s ∷ [])) ≡ true) → is_some (if v then Some x else find_set raw (set ++ s ∷ [])) ≡ true
+    by true on more = refl
+    by false on more = more on
+
+find_last : (raw : ℕ) (set : List SetCommand) (s : SetCommand) → (s.idn.raw == raw) ≡ true → is_some (find_set raw (set ++ s ∷ [])) ≡ true
+find_last raw [] s on = ap (λ (v : Bool). is_some (if v then Some s else None)) on
+find_last raw (x ∷ set) s on = by (x.idn.raw == raw) (find_last raw set s on)
+  where
+    by : (v : Bool) → is_some (find_set raw (set ++ s ∷ [])) ≡ true → is_some (if v then Some x else find_set raw (set ++ s ∷ [])) ≡ true
+    by true more = refl
+    by false more = more
+
+kept_with : (raw : ℕ) (s : SetCommand) (set : List SetCommand) → is_some (find_set raw set) ≡ true → is_some (find_set raw (with_set s set)) ≡ true
+kept_with raw s set on = by (is_some (find_set s.idn.raw set))
+  where
+    by : (v : Bool) → is_some (find_set raw (if v then set else set ++ s ∷ [])) ≡ true
+    by true = on
+    by false = find_append raw set s on
+
+set_with : (raw : ℕ) (s : SetCommand) (set : List SetCommand) → s.idn.raw ≡ raw → is_some (find_set raw (with_set s set)) ≡ true
+set_with raw s set same = by (is_some (find_set s.idn.raw set)) refl
+  where
+    by : (v : Bool) → is_some (find_set s.idn.raw set) ≡ v → is_some (find_set raw (if v then set else set ++ s ∷ [])) ≡ true
+    by true on = ap (λ (n : ℕ). is_some (find_set n set)) (sym same) ∙ on
+    by false off = find_last raw set s (eq-eqb s.idn.raw raw same)
+
+kept_without : (raw other : ℕ) (set : List SetCommand) → (other == raw) ≡ false → is_some (find_set raw set) ≡ true → is_some (find_set raw (without other set)) ≡ true
+kept_without raw other [] off on = absurd (cc)
+kept_without raw other (x ∷ set) off on = by (x.idn.raw == other) (x.idn.raw == raw) refl refl on (kept_without raw other set off)
+  where
+    both : (v : Bool) → v ≡ true → v ≡ false → ⊥
+    both true on off = cc
+    both false on off = cc
+
+    by : (a b : Bool) → (x.idn.raw == other) ≡ a → (x.idn.raw == raw) ≡ b → is_some (if b then Some x else find_set raw set) ≡ true → (is_some (find_set raw set) ≡ true → is_some (find_set raw (without other set)) ≡ true) →
+        is_some (find_set raw (if not a then x ∷ without other set else without other set)) ≡ true
+    by true true is_other is_raw on more = absurd (both (other == raw) (eq-eqb other raw (sym (eqb-true x.idn.raw other is_other) ∙ eqb-true x.idn.raw raw is_raw)) off)
+    by true false is_other is_raw on more = more on
+    by false true is_other is_raw on more = ap (λ (v : Bool). is_some (if v then Some x else find_set raw (without other set))) is_raw
+    by false false is_other is_raw on more = ap (λ (v : Bool). is_some (if v then Some x else find_set raw (without other set))) is_raw ∙ more on
+
+-- a write to another command, and a write that isn't 0
+write_other : (raw other value cycle : ℕ) (blocks : List Block) (c : CommandsView) → (other == raw) ≡ false → is_some (find_set raw c.set) ≡ true → is_some (find_set raw (with_write other value cycle blocks c).set) ≡ true
+unfolding with_write
+write_other raw other value cycle blocks c off on = by (value == 0)
+  where
+    by : (v : Bool) → is_some (find_set raw (if v then without other c.set else with_set (record { idn = record { raw = other }; cycle = cycle; well = ends_well c.rate other blocks }) c.set)) ≡ true
+    by true = kept_without raw other c.set off on
+    by false = kept_with raw (record { idn = record { raw = other }; cycle = cycle; well = ends_well c.rate other blocks }) c.set on
+
+write_sets : (raw value cycle : ℕ) (blocks : List Block) (c : CommandsView) → (value == 0) ≡ false → is_some (find_set raw (with_write raw value cycle blocks c).set) ≡ true
+unfolding with_write
+write_sets raw value cycle blocks c off =
+    ap (λ (v : Bool). is_some (find_set raw (if v then without raw c.set else with_set (record { idn = record { raw = raw }; cycle = cycle; well = ends_well c.rate raw blocks }) c.set))) off
+    ∙ set_with raw (record { idn = record { raw = raw }; cycle = cycle; well = ends_well c.rate raw blocks }) c.set refl
+
+with_other : (raw : ℕ) (w : Write) (blocks : List Block) (c : CommandsView) → (w.raw == raw) ≡ false → is_some (find_set raw c.set) ≡ true → is_some (find_set raw (commands_with (Some w) blocks c).set) ≡ true
+with_other raw w blocks c off on = by (is_command blocks w.raw)
+  where
+    by : (v : Bool) → is_some (find_set raw (let d : CommandsView = if v then with_write w.raw (setting_in w) w.cycle (with_data w.raw w.bytes blocks) c else without_checks c in d.set)) ≡ true
+    by true = write_other raw w.raw (setting_in w) w.cycle (with_data w.raw w.bytes blocks) c off on
+    by false = on
+
+with_this : (raw : ℕ) (w : Write) (blocks : List Block) (c : CommandsView) → w.raw ≡ raw → is_command blocks raw ≡ true → (setting_in w == 0) ≡ false → is_some (find_set raw (commands_with (Some w) blocks c).set) ≡ true
+with_this raw w blocks c same command off =
+    ap (λ (v : Bool). is_some (find_set raw (let d : CommandsView = if v then with_write w.raw (setting_in w) w.cycle (with_data w.raw w.bytes blocks) c else without_checks c in d.set))) (ap (is_command blocks) same ∙ command)
+    ∙ ap (λ (n : ℕ). is_some (find_set n (with_write w.raw (setting_in w) w.cycle (with_data w.raw w.bytes blocks) c).set)) (sym same)
+    ∙ write_sets w.raw (setting_in w) w.cycle (with_data w.raw w.bytes blocks) c off
+
+pub set_by_writes : IsSetByWrites
+set_by_writes raw [] c bytes are commands newest off = absurd (cc)
+set_by_writes raw (t ∷ h) c bytes are commands newest off =
+    ap (λ (l : List SetCommand). is_some (find_set raw l)) are.1
+    ∙ by (added_on t h) (ap (newest_to raw) (written t h) ∙ newest) (λ n. set_by_writes raw h t.commands bytes are.0 commands.0 n off)
+  where
+    by : (o : Option Write) → newest_to raw (with_added o (writes_of (log_of h))) ≡ Some bytes → (newest_to raw (writes_of (log_of h)) ≡ Some bytes → is_some (find_set raw t.commands.set) ≡ true) → is_some (find_set raw (commands_with o t.blocks t.commands).set) ≡ true
+    by None newest more = more newest
+    by (Some w) newest more = which (w.raw == raw) refl newest
+      where
+        which : (v : Bool) → (w.raw == raw) ≡ v → (if v then Some w.bytes else newest_to raw (writes_of (log_of h))) ≡ Some bytes → is_some (find_set raw (commands_with (Some w) t.blocks t.commands).set) ≡ true
+        which false other newest = with_other raw w t.blocks t.commands other (more newest)
+        which true same newest =
+            let one : w.bytes ≡ bytes = cc in
+            with_this raw w t.blocks t.commands (eqb-true w.raw raw same) commands.1 (ap (λ (l : List ℕ). from_le_bytes w16 l == 0) one ∙ off)

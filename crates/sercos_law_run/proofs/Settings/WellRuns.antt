@@ -1,0 +1,191 @@
+-- If each check for phase 3 was set well, each that is set ends well. The status that a complete one gives isn't that of a command
+-- that runs.
+use Rattle.std.proofs.Common.{◌≡◌, ◌⊎◌, inl, inr, ℕ, zero, suc, ◌-◌, ◌<◌, ◌≤◌, Bool, true, false, not, ◌&&◌, ◌||◌, List, [], ◌∷◌, ◌++◌, length, refl, sym, ap, ap₂, ◌∙◌, subst, arith, if◌then◌else◌, length-append}
+use Rattle.std.specs.Prelude.{◌==◌, Option, Some, None, is_some, slice_index}
+use Rattle.std.specs.List.{list_all}
+use Rattle.std.proofs.lemmas.Bool.{and_parts, eqb-true, leb-true}
+use Rattle.std.proofs.lemmas.Bool.Decides.{nat_tests}
+use Rattle.sercos_idn.specs.declared.idn.Idn.{Idn}
+use Rattle.sercos_step.specs.declared.step.Answer.{Answer}
+use Rattle.sercos_step.specs.declared.request.Request.TheVariants as request
+use Rattle.sercos_step.specs.declared.request.Outcome.TheVariants as outcome
+use Rattle.sercos_step.specs.Words.{bytes_in}
+use Rattle.sercos_step.specs.Steps.{a_step, polling, steps_of, result_of, is_whole, answer_words, outcome_of, AreAnswers}
+use Rattle.sercos_block.specs.declared.block.Block.{Block}
+use Rattle.sercos_block.specs.Stores.{with_data}
+use Rattle.sercos_command.specs.declared.commands.SetCommand.{SetCommand}
+use Rattle.sercos_command.specs.Settings.{CommandsView, find_set, without, with_set, is_command, ends_well, has_ended, status_by, with_write, without_checks}
+use Rattle.sercos_service_drive.specs.Writes.{Write, setting_in, commands_with}
+use Rattle.sercos_law_channel.specs.Handshake.Views.{View, processed_in, kept_in}
+use Rattle.sercos_law_channel.specs.Handshake.WholeRun.{write_of}
+use Rattle.sercos_law_run.specs.Settings.WellSet.{is_well_set, are_well_set, AreSetWell, StandWell}
+
+-- THE SETTINGS
+without_well : (raw : ℕ) (set : List SetCommand) → list_all is_well_set set ≡ true → list_all is_well_set (without raw set) ≡ true
+without_well raw [] all = refl
+without_well raw (s ∷ set) all = by (not (s.idn.raw == raw)) (without_well raw set (and_parts (is_well_set s) _ all).1)
+  where
+    by : (v : Bool) → list_all is_well_set (without raw set) ≡ true → list_all is_well_set (if v then s ∷ without raw set else without raw set) ≡ true
+    by true rest = ap₂ (λ (a b : Bool). a && b) (and_parts (is_well_set s) _ all).0 rest
+    by false rest = rest
+
+append_well : (set : List SetCommand) (s : SetCommand) → list_all is_well_set set ≡ true → is_well_set s ≡ true → list_all is_well_set (set ++ s ∷ []) ≡ true
+append_well [] s all well = ap (λ (v : Bool). v && true) well
+append_well (x ∷ set) s all well = let parts = and_parts (is_well_set x) _ all in ap₂ (λ (a b : Bool). a && b) parts.0 (append_well set s parts.1 well)
+
+with_set_well : (s : SetCommand) (set : List SetCommand) → list_all is_well_set set ≡ true → is_well_set s ≡ true → list_all is_well_set (with_set s set) ≡ true
+with_set_well s set all well = by (is_some (find_set s.idn.raw set))
+  where
+    by : (v : Bool) → list_all is_well_set (if v then set else set ++ s ∷ []) ≡ true
+    by true = all
+    by false = append_well set s all well
+
+write_well : (raw value cycle : ℕ) (blocks : List Block) (c : CommandsView) → are_well_set c ≡ true → (raw ≡ 127 → (value == 0) ≡ false → ends_well c.rate 127 blocks ≡ true) → are_well_set (with_write raw value cycle blocks c) ≡ true
+unfolding with_write
+write_well raw value cycle blocks c all well = by (value == 0) refl
+  where
+    fresh : (value == 0) ≡ false → is_well_set (record { idn = record { raw = raw }; cycle = cycle; well = ends_well c.rate raw blocks }) ≡ true
+    fresh sets = which (raw == 127) refl
+      where
+        which : (v : Bool) → (raw == 127) ≡ v → (not v || ends_well c.rate raw blocks) ≡ true
+        which false off = refl
+        which true on = let is = eqb-true raw 127 on in ap (λ (n : ℕ). ends_well c.rate n blocks) is ∙ well is sets
+
+    by : (v : Bool) → (value == 0) ≡ v → list_all is_well_set (if v then without raw c.set else with_set (record { idn = record { raw = raw }; cycle = cycle; well = ends_well c.rate raw blocks }) c.set) ≡ true
+    by true on = without_well raw c.set all
+    by false off = with_set_well (record { idn = record { raw = raw }; cycle = cycle; well = ends_well c.rate raw blocks }) c.set all (fresh off)
+
+behind_well : (o : Option Write) (blocks : List Block) (c : CommandsView) → are_well_set c ≡ true → ((w : Write) → o ≡ Some w → w.raw ≡ 127 → (setting_in w == 0) ≡ false → ends_well c.rate 127 (with_data 127 w.bytes blocks) ≡ true) → are_well_set (commands_with o blocks c) ≡ true
+behind_well None blocks c all well = all
+behind_well (Some w) blocks c all well = by (is_command blocks w.raw)
+  where
+    by : (v : Bool) → are_well_set (if v then with_write w.raw (setting_in w) w.cycle (with_data w.raw w.bytes blocks) c else without_checks c) ≡ true
+    by true = write_well w.raw (setting_in w) w.cycle (with_data w.raw w.bytes blocks) c all (λ is sets. ap (λ (n : ℕ). ends_well c.rate 127 (with_data n w.bytes blocks)) is ∙ well w refl is sets)
+    by false = all
+
+pub stand_well : (views : List View) → AreSetWell views → StandWell views
+stand_well [] are = tt
+stand_well (v ∷ []) are = (tt, ap (list_all is_well_set) are.1)
+stand_well (v ∷ u ∷ past) are =
+    let before = stand_well (u ∷ past) are.0 in (
+      before,
+      elim are.1 [
+        | inl none ↦ ap (list_all is_well_set) none
+        | inr same ↦ ap (list_all is_well_set) same ∙ behind_well (write_of (processed_in u past) (kept_in u past)) u.blocks u.commands before.1 are.0.2
+      ],
+    )
+
+-- the setting that is found, and its status
+found_well : (set : List SetCommand) (s : SetCommand) → list_all is_well_set set ≡ true → find_set 127 set ≡ Some s → s.well ≡ true
+found_well [] s all found = absurd (cc)
+found_well (x ∷ set) s all found = by (x.idn.raw == 127) refl found (found_well set s parts.1)
+  where
+    parts : (is_well_set x ≡ true) × (list_all is_well_set set ≡ true)
+    parts = and_parts (is_well_set x) _ all
+
+    by : (v : Bool) → (x.idn.raw == 127) ≡ v → (if v then Some x else find_set 127 set) ≡ Some s → (find_set 127 set ≡ Some s → s.well ≡ true) → s.well ≡ true
+    by true on found more = let same : x ≡ s = cc in ap (λ (y : SetCommand). y.well) (sym same) ∙ (sym (ap (λ (v : Bool). not v || x.well) on) ∙ parts.0)
+    by false off found more = more found
+
+-- its status is 3, or 7 while it runs, if the check is set at all
+pub well_status : (c : CommandsView) (cycle : ℕ) → are_well_set c ≡ true → (find_set 127 c.set ≡ None) ⊎ ((status_by c.time (find_set 127 c.set) cycle ≡ 3) ⊎ (status_by c.time (find_set 127 c.set) cycle ≡ 7))
+well_status c cycle all = by (find_set 127 c.set) refl
+  where
+    by : (o : Option SetCommand) → find_set 127 c.set ≡ o → (o ≡ None) ⊎ ((status_by c.time o cycle ≡ 3) ⊎ (status_by c.time o cycle ≡ 7))
+    by None is = inl refl
+    by (Some s) is = inr (which (has_ended c.time cycle s))
+      where
+        ended_as : Bool → ℕ
+        ended_as w = if w then 3 else 15
+
+        which : (v : Bool) → ((if v then ended_as s.well else 7) ≡ 3) ⊎ ((if v then ended_as s.well else 7) ≡ 7)
+        which true = inl (ap ended_as (found_well c.set s all is))
+        which false = inr refl
+
+-- THE STATUS of a complete command isn't 7.
+last_word : ℕ → List ℕ → ℕ
+last_word x [] = x
+last_word x (y ∷ words) = last_word y words
+
+polls_end : (x : ℕ) (words : List ℕ) (c : ℕ) → suc (length words) < length (polling (x ∷ words)) → length (polling (x ∷ words ++ c ∷ [])) ≤ suc (suc (length words)) → last_word x words ≡ 7 → ⊥
+unfolding last_word
+polls_end x [] c going whole seven = by (x == 7) refl whole
+  where
+    by : (v : Bool) → (x == 7) ≡ v → length (a_step false true 1 0 ∷ (if v then a_step false true 1 0 ∷ (if c == 7 then a_step false true 1 0 ∷ [] else a_step true true 7 0 ∷ []) else a_step true true 7 0 ∷ [])) ≤ 2 → ⊥
+    by true on whole = two (c == 7) whole
+      where
+        two : (w : Bool) → length (a_step false true 1 0 ∷ a_step false true 1 0 ∷ (if w then a_step false true 1 0 ∷ [] else a_step true true 7 0 ∷ [])) ≤ 2 → ⊥
+        two true less = omega (arith, less)
+        two false less = omega (arith, less)
+    by false off whole = let on : (x == 7) ≡ true = ap (λ (n : ℕ). n == 7) seven in cc
+polls_end x (y ∷ words) c going whole seven = by (x == 7) going whole (λ a b. polls_end y words c a b seven)
+  where
+    by : (v : Bool) → suc (suc (length words)) < length (a_step false true 1 0 ∷ (if v then polling (y ∷ words) else a_step true true 7 0 ∷ [])) →
+        length (a_step false true 1 0 ∷ (if v then polling (y ∷ words ++ c ∷ []) else a_step true true 7 0 ∷ [])) ≤ suc (suc (suc (length words))) →
+        (suc (length words) < length (polling (y ∷ words)) → length (polling (y ∷ words ++ c ∷ [])) ≤ suc (suc (length words)) → ⊥) → ⊥
+    by true going whole more = more (omega (arith, going)) (omega (arith, whole))
+    by false going whole more = omega (arith, going)
+
+get_last : (x : ℕ) (words : List ℕ) (c n : ℕ) → n ≡ length words → slice_index (x ∷ words ++ c ∷ []) n ≡ last_word x words
+unfolding last_word
+get_last x [] c zero is = refl
+get_last x [] c (suc n) is = absurd (omega arith)
+get_last x (y ∷ words) c zero is = absurd (omega arith)
+get_last x (y ∷ words) c (suc n) is = get_last y words c n (omega arith)
+
+-- what it gives is not 7
+pub complete_status : (i : Idn) (a : Answer) (h : List Answer) (bytes : List ℕ) → AreAnswers (request.Command i) (a ∷ h) → outcome_of (request.Command i) (a ∷ h) ≡ Some (outcome.Complete bytes) →
+    (x : ℕ) × (bytes ≡ bytes_in (x ∷ [])) × (x ≡ 7 → ⊥)
+complete_status i a h bytes are complete = by_error a.error complete
+  where
+    one : (x y : List ℕ) → Some (outcome.Complete x) ≡ Some (outcome.Complete y) → x ≡ y
+    one x y e = cc
+
+    goes_on : (words : List ℕ) → answer_words h ≡ words → (words ≡ []) ⊎ (length words < length (steps_of (request.Command i) words))
+    goes_on words same = on h same are.1
+      where
+        not_whole : (ws : List ℕ) (v : Bool) → is_whole (request.Command i) ws ≡ v → (if v then Some (outcome.Complete (result_of (request.Command i) ws)) else None) ≡ None → length ws < length (steps_of (request.Command i) ws)
+        not_whole ws true whole none = absurd (cc)
+        not_whole ws false whole none = grind (arith, nat_tests, whole)
+
+        on : (g : List Answer) → answer_words g ≡ words → outcome_of (request.Command i) g ≡ None → (words ≡ []) ⊎ (length words < length (steps_of (request.Command i) words))
+        on [] is none = inl (sym is)
+        on (b ∷ g) is none = inr (subst (λ (ws : List ℕ). length ws < length (steps_of (request.Command i) ws)) is (error b.error none))
+          where
+            error : (v : Bool) → (if v then Some (outcome.Refused (record { raw = b.word })) else (if is_whole (request.Command i) (answer_words (b ∷ g)) then Some (outcome.Complete (result_of (request.Command i) (answer_words (b ∷ g)))) else None)) ≡ None →
+                length (answer_words (b ∷ g)) < length (steps_of (request.Command i) (answer_words (b ∷ g)))
+            error true none = absurd (cc)
+            error false none = not_whole (answer_words (b ∷ g)) (is_whole (request.Command i) (answer_words (b ∷ g))) refl none
+
+    ends : (words : List ℕ) → answer_words h ≡ words → length (steps_of (request.Command i) (words ++ a.word ∷ [])) ≤ length (words ++ a.word ∷ []) → (x : ℕ) × (result_of (request.Command i) (words ++ a.word ∷ []) ≡ bytes_in (x ∷ [])) × (x ≡ 7 → ⊥)
+    ends [] is whole = absurd (omega (arith, whole))
+    ends (p ∷ []) is whole = absurd (omega (arith, whole))
+    ends (p ∷ q ∷ []) is whole = absurd (first (a.word == 7) whole)
+      where
+        first : (v : Bool) → suc (suc (length (a_step false true 1 0 ∷ (if v then a_step false true 1 0 ∷ [] else a_step true true 7 0 ∷ [])))) ≤ 3 → ⊥
+        first true less = omega (arith, less)
+        first false less = omega (arith, less)
+    ends (p ∷ q ∷ x ∷ words) is whole = (last_word x words, ap (λ (n : ℕ). bytes_in (n ∷ [])) at, λ seven. polls_end x words a.word going shorter seven)
+      where
+        long : length (words ++ a.word ∷ []) ≡ suc (length words)
+        long = let e = length-append words (a.word ∷ []) in omega arith
+
+        at : slice_index (p ∷ q ∷ x ∷ words ++ a.word ∷ []) (length (p ∷ q ∷ x ∷ words ++ a.word ∷ []) - 2) ≡ last_word x words
+        at = let e : length (p ∷ q ∷ x ∷ words ++ a.word ∷ []) - 2 ≡ suc (suc (length words)) = let l = long in omega arith in ap (slice_index (p ∷ q ∷ x ∷ words ++ a.word ∷ [])) e ∙ get_last x words a.word (length words) refl
+
+        going : suc (length words) < length (polling (x ∷ words))
+        going = elim (goes_on (p ∷ q ∷ x ∷ words) is) [ inl none ↦ absurd (cc) | inr less ↦ omega (arith, less) ]
+
+        shorter : length (polling (x ∷ words ++ a.word ∷ [])) ≤ suc (suc (length words))
+        shorter = let l = long in omega (arith, whole)
+
+    by_error : (v : Bool) → (if v then Some (outcome.Refused (record { raw = a.word })) else (if is_whole (request.Command i) (answer_words h ++ a.word ∷ []) then Some (outcome.Complete (result_of (request.Command i) (answer_words h ++ a.word ∷ []))) else None)) ≡ Some (outcome.Complete bytes) →
+        (x : ℕ) × (bytes ≡ bytes_in (x ∷ [])) × (x ≡ 7 → ⊥)
+    by_error true done = absurd (cc)
+    by_error false done = by_whole (is_whole (request.Command i) (answer_words h ++ a.word ∷ [])) refl done
+      where
+        by_whole : (v : Bool) → is_whole (request.Command i) (answer_words h ++ a.word ∷ []) ≡ v → (if v then Some (outcome.Complete (result_of (request.Command i) (answer_words h ++ a.word ∷ []))) else None) ≡ Some (outcome.Complete bytes) → (x : ℕ) × (bytes ≡ bytes_in (x ∷ [])) × (x ≡ 7 → ⊥)
+        by_whole false whole done = absurd (cc)
+        by_whole true whole done =
+            let e = ends (answer_words h) refl (leb-true (length (steps_of (request.Command i) (answer_words h ++ a.word ∷ []))) (length (answer_words h ++ a.word ∷ [])) whole) in
+            (e.0, sym (one (result_of (request.Command i) (answer_words h ++ a.word ∷ [])) bytes done) ∙ e.1, e.2)

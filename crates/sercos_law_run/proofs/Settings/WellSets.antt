@@ -1,0 +1,84 @@
+-- In a run of a ring whose plan fits, in which nothing is unseen, each check for phase 3 is set well.
+use Rattle.std.proofs.Common.{◌≡◌, ℕ, ◌<◌, ◌≤◌, true, false, List, [], ◌∷◌, length, refl, ap, ◌∙◌}
+use Rattle.std.specs.Prelude.{Option, Some, None, option_map, unwrap_or}
+use Rattle.std.proofs.lemmas.Option.{slice_get-get_or}
+use Rattle.sercos_idn.specs.declared.attribute.Attribute.{Attribute}
+use Rattle.sercos_idn.specs.Codes.{attribute_fault}
+use Rattle.sercos_idn.specs.Attributes.{attribute_of}
+use Rattle.sercos_step.specs.declared.request.Job.{Job}
+use Rattle.sercos_timing.specs.Views.{PlanView}
+use Rattle.sercos_timing.specs.Valid.{IsValid}
+use Rattle.sercos_timing.specs.Inequalities.{Fits}
+use Rattle.sercos_block.specs.declared.block.Block.{Block}
+use Rattle.sercos_block.specs.Rings.{block_attribute, built_in_attribute, row_in, attribute_in, is_ring, wishes_of}
+use Rattle.sercos_block.specs.Rules.{blocks_fault}
+use Rattle.sercos_block.specs.Stores.{find_block, store_of, IsStore}
+use Rattle.sercos_block.specs.Views.{DriveView, RingView}
+use Rattle.sercos_command.specs.Settings.{is_command}
+use Rattle.sercos_service_master.specs.Begun.{open_in}
+use Rattle.sercos_service_master.specs.Calls.{begun_by}
+use Rattle.sercos_drive.specs.Moments.{phase_in, blocks_in}
+use Rattle.sercos_trace.specs.Views.{CycleView}
+use Rattle.sercos_seat.specs.Ring.{known_of, tasks_for}
+use Rattle.sercos_seat.specs.Seats.{AreWaiting}
+use Rattle.sercos_master.specs.Annals.{is_done}
+use Rattle.sercos_script.specs.Links.{Carry, Restarts}
+use Rattle.sercos_law_run.specs.Start.StartUp.{IsStoreOf}
+use Rattle.sercos_law_run.proofs.Start.BlockFinds.{same_attribute}
+use Rattle.sercos_law_run.proofs.Start.CheckPasses.{ring_drive}
+use Rattle.sercos_law_channel.specs.Handshake.RunLaws.{BeginsEmpty}
+use Rattle.sercos_law_channel.specs.Handshake.WholeRun.{AreSound, AreSmall}
+use Rattle.sercos_law_run.specs.Journal.Runs.{drive_at, master_calls, looks_back, IsNext as IsNextCycle}
+use Rattle.sercos_law_run.specs.Views.RingViews.{behind_mdt, after_mst, view_of, views_of}
+use Rattle.sercos_law_run.proofs.Views.Received.{Agrees}
+use Rattle.sercos_law_run.proofs.Views.ViewRuns.{IsSpelled, Sees, at_mst, sees_next}
+use Rattle.sercos_law_run.specs.Settings.WellSet.{HaveStores, AreSetWell}
+use Rattle.sercos_law_run.proofs.Settings.SettingsRuns.{IsSetSo, set_first, set_next, keeps_settings}
+use Rattle.sercos_law_run.proofs.Settings.SetsWell.{LowerLaws, sets_well}
+
+-- S-0-0127 is a procedure command of each drive
+pub is_command_127 : (d : DriveView) (blocks : List Block) → blocks_fault [] d.blocks ≡ None → IsStoreOf d blocks → is_command blocks 127 ≡ true
+unfolding block_attribute built_in_attribute row_in attribute_in attribute_fault attribute_of
+is_command_127 d blocks none is =
+    known (find_block 127 blocks) ∙ ap (λ (o : Option Attribute). unwrap_or (option_map (λ (a : Attribute). a.command) o) false) (same_attribute 127 d blocks none is)
+  where
+    known : (o : Option Block) → unwrap_or (option_map (λ (b : Block). b.attribute.command) o) false ≡ unwrap_or (option_map (λ (a : Attribute). a.command) (option_map (λ (b : Block). b.attribute) o)) false
+    known None = refl
+    known (Some b) = refl
+
+-- What holds of the drive at a place after a journal: its settings are those of its views, each check for phase 3 was set well, and
+-- S-0-0127 is a procedure command in each cycle.
+pub record IsWellSet (r : RingView) (jobs : List Job) (carry : Carry) (restarts : Restarts) (k : ℕ) (j : List CycleView) : Type 0 where
+  pub set : IsSetSo r jobs carry restarts k j
+  pub well : AreSetWell (views_of r jobs carry restarts k j)
+  pub commands : HaveStores (λ blocks. is_command blocks 127 ≡ true) (views_of r jobs carry restarts k j)
+
+pub well_first : (r : RingView) (jobs : List Job) (carry : Carry) (restarts : Restarts) (k : ℕ) → IsWellSet r jobs carry restarts k []
+well_first r jobs carry restarts k = record { set = set_first r jobs carry restarts k; well = tt; commands = tt }
+
+module _ (laws : LowerLaws) (empty : (busy : ℕ) → BeginsEmpty busy) (r : RingView) (jobs : List Job) (carry : Carry) (restarts : Restarts) (valid : is_ring r ≡ true) (wishes : IsValid (wishes_of r))
+    (waits : (i : ℕ) → AreWaiting (tasks_for (known_of r) jobs i)) (t : CycleView) (j : List CycleView) (next : IsNextCycle r jobs carry restarts t j) (clear : t.unseen ≡ 0) (spelled : IsSpelled r jobs carry restarts t j)
+    (k : ℕ) (below : k < length r.drives) (sees : Sees r jobs carry restarts k j)
+    (agrees : (plan : PlanView) → 3 ≤ (behind_mdt r jobs carry restarts t.sent j).now.phase → 3 ≤ phase_in (after_mst r carry restarts t.sent j k) → (behind_mdt r jobs carry restarts t.sent j).plan ≡ Some plan
+    → Agrees (known_of r) (behind_mdt r jobs carry restarts t.sent j) k (blocks_in (drive_at r k) (after_mst r carry restarts t.sent j k)))
+    (rests : is_done (known_of r) (behind_mdt r jobs carry restarts t.sent j) ≡ true → open_in (begun_by ((behind_mdt r jobs carry restarts t.sent j).calls k)) ≡ None)
+    (small : AreSmall (store_of (drive_at r k))) (sound : AreSound (store_of (drive_at r k)) (views_of r jobs carry restarts k (t ∷ j)))
+    (store : IsStore (view_of r jobs carry restarts k t j).blocks) (is_of : IsStoreOf (drive_at r k) (view_of r jobs carry restarts k t j).blocks)
+    (fits : (plan : PlanView) → (looks_back r jobs (master_calls r carry restarts j)).plan ≡ Some plan → Fits (wishes_of r) plan)
+    (before : IsWellSet r jobs carry restarts k j) where
+  -- one cycle more
+  pub well_next : IsWellSet r jobs carry restarts k (t ∷ j)
+  well_next =
+      let here = at_mst empty r jobs carry restarts valid t j next clear spelled k below sees agrees rests in
+      let after = sees_next empty r jobs carry restarts valid t j next clear spelled k below sees agrees rests in
+      let set = set_next empty r jobs carry restarts valid t j next clear spelled k below sees agrees rests before.set in
+      let rules = (ring_drive r k (drive_at r k) valid (slice_get-get_or r.drives k _ below)).blocks in
+      record {
+        set = set;
+        well = (
+          before.well,
+          keeps_settings (view_of r jobs carry restarts k t j) (views_of r jobs carry restarts k j) set.follow,
+          sets_well laws r jobs carry restarts valid wishes waits k below small t j sees after sound store is_of here.blocks fits,
+        );
+        commands = (before.commands, is_command_127 (drive_at r k) (view_of r jobs carry restarts k t j).blocks rules is_of);
+      }

@@ -1,0 +1,111 @@
+-- What no write changes of a store.
+use Rattle.std.proofs.Common.{◌≡◌, ℕ, ◌≤◌, ◌==◌, nat_lt, Bool, true, false, cond, not, ◌&&◌, ◌||◌, List, [], ◌∷◌, map, Option, Some, None, IfSome, option_map, unwrap_or, refl, sym, ◌∙◌, ap, arith}
+use Rattle.std.specs.Bool.{then_some}
+use Rattle.std.specs.List.{list_all}
+use Rattle.std.proofs.lemmas.Bool.{and_parts}
+use Rattle.std.proofs.lemmas.Bool.Decides.{nat_tests}
+use Rattle.sercos_model.proofs.FaultLemmas.{none_of-or, none_of-then}
+use Rattle.sercos_block.specs.declared.block.Block.{Block}
+use Rattle.sercos_block.specs.Blocks.{is_fixed, is_protected}
+use Rattle.sercos_block.specs.Rules.{has_block}
+use Rattle.sercos_block.specs.Stores.{find_block, with_value, with_data, write_fault, data_fault, put_fault, are_ascending, store_of}
+use Rattle.sercos_block.proofs.PutLemmas.{with_data-nowhere}
+use Rattle.sercos_command.specs.Checks.{data_at}
+use Rattle.sercos_law_run.specs.Start.StartUp.{is_given, kept}
+use Rattle.sercos_law_run.specs.Start.Kept.{WritesKeep, WritesHold, RefuseAlike}
+use Rattle.sercos_law_run.proofs.Start.BlockFinds.{kept_field, same_kept}
+
+-- a block whose value may change
+abbrev pub Changes : Block → Type 0
+Changes b = (is_fixed b && not (is_given b.idn.raw)) ≡ false
+
+kept_written : (raw : ℕ) (bytes : List ℕ) (b : Block) → Changes b → kept (with_value raw bytes b) ≡ kept b
+kept_written raw bytes b changes = by (b.idn.raw == raw)
+  where
+    by : (same : Bool) → kept (cond same (record b { value = bytes }) b) ≡ kept b
+    by true = rw changes refl
+    by false = refl
+
+above_none : (low raw : ℕ) (blocks : List Block) → raw ≤ low → list_all (λ c. nat_lt low c.idn.raw) blocks ≡ true → find_block raw blocks ≡ None
+above_none low raw [] under above = refl
+above_none low raw (c ∷ blocks) under above =
+    let (here, rest) = and_parts (nat_lt low c.idn.raw) (list_all (λ c. nat_lt low c.idn.raw) blocks) above in
+    let other : (c.idn.raw == raw) ≡ false = grind (arith, nat_tests) in
+    rw other (above_none low raw blocks under rest)
+
+keeps_by : (raw : ℕ) (bytes : List ℕ) (blocks : List Block) → are_ascending blocks ≡ true → IfSome (find_block raw blocks) Changes → map kept (with_data raw bytes blocks) ≡ map kept blocks
+unfolding are_ascending
+keeps_by raw bytes [] up changes = refl
+keeps_by raw bytes (b ∷ blocks) up changes =
+    let (above, rest) = and_parts (list_all (λ c. nat_lt b.idn.raw c.idn.raw) blocks) (are_ascending blocks) up in
+    by (b.idn.raw == raw) refl above changes (keeps_by raw bytes blocks rest)
+  where
+    by : (same : Bool) → (b.idn.raw == raw) ≡ same → list_all (λ c. nat_lt b.idn.raw c.idn.raw) blocks ≡ true → IfSome (cond same (Some b) (find_block raw blocks)) Changes
+        → (IfSome (find_block raw blocks) Changes → map kept (with_data raw bytes blocks) ≡ map kept blocks)
+        → kept (with_value raw bytes b) ∷ map kept (with_data raw bytes blocks) ≡ kept b ∷ map kept blocks
+    by true e above changes more =
+        let under : raw ≤ b.idn.raw = grind (arith, nat_tests) in
+        rw (kept_written raw bytes b changes, with_data-nowhere blocks raw bytes (above_none b.idn.raw raw blocks under above)) refl
+    by false e above changes more = rw (e, more changes) refl
+
+may_write : (o : Option Block) (phase : ℕ) (bytes : List ℕ) → put_fault o phase bytes ≡ None → IfSome o Changes
+may_write None phase bytes none = tt
+may_write (Some b) phase bytes none =
+    let (write, _) = none_of-or (write_fault (Some b) phase) (data_fault b bytes) none in
+    let (fixed, _) = none_of-or (then_some (is_fixed b) 0x7004) (then_some (is_protected b.attribute phase) 0x7005) write in
+    rw (none_of-then (is_fixed b) 0x7004 fixed) refl
+
+given_may : (raw : ℕ) (blocks : List Block) → is_given raw ≡ true → IfSome (find_block raw blocks) Changes
+given_may raw [] given = tt
+given_may raw (b ∷ blocks) given = by (b.idn.raw == raw) refl (given_may raw blocks given)
+  where
+    last : (x : Bool) → (x && not true) ≡ false
+    last true = refl
+    last false = refl
+
+    by : (same : Bool) → (b.idn.raw == raw) ≡ same → IfSome (find_block raw blocks) Changes → IfSome (cond same (Some b) (find_block raw blocks)) Changes
+    by true e rest = let at : b.idn.raw ≡ raw = grind (arith, nat_tests) in rw (at, given) (last (is_fixed b))
+    by false e rest = rest
+
+pub writes_keep : WritesKeep
+writes_keep d blocks raw phase bytes up is = (
+  (λ none. keeps_by raw bytes blocks up (may_write (find_block raw blocks) phase bytes none) ∙ is),
+  (λ given. keeps_by raw bytes blocks up (given_may raw blocks given) ∙ is),
+)
+
+pub stays : (blocks : List Block) (raw other : ℕ) (bytes : List ℕ) → (other == raw) ≡ false → data_at (with_data raw bytes blocks) other ≡ data_at blocks other
+stays [] raw other bytes es = refl
+stays (c ∷ cs) raw other bytes es = at (c.idn.raw == raw) refl (c.idn.raw == other) refl (stays cs raw other bytes es)
+  where
+    at : (r : Bool) → (c.idn.raw == raw) ≡ r → (o : Bool) → (c.idn.raw == other) ≡ o → data_at (with_data raw bytes cs) other ≡ data_at cs other
+        → data_at (with_value raw bytes c ∷ with_data raw bytes cs) other ≡ unwrap_or (option_map (λ (d : Block). d.value) (cond o (Some c) (find_block other cs))) []
+    at true er true eo more = absurd (grind (arith, nat_tests))
+    at true er false eo more = rw (er, eo) more
+    at false er true eo more = rw (er, eo) refl
+    at false er false eo more = rw (er, eo) more
+
+-- the operation data after a write
+pub writes_hold : WritesHold
+writes_hold [] raw other bytes has = cc
+writes_hold (b ∷ blocks) raw other bytes has = by (b.idn.raw == raw) refl (b.idn.raw == other) refl (other == raw) refl has (writes_hold blocks raw other bytes)
+  where
+    by : (r : Bool) → (b.idn.raw == raw) ≡ r → (o : Bool) → (b.idn.raw == other) ≡ o → (s : Bool) → (other == raw) ≡ s → (r || has_block raw blocks) ≡ true
+        → (has_block raw blocks ≡ true → data_at (with_data raw bytes blocks) other ≡ cond s bytes (data_at blocks other))
+        → data_at (with_value raw bytes b ∷ with_data raw bytes blocks) other ≡ cond s bytes (unwrap_or (option_map (λ (c : Block). c.value) (cond o (Some b) (find_block other blocks))) [])
+    by true er true eo true es has more = rw (er, eo) refl
+    by true er true eo false es has more = absurd (grind (arith, nat_tests))
+    by true er false eo true es has more = absurd (grind (arith, nat_tests))
+    by true er false eo false es has more = rw (er, eo) (stays blocks raw other bytes es)
+    by false er true eo true es has more = absurd (grind (arith, nat_tests))
+    by false er true eo false es has more = rw (er, eo) refl
+    by false er false eo s es has more = rw (er, eo) (more has)
+
+-- what is refused doesn't depend on the operation data
+put_kept : (o : Option Block) (phase : ℕ) (bytes : List ℕ) → put_fault (option_map kept o) phase bytes ≡ put_fault o phase bytes
+unfolding data_fault
+put_kept None phase bytes = refl
+put_kept (Some b) phase bytes = kept_field (λ b. put_fault (Some b) phase bytes) (λ b. refl) b
+
+pub refuse_alike : RefuseAlike
+refuse_alike d blocks is raw phase bytes =
+    sym (put_kept (find_block raw blocks) phase bytes) ∙ ap (λ (o : Option Block). put_fault o phase bytes) (same_kept raw d blocks is) ∙ put_kept (find_block raw (store_of d)) phase bytes

@@ -1,0 +1,73 @@
+-- Which of a drive's own blocks are outside their limits, during the start-up.
+use Rattle.std.proofs.Common.{◌≡◌, ℕ, ◌==◌, Bool, true, false, cond, not, ◌&&◌, ◌||◌, List, [], ◌∷◌, ◌++◌, None, refl, sym, ◌∙◌, ap}
+use Rattle.std.specs.List.{list_any, filter}
+use Rattle.std.proofs.lemmas.Bool.{eqb-true}
+use Rattle.std.proofs.lemmas.List.Folds.{list_any-append}
+use Rattle.std.proofs.lemmas.List.Sorted.{list_any-IsPermutation}
+use Rattle.sercos_block.specs.declared.block.Block.{Block}
+use Rattle.sercos_block.specs.BuiltIns.{is_built_in, built_in}
+use Rattle.sercos_block.specs.Rules.{has_block, blocks_fault}
+use Rattle.sercos_block.specs.Stores.{with_data, store_of}
+use Rattle.sercos_block.specs.Views.{DriveView}
+use Rattle.sercos_block.proofs.OpenLemmas.{either_none, store_of-permutes}
+use Rattle.sercos_command.specs.Checks.{is_outside}
+use Rattle.sercos_command.specs.Settings.{CommandsView, is_command, with_lists}
+use Rattle.sercos_service_drive.specs.Writes.{setting_in}
+use Rattle.sercos_law_run.specs.Start.Kept.{is_own_outside}
+use Rattle.sercos_law_run.specs.Start.Own.{OwnStay, OwnAtOpening}
+use Rattle.sercos_law_run.proofs.Start.BlockFinds.{first_is_new}
+use Rattle.sercos_law_run.proofs.Start.LaterLemmas.{after_check}
+
+-- a built-in block isn't one of them
+no_own : (b : Block) (blocks : List Block) → is_built_in b.idn.raw ≡ true → filter is_own_outside (b ∷ blocks) ≡ filter is_own_outside blocks
+no_own b blocks built = by (is_built_in b.idn.raw) built
+  where
+    by : (x : Bool) → x ≡ true → cond (not x && is_outside b) (b ∷ filter is_own_outside blocks) (filter is_own_outside blocks) ≡ filter is_own_outside blocks
+    by true e = refl
+    by false e = cc
+
+more_own : (b : Block) (xs ys : List Block) → filter is_own_outside xs ≡ filter is_own_outside ys → filter is_own_outside (b ∷ xs) ≡ filter is_own_outside (b ∷ ys)
+more_own b xs ys same = ap (λ (rest : List Block). cond (is_own_outside b) (b ∷ rest) rest) same
+
+pub leaves_own : (blocks : List Block) (raw : ℕ) (bytes : List ℕ) → is_built_in raw ≡ true → filter is_own_outside (with_data raw bytes blocks) ≡ filter is_own_outside blocks
+leaves_own [] raw bytes built = refl
+leaves_own (b ∷ blocks) raw bytes built = by (b.idn.raw == raw) refl (leaves_own blocks raw bytes built)
+  where
+    by : (same : Bool) → (b.idn.raw == raw) ≡ same → filter is_own_outside (with_data raw bytes blocks) ≡ filter is_own_outside blocks
+        → filter is_own_outside (cond same (record b { value = bytes }) b ∷ with_data raw bytes blocks) ≡ filter is_own_outside (b ∷ blocks)
+    by true e more =
+        let here : is_built_in b.idn.raw ≡ true = ap is_built_in (eqb-true b.idn.raw raw e) ∙ built in
+        no_own (record b { value = bytes }) (with_data raw bytes blocks) here ∙ more ∙ sym (no_own b blocks here)
+    by false e more = more_own b (with_data raw bytes blocks) blocks more
+
+lists_leave_own : (c : CommandsView) (blocks : List Block) (raw value : ℕ) → filter is_own_outside (with_lists c raw value blocks) ≡ filter is_own_outside blocks
+lists_leave_own c blocks raw value =
+    after_check c blocks raw value (λ after. filter is_own_outside after ≡ filter is_own_outside blocks) refl (leaves_own blocks 21 _ refl) (leaves_own blocks 22 _ refl)
+
+pub own_stay : OwnStay
+own_stay w c blocks built = by (is_command blocks w.raw)
+  where
+    by : (command : Bool) → filter is_own_outside (cond command (with_lists c w.raw (setting_in w) (with_data w.raw w.bytes blocks)) (with_data w.raw w.bytes blocks)) ≡ filter is_own_outside blocks
+    by true = lists_leave_own c (with_data w.raw w.bytes blocks) w.raw (setting_in w) ∙ leaves_own blocks w.raw w.bytes built
+    by false = leaves_own blocks w.raw w.bytes built
+
+-- at opening
+own_outside : (before own : List Block) → blocks_fault before own ≡ None → list_any is_own_outside own ≡ list_any is_outside own
+own_outside before [] none = refl
+own_outside before (b ∷ own) none =
+    let (new, rest) = first_is_new before b own none in
+    let (own_number, _) = either_none (is_built_in b.idn.raw) (has_block b.idn.raw before) new.number in
+    by (is_built_in b.idn.raw) own_number (own_outside (before ++ b ∷ []) own rest)
+  where
+    by : (x : Bool) → x ≡ false → list_any is_own_outside own ≡ list_any is_outside own → ((not x && is_outside b) || list_any is_own_outside own) ≡ (is_outside b || list_any is_outside own)
+    by true e more = cc
+    by false e more = ap (λ x. is_outside b || x) more
+
+none_built_in : (d : DriveView) → list_any is_own_outside (built_in d) ≡ false
+unfolding built_in
+none_built_in d = refl
+
+pub own_at_opening : OwnAtOpening
+own_at_opening d none =
+    sym (list_any-IsPermutation is_own_outside (built_in d ++ d.blocks) (store_of d) (store_of-permutes d))
+    ∙ list_any-append is_own_outside (built_in d) d.blocks ∙ ap (λ x. x || list_any is_own_outside d.blocks) (none_built_in d) ∙ own_outside [] d.blocks none

@@ -1,0 +1,105 @@
+-- The time slots of a ring whose drives hold one plan are apart.
+use Rattle.std.proofs.Common.{◌≡◌, ℕ, zero, suc, ◌+◌, ◌*◌, ◌<◌, ◌≤◌, Bool, true, false, cond, List, [], ◌∷◌, map, length, Some, None, slice_get, slice_index_or, refl, sym, ◌∙◌, ap, arith}
+use Rattle.std.proofs.lemmas.Bool.{cond-true}
+use Rattle.sercos_model.specs.Frames.{wire_bits}
+use Rattle.sercos_timing.specs.declared.wishes.Wish.{Wish}
+use Rattle.sercos_timing.specs.Views.{PlanView}
+use Rattle.sercos_timing.specs.Order.{at_bits, record_bytes}
+use Rattle.sercos_timing.specs.Valid.{IsValid}
+use Rattle.sercos_timing.specs.Inequalities.{Fits}
+use Rattle.sercos_block.specs.declared.block.Block.{Block}
+use Rattle.sercos_block.specs.Rings.{is_ring, record_len, wish_of, wishes_of}
+use Rattle.sercos_block.specs.Views.{RingView, DriveView}
+use Rattle.sercos_block.proofs.WishLemmas.{length_wishes}
+use Rattle.sercos_command.specs.Checks.{number_at, carried_len}
+use Rattle.sercos_law_run.specs.Slots.Slots.{AtSlot, MdtSlot, Held, IsAtItsTime}
+use Rattle.sercos_law_run.specs.Slots.OnPlan.{held_of, AreOnPlan}
+use Rattle.sercos_law_run.proofs.Slots.SlotLemmas.{keeps_apart}
+use Rattle.sercos_law_run.proofs.Slots.SendingLemmas.{sends_slots}
+use Rattle.sercos_law_run.specs.Start.Held.{held_in}
+use Rattle.sercos_law_run.specs.Start.RingSlots.{held_by, AreSent, AllHold, RingKeepsApart, RingSendsApart}
+use Rattle.sercos_law_run.proofs.Start.Lengths.{are_as_long}
+use Rattle.sercos_law_run.proofs.Start.CheckPasses.{ring_drive, wish_is}
+use Rattle.sercos_law_run.proofs.Start.HeldLemmas.{holds_plan}
+
+-- the drive at a place
+record DriveAt (drives : List DriveView) (k : ℕ) : Type 0 where
+  drive : DriveView
+  is : slice_get drives k ≡ Some drive
+
+drive_at : (drives : List DriveView) (k : ℕ) → k < length drives → DriveAt drives k
+drive_at [] k in' = absurd (omega arith)
+drive_at (d ∷ drives) zero in' = record { drive = d; is = refl }
+drive_at (d ∷ drives) (suc k) in' = let found = drive_at drives k (omega arith) in record { drive = found.drive; is = found.is }
+
+count : (r : RingView) → length (wishes_of r).drives ≡ length r.drives
+unfolding wishes_of
+count r = length_wishes r.drives
+
+lengths_from : (drives : List DriveView) → map record_len drives ≡ map (λ (d : Wish). d.record_len) (map wish_of drives)
+lengths_from [] = refl
+lengths_from (d ∷ drives) = ap (λ rest. record_len d ∷ rest) (lengths_from drives)
+
+lengths : (r : RingView) → map record_len r.drives ≡ map (λ (d : Wish). d.record_len) (wishes_of r).drives
+unfolding wishes_of
+lengths r = lengths_from r.drives
+
+rate_is : (r : RingView) → (wishes_of r).rate ≡ r.rate
+unfolding wishes_of
+rate_is r = refl
+
+le_eq : (a b c : ℕ) → a ≤ b → b ≡ c → a ≤ c
+le_eq a b c h e = omega arith
+
+lt_eq : (a b c : ℕ) → a < b → b ≡ c → a < c
+lt_eq a b c h e = omega arith
+
+wire_same : (a b : ℕ) → a ≡ b → wire_bits (1 + a) ≡ wire_bits (b + 1)
+wire_same a b e = ap wire_bits (swapped a b e)
+  where
+    swapped : (a b : ℕ) → a ≡ b → 1 + a ≡ b + 1
+    swapped a b e = omega arith
+
+-- what a drive holds is the plan's
+held_is : (b : Bool) (g h : Held) → cond b (Some g) None ≡ Some h → (b ≡ true) × (g ≡ h)
+held_is true g h e = (refl, cc)
+held_is false g h e = cc
+
+on_plan : (r : RingView) (p : PlanView) (takes_part : ℕ → Bool) (stores : ℕ → List Block) (ats : List AtSlot) (mdt : MdtSlot) → is_ring r ≡ true → IsValid (wishes_of r) → Fits (wishes_of r) p
+    → AllHold r p takes_part stores → AreSent r p takes_part stores ats mdt → AreOnPlan (wishes_of r) p (held_by takes_part stores) ats mdt
+on_plan r p takes_part stores ats mdt ok valid fits hold sent =
+    record {
+      holds = λ k h in' e. holds k h in' e;
+      drives = λ i d in'. lt_eq _ _ _ (sent.senders i d in').0 (sym (count r));
+      starts = λ i d in'. start (slice_index_or ats i d) (sent.senders i d in').1 (sent.starts i d in');
+      bits = λ i d in'. bits (slice_index_or ats i d) (sent.senders i d in').0 (sent.senders i d in').1 (sent.bits i d in');
+      in_order = sent.in_order;
+      mdt_start = sent.mdt_start ∙ ap (λ rate. rate * p.t2) (sym (rate_is r));
+      mdt_bits = le_eq _ _ _ sent.mdt_bits (wire_same p.mdt_len (record_bytes (wishes_of r).drives) fits.rule_12.1);
+      records = sent.records ∙ lengths r;
+    }
+  where
+    holds : (k : ℕ) (h : Held) → k < length (wishes_of r).drives → held_by takes_part stores k ≡ Some h → h ≡ held_of p k
+    holds k h in' e =
+        let (up, same) = held_is (takes_part k) (held_in (stores k)) h e in
+        let at = drive_at r.drives k (lt_eq _ _ _ in' (count r)) in
+        sym same ∙ holds_plan r p k at.drive (stores k) valid fits at.is (hold k at.drive at.is up).1
+
+    start : (s : AtSlot) → takes_part s.drive ≡ true → s.start ≡ r.rate * number_at (stores s.drive) 6 → IsAtItsTime (wishes_of r) (held_by takes_part stores) s
+    start s up e = (held_in (stores s.drive), cond-true _ _ _ up, e ∙ ap (λ rate. rate * number_at (stores s.drive) 6) (sym (rate_is r)))
+
+    bits : (s : AtSlot) → s.drive < length r.drives → takes_part s.drive ≡ true → s.bits ≤ wire_bits (1 + carried_len (stores s.drive) 16) → s.bits ≤ at_bits (wishes_of r) s.drive
+    bits s in' up less =
+        let at = drive_at r.drives s.drive in' in
+        let there = hold s.drive at.drive at.is up in
+        let long = (are_as_long at.drive (stores s.drive) (ring_drive r s.drive at.drive ok at.is).blocks there.0).0 there.1.1.1.1.1.1.1.1.1.0 in
+        let len = ap (λ (x : Wish). x.at_len) (wish_is r s.drive at.drive at.is) in
+        le_eq _ _ _ less (wire_same _ _ (long ∙ sym len))
+
+pub ring_keeps_apart : RingKeepsApart
+ring_keeps_apart r p takes_part stores ats mdt ok valid fits hold sent =
+    keeps_apart (wishes_of r) p (held_by takes_part stores) ats mdt valid fits (on_plan r p takes_part stores ats mdt ok valid fits hold sent)
+
+pub ring_sends_apart : RingSendsApart
+ring_sends_apart r p takes_part stores ats mdt mst sent last ok valid fits hold are is =
+    sends_slots (wishes_of r) (held_by takes_part stores) ats mdt mst sent last valid is (ring_keeps_apart r p takes_part stores ats mdt ok valid fits hold are)

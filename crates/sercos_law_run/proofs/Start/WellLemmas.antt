@@ -1,0 +1,138 @@
+-- A ring's wishes are valid, and how the checks end.
+use Rattle.std.proofs.Common.{◌≡◌, ℕ, suc, ◌+◌, ◌*◌, ◌/◌, ◌%◌, ◌<◌, ◌≤◌, ◌==◌, Bool, true, false, cond, List, [], ◌∷◌, map, take, length, Option, Some, None, slice_get, option_and_then, unwrap_or, refl, ap, arith}
+use Rattle.std.specs.List.{fold, filter, All}
+use Rattle.std.proofs.lemmas.Bool.{eqb-true}
+use Rattle.std.proofs.lemmas.List.{take_all}
+use Rattle.std.proofs.lemmas.List.Elements.{All-cons, All-nil}
+use Rattle.sercos_idn.specs.declared.idn.Idn.{Idn}
+use Rattle.sercos_idn.specs.declared.attribute.Attribute.{Attribute}
+use Rattle.sercos_idn.specs.declared.kinds.Length.{Length}
+use Rattle.sercos_idn.specs.declared.kinds.Length.TheVariants.{Two, Four, List1, List2, List4}
+use Rattle.sercos_idn.specs.Codes.{item_len}
+use Rattle.sercos_block.specs.declared.block.Block.{Block}
+use Rattle.sercos_block.specs.Blocks.{is_number}
+use Rattle.sercos_block.specs.Views.{DriveView}
+use Rattle.sercos_block.specs.Rings.{HasLens, number_len, block_attribute, cyclic_len, value_len, listed_len, wish_of}
+use Rattle.sercos_block.proofs.WishLemmas.{IsValid-wishes_of}
+use Rattle.sercos_command.specs.Checks.{breaks_1, breaks_2, breaks_6, breaks_7, breaks_8, breaks_9, breaks_10, breaks_15, breaks_list, breaks_89, named, list_bytes, is_outside, unfit_for_phase_3, unfit_for_phase_4}
+use Rattle.sercos_trace.specs.declared.events.Stop.TheVariants as stop
+use Rattle.sercos_seat.specs.Agenda.{idns_in}
+use Rattle.sercos_law_run.specs.Start.Causes.{RingIsValid, ChecksEndWell, StopsWithList}
+use Rattle.sercos_law_run.proofs.Start.CheckPasses.{plan_passes_check, ring_drive, fit_in_ring}
+use Rattle.sercos_law_run.proofs.Start.LimitLemmas.{passes_for_phase_4}
+
+item_small : (l : Length) → item_len l ≤ 4
+item_small Two = omega arith
+item_small Four = omega arith
+item_small List1 = omega arith
+item_small List2 = omega arith
+item_small List4 = omega arith
+
+len_small : (o : Option Attribute) → unwrap_or (option_and_then number_len o) 0 ≤ 4
+len_small None = omega arith
+len_small (Some a) = by (is_number a)
+  where
+    by : (number : Bool) → unwrap_or (cond number (Some (item_len a.length)) None) 0 ≤ 4
+    by true = item_small a.length
+    by false = omega arith
+
+value_small : (blocks : List Block) (raw : ℕ) → value_len blocks raw ≤ 4
+unfolding cyclic_len
+value_small blocks raw = len_small (block_attribute blocks raw)
+
+sum_small : (f : Idn → ℕ) → ((i : Idn) → f i ≤ 4) → (a : ℕ) (idns : List Idn)
+    → (a ≤ fold (λ (n : ℕ) (i : Idn). n + f i) a idns) × (fold (λ (n : ℕ) (i : Idn). n + f i) a idns ≤ a + 4 * length idns)
+sum_small f small a [] = (omega arith, omega arith)
+sum_small f small a (i ∷ idns) =
+    let here = small i in
+    let (low, high) = sum_small f small (a + f i) idns in
+    (omega arith, omega arith)
+
+listed_bounds : (blocks : List Block) (idns : List Idn) → length idns ≤ 16 → (4 ≤ listed_len blocks idns) × (listed_len blocks idns ≤ 68)
+unfolding listed_len
+listed_bounds blocks idns few =
+    let (low, high) = sum_small (λ (i : Idn). value_len blocks i.raw) (λ i. value_small blocks i.raw) 0 idns in
+    (omega arith, omega arith)
+
+has_lens : (drives : List DriveView) → ((k : ℕ) (d : DriveView) → slice_get drives k ≡ Some d → (length d.at ≤ 16) × (length d.mdt ≤ 16)) → All HasLens (map wish_of drives)
+has_lens [] few = All-nil HasLens
+has_lens (d ∷ drives) few =
+    let here = few 0 d refl in
+    let at = listed_bounds d.blocks d.at here.0 in
+    let mdt = listed_bounds d.blocks d.mdt here.1 in
+    All-cons HasLens (wish_of d) (map wish_of drives) (at.0, at.1, mdt.0, mdt.1) (has_lens drives (λ k e at. few (suc k) e at))
+
+pub ring_is_valid : RingIsValid
+ring_is_valid r ok few = IsValid-wishes_of r ok (has_lens r.drives few)
+
+none_long : (xs : List Idn) → (length xs == 0) ≡ true → xs ≡ []
+none_long [] e = refl
+none_long (x ∷ xs) e = let zero' : length (x ∷ xs) ≡ 0 = eqb-true (length (x ∷ xs)) 0 e in absurd (omega arith)
+
+pub checks_end_well : ChecksEndWell
+checks_end_well r p k d blocks ok valid fits at store is holds =
+    let fit = fit_in_ring r p k d valid fits at in
+    let most = fit.cycle_end in
+    let small : r.cycle < 65536 = omega arith in
+    let rules = ring_drive r k d ok at in (
+      rw (plan_passes_check r p k d blocks ok valid fits at is holds) refl,
+      λ low high. let same = passes_for_phase_4 d blocks r.cycle store rules.blocks is holds.1.0 small low high in
+          ((λ e. same.0 (none_long (unfit_for_phase_4 blocks) e)), (λ none. rw (same.1 none) refl)),
+    )
+
+-- the lists of the checks have at most 11 entries, and at most one for each block
+named_short : (raw n : ℕ) (broken : Bool) (rest : List Idn) → length rest ≤ n → length (named raw broken rest) ≤ suc n
+named_short raw n true rest short = omega arith
+named_short raw n false rest short = omega arith
+
+eleven_short : (a b c d e f g h i j k : Bool) → length (named 1 a (named 2 b (named 6 c (named 7 d (named 8 e (named 9 f (named 10 g (named 15 h (named 16 i (named 24 j (named 89 k []))))))))))) ≤ 11
+eleven_short a b c d e f g h i j k =
+    let from_89 = named_short 89 0 k [] (omega arith) in
+    let from_24 = named_short 24 1 j _ from_89 in
+    let from_16 = named_short 16 2 i _ from_24 in
+    let from_15 = named_short 15 3 h _ from_16 in
+    let from_10 = named_short 10 4 g _ from_15 in
+    let from_9 = named_short 9 5 f _ from_10 in
+    let from_8 = named_short 8 6 e _ from_9 in
+    let from_7 = named_short 7 7 d _ from_8 in
+    let from_6 = named_short 6 8 c _ from_7 in
+    let from_2 = named_short 2 9 b _ from_6 in
+    named_short 1 10 a _ from_2
+
+unfit_short : (rate : ℕ) (blocks : List Block) → length (unfit_for_phase_3 rate blocks) ≤ 11
+unfolding unfit_for_phase_3
+unfit_short rate blocks =
+    eleven_short (breaks_1 blocks) (breaks_2 blocks) (breaks_6 blocks) (breaks_7 blocks) (breaks_8 blocks) (breaks_9 blocks) (breaks_10 blocks) (breaks_15 blocks) (breaks_list 16 blocks) (breaks_list 24 blocks) (breaks_89 rate blocks)
+
+outside_short : (p : Block → Bool) (blocks : List Block) → length (map (λ (b : Block). b.idn) (filter p blocks)) ≤ length blocks
+outside_short p [] = omega arith
+outside_short p (b ∷ blocks) = by (p b) (outside_short p blocks)
+  where
+    by : (passes : Bool) → length (map (λ (c : Block). c.idn) (filter p blocks)) ≤ length blocks → length (map (λ (c : Block). c.idn) (cond passes (b ∷ filter p blocks) (filter p blocks))) ≤ suc (length blocks)
+    by true h = omega arith
+    by false h = omega arith
+
+unfit_4_short : (blocks : List Block) → length (unfit_for_phase_4 blocks) ≤ length blocks
+unfolding unfit_for_phase_4
+unfit_4_short blocks = outside_short is_outside blocks
+
+read_back : (idns : List Idn) → idns_in (list_bytes idns) ≡ idns
+read_back [] = refl
+read_back (i ∷ idns) =
+    let same : i.raw % 256 + 256 * (i.raw / 256) ≡ i.raw = omega arith in
+    rw (same, read_back idns) refl
+
+whole : (idns : List Idn) → length idns ≤ 64 → take 64 (idns_in (list_bytes idns)) ≡ idns
+whole idns short = rw (read_back idns) (take_all 64 idns short)
+
+pub stops_with_list : StopsWithList
+stops_with_list address rate blocks store = (
+  ap (λ (idns : List Idn). Some (stop.Check127 address (record { items = idns }))) (whole (unfit_for_phase_3 rate blocks) (at_most _ 11 (unfit_short rate blocks) (omega arith))),
+  ap (λ (idns : List Idn). Some (stop.Check128 address (record { items = idns }))) (whole (unfit_for_phase_4 blocks) (four store.few)),
+)
+  where
+    at_most : (a b : ℕ) → a ≤ b → b ≤ 64 → a ≤ 64
+    at_most a b h g = omega arith
+
+    four : length blocks ≤ 57 → length (unfit_for_phase_4 blocks) ≤ 64
+    four few = at_most _ (length blocks) (unfit_4_short blocks) (omega arith)

@@ -1,0 +1,52 @@
+-- Counts, cycle by cycle.
+use Rattle.std.proofs.Common.{◌≡◌, ℕ, ◌+◌, ◌<◌, ◌≤◌, Bool, true, false, [], if◌then◌else◌, is_some, refl, arith}
+use Rattle.sercos_trace.specs.Views.{CycleView}
+use Rattle.sercos_trace.specs.declared.record.Totals.{Totals}
+use Rattle.sercos_law_run.specs.Totals.Totals.{totals_of, falls_in}
+use Rattle.sercos_law_run.specs.Totals.Counting.{AreFew, HasRoom, IsFew, none_made, with_cycle}
+
+-- nothing was made yet
+pub none_counted : none_made ≡ totals_of []
+unfolding totals_of
+none_counted = refl
+
+pub none_few : AreFew none_made 0
+none_few = record {
+  cycles = omega arith;
+  complete = omega arith;
+  refused = omega arith;
+  broken = omega arith;
+  falls = omega arith;
+  unseen = omega arith;
+}
+
+few_next : (t : Totals) (m : CycleView) (k : ℕ) → AreFew t k → IsFew m → falls_in m ≤ 1 → AreFew (with_cycle t m) (k + 1)
+few_next t m k f g falls = record {
+  cycles = omega (arith, f.cycles);
+  complete = omega (arith, f.complete, g.complete);
+  refused = omega (arith, f.refused, g.refused);
+  broken = omega (arith, f.broken, g.broken);
+  falls = omega (arith, f.falls, falls);
+  unseen = omega (arith, f.unseen, g.unseen);
+}
+
+fell_once : (m : CycleView) → falls_in m ≤ 1
+fell_once m = by (is_some m.events.fall)
+  where
+    by : (b : Bool) → (if b then 1 else 0) ≤ 1
+    by true = omega arith
+    by false = omega arith
+
+pub few_more : (t : Totals) (m : CycleView) (n : ℕ) → AreFew t n → IsFew m → AreFew (with_cycle t m) (n + 1)
+few_more t m n f g = few_next t m n f g (fell_once m)
+
+-- up to 50,000 cycles, there is room for a cycle more
+pub room_for : (t : Totals) (k : ℕ) → k < 50000 → AreFew t k → HasRoom t
+room_for t k below f = record {
+  cycles = omega (arith, f.cycles, below);
+  complete = omega (arith, f.complete, below);
+  refused = omega (arith, f.refused, below);
+  broken = omega (arith, f.broken, below);
+  falls = omega (arith, f.falls, below);
+  unseen = omega (arith, f.unseen, below);
+}

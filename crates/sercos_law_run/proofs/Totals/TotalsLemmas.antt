@@ -1,0 +1,27 @@
+-- The totals of cycles and one more.
+use Rattle.std.proofs.Common.{◌≡◌, ℕ, ◌==◌, Bool, true, false, if◌then◌else◌, List, [], ◌∷◌, ◌++◌, Option, Some, None, option_map, refl, length-append}
+use Rattle.std.specs.Option.{option_or}
+use Rattle.std.specs.List.{find}
+use Rattle.std.proofs.lemmas.List.Sums.{sum_by_push, fold-append}
+use Rattle.std.proofs.lemmas.List.Folds.{find-append}
+use Rattle.sercos_trace.specs.Views.{CycleView}
+use Rattle.sercos_law_run.specs.Totals.Totals.{totals_of, ended_in, falls_in, is_complete, is_refused, is_broken}
+use Rattle.sercos_law_run.specs.Totals.Counting.{with_cycle}
+
+in_4 : CycleView → Bool
+in_4 t = t.phase == 4
+
+map_or : (found other : Option CycleView) → option_map (λ (t : CycleView). t.cycle) (option_or found other) ≡ option_or (option_map (λ (t : CycleView). t.cycle) found) (option_map (λ (t : CycleView). t.cycle) other)
+map_or None other = refl
+map_or (Some t) other = refl
+
+first_of_one : (t : CycleView) → option_map (λ (t : CycleView). t.cycle) (find (λ (t : CycleView). t.phase == 4) (t ∷ [])) ≡ (if t.phase == 4 then Some t.cycle else None)
+first_of_one t = by (t.phase == 4)
+  where
+    by : (b : Bool) → option_map (λ (t : CycleView). t.cycle) (if b then Some t else None) ≡ (if b then Some t.cycle else None)
+    by true = refl
+    by false = refl
+
+pub totals_more : (cycles : List CycleView) (made : CycleView) → totals_of (cycles ++ made ∷ []) ≡ with_cycle (totals_of cycles) made
+unfolding totals_of
+totals_more cycles made = rw (length-append cycles (made ∷ []), fold-append (λ (before : ℕ) (t : CycleView). t.phase) 0 cycles (made ∷ []), sum_by_push (ended_in is_complete) cycles made, sum_by_push (ended_in is_refused) cycles made, sum_by_push (ended_in is_broken) cycles made, sum_by_push falls_in cycles made, sum_by_push (λ (t : CycleView). t.unseen) cycles made, find-append (λ (t : CycleView). t.phase == 4) cycles (made ∷ []), map_or (find (λ (t : CycleView). t.phase == 4) cycles) (find (λ (t : CycleView). t.phase == 4) (made ∷ [])), first_of_one made) refl

@@ -1,0 +1,151 @@
+-- The AT of a drive is whole: bytes, and no more than an AT has.
+use Rattle.std.proofs.Common.{inl, ◌≡◌, ℕ, suc, ◌+◌, ◌*◌, ◌%◌, ◌<◌, ◌≤◌, ◌==◌, nat_le, Bool, true, false, not, List, [], ◌∷◌, length, Option, Some, None, option_map, unwrap_or, refl, sym, subst, arith, if◌then◌else◌, length-append}
+use Rattle.std.specs.Prelude.{option_and_then}
+use Rattle.std.specs.List.{flat_map}
+use Rattle.std.proofs.lemmas.List.Concat.{flat_map-cons}
+use Rattle.std.proofs.lemmas.Bool.{and_parts}
+use Rattle.std.specs.Int.{to_le_bytes}
+use Rattle.sercos_model.specs.Bits.{AreBytes}
+use Rattle.sercos_model.proofs.BitLemmas.{AreBytes-append}
+use Rattle.sercos_telegram.specs.Spells.{word_bytes, fields}
+use Rattle.sercos_idn.specs.declared.idn.Idn.{Idn}
+use Rattle.sercos_idn.specs.declared.kinds.Length.{Length}
+use Rattle.sercos_idn.specs.declared.kinds.Length.TheVariants.{Two, Four, List1, List2, List4}
+use Rattle.sercos_idn.specs.Codes.{is_list, item_len}
+use Rattle.sercos_block.specs.declared.block.Block.{Block}
+use Rattle.sercos_block.specs.Blocks.{width_of, bytes_for, bits_in, number_end, is_number}
+use Rattle.sercos_block.specs.Stores.{find_block, is_sound, IsStore}
+use Rattle.sercos_block.specs.Views.{DriveView}
+use Rattle.sercos_block.proofs.SoundLemmas.{found_sound, value_len, found-carried}
+use Rattle.sercos_block.proofs.TypeLemmas.{types}
+use Rattle.sercos_command.specs.Checks.{data_at, idns_in, idns_at}
+use Rattle.sercos_service_drive.specs.Replies.{data_in}
+use Rattle.sercos_service_drive.specs.Says.{Shown, drive_says as channel_says}
+use Rattle.sercos_drive.specs.Heard.{DriveCall}
+use Rattle.sercos_drive.specs.Moments.{phase_in, cycle_in, taken_in, blocks_in, commands_in}
+use Rattle.sercos_drive.specs.Annals.{annals}
+use Rattle.sercos_drive.specs.Says.{Said, shown_word, bytes_in_cycle, value_in, values_in, sends, said, drive_says}
+use Rattle.sercos_seat.proofs.Sends.{fields_length}
+use Rattle.sercos_law_run.specs.Typed.Keeps.{Keeps}
+use Rattle.sercos_law_run.proofs.Typed.Words.{two_bytes}
+use Rattle.sercos_law_run.proofs.Typed.Replies.{data_bytes}
+
+-- a content that has a frame
+pub record IsContent (content : List ℕ) : Type 0 where
+  pub bytes : AreBytes content
+  pub some : 0 < length content
+  pub most : length content ≤ 2048
+
+pub fields_bytes : (word info : ℕ) (values : List ℕ) → AreBytes values → AreBytes (fields word info values)
+unfolding fields word_bytes
+fields_bytes word info values are = AreBytes-append (word_bytes word) _ (two_bytes word) (AreBytes-append (word_bytes info) values (two_bytes info) are)
+
+pub address_bytes : (address : ℕ) (bytes : List ℕ) → address < 256 → AreBytes bytes → AreBytes (address ∷ bytes)
+unfolding AreBytes
+address_bytes address bytes low are = (low, are)
+
+no_bytes : AreBytes []
+unfolding AreBytes
+no_bytes = tt
+
+-- A VALUE has at most four bytes
+record IsValue (bytes : List ℕ) : Type 0 where
+  are : AreBytes bytes
+  few : length bytes ≤ 4
+
+no_value : IsValue []
+no_value = record { are = no_bytes; few = omega arith }
+
+number_long : (l : Length) (n : ℕ) → length (to_le_bytes (width_of l) n) ≤ 4
+number_long Two n = omega arith
+number_long Four n = omega arith
+number_long List1 n = omega arith
+number_long List2 n = omega arith
+number_long List4 n = omega arith
+
+item_few : (l : Length) → item_len l ≤ 4
+item_few Two = omega arith
+item_few Four = omega arith
+item_few List1 = omega arith
+item_few List2 = omega arith
+item_few List4 = omega arith
+
+not_true : (b : Bool) → not b ≡ true → b ≡ false
+not_true false is = refl
+not_true true is = cc
+
+data_long : (cycle : ℕ) (b : Block) → is_list b.attribute.length ≡ false → is_sound b ≡ true → length (data_in cycle b) ≤ 4
+unfolding data_in
+data_long cycle b single sound = by (b.step == 0)
+  where
+    by : (still : Bool) → length (if still then b.value else bytes_for b.attribute ((bits_in b.attribute b.value + b.step * cycle) % number_end b.attribute.length)) ≤ 4
+    by true = let same = value_len b single sound in let few = item_few b.attribute.length in omega (arith, same, few)
+    by false = number_long b.attribute.length _
+
+block_value : (cycle : ℕ) (b : Block) → is_sound b ≡ true → AreBytes b.value → IsValue (unwrap_or (bytes_in_cycle cycle b) [])
+block_value cycle b sound are = by (is_number b.attribute) refl
+  where
+    by : (number : Bool) → is_number b.attribute ≡ number → IsValue (unwrap_or (if number then Some (data_in cycle b) else None) [])
+    by true is = record { are = data_bytes cycle b are; few = data_long cycle b (not_true _ (and_parts (not (is_list b.attribute.length)) (not b.attribute.command) is).0) sound }
+    by false is = no_value
+
+value_so : (cycle : ℕ) (blocks : List Block) (idn : Idn) → IsStore blocks → IsValue (value_in cycle blocks idn)
+unfolding value_in
+value_so cycle blocks idn store = by (find_block idn.raw blocks) refl
+  where
+    by : (o : Option Block) → find_block idn.raw blocks ≡ o → IsValue (unwrap_or (option_and_then (bytes_in_cycle cycle) o) [])
+    by None is = no_value
+    by (Some b) is = block_value cycle b (found_sound idn.raw blocks b store.sound is) (types blocks idn.raw b store is).1
+
+-- ALL VALUES: at most sixteen
+record AreValues (bytes : List ℕ) (n : ℕ) : Type 0 where
+  are : AreBytes bytes
+  few : length bytes ≤ 4 * n
+
+all_values : (cycle : ℕ) (blocks : List Block) (idns : List Idn) → IsStore blocks → AreValues (flat_map (value_in cycle blocks) idns) (length idns)
+all_values cycle blocks [] store = record { are = no_bytes; few = omega arith }
+all_values cycle blocks (idn ∷ idns) store =
+    let one = value_so cycle blocks idn store in
+    let rest = all_values cycle blocks idns store in
+    let a = one.few in
+    let b = rest.few in
+    let both = length-append (value_in cycle blocks idn) (flat_map (value_in cycle blocks) idns) in
+    subst (λ (bytes : List ℕ). AreValues bytes (suc (length idns))) (sym (flat_map-cons (value_in cycle blocks) idn idns))
+    (record { are = AreBytes-append (value_in cycle blocks idn) _ one.are rest.are; few = omega (arith, a, b, both) })
+
+pairs : (bytes : List ℕ) → 2 * length (idns_in bytes) ≤ length bytes
+pairs [] = omega arith
+pairs (low ∷ []) = omega arith
+pairs (low ∷ high ∷ bytes) = let rest = pairs bytes in omega (arith, rest)
+
+listed_long : (blocks : List Block) (o : Option Block) → IsStore blocks → find_block 16 blocks ≡ o → length (unwrap_or (option_map (λ (b : Block). b.value) o) []) ≤ 32
+listed_long blocks None store is = omega arith
+listed_long blocks (Some b) store is = found-carried 16 blocks b b.value store is refl (inl refl)
+
+values_so : (cycle phase : ℕ) (blocks : List Block) → IsStore blocks → AreValues (values_in cycle phase blocks) 16
+unfolding idns_at
+values_so cycle phase blocks store = by (nat_le 3 phase)
+  where
+    most : length (idns_at blocks 16) ≤ 16
+    most = let few = listed_long blocks (find_block 16 blocks) store refl in let half = pairs (data_at blocks 16) in omega (arith, few, half)
+
+    by : (late : Bool) → AreValues (if late then flat_map (value_in cycle blocks) (idns_at blocks 16) else []) 16
+    by true = let all = all_values cycle blocks (idns_at blocks 16) store in let few = all.few in let m = most in record { are = all.are; few = omega (arith, few, m) }
+    by false = record { are = no_bytes; few = omega arith }
+
+said_content : (address cycle phase : ℕ) (blocks : List Block) (s : Shown) → address < 256 → IsStore blocks → IsContent (said address cycle phase blocks s).content
+said_content address cycle phase blocks s low store =
+    let v = values_so cycle phase blocks store in
+    let few = v.few in
+    let long = fields_length (shown_word s) s.word (values_in cycle phase blocks) in
+    record { bytes = address_bytes address _ low (fields_bytes (shown_word s) s.word (values_in cycle phase blocks) v.are); some = omega arith; most = omega (arith, few, long) }
+
+pub at_content : (d : DriveView) (rate : ℕ) (h : List DriveCall) (s : Said) → d.address < 256 → Keeps d (annals d rate h) → drive_says d rate h ≡ Some s → IsContent s.content
+at_content d rate h s low keeps is = by (sends (annals d rate h)) is
+  where
+    x : Said
+    x = said d.address (cycle_in (annals d rate h)) (phase_in (annals d rate h)) (blocks_in d (annals d rate h)) (channel_says d.busy (cycle_in (annals d rate h)) (commands_in d rate (annals d rate h)) (taken_in (annals d rate h)))
+
+    by : (b : Bool) → (if b then Some x else None) ≡ Some s → IsContent s.content
+    by true e = let same : x ≡ s = cc in subst (λ (y : Said). IsContent y.content) same (said_content d.address (cycle_in (annals d rate h)) (phase_in (annals d rate h)) (blocks_in d (annals d rate h)) _ low keeps.store)
+    by false e = cc

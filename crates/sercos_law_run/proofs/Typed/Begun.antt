@@ -1,0 +1,242 @@
+-- Each request that the master begins is typed.
+use Rattle.std.proofs.Common.{◌≡◌, ℕ, zero, suc, ◌+◌, ◌*◌, ◌<◌, ◌≤◌, ◌==◌, Bool, true, false, ◌&&◌, List, [], ◌∷◌, ◌++◌, map, length, drop, Option, Some, None, IfSome, is_none, is_some, refl, sym, subst, arith, if◌then◌else◌}
+use Rattle.std.specs.Prelude.{slice_index, slice_get, option_map, unwrap_or}
+use Rattle.std.proofs.lemmas.List.Elements.{All-head, All-tail}
+use Rattle.sercos_idn.specs.declared.idn.Idn.{Idn}
+use Rattle.sercos_telegram.specs.declared.words.Status.{Status}
+use Rattle.sercos_telegram.specs.Words.{status_of}
+use Rattle.sercos_telegram.specs.Spells.{word_at}
+use Rattle.sercos_step.specs.declared.request.Request.{Request}
+use Rattle.sercos_step.specs.declared.request.Request.TheVariants as request
+use Rattle.sercos_step.specs.declared.request.Job.{Job}
+use Rattle.sercos_step.specs.declared.request.Outcome.{Outcome}
+use Rattle.sercos_step.specs.declared.step.Answer.{Answer}
+use Rattle.sercos_step.specs.Words.{bytes_in}
+use Rattle.sercos_timing.specs.Views.{PlanView}
+use Rattle.sercos_service_master.specs.Begun.{Begun, answers_it, answer_in, with_answer}
+use Rattle.sercos_service_master.specs.Calls.{Hear, begun_by}
+use Rattle.sercos_service_master.specs.Calls as channel
+use Rattle.sercos_seat.specs.Ring.{Known, IsKnown, MemberView, Task, member, startup, request_task, tasks_from, tasks_for}
+use Rattle.sercos_seat.specs.Agenda.{bytes_of, idn, declared_times, reads, reads_count, writes_word, writes_list, writes, ended_well, checking, agenda}
+use Rattle.sercos_seat.specs.Channel.{count_requests, of_phase}
+use Rattle.sercos_master.specs.Annals.{Call, HearMst, HearAt, Mdt, End, Restart, Past, IsPlanned, past, outcomes, is_idle, is_taken, after_taken, after_at_of, place_of, settled, has_turn, next_task, begins, with_begin, ready_to_send, is_sent_to, addressed_in, after_mdt, fall_of, next_phase, goes_on, new_epoch, still_waiting}
+use Rattle.sercos_master.proofs.Followed.{settles}
+use Rattle.sercos_law_run.specs.Typed.Typed.{IsTypedRequest, AreTypedJobs}
+use Rattle.sercos_law_run.proofs.Typed.Words.{AreWords, bytes_of_words}
+use Rattle.sercos_law_run.proofs.Typed.Steps.{AreBegun}
+use Rattle.sercos_law_run.proofs.Typed.Plans.{IsTimed, PlanWords, plan_words, AreIdns, IsMember}
+
+abbrev pub AreRequests : List Request → Type 0
+AreRequests [] = Unit {0}
+AreRequests (r ∷ requests) = IsTypedRequest r × AreRequests requests
+
+abbrev pub AreTasks : List Task → Type 0
+AreTasks [] = Unit {0}
+AreTasks (t ∷ tasks) = IsTypedRequest t.request × AreTasks tasks
+
+requests_append : (xs ys : List Request) → AreRequests xs → AreRequests ys → AreRequests (xs ++ ys)
+requests_append [] ys left right = right
+requests_append (x ∷ xs) ys left right = (left.0, requests_append xs ys left.1 right)
+
+tasks_append : (xs ys : List Task) → AreTasks xs → AreTasks ys → AreTasks (xs ++ ys)
+tasks_append [] ys left right = right
+tasks_append (x ∷ xs) ys left right = (left.0, tasks_append xs ys left.1 right)
+
+started : (phase : ℕ) (requests : List Request) → AreRequests requests → AreTasks (map (startup phase) requests)
+started phase [] are = tt
+started phase (r ∷ requests) are = (are.0, started phase requests are.1)
+
+tasks_drop : (n : ℕ) (tasks : List Task) → AreTasks tasks → AreTasks (drop n tasks)
+tasks_drop zero tasks are = are
+tasks_drop (suc n) [] are = tt
+tasks_drop (suc n) (t ∷ tasks) are = tasks_drop n tasks are.1
+
+-- THE AGENDA
+idns_append : (xs ys : List Idn) → AreIdns xs → AreIdns ys → AreIdns (xs ++ ys)
+idns_append [] ys left right = right
+idns_append (x ∷ xs) ys left right = (left.0, idns_append xs ys left.1 right)
+
+attributes_so : (idns : List Idn) → AreIdns idns → AreRequests (map (λ i. request.Read i 3) idns)
+attributes_so [] are = tt
+attributes_so (i ∷ idns) are = ((are.0, (omega arith, omega arith)), attributes_so idns are.1)
+
+reads_so : (d : MemberView) → IsMember d → AreRequests (reads d)
+reads_so d is = requests_append (map (λ raw. request.Read (idn raw) 7) declared_times) _ (
+  (omega arith, (omega arith, omega arith)),
+  (
+    (omega arith, (omega arith, omega arith)),
+    (
+      (omega arith, (omega arith, omega arith)),
+      ((omega arith, (omega arith, omega arith)), ((omega arith, (omega arith, omega arith)), ((omega arith, (omega arith, omega arith)), tt))),
+    ),
+  ),
+)
+    (attributes_so (d.at ++ d.mdt) (idns_append d.at d.mdt is.at is.mdt))
+
+word_so : (raw value : ℕ) → raw < 65536 → value < 65536 → IsTypedRequest (writes_word raw value)
+word_so raw value low small = (low, (omega arith, omega arith), bytes_of_words (value ∷ []) (small, tt), omega arith)
+
+raws : (idns : List Idn) → AreIdns idns → AreWords (map (λ i. i.raw) idns)
+raws [] are = tt
+raws (i ∷ idns) are = (are.0, raws idns are.1)
+
+raws_long : (idns : List Idn) → length (bytes_in (map (λ i. i.raw) idns)) ≡ 2 * length idns
+raws_long [] = refl
+raws_long (i ∷ idns) = let rest = raws_long idns in omega (arith, rest)
+
+list_so : (raw : ℕ) (idns : List Idn) → raw < 65536 → AreIdns idns → length idns ≤ 16 → IsTypedRequest (writes_list raw idns)
+list_so raw idns low are few = let long = raws_long idns in (low, (omega arith, omega arith), bytes_of_words (map (λ i. i.raw) idns) (raws idns are), omega (arith, long, few))
+
+writes_so : (s : Known) (p : PlanView) (k : ℕ) → IsTimed s → IsMember (member s k) → PlanWords p k → AreRequests (writes s p k)
+writes_so s p k timed is w = (
+  word_so 1 s.control (omega arith) timed.control,
+  (
+    word_so 2 s.cycle (omega arith) timed.cycle,
+    (
+      word_so 6 (slice_index p.t1 k) (omega arith) w.t1,
+      (
+        word_so 7 p.t4 (omega arith) w.t4,
+        (
+          word_so 8 p.t3 (omega arith) w.t3,
+          (
+            word_so 9 (slice_index p.position k) (omega arith) w.position,
+            (
+              word_so 10 p.mdt_len (omega arith) w.mdt_len,
+              (
+                word_so 15 7 (omega arith) (omega arith),
+                (
+                  list_so 16 (member s k).at (omega arith) is.at is.at_few,
+                  (
+                    list_so 24 (member s k).mdt (omega arith) is.mdt is.mdt_few,
+                    (word_so 89 p.t2 (omega arith) w.t2, tt),
+                  ),
+                ),
+              ),
+            ),
+          ),
+        ),
+      ),
+    ),
+  ),
+)
+
+checking_so : (phase command list : ℕ) (o : Option Outcome) (next : List Task) → command < 65536 → list < 65536 → AreTasks next → AreTasks (checking phase command list o next)
+checking_so phase command list None next low small are = (low, tt)
+checking_so phase command list (Some o) next low small are = (low, by (ended_well (bytes_of o)))
+  where
+    by : (well : Bool) → AreTasks (if well then next else startup phase (request.Read (idn list) 7) ∷ [])
+    by true = are
+    by false = ((small, (omega arith, omega arith)), tt)
+
+-- the plan's numbers are words, if there is a plan
+abbrev pub AreNumbers : Option PlanView → ℕ → Type 0
+AreNumbers plan k = IfSome plan (λ p. PlanWords p k)
+
+agenda_so : (s : Known) (plan : Option PlanView) (waiting : List Task) (k : ℕ) (outs : List Outcome) → IsTimed s → IsMember (member s k) → AreNumbers plan k → AreTasks waiting → AreTasks (agenda s plan waiting k outs)
+agenda_so s plan waiting k outs timed is numbers are = tasks_append (map (startup 2) (reads (member s k))) _ (started 2 (reads (member s k)) (reads_so (member s k) is)) (by plan numbers)
+  where
+    by : (o : Option PlanView) → AreNumbers o k → AreTasks (unwrap_or (option_map (λ p. map (startup 2) (writes s p k) ++ checking 2 127 21 (slice_get outs (reads_count (member s k) + 11)) (checking 3 128 22 (slice_get outs (reads_count (member s k) + 12)) waiting)) o) [])
+    by None numbers = tt
+    by (Some p) numbers = tasks_append (map (startup 2) (writes s p k)) _ (started 2 (writes s p k) (writes_so s p k timed is numbers))
+        (checking_so 2 127 21 (slice_get outs (reads_count (member s k) + 11)) _ (omega arith) (omega arith)
+        (checking_so 3 128 22 (slice_get outs (reads_count (member s k) + 12)) waiting (omega arith) (omega arith) are))
+
+task_there : (tasks : List Task) (i : ℕ) → AreTasks tasks → IfSome (slice_get tasks i) (λ t. IsTypedRequest t.request)
+task_there [] i are = tt
+task_there (t ∷ tasks) zero are = are.0
+task_there (t ∷ tasks) (suc i) are = task_there tasks i are.1
+
+-- THE JOBS
+jobs_so : (address i : ℕ) (jobs : List Job) → AreTypedJobs jobs → AreTasks (tasks_from address i jobs)
+jobs_so address i [] are = tt
+jobs_so address i (job ∷ jobs) are = by (job.drive == address) (jobs_so address (i + 1) jobs (All-tail (λ (j : Job). IsTypedRequest j.request) job jobs are))
+  where
+    by : (here : Bool) → AreTasks (tasks_from address (i + 1) jobs) → AreTasks (if here then request_task i job.request ∷ tasks_from address (i + 1) jobs else tasks_from address (i + 1) jobs)
+    by true rest = (All-head (λ (j : Job). IsTypedRequest j.request) job jobs are, rest)
+    by false rest = rest
+
+pub tasks_so : (s : Known) (jobs : List Job) (k : ℕ) → AreTypedJobs jobs → AreTasks (tasks_for s jobs k)
+tasks_so s jobs k are = jobs_so (member s k).address 1 jobs are
+
+-- WHAT THE MASTER LOOKS BACK ON: what waits, and what was begun
+pub record IsTypedPast (p : Past) : Type 0 where
+  pub waiting : (k : ℕ) → AreTasks (p.waiting k)
+  pub begun : (k : ℕ) → AreBegun (begun_by (p.calls k))
+
+answered : (a : Answer) (begun : List Begun) → AreBegun begun → AreBegun (with_answer a begun)
+answered a [] are = tt
+answered a (b ∷ past) are = are
+
+hears : (status : Status) (word : ℕ) (calls : List channel.Call) → AreBegun (begun_by calls) → AreBegun (begun_by (Hear status word ∷ calls))
+hears status word calls are = by (answers_it (begun_by calls) status)
+  where
+    by : (b : Bool) → AreBegun (if b then with_answer (answer_in status word) (begun_by calls) else begun_by calls)
+    by true = answered (answer_in status word) (begun_by calls) are
+    by false = are
+
+at_so : (s : Known) (place : Option ℕ) (content : List ℕ) (p : Past) → IsTypedPast p → IsTypedPast (after_at_of s place content p)
+at_so s None content p are = are
+at_so s (Some i) content p are = by (is_taken s p i content)
+  where
+    one : (identifies : Bool) (k : ℕ) → AreBegun (begun_by (if identifies then p.calls k else Hear (status_of (word_at content 1)) (word_at content 3) ∷ p.calls k))
+    one true k = are.begun k
+    one false k = hears (status_of (word_at content 1)) (word_at content 3) (p.calls k) (are.begun k)
+
+    here : (k : ℕ) (same : Bool) → AreBegun (begun_by (if same then (if p.now.phase == 1 then p.calls i else Hear (status_of (word_at content 1)) (word_at content 3) ∷ p.calls i) else p.calls k))
+    here k true = one (p.now.phase == 1) i
+    here k false = are.begun k
+
+    by : (t : Bool) → IsTypedPast (if t then after_taken i content p else p)
+    by true = record { waiting = are.waiting; begun = λ k. here k (k == i) }
+    by false = are
+
+begins_so : (s : Known) (q : Past) (k : ℕ) → IsTimed s → IsMember (member s k) → AreNumbers q.plan k → IsTypedPast q → AreBegun (begun_by (with_begin (begins s q k) (q.calls k)))
+begins_so s q k timed is numbers are = by (is_none q.stop && (is_idle q k && has_turn s q k))
+  where
+    one : (o : Option Task) → IfSome o (λ t. IsTypedRequest t.request) → AreBegun (begun_by (with_begin (of_phase q.now.phase o) (q.calls k)))
+    one None typed = are.begun k
+    one (Some t) typed = which (t.phase == q.now.phase)
+      where
+        which : (b : Bool) → AreBegun (begun_by (with_begin (if b then Some t else None) (q.calls k)))
+        which true = (typed, are.begun k)
+        which false = are.begun k
+
+    by : (b : Bool) → AreBegun (begun_by (with_begin (if b then of_phase q.now.phase (next_task s q k) else None) (q.calls k)))
+    by true = one (next_task s q k) (task_there (agenda s q.plan (q.waiting k) k (outcomes q k)) (length (outcomes q k)) (agenda_so s q.plan (q.waiting k) k (outcomes q k) timed is numbers (are.waiting k)))
+    by false = are.begun k
+
+mdt_so : (s : Known) (p : Past) → IsTimed s → ((k : ℕ) → IsMember (member s k)) → ((k : ℕ) → AreNumbers (settled s p).plan k) → IsTypedPast p → IsTypedPast (after_mdt s p)
+mdt_so s p timed is numbers are = record { waiting = settles_so.waiting; begun = λ k. by k (is_sent_to (ready_to_send s p) (addressed_in s (ready_to_send s p)) k) }
+  where
+    settles_so : IsTypedPast (settled s p)
+    settles_so = let q = settles s p in record {
+      waiting = λ k. subst (λ (w : ℕ → List Task). AreTasks (w k)) (sym q.waiting) (are.waiting k);
+      begun = λ k. subst (λ (c : ℕ → List channel.Call). AreBegun (begun_by (c k))) (sym q.calls) (are.begun k);
+    }
+
+    by : (k : ℕ) (b : Bool) → AreBegun (begun_by (if b then channel.Send ∷ (ready_to_send s p).calls k else (ready_to_send s p).calls k))
+    by k true = begins_so s (settled s p) k timed (is k) (numbers k) settles_so
+    by k false = begins_so s (settled s p) k timed (is k) (numbers k) settles_so
+
+numbers_so : (s : Known) (q : Past) (k : ℕ) → IsKnown s → IsPlanned s q → AreNumbers q.plan k
+numbers_so s q k known planned = by q.plan refl
+  where
+    by : (o : Option PlanView) → q.plan ≡ o → AreNumbers o k
+    by None is = tt
+    by (Some p) is = let made = planned p is in plan_words s (outcomes q) p k known made.fits made.planned_is
+
+new_so : (cycle : ℕ) (p : Past) → IsTypedPast p → IsTypedPast (new_epoch cycle (still_waiting p))
+new_so cycle p are = record { waiting = λ k. tasks_drop (count_requests (p.tasks k)) (p.waiting k) (are.waiting k); begun = λ k. tt }
+
+pub typed_past : (s : Known) → IsKnown s → IsTimed s → ((k : ℕ) → IsMember (member s k)) → (requests : ℕ → List Task) → ((h : List Call) → IsPlanned s (past s requests h)) → ((k : ℕ) → AreTasks (requests k)) → (h : List Call) → IsTypedPast (past s requests h)
+typed_past s known timed is requests planned are [] = record { waiting = are; begun = λ k. tt }
+typed_past s known timed is requests planned are (HearMst content ∷ h) = let before = typed_past s known timed is requests planned are h in record { waiting = before.waiting; begun = before.begun }
+typed_past s known timed is requests planned are (HearAt content ∷ h) = at_so s (place_of s (slice_index content 0)) content (past s requests h) (typed_past s known timed is requests planned are h)
+typed_past s known timed is requests planned are (Mdt ∷ h) =
+    mdt_so s (past s requests h) timed is (λ k. numbers_so s (past s requests (Mdt ∷ h)) k known (planned (Mdt ∷ h))) (typed_past s known timed is requests planned are h)
+typed_past s known timed is requests planned are (End ∷ h) = by (is_some (fall_of s (past s requests h))) (typed_past s known timed is requests planned are h)
+  where
+    by : (falls : Bool) → IsTypedPast (past s requests h) → IsTypedPast (if falls then new_epoch ((past s requests h).cycle + 1) (still_waiting (past s requests h)) else goes_on (next_phase s (past s requests h)) (past s requests h))
+    by true before = new_so ((past s requests h).cycle + 1) (past s requests h) before
+    by false before = record { waiting = before.waiting; begun = before.begun }
+typed_past s known timed is requests planned are (Restart ∷ h) = new_so (past s requests h).cycle (past s requests h) (typed_past s known timed is requests planned are h)

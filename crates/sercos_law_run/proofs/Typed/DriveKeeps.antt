@@ -1,0 +1,191 @@
+-- What a drive keeps, whatever it hears: its blocks are a store, and the records that it took fit.
+use Rattle.std.proofs.Common.{◌≡◌, ℕ, zero, suc, ◌+◌, ◌<◌, ◌≤◌, ◌==◌, nat_le, Bool, true, false, ◌&&◌, List, [], ◌∷◌, ◌++◌, length, Option, Some, None, IfSome, is_none, slice_index_or, refl, sym, subst, arith, if◌then◌else◌}
+use Rattle.std.specs.Prelude.{option_and_then}
+use Rattle.std.specs.List.{list_all}
+use Rattle.std.proofs.lemmas.Bool.{leb-true, and_parts}
+use Rattle.sercos_model.specs.Bits.{AreBytes}
+use Rattle.sercos_model.proofs.BitLemmas.{AreBytes-bytes_of}
+use Rattle.sercos_hdlc.specs.Reason.{reason_of, content_of, plain}
+use Rattle.sercos_telegram.specs.Words.{control_of, control_element}
+use Rattle.sercos_telegram.specs.Spells.{word_at}
+use Rattle.sercos_telegram.specs.Faults.{single_fault, joint_fault}
+use Rattle.sercos_block.specs.declared.block.Block.{Block}
+use Rattle.sercos_block.specs.Rules.{blocks_fault}
+use Rattle.sercos_timing.specs.Valid.{is_address}
+use Rattle.sercos_block.specs.Rings.{is_ring, is_drive, are_drives, are_drive_numbers, are_times, has_blocks}
+use Rattle.sercos_block.specs.Stores.{find_block, store_of, put_fault, is_typed, IsStore}
+use Rattle.sercos_block.specs.Views.{DriveView, RingView}
+use Rattle.sercos_command.specs.Checks.{number_at, carried_len}
+use Rattle.sercos_service_drive.specs.Log.{Taken, record_of}
+use Rattle.sercos_service_drive.specs.Writes.{AreThose, added_on}
+use Rattle.sercos_drive.specs.declared.hearing.Told.{Told}
+use Rattle.sercos_drive.specs.Heard.{DriveCall, Mst, Mdt, Restart, mst_got, told_at, single_in, joint_in, lies_within, mdt_got}
+use Rattle.sercos_drive.specs.Moments.{Moment, phase_in, cycle_in, has_mst, in_phase, with_record, taken_in, blocks_in, blocks_after, commands_in}
+use Rattle.sercos_drive.specs.Annals.{processed_in, ends_in, stands_in, annals}
+use Rattle.sercos_drive.specs.Laws.{HandedThose}
+use Rattle.sercos_script.specs.declared.link.Passage.{Passage}
+use Rattle.sercos_script.specs.Links.{Carry, Restarts}
+use Rattle.sercos_telegram.specs.declared.layout.Kind.TheVariants as kinds
+use Rattle.sercos_trace.specs.Views.{SentView, CycleView}
+use Rattle.sercos_law_run.specs.Journal.Arrivals.{arrival, content_in, heard, passage}
+use Rattle.sercos_law_run.specs.Journal.Records.{mdt_in}
+use Rattle.sercos_law_run.specs.Journal.Runs.{no_drive, drive_at, with_restart, mdt_heard, drive_calls, given_before, given_mst}
+use Rattle.sercos_law_run.proofs.Journal.StationLemmas.{drives_so}
+use Rattle.sercos_law_run.specs.Typed.Typed.{IsTyped, AreTyped}
+use Rattle.sercos_law_run.specs.Typed.Keeps.{IsTaken, AreTaken, Keeps}
+use Rattle.sercos_law_run.proofs.Typed.Words.{read_word}
+use Rattle.sercos_law_run.proofs.Typed.StoreStays.{blocks_stay}
+use Rattle.sercos_law_run.proofs.Typed.Records.{added_bytes}
+
+-- AT OPENING
+pub drive_so : (before drives : List DriveView) (k : ℕ) → are_drives before drives ≡ true → k < length drives → (others : List DriveView) × (is_drive others (slice_index_or drives k no_drive) ≡ true)
+unfolding are_drives
+drive_so before [] k are below = absurd (omega (arith, below))
+drive_so before (d ∷ drives) zero are below = (before, (and_parts _ _ are).0)
+drive_so before (d ∷ drives) (suc k) are below = drive_so (before ++ d ∷ []) drives k (and_parts _ _ are).1 (omega (arith, below))
+
+-- the first store of a drive
+abbrev pub Opens : Type 0
+Opens = (d : DriveView) → blocks_fault [] d.blocks ≡ None → length d.blocks ≤ 36 → list_all is_typed d.blocks ≡ true → d.cycle_min < 65536 → d.cycle_max < 65536 → IsStore (store_of d)
+
+no_fault : {A : Type 0} (o : Option A) → is_none o ≡ true → o ≡ None
+no_fault None is = refl
+no_fault (Some x) is = cc
+
+below_word : (n : ℕ) → n ≤ 64000 → n < 65536
+below_word n low = omega (arith, low)
+
+opened : Opens → (others : List DriveView) (d : DriveView) → is_drive others d ≡ true → IsTyped d → IsStore (store_of d)
+unfolding is_drive has_blocks are_drive_numbers
+opened opens others d is typed =
+    let rest = (and_parts _ _ is).1 in
+    let numbers = (and_parts _ _ rest).0 in
+    let blocks = (and_parts _ _ (and_parts _ _ rest).1).0 in
+    let parts : (nat_le (length d.blocks) 36 ≡ true) × (is_none (blocks_fault [] d.blocks) ≡ true) = and_parts (nat_le (length d.blocks) 36) (is_none (blocks_fault [] d.blocks)) blocks in
+    let after_address = (and_parts (is_address d.address) _ numbers).1 in
+    let after_slave = (and_parts (is_address d.slave) _ after_address).1 in
+    let after_busy = (and_parts (nat_le d.busy 20) _ after_slave).1 in
+    let after_command = (and_parts (nat_le d.command 200) _ after_busy).1 in
+    let limits = (and_parts (are_times d.times) _ after_command).1 in
+    let both : (nat_le d.cycle_min 64000 ≡ true) × (nat_le d.cycle_max 64000 ≡ true) = and_parts (nat_le d.cycle_min 64000) (nat_le d.cycle_max 64000) limits in
+    opens d (no_fault _ parts.1) (leb-true _ _ parts.0) typed.blocks (below_word _ (leb-true _ _ both.0)) (below_word _ (leb-true _ _ both.1))
+
+-- WHAT ARRIVES are bytes
+abbrev pub IsHeard : Option (List ℕ) → Type 0
+IsHeard content = IfSome content AreBytes
+
+read_bytes : (bits : List Bool) → IsHeard (content_in bits)
+unfolding content_in
+read_bytes bits = by (is_none (reason_of bits))
+  where
+    by : (read : Bool) → IsHeard (if read then Some (content_of (plain bits)) else None)
+    by true = AreBytes-bytes_of _
+    by false = tt
+
+pub heard_bytes : (carry : Carry) (p : Passage) (content : List ℕ) → IsHeard (heard carry p content)
+heard_bytes carry p content = by (arrival carry p content)
+  where
+    by : (o : Option (List Bool)) → IsHeard (option_and_then content_in o)
+    by None = tt
+    by (Some bits) = read_bytes bits
+
+abbrev pub AreHeard : List DriveCall → Type 0
+AreHeard [] = Unit {0}
+AreHeard (Mst cycle content ∷ h) = AreHeard h
+AreHeard (Mdt content ∷ h) = IsHeard content × AreHeard h
+AreHeard (Restart ∷ h) = AreHeard h
+
+restart_heard : (b : Bool) (h : List DriveCall) → AreHeard h → AreHeard (with_restart b h)
+restart_heard true h are = are
+restart_heard false h are = are
+
+mdt_bytes : (carry : Carry) (cycle station : ℕ) (mdt : Option (List ℕ)) → IsHeard (mdt_heard carry cycle station mdt)
+mdt_bytes carry cycle station None = tt
+mdt_bytes carry cycle station (Some mdt) = heard_bytes carry (passage cycle kinds.Mdt 0 station) mdt
+
+pub all_heard : (carry : Carry) (restarts : Restarts) (station : ℕ) (j : List CycleView) → AreHeard (drive_calls carry restarts station j)
+all_heard carry restarts station [] = tt
+all_heard carry restarts station (t ∷ j) = (mdt_bytes carry (length j) station (mdt_in t.sent), restart_heard (restarts (length j) station) (drive_calls carry restarts station j) (all_heard carry restarts station j))
+
+pub mst_heard : (carry : Carry) (restarts : Restarts) (sent : List SentView) (j : List CycleView) (k : ℕ) → AreHeard (given_mst carry restarts sent j k)
+mst_heard carry restarts sent j k = restart_heard (restarts (length j) (k + 1)) (given_before carry restarts j k) (all_heard carry restarts (k + 1) j)
+
+-- WHAT IS TOLD: the element and the word fit
+abbrev pub IsTold : Option Told → Type 0
+IsTold told = IfSome told (λ x. (x.control.element < 8) × (x.info < 65536))
+
+told_there : (content : List ℕ) (place : ℕ) → AreBytes content → IsTold (Some (told_at content place))
+unfolding control_of
+told_there content place are = (control_element (word_at content place), read_word content (place + 2) are)
+
+single_told : (address : ℕ) (content : List ℕ) → AreBytes content → IsTold (single_in address content)
+unfolding single_in
+single_told address content are = by (is_none (single_fault address content))
+  where
+    by : (b : Bool) → IsTold (if b then Some (told_at content 1) else None)
+    by true = told_there content 1 are
+    by false = tt
+
+joint_told : (blocks : List Block) (content : List ℕ) → AreBytes content → IsTold (joint_in blocks content)
+unfolding joint_in
+joint_told blocks content are = by (lies_within (number_at blocks 10) (number_at blocks 9) (carried_len blocks 24) && is_none (joint_fault (number_at blocks 10) content))
+  where
+    by : (b : Bool) → IsTold (if b then Some (told_at content (number_at blocks 9)) else None)
+    by true = told_there content (number_at blocks 9) are
+    by false = tt
+
+got_told : (address phase : ℕ) (blocks : List Block) (content : Option (List ℕ)) → IsHeard content → IsTold (mdt_got address phase blocks content)
+got_told address phase blocks None are = tt
+got_told address phase blocks (Some content) are = by (nat_le 3 phase)
+  where
+    by : (late : Bool) → IsTold (if late then joint_in blocks content else single_in address content)
+    by true = joint_told blocks content are
+    by false = single_told address content are
+
+-- WHAT IS KEPT after any calls
+-- each write that a record adds was allowed
+abbrev pub AreAllowed : Type 0
+AreAllowed = (t : Taken) (h : List Taken) → AreThose t.blocks h → IfSome (added_on t h) (λ w. put_fault (find_block w.raw t.blocks) t.phase w.bytes ≡ None)
+
+phase_taken : (phase : ℕ) (h : List Taken) → AreTaken h → AreTaken (in_phase phase h)
+phase_taken phase h are = by (phase == 0)
+  where
+    by : (zero : Bool) → AreTaken (if zero then [] else h)
+    by true = tt
+    by false = are
+
+processed : (d : DriveView) (rate : ℕ) (told : Option Told) (past : List Moment) → IsTold told → IsStore (blocks_in d past) → IfSome (processed_in d rate told past) (λ t. IsTaken t × (t.blocks ≡ blocks_in d past))
+processed d rate None past is store = tt
+processed d rate (Some told) past is store = by (has_mst past && nat_le 2 (phase_in past))
+  where
+    by : (b : Bool) → IfSome (if b then Some (record_of (cycle_in past) (phase_in past) told.control told.info (blocks_in d past) (commands_in d rate past)) else None) (λ t. IsTaken t × (t.blocks ≡ blocks_in d past))
+    by true = (record { blocks = store; element = is.0; word = is.1 }, refl)
+    by false = tt
+
+after_record : AreAllowed → (d : DriveView) (past : List Moment) (o : Option Taken) → Keeps d past → AreThose (blocks_in d past) (taken_in past) → IfSome o (λ t. IsTaken t × (t.blocks ≡ blocks_in d past)) →
+    IsStore (blocks_after o (taken_in past) (blocks_in d past)) × AreTaken (with_record o (taken_in past))
+after_record allowed d past None keeps those is = (keeps.store, keeps.taken)
+after_record allowed d past (Some t) keeps those is = (
+  blocks_stay (added_on t (taken_in past)) t.commands t.phase t.blocks is.0.blocks (allowed t (taken_in past) (subst (λ (b : List Block). AreThose b (taken_in past)) (sym is.1) those))
+      (added_bytes t (taken_in past) is.0.word keeps.taken),
+  (is.0, keeps.taken),
+)
+
+pub keeps_typed : AreAllowed → HandedThose → (d : DriveView) (rate : ℕ) (h : List DriveCall) → IsStore (store_of d) → AreHeard h → Keeps d (annals d rate h)
+keeps_typed allowed those d rate [] store are = record { store = store; taken = tt }
+keeps_typed allowed those d rate (Mst cycle content ∷ h) store are =
+    let before = keeps_typed allowed those d rate h store are in
+    record { store = before.store; taken = phase_taken (stands_in d rate cycle (mst_got content) (annals d rate h)) (taken_in (annals d rate h)) before.taken }
+keeps_typed allowed those d rate (Mdt content ∷ h) store are =
+    let before = keeps_typed allowed those d rate h store are.1 in
+    let told : Option Told = mdt_got d.address (phase_in (annals d rate h)) (blocks_in d (annals d rate h)) content in
+    let after = after_record allowed d (annals d rate h) (processed_in d rate told (annals d rate h)) before (those d rate h)
+    (processed d rate told (annals d rate h) (got_told d.address (phase_in (annals d rate h)) (blocks_in d (annals d rate h)) content are.0) before.store) in
+    record { store = after.0; taken = phase_taken (ends_in told (annals d rate h)) _ after.1 }
+keeps_typed allowed those d rate (Restart ∷ h) store are = record { store = (keeps_typed allowed those d rate h store are).store; taken = tt }
+
+-- a drive of a typed ring
+pub drive_keeps : Opens → AreAllowed → HandedThose → (r : RingView) → is_ring r ≡ true → AreTyped r → (k : ℕ) → k < length r.drives → (h : List DriveCall) → AreHeard h → Keeps (drive_at r k) (annals (drive_at r k) r.rate h)
+drive_keeps opens allowed those r valid typed k below h are =
+    let (others, is) = drive_so [] r.drives k (drives_so r valid) below in
+    keeps_typed allowed those (drive_at r k) r.rate h (opened opens others (drive_at r k) is (typed k below)) are

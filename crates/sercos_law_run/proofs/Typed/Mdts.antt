@@ -1,0 +1,129 @@
+-- MST and MDT are whole: bytes, and no more than a telegram has.
+use Rattle.std.proofs.Common.{◌≡◌, inl, inr, ℕ, zero, suc, ◌+◌, ◌<◌, ◌≤◌, ◌==◌, Bool, true, false, List, [], ◌∷◌, length, Option, Some, None, is_some, slice_index_or, refl, sym, ◌∙◌, ap, subst, arith, if◌then◌else◌, length-append}
+use Rattle.std.specs.Prelude.{nat_le, slice_index, option_map}
+use Rattle.std.specs.List.{All}
+use Rattle.std.proofs.lemmas.Bool.{cases_eq}
+use Rattle.std.proofs.lemmas.List.Elements.{All-head, All-tail}
+use Rattle.sercos_model.specs.Bits.{AreBytes}
+use Rattle.sercos_model.proofs.BitLemmas.{AreBytes-append, AreBytes-take}
+use Rattle.sercos_telegram.specs.Spells.{all_drives, mst_content}
+use Rattle.sercos_timing.specs.Views.{PlanView}
+use Rattle.sercos_service_master.specs.Begun.{Said}
+use Rattle.sercos_seat.specs.Ring.{Known, IsKnown, MemberView, Task, member, no_member}
+use Rattle.sercos_seat.specs.Agenda.{len_or_none, mdt_attributes}
+use Rattle.sercos_seat.specs.Records.{word_said, value_said, values_said}
+use Rattle.sercos_seat.proofs.Sends.{fields_length}
+use Rattle.sercos_master.specs.Annals.{Call, HearMst, HearAt, Mdt, End, Restart, Past, IsPlanned, past, outcomes, is_taken, after_taken, after_at_of, place_of, is_done_in, fall_of, next_phase, goes_on, new_epoch, still_waiting}
+use Rattle.sercos_master.specs.Kept.{seen_at, records_upto}
+use Rattle.sercos_master.specs.Says.{Sent, said_to, record_to, records_from, idle, single, joint, mdt_said}
+use Rattle.sercos_master.proofs.Configured.{leaves}
+use Rattle.sercos_master.proofs.Sent.{fits_planned}
+use Rattle.sercos_law_run.proofs.Typed.Ats.{IsContent, fields_bytes, address_bytes}
+
+-- THE PHASE that is commanded is at most 4
+goes_low : (s : Known) (p : Past) (phase : ℕ) → phase ≤ 4 → (if is_done_in phase s p then phase + 1 else phase) ≤ 4
+goes_low s p phase low = elim (cases_eq phase 4) [
+  | inl e ↦ rw e (omega arith)
+  | inr other ↦ by other (is_done_in phase s p)
+]
+  where
+    by : (phase ≡ 4 → ⊥) → (b : Bool) → (if b then phase + 1 else phase) ≤ 4
+    by other true = omega (arith, low, other)
+    by other false = low
+
+at_phase : (s : Known) (place : Option ℕ) (content : List ℕ) (p : Past) → p.now.phase ≤ 4 → (after_at_of s place content p).now.phase ≤ 4
+at_phase s None content p low = low
+at_phase s (Some i) content p low = by (is_taken s p i content)
+  where
+    by : (b : Bool) → (if b then after_taken i content p else p).now.phase ≤ 4
+    by true = low
+    by false = low
+
+pub phase_low : (s : Known) (requests : ℕ → List Task) (h : List Call) → (past s requests h).now.phase ≤ 4
+phase_low s requests [] = omega arith
+phase_low s requests (HearMst content ∷ h) = phase_low s requests h
+phase_low s requests (HearAt content ∷ h) = at_phase s (place_of s (slice_index content 0)) content (past s requests h) (phase_low s requests h)
+phase_low s requests (Mdt ∷ h) = subst (λ (n : ℕ). n ≤ 4) (sym (leaves s (past s requests h)).phase) (phase_low s requests h)
+phase_low s requests (End ∷ h) = by (is_some (fall_of s (past s requests h))) (phase_low s requests h)
+  where
+    by : (falls : Bool) → (past s requests h).now.phase ≤ 4 → (if falls then new_epoch ((past s requests h).cycle + 1) (still_waiting (past s requests h)) else goes_on (next_phase s (past s requests h)) (past s requests h)).now.phase ≤ 4
+    by true low = omega arith
+    by false low = goes_low s (past s requests h) (past s requests h).now.phase low
+phase_low s requests (Restart ∷ h) = omega arith
+
+pub mst_whole : (phase : ℕ) → phase ≤ 4 → IsContent (mst_content phase)
+unfolding AreBytes
+mst_whole phase low = record { bytes = (omega arith, (omega (arith, low), tt)); some = omega arith; most = omega arith }
+
+-- THE RECORDS of an MDT
+value_bytes : (cycle len : ℕ) → AreBytes (value_said cycle len)
+unfolding AreBytes
+value_bytes cycle len = AreBytes-take len _ (omega arith, (omega arith, (omega arith, (omega arith, tt))))
+
+values_bytes : (cycle : ℕ) (words : List ℕ) → AreBytes (values_said cycle words)
+unfolding AreBytes
+values_bytes cycle [] = tt
+values_bytes cycle (word ∷ words) = AreBytes-append (value_said cycle (len_or_none word)) (values_said cycle words) (value_bytes cycle (len_or_none word)) (values_bytes cycle words)
+
+records_bytes : (s : Known) (p : Past) (k n : ℕ) → AreBytes (records_from s p k n)
+unfolding AreBytes
+records_bytes s p k zero = tt
+records_bytes s p k (suc n) = AreBytes-append (record_to s p k) (records_from s p (k + 1) n)
+    (fields_bytes (word_said (said_to p k)) (said_to p k).step.word _ (values_bytes p.cycle (mdt_attributes (member s k) (outcomes p k)))) (records_bytes s p (k + 1) n)
+
+records_long : (s : Known) (p : Past) (k n : ℕ) → length (records_upto s (seen_at p) p.cycle k) + length (records_from s p k n) ≡ length (records_upto s (seen_at p) p.cycle (k + n))
+records_long s p k zero = let e : k + 0 ≡ k = omega arith in rw e (omega arith)
+records_long s p k (suc n) =
+    let one : length (records_from s p k (suc n)) ≡ length (record_to s p k) + length (records_from s p (k + 1) n) = length-append (record_to s p k) (records_from s p (k + 1) n) in
+    let next : length (records_upto s (seen_at p) p.cycle (suc k)) ≡ length (records_upto s (seen_at p) p.cycle k) + length (record_to s p k) = length-append (records_upto s (seen_at p) p.cycle k) (record_to s p k) in
+    let e : k + 1 ≡ suc k = omega arith in
+    let f : k + 1 + n ≡ k + suc n = omega arith in
+    let rest : length (records_upto s (seen_at p) p.cycle (suc k)) + length (records_from s p (k + 1) n) ≡ length (records_upto s (seen_at p) p.cycle (k + suc n)) =
+    ap (λ (i : ℕ). length (records_upto s (seen_at p) p.cycle i) + length (records_from s p (k + 1) n)) (sym e) ∙ records_long s p (k + 1) n ∙ ap (λ (i : ℕ). length (records_upto s (seen_at p) p.cycle i)) f in
+    omega (arith, one, next, rest)
+
+-- THE MDT
+member_low : (drives : List MemberView) (k : ℕ) → All (λ (d : MemberView). (1 ≤ d.address) × (d.address ≤ 254)) drives → (slice_index_or drives k no_member).address < 256
+member_low [] k all = omega arith
+member_low (d ∷ drives) zero all = let high = (All-head (λ (x : MemberView). (1 ≤ x.address) × (x.address ≤ 254)) d drives all).1 in omega (arith, high)
+member_low (d ∷ drives) (suc k) all = member_low drives k (All-tail (λ (x : MemberView). (1 ≤ x.address) × (x.address ≤ 254)) d drives all)
+
+single_whole : (s : Known) (said : Said) (k : ℕ) → IsKnown s → IsContent (single s said k).content
+unfolding AreBytes
+single_whole s said k known =
+    let long = fields_length (word_said said) said.step.word [] in
+    record { bytes = address_bytes (member s k).address _ (member_low s.drives k known.addresses) (fields_bytes (word_said said) said.step.word [] tt); some = omega arith; most = omega (arith, long) }
+
+joint_whole : (s : Known) (p : Past) (plan : PlanView) → IsPlanned s p → p.plan ≡ Some plan → IsContent (joint s p plan).content
+joint_whole s p plan planned is =
+    let fits : 1 + length (records_upto s (seen_at p) p.cycle (length s.drives)) ≤ 2048 = fits_planned s p planned (ap is_some is) in
+    let z : 0 + length s.drives ≡ length s.drives = omega arith in
+    let long : 0 + length (records_from s p 0 (length s.drives)) ≡ length (records_upto s (seen_at p) p.cycle (length s.drives)) = records_long s p 0 (length s.drives) ∙ ap (λ (i : ℕ). length (records_upto s (seen_at p) p.cycle i)) z in
+    record { bytes = address_bytes all_drives _ (omega arith) (records_bytes s p 0 (length s.drives)); some = omega arith; most = omega (arith, fits, long) }
+
+pub mdt_whole : (s : Known) (p : Past) (m : Sent) → IsKnown s → IsPlanned s p → mdt_said s p ≡ Some m → IsContent m.content
+mdt_whole s p m known planned said = first (p.now.phase == 1) said
+  where
+    same_content : (x : Sent) → Some x ≡ Some m → IsContent x.content → IsContent m.content
+    same_content x e is = let same : x ≡ m = cc in subst (λ (y : Sent). IsContent y.content) same is
+
+    to_one : (word : ℕ → Said) (o : Option ℕ) → option_map (λ i. single s (word i) i) o ≡ Some m → IsContent m.content
+    to_one word None e = cc
+    to_one word (Some i) e = same_content (single s (word i) i) e (single_whole s (word i) i known)
+
+    to_all : (o : Option PlanView) → p.plan ≡ o → option_map (joint s p) o ≡ Some m → IsContent m.content
+    to_all None has e = cc
+    to_all (Some plan) has e = same_content (joint s p plan) e (joint_whole s p plan planned has)
+
+    third : (b : Bool) → (if b then option_map (joint s p) p.plan else None) ≡ Some m → IsContent m.content
+    third true e = to_all p.plan refl e
+    third false e = cc
+
+    second : (b : Bool) → (if b then option_map (λ i. single s (said_to p i) i) p.now.addressed else (if nat_le 3 p.now.phase then option_map (joint s p) p.plan else None)) ≡ Some m → IsContent m.content
+    second true e = to_one (said_to p) p.now.addressed e
+    second false e = third (nat_le 3 p.now.phase) e
+
+    first : (b : Bool) → (if b then option_map (single s idle) p.now.addressed else (if p.now.phase == 2 then option_map (λ i. single s (said_to p i) i) p.now.addressed
+        else (if nat_le 3 p.now.phase then option_map (joint s p) p.plan else None))) ≡ Some m → IsContent m.content
+    first true e = to_one (λ i. idle) p.now.addressed e
+    first false e = second (p.now.phase == 2) e

@@ -1,0 +1,191 @@
+-- The numbers of a plan are words, and so are the identifier numbers that telegrams carry.
+use Rattle.std.proofs.Common.{◌≡◌, ◌⊎◌, inl, inr, ℕ, zero, suc, ◌%◌, ◌<◌, ◌≤◌, ◌==◌, nat_lt, nat_le, Bool, true, false, not, ◌&&◌, List, [], ◌∷◌, ◌++◌, length, Option, Some, None, is_some, slice_index_or, refl, sym, subst, arith, if◌then◌else◌}
+use Rattle.std.specs.Prelude.{slice_index, option_map, option_and_then, Ok, Err}
+use Rattle.std.specs.Option.{option_or}
+use Rattle.std.specs.List.{list_all, find}
+use Rattle.std.proofs.lemmas.Bool.{leb-true, and_parts, false≢true}
+use Rattle.std.proofs.lemmas.Bool.Decides.{nat_tests}
+use Rattle.std.proofs.lemmas.List.{get_or_past}
+use Rattle.std.proofs.lemmas.List.Elements.{All-map, All-from_get_or}
+use Rattle.sercos_idn.specs.declared.idn.Idn.{Idn}
+use Rattle.sercos_idn.specs.declared.attribute.Attribute.{Attribute}
+use Rattle.sercos_step.specs.declared.request.Outcome.{Outcome}
+use Rattle.sercos_timing.specs.Views.{WishesView, PlanView}
+use Rattle.sercos_timing.specs.Order.{record_bytes}
+use Rattle.sercos_timing.specs.Inequalities.{Fits}
+use Rattle.sercos_timing.specs.Valid.{IsValid, is_rate, is_cycle, is_control}
+use Rattle.sercos_plan.specs.LeastTimes.{is_roomy, least_plan}
+use Rattle.sercos_plan.specs.ChainOf.{planned, chain_of}
+use Rattle.sercos_plan.proofs.AnswerLemmas.{roomy_test, is_of_least}
+use Rattle.sercos_plan.proofs.PlanLemmas.{least_fits}
+use Rattle.sercos_block.specs.declared.block.Block.{Block}
+use Rattle.sercos_block.specs.declared.built_in.BuiltIn.{BuiltIn}
+use Rattle.sercos_block.specs.BuiltIns.{built_ins}
+use Rattle.sercos_block.specs.Rings.{is_ring, has_address, has_drive_numbers, has_blocks, has_ring_numbers, are_ring_numbers, is_drive, are_drives, attribute_in, row_in, built_in_attribute, own_attribute, block_attribute, number_len, cyclic_len, is_cyclic, are_cyclic}
+use Rattle.sercos_block.specs.Stores.{is_typed}
+use Rattle.sercos_block.specs.ValidRings.{IsRing}
+use Rattle.sercos_block.specs.Views.{DriveView, RingView}
+use Rattle.sercos_seat.specs.Ring.{Known, MemberView, HasLists, IsKnown, member, member_of, known_of}
+use Rattle.sercos_seat.specs.Agenda.{wishes_given}
+use Rattle.sercos_law_run.proofs.Start.PlanNumbers.{has_numbers}
+use Rattle.sercos_master.proofs.Openings.{known_of-IsRing}
+use Rattle.sercos_master.proofs.Wishes.{is_valid}
+use Rattle.sercos_law_run.specs.Journal.Runs.{no_drive}
+use Rattle.sercos_law_run.proofs.Journal.StationLemmas.{drives_so}
+use Rattle.sercos_law_run.proofs.Views.Members.{member_is}
+use Rattle.sercos_law_run.specs.Typed.Typed.{IsTyped, AreTyped}
+use Rattle.sercos_law_run.proofs.Typed.StoreStays.{raw_typed}
+
+-- THE RING THAT THE MASTER KNOWS
+pub ring_known : ((r : RingView) → is_ring r ≡ true → IsRing r) → (r : RingView) → is_ring r ≡ true → AreTyped r → IsKnown (known_of r)
+ring_known law r valid typed = known_of-IsRing r (law r valid) (All-map HasLists member_of r.drives (All-from_get_or (λ (d : DriveView). HasLists (member_of d)) r.drives no_drive (λ k below. ((typed k below).at, (typed k below).mdt))))
+
+-- its own numbers
+pub record IsTimed (s : Known) : Type 0 where
+  pub cycle : s.cycle < 65536
+  pub control : s.control < 65536
+
+pub ring_timed : (r : RingView) → IsKnown (known_of r) → is_ring r ≡ true → IsTimed (known_of r)
+unfolding is_ring are_ring_numbers
+ring_timed r known valid =
+    let numbers : has_ring_numbers r ≡ true = (and_parts (has_ring_numbers r) _ valid).0 in
+    let after_rate = (and_parts (is_rate r.rate) _ numbers).1 in
+    let after_cycle = (and_parts (is_cycle r.cycle) _ after_rate).1 in
+    let after_control = (and_parts (is_control r.cycle r.control) _ after_cycle).1 in
+    let top : r.control ≤ 64000 = leb-true r.control 64000 (and_parts (nat_le r.control 64000) _ after_control).0 in
+    record { cycle = short known.cycles.cycle; control = omega (arith, top) }
+  where
+    short : (r.cycle ≡ 125) ⊎ ((250 ≤ r.cycle) × (r.cycle ≤ 64000) × (r.cycle % 250 ≡ 0)) → r.cycle < 65536
+    short (inl e) = omega (arith, e)
+    short (inr h) = let high = h.1 in omega (arith, high)
+
+-- THE NUMBERS OF A PLAN, for one drive
+pub record PlanWords (p : PlanView) (k : ℕ) : Type 0 where
+  pub t1 : slice_index p.t1 k < 65536
+  pub t2 : p.t2 < 65536
+  pub t3 : p.t3 < 65536
+  pub t4 : p.t4 < 65536
+  pub position : slice_index p.position k < 65536
+  pub mdt_len : p.mdt_len < 65536
+
+fitting_words : (w : WishesView) (p : PlanView) (k : ℕ) → IsValid w → Fits w p → PlanWords p k
+fitting_words w p k valid fits = by (nat_lt k (length w.drives)) refl
+  where
+    some : 0 < length w.drives
+    some = valid.drives.some
+
+    make : slice_index p.t1 k < 65536 → slice_index p.position k < 65536 → PlanWords p k
+    make t1 position =
+        let n = has_numbers w p 0 valid fits some in
+        let a = n.t2_t3 in
+        let b = n.t3_end in
+        let c = n.t4 in
+        let d = n.mdt_len in
+        let e = n.cycle in
+        record { t1 = t1; t2 = omega (arith, a, b, e); t3 = omega (arith, b, e); t4 = omega (arith, c, e); position = position; mdt_len = omega (arith, d) }
+
+    by : (inside : Bool) → nat_lt k (length w.drives) ≡ inside → PlanWords p k
+    by true is =
+        let n = has_numbers w p k valid fits (grind (arith, nat_tests, is)) in
+        let a = n.t1_t2 in
+        let b = n.t2_t3 in
+        let c = n.t3_end in
+        let d = n.cycle in
+        let e = n.record_end in
+        let f = n.mdt_len in
+        make (omega (arith, a, b, c, d)) (omega (arith, e, f))
+    by false is =
+        let out : length w.drives ≤ k = grind (arith, nat_tests, is) in
+        let times = fits.times in
+        let places = fits.places in
+        let a : slice_index p.t1 k ≡ 0 = get_or_past p.t1 k 0 (omega (arith, out, times)) in
+        let b : slice_index p.position k ≡ 0 = get_or_past p.position k 0 (omega (arith, out, places)) in
+        make (omega (arith, a)) (omega (arith, b))
+
+planned_fits : (w : WishesView) (p : PlanView) → IsValid w → planned w ≡ Ok p → Fits w p
+planned_fits w p valid is = by (is_roomy w) refl is
+  where
+    by : (roomy : Bool) → is_roomy w ≡ roomy → (if roomy then Ok (least_plan w) else Err (chain_of w)) ≡ Ok p → Fits w p
+    by true roomy e = let same : least_plan w ≡ p = cc in subst (Fits w) same (least_fits w (least_plan w) valid (is_of_least w) (roomy_test w roomy))
+    by false roomy e = cc
+
+pub plan_words : (s : Known) (outs : ℕ → List Outcome) (p : PlanView) (k : ℕ) → IsKnown s → nat_le (record_bytes (wishes_given s outs).drives) 2047 ≡ true → planned (wishes_given s outs) ≡ Ok p → PlanWords p k
+plan_words s outs p k known fits is = let valid = is_valid s outs known fits in fitting_words (wishes_given s outs) p k valid (planned_fits (wishes_given s outs) p valid is)
+
+-- THE IDENTIFIER NUMBERS of what telegrams carry
+abbrev pub AreIdns : List Idn → Type 0
+AreIdns [] = Unit {0}
+AreIdns (i ∷ idns) = (i.raw < 65536) × AreIdns idns
+
+both_some : (a b : Option Attribute) → is_some (option_or a b) ≡ true → (is_some a ≡ true) ⊎ (is_some b ≡ true)
+both_some None b is = inr is
+both_some (Some x) b is = inl refl
+
+one_some : (o : Option Attribute) → is_some (option_and_then number_len o) ≡ true → is_some o ≡ true
+one_some None is = is
+one_some (Some x) is = refl
+
+row_some : (o : Option BuiltIn) → is_some (option_and_then (λ (row : BuiltIn). attribute_in row.attribute) o) ≡ true → is_some o ≡ true
+row_some None is = is
+row_some (Some x) is = refl
+
+block_some : (o : Option Block) → is_some (option_map (λ (b : Block). b.attribute) o) ≡ true → is_some o ≡ true
+block_some None is = is
+block_some (Some x) is = refl
+
+row_low : (rows : List BuiltIn) (raw : ℕ) → list_all (λ (b : BuiltIn). nat_lt b.idn.raw 65536) rows ≡ true → is_some (row_in rows raw) ≡ true → raw < 65536
+unfolding row_in
+row_low [] raw low is = absurd (false≢true is)
+row_low (b ∷ rows) raw low is = let parts = and_parts (nat_lt b.idn.raw 65536) (list_all (λ (c : BuiltIn). nat_lt c.idn.raw 65536) rows) low in by (b.idn.raw == raw) refl parts.0 is (row_low rows raw parts.1)
+  where
+    by : (same : Bool) → (b.idn.raw == raw) ≡ same → nat_lt b.idn.raw 65536 ≡ true → is_some (if same then Some b else row_in rows raw) ≡ true → (is_some (row_in rows raw) ≡ true → raw < 65536) → raw < 65536
+    by true here low is rest = grind (arith, nat_tests, here, low)
+    by false here low is rest = rest is
+
+own_low : (blocks : List Block) (raw : ℕ) → list_all is_typed blocks ≡ true → is_some (find (λ (b : Block). b.idn.raw == raw) blocks) ≡ true → raw < 65536
+own_low [] raw typed is = absurd (false≢true is)
+own_low (b ∷ blocks) raw typed is = let parts = and_parts (is_typed b) (list_all is_typed blocks) typed in by (b.idn.raw == raw) refl (raw_typed b parts.0) is (own_low blocks raw parts.1)
+  where
+    by : (same : Bool) → (b.idn.raw == raw) ≡ same → b.idn.raw < 65536 → is_some (if same then Some b else find (λ (c : Block). c.idn.raw == raw) blocks) ≡ true → (is_some (find (λ (c : Block). c.idn.raw == raw) blocks) ≡ true → raw < 65536) → raw < 65536
+    by true here low is rest = grind (arith, nat_tests, here, low)
+    by false here low is rest = rest is
+
+built_ins_low : list_all (λ (b : BuiltIn). nat_lt b.idn.raw 65536) built_ins ≡ true
+built_ins_low = refl
+
+cyclic_low : (blocks : List Block) (raw : ℕ) → list_all is_typed blocks ≡ true → is_cyclic blocks raw ≡ true → raw < 65536
+unfolding cyclic_len block_attribute built_in_attribute own_attribute
+cyclic_low blocks raw typed is = elim (both_some (built_in_attribute raw) (own_attribute blocks raw) (one_some _ is)) [
+  | inl first ↦ row_low built_ins raw built_ins_low (row_some (row_in built_ins raw) first)
+  | inr second ↦ own_low blocks raw typed (block_some _ second)
+]
+
+carried_low : (blocks : List Block) (idns : List Idn) → list_all is_typed blocks ≡ true → are_cyclic blocks idns ≡ true → AreIdns idns
+unfolding are_cyclic
+carried_low blocks [] typed are = tt
+carried_low blocks (i ∷ idns) typed are = let parts = and_parts (is_cyclic blocks i.raw) (are_cyclic blocks idns) are in (cyclic_low blocks i.raw typed parts.0, carried_low blocks idns typed parts.1)
+
+-- a drive, by what the master knows of it
+pub record IsMember (d : MemberView) : Type 0 where
+  pub at : AreIdns d.at
+  pub mdt : AreIdns d.mdt
+  pub at_few : length d.at ≤ 16
+  pub mdt_few : length d.mdt ≤ 16
+
+one_member : (before : List DriveView) (d : DriveView) → is_drive before d ≡ true → IsTyped d → IsMember (member_of d)
+unfolding is_drive
+one_member before d is typed =
+    let after_address = (and_parts (not (has_address d.address before)) _ is).1 in
+    let after_numbers = (and_parts (has_drive_numbers d) _ after_address).1 in
+    let lists : (are_cyclic d.blocks d.at && are_cyclic d.blocks d.mdt) ≡ true = (and_parts (has_blocks d) _ after_numbers).1 in
+    let parts = and_parts (are_cyclic d.blocks d.at) (are_cyclic d.blocks d.mdt) lists in
+    record { at = carried_low d.blocks d.at typed.blocks parts.0; mdt = carried_low d.blocks d.mdt typed.blocks parts.1; at_few = typed.at; mdt_few = typed.mdt }
+
+members : (before drives : List DriveView) (k : ℕ) → are_drives before drives ≡ true → ((i : ℕ) → i < length drives → IsTyped (slice_index_or drives i no_drive)) → IsMember (member_of (slice_index_or drives k no_drive))
+unfolding are_drives
+members before [] k are typed = record { at = tt; mdt = tt; at_few = omega arith; mdt_few = omega arith }
+members before (d ∷ drives) zero are typed = one_member before d (and_parts _ _ are).0 (typed 0 (omega arith))
+members before (d ∷ drives) (suc k) are typed = members (before ++ d ∷ []) drives k (and_parts _ _ are).1 (λ i below. typed (suc i) (omega (arith, below)))
+
+pub all_members : (r : RingView) (k : ℕ) → is_ring r ≡ true → AreTyped r → IsMember (member (known_of r) k)
+all_members r k valid typed = subst IsMember (sym (member_is r k)) (members [] r.drives k (drives_so r valid) typed)

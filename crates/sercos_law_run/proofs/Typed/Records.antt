@@ -1,0 +1,87 @@
+-- The records that a drive took: their elements and words fit, and their blocks are a store. So what they write are bytes.
+use Rattle.std.proofs.Common.{ℕ, zero, suc, ◌<◌, ◌==◌, Bool, true, false, not, ◌&&◌, List, [], ◌∷◌, drop, take, Option, Some, None, IfSome, option_map, if◌then◌else◌}
+use Rattle.std.specs.Prelude.{option_and_then, slice_index}
+use mathlib.Core.Bool.{beq}
+use Rattle.sercos_model.specs.Bits.{AreBytes}
+use Rattle.sercos_model.proofs.BitLemmas.{AreBytes-take}
+use Rattle.sercos_idn.specs.Codes.{is_list}
+use Rattle.sercos_step.specs.Words.{bytes_in}
+use Rattle.sercos_block.specs.declared.block.Block.{Block}
+use Rattle.sercos_block.specs.Stores.{find_block}
+use Rattle.sercos_service_drive.specs.Log.{Taken, Entry, ahs, accepted, open_idn, run_before, selection, in_order}
+use Rattle.sercos_service_drive.specs.Replies.{bytes_written, reply_of, answered, log_of}
+use Rattle.sercos_service_drive.specs.Writes.{Write, written_by, takes_effect, adds, added_on}
+use Rattle.sercos_law_run.specs.Typed.Keeps.{IsTaken, AreTaken}
+use Rattle.sercos_law_run.proofs.Typed.Words.{AreWords, bytes_of_words}
+
+abbrev pub AreEntries : List Entry → Type 0
+AreEntries [] = Unit {0}
+AreEntries (e ∷ log) = IsTaken e.taken × AreEntries log
+
+pub accepted_so : (h : List Taken) → AreTaken h → AreTaken (accepted h)
+accepted_so [] are = tt
+accepted_so (t ∷ h) are = by (beq t.mhs (ahs h)) (accepted_so h are.1)
+  where
+    by : (same : Bool) → AreTaken (accepted h) → AreTaken (if same then accepted h else t ∷ accepted h)
+    by true rest = rest
+    by false rest = (are.0, rest)
+
+pub answered_so : (h : List Taken) → AreTaken h → AreEntries (answered h)
+answered_so [] are = tt
+answered_so (t ∷ h) are = (are.0, answered_so h are.1)
+
+pub log_so : (h : List Taken) → AreTaken h → AreEntries (log_of h)
+log_so h are = answered_so (accepted h) (accepted_so h are)
+
+pub run_so : (write : Bool) (element : ℕ) (log : List Entry) → AreEntries log → AreTaken (run_before write element log)
+run_so write element [] are = tt
+run_so write element (e ∷ log) are = by (beq e.taken.step.write write && ((e.taken.step.element == element) && (not e.taken.step.last && not e.answer.error))) (run_so write element log are.1)
+  where
+    by : (goes_on : Bool) → AreTaken (run_before write element log) → AreTaken (if goes_on then e.taken ∷ run_before write element log else [])
+    by true rest = (are.0, rest)
+    by false rest = tt
+
+-- the selection of a run is one of it
+pub selection_so : (t : Taken) (run : List Taken) → IsTaken t → AreTaken run → IsTaken (selection t run)
+selection_so t [] is are = is
+selection_so t (s ∷ run) is are = selection_so s run are.0 are.1
+
+in_order_so : (run : List Taken) (words : List ℕ) → AreTaken run → AreWords words → AreWords (in_order run words)
+in_order_so [] words are fit = fit
+in_order_so (t ∷ run) words are fit = in_order_so run (t.step.word ∷ words) are.1 (are.0.word, fit)
+
+pub words_drop : (n : ℕ) (words : List ℕ) → AreWords words → AreWords (drop n words)
+words_drop zero words are = are
+words_drop (suc n) [] are = tt
+words_drop (suc n) (word ∷ words) are = words_drop n words are.1
+
+bytes_so : (b : Block) (words : List ℕ) → AreWords words → AreBytes (bytes_written b words)
+unfolding bytes_written
+bytes_so b words are = by (is_list b.attribute.length)
+  where
+    by : (list : Bool) → AreBytes (if list then take (slice_index words 0) (bytes_in (drop 2 words)) else bytes_in words)
+    by true = AreBytes-take (slice_index words 0) (bytes_in (drop 2 words)) (bytes_of_words (drop 2 words) (words_drop 2 words are))
+    by false = bytes_of_words words are
+
+-- what a record adds are bytes
+pub added_bytes : (t : Taken) (h : List Taken) → t.step.word < 65536 → AreTaken h → IfSome (added_on t h) (λ w. AreBytes w.bytes)
+added_bytes t h fits are = on (beq t.mhs (ahs h))
+  where
+    run_is : AreTaken (run_before true 7 (log_of h))
+    run_is = run_so true 7 (log_of h) (log_so h are)
+
+    found : (raw : ℕ) (o : Option Block) → IfSome {T = Write} (option_map (λ (b : Block). record { cycle = t.cycle; raw = raw; bytes = bytes_written b (in_order (run_before true 7 (log_of h)) (t.step.word ∷ [])) }) o) (λ w. AreBytes w.bytes)
+    found raw None = tt
+    found raw (Some b) = bytes_so b _ (in_order_so (run_before true 7 (log_of h)) (t.step.word ∷ []) run_is (fits, tt))
+
+    opened : (o : Option ℕ) → IfSome (option_and_then (written_by t (run_before true 7 (log_of h))) o) (λ w. AreBytes w.bytes)
+    opened None = tt
+    opened (Some raw) = found raw (find_block raw t.blocks)
+
+    effect : (b : Bool) → IfSome (if b then option_and_then (written_by t (run_before true 7 (log_of h))) (open_idn (log_of h)) else None) (λ w. AreBytes w.bytes)
+    effect true = opened (open_idn (log_of h))
+    effect false = tt
+
+    on : (same : Bool) → IfSome (if same then None else adds t (log_of h)) (λ w. AreBytes w.bytes)
+    on true = tt
+    on false = effect (takes_effect (record { taken = t; answer = reply_of t (log_of h) }))

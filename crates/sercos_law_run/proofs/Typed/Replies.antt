@@ -1,0 +1,213 @@
+-- What a drive replies, and so what it shows, are words.
+use Rattle.std.proofs.Common.{sym, ◌≡◌, ℕ, ◌+◌, ◌*◌, ◌%◌, ◌<◌, ◌≤◌, ◌==◌, nat_le, Bool, true, false, ◌&&◌, ◌||◌, List, [], ◌∷◌, length, Option, Some, None, IfSome, is_none, is_some, option_map, unwrap_or, refl, arith, if◌then◌else◌}
+use Rattle.std.specs.Prelude.{slice_index, ◌-◌}
+use Rattle.std.specs.Int.{w32, to_le_bytes}
+use Rattle.std.specs.Bool.{then_some}
+use Rattle.std.specs.Option.{option_or}
+use Rattle.std.specs.List.{list_all}
+use Rattle.std.proofs.lemmas.Bool.{and_parts}
+use Rattle.std.proofs.lemmas.Bool.Decides.{nat_tests}
+use Rattle.sercos_model.specs.Bits.{AreBytes}
+use Rattle.sercos_idn.specs.Attributes.{attribute_word}
+use Rattle.sercos_idn.specs.declared.kinds.Length.{Length}
+use Rattle.sercos_idn.specs.declared.kinds.Length.TheVariants.{Two, Four, List1, List2, List4}
+use Rattle.sercos_idn.specs.declared.attribute.Attribute.{Attribute}
+use Rattle.sercos_idn.specs.Codes.{is_list}
+use Rattle.sercos_step.specs.Words.{words_of}
+use Rattle.sercos_block.specs.declared.block.Block.{Block}
+use Rattle.sercos_block.specs.Blocks.{width_of, bytes_for, bits_in, number_end, element_of, is_fixed, is_protected}
+use Rattle.sercos_block.specs.Rules.{is_text, is_printable}
+use Rattle.sercos_block.specs.Stores.{find_block, read_fault, is_below, is_above, IsStore, is_sound}
+use Rattle.sercos_block.proofs.SoundLemmas.{SoundParts, SoundParts-is_sound, found_sound, max_len_bound}
+use Rattle.sercos_block.proofs.PutLemmas.{fits-is_len}
+use Rattle.sercos_block.proofs.TypeLemmas.{types}
+use Rattle.sercos_command.specs.declared.commands.SetCommand.{SetCommand}
+use Rattle.sercos_command.specs.Settings.{CommandsView, has_ended, find_set, status_by, status_in, change_in}
+use Rattle.sercos_service_drive.specs.Log.{Taken, Entry, accepted, ahs, opens, open_idn, run_before, selection, in_order}
+use Rattle.sercos_service_drive.specs.Replies.{good, refused, answer_by, data_in, list_words, element_words, copy, read_cause, write_cause, write_cause_in, selects, ends_early, is_over, is_uneven, is_no_setting, bytes_written, reply_on, reply_at, reply_of, answered}
+use Rattle.sercos_service_drive.specs.Says.{Shown, shown, drive_says}
+use Rattle.sercos_law_run.specs.Typed.Keeps.{IsTaken, AreTaken}
+use Rattle.sercos_law_run.proofs.Typed.Words.{AreWords, word_of, words_of_bytes, two_bytes, four_bytes}
+use Rattle.sercos_law_run.proofs.Typed.Records.{AreEntries, accepted_so, answered_so, run_so, selection_so}
+
+-- a code is a word, if there is one
+abbrev pub IsCode : Option ℕ → Type 0
+IsCode code = IfSome code (λ c. c < 65536)
+
+first_code : (a b : Option ℕ) → IsCode a → IsCode b → IsCode (option_or a b)
+first_code None b is other = other
+first_code (Some x) b is other = is
+
+code_if : (test : Bool) (code : ℕ) → code < 65536 → IsCode (then_some test code)
+code_if true code low = low
+code_if false code low = tt
+
+answer_word : (code : Option ℕ) (word : ℕ) → IsCode code → word < 65536 → (answer_by code word).word < 65536
+answer_word None word is low = low
+answer_word (Some code) word is low = is
+
+-- WRITING
+write_code : (b : Block) (phase : ℕ) (last : Bool) (words : List ℕ) → IsCode (write_cause b phase last words)
+unfolding write_cause
+write_code b phase last words =
+    first_code _ _ (code_if (selects words && is_fixed b) 0x7004 (omega arith)) (first_code _ _ (code_if (is_protected b.attribute phase) 0x7005 (omega arith))
+    (first_code _ _ (code_if (ends_early b last words) 0x7002 (omega arith)) (first_code _ _ (code_if (is_over b last words) 0x7003 (omega arith))
+    (first_code _ _ (code_if (is_uneven b words || is_no_setting b last words) 0x7008 (omega arith))
+    (first_code _ _ (code_if (last && is_below b (bytes_written b words) b.min) 0x7006 (omega arith)) (code_if (last && is_above b (bytes_written b words) b.max) 0x7007 (omega arith)))))))
+
+write_code_in : (o : Option Block) (phase : ℕ) (last : Bool) (words : List ℕ) → IsCode (write_cause_in o phase last words)
+write_code_in None phase last words = omega arith
+write_code_in (Some b) phase last words = write_code b phase last words
+
+-- READING
+printable_bytes : (text : List ℕ) → list_all is_printable text ≡ true → AreBytes text
+unfolding AreBytes
+printable_bytes [] are = tt
+printable_bytes (byte ∷ text) are =
+    let parts = and_parts (is_printable byte) (list_all is_printable text) are in
+    let high = (and_parts (nat_le 0x20 byte) (nat_le byte 0x7e) parts.0).1 in
+    (grind (arith, nat_tests, high), printable_bytes text parts.1)
+
+list_so : (longest : ℕ) (bytes : List ℕ) → longest < 65536 → length bytes < 65536 → AreBytes bytes → AreWords (list_words longest bytes)
+list_so longest bytes top fits are = (fits, (top, words_of_bytes bytes are))
+
+text_words : (most : ℕ) (text : Option (List ℕ)) → most < 65536 → is_text most text ≡ true → AreWords (list_words most (unwrap_or text []))
+unfolding AreBytes
+text_words most None low is = list_so most [] low (omega arith) tt
+text_words most (Some text) low is =
+    let rest = (and_parts (nat_le 1 (length text)) _ is).1 in
+    let parts = and_parts (nat_le (length text) most) (list_all is_printable text) rest in
+    let short = parts.0 in
+    list_so most text low (grind (arith, nat_tests, short, low)) (printable_bytes text parts.1)
+
+number_bytes : (a : Attribute) (n : ℕ) → AreBytes (bytes_for a n)
+number_bytes a n = by a.length
+  where
+    by : (l : Length) → AreBytes (to_le_bytes (width_of l) n)
+    by Two = two_bytes n
+    by Four = four_bytes n
+    by List1 = four_bytes n
+    by List2 = four_bytes n
+    by List4 = four_bytes n
+
+pub data_bytes : (cycle : ℕ) (b : Block) → AreBytes b.value → AreBytes (data_in cycle b)
+unfolding data_in
+data_bytes cycle b are = by (b.step == 0)
+  where
+    by : (still : Bool) → AreBytes (if still then b.value else bytes_for b.attribute ((bits_in b.attribute b.value + b.step * cycle) % number_end b.attribute.length))
+    by true = are
+    by false = number_bytes b.attribute _
+
+limit_words : (a : Attribute) (o : Option ℕ) → AreBytes (unwrap_or (option_map (bytes_for a) o) [])
+unfolding AreBytes
+limit_words a None = tt
+limit_words a (Some n) = number_bytes a n
+
+-- the bytes of an element, by what it is
+abbrev element_by : Block → Bool → Bool → Bool → Bool → Bool → Option (List ℕ)
+element_by b two three four five six =
+    if two then b.name
+    else (if three then Some (to_le_bytes w32 (attribute_word b.attribute))
+    else (if four then b.unit
+    else (if five then option_map (bytes_for b.attribute) b.min
+    else (if six then option_map (bytes_for b.attribute) b.max
+    else Some b.value))))
+
+element_so : (e cycle : ℕ) (b : Block) → is_sound b ≡ true → b.max_len ≤ 1024 → AreBytes b.value → AreWords (element_words e cycle b)
+unfolding element_words element_of
+element_so e cycle b sound most are = by (e == 2) (e == 3) (e == 4) (e == 5) (e == 6) (e == 7)
+  where
+    parts : SoundParts b
+    parts = SoundParts-is_sound b sound
+
+    short : length b.value ≤ 1024
+    short = fits-is_len b (length b.value) sound parts.len
+
+    own : (list : Bool) → AreWords (if list then list_words b.max_len b.value else words_of (data_in cycle b))
+    own true = let s = short in list_so b.max_len b.value (omega (arith, most)) (omega (arith, s)) are
+    own false = words_of_bytes (data_in cycle b) (data_bytes cycle b are)
+
+    by : (two three four five six seven : Bool) → AreWords (
+        if two then list_words 60 (unwrap_or (element_by b two three four five six) [])
+        else (if four then list_words 12 (unwrap_or (element_by b two three four five six) [])
+        else (if seven then (if is_list b.attribute.length then list_words b.max_len b.value else words_of (data_in cycle b))
+        else words_of (unwrap_or (element_by b two three four five six) []))))
+    by true three four five six seven = text_words 60 b.name (omega arith) parts.name
+    by false false true five six seven = text_words 12 b.unit (omega arith) parts.unit
+    by false true true five six seven = list_so 12 _ (omega arith) (omega arith) (four_bytes (attribute_word b.attribute))
+    by false three false five six true = own (is_list b.attribute.length)
+    by false true false five six false = words_of_bytes _ (four_bytes (attribute_word b.attribute))
+    by false false false true six false = words_of_bytes _ (limit_words b.attribute b.min)
+    by false false false false true false = words_of_bytes _ (limit_words b.attribute b.max)
+    by false false false false false false = words_of_bytes b.value are
+
+found_so : (raw e cycle : ℕ) (blocks : List Block) (o : Option Block) → IsStore blocks → find_block raw blocks ≡ o → AreWords (unwrap_or (option_map (element_words e cycle) o) [])
+found_so raw e cycle blocks None store is = tt
+found_so raw e cycle blocks (Some b) store is = element_so e cycle b (found_sound raw blocks b store.sound is) (max_len_bound raw blocks b store (sym is)) (types blocks raw b store is).1
+
+status_small : (time : ℕ) (o : Option SetCommand) (cycle : ℕ) → status_by time o cycle < 65536
+status_small time None cycle = omega arith
+status_small time (Some s) cycle = by (has_ended time cycle s) s.well
+  where
+    by : (ended well : Bool) → (if ended then (if well then 3 else 15) else 7) < 65536
+    by true true = omega arith
+    by true false = omega arith
+    by false well = omega arith
+
+copy_so : (raw : ℕ) (t : Taken) → IsTaken t → AreWords (copy raw t)
+copy_so raw t is = by (t.step.element == 1)
+  where
+    by : (status : Bool) → AreWords (if status then status_in t.commands raw t.cycle ∷ [] else unwrap_or (option_map (element_words t.step.element t.cycle) (find_block raw t.blocks)) [])
+    by true = (status_small t.commands.time (find_set raw t.commands.set) t.cycle, tt)
+    by false = found_so raw t.step.element t.cycle t.blocks (find_block raw t.blocks) is.blocks refl
+
+missing_so : (e : ℕ) (o : Option Block) → e < 8 → IsCode (read_fault o e)
+missing_so e None low = omega arith
+missing_so e (Some b) low = code_if (is_none (element_of b e)) (0x1000 * e + 1) (omega (arith, low))
+
+read_code : (raw : ℕ) (t : Taken) → IsTaken t → IsCode (read_cause raw t)
+read_code raw t is = by (t.step.element == 1)
+  where
+    by : (status : Bool) → IsCode (if status then None else read_fault (find_block raw t.blocks) t.step.element)
+    by true = tt
+    by false = missing_so t.step.element (find_block raw t.blocks) is.element
+
+-- THE REPLY
+reply_so : (raw : ℕ) (t : Taken) (run : List Taken) → IsTaken t → AreTaken run → (reply_on raw t run).word < 65536
+reply_so raw t run is are = by t.step.write
+  where
+    to_write : (seven : Bool) → IsCode (if seven then write_cause_in (find_block raw t.blocks) t.phase t.step.last (in_order run (t.step.word ∷ [])) else Some (0x1000 * t.step.element + 4))
+    to_write true = write_code_in (find_block raw t.blocks) t.phase t.step.last (in_order run (t.step.word ∷ []))
+    to_write false = let low = is.element in omega (arith, low)
+
+    by : (write : Bool) → (if write then answer_by (if t.step.element == 7 then write_cause_in (find_block raw t.blocks) t.phase t.step.last (in_order run (t.step.word ∷ [])) else Some (0x1000 * t.step.element + 4)) 0
+        else answer_by (read_cause raw (selection t run)) (slice_index (copy raw (selection t run)) (length run))).word < 65536
+    by true = answer_word _ 0 (to_write (t.step.element == 7)) (omega arith)
+    by false =
+        let one = selection_so t run is are in
+        answer_word (read_cause raw (selection t run)) _ (read_code raw (selection t run) one) (word_of (copy raw (selection t run)) (length run) (copy_so raw (selection t run) one))
+
+reply_word : (t : Taken) (log : List Entry) → IsTaken t → AreEntries log → (reply_of t log).word < 65536
+reply_word t log is are = by (opens t.step) (is_some (find_block t.step.word t.blocks)) (t.step.element == 0)
+  where
+    on : (o : Option ℕ) → (reply_at o t (run_before t.step.write t.step.element log)).word < 65536
+    on None = omega arith
+    on (Some raw) = reply_so raw t (run_before t.step.write t.step.element log) is (run_so t.step.write t.step.element log are)
+
+    by : (opening there closes : Bool) → (if opening then (if there then good 0 else refused 0x1001) else (if closes then good 0 else reply_at (open_idn log) t (run_before t.step.write t.step.element log))).word < 65536
+    by true true closes = omega arith
+    by true false closes = omega arith
+    by false there true = omega arith
+    by false there false = on (open_idn log)
+
+-- WHAT IS SHOWN
+either : (b : Bool) (x y : Shown) → x.word < 65536 → y.word < 65536 → (if b then x else y).word < 65536
+either true x y low other = low
+either false x y low other = other
+
+pub shows_word : (busy cycle : ℕ) (commands : CommandsView) (h : List Taken) → AreTaken h → (drive_says busy cycle commands h).word < 65536
+shows_word busy cycle commands h are = by (accepted h) (accepted_so h are)
+  where
+    by : (a : List Taken) → AreTaken a → (shown busy cycle (ahs h) (change_in commands cycle) (answered a)).word < 65536
+    by [] are = omega arith
+    by (t ∷ a) are = either (nat_le (cycle - t.cycle) busy) _ _ (omega arith) (reply_word t (answered a) are.0 (answered_so a are.1))

@@ -1,0 +1,167 @@
+-- To which drive an MDT is, and that the drive gets of it what it is told.
+use Rattle.std.proofs.Common.{◌≡◌, inl, inr, ℕ, zero, suc, ◌+◌, ◌<◌, ◌≤◌, Bool, true, false, not, ◌&&◌, ◌||◌, List, [], ◌∷◌, length, Option, Some, None, refl, sym, ◌∙◌, ap, arith, if◌then◌else◌}
+use Rattle.std.specs.Prelude.{◌==◌, nat_le, is_some, is_none, option_map}
+use Rattle.std.proofs.lemmas.Bool.{cases_eq, and_from, eqb-true, false≢true, cond-true, cond-false}
+use Rattle.std.proofs.lemmas.Bool.Decides.{nat_tests}
+use Rattle.sercos_timing.specs.Views.{PlanView}
+use Rattle.sercos_block.specs.declared.block.Block.{Block}
+use Rattle.sercos_block.specs.Rings.{is_ring}
+use Rattle.sercos_block.specs.Views.{RingView}
+use Rattle.sercos_service_master.specs.Begun.{Said, open_in, master_says}
+use Rattle.sercos_service_master.specs.Calls.{Send, begun_by}
+use Rattle.sercos_service_master.specs.Calls as channel
+use Rattle.sercos_drive.specs.declared.hearing.Told.{Told}
+use Rattle.sercos_drive.specs.Heard.{mdt_got}
+use Rattle.sercos_seat.specs.Channel.{is_place}
+use Rattle.sercos_seat.specs.Records.{record_said}
+use Rattle.sercos_seat.specs.Ring.{Known, MemberView, member, known_of}
+use Rattle.sercos_master.specs.Annals.{Past, first_from, first_place, place_of, is_idle, is_identified, in_turn, ready_to_send, is_sent_to, addressed_in, after_mdt}
+use Rattle.sercos_master.specs.Says.{Sent, idle, said_to, single, joint, mdt_said}
+use Rattle.sercos_law_run.specs.Agenda.Turns.{HasTurn}
+use Rattle.sercos_law_run.specs.Journal.Runs.{drive_at}
+use Rattle.sercos_law_run.specs.Views.RingViews.{is_told, told_to}
+use Rattle.sercos_law_run.proofs.Views.DriveSame.{said_to as said_by_told}
+use Rattle.sercos_law_run.proofs.Views.Members.{member_is, members_count, place_is}
+use Rattle.sercos_law_run.proofs.Views.Codecs.{single_clear}
+use Rattle.sercos_law_run.proofs.Views.Received.{Agrees, IsSayable, joint_got}
+use Rattle.sercos_law_run.proofs.Headline.ApartCycles.{joint_said}
+
+-- if some place passes the test, one is found
+record Finds (k n : ℕ) (test : ℕ → Bool) : Type 0 where
+  place : ℕ
+  found : first_from k n test ≡ Some place
+  below : place < k + n
+  passes : test place ≡ true
+
+finds : (k n i : ℕ) (test : ℕ → Bool) → k ≤ i → i < k + n → test i ≡ true → Finds k n test
+finds k zero i test low high passes = absurd (omega (arith, low, high))
+finds k (suc n) i test low high passes = by (test k) refl (λ above. finds (k + 1) n i test above (omega (arith, high)) passes)
+  where
+    by : (b : Bool) → test k ≡ b → (k + 1 ≤ i → Finds (k + 1) n test) → Finds k (suc n) test
+    by true is next = record { place = k; found = cond-true (test k) (Some k) (first_from (k + 1) n test) is; below = omega arith; passes = is }
+    by false is next =
+        let later = next (elim (cases_eq k i) [ inl same ↦ absurd (false≢true (sym is ∙ ap test same ∙ passes)) | inr other ↦ omega (arith, low, other) ]) in
+        let less = later.below in
+        record { place = later.place; found = cond-false (test k) (Some k) (first_from (k + 1) n test) is ∙ later.found; below = omega (arith, less); passes = later.passes }
+
+-- the drive at a place is found by its address
+pub place_found : (r : RingView) (k : ℕ) → is_ring r ≡ true → k < length r.drives → place_of (known_of r) (drive_at r k).address ≡ Some k
+place_found r k valid below =
+    let count = members_count r in
+    let same : ((drive_at r k).address == (drive_at r k).address) ≡ true = grind (arith, nat_tests) in
+    let mine : ((member (known_of r) k).address == (drive_at r k).address) ≡ true = ap (λ (m : MemberView). m.address == (drive_at r k).address) (member_is r k) ∙ same in
+    let one = finds 0 (length (known_of r).drives) k (λ i. (member (known_of r) i).address == (drive_at r k).address) (omega arith) (omega (arith, below, count)) mine in
+    by one.place one.found
+  where
+    by : (m : ℕ) → place_of (known_of r) (drive_at r k).address ≡ Some m → place_of (known_of r) (drive_at r k).address ≡ Some k
+    by m found = found ∙ ap (λ (i : ℕ). Some i) (sym (place_is r k m valid below found))
+
+pub place_so : (k : ℕ) (o : Option ℕ) → is_place k o ≡ true → o ≡ Some k
+place_so k None is = cc
+place_so k (Some i) is = ap (λ (n : ℕ). Some n) (sym (eqb-true k i is))
+
+pub place_some : (k : ℕ) (o : Option ℕ) → o ≡ Some k → is_place k o ≡ true
+place_some k o is = let same : (k == k) ≡ true = grind (arith, nat_tests) in ap (is_place k) is ∙ same
+
+not_true : (a : Bool) → not a ≡ true → a ≡ false
+not_true false is = refl
+not_true true is = cc
+
+-- PHASE 2. Sending changes nothing of what a channel has begun.
+idle_same : (s : Known) (p : Past) (k : ℕ) → is_idle (after_mdt s p) k ≡ is_idle (ready_to_send s p) k
+idle_same s p k = by (is_sent_to (ready_to_send s p) (addressed_in s (ready_to_send s p)) k) ((ready_to_send s p).calls k)
+  where
+    by : (b : Bool) (calls : List channel.Call) → is_none (open_in (begun_by (if b then Send ∷ calls else calls))) ≡ is_none (open_in (begun_by calls))
+    by true calls = refl
+    by false calls = refl
+
+addressed_two : (s : Known) (p : Past) → p.now.phase ≡ 2 → addressed_in s p ≡ first_place s (λ k. not (is_idle p k))
+addressed_two s p two =
+    ap (λ (n : ℕ). if n == 1 then first_place s (λ k. not (is_identified p k)) else (if n == 2 then first_place s (λ k. not (is_idle p k)) else None)) two
+
+-- The MDT is to the drive whose step is open, since no other channel has one.
+pub addressed_open : (s : Known) (p : Past) (k : ℕ) → k < length s.drives → ((i : ℕ) → i < length s.drives → HasTurn s (after_mdt s p) i) → (after_mdt s p).now.phase ≡ 2 → is_idle (after_mdt s p) k ≡ false → (after_mdt s p).now.addressed ≡ Some k
+addressed_open s p k below turns two opens =
+    let q = ready_to_send s p in
+    let one = finds 0 (length s.drives) k (λ i. not (is_idle q i)) (omega arith) (omega (arith, below)) (ap (λ (b : Bool). not b) (sym (idle_same s p k) ∙ opens)) in
+    let high = one.below in
+    let other : is_idle (after_mdt s p) one.place ≡ false = idle_same s p one.place ∙ not_true (is_idle q one.place) one.passes in
+    let here : in_turn s (after_mdt s p) ≡ Some k = turns k below two opens in
+    let there : in_turn s (after_mdt s p) ≡ Some one.place = turns one.place (omega (arith, high)) two other in
+    addressed_two s q two ∙ one.found ∙ sym there ∙ here
+
+-- WHAT IS TOLD. In phases 3 and 4 each drive is told something, in phases 1 and 2 the one to which the MDT is.
+pub told_if : (p : Past) (k : ℕ) → is_told p k ≡ true → is_some (told_to p k) ≡ true
+told_if p k is = ap (λ (b : Bool). is_some (if b then Some (master_says (begun_by (p.calls k))) else None)) is
+
+pub told_then : (p : Past) (k : ℕ) → is_some (told_to p k) ≡ true → is_told p k ≡ true
+told_then p k = by (is_told p k)
+  where
+    by : (b : Bool) → is_some (if b then Some (master_says (begun_by (p.calls k))) else None) ≡ true → b ≡ true
+    by true some = refl
+    by false some = cc
+
+pub told_late : (p : Past) (k : ℕ) (plan : PlanView) → 3 ≤ p.now.phase → p.plan ≡ Some plan → is_told p k ≡ true
+told_late p k plan late has =
+    let three : nat_le 3 p.now.phase ≡ true = grind (arith, nat_tests, late) in
+    ap (λ (b : Bool). b || is_place k p.now.addressed) (and_from (nat_le 3 p.now.phase) (is_some p.plan) three (ap (λ (o : Option PlanView). is_some o) has))
+
+pub told_one : (p : Past) (k : ℕ) → p.now.addressed ≡ Some k → is_told p k ≡ true
+told_one p k to = by (nat_le 3 p.now.phase && is_some p.plan) (place_some k p.now.addressed to)
+  where
+    by : (a : Bool) → is_place k p.now.addressed ≡ true → (a || is_place k p.now.addressed) ≡ true
+    by true here = refl
+    by false here = here
+
+pub told_early : (p : Past) (k : ℕ) → p.now.phase ≤ 2 → is_told p k ≡ true → p.now.addressed ≡ Some k
+told_early p k early told =
+    let late : nat_le 3 p.now.phase ≡ false = grind (arith, nat_tests, early) in
+    place_so k p.now.addressed (sym (ap (λ (b : Bool). (b && is_some p.plan) || is_place k p.now.addressed) late) ∙ told)
+
+-- THE MDT THAT A DRIVE IS TOLD IN. A drive in the commanded phase gets its record of it.
+pub record IsTold (r : RingView) (p : Past) (k : ℕ) (blocks : List Block) : Type 0 where
+  pub sent : Sent
+  pub said : mdt_said (known_of r) p ≡ Some sent
+  pub got : is_some (mdt_got (drive_at r k).address p.now.phase blocks (Some sent.content)) ≡ true
+
+some_got : (o : Option Told) (said : Said) → option_map said_by_told o ≡ Some said → is_some o ≡ true
+some_got None said is = cc
+some_got (Some t) said is = refl
+
+pub told_got : (r : RingView) (p : Past) (k : ℕ) (blocks : List Block) → is_ring r ≡ true → k < length r.drives → 1 ≤ p.now.phase → is_told p k ≡ true → ((i : ℕ) → IsSayable (said_to p i))
+    → (3 ≤ p.now.phase → (plan : PlanView) × (p.plan ≡ Some plan) × Agrees (known_of r) p k blocks) → IsTold r p k blocks
+told_got r p k blocks valid below some told small planned = third (nat_le 3 p.now.phase) refl
+  where
+    s : Known
+    s = known_of r
+
+    -- an MDT to one drive
+    to_one : (word : Said) → IsSayable word → p.now.phase ≤ 2 → mdt_said (known_of r) p ≡ Some (single s word k) → IsTold r p k blocks
+    to_one word (low, sixteen) early said = record {
+      sent = single s word k;
+      said = said;
+      got = some_got (mdt_got (drive_at r k).address p.now.phase blocks (Some (single s word k).content)) word
+          (ap (λ (m : MemberView). option_map said_by_told (mdt_got (drive_at r k).address p.now.phase blocks (Some (m.address ∷ record_said word [])))) (member_is r k)
+          ∙ single_clear word (drive_at r k).address p.now.phase blocks early low sixteen);
+    }
+
+    early_by : (one : Bool) → (p.now.phase == 1) ≡ one → p.now.phase ≤ 2 → p.now.addressed ≡ Some k → IsTold r p k blocks
+    early_by true is early to = to_one idle (omega arith, omega arith) early (rw (is, to) refl)
+    early_by false is early to =
+        let two : (p.now.phase == 2) ≡ true = grind (arith, nat_tests, is, early, some) in
+        to_one (said_to p k) (small k) early (rw (is, two, to) refl)
+
+    third : (late : Bool) → nat_le 3 p.now.phase ≡ late → IsTold r p k blocks
+    third true is =
+        let late : 3 ≤ p.now.phase = grind (arith, nat_tests, is) in
+        let (plan, has, agrees) = planned late in
+        let count = members_count r in
+        record {
+          sent = joint s p plan;
+          said = joint_said s p plan late has;
+          got = some_got (mdt_got (drive_at r k).address p.now.phase blocks (Some (joint s p plan).content)) (said_to p k)
+              (joint_got s p k (drive_at r k).address p.now.phase blocks (omega (arith, below, count)) late (small k) agrees);
+        }
+    third false is =
+        let early : p.now.phase ≤ 2 = grind (arith, nat_tests, is) in
+        early_by (p.now.phase == 1) refl early (told_early p k early told)

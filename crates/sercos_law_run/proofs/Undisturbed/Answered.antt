@@ -1,0 +1,164 @@
+-- In an undisturbed epoch answers come in time, no request is broken, and requests take no more cycles than they cost.
+use Rattle.std.proofs.Common.{◌≡◌, ◌⊎◌, inl, inr, ℕ, ◌+◌, ◌<◌, ◌≤◌, Bool, true, false, if◌then◌else◌, List, [], ◌∷◌, ◌++◌, length, Option, Some, None, refl, sym, ap, ◌∙◌, subst, arith}
+use Rattle.std.specs.Prelude.{is_some}
+use Rattle.sercos_step.specs.declared.request.Job.{Job}
+use Rattle.sercos_idn.specs.declared.code.Code.{Code}
+use Rattle.sercos_step.specs.declared.request.Request.{Request}
+use Rattle.sercos_step.specs.declared.request.Outcome.{Outcome}
+use Rattle.sercos_step.specs.declared.request.Outcome.TheVariants as outcome
+use Rattle.sercos_step.specs.declared.step.Answer.{Answer}
+use Rattle.sercos_step.specs.Steps.{answer_words, is_whole, outcome_of}
+use Rattle.sercos_block.specs.Stores.{store_of}
+use Rattle.sercos_block.specs.Views.{RingView}
+use Rattle.sercos_service_master.specs.Begun.{Begun, answers_it}
+use Rattle.sercos_service_master.specs.Calls.{begun_by}
+use Rattle.sercos_trace.specs.Views.{CycleView, EventsView}
+use Rattle.sercos_trace.specs.declared.events.Fall.{Fall}
+use Rattle.sercos_seat.specs.Ring.{Known, Task, known_of}
+use Rattle.sercos_seat.specs.Channel.{Report}
+use Rattle.sercos_master.specs.Annals.{Past, Call, fall_of}
+use Rattle.sercos_master.specs.Reports.{broken, events_told}
+use Rattle.sercos_script.specs.Links.{Carry, Restarts}
+use Rattle.sercos_law_channel.specs.Handshake.Views.{Heard, View}
+use Rattle.sercos_law_channel.specs.Handshake.Epochs.{epoch_begun}
+use Rattle.sercos_law_channel.specs.Handshake.RunLaws.{ComesUp}
+use Rattle.sercos_law_channel.specs.Handshake.WholeRun.{AreSound}
+use Rattle.sercos_law_channel.specs.Pace.Stretches.{AreClean, open_since}
+use Rattle.sercos_law_channel.proofs.Theorems.{nothing_old}
+use Rattle.sercos_law_channel.specs.Pace.Passages.{StaysClean}
+use Rattle.sercos_law_channel.specs.Pace.Ages.{age_in, AgesInTime, AnswersAtAge}
+use Rattle.sercos_law_channel.specs.Pace.ChannelCalls.{NoneLate}
+use Rattle.sercos_law_channel.specs.Pace.Costs.{AreListed, AreTimed, ComesTimed, cost_of, cost_in}
+use Rattle.sercos_law_channel.specs.Pace.StartCosts.{StartsInCost}
+use Rattle.sercos_law_run.specs.Journal.Runs.{drive_at, no_events, master_calls, restart_events, IsRun, IsClear}
+use Rattle.sercos_law_run.specs.Agenda.Turns.{WorkInTurn}
+use Rattle.sercos_law_run.specs.Agenda.Reported.{IsReportOf, with_told, told_at_end}
+use Rattle.sercos_law_run.specs.Agenda.Events.{HasOutcome, HasReport}
+use Rattle.sercos_law_run.specs.Views.RingViews.{behind_mdt, view_of, views_of}
+use Rattle.sercos_law_run.proofs.Views.Members.{members_count}
+use Rattle.sercos_law_run.specs.Held.Opened.{IsOpened}
+use Rattle.sercos_law_run.proofs.Held.Runs.{Laws, small}
+use Rattle.sercos_law_run.specs.Headline.Headline.{KeepsAll}
+use Rattle.sercos_law_run.proofs.Headline.HeadlineRuns.{MoreLaws, all_stand, first_store, keeps_all}
+use Rattle.sercos_law_run.specs.Undisturbed.Undisturbed.{AreUndisturbed}
+use Rattle.sercos_law_run.specs.Undisturbed.EpochStarts.{StartsEpoch}
+use Rattle.sercos_law_run.specs.Undisturbed.ViewsSince.{views_since}
+use Rattle.sercos_law_run.specs.Undisturbed.StartUps.{TellsNoFall}
+use Rattle.sercos_law_run.proofs.Undisturbed.CommandRuns.{first_commands}
+use Rattle.sercos_law_run.proofs.Undisturbed.PassedRuns.{commands_so}
+use Rattle.sercos_law_run.proofs.Undisturbed.Carried.{are_carried}
+use Rattle.sercos_law_run.proofs.Undisturbed.PassedCycles.{views_split}
+use Rattle.sercos_law_run.proofs.Undisturbed.NeverFalls.{begins_so, runs_split, never_falls}
+use Rattle.sercos_law_run.proofs.Undisturbed.Comes.{none_below}
+use Rattle.sercos_law_run.proofs.Undisturbed.Small.{both_off}
+
+young_so : (age same first most : ℕ) → age ≡ same → same ≤ first + most → first ≡ 0 → age ≤ most
+young_so age same first most is young none = omega (arith, is, young, none)
+
+-- no answers end a request as broken
+unbroken_by : (error whole : Bool) (refused complete : Outcome) → (refused ≡ outcome.Broken → ⊥) → (complete ≡ outcome.Broken → ⊥) → (if error then Some refused else (if whole then Some complete else None)) ≡ Some outcome.Broken → ⊥
+unbroken_by true whole refused complete no_refused no_complete is = let same : refused ≡ outcome.Broken = cc in no_refused same
+unbroken_by false true refused complete no_refused no_complete is = let same : complete ≡ outcome.Broken = cc in no_complete same
+unbroken_by false false refused complete no_refused no_complete is = cc
+
+never_refused : (c : Code) → outcome.Refused c ≡ outcome.Broken → ⊥
+never_refused c same = cc
+
+never_complete : (bytes : List ℕ) → outcome.Complete bytes ≡ outcome.Broken → ⊥
+never_complete bytes same = cc
+
+outcome_unbroken : (q : Request) (answers : List Answer) → outcome_of q answers ≡ Some outcome.Broken → ⊥
+outcome_unbroken q [] is = cc
+outcome_unbroken q (a ∷ answers) is = unbroken_by a.error (is_whole q (answer_words answers ++ a.word ∷ [])) _ _ (never_refused _) (never_complete _) is
+
+not_broken : (x : Report) (begun : List Begun) (tasks : List Task) → x.outcome ≡ outcome.Broken → IsReportOf x begun tasks → ⊥
+not_broken x (b ∷ older) (t ∷ tasks) is (inl same) = outcome_unbroken b.request b.answers (same.1 ∙ ap (λ (o : Outcome). Some o) is)
+not_broken x (b ∷ older) (t ∷ tasks) is (inr other) = not_broken x older tasks is other
+not_broken x [] tasks is report = report
+not_broken x (b ∷ older) [] is report = report
+
+no_fall_told : (s : Known) (p : Past) (e : EventsView) → fall_of s p ≡ None → e.fall ≡ None → (events_told s p e).fall ≡ None
+no_fall_told s p e none before = rw (none, before) refl
+
+quiet_so : (r : RingView) (jobs : List Job) (restarts : Restarts) (cycle : ℕ) (h : List Call) → restarts cycle 0 ≡ false → restart_events r jobs restarts cycle h ≡ no_events
+quiet_so r jobs restarts cycle h stays = rw stays refl
+
+module _ (laws : Laws) (more : MoreLaws) (turn : WorkInTurn) (comes_up : (busy : ℕ) → ComesUp busy) (late : (busy : ℕ) → NoneLate busy) (r : RingView) (jobs : List Job) (carry : Carry) (restarts : Restarts) (opened : IsOpened r jobs) where
+  -- No step gets older than busy time and one cycle ..
+  clean_so : ((busy : ℕ) → StaysClean busy) → (cycles before : List CycleView) → IsRun r jobs carry restarts (cycles ++ before) → IsClear (cycles ++ before) → StartsEpoch r jobs carry restarts before
+      → AreUndisturbed r carry restarts cycles before → (k : ℕ) → k < length r.drives → AreClean (views_since r jobs carry restarts k cycles before) (views_of r jobs carry restarts k before)
+  clean_so clean cycles before run clear starts calm k below =
+      let all = never_falls laws more turn comes_up late r jobs carry restarts opened cycles before run clear starts calm in
+      clean (drive_at r k).busy (views_since r jobs carry restarts k cycles before) (views_of r jobs carry restarts k before) (runs_split laws more r jobs carry restarts opened cycles before run clear k below) (begins_so laws more r jobs carry restarts opened cycles before run clear starts k below).1
+      (all.whole k below) (all.passed k below)
+
+  pub ages_undisturbed : ((busy : ℕ) → StaysClean busy) → ((busy : ℕ) → AgesInTime busy) → (cycles before : List CycleView) → IsRun r jobs carry restarts (cycles ++ before) → IsClear (cycles ++ before)
+      → StartsEpoch r jobs carry restarts before → AreUndisturbed r carry restarts cycles before → (k : ℕ) → k < length r.drives → age_in (views_of r jobs carry restarts k (cycles ++ before)) ≤ (drive_at r k).busy + 1
+  ages_undisturbed clean ages [] before run clear starts calm k below =
+      let begins = begins_so laws more r jobs carry restarts opened [] before run clear starts k below in
+      let none = nothing_old (drive_at r k).busy (views_of r jobs carry restarts k before) begins.0 begins.1 in omega (arith, none)
+  ages_undisturbed clean ages (t ∷ cycles) before run clear starts calm k below =
+      let begins = begins_so laws more r jobs carry restarts opened (t ∷ cycles) before run clear starts k below in
+      let none = nothing_old (drive_at r k).busy (views_of r jobs carry restarts k before) begins.0 begins.1 in
+      let young = ages (drive_at r k).busy (view_of r jobs carry restarts k t (cycles ++ before)) (views_since r jobs carry restarts k cycles before) (views_of r jobs carry restarts k before)
+      (runs_split laws more r jobs carry restarts opened (t ∷ cycles) before run clear k below) (clean_so clean (t ∷ cycles) before run clear starts calm k below) in
+      young_so _ _ _ _ (ap (λ (l : List View). age_in l) (views_split r jobs carry restarts k (t ∷ cycles) before)) young none
+
+  -- .. and an answer comes exactly then.
+  pub answers_undisturbed : ((busy : ℕ) → StaysClean busy) → ((busy : ℕ) → AnswersAtAge busy) → (t : CycleView) (cycles before : List CycleView) → IsRun r jobs carry restarts (t ∷ (cycles ++ before)) → IsClear (t ∷ (cycles ++ before))
+      → StartsEpoch r jobs carry restarts before → AreUndisturbed r carry restarts (t ∷ cycles) before → (k : ℕ) (a : Heard) → k < length r.drives → (view_of r jobs carry restarts k t (cycles ++ before)).heard ≡ Some a
+      → answers_it (epoch_begun (views_of r jobs carry restarts k (cycles ++ before))) a.status ≡ true → age_in (views_of r jobs carry restarts k (cycles ++ before)) ≡ (drive_at r k).busy + 1
+  answers_undisturbed clean answers t cycles before run clear starts calm k a below hears fits =
+      let split = views_split r jobs carry restarts k cycles before in
+      let all = never_falls laws more turn comes_up late r jobs carry restarts opened (t ∷ cycles) before run clear starts calm in
+      ap (λ (l : List View). age_in l) split
+      ∙ answers (drive_at r k).busy (view_of r jobs carry restarts k t (cycles ++ before)) a (views_since r jobs carry restarts k cycles before) (views_of r jobs carry restarts k before)
+      (runs_split laws more r jobs carry restarts opened (t ∷ cycles) before run clear k below) (begins_so laws more r jobs carry restarts opened (t ∷ cycles) before run clear starts k below).1 (clean_so clean cycles before run.0 clear.0 starts calm.0 k below) (all.whole k below).1.master hears
+      (subst (λ (l : List View). answers_it (epoch_begun l) a.status ≡ true) split fits)
+
+  -- No record has a fall, or an outcome of a broken request.
+  pub tells_no_fall : (t : CycleView) (cycles before : List CycleView) → IsRun r jobs carry restarts (t ∷ (cycles ++ before)) → IsClear (t ∷ (cycles ++ before)) → StartsEpoch r jobs carry restarts before
+      → AreUndisturbed r carry restarts (t ∷ cycles) before → TellsNoFall t
+  tells_no_fall t cycles before run clear starts calm = record {
+    fall = ap (λ (e : EventsView). e.fall) run.1.events ∙ no_fall_told (known_of r) (behind_mdt r jobs carry restarts t.sent (cycles ++ before)) (restart_events r jobs restarts (length (cycles ++ before)) (master_calls r carry restarts (cycles ++ before))) none (ap (λ (e : EventsView). e.fall) quiet);
+    unbroken = λ number told. unbroken number ((keeps.reported.events number outcome.Broken).0 told);
+  }
+    where
+      none : fall_of (known_of r) (behind_mdt r jobs carry restarts t.sent (cycles ++ before)) ≡ None
+      none = (never_falls laws more turn comes_up late r jobs carry restarts opened (t ∷ cycles) before run clear starts calm).stays.1
+
+      quiet : restart_events r jobs restarts (length (cycles ++ before)) (master_calls r carry restarts (cycles ++ before)) ≡ no_events
+      quiet = quiet_so r jobs restarts (length (cycles ++ before)) (master_calls r carry restarts (cycles ++ before)) (none_below (length r.drives + 1) (restarts (length (cycles ++ before))) (both_off _ _ calm.1).0 0 (omega arith))
+
+      keeps : KeepsAll r jobs carry restarts t (cycles ++ before)
+      keeps = keeps_all laws more r jobs carry restarts opened t (cycles ++ before) run clear
+
+      ended_so : (k number : ℕ) (o : Option Report) → k < length r.drives → (behind_mdt r jobs carry restarts t.sent (cycles ++ before)).now.report k ≡ o → HasReport (with_told o []) number outcome.Broken → ⊥
+      ended_so k number None below is told = told
+      ended_so k number (Some x) below is (inl same) = not_broken x (begun_by ((behind_mdt r jobs carry restarts t.sent (cycles ++ before)).calls k)) ((behind_mdt r jobs carry restarts t.sent (cycles ++ before)).tasks k) same.1 (keeps.reported.right k x below is)
+      ended_so k number (Some x) below is (inr more) = more
+
+      unbroken : (number : ℕ) → (HasOutcome (restart_events r jobs restarts (length (cycles ++ before)) (master_calls r carry restarts (cycles ++ before))).outcomes number outcome.Broken
+          ⊎ ((k : ℕ) × (k < length (known_of r).drives) × HasReport (told_at_end (is_some (fall_of (known_of r) (behind_mdt r jobs carry restarts t.sent (cycles ++ before)))) ((behind_mdt r jobs carry restarts t.sent (cycles ++ before)).now.report k)
+          (broken (behind_mdt r jobs carry restarts t.sent (cycles ++ before)) k) []) number outcome.Broken)) → ⊥
+      unbroken number (inl told) = subst (λ (e : EventsView). HasOutcome e.outcomes number outcome.Broken) quiet told
+      unbroken number (inr (k, below, told)) = ended_so k number _ (let count = members_count r in omega (arith, below, count)) refl (subst (λ (o : Option Fall). HasReport (told_at_end (is_some o) ((behind_mdt r jobs carry restarts t.sent (cycles ++ before)).now.report k)
+          (broken (behind_mdt r jobs carry restarts t.sent (cycles ++ before)) k) []) number outcome.Broken) none told)
+
+  -- The cycles with an open step are at most the cost of the requests.
+  pub costs_undisturbed : ((busy : ℕ) → StartsInCost busy) → ComesTimed → (cycles before : List CycleView) → IsRun r jobs carry restarts (cycles ++ before) → IsClear (cycles ++ before)
+      → StartsEpoch r jobs carry restarts before → AreUndisturbed r carry restarts cycles before → (k : ℕ) (longest : ℕ → ℕ) → k < length r.drives → AreListed longest (views_of r jobs carry restarts k (cycles ++ before))
+      → open_since (views_since r jobs carry restarts k cycles before) (views_of r jobs carry restarts k before)
+      ≤ cost_in (cost_of (drive_at r k).busy (drive_at r k).command longest (store_of (drive_at r k))) (epoch_begun (views_of r jobs carry restarts k (cycles ++ before)))
+  costs_undisturbed starts_in timed cycles before run clear starts calm k longest below listed =
+      let split = views_split r jobs carry restarts k cycles before in
+      let all = never_falls laws more turn comes_up late r jobs carry restarts opened cycles before run clear starts calm in
+      let stands = all_stand laws more r jobs carry restarts opened (cycles ++ before) run clear k below in
+      let follow = (commands_so laws more r jobs carry restarts opened (cycles ++ before) run clear k below).follow in
+      let in_time = timed (drive_at r k).command (views_of r jobs carry restarts k (cycles ++ before)) (are_carried (drive_at r k).command (first_commands r k) refl refl (views_of r jobs carry restarts k (cycles ++ before)) follow) in
+      subst (λ (l : List View). open_since (views_since r jobs carry restarts k cycles before) (views_of r jobs carry restarts k before)
+      ≤ cost_in (cost_of (drive_at r k).busy (drive_at r k).command longest (store_of (drive_at r k))) (epoch_begun l)) (sym split)
+      (starts_in (drive_at r k).busy (drive_at r k).command longest (store_of (drive_at r k)) (views_since r jobs carry restarts k cycles before) (views_of r jobs carry restarts k before)
+      (small laws r jobs carry restarts opened (first_store laws more r jobs carry restarts opened) k below) (runs_split laws more r jobs carry restarts opened cycles before run clear k below)
+      (subst (λ (l : List View). AreSound (store_of (drive_at r k)) l) split stands.sound) (subst (λ (l : List View). AreTimed (drive_at r k).command l) split in_time)
+      (subst (λ (l : List View). AreListed longest l) split listed) (begins_so laws more r jobs carry restarts opened cycles before run clear starts k below).1 (all.whole k below) (all.passed k below)).0

@@ -1,0 +1,43 @@
+-- Behind requests that have ended whatever comes is begun after them.
+use Rattle.std.proofs.Common.{◌≡◌, Bool, true, false, if◌then◌else◌, List, [], ◌∷◌, ◌++◌, Option, Some, None, refl, sym, ap, subst}
+use Rattle.std.specs.Prelude.{is_none}
+use Rattle.sercos_step.specs.declared.request.Request.{Request}
+use Rattle.sercos_step.specs.declared.step.Step.{Step}
+use Rattle.sercos_service_master.specs.Begun.{Begun, open_in, answers_it, answer_in, with_answer}
+use Rattle.sercos_law_channel.specs.Handshake.Views.{Heard, View}
+use Rattle.sercos_law_channel.specs.Handshake.Epochs.{with_heard, with_begun, epoch_begun, begun_in}
+use Rattle.sercos_law_run.proofs.Agenda.OneTurn.{idle_hears}
+use Rattle.sercos_law_channel.specs.Pace.Passages.{AreWhole}
+
+-- these requests were begun first, and the recent ones after them
+abbrev pub Follow : List Begun → List Begun → Type 0
+Follow old now = (recent : List Begun) × (now ≡ recent ++ old)
+
+heard_behind : (o : Option Heard) (recent old : List Begun) → open_in old ≡ None → Follow old (with_heard o (recent ++ old))
+heard_behind None recent old rests = (recent, refl)
+heard_behind (Some a) [] old rests = ([], idle_hears a.status a.word old (ap (λ (x : Option Step). is_none x) rests))
+heard_behind (Some a) (b ∷ recent) old rests = by (answers_it (b ∷ (recent ++ old)) a.status)
+  where
+    by : (v : Bool) → Follow old (if v then with_answer (answer_in a.status a.word) (b ∷ (recent ++ old)) else b ∷ (recent ++ old))
+    by true = (record b { answers = answer_in a.status a.word ∷ b.answers } ∷ recent, refl)
+    by false = (b ∷ recent, refl)
+
+begun_behind : (o : Option Request) (old now : List Begun) → Follow old now → Follow old (with_begun o now)
+begun_behind None old now is = is
+begun_behind (Some r) old now (recent, is) = (record { request = r; answers = [] } ∷ recent, ap (λ (l : List Begun). record { request = r; answers = [] } ∷ l) is)
+
+-- in a cycle in which the master doesn't restart
+pub follow_in : (v : View) (past : List View) (old : List Begun) → v.master_restarts ≡ false → open_in old ≡ None → Follow old (epoch_begun past) → Follow old (begun_in v past)
+follow_in v past old stays rests (recent, is) = by v.master_restarts stays
+  where
+    by : (b : Bool) → b ≡ false → Follow old (with_begun v.begins (with_heard v.heard (if b then [] else epoch_begun past)))
+    by true on = absurd (cc)
+    by false off = begun_behind v.begins old (with_heard v.heard (epoch_begun past)) (subst (λ (l : List Begun). Follow old (with_heard v.heard l)) (sym is) (heard_behind v.heard recent old rests))
+
+pub follow_since : (cycles past : List View) (old : List Begun) → AreWhole cycles past → open_in old ≡ None → Follow old (epoch_begun past) → Follow old (epoch_begun (cycles ++ past))
+follow_since [] past old whole rests is = is
+follow_since (v ∷ cycles) past old whole rests is = by v.falls whole.1.stays (follow_in v (cycles ++ past) old whole.1.master rests (follow_since cycles past old whole.0 rests is))
+  where
+    by : (b : Bool) → b ≡ false → Follow old (begun_in v (cycles ++ past)) → Follow old (if b then [] else begun_in v (cycles ++ past))
+    by true on follow = absurd (cc)
+    by false off follow = follow

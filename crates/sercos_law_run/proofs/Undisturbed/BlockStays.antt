@@ -1,0 +1,99 @@
+-- What a block of a drive keeps through a run: it is so at opening, and each accepted write and each list of a check leaves it so.
+use Rattle.std.proofs.Common.{◌≡◌, ℕ, Bool, true, false, not, ◌&&◌, List, [], ◌∷◌, Option, Some, None, refl, sym, ap, ◌∙◌, subst, arith, if◌then◌else◌}
+use Rattle.std.specs.Prelude.{◌==◌, nat_le, is_none, IfSome, cond}
+use Rattle.std.proofs.lemmas.Bool.Decides.{nat_tests}
+use Rattle.sercos_block.specs.Stores.{find_block, with_data, store_of, put_fault, are_ascending}
+use Rattle.sercos_block.specs.Views.{DriveView}
+use Rattle.sercos_block.specs.declared.block.Block.{Block}
+use Rattle.sercos_command.specs.Checks.{unfit_for_phase_3, unfit_for_phase_4, list_bytes}
+use Rattle.sercos_command.specs.Settings.{CommandsView, find_set, is_command, with_lists}
+use Rattle.sercos_service_drive.specs.Log.{Taken, record_of}
+use Rattle.sercos_service_drive.specs.Writes.{Write, AreThose, added_on, setting_in, blocks_with}
+use Rattle.sercos_drive.specs.declared.hearing.Told.{Told}
+use Rattle.sercos_drive.specs.Heard.{DriveCall, Mst, Mdt, Restart, mdt_got}
+use Rattle.sercos_drive.specs.Moments.{phase_in, cycle_in, has_mst, taken_in, blocks_in, blocks_after, commands_in}
+use Rattle.sercos_drive.specs.Annals.{annals, processed_in}
+use Rattle.sercos_drive.specs.Laws.{HandedThose}
+use Rattle.sercos_law_run.specs.Start.Kept.{BlocksKeep}
+use Rattle.sercos_law_run.specs.Start.StartUp.{IsStoreOf}
+use Rattle.sercos_law_run.proofs.Start.KeptLemmas.{writes_keep}
+use Rattle.sercos_law_run.proofs.Held.StoreOf.{AllowsWrites, IsOf, store_of_so}
+
+-- so it is of the block with this number
+abbrev pub IsAt : ℕ → (Block → Type 0) → List Block → Type 0
+IsAt n such blocks = (b : Block) → find_block n blocks ≡ Some b → such b
+
+-- a write to another block leaves it, and one to it makes it what it writes
+pub written_at : (n raw : ℕ) (bytes : List ℕ) (such : Block → Type 0) (blocks : List Block) → (raw ≡ n → (b : Block) → find_block n blocks ≡ Some b → such (record b { value = bytes })) → IsAt n such blocks → IsAt n such (with_data raw bytes blocks)
+written_at n raw bytes such [] to_it is c found = absurd (cc)
+written_at n raw bytes such (b ∷ blocks) to_it is c found =
+    by (b.idn.raw == raw) (b.idn.raw == n) refl refl (λ other. written_at n raw bytes such blocks (λ same c found. to_it same c (found_first false other ∙ found)) (λ c found. is c (found_first false other ∙ found))) c found
+  where
+    is_it : (x c : Block) → Some x ≡ Some c → x ≡ c
+    is_it x c e = cc
+
+    unfolded : (x y : Bool) → (b.idn.raw == raw) ≡ x → (b.idn.raw == n) ≡ y
+        → find_block n (with_data raw bytes (b ∷ blocks)) ≡ cond y (Some (if x then record b { value = bytes } else b)) (find_block n (with_data raw bytes blocks))
+    unfolded true y of_raw of_n = rw of_raw (ap (λ (v : Bool). cond v (Some (record b { value = bytes })) (find_block n (with_data raw bytes blocks))) of_n)
+    unfolded false y of_raw of_n = rw of_raw (ap (λ (v : Bool). cond v (Some b) (find_block n (with_data raw bytes blocks))) of_n)
+
+    found_first : (y : Bool) → (b.idn.raw == n) ≡ y → find_block n (b ∷ blocks) ≡ cond y (Some b) (find_block n blocks)
+    found_first y of_n = ap (λ (v : Bool). cond v (Some b) (find_block n blocks)) of_n
+
+    by : (x y : Bool) → (b.idn.raw == raw) ≡ x → (b.idn.raw == n) ≡ y → ((b.idn.raw == n) ≡ false → IsAt n such (with_data raw bytes blocks)) → (c : Block) → find_block n (with_data raw bytes (b ∷ blocks)) ≡ Some c → such c
+    by true true of_raw of_n rest c found =
+        let number : raw ≡ n = grind (arith, nat_tests, of_raw, of_n) in
+        subst such (is_it (record b { value = bytes }) c (sym (unfolded true true of_raw of_n) ∙ found)) (to_it number b (found_first true of_n))
+    by false true of_raw of_n rest c found = subst such (is_it b c (sym (unfolded false true of_raw of_n) ∙ found)) (is b (found_first true of_n))
+    by true false of_raw of_n rest c found = rest of_n c (sym (unfolded true false of_raw of_n) ∙ found)
+    by false false of_raw of_n rest c found = rest of_n c (sym (unfolded false false of_raw of_n) ∙ found)
+
+-- It is so at opening, each accepted write to the block leaves it so, and the lists of the checks do.
+pub record Stays (d : DriveView) (n : ℕ) (such : Block → Type 0) : Type 0 where
+  pub first : IsAt n such (store_of d)
+  pub write : (blocks : List Block) (phase : ℕ) (bytes : List ℕ) → IsStoreOf d blocks → put_fault (find_block n blocks) phase bytes ≡ None → (b : Block) → find_block n blocks ≡ Some b → such (record b { value = bytes })
+  pub list_3 : (rate : ℕ) (blocks : List Block) → IsStoreOf d blocks → 21 ≡ n → (b : Block) → find_block n blocks ≡ Some b → such (record b { value = list_bytes (unfit_for_phase_3 rate blocks) })
+  pub list_4 : (blocks : List Block) → IsStoreOf d blocks → 22 ≡ n → (b : Block) → find_block n blocks ≡ Some b → such (record b { value = list_bytes (unfit_for_phase_4 blocks) })
+
+module _ (keep : BlocksKeep) (allows : AllowsWrites) (those : HandedThose) (d : DriveView) (n : ℕ) (such : Block → Type 0) (stays : Stays d n such) where
+  listed : (c : CommandsView) (raw value : ℕ) (blocks : List Block) → IsStoreOf d blocks → IsAt n such blocks → IsAt n such (with_lists c raw value blocks)
+  unfolding with_lists
+  listed c raw value blocks stored is = by (not (value == 0) && is_none (find_set raw c.set)) (raw == 127) (raw == 128)
+    where
+      by : (x y z : Bool) → IsAt n such (if x then (if y then with_data 21 (list_bytes (unfit_for_phase_3 c.rate blocks)) blocks else (if z then with_data 22 (list_bytes (unfit_for_phase_4 blocks)) blocks else blocks)) else blocks)
+      by false y z = is
+      by true true z = written_at n 21 (list_bytes (unfit_for_phase_3 c.rate blocks)) such blocks (λ same b found. stays.list_3 c.rate blocks stored same b found) is
+      by true false true = written_at n 22 (list_bytes (unfit_for_phase_4 blocks)) such blocks (λ same b found. stays.list_4 blocks stored same b found) is
+      by true false false = is
+
+  next : (blocks : List Block) (o : Option Write) (c : CommandsView) (phase : ℕ) → are_ascending blocks ≡ true → IsStoreOf d blocks → IfSome o (λ (w : Write). put_fault (find_block w.raw blocks) phase w.bytes ≡ None) → IsAt n such blocks → IsAt n such (blocks_with o c blocks)
+  next blocks None c phase ascending stored allowed is = is
+  next blocks (Some w) c phase ascending stored allowed is = by (is_command blocks w.raw)
+    where
+      written : IsAt n such (with_data w.raw w.bytes blocks)
+      written = written_at n w.raw w.bytes such blocks (λ same b found. stays.write blocks phase w.bytes stored (subst (λ (m : ℕ). put_fault (find_block m blocks) phase w.bytes ≡ None) same allowed) b found) is
+
+      by : (x : Bool) → IsAt n such (if x then with_lists c w.raw (setting_in w) (with_data w.raw w.bytes blocks) else with_data w.raw w.bytes blocks)
+      by true = listed c w.raw (setting_in w) (with_data w.raw w.bytes blocks) ((writes_keep d blocks w.raw phase w.bytes ascending stored).0 allowed) written
+      by false = written
+
+  -- SO IT IS whatever the drive is given.
+  pub stays_at : (rate : ℕ) (h : List DriveCall) → are_ascending (store_of d) ≡ true → IsAt n such (blocks_in d (annals d rate h))
+  stays_at rate [] ascending = stays.first
+  stays_at rate (Mst cycle content ∷ h) ascending = stays_at rate h ascending
+  stays_at rate (Restart ∷ h) ascending = stays_at rate h ascending
+  stays_at rate (Mdt content ∷ h) ascending =
+      by (mdt_got d.address (phase_in (annals d rate h)) (blocks_in d (annals d rate h)) content) (those d rate h) (store_of_so keep allows those d rate h ascending) (stays_at rate h ascending)
+    where
+      by : (told : Option Told) → AreThose (blocks_in d (annals d rate h)) (taken_in (annals d rate h)) → IsOf d (blocks_in d (annals d rate h)) → IsAt n such (blocks_in d (annals d rate h))
+          → IsAt n such (blocks_after (processed_in d rate told (annals d rate h)) (taken_in (annals d rate h)) (blocks_in d (annals d rate h)))
+      by None are before is = is
+      by (Some t) are before is = which (has_mst (annals d rate h) && nat_le 2 (phase_in (annals d rate h)))
+        where
+          one : Taken
+          one = record_of (cycle_in (annals d rate h)) (phase_in (annals d rate h)) t.control t.info (blocks_in d (annals d rate h)) (commands_in d rate (annals d rate h))
+
+          which : (b : Bool) → IsAt n such (blocks_after (if b then Some (record_of (cycle_in (annals d rate h)) (phase_in (annals d rate h)) t.control t.info (blocks_in d (annals d rate h)) (commands_in d rate (annals d rate h))) else None)
+              (taken_in (annals d rate h)) (blocks_in d (annals d rate h)))
+          which true = next (blocks_in d (annals d rate h)) (added_on one (taken_in (annals d rate h))) (commands_in d rate (annals d rate h)) (phase_in (annals d rate h)) before.1 before.0 (allows one (taken_in (annals d rate h)) are) is
+          which false = is

@@ -1,0 +1,142 @@
+-- The calls of a master's channel are those that the views of its cycles give.
+use Rattle.std.proofs.Common.{◌≡◌, ℕ, ◌+◌, ◌<◌, ◌≤◌, ◌||◌, Bool, true, false, ◌&&◌, List, [], ◌∷◌, length, Option, Some, None, refl, sym, ◌∙◌, ap, ap₂, subst, arith, if◌then◌else◌}
+use Rattle.std.specs.Prelude.{◌==◌, nat_le, is_some}
+use Rattle.std.proofs.lemmas.Bool.Decides.{nat_tests}
+use Rattle.sercos_step.specs.declared.request.Job.{Job}
+use Rattle.sercos_block.specs.Views.{RingView}
+use Rattle.sercos_service_master.specs.Begun.{master_says}
+use Rattle.sercos_service_master.specs.Calls.{Send, EndCycle, begun_by}
+use Rattle.sercos_service_master.specs.Calls as channel
+use Rattle.sercos_timing.specs.Views.{PlanView}
+use Rattle.sercos_seat.specs.Channel.{is_place}
+use Rattle.sercos_seat.specs.Ring.{Known, Task, known_of}
+use Rattle.sercos_master.specs.Annals.{Past, begins, settled, with_begin, is_sent_to, addressed_in, ready_to_send, after_mdt, fall_of, new_epoch, still_waiting, goes_on, next_phase}
+use Rattle.sercos_master.proofs.Configured.{leaves}
+use Rattle.sercos_trace.specs.Views.{CycleView}
+use Rattle.sercos_script.specs.Links.{Carry, Restarts}
+use Rattle.sercos_law_channel.specs.Handshake.Epochs.{unless_restart}
+use Rattle.sercos_law_channel.specs.Pace.ChannelCalls.{calls_heard, calls_begun, calls_sent, calls_in, channel_calls}
+use Rattle.sercos_law_run.specs.Journal.Records.{ats_in}
+use Rattle.sercos_law_run.specs.Journal.Runs.{master_calls, looks_back, IsRun, IsClear}
+use Rattle.sercos_law_run.specs.Views.RingViews.{at_start, behind_mst, behind_ats, behind_mdt, heard_last, is_told, told_to, request_of, view_of, views_of}
+use Rattle.sercos_law_run.proofs.Views.MasterSame.{begun_cycle, HasHeard, Nothing, One, AfterAts, ats_none, turn_mdt, same_started}
+use Rattle.sercos_law_run.proofs.Views.Members.{AreHeardAs}
+use Rattle.sercos_law_run.proofs.Views.Coupled.{ats_heard}
+use Rattle.sercos_law_run.proofs.Views.ViewRuns.{started}
+use Rattle.sercos_law_run.specs.Held.Opened.{IsOpened}
+use Rattle.sercos_law_run.proofs.Held.Runs.{Laws, holding}
+use Rattle.sercos_law_run.proofs.Headline.HeadlineRuns.{MoreLaws, first_store, stored_in, spelled_in, all_stand}
+
+-- what is heard
+heard_calls : (s : Known) (k : ℕ) (such : List ℕ → Type 0) (c : List channel.Call) (q : Past) → HasHeard s k such c q → heard_last c ≡ None → calls_heard (heard_last (q.calls k)) c ≡ q.calls k
+heard_calls s k such c q (Nothing same) quiet = rw (same, quiet) refl
+heard_calls s k such c q (One content is there calls heard) quiet = rw calls refl
+
+-- what is begun
+begun_calls : (o : Option Task) (c : List channel.Call) → calls_begun (request_of o) c ≡ with_begin o c
+begun_calls None c = refl
+begun_calls (Some t) c = refl
+
+-- The drive is told of a record in the cycles of phases 2 to 4 in which its channel sends one. There is a plan in phases 3 and 4.
+some_told : (p : Past) (k : ℕ) → is_some (told_to p k) ≡ is_told p k
+some_told p k = by (is_told p k)
+  where
+    by : (b : Bool) → is_some (if b then Some (master_says (begun_by (p.calls k))) else None) ≡ b
+    by true = refl
+    by false = refl
+
+sends_same : (n : ℕ) (plan to : Bool) → (3 ≤ n → plan ≡ true) → (nat_le 2 n && ((nat_le 3 n && plan) || to)) ≡ (nat_le 3 n || ((n == 2) && to))
+sends_same n plan to planned = by (nat_le 3 n) (n == 2) refl refl
+  where
+    by : (three two : Bool) → nat_le 3 n ≡ three → (n == 2) ≡ two → (nat_le 2 n && ((three && plan) || to)) ≡ (three || (two && to))
+    by true two is other =
+        let a : nat_le 2 n ≡ true = grind (arith, nat_tests, is) in
+        let b : plan ≡ true = planned (grind (arith, nat_tests, is)) in
+        rw (a, b) refl
+    by false true is other = let a : nat_le 2 n ≡ true = grind (arith, nat_tests, other) in rw a refl
+    by false false is other = let a : nat_le 2 n ≡ false = grind (arith, nat_tests, is, other) in rw a refl
+
+-- what is begun and sent when the MDT goes
+mdt_calls : (s : Known) (p : Past) (k phase : ℕ) → phase ≡ p.now.phase → (3 ≤ phase → is_some (after_mdt s p).plan ≡ true)
+    → calls_sent (nat_le 2 phase && is_some (told_to (after_mdt s p) k)) (calls_begun (request_of (begins s (settled s p) k)) (p.calls k)) ≡ (after_mdt s p).calls k
+mdt_calls s p k phase is planned = ap₂ (λ (b : Bool) (c : List channel.Call). if b then Send ∷ c else c) sends begins_so
+  where
+    same : (after_mdt s p).now.phase ≡ phase
+    same = (turn_mdt s p).phase_is ∙ sym is
+
+    sends : (nat_le 2 phase && is_some (told_to (after_mdt s p) k)) ≡ is_sent_to (ready_to_send s p) (addressed_in s (ready_to_send s p)) k
+    sends = ap (λ (b : Bool). nat_le 2 phase && b) (some_told (after_mdt s p) k)
+        ∙ subst (λ (n : ℕ). (nat_le 2 phase && ((nat_le 3 n && is_some (after_mdt s p).plan) || is_place k (addressed_in s (ready_to_send s p)))) ≡ (nat_le 3 n || ((n == 2) && is_place k (addressed_in s (ready_to_send s p)))))
+        (sym same) (sends_same phase (is_some (after_mdt s p).plan) (is_place k (addressed_in s (ready_to_send s p))) planned)
+
+    begins_so : calls_begun (request_of (begins s (settled s p) k)) (p.calls k) ≡ (ready_to_send s p).calls k
+    begins_so = begun_calls (begins s (settled s p) k) (p.calls k) ∙ ap (λ (c : ℕ → List channel.Call). with_begin (begins s (settled s p) k) (c k)) (sym (leaves s p).calls)
+
+-- what any ATs leave
+any_heard : (r : RingView) (carry : Carry) (cycle : ℕ) (ats : List (List ℕ)) → AreHeardAs (λ content. Unit {0}) r carry cycle ats
+any_heard r carry cycle [] = tt
+any_heard r carry cycle (at ∷ ats) = (λ content came. tt, any_heard r carry cycle ats)
+
+pub ats_leave : (r : RingView) (jobs : List Job) (carry : Carry) (restarts : Restarts) (t : CycleView) (j : List CycleView) (k : ℕ)
+    → AfterAts (known_of r) k (λ content. Unit {0}) (behind_mst r jobs carry restarts t.sent j) (behind_ats r jobs carry restarts t.sent j)
+ats_leave r jobs carry restarts t j k = ats_heard r jobs carry (length j) k (λ content. Unit {0}) (behind_mst r jobs carry restarts t.sent j) (ats_in t.sent) _
+    (ats_none (known_of r) k (λ content. Unit {0}) (behind_mst r jobs carry restarts t.sent j)) (any_heard r carry (length j) (ats_in t.sent))
+
+module _ (laws : Laws) (more : MoreLaws) (r : RingView) (jobs : List Job) (carry : Carry) (restarts : Restarts) (opened : IsOpened r jobs) where
+  -- a channel has heard nothing of a cycle at its start
+  pub unheard_first : (j : List CycleView) → IsRun r jobs carry restarts j → IsClear j → (k : ℕ) → k < length r.drives → heard_last ((at_start r jobs carry restarts j).calls k) ≡ None
+  unheard_first j run clear k below = subst (λ (p : Past). heard_last (p.calls k) ≡ None) (sym (started r jobs (restarts (length j) 0) (master_calls r carry restarts j)))
+      (same_started (restarts (length j) 0) (looks_back r jobs (master_calls r carry restarts j)) k _ _ _ (all_stand laws more r jobs carry restarts opened j run clear k below).sees.master).unheard
+
+  -- a cycle up to its end, if it was so before the cycle
+  calls_then : (t : CycleView) (j : List CycleView) → IsRun r jobs carry restarts (t ∷ j) → IsClear (t ∷ j) → (k : ℕ) → k < length r.drives
+      → channel_calls (views_of r jobs carry restarts k j) ≡ (looks_back r jobs (master_calls r carry restarts j)).calls k
+      → calls_in (view_of r jobs carry restarts k t j) (channel_calls (views_of r jobs carry restarts k j)) ≡ (behind_mdt r jobs carry restarts t.sent j).calls k
+  calls_then t j (run, next) (before, clear) k below same =
+      ap (λ (c : List channel.Call). calls_sent (nat_le 2 t.phase && is_some (told_to (behind_mdt r jobs carry restarts t.sent j) k)) (calls_begun (request_of (begins (known_of r) (settled (known_of r) (behind_ats r jobs carry restarts t.sent j)) k)) c))
+      heard_so ∙ mdt_calls (known_of r) (behind_ats r jobs carry restarts t.sent j) k t.phase phase_is planned
+    where
+      first_is : at_start r jobs carry restarts j ≡ begun_cycle (restarts (length j) 0) (looks_back r jobs (master_calls r carry restarts j))
+      first_is = started r jobs (restarts (length j) 0) (master_calls r carry restarts j)
+
+      passed : AfterAts (known_of r) k (λ content. Unit {0}) (behind_mst r jobs carry restarts t.sent j) (behind_ats r jobs carry restarts t.sent j)
+      passed = ats_leave r jobs carry restarts t j k
+
+      kept : unless_restart (view_of r jobs carry restarts k t j) (channel_calls (views_of r jobs carry restarts k j)) ≡ (at_start r jobs carry restarts j).calls k
+      kept = by (restarts (length j) 0) ∙ sym (ap (λ (p : Past). p.calls k) first_is)
+        where
+          by : (b : Bool) → (if b then [] else channel_calls (views_of r jobs carry restarts k j)) ≡ (begun_cycle b (looks_back r jobs (master_calls r carry restarts j))).calls k
+          by true = refl
+          by false = same
+
+      heard_so : calls_heard (heard_last ((behind_ats r jobs carry restarts t.sent j).calls k)) (unless_restart (view_of r jobs carry restarts k t j) (channel_calls (views_of r jobs carry restarts k j)))
+          ≡ (behind_ats r jobs carry restarts t.sent j).calls k
+      heard_so = ap (calls_heard (heard_last ((behind_ats r jobs carry restarts t.sent j).calls k))) kept
+          ∙ heard_calls (known_of r) k (λ content. Unit {0}) ((at_start r jobs carry restarts j).calls k) (behind_ats r jobs carry restarts t.sent j) passed.has (unheard_first j run before k below)
+
+      phase_is : t.phase ≡ (behind_ats r jobs carry restarts t.sent j).now.phase
+      phase_is = next.phase ∙ sym passed.phase_is
+
+      planned : 3 ≤ t.phase → is_some (behind_mdt r jobs carry restarts t.sent j).plan ≡ true
+      planned late =
+          let (plan, is, holds) = holding laws r jobs carry restarts opened (first_store laws more r jobs carry restarts opened) t j next clear (spelled_in laws more r jobs carry restarts opened t j next)
+          (stored_in laws more r jobs carry restarts opened t j) (all_stand laws more r jobs carry restarts opened j run before) (subst (λ (n : ℕ). 3 ≤ n) next.phase late) k below in
+          ap (λ (o : Option PlanView). is_some o) is.now
+
+  -- at the end of each cycle the channel has been given these calls ..
+  pub calls_are : (j : List CycleView) → IsRun r jobs carry restarts j → IsClear j → (k : ℕ) → k < length r.drives
+      → channel_calls (views_of r jobs carry restarts k j) ≡ (looks_back r jobs (master_calls r carry restarts j)).calls k
+  calls_are [] run clear k below = refl
+  calls_are (t ∷ j) (run, next) (before, clear) k below = by (is_some (fall_of (known_of r) (behind_mdt r jobs carry restarts t.sent j))) (calls_then t j (run, next) (before, clear) k below (calls_are j run before k below))
+    where
+      by : (falls : Bool) → calls_in (view_of r jobs carry restarts k t j) (channel_calls (views_of r jobs carry restarts k j)) ≡ (behind_mdt r jobs carry restarts t.sent j).calls k
+          → (if falls then [] else EndCycle ∷ calls_in (view_of r jobs carry restarts k t j) (channel_calls (views_of r jobs carry restarts k j)))
+          ≡ (if falls then new_epoch ((behind_mdt r jobs carry restarts t.sent j).cycle + 1) (still_waiting (behind_mdt r jobs carry restarts t.sent j))
+          else goes_on (next_phase (known_of r) (behind_mdt r jobs carry restarts t.sent j)) (behind_mdt r jobs carry restarts t.sent j)).calls k
+      by true same = refl
+      by false same = ap (λ (c : List channel.Call). EndCycle ∷ c) same
+
+  -- .. and up to the end of a cycle these
+  pub calls_now : (t : CycleView) (j : List CycleView) → IsRun r jobs carry restarts (t ∷ j) → IsClear (t ∷ j) → (k : ℕ) → k < length r.drives
+      → calls_in (view_of r jobs carry restarts k t j) (channel_calls (views_of r jobs carry restarts k j)) ≡ (behind_mdt r jobs carry restarts t.sent j).calls k
+  calls_now t j (run, next) (before, clear) k below = calls_then t j (run, next) (before, clear) k below (calls_are j run before k below)

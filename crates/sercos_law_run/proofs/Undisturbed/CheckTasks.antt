@@ -1,0 +1,214 @@
+-- Where a check has ended well and nothing of the next phase was begun, its command is the newest request of the channel, and no request
+-- before it gives anything to its number. Requests and tasks have their newest item first, outcomes their oldest.
+use Rattle.std.proofs.Common.{◌≡◌, inl, inr, ℕ, ◌+◌, ◌<◌, ◌≤◌, Bool, true, false, not, ◌&&◌, List, [], ◌∷◌, ◌++◌, length, Option, Some, None, refl, sym, ap, ap₂, ◌∙◌, arith}
+use Rattle.std.specs.Prelude.{◌==◌, nat_lt, slice_get, option_map, unwrap_or}
+use Rattle.std.proofs.lemmas.Bool.{cases_eq, and_parts, ltb-true, ne_eqb, false≢true}
+use Rattle.sercos_step.specs.declared.request.Request.{Request}
+use Rattle.sercos_step.specs.declared.request.Request.TheVariants as request
+use Rattle.sercos_step.specs.declared.request.Outcome.{Outcome}
+use Rattle.sercos_step.specs.declared.request.Outcome.TheVariants as outcome
+use Rattle.sercos_step.specs.Steps.{outcome_of}
+use Rattle.sercos_timing.specs.Views.{PlanView}
+use Rattle.sercos_block.specs.declared.block.Block.{Block}
+use Rattle.sercos_service_master.specs.Begun.{Begun}
+use Rattle.sercos_seat.specs.Ring.{Known, Task, member, startup}
+use Rattle.sercos_seat.specs.Agenda.{bytes_of, given, ended_well, idn, reads, reads_count, writes, is_checked, is_ready}
+use Rattle.sercos_seat.specs.Channel.{with_outcome, outcomes_in}
+use Rattle.sercos_seat.specs.Seats.{AreWaiting}
+use Rattle.sercos_seat.proofs.Agendas.{ended_there}
+use Rattle.sercos_seat.proofs.Gets.{get_right}
+use Rattle.sercos_seat.proofs.Seats.{before_end, behind_end}
+use Rattle.sercos_master.proofs.Followed.{not_longer}
+use Rattle.sercos_law_channel.specs.Handshake.Exact.{given_by}
+use Rattle.sercos_law_channel.specs.Handshake.Values.{GiveElsewhere}
+use Rattle.sercos_law_run.specs.Agenda.Tasks.{IsTask, OfReads, OfWrites, Checks3, Lists3, Checks4, Lists4, OfWaiting, IsBegunTask, AreBegunTasks}
+use Rattle.sercos_law_run.specs.Agenda.Writes.{start_numbers}
+use Rattle.sercos_law_run.proofs.Agenda.WritesDone.{raw_of, number_at, IsDataWrite, DataWrite, all_data_writes, write_away}
+use Rattle.sercos_law_run.proofs.Settings.Givers.{all_at, are_away, is_reading, attributes_read, reading_away}
+
+-- The newest request is that command, which is complete and has ended well; those before it give nothing to its number.
+pub record IsCheckNewest (blocks : List Block) (raw : ℕ) (begun : List Begun) : Type 0 where
+  pub one : Begun
+  pub older : List Begun
+  pub split : begun ≡ one ∷ older
+  pub asks : one.request ≡ request.Command (idn raw)
+  pub bytes : List ℕ
+  pub complete : outcome_of one.request one.answers ≡ Some (outcome.Complete bytes)
+  pub well : ended_well bytes ≡ true
+  pub away : GiveElsewhere raw blocks older
+
+-- an outcome that has ended well is complete
+well_complete : (o : Outcome) → ended_well (bytes_of o) ≡ true → (bytes : List ℕ) × (o ≡ outcome.Complete bytes) × (ended_well bytes ≡ true)
+well_complete (outcome.Complete bytes) well = (bytes, refl, well)
+well_complete (outcome.Refused code) well = absurd (false≢true well)
+well_complete outcome.Broken well = absurd (false≢true well)
+
+-- the last outcome
+last_given : (outcomes : List Outcome) (o : Outcome) → given (outcomes ++ o ∷ []) (length outcomes) ≡ bytes_of o
+last_given outcomes o = ap (λ (x : Option Outcome). unwrap_or (option_map bytes_of x) []) (get_right outcomes (o ∷ []) (length outcomes) 0 (omega arith))
+
+newest_well : (o : Option Outcome) (outcomes : List Outcome) → ended_well (given (with_outcome o outcomes) (length outcomes)) ≡ true → (bytes : List ℕ) × (o ≡ Some (outcome.Complete bytes)) × (ended_well bytes ≡ true)
+newest_well None outcomes well = absurd (false≢true (sym (ap ended_well (behind_end outcomes (length outcomes) (omega arith))) ∙ well))
+newest_well (Some o) outcomes well =
+    let one = well_complete o (sym (ap ended_well (last_given outcomes o)) ∙ well) in
+    (one.0, ap (λ (x : Outcome). Some x) one.1, one.2)
+
+-- what the last outcome doesn't change
+given_before : (o : Option Outcome) (outcomes : List Outcome) (i : ℕ) → i < length outcomes → given (with_outcome o outcomes) i ≡ given outcomes i
+given_before None outcomes i less = refl
+given_before (Some o) outcomes i less = before_end outcomes o i (λ e. omega (arith, e, less))
+
+module _ (s : Known) (k : ℕ) (blocks : List Block) (plan : Option PlanView) (waiting : List Task) (phase : ℕ) (waits : AreWaiting waiting) where
+  -- a task before number m gives elsewhere
+  gives_elsewhere : (raw m : ℕ) → 127 ≤ raw → m ≤ 12 → (11 < m → 127 ≡ raw → ⊥) → (b : Begun) (t : Task) (older : List Begun) (tasks : List Task) → length older < reads_count (member s k) + m
+      → IsBegunTask s k plan waiting phase b t older tasks → are_away raw (given_by blocks b.request) ≡ true
+  gives_elsewhere raw m large few other b t older tasks less begun = ap (λ (r : Request). are_away raw (given_by blocks r)) begun.asks ∙ by begun.task
+    where
+      long : length (outcomes_in older) ≡ length older
+      long = begun.ended
+
+      asked : (n : ℕ) (r : Request) → t ≡ startup n r → are_away raw (given_by blocks r) ≡ true → are_away raw (given_by blocks t.request) ≡ true
+      asked n r same away = ap (λ (x : Task). are_away raw (given_by blocks x.request)) same ∙ away
+
+      written : (p : PlanView) (i : ℕ) (r : Request) → slice_get (writes s p k) i ≡ Some r → IsDataWrite r → are_away raw (given_by blocks r) ≡ true
+      written p i r got (DataWrite w bytes is) =
+          let number : slice_get start_numbers i ≡ Some w.raw = number_at s p k i r got ∙ ap (λ (x : Request). Some (raw_of x)) is in
+          let small = ltb-true w.raw 127 (all_at (λ (n : ℕ). nat_lt n 127) start_numbers i w.raw refl number) in
+          ap (λ (x : Request). are_away raw (given_by blocks x)) is ∙ write_away blocks raw w bytes (λ e. omega (arith, e, small, large))
+
+      by : IsTask s k begun.by_then waiting (outcomes_in older) t → are_away raw (given_by blocks t.request) ≡ true
+      by (OfReads r early got same) = asked 2 r same (reading_away blocks raw r (all_at is_reading (reads (member s k)) (length (outcomes_in older)) r (attributes_read ((member s k).at ++ (member s k).mdt)) got))
+      by (OfWrites p i r planned early at got same) = asked 2 r same (written p i r got (all_data_writes s p k i r got))
+      by (Checks3 p planned at same) =
+          let late : 11 < m = let l = long in omega (arith, l, at, less) in
+          let off : (127 == raw) ≡ false = ne_eqb 127 raw (other late) in
+          asked 2 (request.Command (idn 127)) same (ap (λ (v : Bool). not v && (not v && true)) off)
+      by (Lists3 at failed same) = let l = long in absurd (omega (arith, l, at, less, few))
+      by (Checks4 at checked same) = let l = long in absurd (omega (arith, l, at, less, few))
+      by (Lists4 at failed same) = let l = long in absurd (omega (arith, l, at, less, few))
+      by (OfWaiting j at ready got) = let l = long in absurd (omega (arith, l, at, less, few))
+
+  all_elsewhere : (raw m : ℕ) → 127 ≤ raw → m ≤ 12 → (11 < m → 127 ≡ raw → ⊥) → (begun : List Begun) (tasks : List Task) → AreBegunTasks s k plan waiting phase begun tasks → length begun ≤ reads_count (member s k) + m → GiveElsewhere raw blocks begun
+  all_elsewhere raw m large few other [] tasks are less = tt
+  all_elsewhere raw m large few other (b ∷ older) [] are less = absurd are
+  all_elsewhere raw m large few other (b ∷ older) (t ∷ tasks) are less =
+      (all_elsewhere raw m large few other older tasks are.0 (omega (arith, less)), gives_elsewhere raw m large few other b t older tasks (omega (arith, less)) are.1)
+
+  -- THE NEWEST REQUEST, if the outcome number m after the reads has ended well: what is begun at that place is the check, and nothing later
+  newest_check : (raw m : ℕ) → 127 ≤ raw → m ≤ 12 → (11 < m → 127 ≡ raw → ⊥) → (begun : List Begun) (tasks : List Task) → AreBegunTasks s k plan waiting phase begun tasks
+      → ended_well (given (outcomes_in begun) (reads_count (member s k) + m)) ≡ true
+      → ((b : Begun) (t : Task) (older : List Begun) (tasks : List Task) → begun ≡ b ∷ older → IsBegunTask s k plan waiting phase b t older tasks → length older ≡ reads_count (member s k) + m → b.request ≡ request.Command (idn raw))
+      → ((b : Begun) (t : Task) (older : List Begun) (tasks : List Task) → begun ≡ b ∷ older → IsBegunTask s k plan waiting phase b t older tasks → reads_count (member s k) + m < length older → ⊥)
+      → IsCheckNewest blocks raw begun
+  newest_check raw m large few other [] tasks are well here late = absurd (false≢true well)
+  newest_check raw m large few other (b ∷ older) [] are well here late = absurd are
+  newest_check raw m large few other (b ∷ older) (t ∷ tasks) are well here late = elim (cases_eq (length older) (reads_count (member s k) + m)) [
+    | inl at ↦
+        let place : reads_count (member s k) + m ≡ length (outcomes_in older) = sym at ∙ sym are.1.ended in
+        let newest = newest_well (outcome_of b.request b.answers) (outcomes_in older) (ap (λ (n : ℕ). ended_well (given (outcomes_in (b ∷ older)) n)) (sym place) ∙ well) in
+        record {
+          one = b;
+          older = older;
+          split = refl;
+          asks = here b t older tasks refl are.1 at;
+          bytes = newest.0;
+          complete = newest.1;
+          well = newest.2;
+          away = all_elsewhere raw m large few other older tasks are.0 (omega (arith, at));
+        }
+    | inr apart ↦
+        let many = ended_there (outcomes_in (b ∷ older)) (reads_count (member s k) + m) well in
+        let short = not_longer (b ∷ older) in
+        absurd (late b t older tasks refl are.1 (omega (arith, many, short, apart)))
+  ]
+
+  -- what was so of an earlier outcome when the newest request was begun
+  well_before : (b : Begun) (older : List Begun) (i : ℕ) → i < length (outcomes_in older) → ended_well (given (outcomes_in (b ∷ older)) i) ≡ true → ended_well (given (outcomes_in older) i) ≡ true
+  well_before b older i less well = sym (ap ended_well (given_before (outcome_of b.request b.answers) (outcomes_in older) i less)) ∙ well
+
+  of_phase : (n : ℕ) (r : Request) (t : Task) → t ≡ startup n r → t.phase ≡ n
+  of_phase n r t same = ap (λ (x : Task). x.phase) same
+
+  -- THE CHECK FOR PHASE 3 in phase 2
+  pub check_127 : phase ≤ 2 → (begun : List Begun) (tasks : List Task) → AreBegunTasks s k plan waiting phase begun tasks → is_checked (member s k) (outcomes_in begun) ≡ true → IsCheckNewest blocks 127 begun
+  check_127 low begun tasks are well = newest_check 127 11 (omega arith) (omega arith) (λ less same. omega (arith, less)) begun tasks are well here late
+    where
+      here : (b : Begun) (t : Task) (older : List Begun) (more : List Task) → begun ≡ b ∷ older → IsBegunTask s k plan waiting phase b t older more → length older ≡ reads_count (member s k) + 11 → b.request ≡ request.Command (idn 127)
+      here b t older more split is place = by is.task
+        where
+          long : length (outcomes_in older) ≡ reads_count (member s k) + 11
+          long = is.ended ∙ place
+
+          by : IsTask s k is.by_then waiting (outcomes_in older) t → b.request ≡ request.Command (idn 127)
+          by (OfReads r early got same) = let l = long in absurd (omega (arith, l, early))
+          by (OfWrites p i r planned early at got same) = let l = long in absurd (omega (arith, l, early, at))
+          by (Checks3 p planned at same) = is.asks ∙ ap (λ (x : Task). x.request) same
+          by (Lists3 at failed same) = let l = long in absurd (omega (arith, l, at))
+          by (Checks4 at checked same) = let l = long in absurd (omega (arith, l, at))
+          by (Lists4 at failed same) = let l = long in absurd (omega (arith, l, at))
+          by (OfWaiting j at ready got) = let l = long in absurd (omega (arith, l, at))
+
+      late : (b : Begun) (t : Task) (older : List Begun) (more : List Task) → begun ≡ b ∷ older → IsBegunTask s k plan waiting phase b t older more → reads_count (member s k) + 11 < length older → ⊥
+      late b t older more split is place = by is.task
+        where
+          long : reads_count (member s k) + 11 < length (outcomes_in older)
+          long = let e = is.ended in omega (arith, e, place)
+
+          checked_then : is_checked (member s k) (outcomes_in older) ≡ true
+          checked_then = well_before b older (reads_count (member s k) + 11) long (ap (λ (l : List Begun). is_checked (member s k) (outcomes_in l)) (sym split) ∙ well)
+
+          early_phase : (n : ℕ) (r : Request) → t ≡ startup n r → n ≤ 2
+          early_phase n r same = let e = of_phase n r t same in let le = is.early in omega (arith, e, le, low)
+
+          by : IsTask s k is.by_then waiting (outcomes_in older) t → ⊥
+          by (OfReads r early got same) = let l = long in omega (arith, l, early)
+          by (OfWrites p i r planned early at got same) = let l = long in omega (arith, l, early, at)
+          by (Checks3 p planned at same) = let l = long in omega (arith, l, at)
+          by (Lists3 at failed same) = false≢true (sym failed ∙ checked_then)
+          by (Checks4 at checked same) = let le = early_phase 3 (request.Command (idn 128)) same in omega (arith, le)
+          by (Lists4 at failed same) = let le = early_phase 3 (request.Read (idn 22) 7) same in omega (arith, le)
+          by (OfWaiting j at ready got) = let four = waits j t got in let le = is.early in omega (arith, four, le, low)
+
+  -- THE CHECK FOR PHASE 4 in phase 3
+  pub check_128 : phase ≤ 3 → (begun : List Begun) (tasks : List Task) → AreBegunTasks s k plan waiting phase begun tasks → is_ready (member s k) (outcomes_in begun) ≡ true → IsCheckNewest blocks 128 begun
+  check_128 low begun tasks are ready = newest_check 128 12 (omega arith) (omega arith) (λ less same. omega (arith, same)) begun tasks are both.1 here late
+    where
+      both : (is_checked (member s k) (outcomes_in begun) ≡ true) × (ended_well (given (outcomes_in begun) (reads_count (member s k) + 12)) ≡ true)
+      both = and_parts (is_checked (member s k) (outcomes_in begun)) (ended_well (given (outcomes_in begun) (reads_count (member s k) + 12))) ready
+
+      checked_before : (b : Begun) (older : List Begun) → begun ≡ b ∷ older → reads_count (member s k) + 12 ≤ length (outcomes_in older) → is_checked (member s k) (outcomes_in older) ≡ true
+      checked_before b older split long = well_before b older (reads_count (member s k) + 11) (omega (arith, long)) (ap (λ (l : List Begun). is_checked (member s k) (outcomes_in l)) (sym split) ∙ both.0)
+
+      here : (b : Begun) (t : Task) (older : List Begun) (more : List Task) → begun ≡ b ∷ older → IsBegunTask s k plan waiting phase b t older more → length older ≡ reads_count (member s k) + 12 → b.request ≡ request.Command (idn 128)
+      here b t older more split is place = by is.task
+        where
+          long : length (outcomes_in older) ≡ reads_count (member s k) + 12
+          long = is.ended ∙ place
+
+          by : IsTask s k is.by_then waiting (outcomes_in older) t → b.request ≡ request.Command (idn 128)
+          by (OfReads r early got same) = let l = long in absurd (omega (arith, l, early))
+          by (OfWrites p i r planned early at got same) = let l = long in absurd (omega (arith, l, early, at))
+          by (Checks3 p planned at same) = let l = long in absurd (omega (arith, l, at))
+          by (Lists3 at failed same) = absurd (false≢true (sym failed ∙ checked_before b older split (let l = long in omega (arith, l))))
+          by (Checks4 at checked same) = is.asks ∙ ap (λ (x : Task). x.request) same
+          by (Lists4 at failed same) = let l = long in absurd (omega (arith, l, at))
+          by (OfWaiting j at made got) = let l = long in absurd (omega (arith, l, at))
+
+      late : (b : Begun) (t : Task) (older : List Begun) (more : List Task) → begun ≡ b ∷ older → IsBegunTask s k plan waiting phase b t older more → reads_count (member s k) + 12 < length older → ⊥
+      late b t older more split is place = by is.task
+        where
+          long : reads_count (member s k) + 12 < length (outcomes_in older)
+          long = let e = is.ended in omega (arith, e, place)
+
+          ready_then : is_ready (member s k) (outcomes_in older) ≡ true
+          ready_then = ap₂ (λ (x y : Bool). x && y) (checked_before b older split (let l = long in omega (arith, l)))
+              (well_before b older (reads_count (member s k) + 12) long (ap (λ (l : List Begun). ended_well (given (outcomes_in l) (reads_count (member s k) + 12))) (sym split) ∙ both.1))
+
+          by : IsTask s k is.by_then waiting (outcomes_in older) t → ⊥
+          by (OfReads r early got same) = let l = long in omega (arith, l, early)
+          by (OfWrites p i r planned early at got same) = let l = long in omega (arith, l, early, at)
+          by (Checks3 p planned at same) = let l = long in omega (arith, l, at)
+          by (Lists3 at failed same) = let l = long in omega (arith, l, at)
+          by (Checks4 at checked same) = let l = long in omega (arith, l, at)
+          by (Lists4 at failed same) = false≢true (sym failed ∙ ready_then)
+          by (OfWaiting j at made got) = let four = waits j t got in let le = is.early in omega (arith, four, le, low)

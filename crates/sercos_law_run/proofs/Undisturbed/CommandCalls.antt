@@ -1,0 +1,115 @@
+-- The procedure commands of a drive stand for the calls on them, through all cycles of a run. So what is kept of a check tells whether it
+-- counts as passed.
+use Rattle.std.proofs.Common.{◌≡◌, ℕ, suc, ◌+◌, ◌≤◌, ◌==◌, nat_le, Bool, true, false, ◌&&◌, List, [], ◌∷◌, length, Option, Some, None, refl, ◌∙◌, arith, ap, sym, if◌then◌else◌}
+use Rattle.std.specs.Prelude.{IfSome}
+use Rattle.std.proofs.lemmas.Bool.{le-leb}
+use mathlib.Core.Bool.{beq}
+use Rattle.sercos_block.specs.declared.block.Block.{Block}
+use Rattle.sercos_block.specs.Stores.{with_data}
+use Rattle.sercos_block.specs.Views.{DriveView, RingView}
+use Rattle.sercos_command.specs.Settings.{CommandsView, is_command, is_from, with_write, without_checks, without_settings}
+use Rattle.sercos_command.specs.Calls.{Call, Wrote, Other, Reset, newest, CommandsStandFor}
+use Rattle.sercos_service_drive.specs.Log.{Taken, ahs, record_of}
+use Rattle.sercos_service_drive.specs.Replies.{reply_of, log_of}
+use Rattle.sercos_service_drive.specs.Writes.{Write, setting_in, added_by, adds, added_on, commands_with, calls_with}
+use Rattle.sercos_drive.specs.declared.hearing.Told.{Told}
+use Rattle.sercos_drive.specs.Heard.{DriveCall, mdt_got}
+use Rattle.sercos_drive.specs.Moments.{Moment, phase_in, cycle_in, has_mst, taken_in, blocks_in, commands_after, calls_after, reset_in, commands_in, with_reset, calls_in}
+use Rattle.sercos_drive.specs.Annals.{annals, has_passed, processed_in, ends_in}
+use Rattle.sercos_trace.specs.Views.{CycleView}
+use Rattle.sercos_script.specs.Links.{Carry, Restarts}
+use Rattle.sercos_law_run.specs.Journal.Records.{mdt_in}
+use Rattle.sercos_law_run.specs.Journal.Runs.{drive_at, with_restart, mdt_heard, given_before, given_mst}
+use Rattle.sercos_law_run.proofs.Undisturbed.LogLeaves.{added_cycle}
+use Rattle.sercos_command.proofs.CallLemmas.{stands_written, stands_other, stands_reset}
+
+-- Commands stand for calls, of which none was for a later cycle than this.
+pub record StandBy (c : CommandsView) (rate time : ℕ) (h : List Call) (cycle : ℕ) : Type 0 where
+  pub stand : CommandsStandFor c rate time h
+  pub order : newest h ≤ cycle
+
+in_phase : (phase : ℕ) (c : CommandsView) (rate time : ℕ) (h : List Call) (cycle : ℕ) → StandBy c rate time h cycle → StandBy (reset_in phase c) rate time (with_reset phase h) cycle
+in_phase phase c rate time h cycle s = by (phase == 0)
+  where
+    by : (zero : Bool) → StandBy (if zero then without_settings c else c) rate time (if zero then Reset ∷ h else h) cycle
+    by true = record { stand = stands_reset refl rate time h s.stand; order = s.order }
+    by false = s
+
+with_one : (o : Option Write) (blocks : List Block) (c : CommandsView) (rate time : ℕ) (h : List Call) (cycle : ℕ) → IfSome o (λ w. w.cycle ≡ cycle) → StandBy c rate time h cycle → StandBy (commands_with o blocks c) rate time (calls_with o blocks h) cycle
+with_one None blocks c rate time h cycle at s = s
+with_one (Some w) blocks c rate time h cycle at s = by (is_command blocks w.raw)
+  where
+    order : newest h ≤ w.cycle
+    order = let before = s.order in omega (arith, before, at)
+
+    late : w.cycle ≤ cycle
+    late = omega (arith, at)
+
+    by : (b : Bool) → StandBy (if b then with_write w.raw (setting_in w) w.cycle (with_data w.raw w.bytes blocks) c else without_checks c) rate time
+        ((if b then Wrote w.raw (setting_in w) w.cycle (with_data w.raw w.bytes blocks) else Other w.cycle) ∷ h) cycle
+    by true = record { stand = stands_written w.raw (setting_in w) w.cycle (with_data w.raw w.bytes blocks) refl rate time h s.stand order; order = late }
+    by false = record { stand = stands_other w.cycle refl rate time h s.stand order; order = late }
+
+-- the write of a record is in its cycle
+record_cycle : (t : Taken) (h : List Taken) → IfSome (added_on t h) (λ w. w.cycle ≡ t.cycle)
+record_cycle t h = dropped (beq t.mhs (ahs h))
+  where
+    one : (o : Option Write) → added_by (record { taken = t; answer = reply_of t (log_of h) }) (log_of h) ≡ o → IfSome o (λ w. w.cycle ≡ t.cycle)
+    one None is = tt
+    one (Some w) is = added_cycle (record { taken = t; answer = reply_of t (log_of h) }) (log_of h) w is
+
+    dropped : (v : Bool) → IfSome (if v then None else adds t (log_of h)) (λ w. w.cycle ≡ t.cycle)
+    dropped true = tt
+    dropped false = one (adds t (log_of h)) refl
+
+-- THE DRIVE after some moments
+abbrev pub Keeps : DriveView → ℕ → List Moment → ℕ → Type 0
+Keeps d rate past cycle = StandBy (commands_in d rate past) rate d.command (calls_in past) cycle
+
+keeps_record : (d : DriveView) (rate : ℕ) (told : Option Told) (past : List Moment) (cycle : ℕ) → cycle_in past ≡ cycle → Keeps d rate past cycle
+    → StandBy (commands_after (processed_in d rate told past) (taken_in past) (commands_in d rate past)) rate d.command (calls_after (processed_in d rate told past) (taken_in past) (calls_in past)) cycle
+keeps_record d rate None past cycle now s = s
+keeps_record d rate (Some told) past cycle now s = by (has_mst past && nat_le 2 (phase_in past))
+  where
+    t : Taken
+    t = record_of (cycle_in past) (phase_in past) told.control told.info (blocks_in d past) (commands_in d rate past)
+
+    at : (o : Option Write) → IfSome o (λ w. w.cycle ≡ cycle_in past) → IfSome o (λ w. w.cycle ≡ cycle)
+    at None is = tt
+    at (Some w) is = is ∙ now
+
+    by : (v : Bool) → StandBy (commands_after (if v then Some t else None) (taken_in past) (commands_in d rate past)) rate d.command (calls_after (if v then Some t else None) (taken_in past) (calls_in past)) cycle
+    by true = with_one (added_on t (taken_in past)) (blocks_in d past) (commands_in d rate past) rate d.command (calls_in past) cycle (at (added_on t (taken_in past)) (record_cycle t (taken_in past))) s
+    by false = s
+
+keeps_restart : (d : DriveView) (rate : ℕ) (restarts : Bool) (calls : List DriveCall) (cycle : ℕ) → Keeps d rate (annals d rate calls) cycle → Keeps d rate (annals d rate (with_restart restarts calls)) cycle
+keeps_restart d rate true calls cycle s = record { stand = stands_reset refl rate d.command (calls_in (annals d rate calls)) s.stand; order = s.order }
+keeps_restart d rate false calls cycle s = s
+
+later : (c : CommandsView) (rate time : ℕ) (h : List Call) (cycle : ℕ) → StandBy c rate time h cycle → StandBy c rate time h (suc cycle)
+later c rate time h cycle s = record { stand = s.stand; order = let before = s.order in omega (arith, before) }
+
+-- BEFORE EACH CYCLE
+pub keeps_before : (r : RingView) (carry : Carry) (restarts : Restarts) (k : ℕ) (j : List CycleView) → Keeps (drive_at r k) r.rate (annals (drive_at r k) r.rate (given_before carry restarts j k)) (length j)
+keeps_before r carry restarts k [] = record {
+  stand = record { rate_is = refl; time_is = refl; in_order = tt; set_is = refl; passed_127_is = λ _ _. refl; passed_128_is = λ _ _. refl };
+  order = omega arith;
+}
+keeps_before r carry restarts k (t ∷ j) =
+    let d : DriveView = drive_at r k in
+    let calls : List DriveCall = with_restart (restarts (length j) (k + 1)) (given_before carry restarts j k) in
+    let first : List Moment = annals d r.rate calls in
+    let behind : List Moment = annals d r.rate (given_mst carry restarts t.sent j k) in
+    let told : Option Told = mdt_got d.address (phase_in behind) (blocks_in d behind) (mdt_heard carry (length j) (k + 1) (mdt_in t.sent)) in
+    let at_mst : Keeps d r.rate behind (length j) = in_phase (phase_in behind) (commands_in d r.rate first) r.rate d.command (calls_in first) (length j)
+    (keeps_restart d r.rate (restarts (length j) (k + 1)) (given_before carry restarts j k) (length j) (keeps_before r carry restarts k j)) in
+    let at_mdt = in_phase (ends_in told behind) (commands_after (processed_in d r.rate told behind) (taken_in behind) (commands_in d r.rate behind)) r.rate d.command (calls_after (processed_in d r.rate told behind) (taken_in behind) (calls_in behind)) (length j)
+    (keeps_record d r.rate told behind (length j) refl at_mst) in
+    later _ _ _ _ (length j) at_mdt
+
+-- THE CHECKS in a cycle before which the drive doesn't restart
+pub counts_127 : (d : DriveView) (rate cycle first : ℕ) (past : List Moment) → Keeps d rate past cycle → (commands_in d rate past).passed_127 ≡ Some first → first ≤ cycle → has_passed d rate cycle 3 past ≡ true
+counts_127 d rate cycle first past s is le = sym (s.stand.passed_127_is cycle s.order) ∙ ap (λ (o : Option ℕ). is_from o cycle) is ∙ le-leb first cycle le
+
+pub counts_128 : (d : DriveView) (rate cycle first : ℕ) (past : List Moment) → Keeps d rate past cycle → (commands_in d rate past).passed_128 ≡ Some first → first ≤ cycle → has_passed d rate cycle 4 past ≡ true
+counts_128 d rate cycle first past s is le = sym (s.stand.passed_128_is cycle s.order) ∙ ap (λ (o : Option ℕ). is_from o cycle) is ∙ le-leb first cycle le

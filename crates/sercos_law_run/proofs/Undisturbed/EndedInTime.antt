@@ -1,0 +1,263 @@
+-- In phase 4 of an undisturbed epoch the requests to a drive end one after the other, each within the cycles that this profile gives a request.
+use Rattle.std.proofs.Common.{◌≡◌, inl, inr, ℕ, zero, suc, ◌+◌, ◌*◌, ◌<◌, ◌≤◌, false, List, [], ◌∷◌, ◌++◌, length, Option, Some, None, refl, sym, ap, ◌∙◌, subst, arith, if◌then◌else◌, length-append}
+use Rattle.std.specs.Prelude.{is_none, is_some}
+use Rattle.std.proofs.lemmas.Bool.{cases_lt, false≢true}
+use Rattle.sercos_step.specs.declared.request.Job.{Job}
+use Rattle.sercos_step.specs.declared.request.Outcome.{Outcome}
+use Rattle.sercos_step.specs.Steps.{next_step, outcome_of}
+use Rattle.sercos_timing.specs.Views.{PlanView}
+use Rattle.sercos_block.specs.Startup.{startup_bound}
+use Rattle.sercos_block.specs.Stores.{store_of}
+use Rattle.sercos_block.specs.Views.{RingView}
+use Rattle.sercos_service_master.specs.Begun.{Begun, open_in, answers_in}
+use Rattle.sercos_trace.specs.Views.{CycleView}
+use Rattle.sercos_seat.specs.Agenda.{reads_count}
+use Rattle.sercos_seat.specs.Channel.{outcomes_in, with_outcome}
+use Rattle.sercos_seat.specs.Ring.{Known, Task, known_of, member}
+use Rattle.sercos_seat.proofs.Queues.{ready_long}
+use Rattle.sercos_master.specs.Annals.{outcomes, is_idle}
+use Rattle.sercos_master.proofs.Followed.{not_longer}
+use Rattle.sercos_script.specs.Links.{Carry, Restarts}
+use Rattle.sercos_law_channel.specs.Handshake.Epochs.{epoch_begun}
+use Rattle.sercos_law_channel.specs.Handshake.RunLaws.{ComesUp}
+use Rattle.sercos_law_channel.specs.Handshake.Views.{View, standing}
+use Rattle.sercos_law_channel.specs.Handshake.WholeRun.{AreSound}
+use Rattle.sercos_law_channel.specs.Pace.Ages.{OpensAlways}
+use Rattle.sercos_law_channel.specs.Pace.ChannelCalls.{NoneLate}
+use Rattle.sercos_law_channel.specs.Pace.Costs.{AreTimed, ComesTimed}
+use Rattle.sercos_law_channel.specs.Pace.Passages.{StandsThroughout, HearsThroughout, RecoversInTime}
+use Rattle.sercos_law_channel.specs.Pace.StartCosts.{RecoversSince}
+use Rattle.sercos_law_channel.specs.Pace.Stretches.{open_since}
+use Rattle.sercos_law_run.specs.Journal.Runs.{drive_at, master_calls, looks_back, IsRun, IsClear}
+use Rattle.sercos_law_run.specs.Agenda.Tasks.{AreBegunTasks}
+use Rattle.sercos_law_run.specs.Agenda.Turns.{WorkInTurn, WorksInFour}
+use Rattle.sercos_law_run.specs.Views.RingViews.{behind_mdt, view_of, views_of}
+use Rattle.sercos_law_run.specs.Held.Opened.{IsOpened}
+use Rattle.sercos_law_run.proofs.Held.Runs.{Laws, small}
+use Rattle.sercos_law_run.proofs.Headline.HeadlineRuns.{MoreLaws, all_stand, first_store}
+use Rattle.sercos_law_run.specs.Undisturbed.Ends.{ComesToPhaseFour}
+use Rattle.sercos_law_run.specs.Undisturbed.EpochStarts.{StartsEpoch}
+use Rattle.sercos_law_run.specs.Undisturbed.Reports.{request_cycles, waiting_after}
+use Rattle.sercos_law_run.specs.Undisturbed.StopsLater.{NoStopInFour}
+use Rattle.sercos_law_run.specs.Undisturbed.Undisturbed.{AreUndisturbed}
+use Rattle.sercos_law_run.specs.Undisturbed.ViewsSince.{views_since}
+use Rattle.sercos_law_run.proofs.Undisturbed.BehindRests.{Follow, follow_since}
+use Rattle.sercos_law_run.proofs.Undisturbed.Carried.{are_carried}
+use Rattle.sercos_law_run.proofs.Undisturbed.CommandRuns.{first_commands}
+use Rattle.sercos_law_run.proofs.Undisturbed.EpochCycles.{IsOn, AreOn, IsCut, cut, run_rest, wholes, none_along, waits_now, waits_along, outcomes_after, more_along, phase_before, four_along, are_on}
+use Rattle.sercos_law_run.proofs.Undisturbed.InFour.{four_since, ready_now, busy_now, at_work}
+use Rattle.sercos_law_run.proofs.Undisturbed.JobsBegun.{begun_now, tasks_now}
+use Rattle.sercos_law_run.proofs.Undisturbed.NeverFalls.{runs_split}
+use Rattle.sercos_law_run.proofs.Undisturbed.OneRequest.{room, one_lasts}
+use Rattle.sercos_law_run.proofs.Undisturbed.PassedCycles.{views_split}
+use Rattle.sercos_law_run.proofs.Undisturbed.PassedRuns.{commands_so}
+use Rattle.sercos_law_run.proofs.Undisturbed.PhaseTwo.{listed_all}
+use Rattle.sercos_law_run.proofs.Undisturbed.RefusedRuns.{SaysShape}
+use Rattle.sercos_law_run.proofs.Undisturbed.Small.{first_is}
+use Rattle.sercos_law_run.proofs.Undisturbed.StopStays.{stop_after}
+
+-- THE REQUEST AT WORK: all that were begun before it have ended.
+record IsAlone (n : ℕ) (begun : List Begun) : Type 0 where
+  one : Begun
+  older : List Begun
+  split : begun ≡ one ∷ older
+  shut : open_in older ≡ None
+  long : length older ≡ n
+
+rest_shut : (older : List Begun) → length (outcomes_in older) ≡ length older → open_in older ≡ None
+rest_shut [] ended = refl
+rest_shut (c ∷ older) ended = by (outcome_of c.request c.answers) refl
+  where
+    by : (o : Option Outcome) → outcome_of c.request c.answers ≡ o → open_in (c ∷ older) ≡ None
+    by (Some o) is = ap (λ (x : Option Outcome). if is_some x then None else next_step c.request c.answers) is
+    by None is =
+        let few = not_longer older in
+        let all : length (with_outcome (outcome_of c.request c.answers) (outcomes_in older)) ≡ length (outcomes_in older) = ap (λ (x : Option Outcome). length (with_outcome x (outcomes_in older))) is in
+        absurd (omega (arith, few, all, ended))
+
+alone : (s : Known) (k : ℕ) (plan : Option PlanView) (waiting : List Task) (phase : ℕ) (begun : List Begun) (tasks : List Task) → AreBegunTasks s k plan waiting phase begun tasks → is_none (open_in begun) ≡ false → IsAlone (length (outcomes_in begun)) begun
+alone s k plan waiting phase [] tasks are works = absurd (false≢true (sym works))
+alone s k plan waiting phase (b ∷ older) [] are works = absurd are
+alone s k plan waiting phase (b ∷ older) (t ∷ tasks) are works = record { one = b; older = older; split = refl; shut = rest_shut older are.1.ended; long = by (outcome_of b.request b.answers) works }
+  where
+    by : (o : Option Outcome) → is_none (if is_some o then None else next_step b.request b.answers) ≡ false → length older ≡ length (with_outcome o (outcomes_in older))
+    by None on = sym are.1.ended
+    by (Some o) on = absurd (false≢true (sym on))
+
+-- the older requests are the same ones as long as there are as many
+same_older : (recent old : List Begun) (b : Begun) (older : List Begun) → recent ++ old ≡ b ∷ older → length old ≡ length older → old ≡ older
+same_older [] old b older is long = let all = ap (λ (l : List Begun). length l) is in absurd (omega (arith, all, long))
+same_older (c ∷ []) old b older is long = (first_is c b old older is).1
+same_older (c ∷ d ∷ recent) old b older is long =
+    let all = ap (λ (l : List Begun). length l) is in
+    let parts = length-append recent old in absurd (omega (arith, all, parts, long))
+
+length_since : (r : RingView) (jobs : List Job) (carry : Carry) (restarts : Restarts) (k : ℕ) (cycles rest : List CycleView) → length (views_since r jobs carry restarts k cycles rest) ≡ length cycles
+length_since r jobs carry restarts k [] rest = refl
+length_since r jobs carry restarts k (t ∷ cycles) rest = ap suc (length_since r jobs carry restarts k cycles rest)
+
+some_cycles : (x : ℕ) → 1 ≤ x → (n : ℕ) × (x ≡ suc n)
+some_cycles zero some = absurd (omega (arith, some))
+some_cycles (suc n) some = (n, refl)
+
+one_time_more : (i c : ℕ) → suc i * c ≡ i * c + c
+one_time_more i c = grind arith
+
+module _ (laws : Laws) (more : MoreLaws) (comes_up : (busy : ℕ) → ComesUp busy) (works : WorksInFour) (always : OpensAlways) (said : SaysShape) (timed : ComesTimed) (recovers : (busy : ℕ) → RecoversInTime busy) (since : (busy : ℕ) → RecoversSince busy)
+    (r : RingView) (jobs : List Job) (carry : Carry) (restarts : Restarts) (opened : IsOpened r jobs) (k : ℕ) (below : k < length r.drives) where
+  -- what is open is alone
+  alone_in : (t : CycleView) (j : List CycleView) → IsRun r jobs carry restarts (t ∷ j) → IsClear (t ∷ j) → IsOn r jobs carry restarts t j → is_idle (behind_mdt r jobs carry restarts t.sent j) k ≡ false
+      → IsAlone (length (outcomes (behind_mdt r jobs carry restarts t.sent j) k)) (epoch_begun (views_of r jobs carry restarts k (t ∷ j)))
+  alone_in t j run clear on busy =
+      let p = behind_mdt r jobs carry restarts t.sent j in
+      let same = begun_now laws more r jobs carry restarts opened t j run clear on.stays k below in
+      subst (λ (n : ℕ). IsAlone n (epoch_begun (views_of r jobs carry restarts k (t ∷ j)))) (ap (λ (l : List Begun). length (outcomes_in l)) (sym same))
+      (alone (known_of r) k p.plan (p.waiting k) p.now.phase (epoch_begun (views_of r jobs carry restarts k (t ∷ j))) (p.tasks k) (tasks_now laws more r jobs carry restarts opened t j run clear on.stays k below)
+      (ap (λ (l : List Begun). is_none (open_in l)) (sym same) ∙ busy))
+
+  -- NO REQUEST LASTS so long: after a cycle of phase 4 in which those before it had ended.
+  module _ (i : ℕ) (t : CycleView) (newer : List CycleView) (one : CycleView) (old : List CycleView) (run : IsRun r jobs carry restarts (t ∷ (newer ++ one ∷ old))) (clear : IsClear (t ∷ (newer ++ one ∷ old)))
+      (on : AreOn r jobs carry restarts (t ∷ newer) (one ∷ old)) (first : IsOn r jobs carry restarts one old) (one_four : one.phase ≡ 4) (t_four : t.phase ≡ 4) (none : (behind_mdt r jobs carry restarts t.sent (newer ++ one ∷ old)).stop ≡ None)
+      (low : i < length ((looks_back r jobs (master_calls r carry restarts old)).waiting k)) (enough : reads_count (member (known_of r) k) + (13 + i) ≤ length (outcomes (behind_mdt r jobs carry restarts one.sent old) k))
+      (few : length (outcomes (behind_mdt r jobs carry restarts t.sent (newer ++ one ∷ old)) k) ≤ reads_count (member (known_of r) k) + (13 + i)) where
+    rest_run : IsRun r jobs carry restarts (one ∷ old) × IsClear (one ∷ old)
+    rest_run = run_rest r jobs carry restarts (t ∷ newer) (one ∷ old) run clear
+
+    -- at the ends of cycles
+    none_end : (looks_back r jobs (master_calls r carry restarts (t ∷ (newer ++ one ∷ old)))).stop ≡ None
+    none_end = stop_after r jobs carry restarts t (newer ++ one ∷ old) on.1.stays ∙ none
+
+    few_end : length (outcomes (looks_back r jobs (master_calls r carry restarts (t ∷ (newer ++ one ∷ old)))) k) ≤ reads_count (member (known_of r) k) + (13 + i)
+    few_end = subst (λ (l : List Outcome). length l ≤ reads_count (member (known_of r) k) + (13 + i)) (sym (outcomes_after laws more r jobs carry restarts opened t (newer ++ one ∷ old) on.1 k)) few
+
+    four_then : (looks_back r jobs (master_calls r carry restarts (one ∷ old))).now.phase ≡ 4
+    four_then = four_along laws more comes_up r jobs carry restarts opened (one ∷ []) old rest_run.0 (tt, first) (sym (phase_before laws more comes_up r jobs carry restarts opened one old rest_run.0 first) ∙ one_four)
+
+    low_then : i < length ((looks_back r jobs (master_calls r carry restarts (one ∷ old))).waiting k)
+    low_then = subst (λ (l : List Task). i < length l) (sym (waits_along r jobs carry restarts (one ∷ []) old (tt, first) k)) low
+
+    -- the first cycle
+    grown : length (outcomes (behind_mdt r jobs carry restarts one.sent old) k) ≤ length (outcomes (behind_mdt r jobs carry restarts t.sent (newer ++ one ∷ old)) k)
+    grown =
+        let along = more_along laws more r jobs carry restarts opened (t ∷ newer) (one ∷ old) run clear on k below in
+        let before = ap (λ (l : List Outcome). length l) (outcomes_after laws more r jobs carry restarts opened one old first k) in
+        let after = ap (λ (l : List Outcome). length l) (outcomes_after laws more r jobs carry restarts opened t (newer ++ one ∷ old) on.1 k) in
+        omega (arith, along, before, after)
+
+    busy_first : is_idle (behind_mdt r jobs carry restarts one.sent old) k ≡ false
+    busy_first = busy_now laws more comes_up works r jobs carry restarts opened k below one old rest_run.0 rest_run.1 first one_four i (subst (λ (l : List Task). i < length l) (sym (waits_now r jobs carry restarts one old first k)) low)
+        (sym (stop_after r jobs carry restarts one old first.stays) ∙ none_along r jobs carry restarts (t ∷ newer) (one ∷ old) on none_end) (let grows = grown in omega (arith, grows, few))
+
+    alone_first : IsAlone (length (outcomes (behind_mdt r jobs carry restarts one.sent old) k)) (epoch_begun (views_of r jobs carry restarts k (one ∷ old)))
+    alone_first = alone_in one old rest_run.0 rest_run.1 first busy_first
+
+    -- the last cycle
+    busy_last : is_idle (behind_mdt r jobs carry restarts t.sent (newer ++ one ∷ old)) k ≡ false
+    busy_last = busy_now laws more comes_up works r jobs carry restarts opened k below t (newer ++ one ∷ old) run clear on.1 t_four i
+        (subst (λ (l : List Task). i < length l) (sym (waits_now r jobs carry restarts t (newer ++ one ∷ old) on.1 k ∙ waits_along r jobs carry restarts newer (one ∷ old) on.0 k)) low_then) none few
+
+    alone_last : IsAlone (length (outcomes (behind_mdt r jobs carry restarts t.sent (newer ++ one ∷ old)) k)) (epoch_begun (views_of r jobs carry restarts k (t ∷ (newer ++ one ∷ old))))
+    alone_last = alone_in t (newer ++ one ∷ old) run clear on.1 busy_last
+
+    -- the views
+    split : views_of r jobs carry restarts k (t ∷ (newer ++ one ∷ old)) ≡ views_since r jobs carry restarts k (t ∷ newer) (one ∷ old) ++ views_of r jobs carry restarts k (one ∷ old)
+    split = views_split r jobs carry restarts k (t ∷ newer) (one ∷ old)
+
+    follows : Follow alone_first.older (epoch_begun (views_since r jobs carry restarts k (t ∷ newer) (one ∷ old) ++ views_of r jobs carry restarts k (one ∷ old)))
+    follows = follow_since (views_since r jobs carry restarts k (t ∷ newer) (one ∷ old)) (views_of r jobs carry restarts k (one ∷ old)) alone_first.older (wholes r jobs carry restarts (t ∷ newer) (one ∷ old) on k below) alone_first.shut
+        (alone_first.one ∷ [], alone_first.split)
+
+    begun_last : epoch_begun (views_since r jobs carry restarts k (t ∷ newer) (one ∷ old) ++ views_of r jobs carry restarts k (one ∷ old)) ≡ alone_last.one ∷ alone_first.older
+    begun_last =
+        let now : epoch_begun (views_since r jobs carry restarts k (t ∷ newer) (one ∷ old) ++ views_of r jobs carry restarts k (one ∷ old)) ≡ alone_last.one ∷ alone_last.older = ap (λ (l : List View). epoch_begun l) (sym split) ∙ alone_last.split in
+        let long_first = alone_first.long in
+        let long_last = alone_last.long in
+        let grows = grown in
+        let same = same_older follows.0 alone_first.older alone_last.one alone_last.older (sym follows.1 ∙ now) (omega (arith, long_first, long_last, grows, enough, few)) in
+        now ∙ ap (λ (l : List Begun). alone_last.one ∷ l) (sym same)
+
+    answered : length (answers_in alone_first.older) ≤ length (answers_in (epoch_begun (views_of r jobs carry restarts k (one ∷ old))))
+    answered =
+        let all = ap (λ (l : List Begun). length (answers_in l)) alone_first.split in
+        let parts = length-append alone_first.one.answers (answers_in alone_first.older) in omega (arith, all, parts)
+
+    lasts : open_since (views_since r jobs carry restarts k (t ∷ newer) (one ∷ old)) (views_of r jobs carry restarts k (one ∷ old)) < request_cycles r k
+    lasts = one_lasts said (drive_at r k).busy (drive_at r k).command (store_of (drive_at r k)) (small laws r jobs carry restarts opened (first_store laws more r jobs carry restarts opened) k below) (first_store laws more r jobs carry restarts opened k below)
+        (recovers (drive_at r k).busy) (since (drive_at r k).busy) (views_since r jobs carry restarts k (t ∷ newer) (one ∷ old)) (view_of r jobs carry restarts k one old) (views_of r jobs carry restarts k old) alone_last.one alone_first.older
+        (runs_split laws more r jobs carry restarts opened (t ∷ newer) (one ∷ old) run clear k below) (subst (λ (l : List View). AreSound (store_of (drive_at r k)) l) split (all_stand laws more r jobs carry restarts opened (t ∷ (newer ++ one ∷ old)) run clear k below).sound)
+        (subst (λ (l : List View). AreTimed (drive_at r k).command l) split in_time) (listed_all (views_since r jobs carry restarts k (t ∷ newer) (one ∷ old) ++ views_of r jobs carry restarts k (one ∷ old)))
+        (first.whole k below) (wholes r jobs carry restarts (t ∷ newer) (one ∷ old) on k below) stands begun_last alone_first.shut answered
+      where
+        in_time : AreTimed (drive_at r k).command (views_of r jobs carry restarts k (t ∷ (newer ++ one ∷ old)))
+        in_time = timed (drive_at r k).command (views_of r jobs carry restarts k (t ∷ (newer ++ one ∷ old)))
+            (are_carried (drive_at r k).command (first_commands r k) refl refl (views_of r jobs carry restarts k (t ∷ (newer ++ one ∷ old))) (commands_so laws more r jobs carry restarts opened (t ∷ (newer ++ one ∷ old)) run clear k below).follow)
+
+        stands : (standing (views_since r jobs carry restarts k (t ∷ newer) (one ∷ old) ++ views_of r jobs carry restarts k (one ∷ old))).ended ≡ 0 → ⊥
+        stands down = let both : 4 ≡ 0 = sym t_four ∙ sym (on.1.up k below) ∙ ap (λ (l : List View). (standing l).ended) split ∙ down in omega (arith, both)
+
+    pub never_so_long : length (t ∷ newer) ≡ request_cycles r k → ⊥
+    never_so_long long =
+        let all = always (views_since r jobs carry restarts k (t ∷ newer) (one ∷ old)) (views_of r jobs carry restarts k (one ∷ old))
+        (at_work laws more comes_up works r jobs carry restarts opened k below i (t ∷ newer) (one ∷ old) run clear on four_then low_then none_end few_end) in
+        let count = length_since r jobs carry restarts k (t ∷ newer) (one ∷ old) in
+        let less = lasts in omega (arith, all, count, less, long)
+
+-- SO THE REQUESTS END IN TIME.
+module _ (laws : Laws) (more : MoreLaws) (turn : WorkInTurn) (comes_up : (busy : ℕ) → ComesUp busy) (late : (busy : ℕ) → NoneLate busy) (stand : (busy : ℕ) → StandsThroughout busy) (hear : (busy : ℕ) → HearsThroughout busy)
+    (works : WorksInFour) (always : OpensAlways) (said : SaysShape) (timed : ComesTimed) (recovers : (busy : ℕ) → RecoversInTime busy) (since : (busy : ℕ) → RecoversSince busy) (reaches : ComesToPhaseFour) (no_stop : NoStopInFour)
+    (r : RingView) (jobs : List Job) (carry : Carry) (restarts : Restarts) (opened : IsOpened r jobs) (before : List CycleView) (starts : StartsEpoch r jobs carry restarts before) (k : ℕ) (below : k < length r.drives) where
+  -- in each cycle that is so late the first i requests have ended
+  abbrev pub HaveEnded : ℕ → Type 0
+  HaveEnded i = (t : CycleView) (cycles : List CycleView) → IsRun r jobs carry restarts (t ∷ (cycles ++ before)) → IsClear (t ∷ (cycles ++ before)) → AreUndisturbed r carry restarts (t ∷ cycles) before → t.phase ≡ 4
+      → startup_bound r + i * request_cycles r k ≤ length cycles → i ≤ length (waiting_after r jobs carry restarts before k) → reads_count (member (known_of r) k) + (13 + i) ≤ length (outcomes (behind_mdt r jobs carry restarts t.sent (cycles ++ before)) k)
+
+  one_more : (i : ℕ) → HaveEnded i → HaveEnded (suc i)
+  one_more i earlier t cycles run clear calm four long low = elim (cases_lt (length (outcomes (behind_mdt r jobs carry restarts t.sent (cycles ++ before)) k)) (reads_count (member (known_of r) k) + (13 + suc i))) [
+    | inl less ↦ absurd (never (omega (arith, less)))
+    | inr enough ↦ enough
+  ]
+    where
+      on : AreOn r jobs carry restarts (t ∷ cycles) before
+      on = are_on laws more turn comes_up late r jobs carry restarts opened stand hear (t ∷ cycles) before run clear starts calm
+
+      some : (n : ℕ) × (request_cycles r k ≡ suc n)
+      some = some_cycles (request_cycles r k) (let all = room (drive_at r k).busy (drive_at r k).command in omega (arith, all))
+
+      c : IsCut r jobs carry restarts some.0 cycles before
+      c = cut r jobs carry restarts cycles before some.0 (let is = some.1 in let times = one_time_more i (request_cycles r k) in omega (arith, is, times, long)) on.0 calm.0
+
+      run_cut : IsRun r jobs carry restarts (t ∷ (c.newer ++ c.one ∷ (c.older ++ before)))
+      run_cut = subst (λ (l : List CycleView). IsRun r jobs carry restarts (t ∷ l)) c.is run
+
+      clear_cut : IsClear (t ∷ (c.newer ++ c.one ∷ (c.older ++ before)))
+      clear_cut = subst (λ (l : List CycleView). IsClear (t ∷ l)) c.is clear
+
+      on_cut : AreOn r jobs carry restarts (t ∷ c.newer) (c.one ∷ (c.older ++ before))
+      on_cut = (c.on, subst (λ (l : List CycleView). IsOn r jobs carry restarts t l) c.is on.1)
+
+      rest_run : IsRun r jobs carry restarts (c.one ∷ (c.older ++ before)) × IsClear (c.one ∷ (c.older ++ before))
+      rest_run = run_rest r jobs carry restarts (t ∷ c.newer) (c.one ∷ (c.older ++ before)) run_cut clear_cut
+
+      on_rest : AreOn r jobs carry restarts (c.one ∷ c.older) before
+      on_rest = are_on laws more turn comes_up late r jobs carry restarts opened stand hear (c.one ∷ c.older) before rest_run.0 rest_run.1 starts c.calm
+
+      late_enough : startup_bound r + i * request_cycles r k ≤ length c.older
+      late_enough = let is = some.1 in let times = one_time_more i (request_cycles r k) in let rest = c.rest in omega (arith, is, times, rest, long)
+
+      one_four : c.one.phase ≡ 4
+      one_four = four_since laws more comes_up reaches no_stop r jobs carry restarts opened t c.newer c.one c.older before run_cut clear_cut on_cut on_rest.1 starts c.calm (let enough = late_enough in omega (arith, enough)) four
+
+      never : length (outcomes (behind_mdt r jobs carry restarts t.sent (cycles ++ before)) k) ≤ reads_count (member (known_of r) k) + (13 + i) → ⊥
+      never few = never_so_long laws more comes_up works always said timed recovers since r jobs carry restarts opened k below i t c.newer c.one (c.older ++ before) run_cut clear_cut on_cut on_rest.1 one_four four
+          (no_stop r jobs carry restarts t (c.newer ++ c.one ∷ (c.older ++ before)) opened run_cut clear_cut on_cut.1.stays four)
+          (subst (λ (l : List Task). i < length l) (sym (waits_along r jobs carry restarts c.older before on_rest.0 k)) (omega (arith, low)))
+          (earlier c.one c.older rest_run.0 rest_run.1 c.calm one_four late_enough (omega (arith, low)))
+          (subst (λ (l : List CycleView). length (outcomes (behind_mdt r jobs carry restarts t.sent l) k) ≤ reads_count (member (known_of r) k) + (13 + i)) c.is few)
+          (let is = some.1 in let count = c.long in omega (arith, is, count))
+
+  pub have_ended : (i : ℕ) → HaveEnded i
+  have_ended zero = λ t cycles run clear calm four long low.
+      let on = are_on laws more turn comes_up late r jobs carry restarts opened stand hear (t ∷ cycles) before run clear starts calm in
+      let many = ready_long (member (known_of r) k) (outcomes (behind_mdt r jobs carry restarts t.sent (cycles ++ before)) k) (ready_now laws more comes_up works r jobs carry restarts opened k below t (cycles ++ before) run clear on.1 four) in
+      omega (arith, many)
+  have_ended (suc i) = one_more i (have_ended i)

@@ -1,0 +1,168 @@
+-- In phase 2, where a drive's writes have begun, the check for phase 3 of each drive before it in the ring has ended well.
+use Rattle.std.proofs.Common.{◌≡◌, inl, inr, ℕ, zero, suc, ◌+◌, ◌<◌, ◌≤◌, Bool, true, false, not, ◌&&◌, List, [], ◌∷◌, length, Option, Some, None, refl, sym, ap, ◌∙◌, subst, arith, if◌then◌else◌}
+use Rattle.std.specs.Prelude.{◌==◌, nat_le, is_none, is_some}
+use Rattle.std.specs.Option.{option_or}
+use Rattle.std.proofs.lemmas.Bool.{and_parts, cases_eq, cases_lt, false≢true, or_cases, leb-true, le-leb}
+use Rattle.sercos_telegram.specs.declared.words.Status.{Status}
+use Rattle.sercos_step.specs.declared.request.Request.{Request}
+use Rattle.sercos_step.specs.declared.request.Outcome.{Outcome}
+use Rattle.sercos_service_master.specs.Begun.{Begun, answers_it, answer_in, with_answer}
+use Rattle.sercos_service_master.specs.Calls.{begun_by}
+use Rattle.sercos_service_master.specs.Calls as channel
+use Rattle.sercos_seat.specs.Agenda.{reads_count, is_read, is_checked, ended_well}
+use Rattle.sercos_seat.specs.Channel.{is_place, of_phase, outcomes_in, with_outcome}
+use Rattle.sercos_seat.specs.Ring.{Known, MemberView, Task, member}
+use Rattle.sercos_seat.specs.Seats.{AreWaiting}
+use Rattle.sercos_seat.proofs.Agendas.{ended_there}
+use Rattle.sercos_seat.proofs.Seats.{before_end}
+use Rattle.sercos_master.specs.Annals.{Call, HearMst, HearAt, Mdt, End, Restart, Past, outcomes, first_from, first_place, is_idle, after_taken, settled, in_turn, has_turn, next_task, begins, fall_of, is_done, goes_on, new_epoch, still_waiting, past}
+use Rattle.sercos_master.proofs.Configured.{mdt_adds, leaves}
+use Rattle.sercos_master.proofs.Planned.{at_adds}
+use Rattle.sercos_law_channel.specs.Handshake.Epochs.{with_begun}
+use Rattle.sercos_law_channel.specs.Handshake.Moves.{with_status}
+use Rattle.sercos_law_run.specs.Agenda.Tasks.{BeginsTasks, BeginsNoneEarly, AreBegunTasks}
+use Rattle.sercos_law_run.proofs.Agenda.OneTurn.{AtHears, SameAt, HeardAt, elsewhere_same, here_hears}
+use Rattle.sercos_law_run.specs.Views.RingViews.{request_of}
+use Rattle.sercos_law_run.proofs.Undisturbed.Arrivals.{not_false}
+use Rattle.sercos_law_run.proofs.Undisturbed.StaysUp.{found_passes}
+use Rattle.sercos_law_run.proofs.Undisturbed.Addressed.{place_so}
+use Rattle.sercos_law_run.proofs.Views.MasterSame.{begun_so, turn_mdt}
+use Rattle.sercos_law_run.proofs.Undisturbed.AfterAt.{after_at_so}
+use Rattle.sercos_law_run.proofs.Undisturbed.Small.{some_is}
+
+-- a check that has ended well stays so
+pub checked_stays : (m : MemberView) (outs : List Outcome) (o : Option Outcome) → is_checked m outs ≡ true → is_checked m (with_outcome o outs) ≡ true
+checked_stays m outs None well = well
+checked_stays m outs (Some o) well = let there = ended_there outs (reads_count m + 11) well in ap ended_well (before_end outs o (reads_count m + 11) (λ e. omega (arith, e, there))) ∙ well
+
+-- an answer leaves the number of requests
+pub same_count : (status : Status) (word : ℕ) (begun : List Begun) → length (with_status status word begun) ≡ length begun
+same_count status word begun = by (answers_it begun status) begun
+  where
+    by : (v : Bool) (l : List Begun) → length (if v then with_answer (answer_in status word) l else l) ≡ length l
+    by true [] = refl
+    by true (b ∷ l) = refl
+    by false l = refl
+
+-- an AT leaves the number of requests of each channel
+pub at_leaves_count : (i : ℕ) (content : List ℕ) (p : Past) (k : ℕ) → length (begun_by ((after_taken i content p).calls k)) ≡ length (begun_by (p.calls k))
+at_leaves_count i content p k = elim (cases_eq k i) [
+  | inl same ↦ subst (λ (n : ℕ). length (begun_by ((after_taken i content p).calls n)) ≡ length (begun_by (p.calls n))) (sym same) (heard (here_hears i content p))
+  | inr other ↦ ap (λ (l : List Begun). length l) (elsewhere_same i k content p other)
+]
+  where
+    heard : AtHears p (after_taken i content p) i → length (begun_by ((after_taken i content p).calls i)) ≡ length (begun_by (p.calls i))
+    heard (SameAt same) = ap (λ (l : List Begun). length l) same
+    heard (HeardAt status word same) = ap (λ (l : List Begun). length l) same ∙ same_count status word (begun_by (p.calls i))
+
+-- up to phase 2 a request begins only where its drive has its turn
+pub begins_in_turn : (s : Known) (p : Past) (k : ℕ) (t : Task) → p.now.phase ≤ 2 → begins s p k ≡ Some t → in_turn s p ≡ Some k
+begins_in_turn s p k t low some = by (is_none p.stop && (is_idle p k && has_turn s p k)) refl some
+  where
+    by : (v : Bool) → (is_none p.stop && (is_idle p k && has_turn s p k)) ≡ v → (if v then of_phase p.now.phase (next_task s p k) else None) ≡ Some t → in_turn s p ≡ Some k
+    by false off got = absurd (cc)
+    by true on got =
+        let rest = (and_parts (is_none p.stop) _ on).1 in
+        let has = (and_parts (is_idle p k) _ rest).1 in
+        elim (or_cases (nat_le 3 p.now.phase) ((p.now.phase == 2) && is_place k (in_turn s p)) has) [
+          | inl late ↦ let three = leb-true 3 p.now.phase late in absurd (omega (arith, three, low))
+          | inr same ↦ place_so k (in_turn s p) (and_parts (p.now.phase == 2) _ same).1
+        ]
+
+-- THE FIRST PLACE: those before it fail the test.
+pub before_first : (k n : ℕ) (test : ℕ → Bool) (i : ℕ) → first_from k n test ≡ Some i → (j : ℕ) → k ≤ j → j < i → test j ≡ false
+before_first k zero test i found j from low = absurd (cc)
+before_first k (suc n) test i found j from low = by (test k) refl found (λ rest more. before_first (k + 1) n test i rest j more low)
+  where
+    by : (b : Bool) → test k ≡ b → (if b then Some k else first_from (k + 1) n test) ≡ Some i → (first_from (k + 1) n test ≡ Some i → k + 1 ≤ j → test j ≡ false) → test j ≡ false
+    by true here is next = let same = some_is k i is in absurd (omega (arith, same, from, low))
+    by false here is next = elim (cases_eq j k) [
+      | inl same ↦ ap test same ∙ here
+      | inr other ↦ next is (omega (arith, from, other))
+    ]
+
+-- a drive that has been read and has its turn comes after drives that are checked
+turn_after : (s : Known) (p : Past) (k : ℕ) → in_turn s p ≡ Some k → is_read (member s k) (outcomes p k) ≡ true → (j : ℕ) → j < k → is_checked (member s j) (outcomes p j) ≡ true
+turn_after s p k turn read j low = by (first_place s (λ i. not (is_read (member s i) (outcomes p i)))) refl turn
+  where
+    by : (o : Option ℕ) → first_place s (λ i. not (is_read (member s i) (outcomes p i))) ≡ o → option_or o (first_place s (λ i. not (is_checked (member s i) (outcomes p i)))) ≡ Some k → is_checked (member s j) (outcomes p j) ≡ true
+    by None none second = not_false _ (before_first 0 (length s.drives) (λ i. not (is_checked (member s i) (outcomes p i))) k second j (omega arith) low)
+    by (Some i) found first =
+        let same : i ≡ k = some_is i k first in
+        let unread = found_passes 0 (length s.drives) i (λ m. not (is_read (member s m) (outcomes p m))) found in
+        absurd (false≢true (sym (ap not (subst (λ (m : ℕ). is_read (member s m) (outcomes p m) ≡ true) (sym same) read)) ∙ unread))
+
+module _ (tasks : BeginsTasks) (early : BeginsNoneEarly) (s : Known) (requests : ℕ → List Task) (waits : (j : ℕ) → AreWaiting (requests j)) where
+  abbrev AreInOrder : Past → Type 0
+  AreInOrder p = p.now.phase ≡ 2 → (k : ℕ) → k < length s.drives → reads_count (member s k) < length (begun_by (p.calls k)) → (j : ℕ) → j < k → is_checked (member s j) (outcomes p j) ≡ true
+
+  -- AN AT
+  taken_order : (i : ℕ) (content : List ℕ) (p : Past) → AreInOrder p → AreInOrder (after_taken i content p)
+  taken_order i content p have two k there more j low =
+      let adds = at_adds i content p j in
+      ap (is_checked (member s j)) adds.1 ∙ checked_stays (member s j) (outcomes p j) adds.0 (have two k there (let same = at_leaves_count i content p k in omega (arith, more, same)) j low)
+
+  -- THE MDT
+  mdt_order : (h : List Call) → AreInOrder (past s requests h) → AreInOrder (past s requests (Mdt ∷ h))
+  mdt_order h have two k there more j low =
+      ap (is_checked (member s j)) (mdt_adds s p j) ∙ elim (cases_lt (reads_count (member s k)) (length (begun_by (p.calls k)))) [
+        | inl had ↦ have before k there had j low
+        | inr few ↦ fresh (begins s (settled s p) k) refl (omega (arith, few))
+      ]
+    where
+      p : Past
+      p = past s requests h
+
+      before : (past s requests h).now.phase ≡ 2
+      before = sym (turn_mdt s (past s requests h)).phase_is ∙ two
+
+      same_outs : (i : ℕ) → outcomes (settled s (past s requests h)) i ≡ outcomes (past s requests h) i
+      same_outs i = ap (λ (calls : ℕ → List channel.Call). outcomes_in (begun_by (calls i))) (leaves s (past s requests h)).calls
+
+      newest : (r : Request) → request_of (begins s (settled s (past s requests h)) k) ≡ Some r → begun_by ((past s requests (Mdt ∷ h)).calls k) ≡ record { request = r; answers = [] } ∷ begun_by ((past s requests h).calls k)
+      newest r is = begun_so s (past s requests h) k ∙ ap (λ (o : Option Request). with_begun o (begun_by ((past s requests h).calls k))) is
+
+      ended : (b : Begun) (older : List Begun) (ts : List Task) → AreBegunTasks s k (past s requests (Mdt ∷ h)).plan ((past s requests (Mdt ∷ h)).waiting k) (past s requests (Mdt ∷ h)).now.phase (b ∷ older) ts → length (outcomes_in older) ≡ length older
+      ended b older [] are = absurd are
+      ended b older (t ∷ ts) are = are.1.ended
+
+      fresh : (o : Option Task) → begins s (settled s (past s requests h)) k ≡ o → length (begun_by ((past s requests h).calls k)) ≤ reads_count (member s k) → is_checked (member s j) (outcomes (past s requests h) j) ≡ true
+      fresh None none few =
+          let same = ap (λ (l : List Begun). length l) (begun_so s (past s requests h) k ∙ ap (λ (o : Option Task). with_begun (request_of o) (begun_by ((past s requests h).calls k))) none) in
+          absurd (omega (arith, few, more, same))
+      fresh (Some t) some few =
+          ap (is_checked (member s j)) (sym (same_outs j)) ∙ turn_after s (settled s (past s requests h)) k turn read j low
+        where
+          begun_is : begun_by ((past s requests (Mdt ∷ h)).calls k) ≡ record { request = t.request; answers = [] } ∷ begun_by ((past s requests h).calls k)
+          begun_is = newest t.request (ap request_of some)
+
+          all_ended : length (outcomes (past s requests h) k) ≡ length (begun_by ((past s requests h).calls k))
+          all_ended = ended (record { request = t.request; answers = [] }) (begun_by ((past s requests h).calls k)) ((past s requests (Mdt ∷ h)).tasks k)
+              (subst (λ (l : List Begun). AreBegunTasks s k (past s requests (Mdt ∷ h)).plan ((past s requests (Mdt ∷ h)).waiting k) (past s requests (Mdt ∷ h)).now.phase l ((past s requests (Mdt ∷ h)).tasks k)) begun_is (tasks s requests (Mdt ∷ h) k there))
+
+          many : reads_count (member s k) ≤ length (outcomes (past s requests h) k)
+          many = let long = ap (λ (l : List Begun). length l) begun_is in let same = all_ended in omega (arith, long, same, more)
+
+          read : is_read (member s k) (outcomes (settled s (past s requests h)) k) ≡ true
+          read = ap (is_read (member s k)) (same_outs k) ∙ le-leb (reads_count (member s k)) (length (outcomes (past s requests h) k)) many
+
+          turn : in_turn s (settled s (past s requests h)) ≡ Some k
+          turn = begins_in_turn s (settled s (past s requests h)) k t (let same = (leaves s (past s requests h)).phase in let is_two = before in omega (arith, same, is_two)) some
+
+  -- THE END OF A CYCLE
+  end_order : (h : List Call) → AreInOrder (past s requests h) → AreInOrder (past s requests (End ∷ h))
+  end_order h have = by (is_some (fall_of s (past s requests h))) (is_done s (past s requests h))
+    where
+      by : (fell done : Bool) → AreInOrder (if fell then new_epoch ((past s requests h).cycle + 1) (still_waiting (past s requests h)) else goes_on (if done then (past s requests h).now.phase + 1 else (past s requests h).now.phase) (past s requests h))
+      by true done two k there more j low = absurd (omega (arith, two))
+      by false false two k there more j low = have two k there more j low
+      by false true two k there more j low =
+          let none = ap (λ (l : List Begun). length l) (early s requests h k waits there (omega (arith, two))) in absurd (omega (arith, none, more))
+
+  pub in_order : (h : List Call) → AreInOrder (past s requests h)
+  in_order [] = λ two k there more j low. absurd (omega (arith, two))
+  in_order (HearMst content ∷ h) = in_order h
+  in_order (HearAt content ∷ h) = after_at_so AreInOrder s content (past s requests h) (in_order h) (λ i. taken_order i content (past s requests h) (in_order h))
+  in_order (Mdt ∷ h) = mdt_order h (in_order h)
+  in_order (End ∷ h) = end_order h (in_order h)
+  in_order (Restart ∷ h) = λ two k there more j low. absurd (omega (arith, two))

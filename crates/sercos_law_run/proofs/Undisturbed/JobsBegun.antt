@@ -1,0 +1,165 @@
+-- In each cycle up to phase 3 in which the ring doesn't fall, the requests that were begun have the places of a start-up's; and if all
+-- reads have ended and there is no stop, the master has made the plan.
+use Rattle.std.proofs.Common.{◌≡◌, ℕ, ◌+◌, ◌<◌, ◌≤◌, true, false, List, [], ◌∷◌, ◌++◌, length, Option, Some, None, sym, ap, ◌∙◌, subst, arith, append_assoc, if◌then◌else◌}
+use Rattle.std.specs.Prelude.{◌==◌, nat_le, is_none, is_some, slice_get}
+use Rattle.std.proofs.lemmas.Bool.{le-leb}
+use Rattle.sercos_idn.specs.declared.idn.Idn.{Idn}
+use Rattle.sercos_step.specs.declared.request.Job.{Job}
+use Rattle.sercos_step.specs.declared.request.Request.{Request}
+use Rattle.sercos_step.specs.declared.request.Request.TheVariants as request
+use Rattle.sercos_step.specs.declared.request.Outcome.{Outcome}
+use Rattle.sercos_step.specs.declared.request.Outcome.TheVariants as outcome
+use Rattle.sercos_timing.specs.Order.{record_bytes}
+use Rattle.sercos_timing.specs.Valid.{IsValid}
+use Rattle.sercos_timing.specs.Views.{WishesView}
+use Rattle.sercos_block.specs.Rings.{wishes_of}
+use Rattle.sercos_block.specs.Stores.{store_of}
+use Rattle.sercos_block.specs.Views.{DriveView, RingView}
+use Rattle.sercos_service_master.specs.Begun.{Begun}
+use Rattle.sercos_service_master.specs.Calls.{begun_by}
+use Rattle.sercos_trace.specs.Views.{CycleView}
+use Rattle.sercos_trace.specs.declared.events.Fall.{Fall}
+use Rattle.sercos_trace.specs.declared.events.Stop.{Stop}
+use Rattle.sercos_seat.specs.Agenda.{reads, reads_count, wishes_given}
+use Rattle.sercos_seat.specs.Ring.{MemberView, known_of, member, member_of, tasks_for}
+use Rattle.sercos_seat.proofs.Agendas.{reads_length}
+use Rattle.sercos_master.specs.Annals.{Past, outcomes, all_read, first_trouble, with_stop, fall_of}
+use Rattle.sercos_master.proofs.Laws.{jobs_waiting}
+use Rattle.sercos_script.specs.Links.{Carry, Restarts}
+use Rattle.sercos_law_channel.specs.Handshake.Epochs.{epoch_begun, begun_in}
+use Rattle.sercos_law_channel.specs.Handshake.WholeRun.{all_begun, begun_ago, all_entries, all_writes}
+use Rattle.sercos_law_channel.specs.Handshake.Exact.{AreExact}
+use Rattle.sercos_law_run.specs.Start.Answers.{IsAnswer, AreAnswers}
+use Rattle.sercos_law_run.proofs.Start.CheckPasses.{ring_drive}
+use Rattle.sercos_law_run.specs.Journal.Records.{mst_in, ats_in}
+use Rattle.sercos_law_run.specs.Journal.Runs.{drive_at, at_calls, own_mst, begin_calls, master_calls, middle, IsRun, IsClear}
+use Rattle.sercos_law_run.specs.Agenda.Tasks.{AreBegunTasks, HasEndedAt}
+use Rattle.sercos_law_run.proofs.Agenda.ReadWell.{complete}
+use Rattle.sercos_law_run.specs.Views.RingViews.{behind_ats, behind_mdt, view_of, views_of}
+use Rattle.sercos_law_run.proofs.Views.Members.{members_count, member_is}
+use Rattle.sercos_law_run.proofs.Settings.CheckRuns.{checks_give_3}
+use Rattle.sercos_law_run.proofs.Settings.WellSets.{well_first}
+use Rattle.sercos_law_run.specs.Held.Opened.{IsOpened}
+use Rattle.sercos_law_run.proofs.Held.AnsweredRuns.{IsRead, is_read_request, as_read, read_of, read_answers, answered_by, entries_stored}
+use Rattle.sercos_law_run.proofs.Held.Runs.{Laws, drive_got, got_inside, small, wishes_so}
+use Rattle.sercos_law_run.proofs.Headline.HeadlineRuns.{MoreLaws, all_stand, first_store, keeps_all, spelled_in, stored_in}
+use Rattle.sercos_law_run.proofs.Headline.WellRuns.{AllWell, all_well}
+use Rattle.sercos_law_run.specs.Undisturbed.Jobs.{jobs_of, AreAt}
+use Rattle.sercos_law_run.proofs.Undisturbed.JobPlaces.{Give3, begun_at, few_in_two, reading}
+use Rattle.sercos_law_run.proofs.Undisturbed.PlanMade.{looked_adds, no_stop_looked, plan_made, read_same}
+use Rattle.sercos_law_run.proofs.Undisturbed.Small.{some_is}
+use Rattle.std.proofs.lemmas.Option.{slice_get_within}
+
+-- what stands in the middle of what was begun
+pub place_of : (all : List Request) (newer older : List Begun) (b : Begun) → AreAt all (newer ++ b ∷ older) → slice_get all (length older) ≡ Some b.request
+place_of all [] older b at = at.1
+place_of all (x ∷ newer) older b at = place_of all newer older b at.0
+
+module _ (laws : Laws) (more : MoreLaws) (r : RingView) (jobs : List Job) (carry : Carry) (restarts : Restarts) (opened : IsOpened r jobs) where
+  inside : (k : ℕ) → k < length r.drives → k < length (known_of r).drives
+  inside k below = let count = members_count r in omega (arith, count, below)
+
+  -- THE CHECKS FOR PHASE 3 end well.
+  pub wells : (j : List CycleView) → IsRun r jobs carry restarts j → IsClear j → AllWell laws more.stop_laws r jobs carry restarts opened (first_store laws more r jobs carry restarts opened) j
+  wells [] run clear = λ k below. well_first r jobs carry restarts k
+  wells (t ∷ j) (run, next) (before, clear) =
+      all_well laws more.stop_laws r jobs carry restarts opened (first_store laws more r jobs carry restarts opened) t j next clear (spelled_in laws more r jobs carry restarts opened t j next) (stored_in laws more r jobs carry restarts opened t j)
+      (all_stand laws more r jobs carry restarts opened j run before) (all_stand laws more r jobs carry restarts opened (t ∷ j) (run, next) (before, clear)) (wells j run before)
+
+  gives_3 : (j : List CycleView) → IsRun r jobs carry restarts j → IsClear j → (k : ℕ) → k < length r.drives → Give3 (epoch_begun (views_of r jobs carry restarts k j))
+  gives_3 j run clear k below newer older b bytes split asks whole =
+      let stands = all_stand laws more r jobs carry restarts opened j run clear k below in
+      let set = wells j run clear k below in
+      checks_give_3 more.stop_laws.sets more.stop_laws.ends_with_status (drive_at r k).busy (store_of (drive_at r k)) (views_of r jobs carry restarts k j) stands.sees.run stands.sound set.set.follow set.well set.commands newer older b bytes split asks whole
+
+  module _ (t : CycleView) (j : List CycleView) (run : IsRun r jobs carry restarts (t ∷ j)) (clear : IsClear (t ∷ j)) (stays : fall_of (known_of r) (behind_mdt r jobs carry restarts t.sent j) ≡ None) where
+    abbrev now : Past
+    now = behind_mdt r jobs carry restarts t.sent j
+
+    -- what was begun by now
+    pub begun_end : (k : ℕ) → epoch_begun (views_of r jobs carry restarts k (t ∷ j)) ≡ begun_in (view_of r jobs carry restarts k t j) (views_of r jobs carry restarts k j)
+    begun_end k = ap (λ (o : Option Fall). if is_some o then [] else begun_in (view_of r jobs carry restarts k t j) (views_of r jobs carry restarts k j)) stays
+
+    pub begun_now : (k : ℕ) → k < length r.drives → begun_by (now.calls k) ≡ epoch_begun (views_of r jobs carry restarts k (t ∷ j))
+    begun_now k below = sym ((keeps_all laws more r jobs carry restarts opened t j run clear).exact k below).begun_now ∙ sym (begun_end k)
+
+    pub tasks_now : (k : ℕ) → k < length r.drives → AreBegunTasks (known_of r) k now.plan (now.waiting k) now.now.phase (epoch_begun (views_of r jobs carry restarts k (t ∷ j))) (now.tasks k)
+    tasks_now k below = subst (λ (l : List Begun). AreBegunTasks (known_of r) k now.plan (now.waiting k) now.now.phase l (now.tasks k)) (begun_now k below) (laws.tasks (known_of r) (tasks_for (known_of r) jobs) (middle r carry restarts t.sent j) k (inside k below))
+
+    pub places_now : (k : ℕ) → k < length r.drives → now.now.phase ≤ 3 → AreAt (jobs_of (known_of r) now.plan k) (epoch_begun (views_of r jobs carry restarts k (t ∷ j)))
+    places_now k below low = begun_at (known_of r) k now.plan (now.waiting k) now.now.phase (epoch_begun (views_of r jobs carry restarts k (t ∷ j))) (now.tasks k) (jobs_waiting (known_of r) jobs (middle r carry restarts t.sent j) k) low (tasks_now k below) (gives_3 (t ∷ j) run clear k below)
+
+    pub few_now : (k : ℕ) → k < length r.drives → now.now.phase ≤ 2 → length (epoch_begun (views_of r jobs carry restarts k (t ∷ j))) ≤ reads_count (member (known_of r) k) + 12
+    few_now k below low = few_in_two (known_of r) k now.plan (now.waiting k) now.now.phase (epoch_begun (views_of r jobs carry restarts k (t ∷ j))) (now.tasks k) (jobs_waiting (known_of r) jobs (middle r carry restarts t.sent j) k) low (tasks_now k below) (gives_3 (t ∷ j) run clear k below)
+
+    -- THE ANSWERS TO THE READS: if all are complete, they are the drive's.
+    abbrev pub AreComplete : Type 0
+    AreComplete = (k : ℕ) → k < length (known_of r).drives → (n : ℕ) → n < reads_count (member (known_of r) k) → (bytes : List ℕ) × (slice_get (outcomes now k) n ≡ Some (outcome.Complete bytes))
+
+    answers_now : now.now.phase ≤ 3 → AreComplete → (k : ℕ) → k < length r.drives → AreAnswers (drive_at r k) (reads (member_of (drive_at r k))) (outcomes now k)
+    answers_now low whole k below = subst (λ (m : MemberView). AreAnswers (drive_at r k) (reads m) (outcomes now k)) (member_is r k) (answered_by (drive_at r k) (reads (member (known_of r) k)) (outcomes now k) each)
+      where
+        each : (n : ℕ) (x : Request) → slice_get (reads (member (known_of r) k)) n ≡ Some x → (o : Outcome) × (slice_get (outcomes (behind_mdt r jobs carry restarts t.sent j) k) n ≡ Some o) × IsAnswer (drive_at r k) x o
+        each n x got = (outcome.Complete bytes, complete_is, subst (λ (y : Request). IsAnswer (drive_at r k) y (outcome.Complete bytes)) (sym of.2) answer)
+          where
+            early : n < reads_count (member (known_of r) k)
+            early = let less = slice_get_within (reads (member (known_of r) k)) n x got in let long = reads_length (member (known_of r) k) in omega (arith, less, long)
+
+            bytes : List ℕ
+            bytes = (whole k (inside k below) n early).0
+
+            complete_is : slice_get (outcomes (behind_mdt r jobs carry restarts t.sent j) k) n ≡ Some (outcome.Complete bytes)
+            complete_is = (whole k (inside k below) n early).1
+
+            at : HasEndedAt (known_of r) k now.plan (now.waiting k) now.now.phase (begun_by (now.calls k)) n (outcome.Complete bytes)
+            at = laws.ends (known_of r) (tasks_for (known_of r) jobs) (middle r carry restarts t.sent j) k n (outcome.Complete bytes) (inside k below) complete_is
+
+            split : epoch_begun (views_of r jobs carry restarts k (t ∷ j)) ≡ at.newer ++ at.one ∷ at.older
+            split = sym (begun_now k below) ∙ at.split
+
+            asked_is : at.one.request ≡ x
+            asked_is = some_is at.one.request x (sym (place_of (jobs_of (known_of r) now.plan k) at.newer at.older at.one (subst (AreAt (jobs_of (known_of r) now.plan k)) split (places_now k below low)))
+                ∙ ap (slice_get (jobs_of (known_of r) now.plan k)) at.place ∙ reading (known_of r) k now.plan n early ∙ got)
+
+            is : IsRead x
+            is = is_read_request (member (known_of r) k) n x got
+
+            of : (i : Idn) × (e : ℕ) × (x ≡ request.Read i e) × ((e == 1) ≡ false)
+            of = as_read x is
+
+            all : all_begun (views_of r jobs carry restarts k (t ∷ j)) ≡ at.newer ++ at.one ∷ (at.older ++ begun_ago (views_of r jobs carry restarts k (t ∷ j)))
+            all = ap (λ (l : List Begun). l ++ begun_ago (views_of r jobs carry restarts k (t ∷ j))) split ∙ append_assoc at.newer (at.one ∷ at.older) (begun_ago (views_of r jobs carry restarts k (t ∷ j)))
+
+            answer : IsAnswer (drive_at r k) (request.Read of.0 of.1) (outcome.Complete bytes)
+            answer =
+                let stands = all_stand laws more r jobs carry restarts opened (t ∷ j) run clear k below in
+                let rules = (ring_drive r k (drive_at r k) opened.valid (drive_got r k below)).blocks in
+                read_answers (drive_at r k) x of.0 of.1 bytes rules is of.2
+                (read_of (drive_at r k) (store_of (drive_at r k)) (at.older ++ begun_ago (views_of r jobs carry restarts k (t ∷ j))) at.one of.0 of.1 bytes of.3 (asked_is ∙ of.2) at.ended at.newer
+                (all_entries (views_of r jobs carry restarts k (t ∷ j))) (all_writes (views_of r jobs carry restarts k (t ∷ j)))
+                (subst (λ (l : List Begun). AreExact (store_of (drive_at r k)) l (all_entries (views_of r jobs carry restarts k (t ∷ j))) (all_writes (views_of r jobs carry restarts k (t ∷ j)))) all
+                (laws.exact (drive_at r k).busy (store_of (drive_at r k)) (views_of r jobs carry restarts k (t ∷ j)) (small laws r jobs carry restarts opened (first_store laws more r jobs carry restarts opened) k below) stands.sees.run stands.sound))
+                (entries_stored (drive_at r k) (views_of r jobs carry restarts k (t ∷ j)) stands.stored))
+
+    pub asked_now : now.now.phase ≤ 3 → AreComplete → wishes_given (known_of r) (outcomes now) ≡ wishes_of r
+    asked_now low whole = wishes_so laws r jobs carry restarts opened (first_store laws more r jobs carry restarts opened) (outcomes now) (answers_now low whole)
+
+    -- THE PLAN
+    wishes_valid : IsValid (wishes_of r)
+    wishes_valid = more.stop_laws.ring_valid r opened.valid (λ k d got.
+        let there = got_inside r.drives k d got in
+        subst (λ (x : DriveView). (length x.at ≤ 16) × (length x.mdt ≤ 16)) (sym there.1) ((opened.typed k there.0).at, (opened.typed k there.0).mdt))
+
+    pub complete_now : now.stop ≡ None → all_read (known_of r) now ≡ true → AreComplete
+    complete_now none read k there n early =
+        let q = behind_ats r jobs carry restarts t.sent j in
+        let adds = looked_adds (known_of r) q in
+        let looked = complete (known_of r) q (λ i low. laws.tasks (known_of r) (tasks_for (known_of r) jobs) (at_calls r carry (length j) (ats_in t.sent) (own_mst carry (length j) (mst_in t.sent) (begin_calls restarts (length j) (master_calls r carry restarts j)))) i low)
+        (sym (read_same (known_of r) now (with_stop (first_trouble (known_of r) q) q) adds) ∙ read) (ap (λ (o : Option Stop). is_none o) (no_stop_looked (known_of r) q none)) k there n early in
+        (looked.0, ap (λ (l : List Outcome). slice_get l n) (adds k) ∙ looked.1)
+
+    pub planned_now : now.now.phase ≡ 2 → now.stop ≡ None → all_read (known_of r) now ≡ true → is_some now.plan ≡ true
+    planned_now two none read =
+        let asks = asked_now (omega (arith, two)) (complete_now none read) in
+        let most : record_bytes (wishes_of r).drives ≤ 2047 = wishes_valid.drives.mdt_len in
+        plan_made (known_of r) (behind_ats r jobs carry restarts t.sent j) two none read (ap (λ (w : WishesView). nat_le (record_bytes w.drives) 2047) asks ∙ le-leb (record_bytes (wishes_of r).drives) 2047 most)

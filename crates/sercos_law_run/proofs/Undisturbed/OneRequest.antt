@@ -1,0 +1,166 @@
+-- How many cycles one request takes: those in which its steps are open are fewer than this profile gives a request.
+use Rattle.std.proofs.Common.{◌≡◌, ◌⊎◌, inl, inr, ℕ, ◌+◌, ◌*◌, ◌<◌, ◌≤◌, List, [], ◌∷◌, ◌++◌, length, Option, None, refl, sym, ap, ◌∙◌, subst, arith, length-append}
+use Rattle.std.proofs.lemmas.Bool.{cases_lt}
+use Rattle.sercos_idn.specs.declared.idn.Idn.{Idn}
+use Rattle.sercos_step.specs.declared.request.Request.{Request}
+use Rattle.sercos_step.specs.declared.request.Request.TheVariants as request
+use Rattle.sercos_step.specs.declared.step.Answer.{Answer}
+use Rattle.sercos_step.specs.declared.step.Step.{Step}
+use Rattle.sercos_step.specs.Steps.{AreAnswers}
+use Rattle.sercos_step.proofs.Ends.{read_ends, write_ends}
+use Rattle.sercos_step.proofs.AnswerCounts.{times_le}
+use Rattle.sercos_block.specs.Stores.{IsStore}
+use Rattle.sercos_block.specs.declared.block.Block.{Block}
+use Rattle.sercos_service_drive.specs.Log.{Entry, accepted}
+use Rattle.sercos_service_master.specs.Begun.{Begun, open_in, step_at, with_step, steps_begun, steps_in, answers_in}
+use Rattle.sercos_law_channel.specs.Handshake.Epochs.{command, epoch_begun, epoch_taken, epoch_log}
+use Rattle.sercos_law_channel.specs.Handshake.InStep.{AreInStep}
+use Rattle.sercos_law_channel.specs.Handshake.Parts.{AreInTurn, IsRow, IsPart, Unsent, Heard, Unheard, AreParts}
+use Rattle.sercos_law_channel.specs.Handshake.Runs.{IsRun as IsViewRun}
+use Rattle.sercos_law_channel.specs.Handshake.Transfers.{AreReplies, HaveBlocks, IsTransfer}
+use Rattle.sercos_law_channel.specs.Handshake.Views.{View, standing}
+use Rattle.sercos_law_channel.specs.Handshake.WholeRun.{IsSound, AreSound, AreSmall}
+use Rattle.sercos_law_channel.proofs.Theorems.{in_step, IsEpoch, epoch, split_replies, split_blocks, fall_into_parts, length-replies_of, length-steps_begun, HasReplies, answered_replies}
+use Rattle.sercos_law_channel.specs.Pace.Costs.{AreTimed, AreListed, cost_of, cost_in}
+use Rattle.sercos_law_channel.specs.Pace.Passages.{IsWhole, AreWhole, RecoversInTime}
+use Rattle.sercos_law_channel.specs.Pace.StartCosts.{RecoversSince}
+use Rattle.sercos_law_channel.specs.Pace.Stretches.{open_since}
+use Rattle.sercos_law_run.proofs.Undisturbed.LongWrites.{ends_soon}
+use Rattle.sercos_law_run.proofs.Undisturbed.RefusedRuns.{SaysShape}
+
+-- NUMBERS
+times_sum : (p n k : ℕ) → p * (n + k) ≡ p * n + p * k
+times_sum p n k = grind arith
+
+-- the time for the older answers taken off
+taken_off : (p opened before steps older : ℕ) → opened + p * before ≤ p * (steps + older) → older ≤ before → opened ≤ p * steps
+taken_off p opened before steps older le few = let more = times_le p older before few in let sum = times_sum p steps older in omega (arith, le, more, sum)
+
+pub room : (busy time : ℕ) → (busy + 2) * (520 + time) ≡ 520 * busy + 1040 + busy * time + 2 * time
+room busy time = grind arith
+
+few_fit : (busy time n : ℕ) → n ≤ 518 → (busy + 1) * n < (busy + 2) * (520 + time)
+few_fit busy time n few = let most = times_le (busy + 1) n 518 few in let all = room busy time in omega (arith, most, all)
+
+command_fits : (busy time : ℕ) → time + 4 * (busy + 1) + 0 < (busy + 2) * (520 + time)
+command_fits busy time = let all = room busy time in omega (arith, all)
+
+-- STEPS: requests that have ended have no more steps than answers
+ended_steps : (b : Begun) → step_at b.request b.answers ≡ None → length (steps_begun b.request b.answers) ≤ length b.answers
+ended_steps b shut = by b.answers refl
+  where
+    by : (h : List Answer) → b.answers ≡ h → length (steps_begun b.request b.answers) ≤ length b.answers
+    by [] is = let none = ap (λ (o : Option Step). length (with_step o [])) (ap (step_at b.request) (sym is) ∙ shut) in let all = ap (λ (l : List Answer). length (steps_begun b.request l)) is in omega (arith, none, all)
+    by (a ∷ h) is =
+        let few = length-steps_begun b.request h in
+        let top = ap (λ (o : Option Step). length (with_step o (steps_begun b.request h))) (ap (step_at b.request) (sym is) ∙ shut) in
+        let all = ap (λ (l : List Answer). length (steps_begun b.request l)) is in
+        let long = ap (λ (l : List Answer). length l) is in
+        omega (arith, few, top, all, long)
+
+rest_steps : (begun : List Begun) → AreInTurn begun → open_in begun ≡ None → length (steps_in begun) ≤ length (answers_in begun)
+rest_steps [] turn shut = omega arith
+rest_steps (b ∷ older) turn shut =
+    let here = ended_steps b shut in
+    let before = rest_steps older turn.0 turn.1.0 in
+    let steps = length-append (steps_begun b.request b.answers) (steps_in older) in
+    let answers = length-append b.answers (answers_in older) in
+    omega (arith, here, before, steps, answers)
+
+module _ (said : SaysShape) (busy time : ℕ) (blocks : List Block) (small : AreSmall blocks) (store : IsStore blocks) where
+  -- A LONG WRITE has few answers.
+  module _ (all : List View) (run : IsViewRun busy all) (sound : AreSound blocks all) (b : Begun) (old : List Begun) (split : epoch_begun all ≡ b ∷ old) where
+    is_epoch : IsEpoch blocks (command all) (b ∷ old) (epoch_taken all)
+    is_epoch = subst (λ (l : List Begun). IsEpoch blocks (command all) l (epoch_taken all)) split (epoch blocks busy all run sound)
+
+    turn_now : AreInTurn (b ∷ old)
+    turn_now = is_epoch.in_turn
+
+    parts_now : AreParts (b ∷ old) (epoch_log all)
+    parts_now = fall_into_parts (b ∷ old) (epoch_log all) turn_now (subst (λ (l : List Begun). AreInStep l (epoch_log all)) split (in_step busy all run))
+
+    long_write : (idn : Idn) (e : ℕ) (bytes : List ℕ) → b.request ≡ request.Write idn e bytes → 2 ≤ e → 1024 < length bytes → length b.answers ≤ 5
+    long_write idn e bytes asks low long = by parts_now
+      where
+        by : AreParts (b ∷ old) (epoch_log all) → length b.answers ≤ 5
+        by (part, rest, those, of, others) = which of
+          where
+            replies : AreReplies part rest
+            replies = (split_replies part rest (subst HasReplies those (answered_replies (accepted (epoch_taken all))))).0
+
+            alike : HaveBlocks blocks part
+            alike = (split_blocks blocks part rest (subst (HaveBlocks blocks) those is_epoch.alike)).0
+
+            few : (x : Entry) (entries : List Entry) → part ≡ x ∷ entries → IsRow b x entries → length entries ≤ 4
+            few x entries is row = ends_soon said blocks small store idn e bytes low long x entries rest (subst (λ (r : Request). IsTransfer r blocks x entries rest) asks (record {
+              steps = row.steps;
+              in_turn = row.in_turn;
+              goes_on = row.goes_on;
+              replies = subst (λ (l : List Entry). AreReplies l rest) is replies;
+              alike = subst (HaveBlocks blocks) is alike;
+            }))
+
+            which : IsPart b part → length b.answers ≤ 5
+            which (Unsent none unheard) = let empty = ap (λ (l : List Answer). length l) unheard in omega (arith, empty)
+            which (Heard x entries is row answers) =
+                let most = few x entries is row in
+                let same = ap (λ (l : List Answer). length l) answers in
+                let count = length-replies_of (x ∷ entries) in omega (arith, most, same, count)
+            which (Unheard x entries is row answers) =
+                let most = few x entries is row in
+                let same = ap (λ (l : List Answer). length l) answers in
+                let count = length-replies_of entries in omega (arith, most, same, count)
+
+    -- any write
+    write_few : (idn : Idn) (e : ℕ) (bytes : List ℕ) → b.request ≡ request.Write idn e bytes → length b.answers ≤ 517
+    write_few idn e bytes asks = elim (cases_lt 1024 (length bytes)) [
+      | inl long ↦ let most = long_write idn e bytes asks sound_so.0 long in omega (arith, most)
+      | inr short ↦ write_ends idn e bytes b.answers (omega (arith, short)) (subst (λ (r : Request). AreAnswers r b.answers) asks turn_now.1.1)
+    ]
+      where
+        sound_so : IsSound blocks (request.Write idn e bytes)
+        sound_so = subst (IsSound blocks) asks is_epoch.sound.1
+
+    read_few : (idn : Idn) (e : ℕ) → b.request ≡ request.Read idn e → length b.answers ≤ 517
+    read_few idn e asks = read_ends idn e b.answers (subst (λ (r : Request). AreAnswers r b.answers) asks turn_now.1.1)
+
+  -- ONE REQUEST, which was begun after all others had ended: after a first cycle, in which they had all their answers, the cycles with an
+  -- open step are fewer than this profile gives a request, as long as the drive isn't in phase 0.
+  pub one_lasts : RecoversInTime busy → RecoversSince busy → (cycles : List View) (first : View) (past : List View) (b : Begun) (old : List Begun) → IsViewRun busy (cycles ++ first ∷ past) → AreSound blocks (cycles ++ first ∷ past) → AreTimed time (cycles ++ first ∷ past)
+      → AreListed (λ raw. 512) (cycles ++ first ∷ past) → IsWhole first past → AreWhole cycles (first ∷ past) → ((standing (cycles ++ first ∷ past)).ended ≡ 0 → ⊥) → epoch_begun (cycles ++ first ∷ past) ≡ b ∷ old → open_in old ≡ None
+      → length (answers_in old) ≤ length (answers_in (epoch_begun (first ∷ past))) → open_since cycles (first ∷ past) < (busy + 2) * (520 + time)
+  one_lasts recovers since cycles first past b old run sound timed listed whole wholes stands split shut few = by b.request refl
+    where
+      all : List View
+      all = cycles ++ first ∷ past
+
+      by_steps : length b.answers ≤ 517 → open_since cycles (first ∷ past) < (busy + 2) * (520 + time)
+      by_steps answers = which (recovers cycles first past run whole wholes)
+        where
+          steps_few : length (steps_begun b.request b.answers) ≤ 518
+          steps_few = let most = length-steps_begun b.request b.answers in omega (arith, most, answers)
+
+          which : ((standing (cycles ++ first ∷ past)).ended ≡ 0)
+              ⊎ (open_since cycles (first ∷ past) + (busy + 1) * length (answers_in (epoch_begun (first ∷ past))) ≤ (busy + 1) * length (steps_in (epoch_begun (cycles ++ first ∷ past))))
+              → open_since cycles (first ∷ past) < (busy + 2) * (520 + time)
+          which (inl down) = absurd (stands down)
+          which (inr le) =
+              let older = rest_steps old (turn_now (cycles ++ first ∷ past) run sound b old split).0 shut in
+              let long : length (steps_in (epoch_begun (cycles ++ first ∷ past))) ≡ length (steps_begun b.request b.answers) + length (steps_in old) =
+              ap (λ (l : List Begun). length (steps_in l)) split ∙ length-append (steps_begun b.request b.answers) (steps_in old) in
+              let opened = taken_off (busy + 1) (open_since cycles (first ∷ past)) (length (answers_in (epoch_begun (first ∷ past)))) (length (steps_begun b.request b.answers)) (length (steps_in old))
+              (subst (λ (n : ℕ). open_since cycles (first ∷ past) + (busy + 1) * length (answers_in (epoch_begun (first ∷ past))) ≤ (busy + 1) * n) long le) (omega (arith, older, few)) in
+              let fits = few_fit busy time (length (steps_begun b.request b.answers)) steps_few in
+              omega (arith, opened, fits)
+
+      by : (r : Request) → b.request ≡ r → open_since cycles (first ∷ past) < (busy + 2) * (520 + time)
+      by (request.Read idn e) asks = by_steps (read_few (cycles ++ first ∷ past) run sound b old split idn e asks)
+      by (request.Write idn e bytes) asks = by_steps (write_few (cycles ++ first ∷ past) run sound b old split idn e bytes asks)
+      by (request.Command idn) asks = which (since time (λ raw. 512) blocks cycles first past (b ∷ []) old small run sound timed listed whole wholes split shut few)
+        where
+          which : ((standing (cycles ++ first ∷ past)).ended ≡ 0) ⊎ (open_since cycles (first ∷ past) ≤ cost_in (cost_of busy time (λ raw. 512) blocks) (b ∷ [])) → open_since cycles (first ∷ past) < (busy + 2) * (520 + time)
+          which (inl down) = absurd (stands down)
+          which (inr le) =
+              let cost = ap (λ (r : Request). cost_of busy time (λ raw. 512) blocks r + 0) asks in
+              let fits = command_fits busy time in
+              omega (arith, le, cost, fits)

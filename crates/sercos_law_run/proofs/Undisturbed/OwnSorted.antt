@@ -1,0 +1,153 @@
+-- The own blocks of a drive in its store are those of its description, ascending by identifier number; and the master takes the list of those
+-- that are outside from its bytes.
+use Rattle.std.proofs.Common.{◌≡◌, ℕ, Bool, true, false, not, ◌&&◌, List, [], ◌∷◌, ◌++◌, None, refl, sym, ap, ◌∙◌, arith}
+use Rattle.std.specs.Prelude.{◌+◌, ◌*◌, ◌/◌, ◌%◌, ◌≤◌, nat_le, nat_lt, cond, length, map, take}
+use Rattle.std.specs.List.{filter, list_all}
+use Rattle.std.proofs.lemmas.Bool.{and_from, and_parts}
+use Rattle.std.proofs.lemmas.Bool.Decides.{nat_tests}
+use Rattle.std.proofs.lemmas.List.{take_all}
+use Rattle.std.proofs.lemmas.List.Filters.{length-filter_both}
+use Rattle.sercos_idn.specs.declared.idn.Idn.{Idn}
+use Rattle.sercos_block.specs.BuiltIns.{built_in, is_built_in}
+use Rattle.sercos_block.specs.Rules.{blocks_fault, has_block}
+use Rattle.sercos_block.specs.Stores.{inserted, with_own, store_of}
+use Rattle.sercos_block.specs.Views.{DriveView}
+use Rattle.sercos_block.specs.declared.block.Block.{Block}
+use Rattle.sercos_block.proofs.OpenLemmas.{all_inserted, either_none}
+use Rattle.sercos_command.specs.Checks.{is_outside, list_bytes}
+use Rattle.sercos_seat.specs.Agenda.{idns_in}
+use Rattle.sercos_seat.proofs.Gets.{length_map}
+use Rattle.sercos_law_run.specs.Start.Kept.{is_own_outside}
+use Rattle.sercos_law_run.proofs.Start.BlockFinds.{first_is_new}
+
+abbrev is_own : Block → Bool
+is_own b = not (is_built_in b.idn.raw)
+
+-- ASCENDING, where two may have the same number
+abbrev are_ordered : List Block → Bool
+are_ordered [] = true
+are_ordered (b ∷ blocks) = list_all (λ (c : Block). nat_le b.idn.raw c.idn.raw) blocks && are_ordered blocks
+
+all_above : (p : Block → Bool) (low high : ℕ) (blocks : List Block) → nat_lt low high ≡ true → list_all (λ (c : Block). nat_le high c.idn.raw) blocks ≡ true → list_all (λ (c : Block). nat_lt low c.idn.raw) (filter p blocks) ≡ true
+all_above p low high [] less all = refl
+all_above p low high (c ∷ blocks) less all =
+    let parts = and_parts (nat_le high c.idn.raw) (list_all (λ (d : Block). nat_le high d.idn.raw) blocks) all in
+    let first = parts.0 in
+    by (p c) (let is : nat_lt low c.idn.raw ≡ true = grind (arith, nat_tests, less, first) in is) (all_above p low high blocks less parts.1)
+  where
+    by : (x : Bool) → nat_lt low c.idn.raw ≡ true → list_all (λ (d : Block). nat_lt low d.idn.raw) (filter p blocks) ≡ true → list_all (λ (d : Block). nat_lt low d.idn.raw) (cond x (c ∷ filter p blocks) (filter p blocks)) ≡ true
+    by true here rest = and_from (nat_lt low c.idn.raw) (list_all (λ (d : Block). nat_lt low d.idn.raw) (filter p blocks)) here rest
+    by false here rest = rest
+
+all_more : (low high : ℕ) (blocks : List Block) → nat_lt low high ≡ true → list_all (λ (c : Block). nat_le high c.idn.raw) blocks ≡ true → list_all (λ (c : Block). nat_le low c.idn.raw) blocks ≡ true
+all_more low high [] less all = refl
+all_more low high (c ∷ blocks) less all =
+    let parts = and_parts (nat_le high c.idn.raw) (list_all (λ (d : Block). nat_le high d.idn.raw) blocks) all in
+    let first = parts.0 in
+    and_from (nat_le low c.idn.raw) (list_all (λ (d : Block). nat_le low d.idn.raw) blocks) (let is : nat_le low c.idn.raw ≡ true = grind (arith, nat_tests, less, first) in is) (all_more low high blocks less parts.1)
+
+ordered_inserted : (b : Block) (blocks : List Block) → are_ordered blocks ≡ true → are_ordered (inserted b blocks) ≡ true
+unfolding inserted
+ordered_inserted b [] ordered = refl
+ordered_inserted b (c ∷ blocks) ordered = by (nat_lt b.idn.raw c.idn.raw) refl (ordered_inserted b blocks parts.1)
+  where
+    parts : (list_all (λ (d : Block). nat_le c.idn.raw d.idn.raw) blocks ≡ true) × (are_ordered blocks ≡ true)
+    parts = and_parts (list_all (λ (d : Block). nat_le c.idn.raw d.idn.raw) blocks) (are_ordered blocks) ordered
+
+    by : (x : Bool) → nat_lt b.idn.raw c.idn.raw ≡ x → are_ordered (inserted b blocks) ≡ true → are_ordered (cond x (b ∷ c ∷ blocks) (c ∷ inserted b blocks)) ≡ true
+    by true less more =
+        and_from (list_all (λ (d : Block). nat_le b.idn.raw d.idn.raw) (c ∷ blocks)) (are_ordered (c ∷ blocks))
+        (and_from (nat_le b.idn.raw c.idn.raw) (list_all (λ (d : Block). nat_le b.idn.raw d.idn.raw) blocks) (let is : nat_le b.idn.raw c.idn.raw ≡ true = grind (arith, nat_tests, less) in is) (all_more b.idn.raw c.idn.raw blocks less parts.0)) ordered
+    by false less more =
+        and_from (list_all (λ (d : Block). nat_le c.idn.raw d.idn.raw) (inserted b blocks)) (are_ordered (inserted b blocks))
+        (all_inserted (λ (d : Block). nat_le c.idn.raw d.idn.raw) b blocks (let is : nat_le c.idn.raw b.idn.raw ≡ true = grind (arith, nat_tests, less) in is) parts.0) more
+
+-- A block that is less than all comes first.
+inserted_first : (b : Block) (blocks : List Block) → list_all (λ (c : Block). nat_lt b.idn.raw c.idn.raw) blocks ≡ true → inserted b blocks ≡ b ∷ blocks
+unfolding inserted
+inserted_first b [] all = refl
+inserted_first b (c ∷ blocks) all =
+    ap (λ (v : Bool). cond v (b ∷ c ∷ blocks) (c ∷ inserted b blocks)) (and_parts (nat_lt b.idn.raw c.idn.raw) (list_all (λ (d : Block). nat_lt b.idn.raw d.idn.raw) blocks) all).0
+
+filter_inserted : (p : Block → Bool) (b : Block) (blocks : List Block) → are_ordered blocks ≡ true → p b ≡ true → filter p (inserted b blocks) ≡ inserted b (filter p blocks)
+unfolding inserted
+filter_inserted p b [] ordered is = ap (λ (v : Bool). cond v (b ∷ []) []) is
+filter_inserted p b (c ∷ blocks) ordered is = by (nat_lt b.idn.raw c.idn.raw) (p c) refl refl (filter_inserted p b blocks parts.1 is)
+  where
+    parts : (list_all (λ (d : Block). nat_le c.idn.raw d.idn.raw) blocks ≡ true) × (are_ordered blocks ≡ true)
+    parts = and_parts (list_all (λ (d : Block). nat_le c.idn.raw d.idn.raw) blocks) (are_ordered blocks) ordered
+
+    first : filter p (b ∷ c ∷ blocks) ≡ b ∷ filter p (c ∷ blocks)
+    first = ap (λ (v : Bool). cond v (b ∷ filter p (c ∷ blocks)) (filter p (c ∷ blocks))) is
+
+    by : (x y : Bool) → nat_lt b.idn.raw c.idn.raw ≡ x → p c ≡ y → filter p (inserted b blocks) ≡ inserted b (filter p blocks) → filter p (cond x (b ∷ c ∷ blocks) (c ∷ inserted b blocks)) ≡ inserted b (cond (p c) (c ∷ filter p blocks) (filter p blocks))
+    by true true less own more =
+        first ∙ ap (λ (v : Bool). b ∷ cond v (c ∷ filter p blocks) (filter p blocks)) own
+        ∙ sym (ap (λ (v : Bool). cond v (b ∷ c ∷ filter p blocks) (c ∷ inserted b (filter p blocks))) less)
+        ∙ sym (ap (λ (v : Bool). inserted b (cond v (c ∷ filter p blocks) (filter p blocks))) own)
+    by true false less own more =
+        first ∙ ap (λ (v : Bool). b ∷ cond v (c ∷ filter p blocks) (filter p blocks)) own
+        ∙ sym (inserted_first b (filter p blocks) (all_above p b.idn.raw c.idn.raw blocks less parts.0))
+        ∙ sym (ap (λ (v : Bool). inserted b (cond v (c ∷ filter p blocks) (filter p blocks))) own)
+    by false true less own more =
+        ap (λ (v : Bool). cond v (c ∷ filter p (inserted b blocks)) (filter p (inserted b blocks))) own ∙ ap (λ (l : List Block). c ∷ l) more
+        ∙ sym (ap (λ (v : Bool). cond v (b ∷ c ∷ filter p blocks) (c ∷ inserted b (filter p blocks))) less)
+        ∙ sym (ap (λ (v : Bool). inserted b (cond v (c ∷ filter p blocks) (filter p blocks))) own)
+    by false false less own more =
+        ap (λ (v : Bool). cond v (c ∷ filter p (inserted b blocks)) (filter p (inserted b blocks))) own ∙ more
+        ∙ sym (ap (λ (v : Bool). inserted b (cond v (c ∷ filter p blocks) (filter p blocks))) own)
+
+filter_with_own : (p : Block → Bool) (own blocks : List Block) → are_ordered blocks ≡ true → list_all p own ≡ true → filter p (with_own blocks own) ≡ with_own (filter p blocks) own
+unfolding with_own
+filter_with_own p [] blocks ordered all = refl
+filter_with_own p (b ∷ own) blocks ordered all =
+    let parts = and_parts (p b) (list_all p own) all in
+    filter_with_own p own (inserted b blocks) (ordered_inserted b blocks ordered) parts.1 ∙ ap (λ (l : List Block). with_own l own) (filter_inserted p b blocks ordered parts.0)
+
+-- THE BLOCKS of a drive
+ordered_built_in : (d : DriveView) → are_ordered (built_in d) ≡ true
+unfolding built_in
+ordered_built_in d = refl
+
+none_own : (d : DriveView) → filter is_own (built_in d) ≡ []
+unfolding built_in
+none_own d = refl
+
+all_own : (before own : List Block) → blocks_fault before own ≡ None → list_all is_own own ≡ true
+all_own before [] none = refl
+all_own before (b ∷ own) none =
+    let (new, rest) = first_is_new before b own none in
+    and_from (is_own b) (list_all is_own own) (ap not (either_none (is_built_in b.idn.raw) (has_block b.idn.raw before) new.number).0) (all_own (before ++ b ∷ []) own rest)
+
+both_tests : (blocks : List Block) → filter is_own_outside blocks ≡ filter is_outside (filter is_own blocks)
+both_tests [] = refl
+both_tests (b ∷ blocks) = by (is_built_in b.idn.raw) (both_tests blocks)
+  where
+    by : (x : Bool) → filter is_own_outside blocks ≡ filter is_outside (filter is_own blocks) → cond (not x && is_outside b) (b ∷ filter is_own_outside blocks) (filter is_own_outside blocks) ≡ filter is_outside (cond (not x) (b ∷ filter is_own blocks) (filter is_own blocks))
+    by true more = more
+    by false more = ap (λ (l : List Block). cond (is_outside b) (b ∷ l) l) more
+
+own_sorted : (d : DriveView) → blocks_fault [] d.blocks ≡ None → filter is_own_outside (store_of d) ≡ filter is_outside (with_own [] d.blocks)
+unfolding store_of
+own_sorted d rules =
+    both_tests (with_own (built_in d) d.blocks)
+    ∙ ap (filter is_outside) (filter_with_own is_own d.blocks (built_in d) (ordered_built_in d) (all_own [] d.blocks rules) ∙ ap (λ (l : List Block). with_own l d.blocks) (none_own d))
+
+-- THE LIST as the master takes it from its bytes
+read_back : (idns : List Idn) → idns_in (list_bytes idns) ≡ idns
+read_back [] = refl
+read_back (i ∷ idns) =
+    let same : i.raw % 256 + 256 * (i.raw / 256) ≡ i.raw = omega arith in
+    rw (same, read_back idns) refl
+
+pub list_back : (d : DriveView) → blocks_fault [] d.blocks ≡ None → length (store_of d) ≤ 64
+    → take 64 (idns_in (list_bytes (map (λ (b : Block). b.idn) (filter is_own_outside (store_of d))))) ≡ map (λ (b : Block). b.idn) (filter is_outside (with_own [] d.blocks))
+list_back d rules few =
+    ap (take 64) (read_back (map (λ (b : Block). b.idn) (filter is_own_outside (store_of d))))
+    ∙ take_all 64 (map (λ (b : Block). b.idn) (filter is_own_outside (store_of d))) short
+    ∙ ap (map (λ (b : Block). b.idn)) (own_sorted d rules)
+  where
+    short : length (map (λ (b : Block). b.idn) (filter is_own_outside (store_of d))) ≤ 64
+    short =
+        let listed = length_map (λ (b : Block). b.idn) (filter is_own_outside (store_of d)) in
+        let parts = length-filter_both is_own_outside (λ (b : Block). not (is_own_outside b)) (λ b. refl) (store_of d) in omega (arith, listed, parts, few)

@@ -1,0 +1,205 @@
+-- While phase 0 is commanded, at most nine MSTs in a row came back, no drive is identified, nothing was begun, and there is no stop.
+use Rattle.std.proofs.Common.{◌≡◌, ℕ, zero, suc, ◌+◌, ◌<◌, ◌≤◌, ◌||◌, Bool, true, false, not, ◌&&◌, List, [], ◌∷◌, length, Option, None, refl, sym, ◌∙◌, ap, subst, arith, if◌then◌else◌}
+use Rattle.std.specs.Prelude.{◌==◌, nat_le, is_none, is_some}
+use Rattle.std.proofs.lemmas.Bool.{false≢true}
+use Rattle.std.proofs.lemmas.Bool.Decides.{nat_tests}
+use Rattle.sercos_step.specs.declared.request.Job.{Job}
+use Rattle.sercos_block.specs.Views.{RingView}
+use Rattle.sercos_trace.specs.Views.{CycleView}
+use Rattle.sercos_trace.specs.declared.events.Stop.{Stop}
+use Rattle.sercos_seat.specs.Channel.{is_place, last_outcome, of_phase, trouble_by}
+use Rattle.sercos_seat.specs.Ring.{Known, Task, known_of, member}
+use Rattle.sercos_service_master.specs.Calls.{begun_by}
+use Rattle.sercos_master.specs.Annals.{Past, Turn, Restart, first_place, first_trouble, first_trouble_from, trouble, with_stop, with_due_plan, planned_by, all_read, settled, begins, in_turn, is_idle, next_task, with_task, addressed_before, addressed_in, ready_to_send, has_identified, is_identified, whole_row, is_done, is_done_in, next_phase, goes_on, new_epoch, still_waiting, fall_of, after_at, after_mdt}
+use Rattle.sercos_script.specs.Links.{Carry, Restarts}
+use Rattle.sercos_law_run.specs.Journal.Records.{mst_in, ats_in}
+use Rattle.sercos_law_run.specs.Journal.Runs.{begins as begins_cycle, own_mst, master_calls, looks_back}
+use Rattle.sercos_law_run.specs.Views.RingViews.{at_start, behind_ats, behind_mdt}
+use Rattle.sercos_law_run.proofs.Views.MasterSame.{turn_mdt}
+use Rattle.sercos_law_run.specs.Undisturbed.EpochStarts.{StartsEpoch, came_back, StartsAtFall, StartsAtOpening, StartsAtRestart}
+use Rattle.sercos_law_run.proofs.Undisturbed.AfterAt.{after_at_so}
+use Rattle.sercos_law_run.proofs.Undisturbed.ChannelsKept.{ats_leave}
+use Rattle.sercos_law_run.proofs.Undisturbed.PhaseCounts.{Waits, none_identified}
+use Rattle.sercos_law_run.proofs.Undisturbed.StopStays.{ats_same, ats_stop}
+
+pub record IsInZero (p : Past) : Type 0 where
+  pub few : whole_row p.turns ≤ 9
+  pub fresh : (k : ℕ) → has_identified k p.turns ≡ false
+  pub silent : addressed_before p.turns ≡ None
+  pub tasks : (k : ℕ) → p.tasks k ≡ []
+  pub stop : p.stop ≡ None
+
+new_zero : (cycle : ℕ) (waiting : ℕ → List Task) → IsInZero (new_epoch cycle waiting)
+new_zero cycle waiting = record { few = omega arith; fresh = λ k. refl; silent = refl; tasks = λ k. refl; stop = refl }
+
+-- no drive is addressed in phase 0
+none_at_zero : (s : Known) (q : Past) → q.now.phase ≡ 0 → addressed_in s q ≡ None
+none_at_zero s q zero_is = by (q.now.phase == 1) (q.now.phase == 2) (ap (λ (n : ℕ). n == 1) zero_is) (ap (λ (n : ℕ). n == 2) zero_is)
+  where
+    by : (one two : Bool) → one ≡ false → two ≡ false → (if one then first_place s (λ k. not (is_identified q k)) else (if two then first_place s (λ k. not (is_idle q k)) else None)) ≡ None
+    by one two a b = rw (a, b) refl
+
+pub none_addressed : (s : Known) (p : Past) → (after_mdt s p).now.phase ≡ 0 → (after_mdt s p).now.addressed ≡ None
+none_addressed s p zero_is = none_at_zero s (ready_to_send s p) zero_is
+
+-- THE MDT changes nothing: where nothing was begun there is no trouble, no plan is due, and no request is begun.
+pub none_first : (s : Known) (p : Past) (k n : ℕ) → ((i : ℕ) → i < k + n → trouble s p i ≡ None) → first_trouble_from s p k n ≡ None
+none_first s p k zero each = refl
+none_first s p k (suc n) each = let here : trouble s p k ≡ None = each k (omega arith) in rw here (none_first s p (k + 1) n (λ i low. each i (omega (arith, low))))
+
+no_trouble : (s : Known) (p : Past) → ((k : ℕ) → p.tasks k ≡ []) → first_trouble s p ≡ None
+no_trouble s p none = none_first s p 0 (length s.drives) (λ i low. ap (λ (l : List Task). trouble_by (member s i).address l (last_outcome (begun_by (p.calls i)))) (none i))
+
+settled_zero : (s : Known) (p : Past) → p.now.phase ≡ 0 → ((k : ℕ) → p.tasks k ≡ []) → settled s p ≡ p
+settled_zero s p zero_is none = ap (λ (o : Option Stop). with_due_plan s (with_stop o p)) (no_trouble s p none) ∙ by (p.now.phase == 2) (ap (λ (n : ℕ). n == 2) zero_is)
+  where
+    by : (two : Bool) → two ≡ false → (if two && (is_none p.stop && (is_none p.plan && all_read s p)) then planned_by s p else p) ≡ p
+    by true off = absurd (false≢true (sym off))
+    by false off = refl
+
+begins_zero : (s : Known) (p : Past) (k : ℕ) → p.now.phase ≡ 0 → begins s p k ≡ None
+begins_zero s p k zero_is = by (is_none p.stop) (is_idle p k) (nat_le 3 p.now.phase) (p.now.phase == 2) (ap (λ (n : ℕ). nat_le 3 n) zero_is) (ap (λ (n : ℕ). n == 2) zero_is)
+  where
+    by : (free idle late two : Bool) → late ≡ false → two ≡ false → (if free && (idle && (late || (two && is_place k (in_turn s p)))) then of_phase p.now.phase (next_task s p k) else None) ≡ None
+    by true true late two a b = rw (a, b) refl
+    by true false late two a b = refl
+    by false idle late two a b = refl
+
+tasks_zero : (s : Known) (p : Past) (k : ℕ) → p.now.phase ≡ 0 → ((i : ℕ) → p.tasks i ≡ []) → (after_mdt s p).tasks k ≡ []
+tasks_zero s p k zero_is none =
+    ap (λ (q : Past). with_task (begins s q k) (q.tasks k)) (settled_zero s p zero_is none) ∙ ap (λ (o : Option Task). with_task o (p.tasks k)) (begins_zero s p k zero_is) ∙ none k
+
+stop_zero : (s : Known) (p : Past) → p.now.phase ≡ 0 → ((i : ℕ) → p.tasks i ≡ []) → p.stop ≡ None → (after_mdt s p).stop ≡ None
+stop_zero s p zero_is none before = ap (λ (q : Past). q.stop) (settled_zero s p zero_is none) ∙ before
+
+-- an AT begins nothing
+at_tasks : (k : ℕ) (s : Known) (content : List ℕ) (p : Past) → (after_at s content p).tasks k ≡ p.tasks k
+at_tasks k s content p = after_at_so (λ q. q.tasks k ≡ p.tasks k) s content p refl (λ i. refl)
+
+-- the end of a cycle
+stays_zero : (done : Bool) (n : ℕ) → (if done then n + 1 else n) ≡ 0 → (done ≡ false) × (n ≡ 0)
+stays_zero true n is = absurd (omega (arith, is))
+stays_zero false n is = (refl, is)
+
+row_few : (s : Known) (p : Past) → p.now.phase ≡ 0 → is_done s p ≡ false → whole_row (p.now ∷ p.turns) ≤ 9
+row_few s p zero_is off =
+    let few : nat_le 10 (whole_row (p.now ∷ p.turns)) ≡ false = sym (ap (λ (n : ℕ). is_done_in n s p) zero_is) ∙ off in
+    few_of (whole_row (p.now ∷ p.turns)) few
+  where
+    few_of : (n : ℕ) → nat_le 10 n ≡ false → n ≤ 9
+    few_of n is = grind (arith, nat_tests, is)
+
+module _ (r : RingView) (jobs : List Job) (carry : Carry) (restarts : Restarts) where
+  abbrev back : List CycleView → Past
+  back j = looks_back r jobs (master_calls r carry restarts j)
+
+  abbrev now_in : CycleView → List CycleView → Past
+  now_in t j = behind_mdt r jobs carry restarts t.sent j
+
+  -- within a cycle
+  start_zero : (j : List CycleView) → ((back j).now.phase ≡ 0 → IsInZero (back j)) → (at_start r jobs carry restarts j).now.phase ≡ 0 → IsInZero (at_start r jobs carry restarts j)
+  start_zero j before = by (restarts (length j) 0)
+    where
+      by : (b : Bool) → (looks_back r jobs (if b then Restart ∷ master_calls r carry restarts j else master_calls r carry restarts j)).now.phase ≡ 0
+          → IsInZero (looks_back r jobs (if b then Restart ∷ master_calls r carry restarts j else master_calls r carry restarts j))
+      by true zero_is = new_zero _ _
+      by false zero_is = before zero_is
+
+  phase_at_end : (t : CycleView) (j : List CycleView) → (now_in t j).now.phase ≡ (at_start r jobs carry restarts j).now.phase
+  phase_at_end t j = (turn_mdt (known_of r) (behind_ats r jobs carry restarts t.sent j)).phase_is ∙ (ats_leave r jobs carry restarts t j 0).phase_is
+
+  turns_at_end : (t : CycleView) (j : List CycleView) → (now_in t j).turns ≡ (at_start r jobs carry restarts j).turns
+  turns_at_end t j = (turn_mdt (known_of r) (behind_ats r jobs carry restarts t.sent j)).turns_are ∙ (ats_leave r jobs carry restarts t j 0).turns_are
+
+  module _ (t : CycleView) (j : List CycleView) (zero_is : (now_in t j).now.phase ≡ 0) (start : IsInZero (at_start r jobs carry restarts j)) where
+    after_ats : (behind_ats r jobs carry restarts t.sent j).now.phase ≡ 0
+    after_ats = sym (turn_mdt (known_of r) (behind_ats r jobs carry restarts t.sent j)).phase_is ∙ zero_is
+
+    ats_tasks : (k : ℕ) → (behind_ats r jobs carry restarts t.sent j).tasks k ≡ []
+    ats_tasks k = ats_same (λ (p : Past). p.tasks k) (at_tasks k) r jobs carry (length j) (ats_in t.sent) (own_mst carry (length j) (mst_in t.sent) (begins_cycle r carry restarts j)) ∙ start.tasks k
+
+    none_there : (behind_ats r jobs carry restarts t.sent j).stop ≡ None
+    none_there = ats_stop r jobs carry (length j) (ats_in t.sent) (own_mst carry (length j) (mst_in t.sent) (begins_cycle r carry restarts j)) ∙ start.stop
+
+    goes_zero : is_done (known_of r) (now_in t j) ≡ false → IsInZero (goes_on (next_phase (known_of r) (now_in t j)) (now_in t j))
+    goes_zero off = record {
+      few = row_few (known_of r) (now_in t j) zero_is off;
+      fresh = λ k. none_identified (now_in t j).now.phase ((now_in t j).now.heard k) (has_identified k (now_in t j).turns) zero_is (ap (has_identified k) (turns_at_end t j) ∙ start.fresh k);
+      silent = none_addressed (known_of r) (behind_ats r jobs carry restarts t.sent j) zero_is;
+      tasks = λ k. tasks_zero (known_of r) (behind_ats r jobs carry restarts t.sent j) k after_ats ats_tasks;
+      stop = stop_zero (known_of r) (behind_ats r jobs carry restarts t.sent j) after_ats ats_tasks none_there;
+    }
+
+  end_zero : (t : CycleView) (j : List CycleView) → ((back j).now.phase ≡ 0 → IsInZero (back j)) → (back (t ∷ j)).now.phase ≡ 0 → IsInZero (back (t ∷ j))
+  end_zero t j before = by (is_some (fall_of (known_of r) (now_in t j)))
+    where
+      by : (falls : Bool) → (if falls then new_epoch ((now_in t j).cycle + 1) (still_waiting (now_in t j)) else goes_on (next_phase (known_of r) (now_in t j)) (now_in t j)).now.phase ≡ 0
+          → IsInZero (if falls then new_epoch ((now_in t j).cycle + 1) (still_waiting (now_in t j)) else goes_on (next_phase (known_of r) (now_in t j)) (now_in t j))
+      by true zero_is = new_zero _ _
+      by false zero_is =
+          let stays = stays_zero (is_done (known_of r) (now_in t j)) (now_in t j).now.phase zero_is in
+          goes_zero t j stays.1 (start_zero j before (sym (phase_at_end t j) ∙ stays.1)) stays.0
+
+  -- AT THE END OF EACH CYCLE of a run
+  pub in_zero : (j : List CycleView) → StartsEpoch r jobs carry restarts j → IsInZero (back j)
+  in_zero [] zero_is = new_zero _ _
+  in_zero (t ∷ j) zero_is = end_zero t j (λ before. in_zero j before) zero_is
+
+  pub few_back : (j : List CycleView) → StartsEpoch r jobs carry restarts j → came_back r jobs carry restarts j ≤ 9
+  few_back j zero_is = (in_zero j zero_is).few
+
+  pub zero_waits : (j : List CycleView) → StartsEpoch r jobs carry restarts j → Waits (came_back r jobs carry restarts j) (back j)
+  zero_waits j zero_is = let is = in_zero j zero_is in record { phase_is = zero_is; row = refl; fresh = is.fresh; silent = is.silent }
+
+  -- WHERE AN EPOCH BEGINS
+  begins_new : (t : CycleView) (j : List CycleView) → restarts (length j) 0 ≡ true → ((at_start r jobs carry restarts j).now.phase ≡ 0) × ((at_start r jobs carry restarts j).turns ≡ [])
+  begins_new t j on = by (restarts (length j) 0) on
+    where
+      by : (b : Bool) → b ≡ true → ((looks_back r jobs (if b then Restart ∷ master_calls r carry restarts j else master_calls r carry restarts j)).now.phase ≡ 0)
+          × ((looks_back r jobs (if b then Restart ∷ master_calls r carry restarts j else master_calls r carry restarts j)).turns ≡ [])
+      by true on = (refl, refl)
+      by false off = absurd (false≢true off)
+
+  one_at_most : (whole : Bool) → (if whole then 0 + 1 else 0) ≤ 1
+  one_at_most true = omega arith
+  one_at_most false = omega arith
+
+  pub starts_anew : (t : CycleView) (j : List CycleView) → restarts (length j) 0 ≡ true → StartsEpoch r jobs carry restarts (t ∷ j) × (came_back r jobs carry restarts (t ∷ j) ≤ 1)
+  starts_anew t j on = by (is_some (fall_of (known_of r) (now_in t j)))
+    where
+      new : ((at_start r jobs carry restarts j).now.phase ≡ 0) × ((at_start r jobs carry restarts j).turns ≡ [])
+      new = begins_new t j on
+
+      phase : (now_in t j).now.phase ≡ 0
+      phase = phase_at_end t j ∙ new.0
+
+      one : whole_row ((now_in t j).now ∷ (now_in t j).turns) ≤ 1
+      one = subst (λ (l : List Turn). whole_row ((now_in t j).now ∷ l) ≤ 1) (sym (turns_at_end t j ∙ new.1)) (one_at_most (now_in t j).now.whole)
+
+      low : (n : ℕ) → n ≤ 1 → nat_le 10 n ≡ false
+      low n few = grind (arith, nat_tests, few)
+
+      not_done : is_done (known_of r) (now_in t j) ≡ false
+      not_done = ap (λ (n : ℕ). is_done_in n (known_of r) (now_in t j)) phase ∙ low (whole_row ((now_in t j).now ∷ (now_in t j).turns)) one
+
+      by : (falls : Bool) → ((if falls then new_epoch ((now_in t j).cycle + 1) (still_waiting (now_in t j)) else goes_on (next_phase (known_of r) (now_in t j)) (now_in t j)).now.phase ≡ 0)
+          × (whole_row (if falls then new_epoch ((now_in t j).cycle + 1) (still_waiting (now_in t j)) else goes_on (next_phase (known_of r) (now_in t j)) (now_in t j)).turns ≤ 1)
+      by true = (refl, omega arith)
+      by false = (ap (λ (done : Bool). if done then (now_in t j).now.phase + 1 else (now_in t j).now.phase) not_done ∙ phase, one)
+
+  pub starts_fallen : (t : CycleView) (j : List CycleView) → is_some (fall_of (known_of r) (now_in t j)) ≡ true → StartsEpoch r jobs carry restarts (t ∷ j) × (came_back r jobs carry restarts (t ∷ j) ≡ 0)
+  starts_fallen t j falls = by (is_some (fall_of (known_of r) (now_in t j))) falls
+    where
+      by : (on : Bool) → on ≡ true → ((if on then new_epoch ((now_in t j).cycle + 1) (still_waiting (now_in t j)) else goes_on (next_phase (known_of r) (now_in t j)) (now_in t j)).now.phase ≡ 0)
+          × (whole_row (if on then new_epoch ((now_in t j).cycle + 1) (still_waiting (now_in t j)) else goes_on (next_phase (known_of r) (now_in t j)) (now_in t j)).turns ≡ 0)
+      by true on = (refl, refl)
+      by false off = absurd (false≢true off)
+
+pub starts_at_opening : StartsAtOpening
+starts_at_opening r jobs carry restarts = (refl, refl)
+
+pub starts_at_fall : StartsAtFall
+starts_at_fall r jobs carry restarts t j falls = starts_fallen r jobs carry restarts t j falls
+
+pub starts_at_restart : StartsAtRestart
+starts_at_restart r jobs carry restarts t j on = starts_anew r jobs carry restarts t j on

@@ -1,0 +1,150 @@
+-- A request of the start-up that a drive refuses in phase 2 is the write of the cycle time, outside the drive's limits.
+use Rattle.std.proofs.Common.{◌≡◌, ◌⊎◌, ℕ, ◌+◌, ◌*◌, ◌<◌, ◌≤◌, ◌^◌, Bool, true, false, List, [], ◌∷◌, ◌++◌, Option, Some, None, refl, sym, ap, ◌∙◌, subst, arith, if◌then◌else◌}
+use Rattle.std.proofs.lemmas.Bool.{cond-false}
+use mathlib.Core.Bool.{beq}
+use Rattle.sercos_idn.specs.declared.code.Code.{Code}
+use Rattle.sercos_step.specs.declared.request.Request.{Request}
+use Rattle.sercos_step.specs.declared.request.Request.TheVariants as request
+use Rattle.sercos_step.specs.declared.request.Outcome.TheVariants as outcome
+use Rattle.sercos_step.specs.declared.step.Answer.{Answer}
+use Rattle.sercos_step.specs.Steps.{answer_words, is_whole, result_of, outcome_of}
+use Rattle.sercos_step.specs.Words.{bytes_in, shape_of, shape_by}
+use Rattle.sercos_block.specs.BuiltIns.{row}
+use Rattle.sercos_block.specs.Stores.{store_of}
+use Rattle.sercos_block.specs.Views.{DriveView}
+use Rattle.sercos_block.specs.declared.block.Block.{Block}
+use Rattle.sercos_service_drive.specs.Log.{Taken, Entry, ahs, accepted}
+use Rattle.sercos_service_drive.specs.Replies.{answered, log_of}
+use Rattle.sercos_service_drive.specs.Writes.{writes_of}
+use Rattle.sercos_service_master.specs.Begun.{Begun}
+use Rattle.sercos_seat.specs.Agenda.{idn}
+use Rattle.sercos_law_channel.specs.Handshake.Epochs.{command, command_in, epoch_taken, unless_restart, begun_in, taken_in, log_in}
+use Rattle.sercos_law_channel.specs.Handshake.Exact.{AreExact}
+use Rattle.sercos_law_channel.specs.Handshake.InStep.{replies_of}
+use Rattle.sercos_law_channel.specs.Handshake.Parts.{IsPart, Unsent, Heard, Unheard, HaveReplies, MakeTransfers}
+use Rattle.sercos_law_channel.specs.Handshake.Runs.{IsRun as IsViewRun}
+use Rattle.sercos_law_channel.specs.Handshake.RunLaws.{ProcessesInPhase}
+use Rattle.sercos_law_channel.specs.Handshake.Transfers.{HaveBlocks, IsTransfer}
+use Rattle.sercos_law_channel.specs.Handshake.Views.{View, with_record, processed_in}
+use Rattle.sercos_law_channel.specs.Handshake.WholeRun.{AreSound, AreSmall, all_entries}
+use Rattle.sercos_law_channel.proofs.Theorems.{Laws, epoch, cycle_exact, entries_ago, entries_in_epochs, low_of, high_of}
+use Rattle.sercos_law_run.specs.Start.StartUp.{IsStoreOf}
+use Rattle.sercos_law_run.specs.Held.Stored.{AreStored}
+use Rattle.sercos_law_run.proofs.Held.AnsweredRuns.{EntriesStored, entries_stored}
+
+-- THE PHASES in which the steps of an epoch were accepted
+abbrev IsBetween : ℕ → Taken → Type 0
+IsBetween n t = (t.phase ≤ n) × (2 ≤ t.phase)
+
+abbrev AreBetween : ℕ → List Taken → Type 0
+AreBetween n [] = Unit {0}
+AreBetween n (t ∷ h) = AreBetween n h × IsBetween n t
+
+between_more : (n m : ℕ) (h : List Taken) → n ≤ m → AreBetween n h → AreBetween m h
+between_more n m [] le are = tt
+between_more n m (t ∷ h) le are = (between_more n m h le are.0, (let low = are.1.0 in omega (arith, low, le), are.1.1))
+
+between_accepted : (n : ℕ) (h : List Taken) → AreBetween n h → AreBetween n (accepted h)
+between_accepted n [] are = tt
+between_accepted n (t ∷ h) are = by (beq t.mhs (ahs h)) (between_accepted n h are.0)
+  where
+    by : (b : Bool) → AreBetween n (accepted h) → AreBetween n (if b then accepted h else t ∷ accepted h)
+    by true more = more
+    by false more = (more, are.1)
+
+newest_between : (n : ℕ) (h : List Taken) (e : Entry) (entries rest : List Entry) → answered h ≡ (e ∷ entries) ++ rest → AreBetween n h → IsBetween n e.taken
+newest_between n [] e entries rest same are = absurd (cc)
+newest_between n (t ∷ h) e entries rest same are = subst (λ (x : Entry). IsBetween n x.taken) (first_is same) are.1
+  where
+    first_is : {x y : Entry} {xs ys : List Entry} → x ∷ xs ≡ y ∷ ys → x ≡ y
+    first_is e = cc
+
+cycle_between : ProcessesInPhase → (v : View) (past : List View) → v.phase ≡ command_in v past → AreBetween (command past) (epoch_taken past) → AreBetween v.phase (taken_in v past)
+cycle_between in_phase v past commanded before = by (processed_in v past) refl (restarted v.master_restarts commanded)
+  where
+    restarted : (b : Bool) → v.phase ≡ (if b then 0 else command past) → AreBetween v.phase (if b then [] else epoch_taken past)
+    restarted true is = tt
+    restarted false is = between_more (command past) v.phase (epoch_taken past) (omega (arith, is)) before
+
+    by : (o : Option Taken) → processed_in v past ≡ o → AreBetween v.phase (unless_restart v (epoch_taken past)) → AreBetween v.phase (with_record o (unless_restart v (epoch_taken past)))
+    by None none are = are
+    by (Some t) some are = let is = in_phase v past t some in (are, (let same = is.0 in omega (arith, same), is.2))
+
+epoch_between : ProcessesInPhase → (busy : ℕ) (past : List View) → IsViewRun busy past → AreBetween (command past) (epoch_taken past)
+epoch_between in_phase busy [] run = tt
+epoch_between in_phase busy (v ∷ past) run = ended v.falls v.rises (cycle_between in_phase v past run.1.commanded (epoch_between in_phase busy past run.0))
+  where
+    ended : (f u : Bool) → AreBetween v.phase (taken_in v past) → AreBetween (if f then 0 else (if u then v.phase + 1 else v.phase)) (if f then [] else taken_in v past)
+    ended true u are = tt
+    ended false true are = between_more v.phase (v.phase + 1) (taken_in v past) (omega arith) are
+    ended false false are = are
+
+-- THE STEP THAT WAS REFUSED is the newest of the newest request.
+pub record IsRefused (d : DriveView) (r : Request) (code : Code) (phase : ℕ) : Type 0 where
+  pub e : Entry
+  pub entries : List Entry
+  pub log : List Entry
+  pub transfer : IsTransfer r (store_of d) e entries log
+  pub error : e.answer.error ≡ true
+  pub code_is : e.answer.word ≡ code.raw
+  pub between : (e.taken.phase ≤ phase) × (2 ≤ e.taken.phase)
+  pub stored : IsStoreOf d e.taken.blocks
+
+refused_is : (r : Request) (a : Answer) (h : List Answer) (code : Code) → outcome_of r (a ∷ h) ≡ Some (outcome.Refused code) → (a.error ≡ true) × (a.word ≡ code.raw)
+refused_is r a h code is = by a.error (is_whole r (answer_words h ++ a.word ∷ [])) refl is
+  where
+    same_code : {x y : Code} → Some (outcome.Refused x) ≡ Some (outcome.Refused y) → x ≡ y
+    same_code e = cc
+
+    by : (error whole : Bool) → a.error ≡ error → (if error then Some (outcome.Refused (record { raw = a.word })) else (if whole then Some (outcome.Complete (result_of r (answer_words h ++ a.word ∷ []))) else None)) ≡ Some (outcome.Refused code) → (a.error ≡ true) × (a.word ≡ code.raw)
+    by true whole on is = (on, ap (λ (c : Code). c.raw) (same_code is))
+    by false true on is = absurd (cc)
+    by false false on is = absurd (cc)
+
+module _ (laws : Laws) (replies : HaveReplies) (transfers : MakeTransfers) (in_phase : ProcessesInPhase) (busy : ℕ) (d : DriveView) (small : AreSmall (store_of d)) (v : View) (past : List View) (run : IsViewRun busy (v ∷ past)) (sound : AreSound (store_of d) (v ∷ past))
+    (stored : AreStored d (v ∷ past)) (stays : v.falls ≡ false) where
+  log_now : epoch_taken (v ∷ past) ≡ taken_in v past
+  log_now = cond-false v.falls [] (taken_in v past) stays
+
+  have : HaveBlocks (store_of d) (log_in v past)
+  have = subst (λ (h : List Taken). HaveBlocks (store_of d) (log_of h)) log_now (epoch (store_of d) busy (v ∷ past) run sound).alike
+
+  have_first : (part rest : List Entry) → HaveBlocks (store_of d) (part ++ rest) → HaveBlocks (store_of d) part
+  have_first [] rest are = tt
+  have_first (e ∷ part) rest are = (have_first part rest are.0, are.1)
+
+  pub newest_refused : (one : Begun) (older : List Begun) (code : Code) → begun_in v past ≡ one ∷ older → outcome_of one.request one.answers ≡ Some (outcome.Refused code) → (ref : IsRefused d one.request code v.phase) × (log_in v past ≡ ref.e ∷ (ref.entries ++ ref.log))
+  newest_refused one older code split refused = by (subst (λ (l : List Begun). AreExact (store_of d) l (log_in v past) (writes_of (log_in v past))) split (cycle_exact (store_of d) busy laws small v past run sound))
+    where
+      by : AreExact (store_of d) (one ∷ older) (log_in v past) (writes_of (log_in v past)) → (ref : IsRefused d one.request code v.phase) × (log_in v past ≡ ref.e ∷ (ref.entries ++ ref.log))
+      by (part, rest, own, others, of_entries, of_writes, is, behind) = which is.part_of
+        where
+          which : IsPart one part → (ref : IsRefused d one.request code v.phase) × (log_in v past ≡ ref.e ∷ (ref.entries ++ ref.log))
+          which (Unsent none no_answers) = let nothing : None ≡ Some (outcome.Refused code) = sym (ap (outcome_of one.request) no_answers) ∙ refused in absurd (cc)
+          which (Unheard e entries of_part row answers) = let nothing : None ≡ Some (outcome.Refused code) = sym (ap (outcome_of one.request) answers ∙ row.goes_on) ∙ refused in absurd (cc)
+          which (Heard e entries of_part row answers) =
+              let log_so : log_in v past ≡ (e ∷ entries) ++ rest = of_entries ∙ ap (λ (l : List Entry). l ++ rest) of_part in
+              let ends = refused_is one.request e.answer (replies_of entries) code (sym (ap (outcome_of one.request) answers) ∙ refused) in
+              let all : all_entries (v ∷ past) ≡ ((e ∷ entries) ++ rest) ++ entries_ago (v ∷ past) =
+              entries_in_epochs busy (v ∷ past) run ∙ ap (λ (h : List Taken). log_of h ++ entries_ago (v ∷ past)) log_now ∙ ap (λ (l : List Entry). l ++ entries_ago (v ∷ past)) log_so in (
+                record {
+                  e = e;
+                  entries = entries;
+                  log = rest;
+                  transfer = transfers one (store_of d) e entries rest row (replies (accepted (taken_in v past)) (e ∷ entries) rest log_so) (have_first (e ∷ entries) rest (subst (HaveBlocks (store_of d)) log_so have));
+                  error = ends.0;
+                  code_is = ends.1;
+                  between = newest_between v.phase (accepted (taken_in v past)) e entries rest log_so (between_accepted v.phase (taken_in v past) (cycle_between in_phase v past run.1.commanded (epoch_between in_phase busy past run.0)));
+                  stored = (subst (EntriesStored d) all (entries_stored d (v ∷ past) stored)).1.1;
+                },
+                log_so,
+              )
+
+-- THE REQUEST
+pub record IsCycle (d : DriveView) (cycle : ℕ) (q : Request) (code : Code) : Type 0 where
+  pub asks : q ≡ request.Write (idn 2) 7 (bytes_in (cycle ∷ []))
+  pub limit : ((cycle < d.cycle_min) × (code.raw ≡ 0x7006)) ⊎ ((d.cycle_max < cycle) × (code.raw ≡ 0x7007))
+
+-- what the words of an attribute say of its length
+abbrev pub SaysShape : Type 0
+SaysShape = (b : Block) → b.attribute.factor < 2 ^ 16 → shape_of 7 (low_of b + 65536 * high_of b) ≡ shape_by b.attribute.length

@@ -1,0 +1,99 @@
+-- The AT that a drive sends has its address and the bytes that the master wants of it.
+use Rattle.std.proofs.Common.{◌≡◌, ℕ, zero, suc, ◌+◌, ◌<◌, ◌≤◌, Bool, true, false, ◌&&◌, ◌||◌, List, [], ◌∷◌, length, Some, None, refl, sym, ◌∙◌, ap, arith}
+use Rattle.std.specs.Prelude.{nat_le, slice_index, slice_index_or}
+use Rattle.std.proofs.lemmas.Bool.{cond-true}
+use Rattle.std.proofs.lemmas.Bool.Decides.{nat_tests}
+use Rattle.sercos_telegram.specs.Faults.{at_fault}
+use Rattle.sercos_telegram.proofs.Spellings.{head_fault-none}
+use Rattle.sercos_step.specs.declared.request.Outcome.{Outcome}
+use Rattle.sercos_timing.specs.Views.{WishesView}
+use Rattle.sercos_timing.specs.Order.{no_wish, wish}
+use Rattle.sercos_timing.specs.declared.wishes.Wish.{Wish}
+use Rattle.sercos_block.specs.declared.block.Block.{Block}
+use Rattle.sercos_block.specs.Rings.{wishes_of, at_len}
+use Rattle.sercos_block.specs.Rules.{blocks_fault}
+use Rattle.sercos_block.specs.Stores.{IsStore}
+use Rattle.sercos_block.specs.Views.{DriveView, RingView}
+use Rattle.sercos_service_drive.specs.Says.{Shown, drive_says as channel_says}
+use Rattle.sercos_drive.specs.Moments.{Moment, phase_in, cycle_in, has_mst, has_taken, taken_in, blocks_in, commands_in}
+use Rattle.sercos_drive.specs.Says.{Said, said, said_in, sends, shown_word, values_in}
+use Rattle.sercos_seat.specs.Agenda.{wish_given, wishes_from, wishes_given}
+use Rattle.sercos_seat.specs.Agenda as seat
+use Rattle.sercos_seat.specs.Ring.{MemberView, member, no_member, known_of}
+use Rattle.sercos_seat.proofs.Sends.{fields_length}
+use Rattle.sercos_law_run.specs.Start.StartUp.{IsStoreOf, AreAsLong, start_up, Holds}
+use Rattle.sercos_law_run.proofs.Start.CheckPasses.{wish_is}
+use Rattle.sercos_timing.specs.Views.{PlanView}
+use Rattle.sercos_law_run.specs.Journal.Runs.{drive_at}
+use Rattle.sercos_law_run.proofs.Views.Members.{members_count}
+use Rattle.sercos_law_run.proofs.Held.Runs.{drive_got}
+use Rattle.sercos_law_run.proofs.Headline.AtLengths.{carried_length}
+
+-- what it sends
+pub record Speaks (d : DriveView) (rate : ℕ) (past : List Moment) : Type 0 where
+  pub says : Said
+  pub is : said_in d rate past ≡ Some says
+  pub address : slice_index says.content 0 ≡ d.address
+  pub long : length says.content ≡ 1 + (4 + length (values_in (cycle_in past) (phase_in past) (blocks_in d past)))
+
+pub speaks : (d : DriveView) (rate : ℕ) (past : List Moment) → sends past ≡ true → Speaks d rate past
+speaks d rate past sent = record {
+  says = what;
+  is = cond-true (sends past) (Some what) None sent;
+  address = refl;
+  long = let fields = fields_length (shown_word shows) shows.word (values_in (cycle_in past) (phase_in past) (blocks_in d past)) in omega (arith, fields);
+}
+  where
+    shows : Shown
+    shows = channel_says d.busy (cycle_in past) (commands_in d rate past) (taken_in past)
+
+    what : Said
+    what = said d.address (cycle_in past) (phase_in past) (blocks_in d past) shows
+
+-- in phases 3 and 4 always, in phases 1 and 2 if it took an MDT in the cycle before
+pub sends_late : (past : List Moment) → has_mst past ≡ true → 3 ≤ phase_in past → sends past ≡ true
+sends_late past got late = by (has_mst past) (has_taken past) (phase_in past) got late
+  where
+    by : (got took : Bool) (phase : ℕ) → got ≡ true → 3 ≤ phase → (got && (nat_le 3 phase || (nat_le 1 phase && took))) ≡ true
+    by got took phase is late = let three : nat_le 3 phase ≡ true = grind (arith, nat_tests, late) in rw (is, three) refl
+
+pub sends_early : (past : List Moment) → has_mst past ≡ true → 1 ≤ phase_in past → has_taken past ≡ true → sends past ≡ true
+sends_early past got up took = by (has_mst past) (has_taken past) (phase_in past) got up took
+  where
+    either : (b : Bool) → (b || true) ≡ true
+    either true = refl
+    either false = refl
+
+    by : (got took : Bool) (phase : ℕ) → got ≡ true → 1 ≤ phase → took ≡ true → (got && (nat_le 3 phase || (nat_le 1 phase && took))) ≡ true
+    by got took phase is up taken = let one : nat_le 1 phase ≡ true = grind (arith, nat_tests, up) in rw (is, taken, one) (either (nat_le 3 phase))
+
+-- an AT of the wanted address and length has no fault
+pub at_sound : (address wanted : ℕ) (content : List ℕ) → slice_index content 0 ≡ address → length content ≡ 1 + wanted → at_fault address wanted content ≡ None
+at_sound address wanted content there long = head_fault-none (1 + wanted) address content long there
+
+-- in phases 1 and 2 it carries no values
+pub no_values : (cycle phase : ℕ) (blocks : List Block) → phase ≤ 2 → length (values_in cycle phase blocks) ≡ 0
+no_values cycle phase blocks early = let three : nat_le 3 phase ≡ false = grind (arith, nat_tests, early) in rw three refl
+
+-- in phases 3 and 4 those that the drive's attributes say
+wish_from : (drives : List MemberView) (base n : ℕ) (outs : ℕ → List Outcome) → n < length drives → slice_index_or (wishes_from drives base outs) n no_wish ≡ wish_given (slice_index_or drives n no_member) (outs (base + n))
+wish_from [] base n outs below = absurd (omega (arith, below))
+wish_from (d ∷ drives) base zero outs below = let e : base ≡ base + 0 = omega arith in ap (λ (i : ℕ). wish_given d (outs i)) e
+wish_from (d ∷ drives) base (suc n) outs below =
+    let e : base + 1 + n ≡ base + suc n = omega arith in
+    wish_from drives (base + 1) n outs (omega (arith, below)) ∙ ap (λ (i : ℕ). wish_given (slice_index_or drives n no_member) (outs i)) e
+
+pub asked_len : (r : RingView) (outs : ℕ → List Outcome) (k : ℕ) → k < length r.drives → wishes_given (known_of r) outs ≡ wishes_of r → seat.at_len (member (known_of r) k) (outs k) ≡ at_len (drive_at r k)
+asked_len r outs k below same =
+    let count = members_count r in
+    let e : k ≡ 0 + k = omega arith in
+    ap (λ (i : ℕ). seat.at_len (member (known_of r) k) (outs i)) e
+    ∙ sym (ap (λ (w : Wish). w.at_len) (wish_from (known_of r).drives 0 k outs (omega (arith, below, count))))
+    ∙ ap (λ (w : WishesView). (wish w k).at_len) same
+    ∙ ap (λ (w : Wish). w.at_len) (wish_is r k (drive_at r k) (drive_got r k below))
+
+pub carried_so : AreAsLong → (d : DriveView) (cycle phase control ring_cycle k : ℕ) (plan : PlanView) (blocks : List Block) → blocks_fault [] d.blocks ≡ None → IsStore blocks → IsStoreOf d blocks → Holds blocks (start_up control ring_cycle plan k d.at d.mdt)
+    → 3 ≤ phase → 4 + length (values_in cycle phase blocks) ≡ at_len d
+carried_so as_long d cycle phase control ring_cycle k plan blocks rules store stored_so holds late =
+    let three : nat_le 3 phase ≡ true = grind (arith, nat_tests, late) in
+    carried_length cycle phase blocks store three ∙ (as_long d blocks rules stored_so).0 holds.1.1.1.1.1.1.1.1.0

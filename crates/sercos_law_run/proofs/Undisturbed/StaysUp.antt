@@ -1,0 +1,207 @@
+-- In an undisturbed epoch the ring doesn't fall at the end of a cycle, if no step is open too long and each drive is heard in phases 3
+-- and 4.
+use Rattle.std.proofs.Common.{◌≡◌, ℕ, zero, suc, ◌+◌, ◌<◌, ◌≤◌, ◌||◌, Bool, true, false, not, ◌&&◌, List, [], ◌∷◌, ◌++◌, length, Option, Some, None, refl, sym, ◌∙◌, ap, subst, arith, if◌then◌else◌}
+use Rattle.std.specs.Prelude.{◌==◌, nat_le, is_some, IsSome, option_map, unwrap_or, min}
+use Rattle.std.proofs.lemmas.Bool.{false≢true}
+use Rattle.std.proofs.lemmas.Bool.Decides.{nat_tests}
+use Rattle.sercos_step.specs.declared.request.Job.{Job}
+use Rattle.sercos_step.specs.declared.request.Request.{Request}
+use Rattle.sercos_step.specs.declared.step.Answer.{Answer}
+use Rattle.sercos_block.specs.Views.{RingView}
+use Rattle.sercos_service_master.specs.Begun.{Begun, open_in, answers_it, answer_in, with_answer}
+use Rattle.sercos_service_master.specs.Calls.{Call, Begin, Send, Hear, EndCycle, begun_by, age_of, cycles_open}
+use Rattle.sercos_drive.specs.Moments.{phase_in}
+use Rattle.sercos_trace.specs.Views.{CycleView}
+use Rattle.sercos_seat.specs.Channel.{is_place}
+use Rattle.sercos_seat.specs.Ring.{Known, known_of, tasks_for}
+use Rattle.sercos_master.specs.Annals.{Past, Turn, first_from, first_place, has_identified, is_identified, count_addressed, is_idle, addressed_in, ready_to_send, after_mdt, fall_of}
+use Rattle.sercos_script.specs.Links.{Carry, Restarts}
+use Rattle.sercos_law_channel.specs.Handshake.Views.{Heard, View}
+use Rattle.sercos_law_channel.specs.Handshake.Epochs.{command, with_heard, with_begun, unless_restart, epoch_begun, begun_in}
+use Rattle.sercos_law_channel.specs.Handshake.Runs.{IsRun as IsViewRun}
+use Rattle.sercos_law_channel.specs.Handshake.RunLaws.{BeginsEmpty, ComesUp}
+use Rattle.sercos_law_channel.specs.Pace.ChannelCalls.{calls_in, channel_calls}
+use Rattle.sercos_law_run.specs.Journal.Runs.{drive_at, master_calls, middle, looks_back, IsNext, IsRun, IsClear}
+use Rattle.sercos_law_run.specs.Views.RingViews.{at_start, behind_ats, behind_mdt, after_mst, heard_last, view_of, views_of}
+use Rattle.sercos_law_run.proofs.Views.MasterSame.{HasHeard, Nothing, One, turn_mdt}
+use Rattle.sercos_law_run.proofs.Views.Members.{members_count}
+use Rattle.sercos_law_run.specs.Held.Opened.{IsOpened}
+use Rattle.sercos_law_run.proofs.Held.Runs.{Laws, kept_at_mst, begun_then}
+use Rattle.sercos_law_run.proofs.Headline.HeadlineRuns.{MoreLaws, first_store, stored_in, spelled_in, all_stand}
+use Rattle.sercos_law_run.specs.Undisturbed.Undisturbed.{IsUndisturbed, AreUndisturbed}
+use Rattle.sercos_law_run.specs.Undisturbed.EpochStarts.{StartsEpoch}
+use Rattle.sercos_law_run.proofs.Undisturbed.ChannelsKept.{ats_leave, unheard_first, calls_now}
+use Rattle.sercos_law_run.proofs.Undisturbed.Comes.{calm_in}
+use Rattle.sercos_law_run.proofs.Undisturbed.Identified.{phase_comes, mst_whole, starts_so, goes_so, heard_next}
+use Rattle.sercos_law_run.proofs.Undisturbed.NoFalls.{heard_mdt, has_risen, no_fall}
+use Rattle.sercos_law_run.proofs.Views.ViewRuns.{no_answer}
+use Rattle.sercos_law_run.proofs.Undisturbed.Addressed.{place_so}
+
+-- what is heard on a channel is heard of the drive
+heard_of : (s : Known) (k : ℕ) (such : List ℕ → Type 0) (c : List Call) (q : Past) → HasHeard s k such c q → heard_last c ≡ None → is_some (heard_last (q.calls k)) ≡ true → q.now.heard k ≡ true
+heard_of s k such c q (Nothing same) quiet some = absurd (false≢true (sym (ap (λ (l : List Call). is_some (heard_last l)) same ∙ ap (λ (o : Option Heard). is_some o) quiet) ∙ some))
+heard_of s k such c q (One content is there calls heard) quiet some = heard
+
+-- NO STEP is open on a channel on which nothing was begun.
+nothing_kept : (a : Answer) (begun : List Begun) → with_answer a begun ≡ [] → begun ≡ []
+nothing_kept a [] none = refl
+nothing_kept a (b ∷ begun) none = cc
+
+none_heard : (b : Bool) (a : Answer) (begun : List Begun) → (if b then with_answer a begun else begun) ≡ [] → begun ≡ []
+none_heard true a begun none = nothing_kept a begun none
+none_heard false a begun none = none
+
+no_age : (c : List Call) → begun_by c ≡ [] → age_of c ≡ None
+no_age [] none = refl
+no_age (Begin q ∷ c) none = cc
+no_age (Send ∷ c) none = ap (λ (l : List Begun). if is_some (open_in l) then Some (unwrap_or (age_of c) 0) else None) none
+no_age (Hear status word ∷ c) none =
+    let empty : begun_by c ≡ [] = none_heard (answers_it (begun_by c) status) (answer_in status word) (begun_by c) none in
+    ap (λ (l : List Begun). if answers_it l status then None else age_of c) empty ∙ no_age c empty
+no_age (EndCycle ∷ c) none = ap (λ (o : Option ℕ). option_map (λ age. age + 1) o) (no_age c none)
+
+-- nothing is begun in phases 0 and 1
+no_request : (o : Option Request) → (IsSome o → ⊥) → o ≡ None
+no_request None never = refl
+no_request (Some r) never = absurd (never refl)
+
+nothing_heard : (o : Option Heard) → with_heard o [] ≡ []
+nothing_heard None = refl
+nothing_heard (Some a) = no_answer (answers_it [] a.status) []
+
+begun_none : (busy : ℕ) → BeginsEmpty busy → (v : View) (past : List View) → IsViewRun busy (v ∷ past) → v.phase ≤ 1 → begun_in v past ≡ []
+begun_none busy empty v past (run, next) early =
+    ap (λ (l : List Begun). with_begun v.begins (with_heard v.heard l)) ended ∙ ap (λ (l : List Begun). with_begun v.begins l) (nothing_heard v.heard) ∙ ap (λ (o : Option Request). with_begun o []) none
+  where
+    none : v.begins ≡ None
+    none = no_request v.begins (λ some. let two = next.late some in omega (arith, two, early))
+
+    ended : unless_restart v (epoch_begun past) ≡ []
+    ended = by v.master_restarts (subst (λ (n : ℕ). n ≤ 1) next.commanded early)
+      where
+        by : (b : Bool) → (if b then 0 else command past) ≤ 1 → (if b then [] else epoch_begun past) ≡ []
+        by true low = refl
+        by false low = (empty past run low).0
+
+-- THE DRIVE THAT IS ADDRESSED in phase 1 isn't identified.
+pub found_passes : (k n i : ℕ) (test : ℕ → Bool) → first_from k n test ≡ Some i → test i ≡ true
+found_passes k zero i test found = cc
+found_passes k (suc n) i test found = by (test k) refl found (λ rest. found_passes (k + 1) n i test rest)
+  where
+    by : (b : Bool) → test k ≡ b → (if b then Some k else first_from (k + 1) n test) ≡ Some i → (first_from (k + 1) n test ≡ Some i → test i ≡ true) → test i ≡ true
+    by true passes found next = let same : k ≡ i = cc in subst (λ (n : ℕ). test n ≡ true) same passes
+    by false off found next = next found
+
+first_of : (s : Known) (q : Past) → q.now.phase ≡ 1 → addressed_in s q ≡ first_place s (λ k. not (is_identified q k))
+first_of s q one = let is : (q.now.phase == 1) ≡ true = grind (arith, nat_tests, one) in
+    ap (λ (b : Bool). if b then first_place s (λ k. not (is_identified q k)) else (if q.now.phase == 2 then first_place s (λ k. not (is_idle q k)) else None)) is
+
+pub addressed_first : (s : Known) (p : Past) → (after_mdt s p).now.phase ≡ 1 → (after_mdt s p).now.addressed ≡ first_place s (λ k. not (is_identified (after_mdt s p) k))
+addressed_first s p one = first_of s (ready_to_send s p) one
+
+not_heard : (phase : ℕ) (hears before : Bool) → phase ≡ 1 → not (((phase == 1) && hears) || before) ≡ true → hears ≡ false
+not_heard phase true before one off = let is : (phase == 1) ≡ true = grind (arith, nat_tests, one) in absurd (false≢true (rw is at off))
+not_heard phase false before one off = refl
+
+unheard_addressed : (s : Known) (p : Past) (k : ℕ) → (after_mdt s p).now.phase ≡ 1 → is_place k (after_mdt s p).now.addressed ≡ true → p.now.heard k ≡ false
+unheard_addressed s p k one to =
+    let found : first_place s (λ i. not (is_identified (after_mdt s p) i)) ≡ Some k = sym (addressed_first s p one) ∙ place_so k (after_mdt s p).now.addressed to in
+    sym (ap (λ (f : ℕ → Bool). f k) (heard_mdt s p))
+    ∙ not_heard (after_mdt s p).now.phase ((after_mdt s p).now.heard k) (has_identified k (after_mdt s p).turns) one (found_passes 0 (length s.drives) k (λ i. not (is_identified (after_mdt s p) i)) found)
+
+-- what tests say of a phase
+eq_one : (n : ℕ) → (n == 1) ≡ true → n ≡ 1
+eq_one n is = grind (arith, nat_tests, is)
+
+late_of : (n : ℕ) → nat_le 2 n ≡ true → 2 ≤ n
+late_of n is = grind (arith, nat_tests, is)
+
+early_of : (n : ℕ) → nat_le 2 n ≡ false → n ≤ 1
+early_of n is = grind (arith, nat_tests, is)
+
+module _ (laws : Laws) (more : MoreLaws) (comes_up : (busy : ℕ) → ComesUp busy) (r : RingView) (jobs : List Job) (carry : Carry) (restarts : Restarts) (opened : IsOpened r jobs) where
+  -- what a cycle's ATs and its MDT leave of the turn
+  pub phase_now : (t : CycleView) (j : List CycleView) → IsNext r jobs carry restarts t j → (behind_mdt r jobs carry restarts t.sent j).now.phase ≡ t.phase
+  phase_now t j next = (turn_mdt (known_of r) (behind_ats r jobs carry restarts t.sent j)).phase_is ∙ (ats_leave r jobs carry restarts t j 0).phase_is ∙ sym next.phase
+
+  pub turns_now : (t : CycleView) (j : List CycleView) → (behind_mdt r jobs carry restarts t.sent j).turns ≡ (at_start r jobs carry restarts j).turns
+  turns_now t j = (turn_mdt (known_of r) (behind_ats r jobs carry restarts t.sent j)).turns_are ∙ (ats_leave r jobs carry restarts t j 0).turns_are
+
+  pub whole_now : (t : CycleView) (j : List CycleView) → IsNext r jobs carry restarts t j → IsUndisturbed r carry restarts t j → (behind_mdt r jobs carry restarts t.sent j).now.whole ≡ true
+  whole_now t j next calm = (turn_mdt (known_of r) (behind_ats r jobs carry restarts t.sent j)).whole_is ∙ (ats_leave r jobs carry restarts t j 0).whole_is
+      ∙ mst_whole laws more r jobs carry restarts opened t j next (calm_in r carry restarts t j calm)
+
+  -- what a channel heard in a cycle was heard of the drive
+  pub heard_then : (t : CycleView) (j : List CycleView) → IsRun r jobs carry restarts (t ∷ j) → IsClear (t ∷ j) → (k : ℕ) → k < length r.drives → is_some (view_of r jobs carry restarts k t j).heard ≡ true
+      → (behind_ats r jobs carry restarts t.sent j).now.heard k ≡ true
+  heard_then t j run clear k below some = heard_of (known_of r) k (λ content. Unit {0}) ((at_start r jobs carry restarts j).calls k) (behind_ats r jobs carry restarts t.sent j)
+      (ats_leave r jobs carry restarts t j k).has (unheard_first laws more r jobs carry restarts opened j run.0 clear.0 k below) some
+
+  -- in phases 0 and 1 a drive stands in the phase that is commanded
+  pub stands_so : (t : CycleView) (j : List CycleView) → IsRun r jobs carry restarts (t ∷ j) → IsClear (t ∷ j) → IsUndisturbed r carry restarts t j → t.phase ≤ 1 → (k : ℕ) → k < length r.drives
+      → phase_in (after_mst r carry restarts t.sent j k) ≡ t.phase
+  stands_so t j (run, next) (before, clear) calm early k below =
+      (kept_at_mst laws r jobs carry restarts opened (first_store laws more r jobs carry restarts opened) t j next clear (spelled_in laws more r jobs carry restarts opened t j next)
+      (stored_in laws more r jobs carry restarts opened t j) (all_stand laws more r jobs carry restarts opened j run before) k below).ended
+      ∙ comes_up (drive_at r k).busy (view_of r jobs carry restarts k t j) (views_of r jobs carry restarts k j) (all_stand laws more r jobs carry restarts opened (t ∷ j) (run, next) (before, clear) k below).sees.run early
+      (ap (λ (o : Option ℕ). is_some o) (phase_comes laws more r jobs carry restarts opened t j next (calm_in r carry restarts t j calm) k below))
+
+  -- nothing is begun in them
+  pub idle_then : (t : CycleView) (j : List CycleView) → IsRun r jobs carry restarts (t ∷ j) → IsClear (t ∷ j) → t.phase ≤ 1 → (k : ℕ) → k < length r.drives → cycles_open ((behind_mdt r jobs carry restarts t.sent j).calls k) ≡ 0
+  idle_then t j (run, next) (before, clear) early k below =
+      let none : begun_by ((behind_mdt r jobs carry restarts t.sent j).calls k) ≡ [] =
+      begun_then laws r jobs carry restarts opened (first_store laws more r jobs carry restarts opened) t j next clear (spelled_in laws more r jobs carry restarts opened t j next)
+      (stored_in laws more r jobs carry restarts opened t j) (all_stand laws more r jobs carry restarts opened j run before) k below
+      ∙ begun_none (drive_at r k).busy (laws.empty (drive_at r k).busy) (view_of r jobs carry restarts k t j) (views_of r jobs carry restarts k j) (all_stand laws more r jobs carry restarts opened (t ∷ j) (run, next) (before, clear) k below).sees.run early in
+      ap (λ (o : Option ℕ). min (unwrap_or o 0) 64) (no_age ((behind_mdt r jobs carry restarts t.sent j).calls k) none)
+
+  -- a drive that is addressed in phase 1 was not addressed in the cycle before
+  pub addressed_once : (t before : CycleView) (j : List CycleView) → IsRun r jobs carry restarts (t ∷ before ∷ j) → IsClear (t ∷ before ∷ j) → IsUndisturbed r carry restarts t (before ∷ j) → IsUndisturbed r carry restarts before j
+      → t.phase ≡ 1 → (k : ℕ) → k < length r.drives → is_place k (behind_mdt r jobs carry restarts t.sent (before ∷ j)).now.addressed ≡ true → count_addressed k (behind_mdt r jobs carry restarts t.sent (before ∷ j)).turns ≡ 0
+  addressed_once t before j run clear now_calm then_calm one k below to =
+      ap (λ (l : List Turn). count_addressed k l) (turns_now t (before ∷ j) ∙ ap (λ (x : Past). x.turns) (goes_so laws more r jobs carry restarts opened t before j run now_calm then_calm (omega (arith, one))))
+      ∙ by ((behind_mdt r jobs carry restarts before.sent j).now.phase == 1) (is_place k (behind_mdt r jobs carry restarts before.sent j).now.addressed) refl refl
+    where
+      unheard : (behind_ats r jobs carry restarts t.sent (before ∷ j)).now.heard k ≡ false
+      unheard = unheard_addressed (known_of r) (behind_ats r jobs carry restarts t.sent (before ∷ j)) k (phase_now t (before ∷ j) run.1 ∙ one) to
+
+      by : (was here : Bool) → ((behind_mdt r jobs carry restarts before.sent j).now.phase == 1) ≡ was → is_place k (behind_mdt r jobs carry restarts before.sent j).now.addressed ≡ here
+          → (if was && here then count_addressed k (behind_mdt r jobs carry restarts before.sent j).turns + 1 else 0) ≡ 0
+      by true true was here =
+          let was_one : (behind_mdt r jobs carry restarts before.sent j).now.phase ≡ 1 = eq_one (behind_mdt r jobs carry restarts before.sent j).now.phase was in
+          let first : before.phase ≡ 1 = sym (phase_now before j run.0.1) ∙ was_one in
+          let heard = heard_next laws more r jobs carry restarts opened t before j run now_calm then_calm k below one was_one (place_so k (behind_mdt r jobs carry restarts before.sent j).now.addressed here)
+          (stands_so before j run.0 clear.0 then_calm (omega (arith, first)) k below ∙ first) in
+          absurd (false≢true (sym unheard ∙ heard))
+      by true false was here = refl
+      by false here was is = refl
+
+  -- NO FALL
+  pub stays_up : (t : CycleView) (cycles before : List CycleView) → IsRun r jobs carry restarts (t ∷ (cycles ++ before)) → IsClear (t ∷ (cycles ++ before)) → StartsEpoch r jobs carry restarts before
+      → AreUndisturbed r carry restarts (t ∷ cycles) before
+      → (3 ≤ t.phase → (k : ℕ) → k < length r.drives → is_some (view_of r jobs carry restarts k t (cycles ++ before)).heard ≡ true)
+      → (2 ≤ t.phase → (k : ℕ) → k < length r.drives → cycles_open (calls_in (view_of r jobs carry restarts k t (cycles ++ before)) (channel_calls (views_of r jobs carry restarts k (cycles ++ before)))) ≤ 63)
+      → fall_of (known_of r) (behind_mdt r jobs carry restarts t.sent (cycles ++ before)) ≡ None
+  stays_up t cycles before run clear starts (calm, now_calm) hears answers =
+      no_fall (known_of r) (behind_mdt r jobs carry restarts t.sent (cycles ++ before)) (has_risen (known_of r) (tasks_for (known_of r) jobs) (middle r carry restarts t.sent (cycles ++ before))) (record {
+        whole = whole_now t (cycles ++ before) run.1 now_calm;
+        hears = λ late k below. ap (λ (f : ℕ → Bool). f k) (heard_mdt (known_of r) (behind_ats r jobs carry restarts t.sent (cycles ++ before)))
+            ∙ heard_then t (cycles ++ before) run clear k (inside k below) (hears (subst (λ (n : ℕ). 3 ≤ n) (phase_now t (cycles ++ before) run.1) late) k (inside k below));
+        identifies = λ one k below to. let none : count_addressed k (behind_mdt r jobs carry restarts t.sent (cycles ++ before)).turns ≡ 0 = once cycles run clear calm now_calm (sym (phase_now t (cycles ++ before) run.1) ∙ one) k (inside k below) to in omega (arith, none);
+        answers = λ other k below. short k (inside k below) (nat_le 2 t.phase) refl;
+      })
+    where
+      inside : (k : ℕ) → k < length (known_of r).drives → k < length r.drives
+      inside k below = let count = members_count r in omega (arith, below, count)
+
+      short : (k : ℕ) → k < length r.drives → (late : Bool) → nat_le 2 t.phase ≡ late → cycles_open ((behind_mdt r jobs carry restarts t.sent (cycles ++ before)).calls k) ≤ 63
+      short k below true late = subst (λ (c : List Call). cycles_open c ≤ 63) (calls_now laws more r jobs carry restarts opened t (cycles ++ before) run clear k below) (answers (late_of t.phase late) k below)
+      short k below false late = let none = idle_then t (cycles ++ before) run clear (early_of t.phase late) k below in omega (arith, none)
+
+      once : (cs : List CycleView) → IsRun r jobs carry restarts (t ∷ (cs ++ before)) → IsClear (t ∷ (cs ++ before)) → AreUndisturbed r carry restarts cs before → IsUndisturbed r carry restarts t (cs ++ before) → t.phase ≡ 1
+          → (k : ℕ) → k < length r.drives → is_place k (behind_mdt r jobs carry restarts t.sent (cs ++ before)).now.addressed ≡ true → count_addressed k (behind_mdt r jobs carry restarts t.sent (cs ++ before)).turns ≡ 0
+      once [] runs clears calms calm_now one k below to =
+          let same : at_start r jobs carry restarts before ≡ looks_back r jobs (master_calls r carry restarts before) = starts_so laws more r jobs carry restarts opened t before runs.1 (calm_in r carry restarts t before calm_now) in
+          let zero_is : t.phase ≡ 0 = runs.1.phase ∙ ap (λ (x : Past). x.now.phase) same ∙ starts in
+          absurd (omega (arith, zero_is, one))
+      once (c ∷ cs) runs clears calms calm_now one k below to = addressed_once t c (cs ++ before) runs clears calm_now calms.1 one k below to

@@ -1,0 +1,80 @@
+-- What the master hears of a drive's AT is what the drive said.
+use Rattle.std.proofs.Common.{◌≡◌, ℕ, ◌+◌, ◌<◌, ◌≤◌, Bool, true, false, not, ◌&&◌, ◌||◌, List, [], ◌∷◌, length, Option, Some, None, refl, sym, ◌∙◌, ap, subst, arith, if◌then◌else◌}
+use Rattle.std.specs.Prelude.{nat_le, slice_index, is_some, IfSome, unwrap_or}
+use Rattle.std.proofs.lemmas.Bool.Decides.{nat_tests}
+use Rattle.sercos_telegram.specs.declared.layout.Kind.TheVariants as kinds
+use Rattle.sercos_telegram.specs.Words.{status_of}
+use Rattle.sercos_telegram.specs.Spells.{word_at}
+use Rattle.sercos_step.specs.declared.request.Job.{Job}
+use Rattle.sercos_block.specs.Views.{DriveView, RingView}
+use Rattle.sercos_block.specs.Rings.{is_ring}
+use Rattle.sercos_service_drive.specs.Says.{Shown, shown_by, drive_says as channel_says}
+use Rattle.sercos_service_master.specs.Calls as channel
+use Rattle.sercos_drive.specs.Heard.{DriveCall}
+use Rattle.sercos_drive.specs.Moments.{Moment, phase_in, cycle_in, has_mst, has_taken, taken_in, blocks_in, commands_in}
+use Rattle.sercos_drive.specs.Annals.{annals}
+use Rattle.sercos_drive.specs.Says.{Said, said, said_in, sends, drive_says, values_in}
+use Rattle.sercos_seat.specs.Ring.{Known, known_of}
+use Rattle.sercos_master.specs.Annals.{Past, Call, place_of}
+use Rattle.sercos_script.specs.Links.{Carry}
+use Rattle.sercos_law_channel.specs.Handshake.Views.{Heard}
+use Rattle.sercos_law_run.specs.Journal.Arrivals.{heard, passage}
+use Rattle.sercos_law_run.specs.Journal.Runs.{drive_at, station_of, with_at, at_calls, looks_back}
+use Rattle.sercos_law_run.specs.Views.RingViews.{heard_last}
+use Rattle.sercos_law_run.proofs.Views.MasterSame.{HasHeard, Nothing, One, AfterAts, ats_next}
+use Rattle.sercos_law_run.proofs.Views.Members.{IsSaid, AreHeardAs, place_is}
+use Rattle.sercos_law_run.proofs.Views.Codecs.{at_clear}
+
+-- all ATs of a cycle
+pub ats_heard : (r : RingView) (jobs : List Job) (carry : Carry) (cycle k : ℕ) (such : List ℕ → Type 0) (p : Past) (ats : List (List ℕ)) (h : List Call)
+    → AfterAts (known_of r) k such p (looks_back r jobs h) → AreHeardAs such r carry cycle ats → AfterAts (known_of r) k such p (looks_back r jobs (at_calls r carry cycle ats h))
+ats_heard r jobs carry cycle k such p [] h a all = a
+ats_heard r jobs carry cycle k such p (at ∷ ats) h a (one, all) =
+    ats_heard r jobs carry cycle k such p ats (with_at (heard carry (passage cycle kinds.At (station_of r (slice_index at 0)) 0) at) h) (by _ refl) all
+  where
+    by : (o : Option (List ℕ)) → heard carry (passage cycle kinds.At (station_of r (slice_index at 0)) 0) at ≡ o → AfterAts (known_of r) k such p (looks_back r jobs (with_at o h))
+    by None e = a
+    by (Some content) e = ats_next (known_of r) k such p (looks_back r jobs h) content (one content e) a
+
+-- what a channel heard last is one of these
+pub heard_one : (s : Known) (k : ℕ) (such : List ℕ → Type 0) (c : List channel.Call) (q : Past) (P : Heard → Type 0) → HasHeard s k such c q → heard_last c ≡ None
+    → ((content : List ℕ) → such content → place_of s (slice_index content 0) ≡ Some k → P (record { status = status_of (word_at content 1); word = word_at content 3 }))
+    → IfSome (heard_last (q.calls k)) P
+heard_one s k such c q P (Nothing same) quiet each = rw (same, quiet) tt
+heard_one s k such c q P (One content is there calls heard) quiet each = rw calls (each content is there)
+
+-- The drive sends: it got the MST, isn't in phase 0, and its AT shows what its channel says.
+pub record Speaks (d : DriveView) (rate : ℕ) (past : List Moment) (content : List ℕ) : Type 0 where
+  pub got : has_mst past ≡ true
+  pub stands : 1 ≤ phase_in past
+  pub shows : shown_by (status_of (word_at content 1)) (word_at content 3) ≡ channel_says d.busy (cycle_in past) (commands_in d rate past) (taken_in past)
+
+pub sends_so : (got took : Bool) (phase : ℕ) → (got && (nat_le 3 phase || (nat_le 1 phase && took))) ≡ true → (got ≡ true) × (1 ≤ phase)
+sends_so true true phase sent = (refl, grind (arith, nat_tests, sent))
+sends_so true false phase sent = (refl, grind (arith, nat_tests, sent))
+sends_so false took phase sent = cc
+
+spoken : (d : DriveView) (rate : ℕ) (past : List Moment) (s : Said) → said_in d rate past ≡ Some s → (channel_says d.busy (cycle_in past) (commands_in d rate past) (taken_in past)).word < 65536
+    → Speaks d rate past s.content × (slice_index s.content 0 ≡ d.address)
+spoken d rate past s says small = by (sends past) refl says
+  where
+    what : Said
+    what = said d.address (cycle_in past) (phase_in past) (blocks_in d past) (channel_says d.busy (cycle_in past) (commands_in d rate past) (taken_in past))
+
+    by : (b : Bool) → sends past ≡ b → (if b then Some what else None) ≡ Some s → Speaks d rate past s.content × (slice_index s.content 0 ≡ d.address)
+    by true sent is =
+        let same : what ≡ s = ap (λ (o : Option Said). unwrap_or o what) is in
+        let (got, stands) = sends_so (has_mst past) (has_taken past) (phase_in past) sent in
+        subst (λ x. Speaks d rate past x.content × (slice_index x.content 0 ≡ d.address)) same
+        (record { got = got; stands = stands; shows = at_clear _ d.address (values_in (cycle_in past) (phase_in past) (blocks_in d past)) small }, refl)
+    by false sent is = cc
+
+pub speaks : (r : RingView) (k : ℕ) (h : ℕ → List DriveCall) (content : List ℕ) → is_ring r ≡ true
+    → ((i : ℕ) → i < length r.drives → let past : List Moment = annals (drive_at r i) r.rate (h i) in (channel_says (drive_at r i).busy (cycle_in past) (commands_in (drive_at r i) r.rate past) (taken_in past)).word < 65536)
+    → IsSaid (length r.drives) (drive_at r) r.rate h content → place_of (known_of r) (slice_index content 0) ≡ Some k → Speaks (drive_at r k) r.rate (annals (drive_at r k) r.rate (h k)) content
+speaks r k h content valid small is found =
+    let (speaking, address) = spoken (drive_at r is.place) r.rate (annals (drive_at r is.place) r.rate (h is.place)) is.says is.said (small is.place is.inside) in
+    let there : place_of (known_of r) (drive_at r is.place).address ≡ Some k = ap (place_of (known_of r)) (sym address ∙ ap (λ (c : List ℕ). slice_index c 0) (sym is.content_is)) ∙ found in
+    let same : is.place ≡ k = place_is r is.place k valid is.inside there in
+    subst (λ i. Speaks (drive_at r i) r.rate (annals (drive_at r i) r.rate (h i)) content) same
+    (subst (λ c. Speaks (drive_at r is.place) r.rate (annals (drive_at r is.place) r.rate (h is.place)) c) (sym is.content_is) speaking)

@@ -1,0 +1,138 @@
+-- The drives of a ring by their places and addresses, and whose AT a content is.
+use Rattle.std.proofs.Common.{◌≡◌, ◌⊎◌, inl, inr, ℕ, zero, suc, ◌+◌, ◌<◌, ◌≤◌, Bool, true, false, not, ◌&&◌, List, [], ◌∷◌, ◌++◌, length, Option, Some, None, refl, sym, ◌∙◌, ap, ap₂, subst, arith, if◌then◌else◌, map}
+use Rattle.std.specs.Prelude.{◌==◌, nat_lt, slice_index, slice_index_or, is_some, is_none, unwrap_or}
+use Rattle.std.proofs.lemmas.Bool.{cases_eq, false≢true}
+use Rattle.std.proofs.lemmas.Bool.Decides.{nat_tests}
+use Rattle.sercos_hdlc.specs.Stuffed.{frame_of}
+use Rattle.sercos_telegram.specs.declared.layout.Kind.TheVariants as kinds
+use Rattle.sercos_block.specs.Views.{DriveView, RingView}
+use Rattle.sercos_block.specs.Rings.{is_ring}
+use Rattle.sercos_drive.specs.Heard.{DriveCall}
+use Rattle.sercos_drive.specs.Annals.{annals}
+use Rattle.sercos_drive.specs.Says.{Said, drive_says, said_in, sends}
+use Rattle.sercos_seat.specs.Ring.{Known, MemberView, member, member_of, no_member, known_of}
+use Rattle.sercos_master.specs.Annals.{first_from, place_of}
+use Rattle.sercos_script.specs.declared.link.Passage.{Passage}
+use Rattle.sercos_script.specs.Links.{Carry}
+use Rattle.sercos_law_run.specs.Journal.Arrivals.{heard, passage, arrival, content_in, is_unseen, unseen_at}
+use Rattle.sercos_law_run.specs.Journal.Runs.{no_drive, drive_at, station_of, inserted, with_said, said_below, contents, unseen_ats}
+use Rattle.sercos_law_run.proofs.Journal.ClearLemmas.{heard-clear}
+use Rattle.sercos_law_run.proofs.Journal.StationLemmas.{station_found, drives_so}
+
+-- the master knows each drive by its place
+index_map : (drives : List DriveView) (k : ℕ) → slice_index_or (map member_of drives) k no_member ≡ member_of (slice_index_or drives k no_drive)
+index_map [] k = refl
+index_map (d ∷ drives) zero = refl
+index_map (d ∷ drives) (suc k) = index_map drives k
+
+pub member_is : (r : RingView) (k : ℕ) → member (known_of r) k ≡ member_of (drive_at r k)
+member_is r k = index_map r.drives k
+
+length_map : (drives : List DriveView) → length (map member_of drives) ≡ length drives
+length_map [] = refl
+length_map (d ∷ drives) = ap suc (length_map drives)
+
+pub members_count : (r : RingView) → length (known_of r).drives ≡ length r.drives
+members_count r = length_map r.drives
+
+-- the place that is found passes the test
+record IsFirst (k n i : ℕ) (test : ℕ → Bool) : Type 0 where
+  from : k ≤ i
+  below : i < k + n
+  passes : test i ≡ true
+
+first_passes : (k n i : ℕ) (test : ℕ → Bool) → first_from k n test ≡ Some i → IsFirst k n i test
+first_passes k zero i test found = cc
+first_passes k (suc n) i test found = by (test k) refl found (λ rest. first_passes (k + 1) n i test rest)
+  where
+    by : (b : Bool) → test k ≡ b → (if b then Some k else first_from (k + 1) n test) ≡ Some i → (first_from (k + 1) n test ≡ Some i → IsFirst (k + 1) n i test) → IsFirst k (suc n) i test
+    by true passes found next = let same : k ≡ i = cc in record { from = omega (arith, same); below = omega (arith, same); passes = subst (λ j. test j ≡ true) same passes }
+    by false fails found next = let more = next found in let low = more.from in let high = more.below in
+        record { from = omega (arith, low); below = omega (arith, high); passes = more.passes }
+
+-- no two drives have one address
+pub same_drive : (r : RingView) (i k : ℕ) → is_ring r ≡ true → i < length r.drives → k < length r.drives → (drive_at r i).address ≡ (drive_at r k).address → i ≡ k
+same_drive r i k valid low high same =
+    let a = station_found [] r.drives 1 i (drives_so r valid) low in
+    let b = station_found [] r.drives 1 k (drives_so r valid) high in
+    let c : station_of r (drive_at r i).address ≡ station_of r (drive_at r k).address = ap (station_of r) same in
+    omega (arith, a, b, c)
+
+-- the master finds the drive at whose place an address is
+pub place_is : (r : RingView) (i k : ℕ) → is_ring r ≡ true → i < length r.drives → place_of (known_of r) (drive_at r i).address ≡ Some k → i ≡ k
+place_is r i k valid low found =
+    let first : IsFirst 0 (length (known_of r).drives) k _ = first_passes 0 (length (known_of r).drives) k _ found in
+    let high = first.below in
+    let count = members_count r in
+    let same : (member (known_of r) k).address ≡ (drive_at r i).address = (let p = first.passes in grind (arith, nat_tests, p)) in
+    same_drive r i k valid low (omega (arith, high, count)) (sym same ∙ ap (λ (m : MemberView). m.address) (member_is r k))
+
+-- THE ATS of a cycle. This content is what one of the drives says.
+pub record IsSaid (n : ℕ) (d : ℕ → DriveView) (rate : ℕ) (h : ℕ → List DriveCall) (content : List ℕ) : Type 0 where
+  pub place : ℕ
+  pub says : Said
+  pub inside : place < n
+  pub said : drive_says (d place) rate (h place) ≡ Some says
+  pub content_is : content ≡ says.content
+
+abbrev pub AreSaid : ℕ → (ℕ → DriveView) → ℕ → (ℕ → List DriveCall) → List Said → Type 0
+AreSaid n d rate h [] = Unit {0}
+AreSaid n d rate h (s ∷ others) = IsSaid n d rate h s.content × AreSaid n d rate h others
+
+said_more : (n : ℕ) (d : ℕ → DriveView) (rate : ℕ) (h : ℕ → List DriveCall) (others : List Said) → AreSaid n d rate h others → AreSaid (suc n) d rate h others
+said_more n d rate h [] all = tt
+said_more n d rate h (s ∷ others) (one, all) =
+    let low = one.inside in (record { place = one.place; says = one.says; inside = omega (arith, low); said = one.said; content_is = one.content_is }, said_more n d rate h others all)
+
+said_inserted : (n : ℕ) (d : ℕ → DriveView) (rate : ℕ) (h : ℕ → List DriveCall) (s : Said) (others : List Said) → IsSaid n d rate h s.content → AreSaid n d rate h others → AreSaid n d rate h (inserted s others)
+said_inserted n d rate h s [] one all = (one, tt)
+said_inserted n d rate h s (x ∷ others) one (first, all) = by (nat_lt s.start x.start) (said_inserted n d rate h s others one all)
+  where
+    by : (b : Bool) → AreSaid n d rate h (inserted s others) → AreSaid n d rate h (if b then s ∷ x ∷ others else x ∷ inserted s others)
+    by true next = (one, (first, all))
+    by false next = (first, next)
+
+pub all_said : (n : ℕ) (d : ℕ → DriveView) (rate : ℕ) (h : ℕ → List DriveCall) → AreSaid n d rate h (said_below n d rate h)
+all_said zero d rate h = tt
+all_said (suc n) d rate h = by (drive_says (d n) rate (h n)) refl (said_more n d rate h (said_below n d rate h) (all_said n d rate h))
+  where
+    by : (o : Option Said) → drive_says (d n) rate (h n) ≡ o → AreSaid (suc n) d rate h (said_below n d rate h) → AreSaid (suc n) d rate h (with_said o (said_below n d rate h))
+    by None e before = before
+    by (Some s) e before = said_inserted (suc n) d rate h s (said_below n d rate h) (record { place = n; says = s; inside = omega arith; said = e; content_is = refl }) before
+
+-- WHAT IS HEARD of a content in a passage where nothing is unseen
+abbrev pub IsWhole : List ℕ → Type 0
+IsWhole content = content_in (frame_of content) ≡ Some content
+
+abbrev one_if : Bool → ℕ
+one_if b = if b then 1 else 0
+
+count_none : (b : Bool) → one_if b ≡ 0 → b ≡ false
+count_none false none = refl
+count_none true none = absurd (omega (arith, none))
+
+pub heard_whole : (carry : Carry) (p : Passage) (content : List ℕ) → IsWhole content → unseen_at carry p content ≡ 0 → (heard carry p content ≡ None) ⊎ (heard carry p content ≡ Some content)
+heard_whole carry p content whole none = heard-clear carry p content whole (count_none _ none)
+
+-- each of these that is heard is such a content
+abbrev pub AreHeardAs : (List ℕ → Type 0) → RingView → Carry → ℕ → List (List ℕ) → Type 0
+AreHeardAs such r carry cycle [] = Unit {0}
+AreHeardAs such r carry cycle (at ∷ ats) =
+    ((content : List ℕ) → heard carry (passage cycle kinds.At (station_of r (slice_index at 0)) 0) at ≡ Some content → such content) × AreHeardAs such r carry cycle ats
+
+pub heard_as : (r : RingView) (carry : Carry) (cycle n : ℕ) (d : ℕ → DriveView) (rate : ℕ) (h : ℕ → List DriveCall) (said : List Said)
+    → ((content : List ℕ) → IsSaid n d rate h content → IsWhole content) → AreSaid n d rate h said → unseen_ats r carry cycle (contents said) ≡ 0
+    → AreHeardAs (IsSaid n d rate h) r carry cycle (contents said)
+heard_as r carry cycle n d rate h [] whole all none = tt
+heard_as r carry cycle n d rate h (s ∷ others) whole (one, all) none =
+    let p = passage cycle kinds.At (station_of r (slice_index s.content 0)) 0 in
+    let sum : unseen_at carry p s.content + unseen_ats r carry cycle (contents others) ≡ 0 = none in (
+      λ content came. by content came (heard_whole carry p s.content (whole s.content one) (omega (arith, sum))),
+      heard_as r carry cycle n d rate h others whole all (omega (arith, sum)),
+    )
+  where
+    by : (content : List ℕ) → heard carry (passage cycle kinds.At (station_of r (slice_index s.content 0)) 0) s.content ≡ Some content
+        → (heard carry (passage cycle kinds.At (station_of r (slice_index s.content 0)) 0) s.content ≡ None) ⊎ (heard carry (passage cycle kinds.At (station_of r (slice_index s.content 0)) 0) s.content ≡ Some s.content)
+        → IsSaid n d rate h content
+    by content came (inl nothing) = cc
+    by content came (inr same) = let is : s.content ≡ content = cc in subst (λ c. IsSaid n d rate h c) is one

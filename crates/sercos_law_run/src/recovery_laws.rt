@@ -1,0 +1,73 @@
+// The laws of the recovery after faults.
+ghost use Rattle.sercos_law_run.specs.Recovery.AfterFalls.{AfterFall};
+ghost use Rattle.sercos_law_run.specs.Recovery.ComesBack.{ComesBack};
+ghost use Rattle.sercos_law_run.specs.Recovery.FallsInTime.{FallsInTime};
+ghost use Rattle.sercos_law_run.specs.Recovery.FallsSoon.{FallsSoon};
+ghost use Rattle.sercos_law_run.specs.Recovery.Recovers.{Recovers};
+ghost use Rattle.sercos_law_run.specs.Recovery.UpOrDown.{AgesDown, AgesToLimit, FallsIfDown, StaysDown, UpOrDown};
+
+use crate::agenda_laws::{agenda_law, report_law, stop_law};
+use crate::bounds_laws::bound_law;
+use crate::start_laws::{
+    answer_law, cause_law, held_values_law, ring_slot_law, start_up_law, store_of_law,
+};
+use crate::typed_laws::typed_law;
+use crate::undisturbed_laws::undisturbed_law;
+use sercos_block::{ring_law, store_law};
+use sercos_drive::drive_law;
+use sercos_hdlc::framing_law;
+use sercos_law_channel::{
+    calls_law, cost_law, exact_law, jobs_law, passage_law, run_law, transfer_law, values_law,
+};
+use sercos_master::master_law;
+use sercos_service_drive::writes_law;
+
+/// A law over every run of a ring, over every link and with every restart, in which nothing was unseen. In cycles in which nothing is
+/// disturbed and the ring doesn't fall, whatever was lost before them, each drive is in the commanded phase and nothing of its channel is
+/// lost, or it is in phase 0. There it stays while 2 to 4 is commanded: the master hears nothing of it, and an open step gets older with
+/// each cycle. No step is open at the ends of more than 64 cycles, in no run: then the ring falls. It falls as well in the second cycle of
+/// phase 3 or 4 in which a drive is in phase 0. So if a drive is in phase 0, a fall comes in time: each other drive has spent at most its
+/// reads or its writes by then, and 65 cycles more have passed. If none is, a fall comes when at most the busy time of the slowest drive
+/// and one cycle have passed, or not at all; then phase 4 is commanded, or the master has a stop, once the cycles of a start-up and 41 steps
+/// more of the slowest drive have passed. If a record tells a fall, a restart of the master among them, and no cycle after it is disturbed,
+/// the ring starts up again as after its opening. And together: from so many cycles after the last disturbed one as twice the bound of a
+/// start-up and 200, phase 4 is commanded, or the master stands at a stop for its cause.
+pub fn recovery_law()
+    ensures up_or_down { UpOrDown }
+    ensures down { StaysDown }
+    ensures ages { AgesDown }
+    ensures to_limit { AgesToLimit }
+    ensures falls { FallsIfDown }
+    ensures in_time { FallsInTime }
+    ensures soon { FallsSoon }
+    ensures comes_back { ComesBack }
+    ensures after_fall { AfterFall }
+    ensures recovers { Recovers }
+{
+    undisturbed_law();
+    agenda_law();
+    report_law();
+    stop_law();
+    ring_law();
+    store_law();
+    drive_law();
+    exact_law();
+    run_law();
+    transfer_law();
+    values_law();
+    framing_law();
+    master_law();
+    writes_law();
+    answer_law();
+    cause_law();
+    held_values_law();
+    ring_slot_law();
+    start_up_law();
+    store_of_law();
+    typed_law();
+    passage_law();
+    cost_law();
+    calls_law();
+    jobs_law();
+    bound_law();
+}

@@ -1,0 +1,26 @@
+// Laws on a typed ring.
+ghost use Rattle.sercos_law_run.specs.Typed.Keeps.{KeepsAlways, KeepsWithin};
+ghost use Rattle.sercos_law_run.specs.Typed.Spelled.{SpelledNext};
+
+use sercos_block::{ring_law, store_law};
+use sercos_drive::drive_law;
+use sercos_hdlc::{frame_law, framing_law};
+use sercos_master::master_law;
+use sercos_service_drive::writes_law;
+
+/// A law over all runs of a ring that is typed at opening. The data blocks of each drive are a store, whatever arrives at it, and each
+/// record that it processed has an element of three bits and a word of sixteen. If the jobs of the master are typed too, then in each
+/// cycle MST, ATs and MDT are contents that their frames give back, and what the master and the drives say fits into their records.
+pub fn typed_law()
+    ensures always { KeepsAlways }
+    ensures within { KeepsWithin }
+    ensures spelled { SpelledNext }
+{
+    framing_law();
+    frame_law();
+    store_law();
+    ring_law();
+    writes_law();
+    drive_law();
+    master_law();
+}

@@ -1,0 +1,272 @@
+-- The numbers of moves, plans, falls and totals fit the fields of their lines.
+use Rattle.std.proofs.Common.{◌≡◌, ℕ, zero, suc, ◌+◌, ◌*◌, ◌<◌, ◌≤◌, ◌==◌, nat_lt, Bool, true, false, List, [], ◌∷◌, ◌++◌, length, reverse, Option, Some, None, is_some, slice_index_or, refl, sym, ◌∙◌, ap, subst, arith, if◌then◌else◌}
+use Rattle.std.specs.Prelude.{slice_index}
+use Rattle.std.specs.List.{All}
+use Rattle.std.specs.Option.{option_or}
+use Rattle.std.proofs.lemmas.Grind.{reverse_onto}
+use Rattle.std.proofs.lemmas.List.Elements.{All-nil, All-cons, All-head, All-tail, All-append}
+use Rattle.std.proofs.lemmas.List.Sums.{length-filter, count_by-le-length}
+use Rattle.sercos_timing.specs.Order.{wish}
+use Rattle.sercos_timing.specs.Valid.{IsValid}
+use Rattle.sercos_timing.specs.Views.{WishesView, PlanView}
+use Rattle.sercos_step.specs.declared.request.Job.{Job}
+use Rattle.sercos_step.specs.declared.request.Outcome.{Outcome}
+use Rattle.sercos_block.specs.Rings.{wishes_of}
+use Rattle.sercos_block.specs.Views.{DriveView, RingView}
+use Rattle.sercos_text.specs.Templates.Value.{number as counted}
+use Rattle.sercos_text.specs.Templates.{field_of, AreOf, IsPart, IsOf, part_left}
+use Rattle.sercos_drive.specs.Heard.{DriveCall}
+use Rattle.sercos_drive.specs.Annals.{phase_at}
+use Rattle.sercos_trace.specs.declared.kind.LineKind.TheVariants as kind
+use Rattle.sercos_trace.specs.declared.record.Move.{Move}
+use Rattle.sercos_trace.specs.declared.record.Totals.{Totals}
+use Rattle.sercos_trace.specs.declared.events.Fall.{Fall}
+use Rattle.sercos_trace.specs.declared.events.Fall.TheVariants as fall
+use Rattle.sercos_trace.specs.Kinds.{template_of}
+use Rattle.sercos_trace.specs.Views.{EventsView, CycleView}
+use Rattle.sercos_seat.specs.Channel.{Report}
+use Rattle.sercos_seat.specs.Ring.{Known, IsKnown, MemberView, member, no_member, known_of, tasks_for}
+use Rattle.sercos_master.specs.Annals.{Past, IsPlanned, fall_of, fall_at, has_lost_mst, has_lost_at, first_place, is_at_limit, outcomes}
+use Rattle.sercos_master.specs.Reports.{inserted, with_report, with_reports, broken, with_broken, plan_told, outcomes_told, restart_told}
+use Rattle.sercos_script.specs.Links.{Carry, Restarts}
+use Rattle.sercos_law_run.specs.Journal.Runs.{drive_at, move_of, moves_below, given_before, given_mst, given_mdt, master_calls, middle, looks_back, no_events, restart_events, IsNext, IsRun, IsClear}
+use Rattle.sercos_law_run.specs.Views.RingViews.{behind_mdt}
+use Rattle.sercos_law_run.proofs.Theorems.{address_of, plan_words, Laws, s_known, MoreLaws, first_store}
+use Rattle.sercos_law_run.specs.Held.Opened.{IsOpened}
+use Rattle.sercos_law_run.specs.Totals.Counting.{with_cycle}
+use Rattle.sercos_law_run.specs.Totals.Totals.{totals_of, ended, falls_in, is_complete, is_refused, is_broken}
+use Rattle.sercos_law_trace.specs.Clean.Fields.{FitsMove, FitsPlan, FitsFall, FitsCycle, FitTotals, FitsReports, FitReports}
+use Rattle.sercos_law_trace.specs.Clean.Traces.{RunsFitOthers}
+use Rattle.sercos_law_trace.proofs.Clean.RunRules.{low}
+use Rattle.sercos_law_trace.proofs.Clean.TraceClean.{valid}
+use Rattle.sercos_drive.proofs.RecordLemmas.{phase_below}
+
+-- MOVES
+move_fits : (cycle : ℕ) (m : Move) → cycle ≤ 4294967295 → m.drive ≤ 255 → m.phase ≤ 255 → FitsMove cycle m
+unfolding template_of AreOf IsPart IsOf field_of part_left
+move_fits cycle m number drive phase = (tt, (tt, (number, (tt, (drive, (tt, (phase, tt)))))))
+
+one_move : (cycle : ℕ) (late : Bool) (address before after : ℕ) → cycle ≤ 4294967295 → address ≤ 254 → after ≤ 4 → All (FitsMove cycle) (move_of late address before after)
+one_move cycle late address before after number drive phase = by (before == after)
+  where
+    by : (b : Bool) → All (FitsMove cycle) (if b then [] else (record { drive = address; phase = after; late = late }) ∷ [])
+    by true = All-nil (FitsMove cycle)
+    by false = All-cons (FitsMove cycle) (record { drive = address; phase = after; late = late }) [] (move_fits cycle (record { drive = address; phase = after; late = late }) number (omega (arith, drive)) (omega (arith, phase))) (All-nil (FitsMove cycle))
+
+moves_fit : (cycle : ℕ) (late : Bool) (n : ℕ) (d : ℕ → DriveView) (rate : ℕ) (g h : ℕ → List DriveCall) → cycle ≤ 4294967295 → ((k : ℕ) → k < n → (d k).address ≤ 254) → All (FitsMove cycle) (moves_below late n d rate g h)
+moves_fit cycle late zero d rate g h number low = All-nil (FitsMove cycle)
+moves_fit cycle late (suc n) d rate g h number low =
+    All-append (FitsMove cycle) (moves_below late n d rate g h) (move_of late (d n).address (phase_at (d n) rate (g n)) (phase_at (d n) rate (h n))) (moves_fit cycle late n d rate g h number (λ k less. low k (omega (arith, less))))
+    (one_move cycle late (d n).address (phase_at (d n) rate (g n)) (phase_at (d n) rate (h n)) number (low n (omega arith)) (phase_below (d n) rate (h n)))
+
+-- A PLAN
+plan_line_fits : (cycle a b c d : ℕ) → cycle ≤ 4294967295 → a < 65536 → b < 65536 → c < 65536 → d < 65536 → AreOf (template_of kind.Plan) (counted cycle ∷ counted a ∷ counted b ∷ counted c ∷ counted d ∷ [])
+unfolding template_of AreOf IsPart IsOf field_of part_left
+plan_line_fits cycle a b c d number pa pb pc pd = (tt, (tt, (tt, (tt, (tt, (number, (tt, (tt, (tt, (tt, (omega (arith, pa), (tt, (tt, (tt, (tt, (omega (arith, pb), (tt, (tt, (tt, (tt, (omega (arith, pc), (tt, (tt, (tt, (tt, (tt, (omega (arith, pd), tt)))))))))))))))))))))))))))
+
+slot_line_fits : (cycle a b c : ℕ) → cycle ≤ 4294967295 → a ≤ 254 → b < 65536 → c < 65536 → AreOf (template_of kind.Slot) (counted cycle ∷ counted a ∷ counted b ∷ counted c ∷ [])
+unfolding template_of AreOf IsPart IsOf field_of part_left
+slot_line_fits cycle a b c number pa pb pc = (tt, (tt, (tt, (tt, (tt, (number, (tt, (omega (arith, pa), (tt, (tt, (tt, (tt, (omega (arith, pb), (tt, (tt, (tt, (tt, (tt, (tt, (tt, (tt, (tt, (tt, (omega (arith, pc), tt))))))))))))))))))))))))
+
+plan_fits : (w : WishesView) (s : Known) (p : Past) (cycle : ℕ) → IsValid w → IsKnown s → IsPlanned s p → cycle ≤ 4294967295 → (o : Option PlanView) → p.plan ≡ o → FitsPlan cycle w o
+plan_fits w s p cycle is_valid known planned number None has = tt
+plan_fits w s p cycle is_valid known planned number (Some plan) has =
+    let made = planned plan has in
+    let words = λ (k : ℕ). plan_words s (outcomes p) plan k known made.fits made.planned_is in (
+      plan_line_fits cycle plan.t2 plan.t3 plan.t4 plan.mdt_len number (words 0).t2 (words 0).t3 (words 0).t4 (words 0).mdt_len,
+      λ k below. slot_line_fits cycle (wish w k).address (slice_index plan.t1 k) (slice_index plan.position k) number (is_valid.drives.wishes k below).address.1 (words k).t1 (words k).position,
+    )
+
+told_fits : (w : WishesView) (s : Known) (p : Past) (cycle : ℕ) → IsValid w → IsKnown s → IsPlanned s p → cycle ≤ 4294967295 → FitsPlan cycle w (option_or (plan_told p) None)
+told_fits w s p cycle is_valid known planned number = by p.now.plans
+  where
+    same : (o : Option PlanView) → FitsPlan cycle w o → FitsPlan cycle w (option_or o None)
+    same None is = is
+    same (Some plan) is = is
+
+    by : (b : Bool) → FitsPlan cycle w (option_or (if b then p.plan else None) None)
+    by true = same p.plan (plan_fits w s p cycle is_valid known planned number p.plan refl)
+    by false = tt
+
+-- A FALL
+at_fits : (cycle a : ℕ) → cycle ≤ 4294967295 → a ≤ 255 → FitsFall cycle (Some (fall.AtLost a))
+unfolding template_of AreOf IsPart IsOf field_of part_left
+at_fits cycle a number low = (tt, (tt, (tt, (tt, (tt, (number, (tt, (tt, (tt, (tt, (low, tt)))))))))))
+
+step_fits : (cycle a : ℕ) → cycle ≤ 4294967295 → a ≤ 255 → FitsFall cycle (Some (fall.StepLimit a))
+unfolding template_of AreOf IsPart IsOf field_of part_left
+step_fits cycle a number low = (tt, (tt, (tt, (tt, (tt, (number, (tt, (tt, (tt, (tt, (tt, (tt, (low, tt)))))))))))))
+
+mst_fits : (cycle : ℕ) → cycle ≤ 4294967295 → FitsFall cycle (Some fall.MstLost)
+unfolding template_of AreOf IsPart IsOf field_of part_left
+mst_fits cycle number = (tt, (tt, (tt, (tt, (tt, (number, (tt, (tt, (tt, (tt, tt))))))))))
+
+restart_fits : (cycle : ℕ) → cycle ≤ 4294967295 → FitsFall cycle (Some fall.Restart)
+unfolding template_of AreOf IsPart IsOf field_of part_left
+restart_fits cycle number = (tt, (tt, (tt, (tt, (tt, (number, (tt, (tt, (tt, (tt, (tt, (tt, (tt, (tt, tt))))))))))))))
+
+either_fits : (cycle : ℕ) (a b : Option Fall) → FitsFall cycle a → FitsFall cycle b → FitsFall cycle (option_or a b)
+either_fits cycle None b is other = other
+either_fits cycle (Some x) b is other = is
+
+pub member_low : (drives : List MemberView) (k : ℕ) → All (λ (d : MemberView). (1 ≤ d.address) × (d.address ≤ 254)) drives → (slice_index_or drives k no_member).address ≤ 255
+member_low [] k all = omega arith
+member_low (d ∷ drives) zero all = let high = (All-head (λ (x : MemberView). (1 ≤ x.address) × (x.address ≤ 254)) d drives all).1 in omega (arith, high)
+member_low (d ∷ drives) (suc k) all = member_low drives k (All-tail (λ (x : MemberView). (1 ≤ x.address) × (x.address ≤ 254)) d drives all)
+
+fall_fits : (s : Known) (p : Past) (cycle : ℕ) → IsKnown s → cycle ≤ 4294967295 → FitsFall cycle (fall_of s p)
+fall_fits s p cycle known number =
+    either_fits cycle _ _ (mst (has_lost_mst (p.now ∷ p.turns)))
+    (either_fits cycle _ _ (at (first_place s (λ k. has_lost_at k (p.now ∷ p.turns)))) (step (first_place s (is_at_limit p))))
+  where
+    mst : (b : Bool) → FitsFall cycle (if b then Some fall.MstLost else None)
+    mst true = mst_fits cycle number
+    mst false = tt
+
+    at : (o : Option ℕ) → FitsFall cycle (fall_at fall.AtLost s o)
+    at None = tt
+    at (Some k) = at_fits cycle (member s k).address number (member_low s.drives k known.addresses)
+
+    step : (o : Option ℕ) → FitsFall cycle (fall_at fall.StepLimit s o)
+    step None = tt
+    step (Some k) = step_fits cycle (member s k).address number (member_low s.drives k known.addresses)
+
+-- HOW MANY OUTCOMES a cycle has
+inserted_long : (number : ℕ) (o : Outcome) (reports : List (ℕ × Outcome)) → length (inserted number o reports) ≡ suc (length reports)
+inserted_long number o [] = refl
+inserted_long number o (x ∷ reports) = by (nat_lt number x.0) (inserted_long number o reports)
+  where
+    by : (b : Bool) → length (inserted number o reports) ≡ suc (length reports) → length (if b then (number, o) ∷ x ∷ reports else x ∷ inserted number o reports) ≡ suc (suc (length reports))
+    by true rest = refl
+    by false rest = ap suc rest
+
+with_long : (report : ℕ → Option Report) (n : ℕ) (reports : List (ℕ × Outcome)) → length (with_reports report n reports) ≤ n + length reports
+with_long report zero reports = omega arith
+with_long report (suc n) reports = by (report n) (with_long report n reports)
+  where
+    by : (o : Option Report) → length (with_reports report n reports) ≤ n + length reports → length (with_report o (with_reports report n reports)) ≤ suc n + length reports
+    by None rest = omega (arith, rest)
+    by (Some x) rest = let one = inserted_long x.number x.outcome (with_reports report n reports) in omega (arith, one, rest)
+
+told_long : (s : Known) (p : Past) (reports : List (ℕ × Outcome)) → length (outcomes_told s p reports) ≤ 2 * length s.drives + length reports
+told_long s p reports = by (is_some (fall_of s p))
+  where
+    first : length (with_reports p.now.report (length s.drives) reports) ≤ length s.drives + length reports
+    first = with_long p.now.report (length s.drives) reports
+
+    by : (b : Bool) → length (if b then with_broken s p (with_reports p.now.report (length s.drives) reports) else with_reports p.now.report (length s.drives) reports) ≤ 2 * length s.drives + length reports
+    by true = let a = first in let b = with_long (broken p) (length s.drives) (with_reports p.now.report (length s.drives) reports) in omega (arith, a, b)
+    by false = let a = first in omega (arith, a)
+
+ended_few : (test : Outcome → Bool) (reports : List (ℕ × Outcome)) → ended test reports ≤ length reports
+ended_few test reports =
+    let a = length-filter (λ (r : ℕ × Outcome). test r.1) reports in
+    let b = count_by-le-length (λ (r : ℕ × Outcome). test r.1) reports in
+    omega (arith, a, b)
+
+-- THE TOTALS of n cycles
+record AreFew (t : Totals) (n : ℕ) : Type 0 where
+  cycles : t.cycles ≤ n
+  phase : t.phase ≤ 4
+  complete : t.complete ≤ 192 * n
+  refused : t.refused ≤ 192 * n
+  broken_few : t.broken ≤ 192 * n
+  falls : t.falls ≤ n
+  unseen : t.unseen ≡ 0
+
+totals_fit : (t : Totals) (n : ℕ) → n ≤ 50000 → AreFew t n → FitTotals t
+unfolding template_of AreOf IsPart IsOf field_of part_left
+totals_fit t n low few =
+    let a = few.cycles in let b = few.phase in let c = few.complete in let d = few.refused in let e = few.broken_few in let f = few.falls in let g = few.unseen in
+    (tt, (tt, (tt, (tt, (omega (arith, a, low), (tt, (tt, (tt, (tt, (tt, (tt, (tt, (omega (arith, b), (tt, (tt, (tt, (tt, (tt, (tt, (tt, (tt, (tt, (tt, (omega (arith, c, low), (tt, (tt, (tt, (tt, (tt, (tt, (tt, (tt, (tt, (omega (arith, d, low), (tt, (tt, (tt, (tt, (tt, (tt, (tt, (tt, (omega (arith, e, low), (tt, (tt, (tt, (tt, (tt, (tt, (tt, (omega (arith, f, low), (tt, (tt, (tt, (tt, (tt, (tt, (tt, (tt, (omega (arith, g), tt))))))))))))))))))))))))))))))))))))))))))))))))))))))))))))
+
+falls_few : (t : CycleView) → falls_in t ≤ 1
+falls_few t = by (is_some t.events.fall)
+  where
+    by : (b : Bool) → (if b then 1 else 0) ≤ 1
+    by true = omega arith
+    by false = omega arith
+
+abbrev TotalsGrow : Type 0
+TotalsGrow = (cycles : List CycleView) (made : CycleView) → totals_of (cycles ++ made ∷ []) ≡ with_cycle (totals_of cycles) made
+
+no_totals : AreFew (totals_of []) 0
+unfolding totals_of
+no_totals = record { cycles = omega arith; phase = omega arith; complete = omega arith; refused = omega arith; broken_few = omega arith; falls = omega arith; unseen = refl }
+
+module _ (grow : TotalsGrow) (laws : Laws) (more : MoreLaws) (r : RingView) (jobs : List Job) (carry : Carry) (restarts : Restarts) (opened : IsOpened r jobs) where
+  known : IsKnown (known_of r)
+  known = s_known laws r jobs carry restarts opened (first_store laws more r jobs carry restarts opened)
+
+  outcomes_few : (t : CycleView) (j : List CycleView) → IsNext r jobs carry restarts t j → length t.events.outcomes ≤ 192
+  outcomes_few t j next =
+      let events = ap (λ (e : EventsView). length e.outcomes) next.events in
+      let here = told_long (known_of r) (behind_mdt r jobs carry restarts t.sent j) (restart_events r jobs restarts (length j) (master_calls r carry restarts j)).outcomes in
+      let first = by (restarts (length j) 0) in
+      let few = known.few in
+      omega (arith, events, here, first, few)
+    where
+      by : (b : Bool) → length (if b then restart_told (known_of r) (looks_back r jobs (master_calls r carry restarts j)) no_events else no_events).outcomes ≤ length (known_of r).drives
+      by true = let long = with_long (broken (looks_back r jobs (master_calls r carry restarts j))) (length (known_of r).drives) [] in omega (arith, long)
+      by false = omega arith
+
+  few_with : (t : CycleView) (n : ℕ) (totals : Totals) → t.phase ≤ 4 → length t.events.outcomes ≤ 192 → t.unseen ≡ 0 → AreFew totals n → AreFew (with_cycle totals t) (suc n)
+  few_with t n totals phase long clear few =
+      let a = few.cycles in let c = few.complete in let d = few.refused in let e = few.broken_few in let f = few.falls in let g = few.unseen in
+      let cc' = ended_few is_complete t.events.outcomes in let dd = ended_few is_refused t.events.outcomes in let ee = ended_few is_broken t.events.outcomes in let ff = falls_few t in
+      record {
+        cycles = omega (arith, a);
+        phase = phase;
+        complete = omega (arith, c, cc', long);
+        refused = omega (arith, d, dd, long);
+        broken_few = omega (arith, e, ee, long);
+        falls = omega (arith, f, ff);
+        unseen = omega (arith, g, clear);
+      }
+
+  totals_few : (j : List CycleView) → IsRun r jobs carry restarts j → IsClear j → AreFew (totals_of (reverse j)) (length j)
+  totals_few [] run clear = no_totals
+  totals_few (t ∷ j) run clear =
+      let phase : t.phase ≤ 4 = subst (λ (n : ℕ). n ≤ 4) (sym run.1.phase) (low laws more r jobs carry restarts opened t j run clear) in
+      subst (λ (x : Totals). AreFew x (suc (length j))) (sym (ap totals_of (reverse_onto j t []) ∙ grow (reverse j) t)) (few_with t (length j) (totals_of (reverse j)) phase (outcomes_few t j run.1) clear.1 (totals_few j run.0 clear.0))
+
+  -- THE CYCLES
+  address_low : (k : ℕ) → k < length r.drives → (drive_at r k).address ≤ 254
+  address_low k below = let high = (address_of r k opened.valid below).1 in omega (arith, high)
+
+  cycle_fits : (t : CycleView) (j : List CycleView) → IsNext r jobs carry restarts t j → length j < 50000 → FitsReports t.cycle t.events → FitsCycle (wishes_of r) t
+  cycle_fits t j next few reports = record {
+    moves = subst (All (FitsMove t.cycle)) (sym next.moves) (All-append (FitsMove t.cycle) _ _
+        (moves_fit t.cycle false (length r.drives) (drive_at r) r.rate (given_before carry restarts j) (given_mst carry restarts t.sent j) number address_low)
+        (moves_fit t.cycle true (length r.drives) (drive_at r) r.rate (given_mst carry restarts t.sent j) (given_mdt carry restarts t.sent j) number address_low));
+    events = record {
+      outcomes = reports.outcomes;
+      plan = subst (FitsPlan t.cycle (wishes_of r)) (sym (ap (λ (e : EventsView). e.plan) next.events)) (plan_in (restarts (length j) 0));
+      stop = reports.stop;
+      fall = subst (FitsFall t.cycle) (sym (ap (λ (e : EventsView). e.fall) next.events)) (either_fits t.cycle (fall_of (known_of r) (behind_mdt r jobs carry restarts t.sent j)) _ (fall_fits (known_of r) (behind_mdt r jobs carry restarts t.sent j) t.cycle known number)
+          (fall_in (restarts (length j) 0)));
+    };
+  }
+    where
+      number : t.cycle ≤ 4294967295
+      number = let is = next.cycle in omega (arith, is, few)
+
+      plan_in : (b : Bool) → FitsPlan t.cycle (wishes_of r) (option_or (plan_told (behind_mdt r jobs carry restarts t.sent j)) (if b then restart_told (known_of r) (looks_back r jobs (master_calls r carry restarts j)) no_events else no_events).plan)
+      plan_in true = told_fits (wishes_of r) (known_of r) (behind_mdt r jobs carry restarts t.sent j) t.cycle (valid laws more r jobs opened) known (laws.planned (known_of r) (tasks_for (known_of r) jobs) (middle r carry restarts t.sent j)) number
+      plan_in false = told_fits (wishes_of r) (known_of r) (behind_mdt r jobs carry restarts t.sent j) t.cycle (valid laws more r jobs opened) known (laws.planned (known_of r) (tasks_for (known_of r) jobs) (middle r carry restarts t.sent j)) number
+
+      fall_in : (b : Bool) → FitsFall t.cycle (if b then restart_told (known_of r) (looks_back r jobs (master_calls r carry restarts j)) no_events else no_events).fall
+      fall_in true = restart_fits t.cycle number
+      fall_in false = tt
+
+  cycles_fit : (j : List CycleView) → IsRun r jobs carry restarts j → length j ≤ 50000 → FitReports j → All (FitsCycle (wishes_of r)) j
+  cycles_fit [] run few reports = All-nil (FitsCycle (wishes_of r))
+  cycles_fit (t ∷ j) run few reports =
+      All-cons (FitsCycle (wishes_of r)) t j (cycle_fits t j run.1 (omega (arith, few)) (All-head (λ (u : CycleView). FitsReports u.cycle u.events) t j reports))
+      (cycles_fit j run.0 (omega (arith, few)) (All-tail (λ (u : CycleView). FitsReports u.cycle u.events) t j reports))
+
+pub runs_fit_others : TotalsGrow → Laws → MoreLaws → RunsFitOthers
+runs_fit_others grow laws more r jobs carry restarts j opened run clear few reports = record {
+  cycles = cycles_fit grow laws more r jobs carry restarts opened j run few reports;
+  totals = totals_fit (totals_of (reverse j)) (length j) few (totals_few grow laws more r jobs carry restarts opened j run clear);
+}

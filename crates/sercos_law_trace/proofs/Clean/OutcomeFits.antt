@@ -1,0 +1,383 @@
+-- The outcomes that a cycle reports fit the fields of their lines.
+use Rattle.std.proofs.Common.{◌≡◌, inl, inr, ℕ, zero, suc, ◌+◌, ◌-◌, ◌*◌, ◌<◌, ◌≤◌, ◌==◌, nat_lt, Bool, true, false, ◌&&◌, List, [], ◌∷◌, ◌++◌, length, drop, min, Option, Some, None, is_some, is_none, refl, sym, ◌∙◌, ap, subst, arith, if◌then◌else◌}
+use Rattle.std.specs.Prelude.{slice_index, slice_get, option_and_then}
+use Rattle.std.specs.List.{All}
+use Rattle.std.proofs.lemmas.List.Elements.{All-nil, All-cons, All-head, All-tail}
+use Rattle.std.proofs.lemmas.List.{length-take, length-drop}
+use Rattle.sercos_model.specs.Bits.{AreBytes}
+use Rattle.sercos_model.proofs.BitLemmas.{AreBytes-take, AreBytes-bytes_of}
+use Rattle.sercos_hdlc.specs.Reason.{reason_of, content_of, plain}
+use Rattle.sercos_telegram.specs.declared.layout.Kind.TheVariants as kinds
+use Rattle.sercos_telegram.specs.Words.{status_of}
+use Rattle.sercos_telegram.specs.Spells.{word_at}
+use Rattle.sercos_step.specs.declared.request.Job.{Job}
+use Rattle.sercos_step.specs.declared.request.Request.{Request}
+use Rattle.sercos_step.specs.declared.request.Request.TheVariants as request
+use Rattle.sercos_step.specs.declared.request.Outcome.{Outcome}
+use Rattle.sercos_step.specs.declared.request.Outcome.TheVariants as outcome
+use Rattle.sercos_step.specs.declared.shape.Shape.{Shape}
+use Rattle.sercos_step.specs.declared.shape.Shape.TheVariants as shape
+use Rattle.sercos_step.specs.declared.step.Answer.{Answer}
+use Rattle.sercos_step.specs.Counts.{CountsAnswers, count_of}
+use Rattle.sercos_step.specs.Steps.{answer_words, next_step, outcome_of, is_whole, result_of, steps_before, attribute_read, AreAnswers}
+use Rattle.sercos_step.specs.Words.{bytes_in, bytes_read, shape_of, words_in}
+use Rattle.sercos_step.proofs.Ends.{length-answer_words}
+use Rattle.sercos_timing.specs.Views.{PlanView}
+use Rattle.sercos_block.specs.Views.{RingView}
+use Rattle.sercos_service_master.specs.Begun.{Begun, open_in, answers_it, answer_in, with_answer, step_at}
+use Rattle.sercos_service_master.specs.Calls.{Begin, Send, Hear, EndCycle, begun_by}
+use Rattle.sercos_service_master.specs.Calls as channel
+use Rattle.sercos_text.specs.Templates.{field_of, AreOf, IsPart, IsOf, part_left}
+use Rattle.sercos_trace.specs.Kinds.{template_of}
+use Rattle.sercos_trace.specs.Views.{EventsView, CycleView}
+use Rattle.sercos_seat.specs.Channel.{Report, number_in, broken_number}
+use Rattle.sercos_seat.specs.Ring.{Known, Task, known_of, tasks_from, tasks_for, request_task, member}
+use Rattle.sercos_master.specs.Annals.{Call, HearMst, HearAt, Mdt, End, Restart, Past, past, is_taken, after_taken, after_at_of, place_of, settled, begins, with_begin, ready_to_send, is_sent_to, addressed_in, after_mdt, fall_of, next_phase, goes_on, new_epoch, still_waiting, is_idle}
+use Rattle.sercos_master.specs.Reports.{inserted, with_report, with_reports, broken, with_broken, outcomes_told, restart_told}
+use Rattle.sercos_master.proofs.Followed.{settles}
+use Rattle.sercos_script.specs.declared.link.Passage.{Passage}
+use Rattle.sercos_script.specs.Links.{Carry, Restarts}
+use Rattle.sercos_law_run.specs.Agenda.Reported.{IsReportOf}
+use Rattle.sercos_law_run.specs.Agenda.Tasks.{IsTask, OfReads, OfWrites, Checks3, Lists3, Checks4, Lists4, OfWaiting, AreBegunTasks, HasBegunTasks}
+use Rattle.sercos_law_run.specs.Journal.Arrivals.{arrival, content_in, heard, passage}
+use Rattle.sercos_law_run.specs.Journal.Records.{ats_in}
+use Rattle.sercos_law_run.specs.Journal.Runs.{station_of, with_at, at_calls, begin_calls, master_calls, middle, looks_back, no_events, IsNext}
+use Rattle.sercos_law_run.proofs.Theorems.{AreWords, word_of, words_append, bytes_of_words, read_word, Laws, MoreLaws, words_drop}
+use Rattle.sercos_law_trace.specs.Clean.Fields.{FitsEnded}
+
+-- WHAT THE MASTER HEARS are bytes, whatever the links make of what is sent.
+heard_bytes : (carry : Carry) (p : Passage) (content got : List ℕ) → heard carry p content ≡ Some got → AreBytes got
+unfolding content_in
+heard_bytes carry p content got is = by (arrival carry p content) is
+  where
+    one : (bits : List Bool) (b : Bool) → (if b then Some (content_of (plain bits)) else None) ≡ Some got → AreBytes got
+    one bits true e = let same : content_of (plain bits) ≡ got = cc in subst AreBytes same (AreBytes-bytes_of _)
+    one bits false e = cc
+
+    by : (o : Option (List Bool)) → option_and_then (λ bits. if is_none (reason_of bits) then Some (content_of (plain bits)) else None) o ≡ Some got → AreBytes got
+    by None e = cc
+    by (Some bits) e = one bits (is_none (reason_of bits)) e
+
+abbrev pub AreHeard : List Call → Type 0
+AreHeard [] = Unit {0}
+AreHeard (HearMst content ∷ h) = AreHeard h
+AreHeard (HearAt content ∷ h) = AreBytes content × AreHeard h
+AreHeard (Mdt ∷ h) = AreHeard h
+AreHeard (End ∷ h) = AreHeard h
+AreHeard (Restart ∷ h) = AreHeard h
+
+ats_heard : (r : RingView) (carry : Carry) (cycle : ℕ) (ats : List (List ℕ)) (h : List Call) → AreHeard h → AreHeard (at_calls r carry cycle ats h)
+ats_heard r carry cycle [] h are = are
+ats_heard r carry cycle (at ∷ ats) h are = ats_heard r carry cycle ats _ (by (heard carry (passage cycle kinds.At (station_of r (slice_index at 0)) 0) at) refl)
+  where
+    by : (o : Option (List ℕ)) → heard carry (passage cycle kinds.At (station_of r (slice_index at 0)) 0) at ≡ o → AreHeard (with_at o h)
+    by None is = are
+    by (Some content) is = (heard_bytes carry (passage cycle kinds.At (station_of r (slice_index at 0)) 0) at content is, are)
+
+begun_heard : (restarts : Restarts) (cycle : ℕ) (h : List Call) → AreHeard h → AreHeard (begin_calls restarts cycle h)
+begun_heard restarts cycle h are = by (restarts cycle 0)
+  where
+    by : (b : Bool) → AreHeard (if b then Restart ∷ h else h)
+    by true = are
+    by false = are
+
+module _ (r : RingView) (carry : Carry) (restarts : Restarts) where
+  all_heard : (j : List CycleView) → AreHeard (master_calls r carry restarts j)
+  all_heard [] = tt
+  all_heard (t ∷ j) = ats_heard r carry (length j) (ats_in t.sent) _ (begun_heard restarts (length j) (master_calls r carry restarts j) (all_heard j))
+
+  pub middle_heard : (t : CycleView) (j : List CycleView) → AreHeard (middle r carry restarts t.sent j)
+  middle_heard t j = ats_heard r carry (length j) (ats_in t.sent) _ (begun_heard restarts (length j) (master_calls r carry restarts j) (all_heard j))
+
+-- EACH CHANNEL is told words.
+abbrev pub AreTold : List channel.Call → Type 0
+AreTold [] = Unit {0}
+AreTold (Begin q ∷ calls) = AreTold calls
+AreTold (Send ∷ calls) = AreTold calls
+AreTold (Hear status word ∷ calls) = (word < 65536) × AreTold calls
+AreTold (EndCycle ∷ calls) = AreTold calls
+
+at_told : (s : Known) (place : Option ℕ) (content : List ℕ) (p : Past) → AreBytes content → ((k : ℕ) → AreTold (p.calls k)) → (k : ℕ) → AreTold ((after_at_of s place content p).calls k)
+at_told s None content p bytes are k = are k
+at_told s (Some i) content p bytes are k = by (is_taken s p i content)
+  where
+    one : (identifies : Bool) → AreTold (if identifies then p.calls i else Hear (status_of (word_at content 1)) (word_at content 3) ∷ p.calls i)
+    one true = are i
+    one false = (read_word content 3 bytes, are i)
+
+    here : (same : Bool) → AreTold (if same then (if p.now.phase == 1 then p.calls i else Hear (status_of (word_at content 1)) (word_at content 3) ∷ p.calls i) else p.calls k)
+    here true = one (p.now.phase == 1)
+    here false = are k
+
+    by : (t : Bool) → AreTold ((if t then after_taken i content p else p).calls k)
+    by true = here (k == i)
+    by false = are k
+
+mdt_told : (s : Known) (p : Past) → ((k : ℕ) → AreTold (p.calls k)) → (k : ℕ) → AreTold ((after_mdt s p).calls k)
+mdt_told s p are k = by (is_sent_to (ready_to_send s p) (addressed_in s (ready_to_send s p)) k)
+  where
+    kept : AreTold ((settled s p).calls k)
+    kept = subst (λ (c : ℕ → List channel.Call). AreTold (c k)) (sym (settles s p).calls) (are k)
+
+    begun : (o : Option Task) → AreTold (with_begin o ((settled s p).calls k))
+    begun None = kept
+    begun (Some t) = kept
+
+    by : (b : Bool) → AreTold (if b then Send ∷ (ready_to_send s p).calls k else (ready_to_send s p).calls k)
+    by true = begun (begins s (settled s p) k)
+    by false = begun (begins s (settled s p) k)
+
+pub all_told : (s : Known) (requests : ℕ → List Task) (h : List Call) → AreHeard h → (k : ℕ) → AreTold ((past s requests h).calls k)
+all_told s requests [] are k = tt
+all_told s requests (HearMst content ∷ h) are k = all_told s requests h are k
+all_told s requests (HearAt content ∷ h) are k = at_told s (place_of s (slice_index content 0)) content (past s requests h) are.0 (all_told s requests h are.1) k
+all_told s requests (Mdt ∷ h) are k = mdt_told s (past s requests h) (all_told s requests h are) k
+all_told s requests (End ∷ h) are k = by (is_some (fall_of s (past s requests h))) (all_told s requests h are k)
+  where
+    by : (falls : Bool) → AreTold ((past s requests h).calls k) → AreTold ((if falls then new_epoch ((past s requests h).cycle + 1) (still_waiting (past s requests h)) else goes_on (next_phase s (past s requests h)) (past s requests h)).calls k)
+    by true before = tt
+    by false before = before
+all_told s requests (Restart ∷ h) are k = tt
+
+-- WHAT WAS BEGUN has answers of words, each of which came while its transfer went on.
+abbrev pub AreWordsOf : List Answer → Type 0
+AreWordsOf [] = Unit {0}
+AreWordsOf (a ∷ answers) = (a.word < 65536) × AreWordsOf answers
+
+abbrev pub AreGoing : List Begun → Type 0
+AreGoing [] = Unit {0}
+AreGoing (b ∷ older) = (AreAnswers b.request b.answers × AreWordsOf b.answers) × AreGoing older
+
+some_step : (q : Request) (answers : List Answer) → is_some (step_at q answers) ≡ true → outcome_of q answers ≡ None
+some_step q answers is = by (outcome_of q answers) is
+  where
+    by : (o : Option Outcome) → is_some (if is_some o then None else next_step q answers) ≡ true → o ≡ None
+    by None is = refl
+    by (Some x) is = cc
+
+and_left : (a b : Bool) → (a && b) ≡ true → a ≡ true
+and_left true b is = refl
+and_left false b is = cc
+
+pub all_going : (calls : List channel.Call) → AreTold calls → AreGoing (begun_by calls)
+all_going [] are = tt
+all_going (Begin q ∷ calls) are = ((tt, tt), all_going calls are)
+all_going (Send ∷ calls) are = all_going calls are
+all_going (Hear status word ∷ calls) are = by (begun_by calls) (answers_it (begun_by calls) status) refl (all_going calls are.1)
+  where
+    by : (begun : List Begun) (b : Bool) → answers_it begun status ≡ b → AreGoing begun → AreGoing (if b then with_answer (answer_in status word) begun else begun)
+    by begun false is going = going
+    by [] true is going = tt
+    by (b ∷ older) true is going = (((going.0.0, some_step b.request b.answers (and_left (is_some (open_in (b ∷ older))) _ is)), (are.0, going.0.1)), going.1)
+all_going (EndCycle ∷ calls) are = all_going calls are
+
+-- AN OUTCOME of such answers
+abbrev pub IsSpelt : Outcome → Type 0
+IsSpelt (outcome.Complete list) = AreBytes list × (length list ≤ 1024)
+IsSpelt (outcome.Refused code) = code.raw < 65536
+IsSpelt outcome.Broken = Unit {0}
+
+all_words : (answers : List Answer) → AreWordsOf answers → AreWords (answer_words answers)
+all_words [] are = tt
+all_words (a ∷ answers) are = words_append (answer_words answers) (a.word ∷ []) (all_words answers are.1) (are.0, tt)
+
+bytes_long : (words : List ℕ) → length (bytes_in words) ≡ 2 * length words
+bytes_long [] = refl
+bytes_long (w ∷ words) = let rest = bytes_long words in omega (arith, rest)
+
+no_bytes : AreBytes [] × (length {A = ℕ} [] ≤ 1024)
+unfolding AreBytes
+no_bytes = (tt, omega arith)
+
+list_fits : (words : List ℕ) → AreWords words → AreBytes (bytes_read shape.List words) × (length (bytes_read shape.List words) ≤ 1024)
+list_fits [] are = no_bytes
+list_fits (actual ∷ []) are = no_bytes
+list_fits (actual ∷ longest ∷ words) are =
+    let long = length-take (min actual 1024) (bytes_in words) in
+    (AreBytes-take (min actual 1024) (bytes_in words) (bytes_of_words words are.1.1), omega (arith, long))
+
+read_fits : (s : Shape) (words : List ℕ) → AreWords words → (s ≡ shape.List → ⊥) → length words ≤ 2 → AreBytes (bytes_in words) × (length (bytes_in words) ≤ 1024)
+read_fits s words are other few = (bytes_of_words words are, let long = bytes_long words in omega (arith, long, few))
+
+result_fits : (q : Request) (words : List ℕ) → AreWords words → length words ≡ count_of q words → AreBytes (result_of q words) × (length (result_of q words) ≤ 1024)
+result_fits (request.Read idn e) words are count = by (shape_of e (attribute_read e words)) count
+  where
+    n : ℕ
+    n = steps_before e
+
+    by : (s : Shape) → length words ≡ steps_before e + words_in s (slice_index words (steps_before e)) → AreBytes (bytes_read s (drop (steps_before e) words)) × (length (bytes_read s (drop (steps_before e) words)) ≤ 1024)
+    by shape.One count = let long = length-drop (steps_before e) words in let all = bytes_long (drop (steps_before e) words) in (bytes_of_words (drop (steps_before e) words) (words_drop (steps_before e) words are), omega (arith, long, all, count))
+    by shape.Two count = let long = length-drop (steps_before e) words in let all = bytes_long (drop (steps_before e) words) in (bytes_of_words (drop (steps_before e) words) (words_drop (steps_before e) words are), omega (arith, long, all, count))
+    by shape.List count = list_fits (drop (steps_before e) words) (words_drop (steps_before e) words are)
+result_fits (request.Write idn e bytes) words are count = no_bytes
+result_fits (request.Command idn) words are count = (bytes_of_words (slice_index words (length words - 2) ∷ []) (word_of words (length words - 2) are, tt), omega arith)
+
+complete_is : (q : Request) (answers : List Answer) (bytes : List ℕ) → outcome_of q answers ≡ Some (outcome.Complete bytes) → bytes ≡ result_of q (answer_words answers)
+complete_is q [] bytes is = cc
+complete_is q (a ∷ answers) bytes is = by a.error (is_whole q (answer_words answers ++ a.word ∷ [])) is
+  where
+    by : (error whole : Bool) → (if error then Some (outcome.Refused (record { raw = a.word })) else (if whole then Some (outcome.Complete (result_of q (answer_words answers ++ a.word ∷ []))) else None)) ≡ Some (outcome.Complete bytes)
+        → bytes ≡ result_of q (answer_words answers ++ a.word ∷ [])
+    by true whole e = cc
+    by false true e = cc
+    by false false e = cc
+
+refused_is : (q : Request) (answers : List Answer) (o : Outcome) → AreWordsOf answers → outcome_of q answers ≡ Some o → ((bytes : List ℕ) → o ≡ outcome.Complete bytes → IsSpelt o) → IsSpelt o
+refused_is q [] o are is complete = cc
+refused_is q (a ∷ answers) o are is complete = by a.error (is_whole q (answer_words answers ++ a.word ∷ [])) is
+  where
+    by : (error whole : Bool) → (if error then Some (outcome.Refused (record { raw = a.word })) else (if whole then Some (outcome.Complete (result_of q (answer_words answers ++ a.word ∷ []))) else None)) ≡ Some o → IsSpelt o
+    by true whole e = let same : outcome.Refused (record { raw = a.word }) ≡ o = cc in subst IsSpelt same are.0
+    by false true e = let same : o ≡ outcome.Complete (result_of q (answer_words answers ++ a.word ∷ [])) = cc in complete _ same
+    by false false e = cc
+
+pub outcome_fits : CountsAnswers → (q : Request) (answers : List Answer) (o : Outcome) → AreAnswers q answers → AreWordsOf answers → outcome_of q answers ≡ Some o → IsSpelt o
+outcome_fits counts q answers o going are is = refused_is q answers o are is (λ bytes complete. by bytes complete)
+  where
+    by : (bytes : List ℕ) → o ≡ outcome.Complete bytes → IsSpelt o
+    by bytes complete =
+        let whole : outcome_of q answers ≡ Some (outcome.Complete bytes) = is ∙ ap Some complete in
+        let count = counts q answers bytes going whole in
+        let long = length-answer_words answers in
+        let fits = result_fits q (answer_words answers) (all_words answers are) (long ∙ count) in
+        subst IsSpelt (sym complete) (subst (λ (l : List ℕ). AreBytes l × (length l ≤ 1024)) (sym (complete_is q answers bytes whole)) fits)
+
+-- THE NUMBERS of requests
+abbrev AreLow : List Task → Type 0
+AreLow [] = Unit {0}
+AreLow (t ∷ tasks) = ((n : ℕ) → t.number ≡ Some n → n ≤ 65535) × AreLow tasks
+
+some_same : {A : Type 0} (a b : A) → Some a ≡ Some b → a ≡ b
+some_same a b e = cc
+
+jobs_low : (address i : ℕ) (jobs : List Job) → i + length jobs ≤ 65536 → AreLow (tasks_from address i jobs)
+jobs_low address i [] few = tt
+jobs_low address i (job ∷ jobs) few = by (job.drive == address) (jobs_low address (i + 1) jobs (omega (arith, few)))
+  where
+    by : (b : Bool) → AreLow (tasks_from address (i + 1) jobs) → AreLow (if b then request_task i job.request ∷ tasks_from address (i + 1) jobs else tasks_from address (i + 1) jobs)
+    by true rest = (λ n is. let same = some_same i n is in omega (arith, same, few), rest)
+    by false rest = rest
+
+drop_low : (n : ℕ) (tasks : List Task) → AreLow tasks → AreLow (drop n tasks)
+drop_low zero tasks are = are
+drop_low (suc n) [] are = tt
+drop_low (suc n) (t ∷ tasks) are = drop_low n tasks are.1
+
+get_low : (tasks : List Task) (i : ℕ) (t : Task) → AreLow tasks → slice_get tasks i ≡ Some t → (n : ℕ) → t.number ≡ Some n → n ≤ 65535
+get_low [] i t are got n is = cc
+get_low (x ∷ tasks) zero t are got n is = let same : x ≡ t = cc in are.0 n (ap (λ (y : Task). y.number) same ∙ is)
+get_low (x ∷ tasks) (suc i) t are got n is = get_low tasks i t are.1 got n is
+
+-- a task of the start-up has none
+no_number : (t u : Task) → t ≡ u → u.number ≡ None → (n : ℕ) → t.number ≡ Some n → n ≤ 65535
+no_number t u same none n is = let e : None ≡ Some n = sym none ∙ sym (ap (λ (x : Task). x.number) same) ∙ is in cc
+
+task_low : (s : Known) (k : ℕ) (plan : Option PlanView) (waiting : List Task) (outs : List Outcome) (t : Task) → IsTask s k plan waiting outs t → AreLow waiting → (n : ℕ) → t.number ≡ Some n → n ≤ 65535
+task_low s k plan waiting outs t (OfReads q a b same) are n is = no_number t _ same refl n is
+task_low s k plan waiting outs t (OfWrites p i q a b c d same) are n is = no_number t _ same refl n is
+task_low s k plan waiting outs t (Checks3 p a b same) are n is = no_number t _ same refl n is
+task_low s k plan waiting outs t (Lists3 a b same) are n is = no_number t _ same refl n is
+task_low s k plan waiting outs t (Checks4 a b same) are n is = no_number t _ same refl n is
+task_low s k plan waiting outs t (Lists4 a b same) are n is = no_number t _ same refl n is
+task_low s k plan waiting outs t (OfWaiting i a b got) are n is = get_low waiting i t are got n is
+
+-- A REPORT
+abbrev pub Fits : ℕ → Outcome → Type 0
+Fits number o = (number ≤ 65535) × IsSpelt o
+
+report_fits : CountsAnswers → (s : Known) (k : ℕ) (plan : Option PlanView) (waiting : List Task) (phase : ℕ) (begun : List Begun) (tasks : List Task) (x : Report) → AreBegunTasks s k plan waiting phase begun tasks → AreLow waiting → AreGoing begun
+    → IsReportOf x begun tasks → Fits x.number x.outcome
+report_fits counts s k plan waiting phase [] [] x are low going is = absurd is
+report_fits counts s k plan waiting phase [] (t ∷ tasks) x are low going is = absurd is
+report_fits counts s k plan waiting phase (b ∷ older) [] x are low going is = absurd is
+report_fits counts s k plan waiting phase (b ∷ older) (t ∷ tasks) x are low going (inl (number, ended)) =
+    (task_low s k are.1.by_then waiting _ t are.1.task low x.number number, outcome_fits counts b.request b.answers x.outcome going.0.0 going.0.1 ended)
+report_fits counts s k plan waiting phase (b ∷ older) (t ∷ tasks) x are low going (inr rest) = report_fits counts s k plan waiting phase older tasks x are.0 low going.1 rest
+
+open_low : (s : Known) (k : ℕ) (plan : Option PlanView) (waiting : List Task) (phase : ℕ) (begun : List Begun) (tasks : List Task) → AreBegunTasks s k plan waiting phase begun tasks → AreLow waiting → (n : ℕ) → number_in tasks ≡ Some n → n ≤ 65535
+open_low s k plan waiting phase [] [] are low n is = cc
+open_low s k plan waiting phase [] (t ∷ tasks) are low n is = absurd are
+open_low s k plan waiting phase (b ∷ older) [] are low n is = absurd are
+open_low s k plan waiting phase (b ∷ older) (t ∷ tasks) are low n is = task_low s k are.1.by_then waiting _ t are.1.task low n is
+
+-- all reports of the first n drives
+inserted_all : (P : ℕ × Outcome → Type 0) (number : ℕ) (o : Outcome) (reports : List (ℕ × Outcome)) → P (number, o) → All P reports → All P (inserted number o reports)
+inserted_all P number o [] one are = All-cons P (number, o) [] one (All-nil P)
+inserted_all P number o (x ∷ reports) one are = by (nat_lt number x.0) (inserted_all P number o reports one (All-tail P x reports are))
+  where
+    by : (b : Bool) → All P (inserted number o reports) → All P (if b then (number, o) ∷ x ∷ reports else x ∷ inserted number o reports)
+    by true rest = All-cons P (number, o) (x ∷ reports) one are
+    by false rest = All-cons P x (inserted number o reports) (All-head P x reports are) rest
+
+reports_all : (P : ℕ × Outcome → Type 0) (report : ℕ → Option Report) (n : ℕ) (reports : List (ℕ × Outcome)) → ((k : ℕ) (x : Report) → k < n → report k ≡ Some x → P (x.number, x.outcome)) → All P reports → All P (with_reports report n reports)
+reports_all P report zero reports each are = are
+reports_all P report (suc n) reports each are = by (report n) refl (reports_all P report n reports (λ k x low. each k x (omega (arith, low))) are)
+  where
+    by : (o : Option Report) → report n ≡ o → All P (with_reports report n reports) → All P (with_report o (with_reports report n reports))
+    by None is rest = rest
+    by (Some x) is rest = inserted_all P x.number x.outcome (with_reports report n reports) (each n x (omega arith) is) rest
+
+abbrev pub FitsPair : ℕ × Outcome → Type 0
+FitsPair x = Fits x.0 x.1
+
+module _ (counts : CountsAnswers) (laws : Laws) (more : MoreLaws) (r : RingView) (jobs : List Job) (few : length jobs ≤ 65535) where
+  module _ (h : List Call) (heard_all : AreHeard h) where
+    abbrev p : Past
+    p = looks_back r jobs h
+
+    waits_low : (k : ℕ) → AreLow (p.waiting k)
+    waits_low k = let (n, is) = laws.left (known_of r) jobs h k in subst AreLow (sym is) (drop_low n (tasks_for (known_of r) jobs k) (jobs_low (member (known_of r) k).address 1 jobs (omega (arith, few))))
+
+    going : (k : ℕ) → AreGoing (begun_by (p.calls k))
+    going k = all_going (p.calls k) (all_told (known_of r) (tasks_for (known_of r) jobs) h heard_all k)
+
+    tasks_so : (k : ℕ) → k < length (known_of r).drives → HasBegunTasks (known_of r) p k
+    tasks_so k below = laws.tasks (known_of r) (tasks_for (known_of r) jobs) h k below
+
+    told_fits : (k : ℕ) (x : Report) → k < length (known_of r).drives → p.now.report k ≡ Some x → FitsPair (x.number, x.outcome)
+    told_fits k x below is = report_fits counts (known_of r) k p.plan (p.waiting k) p.now.phase (begun_by (p.calls k)) (p.tasks k) x (tasks_so k below) (waits_low k) (going k) (more.right (known_of r) (tasks_for (known_of r) jobs) h k x below is)
+
+    broken_fits : (k : ℕ) (x : Report) → k < length (known_of r).drives → broken p k ≡ Some x → FitsPair (x.number, x.outcome)
+    broken_fits k x below is = by (is_idle p k) is
+      where
+        of : (o : Option ℕ) → number_in (p.tasks k) ≡ o → broken_number o ≡ Some x → FitsPair (x.number, x.outcome)
+        of None has e = cc
+        of (Some n) has e =
+            let same : (record { number = n; outcome = outcome.Broken }) ≡ x = some_same _ x e in
+            subst (λ (y : Report). FitsPair (y.number, y.outcome)) same (open_low (known_of r) k p.plan (p.waiting k) p.now.phase (begun_by (p.calls k)) (p.tasks k) (tasks_so k below) (waits_low k) n has, tt)
+
+        by : (b : Bool) → (if b then None else broken_number (number_in (p.tasks k))) ≡ Some x → FitsPair (x.number, x.outcome)
+        by true e = cc
+        by false e = of (number_in (p.tasks k)) refl e
+
+    with_broken_fits : (reports : List (ℕ × Outcome)) → All FitsPair reports → All FitsPair (with_broken (known_of r) p reports)
+    with_broken_fits reports are = reports_all FitsPair (broken p) (length (known_of r).drives) reports broken_fits are
+
+    all_told_fits : (reports : List (ℕ × Outcome)) → All FitsPair reports → All FitsPair (outcomes_told (known_of r) p reports)
+    all_told_fits reports are = by (is_some (fall_of (known_of r) p))
+      where
+        ended : All FitsPair (with_reports p.now.report (length (known_of r).drives) reports)
+        ended = reports_all FitsPair p.now.report (length (known_of r).drives) reports told_fits are
+
+        by : (b : Bool) → All FitsPair (if b then with_broken (known_of r) p (with_reports p.now.report (length (known_of r).drives) reports) else with_reports p.now.report (length (known_of r).drives) reports)
+        by true = with_broken_fits (with_reports p.now.report (length (known_of r).drives) reports) ended
+        by false = ended
+
+  pub outcomes_spelt : (carry : Carry) (restarts : Restarts) (t : CycleView) (j : List CycleView) → IsNext r jobs carry restarts t j → All FitsPair t.events.outcomes
+  outcomes_spelt carry restarts t j next = subst (All FitsPair) (sym (ap (λ (e : EventsView). e.outcomes) next.events)) (all_told_fits (middle r carry restarts t.sent j) (middle_heard r carry restarts t j) _ (by (restarts (length j) 0)))
+    where
+      by : (b : Bool) → All FitsPair (if b then restart_told (known_of r) (looks_back r jobs (master_calls r carry restarts j)) no_events else no_events).outcomes
+      by true = with_broken_fits (master_calls r carry restarts j) (all_heard r carry restarts j) [] (All-nil FitsPair)
+      by false = All-nil FitsPair
+
+-- THE LINES
+ended_fits : (cycle i : ℕ) (o : Outcome) → cycle ≤ 4294967295 → Fits i o → FitsEnded cycle i o
+unfolding template_of AreOf IsPart IsOf field_of part_left AreBytes
+ended_fits cycle i (outcome.Complete list) number is = (tt, (tt, (number, (tt, (is.0, (tt, (tt, (tt, (tt, (tt, (tt, (tt, (tt, (tt, (tt, (is.1, tt))))))))))))))))
+ended_fits cycle i (outcome.Refused code) number is = let low : code.raw < 65536 = is.1 in (tt, (tt, (number, (tt, (is.0, (tt, (tt, (tt, (tt, (tt, (tt, (tt, (tt, (tt, (tt, (tt, (((omega (arith, low), (omega arith, tt)), refl), tt)))))))))))))))))
+ended_fits cycle i outcome.Broken number is = (tt, (tt, (number, (tt, (is.0, (tt, (tt, (tt, (tt, (tt, (tt, (tt, tt))))))))))))
+
+pub all_ended_fit : (cycle : ℕ) (reports : List (ℕ × Outcome)) → cycle ≤ 4294967295 → All FitsPair reports → All (λ (x : ℕ × Outcome). FitsEnded cycle x.0 x.1) reports
+all_ended_fit cycle [] number are = All-nil (λ (x : ℕ × Outcome). FitsEnded cycle x.0 x.1)
+all_ended_fit cycle (x ∷ reports) number are =
+    All-cons (λ (y : ℕ × Outcome). FitsEnded cycle y.0 y.1) x reports (ended_fits cycle x.0 x.1 number (All-head FitsPair x reports are)) (all_ended_fit cycle reports number (All-tail FitsPair x reports are))

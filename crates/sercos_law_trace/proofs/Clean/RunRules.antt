@@ -1,0 +1,354 @@
+-- The telegrams of a run keep the rules, by induction over its cycles.
+use Rattle.std.proofs.Common.{◌≡◌, ◌⊎◌, inl, inr, ℕ, zero, suc, ◌+◌, ◌*◌, ◌<◌, ◌≤◌, ◌==◌, nat_le, Bool, true, false, ◌||◌, if◌then◌else◌, List, [], ◌∷◌, ◌++◌, length, Option, Some, None, is_some, refl, sym, ◌∙◌, ap, subst, arith}
+use Rattle.std.specs.Prelude.{slice_index}
+use Rattle.std.proofs.lemmas.Bool.{eq-eqb}
+use Rattle.std.proofs.lemmas.Bool.Decides.{nat_tests}
+use Rattle.sercos_telegram.specs.Spells.{mst_content}
+use Rattle.sercos_timing.specs.Valid.{IsValid, AreCycles, IsCycle}
+use Rattle.sercos_timing.specs.Views.{WishesView, PlanView}
+use Rattle.sercos_timing.specs.declared.wishes.Wish.{Wish}
+use Rattle.sercos_step.specs.declared.request.Job.{Job}
+use Rattle.sercos_block.specs.Rings.{wishes_of, at_len}
+use Rattle.sercos_block.specs.Views.{RingView}
+use Rattle.sercos_command.specs.Checks.{carried_len}
+use Rattle.sercos_drive.specs.Moments.{Moment, phase_in, cycle_in, blocks_in}
+use Rattle.sercos_drive.specs.Says.{Said, drive_says, values_in}
+use Rattle.sercos_trace.specs.Views.{SentView, CycleView}
+use Rattle.sercos_seat.specs.Ring.{Known, known_of, numbers, tasks_for}
+use Rattle.sercos_seat.proofs.Sends.{fields_length}
+use Rattle.sercos_law_run.specs.Start.RingSlots.{held_by}
+use Rattle.sercos_law_run.specs.Start.StartUp.{Holds, start_up}
+use Rattle.sercos_master.specs.Annals.{Past, addressed_in, ready_to_send, fall_of, is_done, after_end, new_epoch, goes_on, next_phase, still_waiting}
+use Rattle.sercos_master.specs.Annals as master
+use Rattle.sercos_master.specs.Says.{Sent, mdt_said}
+use Rattle.sercos_script.specs.Links.{Carry, Restarts}
+use Rattle.sercos_law_channel.specs.Handshake.Views.{standing, stood_in}
+use Rattle.sercos_law_run.specs.Slots.Sending.{IsApart}
+use Rattle.sercos_check.specs.declared.marks.Command.{Command}
+use Rattle.sercos_check.specs.Seen.{command_before, is_drive, wish_for}
+use Rattle.sercos_check.specs.Rules.{is_next_cycle, is_next_phase}
+use Rattle.sercos_law_run.specs.Journal.Runs.{drive_at, given_mst, master_calls, begins, middle, looks_back, said_below, ats_said, sent_mst, sent_mdt, IsNext, IsRun, IsClear}
+use Rattle.sercos_law_run.specs.Views.RingViews.{at_start, behind_ats, behind_mdt, after_mst, view_of, views_of}
+use Rattle.sercos_law_run.proofs.Theorems.{same_drive, members_count, address_of, IsContent, at_content, phase_low, mdt_whole, Laws, AllStand, IsPlannedIn, s_known, phase_same, holding, rules, kept_at_mst, carried_length, MoreLaws, first_store, stored_in, spelled_in, all_stand, keeps_all}
+use Rattle.sercos_law_run.specs.Held.Opened.{IsOpened}
+use Rattle.sercos_law_run.specs.Headline.Cycles.{takes_part, store_in_cycle}
+use Rattle.sercos_law_trace.specs.Clean.Ruled.{told_after, told_in, KeepRules, RunsKeepRules}
+use Rattle.sercos_law_trace.proofs.Clean.RuleLemmas.{AreRuled, command_at, cycle_kept}
+use Rattle.sercos_law_trace.proofs.Clean.SeenLemmas.{Each, EachPair, each_map, each_both, all_after, IsFramed}
+use Rattle.sercos_law_trace.proofs.Clean.SaidLemmas.{each_said, IsOther, pairs_said, drive_there, wish_is_for}
+use Rattle.sercos_law_trace.proofs.Clean.EarlyRules.{IsEarlyAt, IsEarlyIf, early_ruled}
+use Rattle.sercos_law_trace.proofs.Clean.LateRules.{IsBefore, IsBeforeMdt, IsLateAt, late_ruled}
+use Rattle.sercos_law_trace.proofs.Clean.SlotRules.{before, early_enough, before_last, last_late, sends_one}
+use Rattle.sercos_law_trace.proofs.Clean.MstRules.{mst_ruled}
+use Rattle.sercos_law_trace.proofs.Clean.SenderLemmas.{Sends, sent_by, own_address, early_said, addressed_inside, early_mdt_said, none_in_zero}
+
+framed : (content : List ℕ) → IsContent content → IsFramed content
+framed content is = record { some = is.some; most = is.most }
+
+late_so : (p q : ℕ) → p ≡ q → 3 ≤ q → nat_le 3 p ≡ true
+late_so p q same late = grind (arith, nat_tests, same, late)
+
+rate_is : (r : RingView) → (wishes_of r).rate ≡ r.rate
+unfolding wishes_of
+rate_is r = refl
+
+-- A START is no later than the end of the longest cycle at the highest rate, in bit times.
+abbrev pub IsLowIf : ℕ → Option Sent → Type 0
+IsLowIf rate None = Unit {0}
+IsLowIf rate (Some m) = rate * m.start ≤ 1024000
+
+early_low : (rate start early : ℕ) → (rate ≡ 2) ⊎ (rate ≡ 4) ⊎ (rate ≡ 8) ⊎ (rate ≡ 16) → start ≡ early → early ≤ 650 → rate * start ≤ 1024000
+early_low rate start early (inl is) same low = rw is (omega (arith, same, low))
+early_low rate start early (inr (inl is)) same low = rw is (omega (arith, same, low))
+early_low rate start early (inr (inr (inl is))) same low = rw is (omega (arith, same, low))
+early_low rate start early (inr (inr (inr is))) same low = rw is (omega (arith, same, low))
+
+pub cycle_low : (cycle : ℕ) → IsCycle cycle → cycle ≤ 64000
+cycle_low cycle (inl is) = omega (arith, is)
+cycle_low cycle (inr is) = is.1
+
+late_low_start : (rate cycle start : ℕ) → (rate ≡ 2) ⊎ (rate ≡ 4) ⊎ (rate ≡ 8) ⊎ (rate ≡ 16) → IsCycle cycle → start ≤ rate * cycle → start ≤ 1024000
+late_low_start rate cycle start one is low = by one (cycle_low cycle is)
+  where
+    by : (rate ≡ 2) ⊎ (rate ≡ 4) ⊎ (rate ≡ 8) ⊎ (rate ≡ 16) → cycle ≤ 64000 → start ≤ 1024000
+    by (inl e) most = let here : start ≤ 2 * cycle = subst (λ (n : ℕ). start ≤ n * cycle) e low in omega (arith, here, most)
+    by (inr (inl e)) most = let here : start ≤ 4 * cycle = subst (λ (n : ℕ). start ≤ n * cycle) e low in omega (arith, here, most)
+    by (inr (inr (inl e))) most = let here : start ≤ 8 * cycle = subst (λ (n : ℕ). start ≤ n * cycle) e low in omega (arith, here, most)
+    by (inr (inr (inr e))) most = let here : start ≤ 16 * cycle = subst (λ (n : ℕ). start ≤ n * cycle) e low in omega (arith, here, most)
+
+-- a cycle without ATs and MDT
+nothing_ruled : (w : WishesView) (rate : ℕ) (c : Command) (mst : SentView) (ats : List Said) (o : Option Sent) → Each (λ (s : Said). ⊥) ats → o ≡ None → AreRuled w rate c mst [] ats o
+nothing_ruled w rate c mst [] None none is = tt
+nothing_ruled w rate c mst [] (Some m) none is = absurd (cc)
+nothing_ruled w rate c mst (s ∷ ats) o none is = absurd none.0
+
+-- the phase that is commanded next
+rises_so : (falls done : Bool) (cycle phase : ℕ) → is_next_phase (Some (record { cycle = cycle; phase = phase })) (if falls then 0 else (if done then phase + 1 else phase)) ≡ true
+rises_so true done cycle phase = by (0 == phase) (0 == phase + 1)
+  where
+    by : (a b : Bool) → (a || (b || true)) ≡ true
+    by true b = refl
+    by false true = refl
+    by false false = refl
+rises_so false true cycle phase = by (phase + 1 == phase) (phase + 1 == phase + 1) (eq-eqb (phase + 1) (phase + 1) refl)
+  where
+    by : (a b : Bool) → b ≡ true → (a || (b || (phase + 1 == 0))) ≡ true
+    by true b is = refl
+    by false true is = refl
+    by false false is = absurd (cc)
+rises_so false false cycle phase = by (phase == phase) (eq-eqb phase phase refl)
+  where
+    by : (a : Bool) → a ≡ true → (a || ((phase == phase + 1) || (phase == 0))) ≡ true
+    by true is = refl
+    by false is = absurd (cc)
+
+restarted_so : (restarts : Bool) (c : Command) (phase : ℕ) → is_next_phase (Some c) phase ≡ true → is_next_phase (Some c) (if restarts then 0 else phase) ≡ true
+restarted_so true c phase is = by (0 == c.phase) (0 == c.phase + 1)
+  where
+    by : (a b : Bool) → (a || (b || true)) ≡ true
+    by true b = refl
+    by false true = refl
+    by false false = refl
+restarted_so false c phase is = is
+
+started_phase : (r : RingView) (jobs : List Job) (carry : Carry) (restarts : Restarts) (j : List CycleView)
+    → (at_start r jobs carry restarts j).now.phase ≡ (if restarts (length j) 0 then 0 else (looks_back r jobs (master_calls r carry restarts j)).now.phase)
+started_phase r jobs carry restarts j = by (restarts (length j) 0)
+  where
+    by : (b : Bool) → (looks_back r jobs (if b then master.Restart ∷ master_calls r carry restarts j else master_calls r carry restarts j)).now.phase ≡ (if b then 0 else (looks_back r jobs (master_calls r carry restarts j)).now.phase)
+    by true = refl
+    by false = refl
+
+ended_phase : (s : Known) (p : Past) → (after_end s p).now.phase ≡ (if is_some (fall_of s p) then 0 else (if is_done s p then p.now.phase + 1 else p.now.phase))
+ended_phase s p = by (is_some (fall_of s p))
+  where
+    by : (b : Bool) → (if b then new_epoch (p.cycle + 1) (still_waiting p) else goes_on (next_phase s p) p).now.phase ≡ (if b then 0 else next_phase s p)
+    by true = refl
+    by false = refl
+
+-- the newest command of a journal
+abbrev newest : List CycleView → Option Command
+newest [] = None
+newest (t ∷ j) = Some (record { cycle = t.cycle; phase = t.phase })
+
+record IsKept (r : RingView) (j : List CycleView) : Type 0 where
+  kept : KeepRules (wishes_of r) (told_in j)
+  command : command_before (told_in j) ≡ newest j
+
+module _ (laws : Laws) (more : MoreLaws) (r : RingView) (jobs : List Job) (carry : Carry) (restarts : Restarts) (opened : IsOpened r jobs) where
+  module _ (t : CycleView) (j : List CycleView) (run : IsRun r jobs carry restarts (t ∷ j)) (clear : IsClear (t ∷ j)) where
+    next : IsNext r jobs carry restarts t j
+    next = run.1
+
+    all : AllStand r jobs carry restarts j
+    all = all_stand laws more r jobs carry restarts opened j run.0 clear.0
+
+    abbrev pub ats : List Said
+    ats = said_below (length r.drives) (drive_at r) r.rate (given_mst carry restarts t.sent j)
+
+    abbrev pub mdt : Option Sent
+    mdt = mdt_said (known_of r) (behind_mdt r jobs carry restarts t.sent j)
+
+    abbrev pub phase : ℕ
+    phase = (at_start r jobs carry restarts j).now.phase
+
+    abbrev pub sent : List SentView
+    sent = sent_mst (mst_content phase) ∷ ats_said r.rate ats ++ sent_mdt r.rate mdt
+
+    pub sent_is : t.sent ≡ sent
+    sent_is = next.sent
+
+    -- the drive at a place sends this
+    sends_at : (k : ℕ) (s : Said) → drive_says (drive_at r k) r.rate (given_mst carry restarts t.sent j k) ≡ Some s → Sends (drive_at r k) (after_mst r carry restarts t.sent j k) s
+    sends_at k s says = sent_by (drive_at r k) r.rate (after_mst r carry restarts t.sent j k) s says
+
+    -- a drive that sends stands in the commanded phase
+    sender_phase : (k : ℕ) → k < length r.drives → (s : Said) → Sends (drive_at r k) (after_mst r carry restarts t.sent j k) s → phase_in (after_mst r carry restarts t.sent j k) ≡ t.phase
+    sender_phase k below s sending =
+        let kept = kept_at_mst laws r jobs carry restarts opened (first_store laws more r jobs carry restarts opened) t j next clear.1 (spelled_in laws more r jobs carry restarts opened t j next) (stored_in laws more r jobs carry restarts opened t j) all k below in
+        let comes : (view_of r jobs carry restarts k t j).mst_comes ≡ true = sym kept.got ∙ sending.got in
+        let up = sending.stands in
+        by (more.commanded (view_of r jobs carry restarts k t j) (views_of r jobs carry restarts k j) comes) kept.ended up
+      where
+        by : (stood_in (view_of r jobs carry restarts k t j) (standing (views_of r jobs carry restarts k j)) ≡ 0) ⊎ (stood_in (view_of r jobs carry restarts k t j) (standing (views_of r jobs carry restarts k j)) ≡ t.phase)
+            → phase_in (after_mst r carry restarts t.sent j k) ≡ stood_in (view_of r jobs carry restarts k t j) (standing (views_of r jobs carry restarts k j)) → 1 ≤ phase_in (after_mst r carry restarts t.sent j k)
+            → phase_in (after_mst r carry restarts t.sent j k) ≡ t.phase
+        by (inl none) is up = absurd (omega (arith, none, is, up))
+        by (inr same) is up = is ∙ same
+
+    others : EachPair IsOther ats
+    others = pairs_said (length r.drives) (drive_at r) r.rate (given_mst carry restarts t.sent j) (λ i k low high same. same_drive r i k opened.valid low high same)
+        (λ k below s says. own_address (drive_at r k) (after_mst r carry restarts t.sent j k) s (sends_at k s says))
+
+    mdt_phase : (behind_mdt r jobs carry restarts t.sent j).now.phase ≡ t.phase
+    mdt_phase = phase_same laws r jobs carry restarts opened (first_store laws more r jobs carry restarts opened) t j next clear.1 (spelled_in laws more r jobs carry restarts opened t j next) (stored_in laws more r jobs carry restarts opened t j) all ∙ sym next.phase
+
+    -- PHASE 0
+    zero_ruled : t.phase ≡ 0 → AreRuled (wishes_of r) r.rate (command_at t.cycle (mst_content phase)) (sent_mst (mst_content phase)) [] ats mdt
+    zero_ruled zero_is = nothing_ruled (wishes_of r) r.rate (command_at t.cycle (mst_content phase)) (sent_mst (mst_content phase)) ats mdt
+        (each_said (λ (s : Said). ⊥) (length r.drives) (drive_at r) r.rate (given_mst carry restarts t.sent j) (λ k below s says.
+        let sending = sends_at k s says in let same = sender_phase k below s sending in let up = sending.stands in absurd (omega (arith, same, up, zero_is))))
+        (none_in_zero (known_of r) (behind_mdt r jobs carry restarts t.sent j) (mdt_phase ∙ zero_is))
+
+    -- PHASES 1 AND 2
+    early_mdt_in : 1 ≤ t.phase → t.phase < 3 → IsEarlyIf (wishes_of r) mdt
+    early_mdt_in some low = early_mdt_said r (behind_mdt r jobs carry restarts t.sent j) (subst (λ (n : ℕ). n < 3) (sym mdt_phase) low) (subst (λ (n : ℕ). 1 ≤ n) (sym mdt_phase) some)
+        (λ i is. let count = members_count r in let inside = addressed_inside (known_of r) (ready_to_send (known_of r) (behind_ats r jobs carry restarts t.sent j)) i is in omega (arith, count, inside))
+
+    early : 1 ≤ t.phase → t.phase < 3 → AreRuled (wishes_of r) r.rate (command_at t.cycle (mst_content phase)) (sent_mst (mst_content phase)) [] ats mdt
+    early some low = early_ruled (wishes_of r) r.rate (command_at t.cycle (mst_content phase)) (mst_content phase) (rate_is r) (subst (λ (n : ℕ). 1 ≤ n) next.phase some) (subst (λ (n : ℕ). n < 3) next.phase low) ats mdt
+        (each_said (IsEarlyAt (wishes_of r)) (length r.drives) (drive_at r) r.rate (given_mst carry restarts t.sent j) (λ k below s says.
+        let sending = sends_at k s says in early_said r k (after_mst r carry restarts t.sent j k) s below sending (subst (λ (n : ℕ). n < 3) (sym (sender_phase k below s sending)) low)))
+        (all_after IsOther ats others)
+        (early_mdt_in some low)
+
+    -- PHASES 3 AND 4
+    module _ (late : 3 ≤ t.phase) where
+      held : (k : ℕ) → k < length r.drives → (plan : PlanView) × IsPlannedIn r jobs carry restarts t j plan × Holds (blocks_in (drive_at r k) (after_mst r carry restarts t.sent j k)) (start_up r.control r.cycle plan k (drive_at r k).at (drive_at r k).mdt)
+      held k below = holding laws r jobs carry restarts opened (first_store laws more r jobs carry restarts opened) t j next clear.1 (spelled_in laws more r jobs carry restarts opened t j next) (stored_in laws more r jobs carry restarts opened t j) all (subst (λ (n : ℕ). 3 ≤ n) next.phase late) k below
+
+      some_drive : 0 < length r.drives
+      some_drive = let count = members_count r in let some = (s_known laws r jobs carry restarts opened (first_store laws more r jobs carry restarts opened)).some in omega (arith, count, some)
+
+      valid : IsValid (wishes_of r)
+      valid = (held 0 some_drive).1.of.valid
+
+      -- what an AT is
+      abbrev IsAt : Said → Type 0
+      IsAt s = IsFramed s.content × (length s.content ≡ (wish_for (wishes_of r) (slice_index s.content 0)).at_len + 1) × (is_drive (wishes_of r) (slice_index s.content 0) ≡ true)
+
+      long_at : (k : ℕ) → k < length r.drives → (s : Said) → Sends (drive_at r k) (after_mst r carry restarts t.sent j k) s → length s.content ≡ (wish_for (wishes_of r) (slice_index s.content 0)).at_len + 1
+      long_at k below s sending =
+          let past : List Moment = after_mst r carry restarts t.sent j k in
+          let stored = stored_in laws more r jobs carry restarts opened t j k below in
+          let phase_is = sender_phase k below s sending in
+          let up : nat_le 3 (phase_in past) ≡ true = late_so (phase_in past) t.phase phase_is late in
+          let carried = carried_length (cycle_in past) (phase_in past) (blocks_in (drive_at r k) past) stored.0 up in
+          let fields_long = fields_length sending.word sending.info (values_in (cycle_in past) (phase_in past) (blocks_in (drive_at r k) past)) in
+          let block_rules = rules laws r jobs carry restarts opened (first_store laws more r jobs carry restarts opened) t j next clear.1 (spelled_in laws more r jobs carry restarts opened t j next) (stored_in laws more r jobs carry restarts opened t j) all k below in
+          let as_long : carried_len (blocks_in (drive_at r k) past) 16 ≡ at_len (drive_at r k) = (laws.as_long (drive_at r k) (blocks_in (drive_at r k) past) block_rules stored.1).0 (held k below).2.1.1.1.1.1.1.1.1.0 in
+          let wish_len : (wish_for (wishes_of r) (slice_index s.content 0)).at_len ≡ at_len (drive_at r k) = ap (λ (a : ℕ). (wish_for (wishes_of r) a).at_len) (own_address (drive_at r k) past s sending) ∙ ap (λ (x : Wish). x.at_len) (wish_is_for r k opened.valid below) in
+          ap (λ (l : List ℕ). length l) sending.content ∙ omega (arith, carried, fields_long, as_long, wish_len)
+
+      are_ats : Each IsAt ats
+      are_ats = each_said IsAt (length r.drives) (drive_at r) r.rate (given_mst carry restarts t.sent j) (λ k below s says.
+          let sending = sends_at k s says in
+          let high = (address_of r k opened.valid below).1 in (
+            framed s.content (at_content (drive_at r k) r.rate (given_mst carry restarts t.sent j k) s (omega (arith, high)) (more.within r carry restarts t.sent j k opened.valid opened.typed below) says),
+            long_at k below s sending,
+            ap (is_drive (wishes_of r)) (own_address (drive_at r k) (after_mst r carry restarts t.sent j k) s sending) ∙ drive_there r k below,
+          ))
+
+      late_with : (records : List (List ℕ)) → IsApart (wishes_of r) (held_by (takes_part r carry restarts t j) (store_in_cycle r carry restarts t j)) records sent
+          → (m : Sent) → mdt ≡ Some m → AreRuled (wishes_of r) r.rate (command_at t.cycle (mst_content phase)) (sent_mst (mst_content phase)) [] ats mdt
+      late_with records apart m is =
+          let here : IsApart (wishes_of r) (held_by (takes_part r carry restarts t j) (store_in_cycle r carry restarts t j)) records (sent_mst (mst_content phase) ∷ ats_said r.rate ats ++ sent_mdt r.rate (Some m)) =
+          subst (λ (o : Option Sent). IsApart (wishes_of r) (held_by (takes_part r carry restarts t j) (store_in_cycle r carry restarts t j)) records (sent_mst (mst_content phase) ∷ ats_said r.rate ats ++ sent_mdt r.rate o)) is apart in
+          let whole = mdt_whole (known_of r) (behind_mdt r jobs carry restarts t.sent j) m (s_known laws r jobs carry restarts opened (first_store laws more r jobs carry restarts opened)) (laws.planned (known_of r) (tasks_for (known_of r) jobs) (middle r carry restarts t.sent j)) is in
+          subst (λ (o : Option Sent). AreRuled (wishes_of r) r.rate (command_at t.cycle (mst_content phase)) (sent_mst (mst_content phase)) [] ats o) (sym is)
+          (late_ruled (wishes_of r) r.rate (command_at t.cycle (mst_content phase)) (mst_content phase) (subst (λ (n : ℕ). 3 ≤ n) next.phase late) ats m
+          (each_map _ (IsLateAt (wishes_of r) r.rate) (λ s of. record { framed = of.0.0; long = of.0.1; drive = of.0.2; ready = of.1.0; after_mst = of.1.1 }) ats
+          (each_both IsAt _ ats are_ats (early_enough (wishes_of r) r.rate (held_by (takes_part r carry restarts t j) (store_in_cycle r carry restarts t j)) records (mst_content phase) ats m here valid)))
+          (all_after (λ (x y : Said). IsBefore (wishes_of r) r.rate y x) ats (before (wishes_of r) r.rate (held_by (takes_part r carry restarts t j) (store_in_cycle r carry restarts t j)) records (mst_content phase) ats m here valid others))
+          (last_late (wishes_of r) r.rate (held_by (takes_part r carry restarts t j) (store_in_cycle r carry restarts t j)) records (mst_content phase) ats m here valid (framed m.content whole))
+          (before_last (wishes_of r) r.rate (held_by (takes_part r carry restarts t j) (store_in_cycle r carry restarts t j)) records (mst_content phase) ats m here valid))
+
+      low_with : (records : List (List ℕ)) → IsApart (wishes_of r) (held_by (takes_part r carry restarts t j) (store_in_cycle r carry restarts t j)) records sent
+          → (m : Sent) → mdt ≡ Some m → Each (λ (s : Said). r.rate * s.start ≤ 1024000) ats × IsLowIf r.rate mdt
+      low_with records apart m is =
+          let here : IsApart (wishes_of r) (held_by (takes_part r carry restarts t j) (store_in_cycle r carry restarts t j)) records (sent_mst (mst_content phase) ∷ ats_said r.rate ats ++ sent_mdt r.rate (Some m)) =
+          subst (λ (o : Option Sent). IsApart (wishes_of r) (held_by (takes_part r carry restarts t j) (store_in_cycle r carry restarts t j)) records (sent_mst (mst_content phase) ∷ ats_said r.rate ats ++ sent_mdt r.rate o)) is apart in
+          let whole = mdt_whole (known_of r) (behind_mdt r jobs carry restarts t.sent j) m (s_known laws r jobs carry restarts opened (first_store laws more r jobs carry restarts opened)) (laws.planned (known_of r) (tasks_for (known_of r) jobs) (middle r carry restarts t.sent j)) is in
+          let room = (last_late (wishes_of r) r.rate (held_by (takes_part r carry restarts t j) (store_in_cycle r carry restarts t j)) records (mst_content phase) ats m here valid (framed m.content whole)).room in
+          let low : r.rate * m.start ≤ 1024000 = late_low_start (wishes_of r).rate (wishes_of r).cycle (r.rate * m.start) valid.cycles.rate valid.cycles.cycle (omega (arith, room)) in (
+            each_map (IsBeforeMdt (wishes_of r) r.rate (r.rate * m.start)) (λ (s : Said). r.rate * s.start ≤ 1024000) (λ s of. let gap = of.gap in omega (arith, gap, low)) ats
+                (before_last (wishes_of r) r.rate (held_by (takes_part r carry restarts t j) (store_in_cycle r carry restarts t j)) records (mst_content phase) ats m here valid),
+            subst (λ (o : Option Sent). IsLowIf r.rate o) (sym is) low,
+          )
+
+      late_low : Each (λ (s : Said). r.rate * s.start ≤ 1024000) ats × IsLowIf r.rate mdt
+      late_low =
+          let (records, apart) = (keeps_all laws more r jobs carry restarts opened t j run clear).apart late in
+          let here = subst (λ (l : List SentView). IsApart (wishes_of r) (held_by (takes_part r carry restarts t j) (store_in_cycle r carry restarts t j)) records l) sent_is apart in
+          let (m, is) = sends_one (wishes_of r) r.rate (held_by (takes_part r carry restarts t j) (store_in_cycle r carry restarts t j)) records (mst_content phase) ats mdt here in
+          low_with records here m is
+
+      late_ruled_in : AreRuled (wishes_of r) r.rate (command_at t.cycle (mst_content phase)) (sent_mst (mst_content phase)) [] ats mdt
+      late_ruled_in =
+          let (records, apart) = (keeps_all laws more r jobs carry restarts opened t j run clear).apart late in
+          let here = subst (λ (l : List SentView). IsApart (wishes_of r) (held_by (takes_part r carry restarts t j) (store_in_cycle r carry restarts t j)) records l) sent_is apart in
+          let (m, is) = sends_one (wishes_of r) r.rate (held_by (takes_part r carry restarts t j) (store_in_cycle r carry restarts t j)) records (mst_content phase) ats mdt here in
+          late_with records here m is
+
+    -- STARTS
+    pub starts_low : Each (λ (s : Said). r.rate * s.start ≤ 1024000) ats × IsLowIf r.rate mdt
+    starts_low = by t.phase refl
+      where
+        cycles : AreCycles (numbers (known_of r))
+        cycles = (s_known laws r jobs carry restarts opened (first_store laws more r jobs carry restarts opened)).cycles
+
+        early_if_low : (o : Option Sent) → IsEarlyIf (wishes_of r) o → IsLowIf r.rate o
+        early_if_low None is = tt
+        early_if_low (Some m) is = early_low r.rate m.start 650 cycles.rate is.start (omega arith)
+
+        early_both : 1 ≤ t.phase → t.phase < 3 → Each (λ (s : Said). r.rate * s.start ≤ 1024000) ats × IsLowIf r.rate mdt
+        early_both some low = (
+          each_said (λ (s : Said). r.rate * s.start ≤ 1024000) (length r.drives) (drive_at r) r.rate (given_mst carry restarts t.sent j) (λ k below s says.
+              let sending = sends_at k s says in early_low r.rate s.start 300 cycles.rate (early_said r k (after_mst r carry restarts t.sent j k) s below sending (subst (λ (n : ℕ). n < 3) (sym (sender_phase k below s sending)) low)).start (omega arith)),
+          early_if_low mdt (early_mdt_in some low),
+        )
+
+        by : (n : ℕ) → t.phase ≡ n → Each (λ (s : Said). r.rate * s.start ≤ 1024000) ats × IsLowIf r.rate mdt
+        by zero is = (
+          each_said (λ (s : Said). r.rate * s.start ≤ 1024000) (length r.drives) (drive_at r) r.rate (given_mst carry restarts t.sent j) (λ k below s says.
+              let sending = sends_at k s says in let same = sender_phase k below s sending in let up = sending.stands in absurd (omega (arith, same, up, is))),
+          subst (λ (o : Option Sent). IsLowIf r.rate o) (sym (none_in_zero (known_of r) (behind_mdt r jobs carry restarts t.sent j) (mdt_phase ∙ is))) tt,
+        )
+        by (suc zero) is = early_both (omega (arith, is)) (omega (arith, is))
+        by (suc (suc zero)) is = early_both (omega (arith, is)) (omega (arith, is))
+        by (suc (suc (suc n))) is = late_low (omega (arith, is))
+
+    ruled : AreRuled (wishes_of r) r.rate (command_at t.cycle (mst_content phase)) (sent_mst (mst_content phase)) [] ats mdt
+    ruled = by t.phase refl
+      where
+        by : (n : ℕ) → t.phase ≡ n → AreRuled (wishes_of r) r.rate (command_at t.cycle (mst_content phase)) (sent_mst (mst_content phase)) [] ats mdt
+        by zero is = zero_ruled is
+        by (suc zero) is = early (omega (arith, is)) (omega (arith, is))
+        by (suc (suc zero)) is = early (omega (arith, is)) (omega (arith, is))
+        by (suc (suc (suc n))) is = late_ruled_in (omega (arith, is))
+
+    -- THE CONTENTS
+    pub ats_are : Each (λ (s : Said). IsContent s.content) ats
+    ats_are = each_said (λ (s : Said). IsContent s.content) (length r.drives) (drive_at r) r.rate (given_mst carry restarts t.sent j) (λ k below s says.
+        let high = (address_of r k opened.valid below).1 in at_content (drive_at r k) r.rate (given_mst carry restarts t.sent j k) s (omega (arith, high)) (more.within r carry restarts t.sent j k opened.valid opened.typed below) says)
+
+    pub mdt_is_whole : (m : Sent) → mdt ≡ Some m → IsContent m.content
+    mdt_is_whole m is = mdt_whole (known_of r) (behind_mdt r jobs carry restarts t.sent j) m (s_known laws r jobs carry restarts opened (first_store laws more r jobs carry restarts opened)) (laws.planned (known_of r) (tasks_for (known_of r) jobs) (middle r carry restarts t.sent j)) is
+
+    -- THE MST
+    pub low : phase ≤ 4
+    low = phase_low (known_of r) (tasks_for (known_of r) jobs) (begins r carry restarts j)
+
+  next_command : (t : CycleView) (j : List CycleView) → IsRun r jobs carry restarts (t ∷ j) → IsClear (t ∷ j) → (is_next_cycle (newest j) t.cycle ≡ true) × (is_next_phase (newest j) (at_start r jobs carry restarts j).now.phase ≡ true)
+  next_command t [] run clear = (refl, refl)
+  next_command t (u ∷ j) run clear = (
+    (let this = run.1.cycle in let last = run.0.1.cycle in eq-eqb t.cycle (u.cycle + 1) (omega (arith, this, last))),
+    ap (is_next_phase (newest (u ∷ j))) (started_phase r jobs carry restarts (u ∷ j)) ∙ restarted_so (restarts (length (u ∷ j)) 0) (record { cycle = u.cycle; phase = u.phase }) (looks_back r jobs (master_calls r carry restarts (u ∷ j))).now.phase
+        (ap (is_next_phase (newest (u ∷ j))) (ended_phase (known_of r) (behind_mdt r jobs carry restarts u.sent j) ∙ ap (λ (n : ℕ). if is_some (fall_of (known_of r) (behind_mdt r jobs carry restarts u.sent j)) then 0 else (if is_done (known_of r) (behind_mdt r jobs carry restarts u.sent j) then n + 1 else n)) (mdt_phase u j run.0 clear.0))
+        ∙ rises_so (is_some (fall_of (known_of r) (behind_mdt r jobs carry restarts u.sent j))) (is_done (known_of r) (behind_mdt r jobs carry restarts u.sent j)) u.cycle u.phase),
+  )
+
+  all_kept : (j : List CycleView) → IsRun r jobs carry restarts j → IsClear j → IsKept r j
+  all_kept [] run clear = record { kept = tt; command = refl }
+  all_kept (t ∷ j) run clear =
+      let old = all_kept j run.0 clear.0 in
+      let follows = next_command t j run clear in
+      let first = mst_ruled (wishes_of r) (told_in j) (newest j) t.cycle (at_start r jobs carry restarts j).now.phase old.command follows.0 follows.1 (low t j run clear) in
+      let new = cycle_kept (wishes_of r) r.rate t.cycle (mst_content (at_start r jobs carry restarts j).now.phase) (ats t j run clear) (mdt t j run clear) (told_in j) old.kept first (ruled t j run clear) in
+      record {
+        kept = subst (λ (l : List SentView). KeepRules (wishes_of r) (told_after t.cycle l (told_in j))) (sym (sent_is t j run clear)) new.kept;
+        command = ap (λ (l : List SentView). command_before (told_after t.cycle l (told_in j))) (sent_is t j run clear) ∙ new.command ∙ ap (λ (n : ℕ). Some (record { cycle = t.cycle; phase = n })) (sym run.1.phase);
+      }
+
+pub runs_keep_rules : Laws → MoreLaws → RunsKeepRules
+runs_keep_rules laws more r jobs carry restarts j opened run clear = (all_kept laws more r jobs carry restarts opened j run clear).kept

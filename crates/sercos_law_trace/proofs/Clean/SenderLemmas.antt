@@ -1,0 +1,113 @@
+-- What drives and master send in each phase.
+use Rattle.std.proofs.Common.{◌≡◌, ℕ, zero, suc, ◌+◌, ◌<◌, ◌≤◌, ◌==◌, nat_le, Bool, true, false, not, if◌then◌else◌, List, [], ◌∷◌, length, Option, Some, None, option_map, unwrap_or, refl, ◌∙◌, ap, subst, arith}
+use Rattle.std.specs.Prelude.{slice_index}
+use Rattle.std.proofs.lemmas.Bool.Decides.{nat_tests}
+use Rattle.sercos_telegram.specs.Spells.{fields}
+use Rattle.sercos_block.specs.Rings.{wishes_of}
+use Rattle.sercos_block.specs.Views.{DriveView, RingView}
+use Rattle.sercos_drive.specs.Moments.{Moment, phase_in, cycle_in, has_mst, has_taken, blocks_in, commands_in, taken_in}
+use Rattle.sercos_drive.specs.Says.{Said, said, said_in, sends, shown_word, values_in, start_in}
+use Rattle.sercos_service_drive.specs.Says.{Shown, drive_says as channel_says}
+use Rattle.sercos_service_master.specs.Begun.{Said as Told}
+use Rattle.sercos_seat.specs.Ring.{Known, MemberView, known_of}
+use Rattle.sercos_seat.proofs.Sends.{fields_length}
+use Rattle.sercos_seat.specs.Records.{word_said}
+use Rattle.sercos_master.specs.Annals.{Past, first_from, first_place, is_idle, is_identified, addressed_in}
+use Rattle.sercos_master.specs.Says.{said_to, idle, single, joint, mdt_said}
+use Rattle.sercos_law_run.specs.Journal.Runs.{drive_at}
+use Rattle.sercos_law_run.proofs.Theorems.{member_is, sends_so}
+use Rattle.sercos_check.specs.Seen.{is_drive}
+use Rattle.sercos_law_trace.proofs.Clean.SaidLemmas.{drive_there}
+use Rattle.sercos_law_trace.proofs.Clean.EarlyRules.{IsEarlyAt, IsEarlyMdt, IsEarlyIf}
+
+-- WHAT A DRIVE SENDS
+pub record Sends (d : DriveView) (past : List Moment) (s : Said) : Type 0 where
+  pub got : has_mst past ≡ true
+  pub stands : 1 ≤ phase_in past
+  pub start : s.start ≡ start_in (phase_in past) (blocks_in d past)
+  pub word : ℕ
+  pub info : ℕ
+  pub content : s.content ≡ d.address ∷ fields word info (values_in (cycle_in past) (phase_in past) (blocks_in d past))
+
+pub sent_by : (d : DriveView) (rate : ℕ) (past : List Moment) (s : Said) → said_in d rate past ≡ Some s → Sends d past s
+sent_by d rate past s is = by (sends past) refl is
+  where
+    shows : Shown
+    shows = channel_says d.busy (cycle_in past) (commands_in d rate past) (taken_in past)
+
+    what : Said
+    what = said d.address (cycle_in past) (phase_in past) (blocks_in d past) (channel_says d.busy (cycle_in past) (commands_in d rate past) (taken_in past))
+
+    by : (b : Bool) → sends past ≡ b → (if b then Some what else None) ≡ Some s → Sends d past s
+    by true sent is =
+        let same : what ≡ s = ap (λ (o : Option Said). unwrap_or o what) is in
+        let (got, stands) = sends_so (has_mst past) (has_taken past) (phase_in past) sent in
+        subst (λ x. Sends d past x) same (record { got = got; stands = stands; start = refl; word = shown_word shows; info = shows.word; content = refl })
+    by false sent is = cc
+
+pub own_address : (d : DriveView) (past : List Moment) (s : Said) → Sends d past s → slice_index s.content 0 ≡ d.address
+own_address d past s is = ap (λ (l : List ℕ). slice_index l 0) is.content
+
+pub early_said : (r : RingView) (k : ℕ) (past : List Moment) (s : Said) → k < length r.drives → Sends (drive_at r k) past s → phase_in past < 3 → IsEarlyAt (wishes_of r) s
+early_said r k past s below is low =
+    let early : nat_le 3 (phase_in past) ≡ false = grind (arith, nat_tests, low) in
+    let none : values_in (cycle_in past) (phase_in past) (blocks_in (drive_at r k) past) ≡ [] = rw early refl in
+    let long = fields_length is.word is.info [] in
+    record {
+      start = is.start ∙ rw early refl;
+      long = ap (λ (l : List ℕ). length l) (is.content ∙ ap (λ (v : List ℕ). (drive_at r k).address ∷ fields is.word is.info v) none) ∙ omega (arith, long);
+      drive = ap (is_drive (wishes_of r)) (own_address (drive_at r k) past s is) ∙ drive_there r k below;
+    }
+
+-- WHAT THE MASTER SENDS in phases 1 and 2: an MDT to a drive of the ring
+first_inside : (k n i : ℕ) (test : ℕ → Bool) → first_from k n test ≡ Some i → i < k + n
+first_inside k zero i test found = cc
+first_inside k (suc n) i test found = by (test k) found (λ rest. first_inside (k + 1) n i test rest)
+  where
+    by : (b : Bool) → (if b then Some k else first_from (k + 1) n test) ≡ Some i → (first_from (k + 1) n test ≡ Some i → i < k + 1 + n) → i < k + suc n
+    by true found next = let same : k ≡ i = cc in omega (arith, same)
+    by false found next = let more = next found in omega (arith, more)
+
+pub addressed_inside : (s : Known) (p : Past) (i : ℕ) → addressed_in s p ≡ Some i → i < length s.drives
+addressed_inside s p i is = first (p.now.phase == 1) is
+  where
+    zero_less : (n : ℕ) → i < 0 + n → i < n
+    zero_less n low = omega (arith, low)
+
+    second : (b : Bool) → (if b then first_place s (λ k. not (is_idle p k)) else None) ≡ Some i → i < length s.drives
+    second true is = zero_less (length s.drives) (first_inside 0 (length s.drives) i _ is)
+    second false is = cc
+
+    first : (b : Bool) → (if b then first_place s (λ k. not (is_identified p k)) else (if p.now.phase == 2 then first_place s (λ k. not (is_idle p k)) else None)) ≡ Some i → i < length s.drives
+    first true is = zero_less (length s.drives) (first_inside 0 (length s.drives) i _ is)
+    first false is = second (p.now.phase == 2) is
+
+single_early : (r : RingView) (said : Told) (k : ℕ) → k < length r.drives → IsEarlyMdt (wishes_of r) (single (known_of r) said k)
+single_early r said k below =
+    let long = fields_length (word_said said) said.step.word [] in
+    record {
+      start = refl;
+      long = omega (arith, long);
+      drive = ap (λ (m : MemberView). is_drive (wishes_of r) m.address) (member_is r k) ∙ drive_there r k below;
+    }
+
+early_if : (r : RingView) (word : ℕ → Told) (o : Option ℕ) → ((i : ℕ) → o ≡ Some i → i < length r.drives) → IsEarlyIf (wishes_of r) (option_map (λ i. single (known_of r) (word i) i) o)
+early_if r word None inside = tt
+early_if r word (Some i) inside = single_early r (word i) i (inside i refl)
+
+pub early_mdt_said : (r : RingView) (p : Past) → p.now.phase < 3 → 1 ≤ p.now.phase → ((i : ℕ) → p.now.addressed ≡ Some i → i < length r.drives) → IsEarlyIf (wishes_of r) (mdt_said (known_of r) p)
+early_mdt_said r p low some inside = first (p.now.phase == 1) refl
+  where
+    second : (b : Bool) → (p.now.phase == 1) ≡ false → (p.now.phase == 2) ≡ b
+        → IsEarlyIf (wishes_of r) (if b then option_map (λ i. single (known_of r) (said_to p i) i) p.now.addressed else (if nat_le 3 p.now.phase then option_map (joint (known_of r) p) p.plan else None))
+    second true not_one is = early_if r (said_to p) p.now.addressed inside
+    second false not_one is = absurd (let no : ⊥ = grind (arith, nat_tests, low, some, not_one, is) in no)
+
+    first : (b : Bool) → (p.now.phase == 1) ≡ b
+        → IsEarlyIf (wishes_of r) (if b then option_map (single (known_of r) idle) p.now.addressed else (if p.now.phase == 2 then option_map (λ i. single (known_of r) (said_to p i) i) p.now.addressed
+        else (if nat_le 3 p.now.phase then option_map (joint (known_of r) p) p.plan else None)))
+    first true is = early_if r (λ i. idle) p.now.addressed inside
+    first false is = second (p.now.phase == 2) is refl
+
+pub none_in_zero : (s : Known) (p : Past) → p.now.phase ≡ 0 → mdt_said s p ≡ None
+none_in_zero s p is = rw is refl

@@ -1,0 +1,203 @@
+-- The trace of a run is a clean capture that begins with cycle 0.
+use Rattle.std.proofs.Common.{◌≡◌, ◌⊎◌, inl, inr, ℕ, zero, suc, ◌<◌, ◌≤◌, nat_le, true, false, not, List, [], ◌∷◌, ◌++◌, length, map, reverse, Option, Some, None, slice_index_or, refl, sym, ◌∙◌, ap, subst, arith, append-nil}
+use Rattle.std.specs.Prelude.{option_and_then}
+use Rattle.std.specs.List.{All, flat_map}
+use Rattle.std.specs.Option.{option_or}
+use Rattle.std.proofs.lemmas.Bool.{and_parts}
+use Rattle.std.proofs.lemmas.Bool.Decides.{nat_tests}
+use Rattle.std.proofs.lemmas.List.Elements.{All-nil, All-cons}
+use Rattle.sercos_timing.specs.Valid.{IsValid, IsWish, is_address}
+use Rattle.sercos_timing.specs.Views.{WishesView}
+use Rattle.sercos_step.specs.declared.request.Job.{Job}
+use Rattle.sercos_block.specs.Rings.{is_drive, are_drives, are_drive_numbers, has_address, has_drive_numbers, wishes_of, wish_of}
+use Rattle.sercos_block.specs.ValidRings.{AreWithinLimits}
+use Rattle.sercos_block.specs.Views.{DriveView, RingView}
+use Rattle.sercos_trace.specs.declared.reading.Line.{Line}
+use Rattle.sercos_trace.specs.declared.reading.Line.TheVariants as line
+use Rattle.sercos_trace.specs.declared.record.Totals.{Totals}
+use Rattle.sercos_trace.specs.Lines.{ReadsBack}
+use Rattle.sercos_trace.specs.Texts.{cycle_text, header_text, end_text, trace_of}
+use Rattle.sercos_trace.specs.Views.{SentView, CycleView}
+use Rattle.sercos_check.specs.Shape.{has_head}
+use Rattle.sercos_check.specs.Tests.{TellsFollowing}
+use Rattle.sercos_checking.specs.declared.verdict.Verdict.TheVariants.{Clean}
+use Rattle.sercos_checking.specs.Checking.{read_as, capture_fault, first_violation, verdict_by, verdict_of}
+use Rattle.sercos_answer.specs.Lines as answer
+use Rattle.sercos_law_run.proofs.Theorems.{wish_is, drives_so, address_of, ring_timed, Laws, s_known, drive_got, got_inside, MoreLaws, first_store, wishes_count}
+use Rattle.sercos_script.specs.Links.{Carry, Restarts}
+use Rattle.sercos_master.specs.Says.{mst_said}
+use Rattle.sercos_law_run.specs.Journal.Runs.{no_drive, drive_at, sent_mst, looks_back, begins, ats_next, mdt_next, IsRun}
+use Rattle.sercos_law_run.specs.Held.Opened.{IsOpened}
+use Rattle.sercos_replay.specs.Captured.{lines_with, lines_of, telegrams}
+use Rattle.sercos_replay.specs.Stations.{lines_after, lines_read, kind_cycle, mst_cycle}
+use Rattle.sercos_replay.specs.Replaying.{first_cycle, late, late_start}
+use Rattle.sercos_replay.specs.Traced.{FitLines, ReadsTraces}
+use Rattle.sercos_replay.proofs.TracedLemmas.{reads_traces}
+use Rattle.sercos_law_trace.specs.Clean.Ruled.{told_in, KeepRules}
+use Rattle.sercos_law_trace.specs.Clean.Fields.{FitOthers}
+use Rattle.sercos_law_trace.specs.Clean.Traces.{TracesAreClean}
+use Rattle.sercos_law_trace.proofs.Clean.PassLemmas.{Leads, leads_both}
+use Rattle.sercos_law_trace.proofs.Clean.LineLeads.{Stands, journal_leads, end_leads}
+use Rattle.sercos_law_trace.proofs.Clean.HeadLeads.{FitsDrive, FitsHead, header_leads}
+use Rattle.sercos_law_trace.proofs.Clean.RunRules.{runs_keep_rules, cycle_low}
+use Rattle.sercos_law_trace.proofs.Clean.FitRuns.{runs_fit_lines}
+
+-- THE VERDICT
+ended : (lines : List Line) → has_head lines ≡ true → capture_fault lines [] ≡ None
+unfolding capture_fault
+ended lines has = rw has refl
+
+no_violation : (lines : List Line) → first_violation lines [] ≡ None
+unfolding first_violation
+no_violation lines = refl
+
+no_lines : answer.lines_of [] ≡ []
+unfolding answer.lines_of
+no_lines = refl
+
+verdict_so : (text : List ℕ) → capture_fault [] (answer.lines_of text) ≡ None → first_violation [] (answer.lines_of text) ≡ None → verdict_of text ≡ Clean (length (answer.lines_of text))
+unfolding verdict_of verdict_by
+verdict_so text fault violation = rw (fault, violation) refl
+
+clean_text : TellsFollowing → ReadsBack → (w : WishesView) (j : List CycleView) (t : Totals) → IsValid w → FitsHead w → FitLines j → FitOthers w j t → KeepRules w (told_in j)
+    → verdict_of (trace_of w (reverse j) t) ≡ Clean (length (answer.lines_of (trace_of w (reverse j) t)))
+clean_text tells law w j t valid head fit others kept =
+    let text = trace_of w (reverse j) t in
+    let all : Leads (trace_of w (reverse j) t) (λ lines. lines ≡ []) (λ lines. has_head lines ≡ true) =
+    leads_both (header_text w) (flat_map (cycle_text w) (reverse j) ++ end_text t) (λ lines. lines ≡ []) (Stands w []) (λ lines. has_head lines ≡ true) (header_leads tells law w valid head)
+    (leads_both (flat_map (cycle_text w) (reverse j)) (end_text t) (Stands w []) (Stands w (told_in j)) (λ lines. has_head lines ≡ true) (journal_leads tells law w j fit others.cycles kept) (end_leads tells law w t (told_in j) others.totals)) in
+    let goes = all [] refl in
+    verdict_so text
+    (ap (λ l. capture_fault [] (answer.lines_of l)) (sym (append-nil text)) ∙ goes.fault [] ∙ ap (capture_fault goes.after) no_lines ∙ ended goes.after goes.holds)
+    (ap (λ l. first_violation [] (answer.lines_of l)) (sym (append-nil text)) ∙ goes.violation [] ∙ ap (first_violation goes.after) no_lines ∙ no_violation goes.after)
+
+-- THE FIRST CYCLE of the lines, the newest of which comes first
+abbrev oldest : List Line → Option ℕ
+oldest [] = None
+oldest (l ∷ before) = option_or (oldest before) (mst_cycle l)
+
+or_nothing : (o : Option ℕ) → option_or o None ≡ o
+or_nothing None = refl
+or_nothing (Some x) = refl
+
+or_more : (a b c : Option ℕ) → option_or a (option_or b c) ≡ option_or (option_or a b) c
+or_more None b c = refl
+or_more (Some x) b c = refl
+
+first_after : (texts : List (List ℕ)) (before : List Line) → option_or (oldest before) (first_cycle texts) ≡ oldest (lines_after before texts)
+unfolding first_cycle lines_after
+first_after [] before = or_nothing (oldest before)
+first_after (text ∷ texts) before = or_more (oldest before) (mst_cycle (read_as text)) (first_cycle texts) ∙ first_after texts (read_as text ∷ before)
+
+oldest_telegrams : (lines : List Line) → oldest lines ≡ oldest (telegrams lines)
+unfolding telegrams mst_cycle
+oldest_telegrams [] = refl
+oldest_telegrams (line.Version ∷ lines) = or_nothing (oldest lines) ∙ oldest_telegrams lines
+oldest_telegrams (line.Ring rate cycle control gap drives ∷ lines) = or_nothing (oldest lines) ∙ oldest_telegrams lines
+oldest_telegrams (line.Drive wish ∷ lines) = or_nothing (oldest lines) ∙ oldest_telegrams lines
+oldest_telegrams (line.Order addresses ∷ lines) = or_nothing (oldest lines) ∙ oldest_telegrams lines
+oldest_telegrams (line.Telegram cycle sent ∷ lines) = ap (λ (o : Option ℕ). option_or o (kind_cycle sent.kind cycle)) (oldest_telegrams lines)
+oldest_telegrams (line.Other ∷ lines) = or_nothing (oldest lines) ∙ oldest_telegrams lines
+oldest_telegrams (line.End ∷ lines) = or_nothing (oldest lines) ∙ oldest_telegrams lines
+
+stays_oldest : (cycle x : ℕ) (sent : List SentView) (lines : List Line) → oldest lines ≡ Some x → oldest (lines_with cycle sent lines) ≡ Some x
+stays_oldest cycle x [] lines is = is
+stays_oldest cycle x (s ∷ sent) lines is = stays_oldest cycle x sent (line.Telegram cycle s ∷ lines) (ap (λ (o : Option ℕ). option_or o (mst_cycle (line.Telegram cycle s))) is)
+
+mst_first : (cycle : ℕ) (content : List ℕ) (ats rest : List SentView) → oldest (lines_with cycle ((sent_mst content ∷ ats) ++ rest) []) ≡ Some cycle
+unfolding mst_cycle kind_cycle
+mst_first cycle content ats rest = stays_oldest cycle cycle (ats ++ rest) (line.Telegram cycle (sent_mst content) ∷ []) refl
+
+module _ (r : RingView) (jobs : List Job) (carry : Carry) (restarts : Restarts) where
+  from_zero : (t : CycleView) (j : List CycleView) → IsRun r jobs carry restarts (t ∷ j) → oldest (lines_of (t ∷ j)) ≡ Some 0
+  from_zero t [] run =
+      ap (λ (l : List SentView). oldest (lines_with t.cycle l [])) run.1.sent
+      ∙ mst_first t.cycle (mst_said (looks_back r jobs (begins r carry restarts []))) (ats_next r carry restarts t.sent []) (mdt_next r jobs carry restarts t.sent []) ∙ ap Some run.1.cycle
+  from_zero t (u ∷ j) run = stays_oldest t.cycle 0 t.sent (lines_of (u ∷ j)) (from_zero u j run.0)
+
+  not_late : (j : List CycleView) → IsRun r jobs carry restarts j → option_and_then late (oldest (lines_of j)) ≡ None
+  unfolding late
+  not_late [] run = refl
+  not_late (t ∷ j) run = ap (option_and_then late) (from_zero t j run)
+
+  starts_so : ReadsTraces → (w : WishesView) (j : List CycleView) (t : Totals) → IsRun r jobs carry restarts j → FitLines j → late_start (trace_of w (reverse j) t) ≡ None
+  unfolding late_start lines_read
+  starts_so reads w j t run fit =
+      let texts = answer.lines_of (trace_of w (reverse j) t) in
+      let found : first_cycle (answer.lines_of (trace_of w (reverse j) t)) ≡ oldest (lines_of j) =
+      first_after texts [] ∙ oldest_telegrams (lines_read (trace_of w (reverse j) t)) ∙ ap oldest (reads w j t fit) ∙ sym (oldest_telegrams (lines_of j)) in
+      ap (option_and_then late) found ∙ not_late j run
+
+-- THE HEAD of a ring
+slave_low : (before drives : List DriveView) (k : ℕ) → are_drives before drives ≡ true → k < length drives → (slice_index_or drives k no_drive).slave ≤ 254
+unfolding are_drives is_drive are_drive_numbers
+slave_low before [] k are below = absurd (omega (arith, below))
+slave_low before (d ∷ drives) zero are below =
+    let one = (and_parts (is_drive before d) (are_drives (before ++ d ∷ []) drives) are).0 in
+    let numbers = (and_parts (has_drive_numbers d) _ (and_parts (not (has_address d.address before)) _ one).1).0 in
+    let slave = (and_parts (is_address d.slave) _ (and_parts (is_address d.address) _ numbers).1).0 in
+    let low = (and_parts (nat_le 1 d.slave) (nat_le d.slave 254) slave).1 in
+    grind (arith, nat_tests, low)
+slave_low before (d ∷ drives) (suc k) are below = slave_low (before ++ d ∷ []) drives k (and_parts (is_drive before d) (are_drives (before ++ d ∷ []) drives) are).1 (omega (arith, below))
+
+all_wishes : (drives : List DriveView) → ((k : ℕ) → k < length drives → FitsDrive (wish_of (slice_index_or drives k no_drive))) → All FitsDrive (map wish_of drives)
+all_wishes [] each = All-nil FitsDrive
+all_wishes (d ∷ drives) each = All-cons FitsDrive (wish_of d) (map wish_of drives) (each 0 (omega arith)) (all_wishes drives (λ k low. each (suc k) (omega (arith, low))))
+
+module _ (laws : Laws) (more : MoreLaws) (r : RingView) (jobs : List Job) (opened : IsOpened r jobs) where
+  pub valid : IsValid (wishes_of r)
+  valid = more.stop_laws.ring_valid r opened.valid (λ k d got.
+      let (low, same) = got_inside r.drives k d got in
+      let typed = opened.typed k low in
+      (subst (λ (x : DriveView). length x.at ≤ 16) (sym same) typed.at, subst (λ (x : DriveView). length x.mdt ≤ 16) (sym same) typed.mdt))
+
+  wish_fits : (k : ℕ) → k < length r.drives → FitsDrive (wish_of (drive_at r k))
+  wish_fits k below =
+      let address = (address_of r k opened.valid below).1 in
+      let slave = slave_low [] r.drives k (drives_so r opened.valid) below in
+      let times : AreWithinLimits (drive_at r k).times = (laws.ring r opened.valid).times k no_drive below in
+      let count = wishes_count r in
+      let is : IsWish (wish_of (drive_at r k)) = subst IsWish (wish_is r k (drive_at r k) (drive_got r k below)) (valid.drives.wishes k (omega (arith, below, count))) in
+      let a = times.t1min in let b = times.tatmt in let c = times.t4min in let d = times.tatat in let e = times.tmtsy in let f = times.tmtsg in
+      let g = is.at_len.1 in let h = is.record_len.1 in
+      record {
+        address = omega (arith, address);
+        slave = omega (arith, slave);
+        t1min = omega (arith, a);
+        tatmt = omega (arith, b);
+        t4min = omega (arith, c);
+        tatat = omega (arith, d);
+        tmtsy = omega (arith, e);
+        tmtsg = omega (arith, f);
+        at_len = omega (arith, g);
+        record_len = omega (arith, h);
+      }
+
+  rate_low : (rate : ℕ) → (rate ≡ 2) ⊎ (rate ≡ 4) ⊎ (rate ≡ 8) ⊎ (rate ≡ 16) → rate ≤ 255
+  rate_low rate (inl is) = omega (arith, is)
+  rate_low rate (inr (inl is)) = omega (arith, is)
+  rate_low rate (inr (inr (inl is))) = omega (arith, is)
+  rate_low rate (inr (inr (inr is))) = omega (arith, is)
+
+  head_fits : FitsHead (wishes_of r)
+  unfolding wishes_of
+  head_fits =
+      let cycle = cycle_low r.cycle valid.cycles.cycle in
+      let known = s_known laws r jobs (λ p bits. None) (λ cycle station. false) opened (first_store laws more r jobs (λ p bits. None) (λ cycle station. false) opened) in
+      let control = (ring_timed r known opened.valid).control in
+      let gap = valid.cycles.gap in
+      record {
+        rate = rate_low r.rate valid.cycles.rate;
+        cycle = omega (arith, cycle);
+        control = omega (arith, control);
+        gap = omega (arith, gap);
+        drives = all_wishes r.drives wish_fits;
+      }
+
+pub traces_are_clean : Laws → MoreLaws → TellsFollowing → ReadsBack → TracesAreClean
+traces_are_clean laws more tells law r jobs carry restarts j t opened run clear few others =
+    let fit = runs_fit_lines laws more r jobs carry restarts j opened run clear few in
+    record {
+      clean = clean_text tells law (wishes_of r) j t (valid laws more r jobs opened) (head_fits laws more r jobs opened) fit others (runs_keep_rules laws more r jobs carry restarts j opened run clear);
+      starts = starts_so r jobs carry restarts (reads_traces law) (wishes_of r) j t run fit;
+    }

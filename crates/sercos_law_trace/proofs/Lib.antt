@@ -1,0 +1,3 @@
+pub mod Told
+pub mod Clean
+pub mod Theorems

@@ -1,0 +1,2 @@
+-- What the crates above cite of the laws on the trace of a run.
+pub use Rattle.sercos_law_trace.proofs.Told.ToldLemmas.{told_more}

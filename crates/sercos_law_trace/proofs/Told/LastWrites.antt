@@ -1,0 +1,131 @@
+-- The last write to a block, from cycle to cycle and through all epochs.
+use Rattle.std.proofs.Common.{◌≡◌, ℕ, Bool, true, false, not, List, [], ◌∷◌, ◌++◌, map, Option, Some, None, refl, sym, ap, ◌∙◌, subst, if◌then◌else◌, append_assoc}
+use Rattle.std.specs.Prelude.{◌==◌, is_some, IfSome}
+use Rattle.std.specs.List.{list_all}
+use Rattle.std.proofs.lemmas.Bool.{and_parts}
+use Rattle.sercos_idn.specs.declared.idn.Idn.{Idn}
+use Rattle.sercos_step.specs.declared.request.Request.{Request}
+use Rattle.sercos_step.specs.declared.request.Request.TheVariants as request
+use Rattle.sercos_step.specs.declared.request.Outcome.{Outcome}
+use Rattle.sercos_step.specs.declared.request.Outcome.TheVariants as outcome
+use Rattle.sercos_step.specs.declared.step.Answer.{Answer}
+use Rattle.sercos_step.specs.Steps.{outcome_of}
+use Rattle.sercos_block.specs.declared.block.Block.{Block}
+use Rattle.sercos_block.specs.Stores.{find_block}
+use Rattle.sercos_service_drive.specs.Log.{Entry}
+use Rattle.sercos_service_drive.specs.Writes.{Write}
+use Rattle.sercos_service_master.specs.Begun.{Begun, open_in, step_at, answers_it, answer_in, with_answer}
+use Rattle.sercos_law_channel.specs.Handshake.Transfers.{stored}
+use Rattle.sercos_law_channel.specs.Handshake.Views.{Heard, View}
+use Rattle.sercos_law_channel.specs.Handshake.Epochs.{with_heard, with_begun, unless_restart, epoch_begun, begun_in}
+use Rattle.sercos_law_channel.specs.Handshake.WholeRun.{leaving, begun_ago, all_begun}
+use Rattle.sercos_law_channel.specs.Handshake.Exact.{Given, given_of, written_to, given_by, AreWrites, Complete, Refused, Broken, AreExact}
+use Rattle.sercos_law_channel.specs.Handshake.Values.{newest_to, GiveElsewhere}
+use Rattle.sercos_law_run.specs.Agenda.Writes.{IsWrittenLast}
+use Rattle.sercos_law_channel.proofs.Theorems.{elsewhere, all-drop, own_one}
+
+-- a request gives nothing to the number
+abbrev pub Elsewhere : ℕ → List Block → Request → Type 0
+Elsewhere raw blocks r = list_all (λ (g : Given). not (g.raw == raw)) (given_by blocks r) ≡ true
+
+-- The newest write.
+own_elsewhere : (raw : ℕ) (blocks : List Block) (b : Begun) (own : List Write) → AreWrites blocks b own → Elsewhere raw blocks b.request → list_all (λ (g : Given). not (g.raw == raw)) (map given_of own) ≡ true
+own_elsewhere raw blocks b own (Complete bytes complete is) all = ap (list_all (λ (g : Given). not (g.raw == raw))) is ∙ all
+own_elsewhere raw blocks b own (Refused code refused none) all = ap (λ (l : List Write). list_all (λ (g : Given). not (g.raw == raw)) (map given_of l)) none
+own_elsewhere raw blocks b own (Broken later on is) all = ap (list_all (λ (g : Given). not (g.raw == raw))) is ∙ all-drop raw later (given_by blocks b.request) all
+
+module _ (blocks : List Block) (older : List Begun) (b : Begun) (idn : Idn) (bytes whole : List ℕ) (block : Block) (is : b.request ≡ request.Write idn 7 bytes) (complete : outcome_of b.request b.answers ≡ Some (outcome.Complete whole)) (found : find_block idn.raw blocks ≡ Some block) where
+  own_newest : (own others : List Write) → AreWrites blocks b own → newest_to idn.raw (own ++ others) ≡ Some (stored block bytes)
+  own_newest own others (Complete x y given) = own_one idn.raw (stored block bytes) own others (given ∙ ap (given_by blocks) is ∙ ap (written_to idn.raw bytes) found)
+  own_newest own others (Refused code refused none) = absurd (cc)
+  own_newest own others (Broken later on given) = absurd (cc)
+
+  newest_of : (newer : List Begun) (entries : List Entry) (writes : List Write) → AreExact blocks (newer ++ b ∷ older) entries writes → GiveElsewhere idn.raw blocks newer → newest_to idn.raw writes ≡ Some (stored block bytes)
+  newest_of [] entries writes (part, rest, own, others, of_entries, of_writes, exact, behind) away = ap (newest_to idn.raw) of_writes ∙ own_newest own others exact.writes
+  newest_of (x ∷ newer) entries writes (part, rest, own, others, of_entries, of_writes, exact, behind) away =
+      ap (newest_to idn.raw) of_writes ∙ elsewhere idn.raw own others (own_elsewhere idn.raw blocks x own exact.writes away.1) ∙ newest_of newer rest others behind away.0
+
+pub newest_last : (blocks : List Block) (begun : List Begun) (idn : Idn) (bytes : List ℕ) (block : Block) (entries : List Entry) (writes : List Write) → find_block idn.raw blocks ≡ Some block → AreExact blocks begun entries writes
+    → IsWrittenLast blocks begun idn bytes → newest_to idn.raw writes ≡ Some (stored block bytes)
+newest_last blocks begun idn bytes block entries writes found exact last =
+    newest_of blocks last.older last.one idn bytes last.whole block last.asks last.complete found last.newer entries writes (subst (λ (l : List Begun). AreExact blocks l entries writes) last.split exact) last.away
+
+-- From cycle to cycle.
+module _ (blocks : List Block) (idn : Idn) (bytes : List ℕ) where
+  abbrev Last : List Begun → Type 0
+  Last begun = IsWrittenLast blocks begun idn bytes
+
+  last_begun : (o : Option Request) (xs rest : List Begun) → IfSome o (Elsewhere idn.raw blocks) → Last (xs ++ rest) → Last (with_begun o xs ++ rest)
+  last_begun None xs rest away last = last
+  last_begun (Some q) xs rest away last = record {
+    newer = (record { request = q; answers = [] }) ∷ last.newer;
+    one = last.one;
+    older = last.older;
+    split = ap (λ (l : List Begun). (record { request = q; answers = [] }) ∷ l) last.split;
+    asks = last.asks;
+    whole = last.whole;
+    complete = last.complete;
+    away = (last.away, away);
+  }
+
+  never_open : (q : Request) (answers : List Answer) (o : Outcome) → outcome_of q answers ≡ Some o → is_some (step_at q answers) ≡ true → ⊥
+  never_open q answers o ended opened = let none : is_some (step_at q answers) ≡ false = rw ended refl in absurd (cc)
+
+  one_answer : (a : Answer) (x : Begun) (xs newer older : List Begun) (one : Begun) (whole : List ℕ) → is_some (step_at x.request x.answers) ≡ true → x ∷ xs ≡ newer ++ one ∷ older → one.request ≡ request.Write idn 7 bytes
+      → outcome_of one.request one.answers ≡ Some (outcome.Complete whole) → GiveElsewhere idn.raw blocks newer → Last (record x { answers = a ∷ x.answers } ∷ xs)
+  one_answer a x xs [] older one whole opened split asks complete away =
+      let same : one ≡ x = cc in
+      absurd (never_open x.request x.answers (outcome.Complete whole) (subst (λ (b : Begun). outcome_of b.request b.answers ≡ Some (outcome.Complete whole)) same complete) opened)
+  one_answer a x xs (y ∷ newer) older one whole opened split asks complete away =
+      let same : y ≡ x = cc in
+      let rest : xs ≡ newer ++ one ∷ older = cc in record {
+        newer = record x { answers = a ∷ x.answers } ∷ newer;
+        one = one;
+        older = older;
+        split = ap (λ (l : List Begun). record x { answers = a ∷ x.answers } ∷ l) rest;
+        asks = asks;
+        whole = whole;
+        complete = complete;
+        away = (away.0, subst (λ (b : Begun). Elsewhere idn.raw blocks b.request) same away.1);
+      }
+
+  last_answer : (a : Answer) (xs rest : List Begun) → is_some (open_in xs) ≡ true → Last (xs ++ rest) → Last (with_answer a xs ++ rest)
+  last_answer a [] rest opened last = last
+  last_answer a (x ∷ xs) rest opened last = one_answer a x (xs ++ rest) last.newer last.older last.one last.whole opened last.split last.asks last.complete last.away
+
+  last_heard : (h : Option Heard) (xs rest : List Begun) → Last (xs ++ rest) → Last (with_heard h xs ++ rest)
+  last_heard None xs rest last = last
+  last_heard (Some h) xs rest last = by (answers_it xs h.status) refl
+    where
+      by : (b : Bool) → answers_it xs h.status ≡ b → Last ((if b then with_answer (answer_in h.status h.word) xs else xs) ++ rest)
+      by true on = last_answer (answer_in h.status h.word) xs rest (and_parts (is_some (open_in xs)) _ on).0 last
+      by false off = last
+
+  both_begun : (falls : Bool) (xs ago : List Begun) → (if falls then [] else xs) ++ leaving falls xs ago ≡ xs ++ ago
+  both_begun true xs ago = refl
+  both_begun false xs ago = refl
+
+  -- a cycle in which nothing is begun that gives anything to the number
+  pub last_next : (v : View) (past : List View) → IfSome v.begins (Elsewhere idn.raw blocks) → IsWrittenLast blocks (all_begun past) idn bytes → IsWrittenLast blocks (all_begun (v ∷ past)) idn bytes
+  last_next v past away last =
+      let ago : List Begun = leaving v.master_restarts (epoch_begun past) (begun_ago past) in
+      subst (λ (l : List Begun). IsWrittenLast blocks l idn bytes) (sym (both_begun v.falls (begun_in v past) ago))
+      (last_begun v.begins (with_heard v.heard (unless_restart v (epoch_begun past))) ago away (by v.master_restarts))
+    where
+      by : (b : Bool) → Last (with_heard v.heard (if b then [] else epoch_begun past) ++ leaving b (epoch_begun past) (begun_ago past))
+      by true = last_heard v.heard [] (epoch_begun past ++ begun_ago past) last
+      by false = last_heard v.heard (epoch_begun past) (begun_ago past) last
+
+  -- the cycle in which it is told
+  pub last_now : (v : View) (past : List View) → IsWrittenLast blocks (begun_in v past) idn bytes → IsWrittenLast blocks (all_begun (v ∷ past)) idn bytes
+  last_now v past last =
+      let ago : List Begun = leaving v.master_restarts (epoch_begun past) (begun_ago past) in record {
+        newer = last.newer;
+        one = last.one;
+        older = last.older ++ ago;
+        split = both_begun v.falls (begun_in v past) ago ∙ ap (λ (l : List Begun). l ++ ago) last.split ∙ append_assoc last.newer (last.one ∷ last.older) ago;
+        asks = last.asks;
+        whole = last.whole;
+        complete = last.complete;
+        away = last.away;
+      }

@@ -1,0 +1,184 @@
+-- Which requests still wait after a request has ended, and which were begun after it.
+use Rattle.std.proofs.Common.{◌≡◌, inl, inr, ℕ, zero, suc, ◌+◌, ◌<◌, ◌≤◌, Bool, true, false, List, [], ◌∷◌, ◌++◌, length, Option, Some, None, refl, sym, ap, ◌∙◌, subst, arith, if◌then◌else◌}
+use Rattle.std.specs.Prelude.{drop, is_some, slice_get}
+use Rattle.std.proofs.lemmas.List.{drop-drop}
+use Rattle.sercos_step.specs.declared.request.Outcome.{Outcome}
+use Rattle.sercos_step.specs.Steps.{outcome_of}
+use Rattle.sercos_timing.specs.Views.{PlanView}
+use Rattle.sercos_service_master.specs.Begun.{Begun}
+use Rattle.sercos_seat.specs.Ring.{Known, Task, member}
+use Rattle.sercos_seat.specs.Agenda.{reads_count, is_ready}
+use Rattle.sercos_seat.specs.Channel.{Report, count_requests, outcomes_in}
+use Rattle.sercos_master.specs.Annals.{Call, past}
+use Rattle.sercos_law_run.specs.Agenda.Channels.{Channel, channel_at, beginning, Steps, Stays, Identifies, Hears, Plans, Begins, Moves, Within, Ends, Falls, newest, AreMoves, CallsAreMoves}
+use Rattle.sercos_law_run.specs.Agenda.Tasks.{IsTask, OfReads, OfWrites, Checks3, Lists3, Checks4, Lists4, OfWaiting, AreBegunTasks}
+use Rattle.sercos_law_run.specs.Agenda.Reported.{AreNumbered, Ascend, IsReportOf}
+use Rattle.sercos_law_run.proofs.Theorems.{count_so}
+use Rattle.sercos_master.proofs.Laws.{get_dropped}
+use Rattle.sercos_law_trace.proofs.Told.FewTasks.{ready_more}
+
+none≢some : {A : Type 0} {x : A} → None ≡ Some x → ⊥
+none≢some e = cc
+
+-- THE NUMBERS of the requests to a drive ascend.
+pub record IsAbove (n : ℕ) (t : Task) : Type 0 where
+  pub number : ℕ
+  pub is : t.number ≡ Some number
+  pub above : n < number
+
+at_least : (i : ℕ) (tasks : List Task) (b : ℕ) (u : Task) → Ascend i tasks → slice_get tasks b ≡ Some u → (y : ℕ) × (u.number ≡ Some y) × (i ≤ y)
+at_least i [] b u are got = absurd (none≢some got)
+at_least i (t ∷ tasks) zero u (n, is, low, rest) got = let same : t ≡ u = cc in (n, ap (λ (x : Task). x.number) (sym same) ∙ is, low)
+at_least i (t ∷ tasks) (suc b) u (n, is, low, rest) got = let (y, named, least) = at_least (n + 1) tasks b u rest got in (y, named, omega (arith, low, least))
+
+one_number : (o : Option ℕ) (x y : ℕ) → o ≡ Some x → o ≡ Some y → x ≡ y
+one_number o x y a b = let e : Some x ≡ Some y = sym a ∙ b in cc
+
+pub later_above : (i : ℕ) (tasks : List Task) (a b n : ℕ) (t u : Task) → Ascend i tasks → slice_get tasks a ≡ Some t → slice_get tasks b ≡ Some u → a < b → t.number ≡ Some n → IsAbove n u
+later_above i [] a b n t u are first second less named = absurd (none≢some first)
+later_above i (x ∷ tasks) zero zero n t u are first second less named = absurd (omega (arith, less))
+later_above i (x ∷ tasks) zero (suc b) n t u (m, is, low, rest) first second less named =
+    let same : x ≡ t = cc in
+    let number : m ≡ n = one_number t.number m n (ap (λ (y : Task). y.number) (sym same) ∙ is) named in
+    let (y, got, least) = at_least (m + 1) tasks b u rest second in
+    record { number = y; is = got; above = omega (arith, number, least) }
+later_above i (x ∷ tasks) (suc a) zero n t u are first second less named = absurd (omega (arith, less))
+later_above i (x ∷ tasks) (suc a) (suc b) n t u (m, is, low, rest) first second less named = later_above (m + 1) tasks a b n t u rest first second (omega (arith, less)) named
+
+-- WHAT WAITS is above a number.
+abbrev pub AreAbove : ℕ → List Task → Type 0
+AreAbove n tasks = (i : ℕ) (t : Task) → slice_get tasks i ≡ Some t → IsAbove n t
+
+above_drop : (n c : ℕ) (tasks : List Task) → AreAbove n tasks → AreAbove n (drop c tasks)
+above_drop n c tasks are i t got = are (c + i) t (sym (get_dropped c tasks i) ∙ got)
+
+-- the requests that still wait on a channel
+abbrev pub still : Channel → List Task
+still c = drop (count_requests c.tasks) c.waiting
+
+above_begin : (n : ℕ) (t : Task) (c : Channel) → AreAbove n (still c) → AreAbove n (still (beginning t c))
+above_begin n t c are = by (is_some t.number)
+  where
+    by : (b : Bool) → AreAbove n (drop (if b then count_requests c.tasks + 1 else count_requests c.tasks) c.waiting)
+    by true = subst (AreAbove n) (drop-drop 1 (count_requests c.tasks) c.waiting) (above_drop n 1 (still c) are)
+    by false = are
+
+above_step : (s : Known) (k n : ℕ) (c d : Channel) → Steps s k c d → AreAbove n (still c) → AreAbove n (still d)
+above_step s k n c d (Stays is) are = subst (λ (x : Channel). AreAbove n (still x)) (sym is) are
+above_step s k n c d (Identifies is) are = subst (λ (x : Channel). AreAbove n (still x)) (sym is) are
+above_step s k n c d (Hears status word unheard is) are = subst (λ (x : Channel). AreAbove n (still x)) (sym is) are
+above_step s k n c d (Plans plan none two is) are = subst (λ (x : Channel). AreAbove n (still x)) (sym is) are
+above_step s k n c d (Begins t next is) are = subst (λ (x : Channel). AreAbove n (still x)) (sym is) (above_begin n t c are)
+
+above_move : (s : Known) (k n : ℕ) (c d : Channel) → Moves s k c d → AreAbove n (still c) → AreAbove n (still d)
+above_move s k n c d (Within step) are = above_step s k n c d step are
+above_move s k n c d (Ends rises done is) are = subst (λ (x : Channel). AreAbove n (still x)) (sym is) are
+above_move s k n c d (Falls is) are = subst (λ (x : Channel). AreAbove n (still x)) (sym is) are
+
+above_moves : (s : Known) (k n : ℕ) (c : Channel) (channels : List Channel) → AreMoves s k c channels → AreAbove n (still c) → AreAbove n (still (newest c channels))
+above_moves s k n c [] moves are = are
+above_moves s k n c (d ∷ channels) moves are = above_move s k n (newest c channels) d moves.1 (above_moves s k n c channels moves.0 are)
+
+-- and stays so with each call
+pub above_call : CallsAreMoves → (s : Known) (requests : ℕ → List Task) (k n : ℕ) → k < length s.drives → (call : Call) (h : List Call) → AreAbove n (still (channel_at (past s requests h) k))
+    → AreAbove n (still (channel_at (past s requests (call ∷ h)) k))
+above_call calls s requests k n below call h are =
+    let (channels, moves, is) = calls s requests call h k below in
+    subst (λ (x : Channel). AreAbove n (still x)) (sym is) (above_moves s k n (channel_at (past s requests h) k) channels moves are)
+
+-- A REQUEST THAT HAS ENDED, and those begun after it in its epoch: they were waiting after it.
+abbrev pub AreLater : List Task → ℕ → List Begun → Type 0
+AreLater waiting j [] = Unit {0}
+AreLater waiting j (b ∷ newer) = AreLater waiting j newer × ((i : ℕ) × (t : Task) × (j < i) × (slice_get waiting i ≡ Some t) × (b.request ≡ t.request))
+
+pub record HasEnded (s : Known) (k : ℕ) (waiting : List Task) (begun : List Begun) (tasks : List Task) (x : Report) : Type 0 where
+  pub newer : List Begun
+  pub one : Begun
+  pub older : List Begun
+  pub split : begun ≡ newer ++ one ∷ older
+  pub task : Task
+  pub number : task.number ≡ Some x.number
+  pub asks : one.request ≡ task.request
+  pub ended : outcome_of one.request one.answers ≡ Some x.outcome
+  pub place : ℕ
+  pub got : slice_get waiting place ≡ Some task
+  pub later : AreLater waiting place newer
+  pub ready : is_ready (member s k) (outcomes_in begun) ≡ true
+  pub late : reads_count (member s k) + 13 ≤ length older
+  pub long : reads_count (member s k) + (13 + place) < length begun
+
+module _ (s : Known) (k : ℕ) (plan : Option PlanView) (waiting : List Task) (phase : ℕ) where
+  record Waited (outcomes : List Outcome) (t : Task) : Type 0 where
+    place : ℕ
+    got : slice_get waiting place ≡ Some t
+    at : length outcomes ≡ reads_count (member s k) + (13 + place)
+    ready : is_ready (member s k) outcomes ≡ true
+
+  numbered_waited : (by_then : Option PlanView) (outcomes : List Outcome) (t : Task) (n : ℕ) → IsTask s k by_then waiting outcomes t → t.number ≡ Some n → Waited outcomes t
+  numbered_waited by_then outcomes t n (OfReads r less got same) number = absurd (none≢some (sym (ap (λ (x : Task). x.number) same) ∙ number))
+  numbered_waited by_then outcomes t n (OfWrites p i r planned less at got same) number = absurd (none≢some (sym (ap (λ (x : Task). x.number) same) ∙ number))
+  numbered_waited by_then outcomes t n (Checks3 p planned at same) number = absurd (none≢some (sym (ap (λ (x : Task). x.number) same) ∙ number))
+  numbered_waited by_then outcomes t n (Lists3 at checked same) number = absurd (none≢some (sym (ap (λ (x : Task). x.number) same) ∙ number))
+  numbered_waited by_then outcomes t n (Checks4 at checked same) number = absurd (none≢some (sym (ap (λ (x : Task). x.number) same) ∙ number))
+  numbered_waited by_then outcomes t n (Lists4 at ready same) number = absurd (none≢some (sym (ap (λ (x : Task). x.number) same) ∙ number))
+  numbered_waited by_then outcomes t n (OfWaiting j at ready got) number = record { place = j; got = got; at = at; ready = ready }
+
+  late_waited : (by_then : Option PlanView) (outcomes : List Outcome) (t : Task) → IsTask s k by_then waiting outcomes t → reads_count (member s k) + 13 < length outcomes → Waited outcomes t
+  late_waited by_then outcomes t (OfReads r less got same) late = absurd (omega (arith, less, late))
+  late_waited by_then outcomes t (OfWrites p i r planned less at got same) late = absurd (omega (arith, less, at, late))
+  late_waited by_then outcomes t (Checks3 p planned at same) late = absurd (omega (arith, at, late))
+  late_waited by_then outcomes t (Lists3 at checked same) late = absurd (omega (arith, at, late))
+  late_waited by_then outcomes t (Checks4 at checked same) late = absurd (omega (arith, at, late))
+  late_waited by_then outcomes t (Lists4 at ready same) late = absurd (omega (arith, at, late))
+  late_waited by_then outcomes t (OfWaiting j at ready got) late = record { place = j; got = got; at = at; ready = ready }
+
+  pub has_ended : (begun : List Begun) (tasks : List Task) (x : Report) → IsReportOf x begun tasks → AreBegunTasks s k plan waiting phase begun tasks → HasEnded s k waiting begun tasks x
+  has_ended [] tasks x of are = absurd of
+  has_ended (b ∷ older) [] x of are = absurd of
+  has_ended (b ∷ older) (t ∷ tasks) x (inl is) are =
+      let w = numbered_waited are.1.by_then (outcomes_in older) t x.number are.1.task is.0 in
+      let ended = are.1.ended in
+      let at = w.at in record {
+        newer = [];
+        one = b;
+        older = older;
+        split = refl;
+        task = t;
+        number = is.0;
+        asks = are.1.asks;
+        ended = is.1;
+        place = w.place;
+        got = w.got;
+        later = tt;
+        ready = ready_more s k (outcomes_in older) (outcome_of b.request b.answers) (omega (arith, at)) ∙ w.ready;
+        late = omega (arith, at, ended);
+        long = omega (arith, at, ended);
+      }
+  has_ended (b ∷ older) (t ∷ tasks) x (inr of) are =
+      let rest = has_ended older tasks x of are.0 in
+      let ended = are.1.ended in
+      let long = rest.long in
+      let w = late_waited are.1.by_then (outcomes_in older) t are.1.task (omega (arith, long, ended)) in
+      let at = w.at in record {
+        newer = b ∷ rest.newer;
+        one = rest.one;
+        older = rest.older;
+        split = ap (λ (l : List Begun). b ∷ l) rest.split;
+        task = rest.task;
+        number = rest.number;
+        asks = rest.asks;
+        ended = rest.ended;
+        place = rest.place;
+        got = rest.got;
+        later = (rest.later, (w.place, t, omega (arith, at, ended, long), w.got, are.1.asks));
+        ready = ready_more s k (outcomes_in older) (outcome_of b.request b.answers) (omega (arith, long, ended)) ∙ rest.ready;
+        late = rest.late;
+        long = omega (arith, long);
+      }
+
+  -- so it doesn't wait any more
+  pub ended_count : AreNumbered waiting → (begun : List Begun) (tasks : List Task) (x : Report) → AreBegunTasks s k plan waiting phase begun tasks → (ended : HasEnded s k waiting begun tasks x) → ended.place < count_requests tasks
+  ended_count have begun tasks x are ended =
+      let count = count_so s k plan waiting have phase begun tasks are ended.ready in
+      let long = ended.long in
+      omega (arith, count, long)

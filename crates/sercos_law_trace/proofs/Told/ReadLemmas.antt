@@ -1,0 +1,193 @@
+-- Complete reads of operation data are exact.
+use Rattle.std.proofs.Common.{◌≡◌, ◌⊎◌, inl, inr, ℕ, ◌+◌, ◌<◌, Bool, true, false, if◌then◌else◌, List, [], ◌∷◌, ◌++◌, length, Some, sym, ap, subst, ◌∙◌, arith}
+use Rattle.std.specs.Prelude.{is_some, slice_get}
+use Rattle.std.proofs.lemmas.List.{length-map}
+use Rattle.sercos_idn.specs.declared.idn.Idn.{Idn}
+use Rattle.sercos_idn.specs.Elements.{data_element}
+use Rattle.sercos_step.specs.declared.request.Request.TheVariants as request
+use Rattle.sercos_step.specs.declared.request.Job.{Job}
+use Rattle.sercos_step.specs.declared.request.Outcome.{Outcome}
+use Rattle.sercos_step.specs.declared.request.Outcome.TheVariants as outcome
+use Rattle.sercos_step.specs.Steps.{outcome_of}
+use Rattle.sercos_block.specs.Stores.{find_block, store_of}
+use Rattle.sercos_block.specs.Views.{RingView}
+use Rattle.sercos_service_master.specs.Begun.{Begun}
+use Rattle.sercos_service_master.specs.Calls.{begun_by}
+use Rattle.sercos_service_drive.specs.Log.{Entry}
+use Rattle.sercos_trace.specs.Views.{CycleView}
+use Rattle.sercos_script.specs.Links.{Carry, Restarts}
+use Rattle.sercos_seat.specs.Ring.{MemberView, Task, member_of, known_of, tasks_for, member}
+use Rattle.sercos_seat.specs.Channel.{Report, number_in}
+use Rattle.sercos_master.specs.Annals.{Past, fall_of, is_idle}
+use Rattle.sercos_master.specs.Reports.{broken, restart_told}
+use Rattle.sercos_master.proofs.InOrder.{still_left}
+use Rattle.sercos_law_run.specs.Agenda.Events.{HasOutcome, HasReport}
+use Rattle.sercos_law_run.specs.Agenda.Reported.{told_at_end}
+use Rattle.sercos_law_channel.specs.Handshake.WholeRun.{all_entries, all_writes}
+use Rattle.sercos_law_channel.specs.Handshake.Exact.{AreExact}
+use Rattle.sercos_service_drive.specs.Writes.{Write}
+use Rattle.sercos_law_channel.specs.Handshake.ReadTransfers.{element_in}
+use Rattle.sercos_law_run.specs.Journal.Runs.{IsRun, IsClear, drive_at, looks_back, middle, master_calls, no_events, restart_events}
+use Rattle.sercos_law_run.specs.Views.RingViews.{behind_mdt, view_of, views_of}
+use Rattle.sercos_law_run.proofs.Theorems.{member_is}
+use Rattle.sercos_law_run.specs.Headline.Headline.{Headline}
+use Rattle.sercos_law_run.specs.Headline.Transfers.{AreReportedIn, IsExactAt}
+use Rattle.sercos_law_trace.specs.Told.Reads.{IsReadFrom, ReadsAreExact}
+use Rattle.sercos_law_trace.proofs.Told.ToldLemmas.{told_cut, not_broken, HasReported, reported_at_end, ended_so, has_waited, request_of}
+use Rattle.sercos_master.proofs.Laws.{get_dropped}
+use Rattle.sercos_law_trace.proofs.Told.EntryLemmas.{HasAccepted, on_store, behind_in, begun_among, one_exact, among_all, accepted_in, accepted_later}
+
+-- the cycles up to one of a run
+pub clear_before : (later j : List CycleView) → IsClear (later ++ j) → IsClear j
+clear_before [] j clear = clear
+clear_before (t ∷ later) j clear = clear_before later j clear.0
+
+pub run_before : (r : RingView) (jobs : List Job) (carry : Carry) (restarts : Restarts) (later j : List CycleView) → IsRun r jobs carry restarts (later ++ j) → IsRun r jobs carry restarts j
+run_before r jobs carry restarts [] j run = run
+run_before r jobs carry restarts (t ∷ later) j run = run_before r jobs carry restarts later j run.0
+
+-- The channel at a place reported what is told as complete.
+pub record IsReportedAt (r : RingView) (jobs : List Job) (carry : Carry) (restarts : Restarts) (t : CycleView) (j : List CycleView) (n : ℕ) (o : Outcome) : Type 0 where
+  pub place : ℕ
+  pub below : place < length r.drives
+  pub reported : HasReported ((behind_mdt r jobs carry restarts t.sent j).now.report place) n o
+
+pub reported_at : (r : RingView) (jobs : List Job) (carry : Carry) (restarts : Restarts) (t : CycleView) (j : List CycleView) (n : ℕ) (bytes : List ℕ) → AreReportedIn r jobs carry restarts t j
+    → HasOutcome t.events.outcomes n (outcome.Complete bytes) → IsReportedAt r jobs carry restarts t j n (outcome.Complete bytes)
+reported_at r jobs carry restarts t j n bytes reported told = by ((reported.events n (outcome.Complete bytes)).0 told)
+  where
+    p : Past
+    p = behind_mdt r jobs carry restarts t.sent j
+
+    count : length (known_of r).drives ≡ length r.drives
+    count = length-map r.drives member_of
+
+    none : HasOutcome [] n (outcome.Complete bytes) → ⊥
+    none has = has
+
+    at_restart : HasOutcome (restart_told (known_of r) (looks_back r jobs (master_calls r carry restarts j)) no_events).outcomes n (outcome.Complete bytes) → ⊥
+    at_restart has =
+        let (k, below, broken) = (reported.at_restart n (outcome.Complete bytes)).0 has in
+        not_broken (is_idle (looks_back r jobs (master_calls r carry restarts j)) k) (number_in ((looks_back r jobs (master_calls r carry restarts j)).tasks k)) n bytes broken
+
+    if_restarts : (b : Bool) → HasOutcome (if b then restart_told (known_of r) (looks_back r jobs (master_calls r carry restarts j)) no_events else no_events).outcomes n (outcome.Complete bytes) → ⊥
+    if_restarts true has = at_restart has
+    if_restarts false has = none has
+
+    by : HasOutcome (restart_events r jobs restarts (length j) (master_calls r carry restarts j)).outcomes n (outcome.Complete bytes)
+        ⊎ ((k : ℕ) × (k < length (known_of r).drives) × HasReport (told_at_end (is_some (fall_of (known_of r) p)) (p.now.report k) (broken p k) []) n (outcome.Complete bytes))
+        → IsReportedAt r jobs carry restarts t j n (outcome.Complete bytes)
+    by (inl has) = absurd (if_restarts (restarts (length j) 0) has)
+    by (inr (k, below, has)) = record {
+      place = k;
+      below = subst (λ m. k < m) count below;
+      reported = reported_at_end (is_some (fall_of (known_of r) p)) (p.now.report k) (is_idle p k) (number_in (p.tasks k)) n bytes has;
+    }
+
+-- It was begun as the request with the number.
+pub record IsBegunAs (r : RingView) (jobs : List Job) (carry : Carry) (restarts : Restarts) (t : CycleView) (j : List CycleView) (k n : ℕ) (o : Outcome) : Type 0 where
+  pub newer : List Begun
+  pub one : Begun
+  pub older : List Begun
+  pub split : begun_by ((behind_mdt r jobs carry restarts t.sent j).calls k) ≡ newer ++ one ∷ older
+  pub ended : outcome_of one.request one.answers ≡ Some o
+  pub task : Task
+  pub is_of : slice_get ((behind_mdt r jobs carry restarts t.sent j).tasks k) (length newer) ≡ Some task
+  pub number : task.number ≡ Some (n + 1)
+  pub job : Job
+  pub there : slice_get jobs n ≡ Some job
+  pub drive : job.drive ≡ (drive_at r k).address
+  pub same : one.request ≡ job.request
+
+pub begun_as : (r : RingView) (jobs : List Job) (carry : Carry) (restarts : Restarts) (t : CycleView) (j : List CycleView) (k n : ℕ) (o : Outcome) → AreReportedIn r jobs carry restarts t j → k < length r.drives
+    → HasReported ((behind_mdt r jobs carry restarts t.sent j).now.report k) (n + 1) o → IsBegunAs r jobs carry restarts t j k n o
+begun_as r jobs carry restarts t j k n o reported below has =
+    let p : Past = behind_mdt r jobs carry restarts t.sent j in
+    let x : Report = has.report in
+    let so = ended_so (known_of r) k p.plan (p.waiting k) p.now.phase (begun_by (p.calls k)) (p.tasks k) x (reported.right k x below has.is) (reported.tasks k below) in
+    let number : so.task.number ≡ Some (n + 1) = so.number ∙ ap Some has.number in
+    let (i, waited) = has_waited (known_of r) k so.by_then (p.waiting k) _ so.task (n + 1) so.is number in
+    let left = still_left (known_of r) (tasks_for (known_of r) jobs) (middle r carry restarts t.sent j) k in
+    let there : slice_get (tasks_for (known_of r) jobs k) (left.0 + i) ≡ Some so.task = sym (get_dropped left.0 (tasks_for (known_of r) jobs k) i) ∙ sym (ap (λ w. slice_get w i) left.1) ∙ waited in
+    let of = request_of (member (known_of r) k).address 1 jobs (left.0 + i) so.task (n + 1) there number in
+    let at = of.at in
+    let place : of.place ≡ n = omega (arith, at) in record {
+      newer = so.newer;
+      one = so.one;
+      older = so.older;
+      split = so.split;
+      ended = so.ended ∙ ap Some has.outcome;
+      task = so.task;
+      is_of = so.at;
+      number = number;
+      job = of.job;
+      there = sym (ap (slice_get jobs) place) ∙ of.there;
+      drive = of.drive ∙ ap (λ (m : MemberView). m.address) (member_is r k);
+      same = so.asks ∙ of.same;
+    }
+
+-- And it read what the drive's store has.
+read_at : (r : RingView) (jobs : List Job) (carry : Carry) (restarts : Restarts) (run later : List CycleView) (t : CycleView) (j : List CycleView) (k n : ℕ) (idn : Idn) (bytes : List ℕ) → k < length r.drives
+    → run ≡ later ++ t ∷ j → HasOutcome t.events.outcomes (n + 1) (outcome.Complete bytes) → IsExactAt r jobs carry restarts t j k → (asked : IsBegunAs r jobs carry restarts t j k n (outcome.Complete bytes))
+    → asked.job.request ≡ request.Read idn data_element → IsReadFrom r jobs carry restarts run n asked.job.drive idn bytes
+read_at r jobs carry restarts run later t j k n idn bytes below cut told exact asked reads =
+    let among = begun_among (view_of r jobs carry restarts k t j) (views_of r jobs carry restarts k j) asked.newer asked.older asked.one (exact.begun_now ∙ asked.split) in
+    let entries : List Entry = all_entries (views_of r jobs carry restarts k j) in
+    let writes : List Write = all_writes (views_of r jobs carry restarts k j) in
+    let one = one_exact (store_of (drive_at r k)) asked.newer among.older asked.one entries writes (subst (λ all. AreExact (store_of (drive_at r k)) all entries writes) among.split exact.before) in
+    let (block, found, selection, behind, is) = one.exact.reads idn data_element bytes (asked.same ∙ reads) asked.ended in
+    let accepted : HasAccepted selection entries = among_all one selection (behind_in _ selection one.part behind) in
+    let inside = accepted_in r jobs carry restarts k j selection accepted in
+    let stored = on_store selection (all_entries (views_of r jobs carry restarts k (t ∷ j))) exact.stored (accepted_later r jobs carry restarts k (t ∷ []) j selection accepted) in record {
+      place = k;
+      below = below;
+      drive = sym asked.drive;
+      since = later;
+      told = t;
+      before = j;
+      up_to = cut;
+      is_told = told;
+      later = asked.newer;
+      begun = asked.one;
+      earlier = among.older;
+      among = among.split;
+      task = asked.task;
+      is_of = asked.is_of;
+      number = asked.number;
+      asked = asked.same ∙ reads;
+      ended = asked.ended;
+      after = one.after;
+      part = one.part;
+      behind = one.behind;
+      accepted = one.split;
+      later_parts = one.later_parts;
+      part_of = one.exact.part_of;
+      earlier_parts = one.earlier_parts;
+      selection = selection;
+      selects = behind;
+      reads = is.reads;
+      element = is.element;
+      newer = inside.newer;
+      cycle = inside.cycle;
+      older = inside.older;
+      cut = inside.cut;
+      at = inside.at;
+      block = is.block;
+      found = sym (ap (find_block idn.raw) inside.blocks) ∙ is.found;
+      gives = is.gives (λ two. stored) ∙ ap (λ c. element_in data_element c is.block) inside.at;
+    }
+
+one_job : (jobs : List Job) (n : ℕ) (a b : Job) → slice_get jobs n ≡ Some a → slice_get jobs n ≡ Some b → a ≡ b
+one_job jobs n a b one two = let same : Some a ≡ Some b = sym one ∙ two in cc
+
+pub reads_exact : Headline → ReadsAreExact
+reads_exact law r jobs carry restarts run n job idn bytes opened is_run clear there reads told =
+    let at = told_cut run (n + 1) (outcome.Complete bytes) told in
+    let run_so = run_before r jobs carry restarts at.later (at.one ∷ at.before) (subst (IsRun r jobs carry restarts) at.cut is_run) in
+    let clear_so = clear_before at.later (at.one ∷ at.before) (subst IsClear at.cut clear) in
+    let keeps = law r jobs carry restarts at.one at.before opened run_so clear_so in
+    let place = reported_at r jobs carry restarts at.one at.before (n + 1) bytes keeps.reported at.told in
+    let asked = begun_as r jobs carry restarts at.one at.before place.place n (outcome.Complete bytes) keeps.reported place.below place.reported in
+    let same : asked.job ≡ job = one_job jobs n asked.job job asked.there there in
+    subst (λ (x : Job). IsReadFrom r jobs carry restarts run n x.drive idn bytes) same
+    (read_at r jobs carry restarts run at.later at.one at.before place.place n idn bytes place.below at.cut at.told (keeps.exact place.place place.below) asked (ap (λ (x : Job). x.request) same ∙ reads))

@@ -1,0 +1,115 @@
+-- No request of the document ends as a complete write to a block that the start-up writes.
+use Rattle.std.proofs.Common.{◌≡◌, inl, inr, ℕ, ◌+◌, ◌<◌, ◌≤◌, Bool, true, false, not, List, [], ◌∷◌, length, Option, Some, refl, sym, ap, ◌∙◌, subst, arith}
+use Rattle.std.specs.Prelude.{is_some, drop, slice_get}
+use Rattle.std.proofs.lemmas.Bool.{and_parts, cases_lt}
+use Rattle.sercos_idn.specs.declared.idn.Idn.{Idn}
+use Rattle.sercos_step.specs.declared.request.Request.TheVariants as request
+use Rattle.sercos_step.specs.declared.request.Job.{Job}
+use Rattle.sercos_step.specs.declared.request.Outcome.TheVariants as outcome
+use Rattle.sercos_block.specs.declared.block.Block.{Block}
+use Rattle.sercos_block.specs.Stores.{find_block, store_of}
+use Rattle.sercos_block.specs.Views.{RingView}
+use Rattle.sercos_service_master.specs.Begun.{Begun}
+use Rattle.sercos_service_master.specs.Calls.{begun_by}
+use Rattle.sercos_seat.specs.Agenda.{reads_count}
+use Rattle.sercos_seat.specs.Ring.{Known, known_of, member, tasks_for}
+use Rattle.sercos_master.specs.Annals.{Call, Past, fall_of, is_done, past}
+use Rattle.sercos_master.proofs.Laws.{get_dropped, jobs_waiting}
+use Rattle.sercos_script.specs.Links.{Carry, Restarts}
+use Rattle.sercos_trace.specs.Views.{CycleView}
+use Rattle.sercos_law_channel.specs.Handshake.Epochs.{begun_in}
+use Rattle.sercos_law_channel.specs.Handshake.Runs.{IsRun as AreNext}
+use Rattle.sercos_law_channel.specs.Handshake.WholeRun.{AreSound, AreSmall}
+use Rattle.sercos_law_channel.proofs.Theorems.{Laws}
+use Rattle.sercos_law_run.proofs.Theorems.{ring_drive, members_count, drive_got}
+use Rattle.sercos_law_run.specs.Journal.Runs.{IsRun, IsClear, drive_at, middle}
+use Rattle.sercos_law_run.specs.Views.RingViews.{behind_mdt, view_of, views_of}
+use Rattle.sercos_law_run.specs.Held.Opened.{IsOpened}
+use Rattle.sercos_law_run.specs.Headline.Headline.{Headline, KeepsAll}
+use Rattle.sercos_law_trace.proofs.Told.ToldLemmas.{HasReported, IsRequestOf, request_of}
+use Rattle.sercos_law_trace.proofs.Told.LaterTasks.{HasEnded, has_ended}
+use Rattle.sercos_law_trace.proofs.Told.GuardedWrites.{AreFewAtRise, HaveEnded, phase_most, never_complete}
+use Rattle.sercos_law_trace.proofs.Told.FewTasks.{few_tasks, few_at_end}
+use Rattle.sercos_law_trace.proofs.Told.StartNumbers.{is_start, start_guarded}
+
+-- the laws below
+pub record StartLaws : Type 0 where
+  pub headline : Headline
+  pub transfers : Laws
+  pub left : (s : Known) (jobs : List Job) (h : List Call) (k : ℕ) → (n : ℕ) × ((past s (tasks_for s jobs) h).waiting k ≡ drop n (tasks_for s jobs k))
+  pub small : (r : RingView) (jobs : List Job) (carry : Carry) (restarts : Restarts) (k : ℕ) → IsOpened r jobs → k < length r.drives → AreSmall (store_of (drive_at r k))
+  pub next : (r : RingView) (jobs : List Job) (carry : Carry) (restarts : Restarts) (j : List CycleView) (k : ℕ) → IsOpened r jobs → IsRun r jobs carry restarts j → IsClear j → k < length r.drives
+      → AreNext (drive_at r k).busy (views_of r jobs carry restarts k j)
+  pub sound : (r : RingView) (jobs : List Job) (carry : Carry) (restarts : Restarts) (j : List CycleView) (k : ℕ) → IsOpened r jobs → IsRun r jobs carry restarts j → IsClear j → k < length r.drives
+      → AreSound (store_of (drive_at r k)) (views_of r jobs carry restarts k j)
+  pub phase : (r : RingView) (jobs : List Job) (carry : Carry) (restarts : Restarts) (t : CycleView) (j : List CycleView) → IsOpened r jobs → IsRun r jobs carry restarts (t ∷ j) → IsClear (t ∷ j)
+      → (behind_mdt r jobs carry restarts t.sent j).now.phase ≡ t.phase
+
+module _ (laws : StartLaws) (r : RingView) (jobs : List Job) (carry : Carry) (restarts : Restarts) (opened : IsOpened r jobs) (k : ℕ) (below : k < length r.drives) where
+  inside : k < length (known_of r).drives
+  inside = let count = members_count r in omega (arith, below, count)
+
+  few_now : (t : CycleView) (j : List CycleView) → KeepsAll r jobs carry restarts t j → (view_of r jobs carry restarts k t j).rises ≡ true
+      → (length (begun_in (view_of r jobs carry restarts k t j) (views_of r jobs carry restarts k j)) ≤ reads_count (member (known_of r) k) + 13) × HaveEnded (begun_in (view_of r jobs carry restarts k t j) (views_of r jobs carry restarts k j))
+  few_now t j keeps on =
+      let p : Past = behind_mdt r jobs carry restarts t.sent j in
+      let done : is_done (known_of r) p ≡ true = (and_parts (not (is_some (fall_of (known_of r) p))) _ on).1 in
+      subst (λ (l : List Begun). (length l ≤ reads_count (member (known_of r) k) + 13) × HaveEnded l) (sym (keeps.exact k below).begun_now)
+      (few_at_end (known_of r) p k inside (jobs_waiting (known_of r) jobs (middle r carry restarts t.sent j) k) (keeps.reported.tasks k below) done)
+
+  fews : (j : List CycleView) → IsRun r jobs carry restarts j → IsClear j → AreFewAtRise (reads_count (member (known_of r) k) + 13) (views_of r jobs carry restarts k j)
+  fews [] run clear = tt
+  fews (t ∷ j) run clear = (fews j run.0 clear.0, few_now t j (laws.headline r jobs carry restarts t j opened run clear))
+
+  -- A WRITE THAT IS TOLD as complete
+  module _ (t : CycleView) (j : List CycleView) (run : IsRun r jobs carry restarts (t ∷ j)) (clear : IsClear (t ∷ j)) (n : ℕ) (job : Job) (idn : Idn) (bytes whole : List ℕ) (b : Block) (there : slice_get jobs n ≡ Some job) (asks : job.request ≡ request.Write idn 7 bytes)
+      (has : HasReported ((behind_mdt r jobs carry restarts t.sent j).now.report k) (n + 1) (outcome.Complete whole)) (found : find_block idn.raw (store_of (drive_at r k)) ≡ Some b) where
+    keeps : KeepsAll r jobs carry restarts t j
+    keeps = laws.headline r jobs carry restarts t j opened run clear
+
+    abbrev now : Past
+    now = behind_mdt r jobs carry restarts t.sent j
+
+    ended : HasEnded (known_of r) k ((behind_mdt r jobs carry restarts t.sent j).waiting k) (begun_by ((behind_mdt r jobs carry restarts t.sent j).calls k)) ((behind_mdt r jobs carry restarts t.sent j).tasks k) has.report
+    ended = has_ended (known_of r) k now.plan (now.waiting k) now.now.phase (begun_by (now.calls k)) (now.tasks k) has.report (keeps.reported.right k has.report below has.is) (keeps.reported.tasks k below)
+
+    number : ended.task.number ≡ Some (n + 1)
+    number = ended.number ∙ ap Some has.number
+
+    asked : IsRequestOf (member (known_of r) k).address 1 jobs ended.task (n + 1)
+    asked =
+        let of = laws.left (known_of r) jobs (middle r carry restarts t.sent j) k in
+        request_of (member (known_of r) k).address 1 jobs (of.0 + ended.place) ended.task (n + 1) (sym (get_dropped of.0 (tasks_for (known_of r) jobs k) ended.place) ∙ sym (ap (λ w. slice_get w ended.place) of.1) ∙ ended.got) number
+
+    same : asked.job ≡ job
+    same =
+        let at = asked.at in
+        let place : asked.place ≡ n = omega (arith, at) in
+        one_job (sym (ap (slice_get jobs) place) ∙ asked.there) there
+      where
+        one_job : {a b : Job} {o : Option Job} → o ≡ Some a → o ≡ Some b → a ≡ b
+        one_job x y = let e = sym x ∙ y in cc
+
+    -- phase 4 is commanded
+    four : t.phase ≡ 4
+    four = elim (cases_lt (behind_mdt r jobs carry restarts t.sent j).now.phase 4) [
+      | inl low ↦
+          let few = few_tasks (known_of r) k now.plan (now.waiting k) now.now.phase (begun_by (now.calls k)) (now.tasks k) (jobs_waiting (known_of r) jobs (middle r carry restarts t.sent j) k) (omega (arith, low)) (keeps.reported.tasks k below) (λ three. ended.ready) in
+          let long = ended.long in absurd (omega (arith, few, long))
+      | inr high ↦
+          let is = laws.phase r jobs carry restarts t j opened run clear in
+          let most = top in omega (arith, high, is, most)
+    ]
+      where
+        top : t.phase ≤ 4
+        top = phase_most (drive_at r k).busy (view_of r jobs carry restarts k t j) (views_of r jobs carry restarts k j) (laws.next r jobs carry restarts (t ∷ j) k opened run clear below)
+
+    pub not_start : is_start idn.raw ≡ false
+    not_start = by (is_start idn.raw) refl
+      where
+        by : (x : Bool) → is_start idn.raw ≡ x → is_start idn.raw ≡ false
+        by false is = is
+        by true is = absurd (never_complete laws.transfers (drive_at r k).busy (reads_count (member (known_of r) k) + 13) (store_of (drive_at r k)) (laws.small r jobs carry restarts k opened below) idn b found
+            (start_guarded (drive_at r k) (ring_drive r k (drive_at r k) opened.valid (drive_got r k below)).blocks idn.raw b is found)
+            (view_of r jobs carry restarts k t j) (views_of r jobs carry restarts k j) (laws.next r jobs carry restarts (t ∷ j) k opened run clear below) (laws.sound r jobs carry restarts (t ∷ j) k opened run clear below)
+            (fews j run.0 clear.0) four ended.newer ended.older ended.one bytes whole ((keeps.exact k below).begun_now ∙ ended.split) ended.late (ended.asks ∙ asked.same ∙ ap (λ (x : Job). x.request) same ∙ asks) (ended.ended ∙ ap Some has.outcome))

@@ -1,0 +1,10 @@
+//! Laws, and no code: what the trace of a run says. Its outcomes are exact, and it keeps the rules of a capture.
+#![tactic(auto)]
+
+mod clean_laws;
+mod kept_laws;
+mod told_laws;
+
+pub use clean_laws::clean_law;
+pub use kept_laws::kept_law;
+pub use told_laws::told_law;

@@ -1,7 +1,0 @@
-use Rattle.sercos_totals.proofs.Bounds.{unseen_few}
-use Rattle.sercos_totals.proofs.counting.count_made.Goals as goal
-
-pub count_cycle-requires-clause-unseen : goal.count_cycle-requires-clause-unseen
-count_cycle-requires-clause-unseen c =
-    let is = c.requires.made in
-    unseen_few is.setup is.jobs is.carry is.restarts c.args.made.now is.before is.next (c.ring_law.ensures is.setup is.valid).few c.show_sent.ensures
