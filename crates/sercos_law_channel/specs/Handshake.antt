@@ -1,3 +1,4 @@
+-- Both ends of a service channel: each move, each transfer, and a whole run of one drive and the master.
 pub mod InStep
 pub mod Moves
 pub mod Transfers

@@ -10,9 +10,9 @@ pub use Rattle.sercos_law_run.proofs.Journal.ClearLemmas.{heard-quiet, same_bits
 pub use Rattle.sercos_law_run.proofs.Journal.RunLemmas.{AreParts, ats_in-said, length-run_of, mdt_in-said, parts_next}
 pub use Rattle.sercos_law_run.proofs.Journal.StationLemmas.{drives_so, few_drives, said_address, sound_blocks, station_found, station_is}
 pub use Rattle.sercos_law_run.proofs.Views.Coupled.{sends_so}
-pub use Rattle.sercos_law_run.proofs.Views.Members.{AreSaid, IsSaid, IsWhole, all_said, member_is, members_count, same_drive}
+pub use Rattle.sercos_law_run.proofs.Views.Members.{AreSaid, all_said, member_is, members_count, same_drive}
 pub use Rattle.sercos_law_run.proofs.Views.Received.{address_of}
-pub use Rattle.sercos_law_run.proofs.Views.ViewRuns.{IsSpelled, views_count}
+pub use Rattle.sercos_law_run.proofs.Views.ViewRuns.{views_count}
 pub use Rattle.sercos_law_run.proofs.Typed.Ats.{IsContent, at_content}
 pub use Rattle.sercos_law_run.proofs.Typed.Begun.{IsTypedPast, tasks_so, typed_past}
 pub use Rattle.sercos_law_run.proofs.Typed.Mdts.{mdt_whole, mst_whole, phase_low}

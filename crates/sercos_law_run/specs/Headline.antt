@@ -1,3 +1,4 @@
+-- What every run of a ring keeps as long as no damage passes the check sequence unseen.
 pub mod Cycles
 pub mod Transfers
 pub mod Headline

@@ -1,3 +1,4 @@
+-- What becomes of a ring after faults: after a fall, and in cycles in which nothing is disturbed, whatever was lost before them.
 pub mod Stretches
 pub mod UpOrDown
 pub mod FallsInTime

@@ -1,3 +1,4 @@
+-- What is typed at opening stays so through a run: words are words, and contents are whole.
 pub mod Typed
 pub mod Keeps
 pub mod Spelled

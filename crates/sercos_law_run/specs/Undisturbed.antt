@@ -1,3 +1,4 @@
+-- Cycles of a ring in which nothing is disturbed: every telegram that is sent arrives as it was sent, and no station restarts.
 pub mod Undisturbed
 pub mod CommandsFollow
 pub mod EpochStarts

@@ -32,8 +32,8 @@ use Rattle.sercos_law_channel.specs.Handshake.Views.{standing, stood_in}
 use Rattle.sercos_law_channel.specs.Handshake.RunLaws.{StandsAsCommanded}
 use Rattle.sercos_law_run.specs.Journal.Runs.{drive_at, given_mst, sent_mdt, ats_said, mst_next, ats_next, mdt_next, IsNext}
 use Rattle.sercos_law_run.specs.Views.RingViews.{at_start, behind_mdt, after_mst, view_of, views_of}
-use Rattle.sercos_law_run.proofs.Views.Members.{IsSaid, members_count}
-use Rattle.sercos_law_run.proofs.Views.ViewRuns.{IsSpelled}
+use Rattle.sercos_law_run.proofs.Views.Members.{members_count}
+use Rattle.sercos_law_run.specs.Views.Spelled.{IsSaid, IsSpelled}
 use Rattle.sercos_law_run.specs.Held.Opened.{IsOpened}
 use Rattle.sercos_law_run.specs.Held.Stored.{IsStored}
 use Rattle.sercos_law_run.proofs.Held.Laid.{records_of, records_concat, records_lengths}

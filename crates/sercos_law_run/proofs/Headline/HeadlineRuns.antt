@@ -42,7 +42,7 @@ use Rattle.sercos_law_run.proofs.Typed.Mdts.{mdt_whole}
 use Rattle.sercos_law_run.specs.Views.RingViews.{behind_mdt, after_mst, view_of, views_of}
 use Rattle.sercos_law_run.proofs.Views.Members.{members_count}
 use Rattle.sercos_law_run.proofs.Views.Received.{address_of}
-use Rattle.sercos_law_run.proofs.Views.ViewRuns.{IsSpelled}
+use Rattle.sercos_law_run.specs.Views.Spelled.{IsSpelled}
 use Rattle.sercos_law_run.specs.Held.Opened.{IsOpened}
 use Rattle.sercos_law_run.specs.Held.Stored.{IsStored}
 use Rattle.sercos_law_run.proofs.Held.AnsweredRuns.{EntriesStored, entries_stored}

@@ -22,7 +22,7 @@ use Rattle.sercos_law_run.specs.Journal.Runs.{drive_at, master_calls, looks_back
 use Rattle.sercos_law_run.specs.Agenda.Reported.{AreRequests}
 use Rattle.sercos_law_run.specs.Agenda.Stops.{Check127HasCause}
 use Rattle.sercos_law_run.specs.Views.RingViews.{behind_mdt, after_mst, view_of, views_of}
-use Rattle.sercos_law_run.proofs.Views.ViewRuns.{IsSpelled}
+use Rattle.sercos_law_run.specs.Views.Spelled.{IsSpelled}
 use Rattle.sercos_law_run.proofs.Settings.SetsWell.{LowerLaws}
 use Rattle.sercos_law_run.proofs.Settings.WellSets.{IsWellSet, well_next}
 use Rattle.sercos_law_run.proofs.Settings.NoCheck127.{stays, next_still, never_127_in}

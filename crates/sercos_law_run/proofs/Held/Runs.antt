@@ -53,7 +53,8 @@ use Rattle.sercos_law_run.proofs.Views.MasterSame.{AfterAts, ats_none, begun_cyc
 use Rattle.sercos_law_run.proofs.Views.Members.{AreHeardAs, member_is, members_count}
 use Rattle.sercos_law_run.proofs.Views.Coupled.{ats_heard}
 use Rattle.sercos_law_run.proofs.Views.Received.{Agrees}
-use Rattle.sercos_law_run.proofs.Views.ViewRuns.{IsSpelled, Sees, sees_first, sees_next, started, at_mst, behind}
+use Rattle.sercos_law_run.proofs.Views.ViewRuns.{Sees, sees_first, sees_next, started, at_mst, behind}
+use Rattle.sercos_law_run.specs.Views.Spelled.{IsSpelled}
 use Rattle.sercos_law_run.proofs.Views.DriveSame.{IsSame, standing_at}
 use Rattle.sercos_law_run.proofs.Typed.Plans.{ring_known, ring_timed, all_members}
 use Rattle.sercos_law_run.proofs.Typed.Steps.{AreBegun}

@@ -27,7 +27,8 @@ use Rattle.sercos_law_run.specs.Journal.Runs.{drive_at, with_restart, mdt_heard,
 use Rattle.sercos_law_run.specs.Views.RingViews.{behind_mdt, before_mst, after_mst, view_of, views_of}
 use Rattle.sercos_law_run.proofs.Views.DriveSame.{processed_same}
 use Rattle.sercos_law_run.proofs.Views.Received.{Agrees, got_or_none}
-use Rattle.sercos_law_run.proofs.Views.ViewRuns.{IsSpelled, Sees, at_mst, count, told_so, sees_next}
+use Rattle.sercos_law_run.proofs.Views.ViewRuns.{Sees, at_mst, count, told_so, sees_next}
+use Rattle.sercos_law_run.specs.Views.Spelled.{IsSpelled}
 use Rattle.sercos_law_run.specs.Settings.SetByWrites.{settings_left, SettingsFollow}
 use Rattle.sercos_law_run.specs.Settings.WellSet.{KeepsSettings}
 

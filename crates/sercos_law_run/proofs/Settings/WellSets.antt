@@ -31,7 +31,8 @@ use Rattle.sercos_law_channel.specs.Handshake.WholeRun.{AreSound, AreSmall}
 use Rattle.sercos_law_run.specs.Journal.Runs.{drive_at, master_calls, looks_back, IsNext as IsNextCycle}
 use Rattle.sercos_law_run.specs.Views.RingViews.{behind_mdt, after_mst, view_of, views_of}
 use Rattle.sercos_law_run.proofs.Views.Received.{Agrees}
-use Rattle.sercos_law_run.proofs.Views.ViewRuns.{IsSpelled, Sees, at_mst, sees_next}
+use Rattle.sercos_law_run.proofs.Views.ViewRuns.{Sees, at_mst, sees_next}
+use Rattle.sercos_law_run.specs.Views.Spelled.{IsSpelled}
 use Rattle.sercos_law_run.specs.Settings.WellSet.{HaveStores, AreSetWell}
 use Rattle.sercos_law_run.proofs.Settings.SettingsRuns.{IsSetSo, set_first, set_next, keeps_settings}
 use Rattle.sercos_law_run.proofs.Settings.SetsWell.{LowerLaws, sets_well}

@@ -16,7 +16,7 @@ use Rattle.sercos_law_run.specs.Journal.Records.{mst_in}
 use Rattle.sercos_law_run.specs.Journal.Runs.{drive_at, given_before, given_mst, begins, middle}
 use Rattle.sercos_law_run.specs.Views.RingViews.{behind_mdt, after_mst}
 use Rattle.sercos_law_run.proofs.Views.Received.{address_of}
-use Rattle.sercos_law_run.proofs.Views.Members.{IsWhole}
+use Rattle.sercos_law_run.specs.Views.Spelled.{IsWhole}
 use Rattle.sercos_law_run.specs.Typed.Keeps.{KeepsAlways, KeepsWithin}
 use Rattle.sercos_law_run.specs.Typed.Spelled.{SpelledNext}
 use Rattle.sercos_law_run.proofs.Typed.Steps.{says}

@@ -10,7 +10,7 @@ use Rattle.sercos_step.specs.declared.request.Request.TheVariants as request
 use Rattle.sercos_step.specs.Words.{words_of, words_told, at_least_one, shape_of, words_in_list}
 use Rattle.sercos_step.specs.Steps.{a_step, run, reading, writing, attribute_then, asks_attribute, polling, steps_of, outcome_of, next_step, answer_words}
 use Rattle.sercos_service_master.specs.Begun.{Begun, step_or_none, master_says}
-use Rattle.sercos_law_run.proofs.Views.Received.{IsSayable}
+use Rattle.sercos_law_run.specs.Views.Spelled.{IsSayable}
 use Rattle.sercos_law_run.specs.Typed.Typed.{IsTypedRequest}
 use Rattle.sercos_law_run.proofs.Typed.Words.{AreWords, words_of_bytes}
 

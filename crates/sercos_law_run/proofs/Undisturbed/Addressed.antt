@@ -23,7 +23,8 @@ use Rattle.sercos_law_run.specs.Views.RingViews.{is_told, told_to}
 use Rattle.sercos_law_run.proofs.Views.DriveSame.{said_to as said_by_told}
 use Rattle.sercos_law_run.proofs.Views.Members.{member_is, members_count, place_is}
 use Rattle.sercos_law_run.proofs.Views.Codecs.{single_clear}
-use Rattle.sercos_law_run.proofs.Views.Received.{Agrees, IsSayable, joint_got}
+use Rattle.sercos_law_run.proofs.Views.Received.{Agrees, joint_got}
+use Rattle.sercos_law_run.specs.Views.Spelled.{IsSayable}
 use Rattle.sercos_law_run.proofs.Headline.ApartCycles.{joint_said}
 
 -- if some place passes the test, one is found

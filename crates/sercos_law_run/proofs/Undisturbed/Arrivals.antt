@@ -14,7 +14,8 @@ use Rattle.sercos_law_run.specs.Journal.Arrivals.{heard, passage, arrival, conte
 use Rattle.sercos_law_run.specs.Journal.Records.{mst_in, ats_in, mdt_in}
 use Rattle.sercos_law_run.specs.Journal.Runs.{station_of, contents, disturbs_mst, disturbs_mdt, disturbs_ats, is_disturbed_in}
 use Rattle.sercos_law_run.proofs.Journal.ClearLemmas.{same_bits}
-use Rattle.sercos_law_run.proofs.Views.Members.{IsSaid, AreSaid, IsWhole}
+use Rattle.sercos_law_run.proofs.Views.Members.{AreSaid}
+use Rattle.sercos_law_run.specs.Views.Spelled.{IsSaid, IsWhole}
 
 or_parts : (a b : Bool) → (a || b) ≡ false → (a ≡ false) × (b ≡ false)
 or_parts true b none = cc

@@ -16,7 +16,7 @@ use Rattle.sercos_law_run.specs.Journal.Arrivals.{arrival, content_in, passage, 
 use Rattle.sercos_law_run.specs.Journal.Records.{mst_in, ats_in, mdt_in}
 use Rattle.sercos_law_run.specs.Journal.Runs.{station_of, disturbs_mst, disturbs_mdt, disturbs_ats}
 use Rattle.sercos_law_run.proofs.Journal.ClearLemmas.{same_bits}
-use Rattle.sercos_law_run.proofs.Views.Members.{IsWhole}
+use Rattle.sercos_law_run.specs.Views.Spelled.{IsWhole}
 use Rattle.sercos_law_run.specs.Undisturbed.Undisturbed.{IsUndisturbed}
 use Rattle.sercos_law_run.proofs.Undisturbed.Small.{both_off}
 use Rattle.sercos_law_run.proofs.Undisturbed.Taken.{IsAmong}

@@ -23,7 +23,8 @@ use Rattle.sercos_law_run.specs.Journal.Runs.{drive_at, with_restart, mdt_heard,
 use Rattle.sercos_law_run.specs.Views.RingViews.{behind_mdt, after_mst, view_of, views_of}
 use Rattle.sercos_law_run.proofs.Views.DriveSame.{processed_same}
 use Rattle.sercos_law_run.proofs.Views.Received.{Agrees, got_or_none}
-use Rattle.sercos_law_run.proofs.Views.ViewRuns.{IsSpelled, Sees, at_mst, count, told_so, sees_next}
+use Rattle.sercos_law_run.proofs.Views.ViewRuns.{Sees, at_mst, count, told_so, sees_next}
+use Rattle.sercos_law_run.specs.Views.Spelled.{IsSpelled}
 use Rattle.sercos_law_run.specs.Settings.SetByWrites.{commands_left}
 use Rattle.sercos_law_run.proofs.Settings.SettingsRuns.{commands_same}
 use Rattle.sercos_law_run.specs.Undisturbed.CommandsFollow.{commands_ended, CommandsFollow}

@@ -24,10 +24,11 @@ use Rattle.sercos_law_run.specs.Journal.Runs.{drive_at, station_of, with_restart
 use Rattle.sercos_law_run.proofs.Journal.RunLemmas.{ats_in-said, mdt_in-said}
 use Rattle.sercos_law_run.specs.Views.RingViews.{at_start, behind_mst, behind_ats, behind_mdt, after_mst, phase_got}
 use Rattle.sercos_law_run.proofs.Views.MasterSame.{begun_cycle, ats_none}
-use Rattle.sercos_law_run.proofs.Views.Members.{IsWhole, member_is}
+use Rattle.sercos_law_run.proofs.Views.Members.{member_is}
+use Rattle.sercos_law_run.specs.Views.Spelled.{IsWhole, IsSpelled}
 use Rattle.sercos_law_run.proofs.Views.Codecs.{mst_clear, single_clear}
 use Rattle.sercos_law_run.proofs.Views.DriveSame.{said_to as said_by_told}
-use Rattle.sercos_law_run.proofs.Views.ViewRuns.{IsSpelled, started}
+use Rattle.sercos_law_run.proofs.Views.ViewRuns.{started}
 use Rattle.sercos_law_run.specs.Held.Opened.{IsOpened}
 use Rattle.sercos_law_run.proofs.Held.Runs.{Laws}
 use Rattle.sercos_law_run.proofs.Headline.HeadlineRuns.{MoreLaws, spelled_in}

@@ -22,7 +22,7 @@ use Rattle.sercos_law_run.proofs.Journal.RunLemmas.{mdt_in-said}
 use Rattle.sercos_law_run.specs.Agenda.Turns.{WorkInTurn}
 use Rattle.sercos_law_run.specs.Views.RingViews.{at_start, behind_mdt, told_to, gets_record, after_mst, view_of, views_of}
 use Rattle.sercos_law_run.proofs.Views.MasterSame.{begun_cycle}
-use Rattle.sercos_law_run.proofs.Views.Members.{IsWhole as IsWholeContent}
+use Rattle.sercos_law_run.specs.Views.Spelled.{IsWhole as IsWholeContent}
 use Rattle.sercos_law_run.proofs.Views.Codecs.{mst_clear}
 use Rattle.sercos_law_run.proofs.Views.Received.{Agrees}
 use Rattle.sercos_law_run.proofs.Views.ViewRuns.{command_below, started}

@@ -22,7 +22,8 @@ use Rattle.sercos_law_run.specs.Journal.Arrivals.{heard, passage}
 use Rattle.sercos_law_run.specs.Journal.Runs.{drive_at, station_of, with_at, at_calls, looks_back}
 use Rattle.sercos_law_run.specs.Views.RingViews.{heard_last}
 use Rattle.sercos_law_run.proofs.Views.MasterSame.{HasHeard, Nothing, One, AfterAts, ats_next}
-use Rattle.sercos_law_run.proofs.Views.Members.{IsSaid, AreHeardAs, place_is}
+use Rattle.sercos_law_run.proofs.Views.Members.{AreHeardAs, place_is}
+use Rattle.sercos_law_run.specs.Views.Spelled.{IsSaid}
 use Rattle.sercos_law_run.proofs.Views.Codecs.{at_clear}
 
 -- all ATs of a cycle

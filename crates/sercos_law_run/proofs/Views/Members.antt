@@ -18,6 +18,7 @@ use Rattle.sercos_law_run.specs.Journal.Arrivals.{heard, passage, arrival, conte
 use Rattle.sercos_law_run.specs.Journal.Runs.{no_drive, drive_at, station_of, inserted, with_said, said_below, contents, unseen_ats}
 use Rattle.sercos_law_run.proofs.Journal.ClearLemmas.{heard-clear}
 use Rattle.sercos_law_run.proofs.Journal.StationLemmas.{station_found, drives_so}
+use Rattle.sercos_law_run.specs.Views.Spelled.{IsWhole, IsSaid}
 
 -- the master knows each drive by its place
 index_map : (drives : List DriveView) (k : ℕ) → slice_index_or (map member_of drives) k no_member ≡ member_of (slice_index_or drives k no_drive)
@@ -67,14 +68,7 @@ place_is r i k valid low found =
     let same : (member (known_of r) k).address ≡ (drive_at r i).address = (let p = first.passes in grind (arith, nat_tests, p)) in
     same_drive r i k valid low (omega (arith, high, count)) (sym same ∙ ap (λ (m : MemberView). m.address) (member_is r k))
 
--- THE ATS of a cycle. This content is what one of the drives says.
-pub record IsSaid (n : ℕ) (d : ℕ → DriveView) (rate : ℕ) (h : ℕ → List DriveCall) (content : List ℕ) : Type 0 where
-  pub place : ℕ
-  pub says : Said
-  pub inside : place < n
-  pub said : drive_says (d place) rate (h place) ≡ Some says
-  pub content_is : content ≡ says.content
-
+-- THE ATS of a cycle, each of them what one of the drives says
 abbrev pub AreSaid : ℕ → (ℕ → DriveView) → ℕ → (ℕ → List DriveCall) → List Said → Type 0
 AreSaid n d rate h [] = Unit {0}
 AreSaid n d rate h (s ∷ others) = IsSaid n d rate h s.content × AreSaid n d rate h others
@@ -101,9 +95,6 @@ all_said (suc n) d rate h = by (drive_says (d n) rate (h n)) refl (said_more n d
     by (Some s) e before = said_inserted (suc n) d rate h s (said_below n d rate h) (record { place = n; says = s; inside = omega arith; said = e; content_is = refl }) before
 
 -- WHAT IS HEARD of a content in a passage where nothing is unseen
-abbrev pub IsWhole : List ℕ → Type 0
-IsWhole content = content_in (frame_of content) ≡ Some content
-
 abbrev one_if : Bool → ℕ
 one_if b = if b then 1 else 0
 

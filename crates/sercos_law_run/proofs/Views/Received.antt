@@ -29,6 +29,7 @@ use Rattle.sercos_law_run.specs.Views.RingViews.{told_to, is_told}
 use Rattle.sercos_law_run.proofs.Views.Codecs.{single_clear, single_other, joint_clear}
 use Rattle.sercos_law_run.proofs.Views.DriveSame.{said_to as said_by_told}
 use Rattle.sercos_law_run.proofs.Views.Members.{member_is, members_count, same_drive}
+use Rattle.sercos_law_run.specs.Views.Spelled.{IsSayable}
 
 -- the address of a drive isn't one of the master's
 address_in : (before drives : List DriveView) (k : ℕ) → are_drives before drives ≡ true → k < length drives → is_address (slice_index_or drives k no_drive).address ≡ true
@@ -137,10 +138,6 @@ pub record Agrees (s : Known) (p : Past) (k : ℕ) (blocks : List Block) : Type 
   pub place : number_at blocks 9 ≡ 1 + length (records_from s p 0 k)
   pub within : number_at blocks 9 + carried_len blocks 24 ≤ number_at blocks 10 + 1
   pub long : number_at blocks 10 ≡ length (records_from s p 0 (length s.drives))
-
--- the element and the word of what is said fit into a record
-abbrev pub IsSayable : Said → Type 0
-IsSayable said = (said.step.element < 8) × (said.step.word < 65536)
 
 pub joint_got : (s : Known) (p : Past) (k address phase : ℕ) (blocks : List Block) → k < length s.drives → 3 ≤ phase → IsSayable (said_to p k) → Agrees s p k blocks
     → option_map said_by_told (mdt_got address phase blocks (Some (all_drives ∷ records_from s p 0 (length s.drives)))) ≡ Some (said_to p k)

@@ -38,19 +38,11 @@ use Rattle.sercos_law_run.proofs.Journal.RunLemmas.{ats_in-said, mdt_in-said}
 use Rattle.sercos_law_run.specs.Views.RingViews.{at_start, behind_mst, behind_ats, behind_mdt, heard_last, told_to, before_mst, after_mst, view_of, views_of}
 use Rattle.sercos_law_run.proofs.Views.DriveSame.{said_to as said_by_told, IsSame, same_first, same_restarted, standing_at, same_at_mst, same_at_mdt}
 use Rattle.sercos_law_run.proofs.Views.MasterSame.{IsSame as IsSameMaster, StandsAs, begun_cycle, same_started, AfterAts, ats_none, IsBehind, is_behind, IsLed, next_led, same_ended}
-use Rattle.sercos_law_run.proofs.Views.Members.{IsSaid, all_said, IsWhole, heard_whole, AreHeardAs, heard_as}
+use Rattle.sercos_law_run.proofs.Views.Members.{all_said, heard_whole, AreHeardAs, heard_as}
+use Rattle.sercos_law_run.specs.Views.Spelled.{IsSaid, IsSpelled}
 use Rattle.sercos_law_run.proofs.Views.Codecs.{mst_clear}
 use Rattle.sercos_law_run.proofs.Views.Coupled.{ats_heard, heard_one, Speaks, speaks}
-use Rattle.sercos_law_run.proofs.Views.Received.{Agrees, IsSayable, GotTold, NothingGot, ToldGot, got_or_none, mdt_told}
-
--- In a cycle each telegram is whole, and the words that drives and master say fit into sixteen bits.
-pub record IsSpelled (r : RingView) (jobs : List Job) (carry : Carry) (restarts : Restarts) (t : CycleView) (j : List CycleView) : Type 0 where
-  pub mst : IsWhole (mst_in t.sent)
-  pub ats : (content : List ℕ) → IsSaid (length r.drives) (drive_at r) r.rate (given_mst carry restarts t.sent j) content → IsWhole content
-  pub mdt : (m : Sent) → mdt_said (known_of r) (behind_mdt r jobs carry restarts t.sent j) ≡ Some m → IsWhole m.content
-  pub shown : (i : ℕ) → i < length r.drives → let past : List Moment = after_mst r carry restarts t.sent j i in
-      (channel_says (drive_at r i).busy (cycle_in past) (commands_in (drive_at r i) r.rate past) (taken_in past)).word < 65536
-  pub said : (i : ℕ) → IsSayable (said_to (behind_mdt r jobs carry restarts t.sent j) i)
+use Rattle.sercos_law_run.proofs.Views.Received.{Agrees, GotTold, NothingGot, ToldGot, got_or_none, mdt_told}
 
 -- What the drive at a place and its channel keep of a journal is what its views give, and these are a run.
 pub record Sees (r : RingView) (jobs : List Job) (carry : Carry) (restarts : Restarts) (k : ℕ) (j : List CycleView) : Type 0 where

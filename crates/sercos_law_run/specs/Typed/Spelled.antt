@@ -6,7 +6,7 @@ use Rattle.sercos_block.specs.Views.{RingView}
 use Rattle.sercos_script.specs.Links.{Carry, Restarts}
 use Rattle.sercos_trace.specs.Views.{CycleView}
 use Rattle.sercos_law_run.specs.Journal.Runs.{IsNext}
-use Rattle.sercos_law_run.proofs.Views.ViewRuns.{IsSpelled}
+use Rattle.sercos_law_run.specs.Views.Spelled.{IsSpelled}
 use Rattle.sercos_law_run.specs.Typed.Typed.{AreTyped, AreTypedJobs}
 
 -- In each next cycle of a typed ring with typed jobs the frames of MST, ATs and MDT give their contents back. The words that drives
