@@ -3,12 +3,14 @@ import os
 import pathlib
 import pty
 import shutil
+import signal
 import subprocess
 import sys
 
 from tool_tests import TOP
 
 SHARED = ["sercos", "sercos_rings", "try", "VERSION", "tools/start", "tools/build", "tools/crates.py", "tools/proving.py"]
+NO_RT = "{}: the program is missing or older than a source, and there is no rt to build it\n"
 # All that the launcher may use beside rt.
 COMMANDS = ["bash", "cat", "cp", "dirname", "env", "find", "grep", "readlink", "rm", "sleep"]
 CRATES = """# a comment
@@ -63,6 +65,18 @@ class Repository:
     def path(self, crate, part):
         return self.top / "crates" / crate / part
 
+    def sources(self):
+        """The files of all crates but what was built."""
+        return [path for path in (self.top / "crates").rglob("*") if path.is_file() and "out" not in path.parts]
+
+    def env_without_rt(self):
+        """An environment with all commands but rt."""
+        folder = self.tools.parent / "no rt"
+        if not folder.exists():
+            shutil.copytree(self.tools, folder, symlinks=True)
+            (folder / "rt").unlink()
+        return self.env | {"PATH": str(folder)}
+
     def set(self, file, text):
         """Writes a file that the fake rt looks for, or deletes it."""
         if text is None:
@@ -77,9 +91,10 @@ class Repository:
         calls.unlink(missing_ok=True)
         return {name: (float(began), float(ended)) for name, began, ended in lines}
 
-    def start(self, words, **options):
-        options = {"stdin": subprocess.DEVNULL, "stdout": subprocess.PIPE, "stderr": subprocess.PIPE, "env": self.env} | options
-        return subprocess.Popen([str(word) for word in words], **options)
+    def start(self, words):
+        """A process that heeds an interrupt, also if the test ignores it."""
+        return subprocess.Popen([str(word) for word in words], stdin=subprocess.DEVNULL, stdout=subprocess.PIPE, stderr=subprocess.PIPE,
+                                env=self.env, preexec_fn=lambda: signal.signal(signal.SIGINT, signal.SIG_DFL))
 
     def answer(self, words, source=b"", **options):
         """The status, the output and the message of a command, by default at the top."""
@@ -88,14 +103,17 @@ class Repository:
         return ran.returncode, ran.stdout.decode(), ran.stderr.decode()
 
     def at_terminal(self, words, source=b"", **options):
-        """The status, the output, and what is written on standard error if that is a terminal."""
-        master, slave = pty.openpty()
-        options = {"env": self.env, "cwd": self.top} | options
-        with subprocess.Popen([str(word) for word in words], stdin=subprocess.PIPE, stdout=subprocess.PIPE, stderr=slave,
-                              **options) as process:
-            os.close(slave)
-            output, _ = process.communicate(source)
-        return process.returncode, output.decode(), read_all(master)
+        return at_terminal(words, source, **({"env": self.env, "cwd": self.top} | options))
+
+
+def at_terminal(words, source=b"", **options):
+    """The status, the output, and what is written on standard error if that is a terminal."""
+    master, slave = pty.openpty()
+    with subprocess.Popen([str(word) for word in words], stdin=subprocess.PIPE, stdout=subprocess.PIPE, stderr=slave,
+                          **options) as process:
+        os.close(slave)
+        output, _ = process.communicate(source)
+    return process.returncode, output.decode(), read_all(master)
 
 
 def read_all(terminal):

@@ -74,7 +74,7 @@ class Proving:
             self.behind[name] = self.weights[name] + max(above, default=0)
         self.processors, self.memory = processors(), free_memory()
         self.built, self.running, self.lanes, self.free = set(), {}, 1, [0]
-        self.began, self.new = time.monotonic(), 0
+        self.began, self.new, self.shown = time.monotonic(), 0, ""
 
     def __enter__(self):
         return self
@@ -85,25 +85,31 @@ class Proving:
             print(file=sys.stderr)
         for child, _, _, _ in self.running.values():
             child.terminate()
-        for name, (child, lane, _, _) in self.running.items():
+        for child, _, _, _ in self.running.values():
             child.wait()
+        # What rt has started is ended after it.
+        time.sleep(0.5 if self.running else 0)
+        for name, (_, lane, _, _) in self.running.items():
             self.keep(name, lane, "incremental")
 
     def run(self, make_lane):
-        """Builds every crate once its libraries are built. A lane beyond the first is made when it is needed."""
-        self.start_line()
+        """Builds every crate once its libraries are built, and returns the program. A lane beyond the first is made when it is needed."""
+        print(f"{self.program}: proving and building {self.number} crates, {MINUTES}; until then ./try runs each command unproved",
+              file=sys.stderr, flush=True)
         while self.left or self.running:
             for name, jobs in self.next_crates():
                 if not self.free:
                     make_lane(self.lanes)
                     self.free, self.lanes = [self.lanes], self.lanes + 1
                 self.start(name, jobs, self.free.pop())
-            ended = [name for name, (child, *_) in self.running.items() if child.poll() is not None]
-            for name in ended:
+            ended = {name: lane for name, (child, lane, *_) in self.running.items() if child.poll() is not None}
+            for name, lane in ended.items():
                 self.end(name)
-            self.show_line(ended)
+                self.show_line(name)
             if not ended:
+                self.show_line()
                 time.sleep(0.05)
+        return self.out(self.program, lane) / self.program
 
     def next_crates(self):
         """The crates to start now, each with its number of jobs. A job more than a processor fills the stretches of a check that
@@ -157,7 +163,7 @@ class Proving:
         made = self.out(name, lane) / "rlib" / "stamp"
         kept = self.out(name) / "rlib" / "stamp"
         if name == self.program:
-            self.keep(name, lane, "incremental", f"{name}.stamp", name)
+            self.keep(name, lane, "incremental", f"{name}.stamp")
         elif not (made.exists() and kept.exists() and made.samefile(kept)):
             self.new += self.weights[name]
             self.keep(name, lane, "incremental", "rlib")
@@ -178,11 +184,7 @@ class Proving:
             if made.exists():
                 os.replace(made, kept)
 
-    def start_line(self):
-        print(f"{self.program}: proving and building {self.number} crates, {MINUTES}; until then ./try runs each command unproved",
-              file=sys.stderr, flush=True)
-
-    def show_line(self, ended):
+    def show_line(self, ended=None):
         """Prints how far the build is: at a terminal in one line that is written anew, and else in a line for each crate."""
         spent = (time.monotonic() - self.began) / 60
         left = sum(self.weights[name] for name in [*self.left, *self.running])
@@ -191,7 +193,9 @@ class Proving:
             so_far += f", about {spent * left / self.new:.0f} left"
         if sys.stderr.isatty():
             text = f"{so_far}: {', '.join(self.running)}"
-            width = os.get_terminal_size(sys.stderr.fileno()).columns or 80
-            print(f"\r\x1b[K{text[:width - 1]}", end="", file=sys.stderr, flush=True)
+            if text != self.shown:
+                width = os.get_terminal_size(sys.stderr.fileno()).columns or 80
+                print(f"\r\x1b[K{text[:width - 1]}", end="", file=sys.stderr, flush=True)
+                self.shown = text
         elif ended:
-            print(f"{', '.join(ended)}: {so_far}", file=sys.stderr, flush=True)
+            print(f"{ended}: {so_far}", file=sys.stderr, flush=True)
