@@ -42,7 +42,7 @@ def free_memory():
 
 
 def end_with_parent():
-    """Has the kernel end a child when this process is killed."""
+    """Has the kernel end a child when this process is killed (PR_SET_PDEATHSIG)."""
     LIBC.prctl(1, signal.SIGTERM)
 
 
@@ -64,8 +64,7 @@ class Proving:
 
     def __init__(self, crates, program, top, log):
         self.crates, self.program, self.top, self.log = crates, program, top, log
-        self.left = crates.order(program)
-        self.number = len(self.left)
+        self.left, self.number = crates.order(program), len(crates.order(program))
         self.weights = {name: crates.weight(name) for name in self.left}
         # The time that a crate takes with the longest chain of those that wait for it.
         self.behind = {}
@@ -193,7 +192,7 @@ class Proving:
             so_far += f", about {spent * left / self.new:.0f} left"
         if sys.stderr.isatty():
             text = f"{so_far}: {', '.join(self.running)}"
-            if text != self.shown:
+            if not ended and text != self.shown:
                 width = os.get_terminal_size(sys.stderr.fileno()).columns or 80
                 print(f"\r\x1b[K{text[:width - 1]}", end="", file=sys.stderr, flush=True)
                 self.shown = text
