@@ -14,7 +14,7 @@ use Rattle.sercos_show.specs.Show.{show_answer, show_status, first_fault}
 use Rattle.sercos_planning.specs.Planning.{wishes_answer, document_answer, plan_answer, PlansItsRing}
 use Rattle.sercos_planning.specs.Margins.{wishes_margins, document_margins, margin_answer, MeasuresItsRing}
 use Rattle.sercos_app.specs.Journals.{journal_text}
-use Rattle.sercos_opened.specs.Kept.{carry_under, restarts_under, document_run}
+use Rattle.sercos_opened.specs.Kept.{carry_under, restarts_under, script_carry, script_restarts, document_run}
 use Rattle.sercos_app.specs.Running.{traced_answer, run_answer, RunsItsRing}
 use Rattle.sercos_checking.specs.declared.verdict.Verdict.{Verdict}
 use Rattle.sercos_checking.specs.declared.verdict.Verdict.TheVariants as verdict
@@ -141,10 +141,10 @@ IsGiven-writes r jobs carry restarts None = IsGiven-whole (are_well false (run_t
 IsGiven-writes r jobs carry restarts (Some place) = refused
 
 IsGiven-by : (answer : RingView → List Job → Carry → Restarts → Answer) → ((r : RingView) (jobs : List Job) (carry : Carry) (restarts : Restarts) → IsGiven (answer r jobs carry restarts).status)
-    → (carry : Carry) (restarts : Restarts) (document : Result DocumentView BadDocument) → IsGiven (answer_by answer carry restarts document).status
+    → (document : Result DocumentView BadDocument) → IsGiven (answer_by answer document).status
 unfolding answer_by
-IsGiven-by answer given carry restarts (Ok d) = given d.setup d.jobs (carry_under d carry) (restarts_under d restarts)
-IsGiven-by answer given carry restarts (Err bad) = refused
+IsGiven-by answer given (Ok d) = given d.setup d.jobs (script_carry d) (script_restarts d)
+IsGiven-by answer given (Err bad) = refused
 
 IsGiven-answer : (carry : Carry) (restarts : Restarts) (form : Form) (bytes : List ℕ) → IsGiven (command_answer carry restarts form bytes).status
 unfolding command_answer show_answer plan_answer margin_answer run_answer check_answer backup_answer restore_answer gen_answer
@@ -153,8 +153,8 @@ IsGiven-answer carry restarts Plan bytes = IsGiven-document (document_of bytes)
 IsGiven-answer carry restarts Run bytes = IsGiven-traced carry restarts (document_of bytes)
 IsGiven-answer carry restarts Check bytes = IsGiven-verdict (verdict_of bytes)
 IsGiven-answer carry restarts Margin bytes = IsGiven-margins (document_of bytes)
-IsGiven-answer carry restarts Backup bytes = IsGiven-by ring_saved IsGiven-saved carry restarts (document_of bytes)
-IsGiven-answer carry restarts Restore bytes = IsGiven-by ring_restored (λ r jobs c rs. IsGiven-writes r jobs c rs (place_of_other jobs)) carry restarts (document_of bytes)
+IsGiven-answer carry restarts Backup bytes = IsGiven-by ring_saved IsGiven-saved (document_of bytes)
+IsGiven-answer carry restarts Restore bytes = IsGiven-by ring_restored (λ r jobs c rs. IsGiven-writes r jobs c rs (place_of_other jobs)) (document_of bytes)
 IsGiven-answer carry restarts (Gen n) bytes = done
 IsGiven-answer carry restarts (Replay address) bytes = IsGiven-replay address bytes
 

@@ -22,7 +22,7 @@ use Rattle.sercos_law_run.specs.Headline.Headline.{Headline}
 use Rattle.sercos_config.specs.Views.{DocumentView}
 use Rattle.sercos_backup.specs.Jobs.{list_number, reads_data, list_jobs}
 use Rattle.sercos_backup.proofs.ListLemmas.{IsRead, list_reads, data_reads}
-use Rattle.sercos_opened.specs.Kept.{carry_under, restarts_under}
+use Rattle.sercos_opened.specs.Kept.{script_carry, script_restarts}
 use Rattle.sercos_app.specs.Saving.{blocks_at, place_of, data_of}
 use Rattle.sercos_app.specs.Saved.{IsRingRun, IsReadRun, AreReadFrom, AreWritesKept, IsRestoredRun, IsSaved, ReadsTyped, second_jobs}
 use Rattle.sercos_backup.specs.declared.tracked.Tracked.{Tracked}
@@ -81,12 +81,12 @@ read_run : AreNext → Headline → ReadsAreExact → (r : RingView) (jobs : Lis
 read_run next law exact r jobs carry restarts opened reads =
     let run = ring_run next law r jobs carry restarts opened in record { run = run; exact = read_from exact r jobs carry restarts opened run reads }
 
-pub is_saved : AreNext → Headline → ReadsAreExact → (carry : Carry) (restarts : Restarts) (d : DocumentView) → IsOpened d.setup d.jobs → ReadsTyped d.setup (carry_under d carry) (restarts_under d restarts)
-    → IsSaved d.setup (carry_under d carry) (restarts_under d restarts)
-is_saved next law exact carry restarts d opened typed = record {
-  lists = read_run next law exact d.setup (list_jobs d.setup) (carry_under d carry) (restarts_under d restarts) (opened_reads d.setup d.jobs (list_jobs d.setup) opened (typed_lists d.setup) (list_reads d.setup.drives)) (list_reads d.setup.drives);
-  blocks = λ well few. read_run next law exact d.setup (second_jobs d.setup (carry_under d carry) (restarts_under d restarts)) (carry_under d carry) (restarts_under d restarts)
-      (opened_reads d.setup d.jobs (second_jobs d.setup (carry_under d carry) (restarts_under d restarts)) opened (typed well few) (data_reads _)) (data_reads _);
+pub is_saved : AreNext → Headline → ReadsAreExact → (d : DocumentView) → IsOpened d.setup d.jobs → ReadsTyped d.setup (script_carry d) (script_restarts d)
+    → IsSaved d.setup (script_carry d) (script_restarts d)
+is_saved next law exact d opened typed = record {
+  lists = read_run next law exact d.setup (list_jobs d.setup) (script_carry d) (script_restarts d) (opened_reads d.setup d.jobs (list_jobs d.setup) opened (typed_lists d.setup) (list_reads d.setup.drives)) (list_reads d.setup.drives);
+  blocks = λ well few. read_run next law exact d.setup (second_jobs d.setup (script_carry d) (script_restarts d)) (script_carry d) (script_restarts d)
+      (opened_reads d.setup d.jobs (second_jobs d.setup (script_carry d) (script_restarts d)) opened (typed well few) (data_reads _)) (data_reads _);
 }
 
 -- the place of a drive by its address
@@ -122,7 +122,7 @@ writes_kept law r jobs carry restarts opened run clear n job t idn bytes whole t
           ∙ ap (data_of (r.cycles - 1)) kept.holds ∙ kept.written (r.cycles - 1);
     }
 
-pub is_restored : AreNext → Headline → WritesAreKept → (carry : Carry) (restarts : Restarts) (d : DocumentView) → IsOpened d.setup d.jobs → Unit {0} → IsRestoredRun d.setup d.jobs (carry_under d carry) (restarts_under d restarts)
-is_restored next law kept carry restarts d opened none =
-    let run = ring_run next law d.setup d.jobs (carry_under d carry) (restarts_under d restarts) opened in
-    record { run = run; kept = writes_kept kept d.setup d.jobs (carry_under d carry) (restarts_under d restarts) opened run }
+pub is_restored : AreNext → Headline → WritesAreKept → (d : DocumentView) → IsOpened d.setup d.jobs → Unit {0} → IsRestoredRun d.setup d.jobs (script_carry d) (script_restarts d)
+is_restored next law kept d opened none =
+    let run = ring_run next law d.setup d.jobs (script_carry d) (script_restarts d) opened in
+    record { run = run; kept = writes_kept kept d.setup d.jobs (script_carry d) (script_restarts d) opened run }

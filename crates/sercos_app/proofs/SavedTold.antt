@@ -21,7 +21,7 @@ use Rattle.sercos_backup.specs.Jobs.{list_jobs, place_of_other}
 use Rattle.sercos_backup.specs.Tracking.{are_well}
 use Rattle.sercos_backup.specs.Texts.{saved_lines, saved_answer, failed_answer, many_answer, restored_line}
 use Rattle.sercos_app.specs.Answer.{command_answer}
-use Rattle.sercos_opened.specs.Kept.{carry_under, restarts_under}
+use Rattle.sercos_opened.specs.Kept.{script_carry, script_restarts}
 use Rattle.sercos_app.specs.Saving.{run_tracked, data_answer, lists_answer, ring_saved, last_data, writes_answer, ring_restored, answer_by, backup_answer, restore_answer}
 use Rattle.sercos_app.specs.Saved.{SavesItsRing, RestoresItsRing, second_jobs}
 use Rattle.sercos_call.specs.TopCall.{writes_nothing, ReadsWhole}
@@ -32,16 +32,16 @@ use Rattle.sercos_app.specs.Outcome.{Ends}
 use Rattle.sercos_app.proofs.Outcomes.{answered_by, done_whole, no_whole}
 
 -- what a document says that isn't refused
-record IsAnswerOf (answer : RingView → List Job → Carry → Restarts → Answer) (carry : Carry) (restarts : Restarts) (document : Result DocumentView BadDocument) : Type 0 where
+record IsAnswerOf (answer : RingView → List Job → Carry → Restarts → Answer) (document : Result DocumentView BadDocument) : Type 0 where
   says : DocumentView
   read : document ≡ Ok says
-  is : answer_by answer carry restarts document ≡ answer says.setup says.jobs (carry_under says carry) (restarts_under says restarts)
+  is : answer_by answer document ≡ answer says.setup says.jobs (script_carry says) (script_restarts says)
 
-not_refused : (answer : RingView → List Job → Carry → Restarts → Answer) (carry : Carry) (restarts : Restarts) (document : Result DocumentView BadDocument) → (answer_by answer carry restarts document).status ≢ Refused
-    → IsAnswerOf answer carry restarts document
+not_refused : (answer : RingView → List Job → Carry → Restarts → Answer) (document : Result DocumentView BadDocument) → (answer_by answer document).status ≢ Refused
+    → IsAnswerOf answer document
 unfolding answer_by
-not_refused answer carry restarts (Ok d) given = record { says = d; read = refl; is = refl }
-not_refused answer carry restarts (Err bad) given = absurd (given refl)
+not_refused answer (Ok d) given = record { says = d; read = refl; is = refl }
+not_refused answer (Err bad) given = absurd (given refl)
 
 -- one of two answers
 one_of : (b : Bool) (x y : Answer) → ((b ≡ true) × ((if b then x else y) ≡ x)) ⊎ ((b ≡ false) × ((if b then x else y) ≡ y))
@@ -118,14 +118,14 @@ unsaved r jobs carry restarts says_no =
       | inr failed ↦ subst (λ (x : Answer). IsUnsaved r carry restarts x.output) (sym failed.1) (lists_failed failed.0)
     ]
 
-saved_told : (carry : Carry) (restarts : Restarts) (bytes : List ℕ) (left left' held held' : Option (List ℕ)) → SavesItsRing carry restarts bytes
+saved_told : (carry : Carry) (restarts : Restarts) (bytes : List ℕ) (left left' held held' : Option (List ℕ)) → SavesItsRing bytes
     → (command_answer carry restarts Backup bytes).status ≡ Done → ReadsWhole left left' bytes → Appends held held' (command_answer carry restarts Backup bytes).output
-    → BackupSaved carry restarts left left' held held'
+    → BackupSaved left left' held held'
 unfolding command_answer backup_answer
 saved_told carry restarts bytes left left' held held' says at input written =
-    let of = not_refused ring_saved carry restarts (document_of bytes) (λ e. absurd (cc)) in
+    let of = not_refused ring_saved (document_of bytes) (λ e. absurd (cc)) in
     let d = of.says in
-    let all = saves_lists d.setup d.jobs (carry_under d carry) (restarts_under d restarts) (sym (ap (λ (x : Answer). x.status) of.is) ∙ at) in
+    let all = saves_lists d.setup d.jobs (script_carry d) (script_restarts d) (sym (ap (λ (x : Answer). x.status) of.is) ∙ at) in
     record {
       bytes = bytes;
       read = input;
@@ -140,23 +140,23 @@ saved_told carry restarts bytes left left' held held' says at input written =
 
 unsaved_told : (carry : Carry) (restarts : Restarts) (bytes : List ℕ) (left left' held held' : Option (List ℕ))
     → (command_answer carry restarts Backup bytes).status ≡ No → ReadsWhole left left' bytes → Appends held held' (command_answer carry restarts Backup bytes).output
-    → BackupFailed carry restarts left left' held held'
+    → BackupFailed left left' held held'
 unfolding command_answer backup_answer
 unsaved_told carry restarts bytes left left' held held' at input written =
-    let of = not_refused ring_saved carry restarts (document_of bytes) (λ e. absurd (cc)) in
+    let of = not_refused ring_saved (document_of bytes) (λ e. absurd (cc)) in
     let d = of.says in
     record {
       bytes = bytes;
       read = input;
       says = d;
       document = of.read;
-      text = (ring_saved d.setup d.jobs (carry_under d carry) (restarts_under d restarts)).output;
-      why = unsaved d.setup d.jobs (carry_under d carry) (restarts_under d restarts) (sym (ap (λ (x : Answer). x.status) of.is) ∙ at);
+      text = (ring_saved d.setup d.jobs (script_carry d) (script_restarts d)).output;
+      why = unsaved d.setup d.jobs (script_carry d) (script_restarts d) (sym (ap (λ (x : Answer). x.status) of.is) ∙ at);
       written = subst (Appends held held') (ap (λ (x : Answer). x.output) of.is) written;
     }
 
 pub at_saved : {carry : Carry} {restarts : Restarts} {words : List (List ℕ)} {source : SourceChange} {sink : SinkChange} {Unread Unwritten : Type 0} {status : Status} → Ends carry restarts words source sink Unread Unwritten status
-    → status ≡ Done → form_of words ≡ Some Backup → BackupSaved carry restarts source.left source.left' sink.held sink.held'
+    → status ≡ Done → form_of words ≡ Some Backup → BackupSaved source.left source.left' sink.held sink.held'
 unfolding writes_nothing reads_input
 at_saved out e f =
     let a = answered_by out Backup f (ap writes_nothing e) in
@@ -164,7 +164,7 @@ at_saved out e f =
     saved_told _ _ a.bytes _ _ _ _ a.says whole.0 a.input whole.1
 
 pub at_unsaved : {carry : Carry} {restarts : Restarts} {words : List (List ℕ)} {source : SourceChange} {sink : SinkChange} {Unread Unwritten : Type 0} {status : Status} → Ends carry restarts words source sink Unread Unwritten status
-    → status ≡ No → form_of words ≡ Some Backup → BackupFailed carry restarts source.left source.left' sink.held sink.held'
+    → status ≡ No → form_of words ≡ Some Backup → BackupFailed source.left source.left' sink.held sink.held'
 unfolding writes_nothing reads_input
 at_unsaved out e f =
     let a = answered_by out Backup f (ap writes_nothing e) in
@@ -192,14 +192,14 @@ unfolding writes_answer
 tells_all r jobs carry restarts None all e = record { writes = refl; whole = status_of (are_well false (run_tracked r jobs carry restarts)) all e; text = refl }
 tells_all r jobs carry restarts (Some place) all e = absurd (not_refusal all e)
 
-restored_told : (carry : Carry) (restarts : Restarts) (all : Bool) (bytes : List ℕ) (left left' held held' : Option (List ℕ)) → RestoresItsRing carry restarts bytes
+restored_told : (carry : Carry) (restarts : Restarts) (all : Bool) (bytes : List ℕ) (left left' held held' : Option (List ℕ)) → RestoresItsRing bytes
     → (command_answer carry restarts Restore bytes).status ≡ (if all then Done else No) → ReadsWhole left left' bytes → Appends held held' (command_answer carry restarts Restore bytes).output
-    → RestoreTold carry restarts all left left' held held'
+    → RestoreTold all left left' held held'
 unfolding command_answer restore_answer
 restored_told carry restarts all bytes left left' held held' says at input written =
-    let of = not_refused ring_restored carry restarts (document_of bytes) (λ e. not_refusal all (sym e ∙ at)) in
+    let of = not_refused ring_restored (document_of bytes) (λ e. not_refusal all (sym e ∙ at)) in
     let d = of.says in
-    let tells = tells_all d.setup d.jobs (carry_under d carry) (restarts_under d restarts) (place_of_other d.jobs) all (sym (ap (λ (x : Answer). x.status) of.is) ∙ at) in
+    let tells = tells_all d.setup d.jobs (script_carry d) (script_restarts d) (place_of_other d.jobs) all (sym (ap (λ (x : Answer). x.status) of.is) ∙ at) in
     record {
       bytes = bytes;
       read = input;
@@ -212,7 +212,7 @@ restored_told carry restarts all bytes left left' held held' says at input writt
     }
 
 pub at_restored : {carry : Carry} {restarts : Restarts} {words : List (List ℕ)} {source : SourceChange} {sink : SinkChange} {Unread Unwritten : Type 0} {status : Status} → Ends carry restarts words source sink Unread Unwritten status
-    → status ≡ Done → form_of words ≡ Some Restore → RestoreTold carry restarts true source.left source.left' sink.held sink.held'
+    → status ≡ Done → form_of words ≡ Some Restore → RestoreTold true source.left source.left' sink.held sink.held'
 unfolding writes_nothing reads_input
 at_restored out e f =
     let a = answered_by out Restore f (ap writes_nothing e) in
@@ -220,7 +220,7 @@ at_restored out e f =
     restored_told _ _ true a.bytes _ _ _ _ a.says whole.0 a.input whole.1
 
 pub at_unrestored : {carry : Carry} {restarts : Restarts} {words : List (List ℕ)} {source : SourceChange} {sink : SinkChange} {Unread Unwritten : Type 0} {status : Status} → Ends carry restarts words source sink Unread Unwritten status
-    → status ≡ No → form_of words ≡ Some Restore → RestoreTold carry restarts false source.left source.left' sink.held sink.held'
+    → status ≡ No → form_of words ≡ Some Restore → RestoreTold false source.left source.left' sink.held sink.held'
 unfolding writes_nothing reads_input
 at_unrestored out e f =
     let a = answered_by out Restore f (ap writes_nothing e) in

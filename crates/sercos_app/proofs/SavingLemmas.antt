@@ -16,7 +16,7 @@ use Rattle.sercos_block.specs.Stores.{read_fault}
 use Rattle.sercos_block.specs.Views.{DriveView, RingView}
 use Rattle.sercos_service_drive.specs.Replies.{data_in}
 use Rattle.sercos_script.specs.declared.fault.Fault.{Fault}
-use Rattle.sercos_script.specs.Links.{Carry, Restarts, carried_by_both, restarts_in_either}
+use Rattle.sercos_script.specs.Links.{Carry, Restarts}
 use Rattle.sercos_script.specs.Scripts.{carried, restarts_at}
 use Rattle.sercos_law_run.specs.Journal.Runs.{run_of}
 use Rattle.sercos_law_run.specs.Typed.Typed.{AreTypedJobs}
@@ -36,7 +36,7 @@ use Rattle.sercos_backup.proofs.TrackLemmas.{tracked_count}
 use Rattle.sercos_backup.specs.Texts.{saved_answer, many_answer, failed_answer, other_answer, restored_line}
 use Rattle.sercos_call.specs.Outcome.{SinkChange, Writes, Replies}
 use Rattle.sercos_call.specs.Outcome.Replies.{none_found, replied}
-use Rattle.sercos_opened.specs.Kept.{carry_under, restarts_under}
+use Rattle.sercos_opened.specs.Kept.{script_carry, script_restarts}
 use Rattle.sercos_call.specs.Giving.{IsReply, GivesReply}
 use Rattle.sercos_app.specs.Saving.{run_tracked, data_answer, lists_answer, writes_answer, ring_restored, last_data, data_of, answer_by}
 use Rattle.sercos_app.specs.Saved.{AreTypedIfFew, ReadsTyped}
@@ -150,15 +150,15 @@ pub shown_never : (found : Option Block) (cycle : ℕ) (bytes out : List ℕ) �
 shown_never found cycle bytes out none gives missing = none ∙ sym (ap (data_of cycle) missing)
 
 -- A document, or its refusal.
-answer_of : (answer : RingView → List Job → Carry → Restarts → Answer) (carry : Carry) (restarts : Restarts) (read : Result DocumentView BadDocument) (d : DocumentView) → read ≡ Ok d
-    → answer d.setup d.jobs (carry_under d carry) (restarts_under d restarts) ≡ answer_by answer carry restarts read
+answer_of : (answer : RingView → List Job → Carry → Restarts → Answer) (read : Result DocumentView BadDocument) (d : DocumentView) → read ≡ Ok d
+    → answer d.setup d.jobs (script_carry d) (script_restarts d) ≡ answer_by answer read
 unfolding answer_by
-answer_of answer carry restarts read d is = rw is refl
+answer_of answer read d is = rw is refl
 
-refusal_of : (answer : RingView → List Job → Carry → Restarts → Answer) (carry : Carry) (restarts : Restarts) (read : Result DocumentView BadDocument) (bad : BadDocument) → read ≡ Err bad
-    → record { status = Refused; output = line_of bad } ≡ answer_by answer carry restarts read
+refusal_of : (answer : RingView → List Job → Carry → Restarts → Answer) (read : Result DocumentView BadDocument) (bad : BadDocument) → read ≡ Err bad
+    → record { status = Refused; output = line_of bad } ≡ answer_by answer read
 unfolding answer_by
-refusal_of answer carry restarts read bad is = rw is refl
+refusal_of answer read bad is = rw is refl
 
 no_document : (read : Result DocumentView BadDocument) (bad : BadDocument) (d : DocumentView) → read ≡ Err bad → read ≡ Ok d → ⊥
 no_document (Ok said) bad d is too = cc
@@ -172,35 +172,33 @@ one_document (Err bad) d other is too = absurd (cc)
 abbrev pub SaysOf : (DocumentView → Type 0) → List ℕ → Type 0
 SaysOf Says bytes = (d : DocumentView) → document_of bytes ≡ Ok d → Says d
 
-pub by_replies : (answer : RingView → List Job → Carry → Restarts → Answer) (Told : Type 0) (Says : DocumentView → Type 0) (carry : Carry) (restarts : Restarts) (bytes : List ℕ) (d : DocumentView) (sink : SinkChange) (Unwritten : Type 0) (status : Status)
-    → document_of bytes ≡ Ok d → (Told → Says d) → Replies (answer d.setup d.jobs (carry_under d carry) (restarts_under d restarts)) Told sink Unwritten status
-    → Replies (answer_by answer carry restarts (document_of bytes)) (SaysOf Says bytes) sink Unwritten status
-by_replies answer Told Says carry restarts bytes d sink Unwritten status is says (none_found unwritten) = none_found unwritten
-by_replies answer Told Says carry restarts bytes d sink Unwritten status is says (replied ended told written) =
+pub by_replies : (answer : RingView → List Job → Carry → Restarts → Answer) (Told : Type 0) (Says : DocumentView → Type 0) (bytes : List ℕ) (d : DocumentView) (sink : SinkChange) (Unwritten : Type 0) (status : Status)
+    → document_of bytes ≡ Ok d → (Told → Says d) → Replies (answer d.setup d.jobs (script_carry d) (script_restarts d)) Told sink Unwritten status
+    → Replies (answer_by answer (document_of bytes)) (SaysOf Says bytes) sink Unwritten status
+by_replies answer Told Says bytes d sink Unwritten status is says (none_found unwritten) = none_found unwritten
+by_replies answer Told Says bytes d sink Unwritten status is says (replied ended told written) =
     replied ended (λ other too. subst Says (one_document (document_of bytes) d other is too) (says told))
-    (subst (λ (a : Answer). Writes a.status a.output sink ended) (answer_of answer carry restarts (document_of bytes) d is) written)
+    (subst (λ (a : Answer). Writes a.status a.output sink ended) (answer_of answer (document_of bytes) d is) written)
 
-pub by_refuses : (answer : RingView → List Job → Carry → Restarts → Answer) (Says : DocumentView → Type 0) (carry : Carry) (restarts : Restarts) (bytes : List ℕ) (bad : BadDocument) (sink : SinkChange) (Unwritten : Type 0) (status : Status)
+pub by_refuses : (answer : RingView → List Job → Carry → Restarts → Answer) (Says : DocumentView → Type 0) (bytes : List ℕ) (bad : BadDocument) (sink : SinkChange) (Unwritten : Type 0) (status : Status)
     → (bad ≡ bads.Memory) ⊎ (document_of bytes ≡ Err bad)
     → ((bad ≡ bads.Memory) × (status ≡ Memory) × Unwritten) ⊎ ((bad ≢ bads.Memory) × Writes Refused (line_of bad) sink status)
-    → Replies (answer_by answer carry restarts (document_of bytes)) (SaysOf Says bytes) sink Unwritten status
-by_refuses answer Says carry restarts bytes bad sink Unwritten status cause (inl ended) =
-    subst (λ s. Replies (answer_by answer carry restarts (document_of bytes)) (SaysOf Says bytes) sink Unwritten s) (sym ended.1) (none_found ended.2)
-by_refuses answer Says carry restarts bytes bad sink Unwritten status (inl wanting) (inr written) = absurd (written.0 wanting)
-by_refuses answer Says carry restarts bytes bad sink Unwritten status (inr is) (inr written) =
+    → Replies (answer_by answer (document_of bytes)) (SaysOf Says bytes) sink Unwritten status
+by_refuses answer Says bytes bad sink Unwritten status cause (inl ended) =
+    subst (λ s. Replies (answer_by answer (document_of bytes)) (SaysOf Says bytes) sink Unwritten s) (sym ended.1) (none_found ended.2)
+by_refuses answer Says bytes bad sink Unwritten status (inl wanting) (inr written) = absurd (written.0 wanting)
+by_refuses answer Says bytes bad sink Unwritten status (inr is) (inr written) =
     replied status (λ d too. absurd (no_document (document_of bytes) bad d is too))
-    (subst (λ (a : Answer). Writes a.status a.output sink status) (refusal_of answer carry restarts (document_of bytes) bad is) written.1)
+    (subst (λ (a : Answer). Writes a.status a.output sink status) (refusal_of answer (document_of bytes) bad is) written.1)
 
--- a run over the links of the document's script, and then the link handed in, with what is said of it
-pub replies_under : (answer : RingView → List Job → Carry → Restarts → Answer) (Says : RingView → List Job → Carry → Restarts → Type 0)
-    → (d : DocumentView) (setup : RingView) (jobs : List Job) (faults : List Fault) (first second carry : Carry) (early late restarts : Restarts) (sink : SinkChange) (Unwritten : Type 0) (status : Status)
-    → d ≡ record { setup = setup; jobs = jobs; faults = faults } → first ≡ carried (length setup.drives) faults → second ≡ carry → early ≡ restarts_at faults → late ≡ restarts
-    → Replies (answer setup jobs (carried_by_both first second) (restarts_in_either early late)) (Says setup jobs (carried_by_both first second) (restarts_in_either early late)) sink Unwritten status
-    → Replies (answer d.setup d.jobs (carry_under d carry) (restarts_under d restarts)) (Says d.setup d.jobs (carry_under d carry) (restarts_under d restarts)) sink Unwritten status
-replies_under answer Says d setup jobs faults first second carry early late restarts sink Unwritten status is carries second_is restarts_early restarts_late replies =
+-- a run over the document's script, with what is said of it
+pub replies_over : (answer : RingView → List Job → Carry → Restarts → Answer) (Says : RingView → List Job → Carry → Restarts → Type 0)
+    → (d : DocumentView) (setup : RingView) (jobs : List Job) (faults : List Fault) (carry : Carry) (restarts : Restarts) (sink : SinkChange) (Unwritten : Type 0) (status : Status)
+    → d ≡ record { setup = setup; jobs = jobs; faults = faults } → carry ≡ carried (length setup.drives) faults → restarts ≡ restarts_at faults
+    → Replies (answer setup jobs carry restarts) (Says setup jobs carry restarts) sink Unwritten status
+    → Replies (answer d.setup d.jobs (script_carry d) (script_restarts d)) (Says d.setup d.jobs (script_carry d) (script_restarts d)) sink Unwritten status
+replies_over answer Says d setup jobs faults carry restarts sink Unwritten status is carries restarts_is replies =
     let Given : Carry → Restarts → Type 0 = λ c r. Replies (answer setup jobs c r) (Says setup jobs c r) sink Unwritten status in
-    let one = subst (λ (c : Carry). Given (carried_by_both c second) (restarts_in_either early late)) carries replies in
-    let two = subst (λ (c : Carry). Given (carried_by_both (carried (length setup.drives) faults) c) (restarts_in_either early late)) second_is one in
-    let three = subst (λ (r : Restarts). Given (carried_by_both (carried (length setup.drives) faults) carry) (restarts_in_either r late)) restarts_early two in
-    let four = subst (λ (r : Restarts). Given (carried_by_both (carried (length setup.drives) faults) carry) (restarts_in_either (restarts_at faults) r)) restarts_late three in
-    subst (λ (x : DocumentView). Replies (answer x.setup x.jobs (carry_under x carry) (restarts_under x restarts)) (Says x.setup x.jobs (carry_under x carry) (restarts_under x restarts)) sink Unwritten status) (sym is) four
+    let one = subst (λ (c : Carry). Given c restarts) carries replies in
+    let two = subst (λ (r : Restarts). Given (carried (length setup.drives) faults) r) restarts_is one in
+    subst (λ (x : DocumentView). Replies (answer x.setup x.jobs (script_carry x) (script_restarts x)) (Says x.setup x.jobs (script_carry x) (script_restarts x)) sink Unwritten status) (sym is) two

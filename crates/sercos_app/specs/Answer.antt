@@ -25,8 +25,8 @@ command_answer carry restarts forms.Plan bytes = plan_answer bytes
 command_answer carry restarts forms.Margin bytes = margin_answer bytes
 command_answer carry restarts forms.Run bytes = run_answer carry restarts bytes
 command_answer carry restarts forms.Check bytes = check_answer bytes
-command_answer carry restarts forms.Backup bytes = backup_answer carry restarts bytes
-command_answer carry restarts forms.Restore bytes = restore_answer carry restarts bytes
+command_answer carry restarts forms.Backup bytes = backup_answer bytes
+command_answer carry restarts forms.Restore bytes = restore_answer bytes
 command_answer carry restarts (forms.Gen drives) bytes = gen_answer carry restarts drives
 command_answer carry restarts (forms.Replay address) bytes = replay_answer address bytes
 
@@ -37,8 +37,8 @@ SaysWell carry restarts forms.Plan bytes = PlansItsRing bytes
 SaysWell carry restarts forms.Margin bytes = MeasuresItsRing bytes
 SaysWell carry restarts forms.Run bytes = RunsItsRing carry restarts bytes
 SaysWell carry restarts forms.Check bytes = Unit {0}
-SaysWell carry restarts forms.Backup bytes = SavesItsRing carry restarts bytes
-SaysWell carry restarts forms.Restore bytes = RestoresItsRing carry restarts bytes
+SaysWell carry restarts forms.Backup bytes = SavesItsRing bytes
+SaysWell carry restarts forms.Restore bytes = RestoresItsRing bytes
 SaysWell carry restarts (forms.Gen drives) bytes = RunsGenerated carry restarts drives
 SaysWell carry restarts (forms.Replay address) bytes = ReplaysItsRing address bytes
 

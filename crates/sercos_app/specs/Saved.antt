@@ -18,7 +18,7 @@ use Rattle.sercos_backup.specs.Jobs.{list_jobs, data_jobs}
 use Rattle.sercos_backup.specs.Tracking.{are_well, lists_told}
 use Rattle.sercos_law_trace.specs.Told.Reads.{IsReadFrom}
 use Rattle.sercos_law_trace.specs.Told.Writes.{IsLastTo, IsRestored}
-use Rattle.sercos_opened.specs.Kept.{KeepsThroughout, carry_under, restarts_under}
+use Rattle.sercos_opened.specs.Kept.{KeepsThroughout, script_carry, script_restarts}
 use Rattle.sercos_app.specs.Saving.{run_tracked, last_data}
 
 -- the requests of a backup's second run: for the blocks on the lists that the first one gave
@@ -54,8 +54,8 @@ pub record IsSaved (r : RingView) (carry : Carry) (restarts : Restarts) : Type 0
   pub lists : IsReadRun r (list_jobs r) carry restarts
   pub blocks : are_well true (run_tracked r (list_jobs r) carry restarts) ≡ true → length (second_jobs r carry restarts) ≤ 4096 → IsReadRun r (second_jobs r carry restarts) carry restarts
 
-abbrev pub SavesItsRing : Carry → Restarts → List ℕ → Type 0
-SavesItsRing carry restarts bytes = (d : DocumentView) → document_of bytes ≡ Ok d → IsSaved d.setup (carry_under d carry) (restarts_under d restarts)
+abbrev pub SavesItsRing : List ℕ → Type 0
+SavesItsRing bytes = (d : DocumentView) → document_of bytes ≡ Ok d → IsSaved d.setup (script_carry d) (script_restarts d)
 
 -- The drive with this address has a block with this number. After the last cycle its store has these bytes as operation data of the block,
 -- filled as a write fills them; and so it is printed.
@@ -74,5 +74,5 @@ pub record IsRestoredRun (r : RingView) (jobs : List Job) (carry : Carry) (resta
   pub run : IsRingRun r jobs carry restarts
   pub kept : AreWritesKept r jobs carry restarts
 
-abbrev pub RestoresItsRing : Carry → Restarts → List ℕ → Type 0
-RestoresItsRing carry restarts bytes = (d : DocumentView) → document_of bytes ≡ Ok d → IsRestoredRun d.setup d.jobs (carry_under d carry) (restarts_under d restarts)
+abbrev pub RestoresItsRing : List ℕ → Type 0
+RestoresItsRing bytes = (d : DocumentView) → document_of bytes ≡ Ok d → IsRestoredRun d.setup d.jobs (script_carry d) (script_restarts d)

@@ -21,7 +21,7 @@ use Rattle.sercos_backup.specs.Jobs.{list_jobs, data_jobs, place_of_other}
 use Rattle.sercos_backup.specs.Tracking.{tracked, are_well, lists_told}
 use Rattle.sercos_backup.specs.Texts.{failed_answer, many_answer, saved_answer, restored_answer, other_answer}
 use Rattle.sercos_law_trace.specs.Told.Told.{told_in}
-use Rattle.sercos_opened.specs.Kept.{carry_under, restarts_under}
+use Rattle.sercos_opened.specs.Kept.{script_carry, script_restarts}
 
 -- requests, each with its outcome in the run of a ring, for the ring's number of cycles
 abbrev pub run_tracked : RingView → List Job → Carry → Restarts → List Tracked
@@ -63,14 +63,14 @@ writes_answer r jobs carry restarts (Some place) = other_answer place
 abbrev pub ring_restored : RingView → List Job → Carry → Restarts → Answer
 ring_restored r jobs carry restarts = writes_answer r jobs carry restarts (place_of_other jobs)
 
--- what is answered to a document, or to its refusal, if a ring is answered so
-unfoldable pub answer_by : (RingView → List Job → Carry → Restarts → Answer) → Carry → Restarts → Result DocumentView BadDocument → Answer
-answer_by answer carry restarts (Ok d) = answer d.setup d.jobs (carry_under d carry) (restarts_under d restarts)
-answer_by answer carry restarts (Err bad) = record { status = Refused; output = line_of bad }
+-- what is answered to a document, or to its refusal, if a ring is answered so: over the script of the document, and no other link
+unfoldable pub answer_by : (RingView → List Job → Carry → Restarts → Answer) → Result DocumentView BadDocument → Answer
+answer_by answer (Ok d) = answer d.setup d.jobs (script_carry d) (script_restarts d)
+answer_by answer (Err bad) = record { status = Refused; output = line_of bad }
 
 -- the answers to a document
-unfoldable pub backup_answer : Carry → Restarts → List ℕ → Answer
-backup_answer carry restarts bytes = answer_by ring_saved carry restarts (document_of bytes)
+unfoldable pub backup_answer : List ℕ → Answer
+backup_answer bytes = answer_by ring_saved (document_of bytes)
 
-unfoldable pub restore_answer : Carry → Restarts → List ℕ → Answer
-restore_answer carry restarts bytes = answer_by ring_restored carry restarts (document_of bytes)
+unfoldable pub restore_answer : List ℕ → Answer
+restore_answer bytes = answer_by ring_restored (document_of bytes)

@@ -28,7 +28,7 @@ use Rattle.sercos_backup.specs.Texts.{failed_lines, many_answer, restored_line, 
 use Rattle.sercos_app.specs.Saving.{last_data, run_tracked}
 use Rattle.sercos_app.specs.Saved.{IsRestoredRun, IsSaved, second_jobs}
 use Rattle.sercos_law_run.specs.Totals.Totals.{totals_of}
-use Rattle.sercos_opened.specs.Kept.{carry_under, restarts_under, KeepsThroughout, RecoversThroughout, StartsThroughout}
+use Rattle.sercos_opened.specs.Kept.{carry_under, restarts_under, script_carry, script_restarts, KeepsThroughout, RecoversThroughout, StartsThroughout}
 use Rattle.sercos_config.specs.Views.{DocumentView}
 use Rattle.sercos_config.specs.Document.{document_of}
 use Rattle.sercos_config.specs.Generated.{generated}
@@ -159,38 +159,38 @@ pub data IsUnsaved (r : RingView) (carry : Carry) (restarts : Restarts) : List �
       → IsUnsaved r carry restarts (failed_lines false (run_tracked r (second_jobs r carry restarts) carry restarts))
 
 -- The source was read to its end as the document of a ring. The lists of backup operation data of its drives were read in one run of the
--- ring, and all blocks on them in a second one. What was appended is the saved data of these blocks, in the order of the lists.
-pub record BackupSaved (carry : Carry) (restarts : Restarts) (left left' held held' : Option (List ℕ)) : Type 0 where
+-- ring, and all blocks on them in a second one, both over its script. What was appended is the saved data of these blocks, in the order of the lists.
+pub record BackupSaved (left left' held held' : Option (List ℕ)) : Type 0 where
   pub bytes : List ℕ
   pub read : ReadsWhole left left' bytes
   pub says : DocumentView
   pub document : document_of bytes ≡ Ok says
-  pub lists : are_well true (run_tracked says.setup (list_jobs says.setup) (carry_under says carry) (restarts_under says restarts)) ≡ true
-  pub few : length (second_jobs says.setup (carry_under says carry) (restarts_under says restarts)) ≤ 4096
-  pub blocks : are_well false (run_tracked says.setup (second_jobs says.setup (carry_under says carry) (restarts_under says restarts)) (carry_under says carry) (restarts_under says restarts)) ≡ true
-  pub runs : IsSaved says.setup (carry_under says carry) (restarts_under says restarts)
-  pub written : Appends held held' (saved_lines (run_tracked says.setup (second_jobs says.setup (carry_under says carry) (restarts_under says restarts)) (carry_under says carry) (restarts_under says restarts)))
+  pub lists : are_well true (run_tracked says.setup (list_jobs says.setup) (script_carry says) (script_restarts says)) ≡ true
+  pub few : length (second_jobs says.setup (script_carry says) (script_restarts says)) ≤ 4096
+  pub blocks : are_well false (run_tracked says.setup (second_jobs says.setup (script_carry says) (script_restarts says)) (script_carry says) (script_restarts says)) ≡ true
+  pub runs : IsSaved says.setup (script_carry says) (script_restarts says)
+  pub written : Appends held held' (saved_lines (run_tracked says.setup (second_jobs says.setup (script_carry says) (script_restarts says)) (script_carry says) (script_restarts says)))
 
 -- The same, but that nothing is saved, and what was appended says why.
-pub record BackupFailed (carry : Carry) (restarts : Restarts) (left left' held held' : Option (List ℕ)) : Type 0 where
+pub record BackupFailed (left left' held held' : Option (List ℕ)) : Type 0 where
   pub bytes : List ℕ
   pub read : ReadsWhole left left' bytes
   pub says : DocumentView
   pub document : document_of bytes ≡ Ok says
   pub text : List ℕ
-  pub why : IsUnsaved says.setup (carry_under says carry) (restarts_under says restarts) text
+  pub why : IsUnsaved says.setup (script_carry says) (script_restarts says) text
   pub written : Appends held held' text
 
 -- The source was read to its end as the document of a ring whose requests all write operation data. What was appended has a line for
--- each of them, from the one run of the ring: what the drive has after its last cycle, or how the request failed. `all` says whether none
+-- each of them, from the one run of the ring over its script: what the drive has after its last cycle, or how the request failed. `all` says whether none
 -- did.
-pub record RestoreTold (carry : Carry) (restarts : Restarts) (all : Bool) (left left' held held' : Option (List ℕ)) : Type 0 where
+pub record RestoreTold (all : Bool) (left left' held held' : Option (List ℕ)) : Type 0 where
   pub bytes : List ℕ
   pub read : ReadsWhole left left' bytes
   pub says : DocumentView
   pub document : document_of bytes ≡ Ok says
   pub writes : place_of_other says.jobs ≡ None
-  pub run : IsRestoredRun says.setup says.jobs (carry_under says carry) (restarts_under says restarts)
-  pub whole : are_well false (run_tracked says.setup says.jobs (carry_under says carry) (restarts_under says restarts)) ≡ all
-  pub written : Appends held held' (flat_map (restored_line (last_data says.setup (carry_under says carry) (restarts_under says restarts) (run_of says.setup says.jobs (carry_under says carry) (restarts_under says restarts) says.setup.cycles)))
-      (run_tracked says.setup says.jobs (carry_under says carry) (restarts_under says restarts)))
+  pub run : IsRestoredRun says.setup says.jobs (script_carry says) (script_restarts says)
+  pub whole : are_well false (run_tracked says.setup says.jobs (script_carry says) (script_restarts says)) ≡ all
+  pub written : Appends held held' (flat_map (restored_line (last_data says.setup (script_carry says) (script_restarts says) (run_of says.setup says.jobs (script_carry says) (script_restarts says) says.setup.cycles)))
+      (run_tracked says.setup says.jobs (script_carry says) (script_restarts says)))

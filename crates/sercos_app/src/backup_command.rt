@@ -4,7 +4,7 @@ ghost use Rattle.sercos_step.specs.declared.request.Job.{Job};
 ghost use Rattle.sercos_block.specs.Rings.{is_ring};
 ghost use Rattle.sercos_backup.specs.Jobs.{data_jobs};
 ghost use Rattle.sercos_call.specs.Outcome.{Replies, changed};
-ghost use Rattle.sercos_opened.specs.Kept.{carry_under, restarts_under};
+ghost use Rattle.sercos_opened.specs.Kept.{script_carry, script_restarts};
 ghost use Rattle.sercos_call.specs.Giving.{IsReply};
 ghost use Rattle.sercos_app.specs.Saving.{backup_answer, data_answer, ring_saved};
 ghost use Rattle.sercos_app.specs.Saved.{AreTypedIfFew, ReadsTyped, SavesItsRing};
@@ -23,7 +23,7 @@ use sercos_io::{Sink, Status};
 use sercos_law_run::{headline_law, run_law};
 use sercos_law_trace::told_law;
 use sercos_opened::{show_jobs, show_opened};
-use sercos_script::{BitLink, Both, Scripted};
+use sercos_script::{BitLink, Scripted};
 use std::alloc::{AllocError, Global};
 
 // The reply by the run that reads the blocks on these lists.
@@ -66,30 +66,25 @@ fn backup_reply<L: BitLink>(alloc: Global, setup: &RingSetup, link: L) -> Result
     data_reply(alloc, setup, lists.as_slice(), ring.into_link())
 }
 
-// Writes the backup of a document, under its script followed by the link handed in. Its requests are left aside.
-fn back_up<L: BitLink, K: Sink>(alloc: Global, document: Document, link: L, sink: &mut K) -> Status
+// Writes the backup of a document, over its script. Its requests are ignored.
+fn back_up<K: Sink>(alloc: Global, document: Document, sink: &mut K) -> Status
     requires ring { is_ring document.setup ≡ true }
-    ensures { Replies (ring_saved document.setup document.jobs (carry_under document (L.carry link)) (restarts_under document (L.restart link)))
-        (ReadsTyped document.setup (carry_under document (L.carry link)) (restarts_under document (L.restart link)))
+    ensures { Replies (ring_saved document.setup document.jobs (script_carry document) (script_restarts document))
+        (ReadsTyped document.setup (script_carry document) (script_restarts document))
         (changed K.held K.faults K.room sink.old sink.new) (sink.new ≡ sink.old) result }
 {
     let Document { setup, faults, .. } = document;
     let script = Scripted::new(faults, drives_of(&setup));
-    give_if_made(&backup_reply(alloc, &setup, Both::new(script, link)), sink)
+    give_if_made(&backup_reply(alloc, &setup, script), sink)
 }
 
 /// Answers a ring document by the saved data of the blocks on its drives' lists of backup operation data, by the requests that
-/// failed, or by its first refusal. It runs the ring twice, each time from its first cycle and over its script followed by the link
-/// handed in: to read the lists, and to read the blocks on them. The requests of the document are left aside. All memory is
-/// taken before anything is written. Its stack is apart from that of the other commands.
+/// failed, or by its first refusal. It runs the ring twice, each time from its first cycle and over its script: to read the lists,
+/// and to read the blocks on them. The requests of the document are ignored. All memory is taken before anything is written. Its
+/// stack is apart from that of the other commands.
 #[inline(never)]
-pub fn answer_backup<L: BitLink, K: Sink>(
-    alloc: Global,
-    bytes: &[u8],
-    link: L,
-    sink: &mut K,
-) -> Status
-    ensures { Replies (backup_answer (L.carry link) (L.restart link) bytes.now) (SavesItsRing (L.carry link) (L.restart link) bytes.now)
+pub fn answer_backup<K: Sink>(alloc: Global, bytes: &[u8], sink: &mut K) -> Status
+    ensures { Replies (backup_answer bytes.now) (SavesItsRing bytes.now)
         (changed K.held K.faults K.room sink.old sink.new) (sink.new ≡ sink.old) result }
 {
     run_law();
@@ -98,7 +93,7 @@ pub fn answer_backup<L: BitLink, K: Sink>(
     match read_ring(alloc, bytes) {
         Ok(document) => {
             show_opened(&document);
-            back_up(alloc, document, link, sink)
+            back_up(alloc, document, sink)
         }
         Err(bad) => refuse(&bad, sink),
     }

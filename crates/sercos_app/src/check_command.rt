@@ -1,7 +1,7 @@
 // `check`: the verdict on a capture is written.
 ghost use Rattle.std.specs.Prelude.{◌≡◌, ◌≤◌, length};
 ghost use Rattle.sercos_checking.specs.Checking.{verdict_of, verdict_status, verdict_text, check_answer};
-ghost use Rattle.sercos_call.specs.Outcome.{Replies, Writes, changed};
+ghost use Rattle.sercos_call.specs.Outcome.{Writes, changed};
 
 use sercos_call::fault_status;
 use sercos_checking::capture::verdict;
@@ -19,12 +19,11 @@ fn give_verdict<K: Sink>(verdict: Verdict, sink: &mut K) -> Status
     }
 }
 
-/// Answers a capture by `check`: the first fault of grammar or shape, else the first violation, else the number of lines. It
+/// Writes the verdict on a capture: the first fault of grammar or shape, else the first violation, else the number of lines. It
 /// takes no memory.
-pub fn answer_check<K: Sink>(text: &[u8], sink: &mut K) -> Status
+pub fn write_verdict<K: Sink>(text: &[u8], sink: &mut K) -> Status
     requires { length text.now ≤ 1048576 }
-    ensures { Replies (check_answer text.now) (Unit {0})
-        (changed K.held K.faults K.room sink.old sink.new) (sink.new ≡ sink.old) result }
+    ensures { Writes (check_answer text.now).status (check_answer text.now).output (changed K.held K.faults K.room sink.old sink.new) result }
 {
     give_verdict(verdict(text), sink)
 }

@@ -14,7 +14,7 @@ ghost use Rattle.sercos_ring.specs.Kept.{RingStandsFor, drives_in};
 ghost use Rattle.sercos_backup.specs.Tracking.{are_well};
 ghost use Rattle.sercos_backup.specs.Texts.{restored_line};
 ghost use Rattle.sercos_call.specs.Outcome.{Replies, changed};
-ghost use Rattle.sercos_opened.specs.Kept.{carry_under, restarts_under};
+ghost use Rattle.sercos_opened.specs.Kept.{script_carry, script_restarts};
 ghost use Rattle.sercos_call.specs.Giving.{IsReply};
 ghost use Rattle.sercos_app.specs.Saving.{blocks_at, data_of, last_data, place_of, restore_answer, ring_restored, writes_answer};
 ghost use Rattle.sercos_app.specs.Saved.{RestoresItsRing};
@@ -33,7 +33,7 @@ use sercos_law_run::{headline_law, run_law};
 use sercos_law_trace::kept_law;
 use sercos_opened::show_opened;
 use sercos_ring::Ring;
-use sercos_script::{BitLink, Both, Scripted};
+use sercos_script::{BitLink, Scripted};
 use sercos_service_drive::push_data;
 use sercos_step::Job;
 use std::alloc::{AllocError, Global};
@@ -164,17 +164,12 @@ fn restore_reply<L: BitLink>(
     }
 }
 
-// Writes the answer of a restore of a document, under its script followed by the link handed in.
-fn restore_document<L: BitLink, K: Sink>(
-    alloc: Global,
-    document: Document,
-    link: L,
-    sink: &mut K,
-) -> Status
+// Writes the answer of a restore of a document, over its script.
+fn restore_document<K: Sink>(alloc: Global, document: Document, sink: &mut K) -> Status
     requires ring { is_ring document.setup ≡ true }
     requires few { length document.jobs ≤ 4096 }
     requires requests { All (λ job. IsRequest job.request) document.jobs }
-    ensures { Replies (ring_restored document.setup document.jobs (carry_under document (L.carry link)) (restarts_under document (L.restart link)))
+    ensures { Replies (ring_restored document.setup document.jobs (script_carry document) (script_restarts document))
         (Unit {0}) (changed K.held K.faults K.room sink.old sink.new) (sink.new ≡ sink.old) result }
 {
     let Document {
@@ -183,24 +178,16 @@ fn restore_document<L: BitLink, K: Sink>(
         faults,
     } = document;
     let script = Scripted::new(faults, drives_of(&setup));
-    give_if_made(
-        &restore_reply(alloc, &setup, jobs, Both::new(script, link)),
-        sink,
-    )
+    give_if_made(&restore_reply(alloc, &setup, jobs, script), sink)
 }
 
-/// Answers a ring document whose requests all write operation data: runs the ring with them, over its script followed by the link
-/// handed in, and writes a line for each: what the drive has in the end, or how the request failed. Any other document is refused:
+/// Answers a ring document whose requests all write operation data: runs the ring with them, over its script, and writes a line
+/// for each: what the drive has in the end, or how the request failed. Any other document is refused:
 /// by its first refusal, or by the number of the first other request. All memory is taken before anything is written.
 /// Its stack is apart from that of the other commands.
 #[inline(never)]
-pub fn answer_restore<L: BitLink, K: Sink>(
-    alloc: Global,
-    bytes: &[u8],
-    link: L,
-    sink: &mut K,
-) -> Status
-    ensures { Replies (restore_answer (L.carry link) (L.restart link) bytes.now) (RestoresItsRing (L.carry link) (L.restart link) bytes.now)
+pub fn answer_restore<K: Sink>(alloc: Global, bytes: &[u8], sink: &mut K) -> Status
+    ensures { Replies (restore_answer bytes.now) (RestoresItsRing bytes.now)
         (changed K.held K.faults K.room sink.old sink.new) (sink.new ≡ sink.old) result }
 {
     run_law();
@@ -209,7 +196,7 @@ pub fn answer_restore<L: BitLink, K: Sink>(
     match read_ring(alloc, bytes) {
         Ok(document) => {
             show_opened(&document);
-            restore_document(alloc, document, link, sink)
+            restore_document(alloc, document, sink)
         }
         Err(bad) => refuse(&bad, sink),
     }

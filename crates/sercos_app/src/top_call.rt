@@ -8,6 +8,7 @@ ghost use Rattle.sercos_call.specs.Outcome.{Replies, changed};
 ghost use Rattle.sercos_app.specs.Outcome.{Ends};
 ghost use Rattle.sercos_planning.specs.Margins.{MeasuresItsRing, margin_answer};
 ghost use Rattle.sercos_planning.specs.Planning.{PlansItsRing, plan_answer};
+ghost use Rattle.sercos_checking.specs.Checking.{check_answer};
 ghost use Rattle.sercos_show.specs.Show.{show_answer};
 ghost use Rattle.sercos_replay.specs.Asking.{Asks, cycles_in};
 ghost use Rattle.sercos_replay.specs.Replaying.{place_answer, replay_answer};
@@ -19,7 +20,7 @@ ghost use Rattle.sercos_app.specs.OwnRun.{AgreesThroughout, IsCalm, IsOwnRun, Op
 ghost use Rattle.sercos_app.specs.TopCall.{NonePlanned, LeastPlanned, MarginsTold, ChainTold, ViolationTold, CleanTold, PlaceTold, AgreementTold, BreachTold, RunTraced, RunSummed, BackupSaved, BackupFailed, RestoreTold};
 
 use crate::backup_command::answer_backup;
-use crate::check_command::answer_check;
+use crate::check_command::write_verdict;
 use crate::gen_command::answer_gen;
 use crate::replay::replay_law;
 use crate::replay_command::replay;
@@ -100,6 +101,15 @@ fn answer_margin<K: Sink>(alloc: Global, bytes: &[u8], sink: &mut K) -> Status
     give_made(&measured(alloc, bytes), sink)
 }
 
+// Answers an input by `check`.
+fn answer_check<K: Sink>(text: &[u8], sink: &mut K) -> Status
+    requires { length text.now ≤ 1048576 }
+    ensures { Replies (check_answer text.now) (Unit {0})
+        (changed K.held K.faults K.room sink.old sink.new) (sink.new ≡ sink.old) result }
+{
+    write_verdict(text, sink)
+}
+
 // Answers an input by `replay`.
 fn answer_replay<K: Sink>(alloc: Global, address: u8, bytes: &[u8], sink: &mut K) -> Status
     requires few { length bytes.now ≤ 1048576 }
@@ -139,8 +149,8 @@ fn answer<K: Sink, L: BitLink>(
         Form::Margin => answer_margin(alloc, bytes, sink),
         Form::Run => answer_run(alloc, bytes, link, sink),
         Form::Check => answer_check(bytes, sink),
-        Form::Backup => answer_backup(alloc, bytes, link, sink),
-        Form::Restore => answer_restore(alloc, bytes, link, sink),
+        Form::Backup => answer_backup(alloc, bytes, sink),
+        Form::Restore => answer_restore(alloc, bytes, sink),
         Form::Gen(drives) => answer_gen(alloc, drives, link, sink),
         Form::Replay(address) => answer_replay(alloc, address, bytes, sink),
     }
@@ -189,10 +199,10 @@ fn respond<S: Source, K: Sink, L: BitLink>(
 ///
 /// The forms of words are `show`, `plan`, `margin`, `run`, `check`, `backup`, `restore`, `gen N` for 1 to 64 drives, and `replay A` for an address from 0 to
 /// 254, with at most one word `--` anywhere.
-/// `run`, `gen`, `backup` and `restore` run their ring over the script of the document, followed by `link`; no other command uses
-/// `link`. Words in no
-/// form are `BadWords`, and nothing is read. `ReadFault` is returned if a read failed, `TooLong` if the input is longer, and
-/// `Memory` if no memory was found; then nothing is written. A refused input is `Refused`, also if its line couldn't be written
+/// `run` and `gen` run their ring over the script of the document, followed by `link`; no other command uses `link`. `backup` and
+/// `restore` run theirs over the script alone.
+/// Words in no form are `BadWords`, and nothing is read. `ReadFault` is returned if a read failed, `TooLong` if the input is longer,
+/// and `Memory` if no memory was found; then nothing is written. A refused input is `Refused`, also if its line couldn't be written
 /// whole. After any other failed write the status is `WriteFault`, and the sink has taken a prefix of the output.
 ///
 /// Of each run that `run` traces and `gen` sums, up to the first arrival that is unseen, whatever was lost or damaged: if no cycle after a
@@ -295,18 +305,18 @@ pub fn sercos<S: Source, K: Sink, L: BitLink>(
     // runs of the ring; where nothing was unseen in a run, what was read in it are the bytes that the drive's store had in the one
     // cycle in which the drive accepted the selection of that read's own transfer. No comes only with the requests that failed, or
     // where the blocks are too many.
-    ensures saved { result ≡ Status.Done → form_of words.now ≡ Some Form.Backup → BackupSaved (L.carry link) (L.restart link)
+    ensures saved { result ≡ Status.Done → form_of words.now ≡ Some Form.Backup → BackupSaved
         (S.left source.old) (S.left source.new) (K.held sink.old) (K.held sink.new) }
-    ensures unsaved { result ≡ Status.No → form_of words.now ≡ Some Form.Backup → BackupFailed (L.carry link) (L.restart link)
+    ensures unsaved { result ≡ Status.No → form_of words.now ≡ Some Form.Backup → BackupFailed
         (S.left source.old) (S.left source.new) (K.held sink.old) (K.held sink.new) }
 
     // Done and No come from `restore` only where each request of the ring writes operation data, with a line for each: what the drive
     // has after the last cycle of the one run of the ring, or how the request failed; Done only where none did. Where nothing was
     // unseen in the run, what is printed for a complete write is its data, filled up to whole words, if no later request to the drive
     // is one to the same block, which the drive has.
-    ensures restored { result ≡ Status.Done → form_of words.now ≡ Some Form.Restore → RestoreTold (L.carry link) (L.restart link) true
+    ensures restored { result ≡ Status.Done → form_of words.now ≡ Some Form.Restore → RestoreTold true
         (S.left source.old) (S.left source.new) (K.held sink.old) (K.held sink.new) }
-    ensures unrestored { result ≡ Status.No → form_of words.now ≡ Some Form.Restore → RestoreTold (L.carry link) (L.restart link) false
+    ensures unrestored { result ≡ Status.No → form_of words.now ≡ Some Form.Restore → RestoreTold false
         (S.left source.old) (S.left source.new) (K.held sink.old) (K.held sink.new) }
 
     // Refused too comes only where the input was read to its end; if writing the refusal failed, a prefix of it was appended.

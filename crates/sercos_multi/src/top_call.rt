@@ -14,7 +14,8 @@ use std::alloc::Global;
 
 // Reads the input, and gives the answer to it.
 fn respond<S: Source, K: Sink>(alloc: Global, words: &Words, source: &mut S, sink: &mut K) -> Status
-    ensures { Outcome (form_of words.now) (reads_input (form_of words.now)) rings_answer RunsItsRings
+    ensures words { form_of words.now ≡ None → result ≡ Status.BadWords }
+    ensures how { Outcome (form_of words.now) (reads_input (form_of words.now)) rings_answer RunsItsRings
         (record {
           left = S.left source.old;
           left' = S.left source.new;
@@ -59,7 +60,7 @@ pub fn rings<S: Source, K: Sink>(
 ) -> Status
     // The words come first: those in no form are refused before anything is read.
     ensures bad_words { result ≡ Status.BadWords → form_of words.now ≡ None }
-    ensures no_form { form_of words.now ≡ None → (result ≡ Status.Memory) ⊎ (result ≡ Status.BadWords) }
+    ensures no_form { form_of words.now ≡ None → result ≡ Status.BadWords }
     ensures unread { reads_input (form_of words.now) ≡ false → source.new ≡ source.old }
 
     // What is taken from the source is lost: at most 1,048,577 bytes, and that number only if the answer is TooLong.

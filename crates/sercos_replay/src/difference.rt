@@ -41,6 +41,18 @@ impl Difference {
             found: None,
         }
     }
+
+    // A copy, to be handed out.
+    pub(crate) fn copy(&self) -> Difference
+        ensures { result ≡ self.now }
+    {
+        Difference {
+            cycle: self.cycle,
+            kind: self.kind,
+            expected: found_copy(self.expected.as_ref()),
+            found: found_copy(self.found.as_ref()),
+        }
+    }
 }
 
 fn copy_of(content: &Content) -> Content

@@ -211,7 +211,7 @@ impl DriveReplay {
     }
 
     // A line.
-    fn give(&mut self, line: &Line)
+    pub(crate) fn give(&mut self, line: &Line)
         ensures { DriveAfterLine self.old line.now self.new }
     {
         if self.differs {
@@ -230,34 +230,38 @@ impl DriveReplay {
         self.close();
     }
 
-    // Lends the difference that was told.
-    fn difference(&self) -> Option<&Difference>
+    // The difference that was found, as a copy.
+    fn difference(&self) -> Option<Difference>
         ensures tells { (d : DriveView) (rate : ℕ) (lines : List Line) → DriveReplayStandsFor self.now d rate lines →
-            option_map (λ p. p.now) result ≡ drive_tells d rate (cycles_of lines) }
+            result ≡ drive_tells d rate (cycles_of lines) }
         ensures differs { (d : DriveView) (rate : ℕ) (lines : List Line) → DriveReplayHasFinished self.now d rate lines →
-            option_map (λ p. p.now) result ≡ drive_differs d rate (cycles_of lines) }
+            result ≡ drive_differs d rate (cycles_of lines) }
     {
-        if self.differs { Some(&self.told) } else { None }
+        if self.differs {
+            Some(self.told.copy())
+        } else {
+            None
+        }
     }
 
-    /// Takes the next line of a capture, in which cycles don't go back. Lends the first place at which the drive said something
-    /// else than its rules give, as soon as its telegram or one of a later place was given; `None` if there is none so far. After
-    /// a difference each call lends it again.
-    pub fn line(&mut self, line: &Line) -> Option<&Difference>
-        ensures* after { sem 𝓛 (follows_so the_row the_row self.entry.ghost_name none (λ _ _. ⊤) (λ new. DriveAfterLine self.old line.now new)) }
+    /// Takes the next line of a capture, in which cycles don't go back. Returns the first place at which the drive deviated from its
+    /// rules, as soon as its telegram or one of a later place was given; `None` if there is none so far. After a difference each
+    /// call returns it again.
+    pub fn line(&mut self, line: &Line) -> Option<Difference>
+        ensures after { DriveAfterLine self.old line.now self.new }
         ensures tells { (d : DriveView) (rate : ℕ) (lines : List Line) → DriveReplayStandsFor self.old d rate lines → GoesOn lines line.now →
-            option_map (λ p. p.now) result ≡ drive_tells d rate (cycles_of (line.now ∷ lines)) }
+            result ≡ drive_tells d rate (cycles_of (line.now ∷ lines)) }
     {
         self.give(line);
         self.difference()
     }
 
-    /// Ends the capture, after which no line is given. Lends the first place at which the drive said something else than its rules
-    /// give, or didn't say what they give; `None` if there is none. It may be called again, and lends the same.
-    pub fn finish(&mut self) -> Option<&Difference>
-        ensures* after { sem 𝓛 (follows_so the_row the_row self.entry.ghost_name none (λ _ _. ⊤) (λ new. DriveAfterEnd self.old new)) }
+    /// Ends the capture, after which no line is given. Returns the first place at which the drive deviated from its rules, or sent nothing
+    /// where they ask for a telegram; `None` if there is none. It may be called again, and returns the same.
+    pub fn finish(&mut self) -> Option<Difference>
+        ensures after { DriveAfterEnd self.old self.new }
         ensures differs { (d : DriveView) (rate : ℕ) (lines : List Line) → (DriveReplayStandsFor self.old d rate lines ⊎ DriveReplayHasFinished self.old d rate lines) →
-            option_map (λ p. p.now) result ≡ drive_differs d rate (cycles_of lines) }
+            result ≡ drive_differs d rate (cycles_of lines) }
     {
         self.end_all();
         self.difference()

@@ -280,7 +280,7 @@ impl MasterReplay {
     }
 
     // A line.
-    fn give(&mut self, line: &Line)
+    pub(crate) fn give(&mut self, line: &Line)
         ensures { MasterAfterLine self.old line.now self.new }
     {
         if self.differs {
@@ -299,34 +299,37 @@ impl MasterReplay {
         self.close();
     }
 
-    // Lends the difference that was told.
-    fn difference(&self) -> Option<&Difference>
+    // The difference that was found, as a copy.
+    fn difference(&self) -> Option<Difference>
         ensures tells { (s : Known) (jobs : List Job) (lines : List Line) → MasterReplayStandsFor self.now s jobs lines →
-            option_map (λ p. p.now) result ≡ master_tells s jobs (cycles_of lines) }
+            result ≡ master_tells s jobs (cycles_of lines) }
         ensures differs { (s : Known) (jobs : List Job) (lines : List Line) → MasterReplayHasFinished self.now s jobs lines →
-            option_map (λ p. p.now) result ≡ master_differs s jobs (cycles_of lines) }
+            result ≡ master_differs s jobs (cycles_of lines) }
     {
-        if self.differs { Some(&self.told) } else { None }
+        if self.differs {
+            Some(self.told.copy())
+        } else {
+            None
+        }
     }
 
-    /// Takes the next line of a capture. Lends the first place at which the master said something else than its rules give, as soon
-    /// as its telegram or one of a later place was given; `None` if there is none so far. After a difference each call lends it
-    /// again.
-    pub fn line(&mut self, line: &Line) -> Option<&Difference>
-        ensures* after { sem 𝓛 (follows_so the_row the_row self.entry.ghost_name none (λ _ _. ⊤) (λ new. MasterAfterLine self.old line.now new)) }
+    /// Takes the next line of a capture. Returns the first place at which the master deviated from its rules, as soon as its telegram
+    /// or one of a later place was given; `None` if there is none so far. After a difference each call returns it again.
+    pub fn line(&mut self, line: &Line) -> Option<Difference>
+        ensures after { MasterAfterLine self.old line.now self.new }
         ensures tells { (s : Known) (jobs : List Job) (lines : List Line) → MasterReplayStandsFor self.old s jobs lines →
-            option_map (λ p. p.now) result ≡ master_tells s jobs (cycles_of (line.now ∷ lines)) }
+            result ≡ master_tells s jobs (cycles_of (line.now ∷ lines)) }
     {
         self.give(line);
         self.difference()
     }
 
-    /// Ends the capture, after which no line is given. Lends the first place at which the master said something else than its rules
-    /// give, or didn't say what they give; `None` if there is none. It may be called again, and lends the same.
-    pub fn finish(&mut self) -> Option<&Difference>
-        ensures* after { sem 𝓛 (follows_so the_row the_row self.entry.ghost_name none (λ _ _. ⊤) (λ new. MasterAfterEnd self.old new)) }
+    /// Ends the capture, after which no line is given. Returns the first place at which the master deviated from its rules, or sent nothing
+    /// where they ask for a telegram; `None` if there is none. It may be called again, and returns the same.
+    pub fn finish(&mut self) -> Option<Difference>
+        ensures after { MasterAfterEnd self.old self.new }
         ensures differs { (s : Known) (jobs : List Job) (lines : List Line) → (MasterReplayStandsFor self.old s jobs lines ⊎ MasterReplayHasFinished self.old s jobs lines) →
-            option_map (λ p. p.now) result ≡ master_differs s jobs (cycles_of lines) }
+            result ≡ master_differs s jobs (cycles_of lines) }
     {
         self.end_all();
         self.difference()

@@ -144,13 +144,13 @@ fn difference_reply(alloc: Global, difference: &Difference) -> Result<Reply, All
 #[tactic(auto, unfolding(crate::specs::Replaying::place_answer))]
 pub fn place_reply(
     alloc: Global,
-    difference: Option<&Difference>,
+    difference: Option<Difference>,
     cycles: u64,
 ) -> Result<Reply, AllocError>
-    ensures { IfOk result (λ reply. Says reply (place_answer (option_map (λ p. p.now) difference.entry) cycles)) }
+    ensures { IfOk result (λ reply. Says reply (place_answer difference cycles)) }
 {
     match difference {
-        Some(difference) => difference_reply(alloc, difference),
+        Some(difference) => difference_reply(alloc, &difference),
         None => number_reply(alloc, Status::Done, "agrees ", cycles),
     }
 }

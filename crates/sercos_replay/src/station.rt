@@ -69,12 +69,8 @@ impl Replay {
         ensures { (s : Station) (before : List Line) → ReplayStandsFor self.old s before → GoesOn before line.now → ReplayStandsFor self.new s (line.now ∷ before) }
     {
         match self {
-            Replay::Master(replay) => {
-                let _told = replay.line(line);
-            }
-            Replay::Drive(replay) => {
-                let _told = replay.line(line);
-            }
+            Replay::Master(replay) => replay.give(line),
+            Replay::Drive(replay) => replay.give(line),
         }
     }
 

@@ -27,7 +27,7 @@ fn is_sent(sent: &Option<Sent>, start: i32, content: &[u8]) -> bool {
     }
 }
 
-fn is_at(place: Option<&Difference>) -> bool {
+fn is_at(place: Option<Difference>) -> bool {
     match place {
         Some(place) => {
             place.cycle == 13
@@ -39,7 +39,7 @@ fn is_at(place: Option<&Difference>) -> bool {
     }
 }
 
-fn is_mdt(place: Option<&Difference>) -> bool {
+fn is_mdt(place: Option<Difference>) -> bool {
     match place {
         Some(place) => {
             place.cycle == 13

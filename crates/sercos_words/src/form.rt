@@ -1,5 +1,5 @@
 // The words of the commands.
-ghost use Rattle.std.specs.Prelude.{◌≡◌, ◌≤◌, [], ◌∷◌, IfOk, IfSome, None, length, map};
+ghost use Rattle.std.specs.Prelude.{◌≡◌, ◌≤◌, ◌<◌, ◌⊎◌, [], ◌∷◌, IfOk, IfSome, None, Ok, length, map};
 ghost use Rattle.clap.specs.Words.{app_of};
 ghost use Rattle.sercos_words.specs.CommandLine.{command_line};
 ghost use Rattle.sercos_words.specs.Form.{word_form, number_named, gen_form, replay_form, plain_form, form_of, HasNumber};
@@ -154,9 +154,10 @@ fn matched_form(word: Option<&str>, number: Option<&str>) -> Option<Form>
     }
 }
 
-/// The form in which the words are, or nothing if they are in none. One word `--` may be anywhere among them. The error is
-/// `AllocError`.
+/// Returns the form in which the words are, or nothing if they are in none. One word `--` may be anywhere among them. The error is
+/// `AllocError`; it is returned for one to three words alone, since no other number of words needs memory.
 pub fn form_of(alloc: Global, words: &Words) -> Result<Option<Form>, AllocError>
+    ensures count { (words.now ≡ []) ⊎ (3 < length words.now) → result ≡ Ok None }
     ensures value { IfOk result (λ form. form ≡ form_of words.now) }
     ensures range { IfOk result (λ form. IfSome form HasNumber) }
 {

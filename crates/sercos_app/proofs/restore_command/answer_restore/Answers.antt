@@ -5,8 +5,8 @@ use Rattle.sercos_app.proofs.restore_command.answer_restore.Goals as goal
 
 pub returns-in-Ok : goal.returns-in-Ok
 unfolding restore_answer
-returns-in-Ok g c = by_replies ring_restored _ _ _ _ c.args.bytes.now c.in-Ok.document _ _ _ c.in-Ok.ensures.value (is_restored c.run_law.ensures.is_next c.headline_law.ensures c.kept_law.ensures _ _ c.in-Ok.document c.show_opened.ensures) c.restore_document.ensures
+returns-in-Ok g c = by_replies ring_restored _ _ c.args.bytes.now c.in-Ok.document _ _ _ c.in-Ok.ensures.value (is_restored c.run_law.ensures.is_next c.headline_law.ensures c.kept_law.ensures c.in-Ok.document c.show_opened.ensures) c.restore_document.ensures
 
 pub returns-in-Err : goal.returns-in-Err
 unfolding restore_answer
-returns-in-Err g c = by_refuses ring_restored _ _ _ c.args.bytes.now c.in-Err.bad _ _ _ c.in-Err.ensures.value c.refuse.ensures
+returns-in-Err g c = by_refuses ring_restored _ c.args.bytes.now c.in-Err.bad _ _ _ c.in-Err.ensures.value c.refuse.ensures

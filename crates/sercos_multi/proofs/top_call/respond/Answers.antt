@@ -14,7 +14,11 @@ use Rattle.sercos_multi.proofs.top_call.respond.Goals as goal
 pub returns-then-is_none : goal.returns-then-is_none
 returns-then-is_none g c =
     let none : is_none (form_of c.args.words.now) ≡ true = search rules in
-    stopped BadWords (no_form (unnamed (form_of c.args.words.now) none) refl refl refl) refl refl
+    record {
+      words = λ none. refl;
+      how =
+          stopped BadWords (no_form (unnamed (form_of c.args.words.now) none) refl refl refl) refl refl;
+    }
 
 pub returns-in-Err-ReadFault : goal.returns-in-Err-ReadFault
 returns-in-Err-ReadFault g c =
@@ -23,7 +27,11 @@ returns-in-Err-ReadFault g c =
     let cause = rw (c.in-Err-ReadFault.field-0-is) at c.in-Err-ReadFault.ensures.cause in
     let lost = rw (c.in-Err-ReadFault.field-0-is) at c.in-Err-ReadFault.ensures.lost in
     let takes : TakesAtMost 1048576 _ _ = record { taken = lost.0; few = lost.2; consumed = lost.1 } in
-    stopped ReadFault (unreadable (reads_none (form_of c.args.words.now) form is) cause.0 cause.1 takes) refl refl
+    record {
+      words = λ none. absurd (cc);
+      how =
+          stopped ReadFault (unreadable (reads_none (form_of c.args.words.now) form is) cause.0 cause.1 takes) refl refl;
+    }
 
 pub returns-in-Err-TooLong : goal.returns-in-Err-TooLong
 returns-in-Err-TooLong g c =
@@ -31,7 +39,11 @@ returns-in-Err-TooLong g c =
     let (form, is) = named (form_of c.args.words.now) some in
     let cause = rw (c.in-Err-TooLong.field-0-is) at c.in-Err-TooLong.ensures.cause in
     let taken = c.in-Err-TooLong.ensures.too_long (ap Err c.in-Err-TooLong.field-0-is) in
-    stopped TooLong (too_many (reads_none (form_of c.args.words.now) form is) cause (record { taken = taken.0; many = taken.2; consumed = taken.1 })) refl refl
+    record {
+      words = λ none. absurd (cc);
+      how =
+          stopped TooLong (too_many (reads_none (form_of c.args.words.now) form is) cause (record { taken = taken.0; many = taken.2; consumed = taken.1 })) refl refl;
+    }
 
 pub returns-in-Err-Memory : goal.returns-in-Err-Memory
 returns-in-Err-Memory g c =
@@ -40,13 +52,21 @@ returns-in-Err-Memory g c =
     let cause = rw (c.in-Err-Memory.field-0-is) at c.in-Err-Memory.ensures.cause in
     let lost = rw (c.in-Err-Memory.field-0-is) at c.in-Err-Memory.ensures.lost in
     let takes : TakesAtMost 1048576 _ _ = record { taken = lost.0; few = lost.2; consumed = lost.1 } in
-    stopped Memory (no_memory cause takes (stays_read _ _ (reads_none (form_of c.args.words.now) form is))) refl refl
+    record {
+      words = λ none. absurd (cc);
+      how =
+          stopped Memory (no_memory cause takes (stays_read _ _ (reads_none (form_of c.args.words.now) form is))) refl refl;
+    }
 
 pub returns : goal.returns
 returns g c =
     let some : is_none (form_of c.args.words.now) ≡ false = search rules in
     let (form, is) = named (form_of c.args.words.now) some in
     let read = c.in-Ok.ensures.ok in
-    answer_ends _ _ _ _ form c.in-Ok.bytes.items _ _ _ _ _ is c.in-Ok.ensures.cause
-    (reads_all _ _ _ _ (sym (reads_none (form_of c.args.words.now) form is)) (record { consumed = read.0; ended = read.1; fits = read.2 }))
-    (ap g.K.Sink.faults) (rw (c.as_slice.ensures.value) at c.answer_rings.ensures)
+    record {
+      words = λ none. absurd (cc);
+      how =
+          answer_ends _ _ _ _ form c.in-Ok.bytes.items _ _ _ _ _ is c.in-Ok.ensures.cause
+          (reads_all _ _ _ _ (sym (reads_none (form_of c.args.words.now) form is)) (record { consumed = read.0; ended = read.1; fits = read.2 }))
+          (ap g.K.Sink.faults) (rw (c.as_slice.ensures.value) at c.answer_rings.ensures);
+    }
