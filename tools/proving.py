@@ -11,7 +11,7 @@ import time
 
 # A check takes 2 GB for a start, and one more for each of its jobs.
 GB = 1 << 30
-MINUTES = "about 20 minutes on four processors, 35 on two"
+MINUTES = "about 25 minutes on four processors, 32 on two"
 LIBC = ctypes.CDLL(None)
 
 

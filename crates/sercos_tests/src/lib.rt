@@ -1,13 +1,26 @@
-//! Tests of the top call on worked examples: words, input and output, failing reads and writes, links handed in; and of replays.
+//! Tests of the programs on worked examples, as tables of rows: words, input, status and output; and of failing reads and writes, and of
+//! links handed in.
 #![tactic(auto)]
 
 #[cfg(test)]
+mod backups;
+#[cfg(test)]
+mod captures;
+#[cfg(test)]
 mod faults;
+#[cfg(test)]
+mod frames;
+#[cfg(test)]
+mod generated;
 #[cfg(test)]
 mod plans;
 #[cfg(test)]
-mod replays;
+mod refusals;
+#[cfg(test)]
+mod rings;
+#[cfg(test)]
+mod rows;
 #[cfg(test)]
 mod runs;
 #[cfg(test)]
-mod show;
+mod texts;

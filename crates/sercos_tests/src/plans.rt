@@ -1,152 +1,188 @@
-// Ring documents and their plans, by the layers below the top call.
+// Plans: `plan` and `margin`, and the layers below them.
+use crate::rows::{Base, PLAIN, Row, check, edited};
+use crate::texts::TWO_DRIVES;
 use arrayvec::ArrayVec;
 use sercos_config::read_ring;
+use sercos_io::Status;
 use sercos_plan::{Chain, Link, check_chain, plan};
-use sercos_timing::{Broken, Plan, Wishes, fits, valid, wire};
-use std::alloc::{AllocError, Global};
+use sercos_timing::{Wishes, valid, wire};
+use std::alloc::Global;
+use std::process::Abort;
 use std::test::Fail;
 
-// Two drives, each with a slave of its own.
-const HEAD: &str = "[ring]\nrate = 4\ngap = 5\ncycles = 300\n";
+const PLAN: Row = Row {
+    words: "sercos plan",
+    base: Base::TwoDrives,
+    ..PLAIN
+};
 
-const DRIVES: &str = "
+const PLAN_ROWS: [Row; 10] = [
+    Row {
+        shows: "two drives",
+        lines: "plan t2 83 t3 153 t4 230 mdt 16
+slot 1 t1 10 position 1
+slot 2 t1 46 position 9",
+        ..PLAN
+    },
+    Row {
+        shows: "two drives in too short a cycle",
+        edits: "cycle = 250 => cycle = 125",
+        status: Status::No,
+        lines: "no plan
+rule 1 drive 1 at 40
+rule 3 drive 2 at 184
+rule 6 drive 2 at 332
+rule 9 drive 1 sum 570 bound 446",
+        ..PLAN
+    },
+    Row {
+        shows: "third drive of the first one's slave, which recovers slowly",
+        more: "
 [[drive]]
-address = 1
+address = 3
+slave = 1
 t1min = 10
 tatmt = 6
 t4min = 20
-tatat = 5
+tatat = 60
 tmtsy = 10
 tmtsg = 20
-at = [\"S-0-0051\"]
-mdt = [\"S-0-0047\"]
+at = ['S-0-0051']
+mdt = ['S-0-0047']
 
 [[drive.block]]
-idn = \"S-0-0047\"
+idn = 'S-0-0047'
 attribute = 0x00220001
 
 [[drive.block]]
-idn = \"S-0-0051\"
+idn = 'S-0-0051'
 attribute = 0x00220001
 data = 64500
 step = 10
+",
+        lines: "plan t2 138 t3 227 t4 230 mdt 24
+slot 1 t1 10 position 1
+slot 2 t1 46 position 9
+slot 3 t1 101 position 17",
+        ..PLAN
+    },
+    Row {
+        shows: "turn of a drive that just fits",
+        edits: "tmtsy = 10 => tmtsy = 104",
+        lines: "plan t2 83 t3 153 t4 230 mdt 16
+slot 1 t1 10 position 1
+slot 2 t1 46 position 9",
+        ..PLAN
+    },
+    Row {
+        shows: "turn of a drive a microsecond too long",
+        edits: "tmtsy = 10 => tmtsy = 105",
+        status: Status::No,
+        lines: "no plan
+rule 1 drive 1 at 40
+rule 3 drive 2 at 184
+rule 6 drive 2 at 332
+rule 9 drive 1 sum 950 bound 946",
+        ..PLAN
+    },
+    Row {
+        shows: "three drives",
+        base: Base::ThreeDrives,
+        lines: "plan t2 175 t3 323 t4 900 mdt 36
+slot 1 t1 20 position 1
+slot 2 t1 70 position 13
+slot 3 t1 120 position 25",
+        ..PLAN
+    },
+    Row {
+        shows: "rate of 16",
+        edits: "rate = 4 => rate = 16",
+        lines: "plan t2 37 t3 70 t4 230 mdt 16
+slot 1 t1 10 position 1
+slot 2 t1 23 position 9",
+        ..PLAN
+    },
+    Row {
+        shows: "neighbours of one slave need no gap",
+        edits: "address = 2\nt1min = 12\ntatmt = 6\nt4min = 20\ntatat = 5 => address = 2\nslave = 1\nt1min = 12\ntatmt = 6\nt4min = 20\ntatat = 2",
+        lines: "plan t2 80 t3 150 t4 230 mdt 16
+slot 1 t1 10 position 1
+slot 2 t1 43 position 9",
+        ..PLAN
+    },
+    Row {
+        shows: "longest time from an AT to the MDT",
+        base: Base::OneDrive,
+        edits: "tatmt = 6 => tatmt = 155",
+        lines: "plan t2 196 t3 247 t4 230 mdt 8
+slot 1 t1 10 position 1",
+        ..PLAN
+    },
+    Row {
+        shows: "a microsecond more",
+        base: Base::OneDrive,
+        edits: "tatmt = 6 => tatmt = 156",
+        status: Status::No,
+        lines: "no plan
+rule 1 drive 1 at 40
+rule 6 drive 1 at 788
+rule 9 drive 1 sum 949 bound 946",
+        ..PLAN
+    },
+];
 
-[[drive]]
-address = 2
-t1min = 12
-tatmt = 6
-t4min = 20
-tatat = 5
-tmtsy = 10
-tmtsg = 20
-at = [\"S-0-0051\"]
-mdt = [\"S-0-0047\"]
+const MARGIN_ROWS: [Row; 3] = [
+    Row {
+        shows: "one drive",
+        words: "sercos margin",
+        base: Base::OneDrive,
+        lines: "cycle 125
+margin 1 t1min 159 tatmt 155 t4min 250 tatat 64000 tmtsy 159 tmtsg 172",
+        ..PLAN
+    },
+    Row {
+        shows: "two drives in too short a cycle",
+        words: "sercos margin",
+        edits: "cycle = 250 => cycle = 125",
+        status: Status::No,
+        lines: "cycle 250
+no plan
+rule 1 drive 1 at 40
+rule 3 drive 2 at 184
+rule 6 drive 2 at 332
+rule 9 drive 1 sum 570 bound 446",
+        ..PLAN
+    },
+    Row {
+        shows: "only the longest cycle is long enough",
+        words: "sercos margin",
+        base: Base::OneDrive,
+        edits: "cycle = 250 => cycle = 64000\ncontrol = 64000 & t4min = 20 => t4min = 64000",
+        lines: "cycle 64000
+margin 1 t1min 300 tatmt 300 t4min 64000 tatat 64000 tmtsy 250 tmtsg 63922",
+        ..PLAN
+    },
+];
 
-[[drive.block]]
-idn = \"S-0-0047\"
-attribute = 0x00220001
-
-[[drive.block]]
-idn = \"S-0-0051\"
-attribute = 0x00220001
-data = 64500
-step = 10
-";
-
-// The document with a cycle time.
-pub fn document(alloc: Global, cycle: &str) -> Result<Vec<u8>, AllocError> {
-    let mut text = Vec::from_slice(alloc, HEAD.as_bytes())?;
-    text.extend_from_slice(b"cycle = ")?;
-    text.extend_from_slice(cycle.as_bytes())?;
-    text.extend_from_slice(b"\n")?;
-    text.extend_from_slice(DRIVES.as_bytes())?;
-    Ok(text)
+#[test]
+fn plans(rt: HostRuntime) -> Result<(), Fail> {
+    check(&rt, rt.alloc(), &PLAN_ROWS, "")
 }
 
-// What the ring with a cycle time asks of its plan, if its document is taken.
-fn wishes(alloc: Global, cycle: &str) -> Result<Option<Wishes>, AllocError> {
-    match read_ring(alloc, document(alloc, cycle)?.as_slice()) {
+#[test]
+fn margins(rt: HostRuntime) -> Result<(), Fail> {
+    check(&rt, rt.alloc(), &MARGIN_ROWS, "")
+}
+
+// What the ring of two drives, after edits, needs of its plan, if its document is taken.
+fn wishes(rt: &impl Abort, alloc: Global, edits: &str) -> Result<Option<Wishes>, Fail> {
+    match read_ring(
+        alloc,
+        edited(rt, alloc, TWO_DRIVES, edits)?.as_str().as_bytes(),
+    ) {
         Ok(document) => Ok(Some(document.setup.wishes())),
         Err(_) => Ok(None),
     }
-}
-
-#[test]
-fn read_with_ample_memory(rt: HostRuntime) -> Result<(), Fail> {
-    let text = document(rt.alloc(), "250")?;
-    let Ok(document) = read_ring(rt.alloc(), text.as_slice()) else {
-        assert!(rt; false);
-        return Ok(());
-    };
-    let setup = &document.setup;
-    assert!(rt; setup.valid());
-    assert_eq!(rt;
-        (
-            setup.rate,
-            setup.cycle,
-            setup.control,
-            setup.gap,
-            setup.cycles
-        ),
-        (4, 250, 250, 5, 300)
-    );
-    assert_eq!(rt; setup.order.as_slice(), [0u8, 1].as_slice());
-    assert_eq!(rt; setup.drives.len(), 2);
-    for drive in setup.drives.iter() {
-        assert_eq!(rt;
-            (drive.slave, drive.busy, drive.command),
-            (drive.address, 0, 0)
-        );
-        assert_eq!(rt; (drive.cycle_min, drive.cycle_max), (125, 64000));
-        assert_eq!(rt; (drive.at_len(), drive.record_len()), (8, 8));
-        assert_eq!(rt; drive.blocks.len(), 2);
-        for block in drive.blocks.iter() {
-            let (value, step): (&[u8], u32) = if block.idn.raw == 51 {
-                (&[244, 251, 0, 0], 10)
-            } else {
-                (&[0; 4], 0)
-            };
-            assert_eq!(rt; block.attribute.write(), 0x0022_0001);
-            assert_eq!(rt; (block.value.as_slice(), block.step), (value, step));
-        }
-    }
-    Ok(())
-}
-
-// The plan, and the first inequality that a later MDT breaks.
-#[test]
-fn least_plan(rt: HostRuntime) -> Result<(), Fail> {
-    let wishes = wishes(rt.alloc(), "250")?.expect(&rt, "the document is taken");
-    if !valid(&wishes) {
-        assert!(rt; false);
-        return Ok(());
-    }
-    let Ok(least) = plan(&wishes) else {
-        assert!(rt; false);
-        return Ok(());
-    };
-    let wanted = Plan {
-        t1: ArrayVec::try_from([10u16, 46].as_slice())?,
-        t2: 83,
-        t3: 153,
-        t4: 230,
-        position: ArrayVec::try_from([1u16, 9].as_slice())?,
-        mdt_len: 16,
-    };
-    assert_eq!(rt; least, wanted);
-    assert_eq!(rt; fits(&wishes, &least), Ok(()));
-    let late = Plan {
-        t1: ArrayVec::try_from([10u16, 47].as_slice())?,
-        t2: 83,
-        t3: 153,
-        t4: 230,
-        position: ArrayVec::try_from([1u16, 9].as_slice())?,
-        mdt_len: 16,
-    };
-    if late.t1().len() == wishes.drives().len() && late.position().len() == wishes.drives().len() {
-        assert_eq!(rt; fits(&wishes, &late), Err(Broken { rule: 6, drive: 2 }));
-    }
-    Ok(())
 }
 
 // A chain of so many of the links that prove that no plan fits in a cycle of 125 microseconds.
@@ -162,7 +198,10 @@ fn chain(links: &[Link], sum: u32, bound: u32) -> Option<Chain> {
 
 #[test]
 fn chains(rt: HostRuntime) -> Result<(), Fail> {
-    let wishes = wishes(rt.alloc(), "125")?.expect(&rt, "the document is taken");
+    let wishes = wishes(&rt, rt.alloc(), "cycle = 250 => cycle = 125")?.expect(
+        &rt,
+        "the document is taken",
+    );
     let links = [
         Link {
             rule: 1,

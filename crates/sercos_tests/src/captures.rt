@@ -1,0 +1,138 @@
+// `check` and `replay`: captures, and the trace of a run read again.
+use crate::rows::{Base, PLAIN, Row, check, output};
+use crate::texts::{CAPTURE, ONE_DRIVE, READ};
+use sercos_io::Status;
+use std::test::Fail;
+
+const CHECK: Row = Row {
+    words: "sercos check",
+    base: Base::Capture,
+    ..PLAIN
+};
+
+const CAPTURE_ROWS: [Row; 7] = [
+    Row {
+        shows: "cycle of phase 3",
+        lines: "clean 8",
+        ..CHECK
+    },
+    Row {
+        shows: "second AT too near to the first",
+        edits: "a 0 184 => a 0 140",
+        status: Status::No,
+        lines: "violation line 8 rule 6 gap",
+        ..CHECK
+    },
+    Row {
+        shows: "AT of a bit more than its frame",
+        edits: "a 0 40 105 => a 0 40 106",
+        status: Status::No,
+        lines: "violation line 7 rule 2 frame",
+        ..CHECK
+    },
+    Row {
+        shows: "AT of one byte",
+        edits: "a 0 184 104 020000000000000000 => a 0 184 104 02",
+        status: Status::No,
+        lines: "violation line 8 rule 2 frame",
+        ..CHECK
+    },
+    Row {
+        shows: "capture cut after the first drive",
+        edits: "drive 2 2 12 6 20 5 10 20 8 8\norder 1 2\nm 0 -50 50 ff03\na 0 40 105 010000000000000000\na 0 184 104 020000000000000000\n => ",
+        status: Status::Refused,
+        lines: "refused line 4 column 1",
+        ..CHECK
+    },
+    Row {
+        shows: "capture cut after the order",
+        edits: "m 0 -50 50 ff03\na 0 40 105 010000000000000000\na 0 184 104 020000000000000000\n => ",
+        lines: "clean 5",
+        ..CHECK
+    },
+    Row {
+        shows: "text that is empty",
+        base: Base::Given,
+        status: Status::Refused,
+        lines: "refused line 1 column 1",
+        ..CHECK
+    },
+];
+
+// The trace of a run: 4 lines of its head, 300 MSTs, 4 moves of the drive, 288 ATs and as many MDTs, the two lines of the plan, that
+// of the request and the last one.
+const TRACE: Row = Row {
+    shows: "trace of a run",
+    base: Base::Given,
+    lines: "clean 888",
+    ..CHECK
+};
+
+const REPLAY_ROWS: [Row; 5] = [
+    Row {
+        shows: "drive in its own run",
+        words: "sercos replay 1",
+        lines: "agrees 300",
+        ..PLAIN
+    },
+    Row {
+        shows: "master in its own run",
+        words: "sercos replay 0",
+        lines: "agrees 300",
+        ..PLAIN
+    },
+    Row {
+        shows: "drive, with an AT changed",
+        words: "sercos replay 1",
+        edits: "a 13 1200 72 0101000000 => a 13 1200 72 0100000000",
+        status: Status::No,
+        lines: "differs cycle 13 at
+expected 1200 0101000000
+found 1200 0100000000",
+        ..PLAIN
+    },
+    Row {
+        shows: "master, with an AT changed",
+        words: "sercos replay 0",
+        edits: "a 13 1200 72 0101000000 => a 13 1200 72 0100000000",
+        status: Status::No,
+        lines: "differs cycle 13 mdt
+expected 2600 010f000300
+found 2600 0118000000",
+        ..PLAIN
+    },
+    Row {
+        shows: "drive that isn't there",
+        words: "sercos replay 2",
+        status: Status::Refused,
+        lines: "refused 10 drive 2",
+        ..PLAIN
+    },
+];
+
+// The capture, with lines that obey no rule up to the most bytes of a text but one.
+const LONGEST: Row = Row {
+    shows: "longest capture",
+    base: Base::Given,
+    lines: "clean 131058",
+    ..CHECK
+};
+
+#[test]
+fn captures(rt: HostRuntime) -> Result<(), Fail> {
+    let alloc = rt.alloc();
+    check(&rt, alloc, &CAPTURE_ROWS, "")?;
+    let moves = "p 0 1 0\n".repeat(alloc, 131050)?;
+    let text = format!(in alloc; "{CAPTURE}{moves}")?;
+    check(&rt, alloc, &[LONGEST], text.as_str())
+}
+
+#[test]
+fn trace_read_again(rt: HostRuntime) -> Result<(), Fail> {
+    let alloc = rt.alloc();
+    let document = format!(in alloc; "{ONE_DRIVE}{READ}")?;
+    let trace = output(&rt, alloc, "sercos run", document.as_str())?;
+    check(&rt, alloc, &[TRACE], trace.as_str())?;
+    let text = format!(in alloc; "{document}capture\n{trace}")?;
+    check(&rt, alloc, &REPLAY_ROWS, text.as_str())
+}
