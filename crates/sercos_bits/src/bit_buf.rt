@@ -1,4 +1,4 @@
-ghost use Rattle.std.specs.Prelude.{◌≡◌, ℕ, ◌+◌, ◌%◌, ◌^◌, ◌<◌, ◌≤◌, ◌↔◌, ◌==◌, Bool, true, false, not, List, [], ◌∷◌, ◌++◌, length, take, drop, replicate, IsErr, OnOk, OnErr, slice_index_or, slice_set};
+ghost use Rattle.std.specs.Prelude.{◌≡◌, ℕ, ◌+◌, ◌%◌, ◌^◌, ◌<◌, ◌≤◌, ◌↔◌, Bool, true, false, not, List, [], ◌∷◌, ◌++◌, length, take, drop, replicate, IsErr, OnOk, OnErr, slice_index_or, slice_set};
 ghost use Rattle.sercos_model.specs.Bits.{low_bits, number_of};
 
 use crate::byte_list::Full;
@@ -72,13 +72,6 @@ impl BitBuf {
         self.len
     }
 
-    /// Whether there is no bit.
-    pub fn is_empty(&self) -> bool
-        ensures { result ≡ (length self.now == 0) }
-    {
-        self.len == 0
-    }
-
     /// The bit at a place, the first being at 0.
     pub fn get(&self, place: usize) -> bool
         requires { place < length self.now }
@@ -118,8 +111,8 @@ impl BitBuf {
         Ok(())
     }
 
-    /// Appends a bit, where there is room for it.
-    pub fn push_within(&mut self, bit: bool)
+    // Appends a bit, where there is room for it.
+    fn push_within(&mut self, bit: bool)
         requires { length self.old < 19696 }
         ensures { self.new ≡ self.old ++ bit ∷ [] }
     {

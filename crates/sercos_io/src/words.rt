@@ -1,5 +1,5 @@
 //! The words of a command.
-ghost use Rattle.std.specs.Prelude.{◌≡◌, ◌<◌, ◌↔◌, [], ◌∷◌, ◌++◌, Some, length, IsTrue, OnOk, OnErr, slice_get};
+ghost use Rattle.std.specs.Prelude.{◌≡◌, ◌<◌, [], ◌∷◌, ◌++◌, Some, length, OnOk, OnErr, slice_get};
 
 use std::alloc::{AllocError, Global};
 use std::marker::Model;
@@ -43,13 +43,6 @@ impl Words {
         ensures { result ≡ length self.now }
     {
         self.words.len()
-    }
-
-    /// Whether there is no word.
-    pub fn is_empty(&self) -> bool
-        ensures { IsTrue result ↔ (self.now ≡ []) }
-    {
-        self.words.is_empty()
     }
 
     /// The word at a place, counted from 0. The place is below `len`.
