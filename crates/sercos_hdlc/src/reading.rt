@@ -47,7 +47,7 @@ fn check_in(bytes: &[u8]) -> u16
     ensures { 2 ≤ length bytes.now → result ≡ found_in (bits_of bytes.now) }
 {
     let split = bytes.len().saturating_sub(CHECK_BYTES);
-    u16::from(byte_at(bytes, split)) + 256 * u16::from(byte_at(bytes, split + 1))
+    u16::from_le_bytes([byte_at(bytes, split), byte_at(bytes, split + 1)])
 }
 
 // Tests that the check sequence that was found is the one that was wanted.
