@@ -12,7 +12,6 @@ mod writing;
 
 pub use law::{counts_law, steps_law};
 pub use request::{Job, Outcome, Request};
-pub use shape::Shape;
 pub use step::{Answer, Step};
 pub use transfer::Transfer;
 pub use writing::word_at;

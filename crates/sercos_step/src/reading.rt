@@ -38,11 +38,12 @@ fn push_limited(bytes: &mut Bytes, word: u16, limit: usize)
     requires { limit ≤ 1024 }
     ensures { length bytes.old ≤ limit → bytes.new ≡ take limit (bytes.old ++ (word % 256) ∷ (word / 256) ∷ []) }
 {
+    let pair = word.to_le_bytes();
     if bytes.len() < limit {
-        bytes.push_within((word % 256) as u8);
+        bytes.push_within(pair[0]);
     }
     if bytes.len() < limit {
-        bytes.push_within((word / 256) as u8);
+        bytes.push_within(pair[1]);
     }
 }
 

@@ -1,5 +1,5 @@
 // The words that write bytes to an element.
-ghost use Rattle.std.specs.Prelude.{◌≡◌, ℕ, ◌+◌, ◌*◌, ◌<◌, ◌≤◌, List, length, Some, slice_get, slice_index};
+ghost use Rattle.std.specs.Prelude.{◌≡◌, ℕ, ◌+◌, ◌<◌, ◌≤◌, List, length, Some, slice_get, slice_index};
 ghost use Rattle.sercos_step.specs.Words.{words_of, words_told};
 ghost use Rattle.sercos_step.specs.Steps.{writing};
 
@@ -7,20 +7,13 @@ use crate::shape::Shape;
 use crate::step::Step;
 use sercos_bits::byte_at;
 
-// The word of two bytes, the low byte first.
-fn word_of(low: u8, high: u8) -> u16
-    ensures { result ≡ low + 256 * high }
-{
-    u16::from(low) + 256 * u16::from(high)
-}
-
 /// The word at a place of the bytes taken two by two, the low byte first. A last odd byte is filled up with 0, and after the
 /// last word there is 0.
 pub fn word_at(bytes: &[u8], place: u16) -> u16
     ensures { result ≡ slice_index (words_of bytes.now) place }
 {
     let low = 2 * (place as usize);
-    word_of(byte_at(bytes, low), byte_at(bytes, low + 1))
+    u16::from_le_bytes([byte_at(bytes, low), byte_at(bytes, low + 1)])
 }
 
 // How many words write the bytes.
