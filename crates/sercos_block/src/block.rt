@@ -1,11 +1,12 @@
 // A data block.
-ghost use Rattle.std.specs.Prelude.{◌≡◌, IfOk};
+ghost use Rattle.std.specs.Prelude.{◌≡◌, IsOk, IfOk};
 
 use sercos_bits::Text;
 use sercos_idn::{Attribute, Idn};
 use std::alloc::AllocError;
 
-/// A data block of a drive, after IEC 61491:1995: its seven elements, and what the drive makes of them.
+/// A data block of a drive, after IEC 61491:1995: its seven elements, and what the drive makes of them. Each part lies in the
+/// block itself, so a clone takes no memory and never fails.
 #[derive(Debug, PartialEq, Eq, Drop)]
 pub struct Block {
     /// The identifier number, element 1.
@@ -35,7 +36,8 @@ pub struct Block {
 
 // A copy of a name or a unit.
 fn copied(text: &Option<Text>) -> Result<Option<Text>, AllocError>
-    ensures { IfOk result (λ copy. copy ≡ text.now) }
+    ensures value { IfOk result (λ copy. copy ≡ text.now) }
+    ensures ok { IsOk result }
 {
     match text {
         None => Ok(None),
@@ -47,6 +49,8 @@ impl Clone for Block {
     ghost use Rattle.std.specs.Prelude.{◌≡◌};
 
     ghost is_clone = { λ block clone. clone ≡ block };
+
+    ghost is_infallible = { λ _. Unit {0} };
 
     fn clone(&self) -> Result<Block, AllocError> {
         Ok(Block {

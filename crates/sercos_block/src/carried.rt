@@ -138,18 +138,18 @@ pub fn mdt_len(drives: &[DriveSetup]) -> u32
 }
 
 impl DriveSetup {
-    /// How many bytes the drive's AT has after its address: the status word, the information word and the configured
-    /// feedback values.
-    pub fn at_len(&self) -> u16
+    // How many bytes the drive's AT has after its address: the status word, the information word and the configured
+    // feedback values.
+    pub(crate) fn at_len(&self) -> u16
         ensures value { result ≡ at_len self.now }
         ensures bounds { (4 ≤ result) × (result ≤ 68) }
     {
         listed_len(self.blocks.as_slice(), self.at.as_slice())
     }
 
-    /// How many bytes the drive's data record in the MDT has: the control word, the information word and the configured
-    /// command values.
-    pub fn record_len(&self) -> u16
+    // How many bytes the drive's data record in the MDT has: the control word, the information word and the configured
+    // command values.
+    pub(crate) fn record_len(&self) -> u16
         ensures value { result ≡ record_len self.now }
         ensures bounds { (4 ≤ result) × (result ≤ 68) }
     {

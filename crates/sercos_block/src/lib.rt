@@ -19,8 +19,8 @@ mod wishes;
 mod write;
 
 pub use block::Block;
-pub use built_in::{BUILT_IN, BuiltIn, Opening, is_built_in};
-pub use carried::{attribute_in, block_attribute, cyclic_len, mdt_len, number_len};
+pub use built_in::is_built_in;
+pub use carried::{attribute_in, cyclic_len, mdt_len, number_len};
 pub use check::{BadBlock, Field, check_blocks, has_block, is_text};
 pub use law::{ring_law, store_law};
 pub use ring::{has_address, has_other_data};

@@ -18,7 +18,7 @@ pub fn number_at(store: &Store, idn: Idn) -> u32
     ensures bound { result < 65536 }
 {
     let data = store.data(idn);
-    u32::from(byte_at(data, 0)) + 256 * u32::from(byte_at(data, 1))
+    u32::from(u16::from_le_bytes([byte_at(data, 0), byte_at(data, 1)]))
 }
 
 // The identifier numbers that bytes are.

@@ -12,5 +12,5 @@ mod stored;
 
 pub use carried::{carried_len, idns_at, number_at};
 pub use check::{check127, check128};
-pub use commands::{Commands, SetCommand};
+pub use commands::Commands;
 pub use stored::{is_command, stored_law};

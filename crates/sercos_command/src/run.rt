@@ -5,7 +5,7 @@ ghost use Rattle.sercos_command.specs.Checks.{unfit_for_phase_3, unfit_for_phase
 ghost use Rattle.sercos_command.specs.Settings.{ends_well};
 
 use crate::check::{check127, check128};
-use arrayvec::ArrayVec;
+use sercos_bits::ByteList;
 use sercos_block::Store;
 use sercos_block::numbers::{
     INVALID_FOR_PHASE_2, INVALID_FOR_PHASE_3, PHASE_3_CHECK, PHASE_4_CHECK,
@@ -13,14 +13,13 @@ use sercos_block::numbers::{
 use sercos_idn::Idn;
 
 // The bytes of identifier numbers.
-fn list_bytes(idns: &[Idn]) -> ArrayVec<u8, 128>
+fn list_bytes(idns: &[Idn]) -> ByteList<128>
     requires { length idns.now ≤ 64 }
-    ensures { result.items ≡ list_bytes idns.now }
+    ensures { result ≡ list_bytes idns.now }
 {
-    let mut bytes = ArrayVec::new();
+    let mut bytes = ByteList::new();
     for idn in idns {
-        bytes.push((idn.raw % 256) as u8);
-        bytes.push((idn.raw / 256) as u8);
+        bytes.push_word_within(idn.raw);
     }
     bytes
 }
