@@ -30,8 +30,8 @@ pub struct Keys<'a> {
 impl<'a> Keys<'a> {
     ghost use Rattle.sercos_document.specs.Located.{located};
 
-    /// The refusal of a required key that is absent.
-    pub fn missing(&self, key: &str) -> BadDocument
+    // The refusal of a required key that is absent.
+    pub(crate) fn missing(&self, key: &str) -> BadDocument
         ensures { Refuses result (BadDocument.Missing (path self.now.place key.now)) }
     {
         match Path::to_key(self.alloc, self.place, key) {
@@ -40,8 +40,8 @@ impl<'a> Keys<'a> {
         }
     }
 
-    /// The refusal of a value of another type.
-    pub fn kind(&self, key: &str) -> BadDocument
+    // The refusal of a value of another type.
+    pub(crate) fn kind(&self, key: &str) -> BadDocument
         ensures { Refuses result (BadDocument.Kind (path self.now.place key.now)) }
     {
         match Path::to_key(self.alloc, self.place, key) {
@@ -50,8 +50,8 @@ impl<'a> Keys<'a> {
         }
     }
 
-    /// The refusal of a list's item of another type.
-    pub fn item_kind(&self, key: &str, item: usize) -> BadDocument
+    // The refusal of a list's item of another type.
+    pub(crate) fn item_kind(&self, key: &str, item: usize) -> BadDocument
         ensures { Refuses result (BadDocument.Kind (item_path self.now.place key.now item)) }
     {
         match Path::to_item(self.alloc, self.place, key, item) {
@@ -80,8 +80,8 @@ impl<'a> Keys<'a> {
         }
     }
 
-    /// The refusal of a value that stands twice.
-    pub fn twice(&self, key: &str) -> BadDocument
+    // The refusal of a value that stands twice.
+    fn twice(&self, key: &str) -> BadDocument
         ensures { Refuses result (BadDocument.Twice (path self.now.place key.now)) }
     {
         match Path::to_key(self.alloc, self.place, key) {
@@ -100,8 +100,8 @@ impl<'a> Keys<'a> {
         }
     }
 
-    /// The refusal of a key that has no meaning.
-    pub fn unknown(&self, key: &str) -> BadDocument
+    // The refusal of a key that has no meaning.
+    fn unknown(&self, key: &str) -> BadDocument
         ensures { Refuses result (BadDocument.Unknown (path self.now.place key.now)) }
     {
         match Path::to_key(self.alloc, self.place, key) {
@@ -164,9 +164,9 @@ impl<'a> Keys<'a> {
         }
     }
 
-    /// The number, where it isn't below `low` nor above `high`; else `Range` with the number.
+    // The number, where it isn't below `low` nor above `high`; else `Range` with the number.
     #[tactic(auto, unfolding(crate::specs::Tables::between))]
-    pub fn between(&self, key: &str, low: u32, high: u32, number: i64) -> Result<u32, BadDocument>
+    fn between(&self, key: &str, low: u32, high: u32, number: i64) -> Result<u32, BadDocument>
         ensures value { Gives result (between (path self.now.place key.now) low high number) }
         ensures within { IfOk result (λ n. (low ≤ n) × (n ≤ high)) }
     {

@@ -28,8 +28,8 @@ impl Model for Numbers {
 }
 
 impl Numbers {
-    /// No numbers.
-    pub fn new() -> Numbers
+    // No numbers.
+    pub(crate) fn new() -> Numbers
         ensures { result.items ≡ [] }
     {
         Numbers {
@@ -46,8 +46,8 @@ impl Numbers {
         &self.room[..self.count]
     }
 
-    /// Appends a number, where there is room for it.
-    pub fn push(&mut self, number: u32)
+    // Appends a number, where there is room for it.
+    pub(crate) fn push(&mut self, number: u32)
         requires { length self.old.items < 64 }
         ensures { self.new.items ≡ self.old.items ++ number ∷ [] }
     {
@@ -55,8 +55,8 @@ impl Numbers {
         self.count += 1;
     }
 
-    /// Drops all numbers.
-    pub fn clear(&mut self)
+    // Drops all numbers.
+    pub(crate) fn clear(&mut self)
         ensures { self.new.items ≡ [] }
     {
         self.count = 0;
@@ -81,8 +81,8 @@ impl Model for Room {
 }
 
 impl Room {
-    /// No bytes.
-    pub fn new() -> Room
+    // No bytes.
+    pub(crate) fn new() -> Room
         ensures { result ≡ [] }
     {
         Room {
@@ -99,8 +99,8 @@ impl Room {
         &self.room[..self.count]
     }
 
-    /// Appends a byte, where there is room for it. Its place is passed in, since it is known at the call and slow to read here.
-    pub fn put(&mut self, place: usize, byte: u8)
+    // Appends a byte, where there is room for it. Its place is passed in, since it is known at the call and slow to read here.
+    pub(crate) fn put(&mut self, place: usize, byte: u8)
         requires place { place ≡ length self.old }
         requires room { place < 2048 }
         ensures { self.new ≡ self.old ++ byte ∷ [] }
@@ -109,8 +109,8 @@ impl Room {
         self.count = place + 1;
     }
 
-    /// Drops all bytes.
-    pub fn clear(&mut self)
+    // Drops all bytes.
+    pub(crate) fn clear(&mut self)
         ensures { self.new ≡ [] }
     {
         self.count = 0;

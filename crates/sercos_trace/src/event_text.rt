@@ -18,19 +18,14 @@ use sercos_timing::{Plan, Wishes};
 fn big_endian(word: u16) -> [u8; 2]
     ensures { result ≡ big_endian word }
 {
-    [(word / 256) as u8, (word % 256) as u8]
+    word.to_be_bytes()
 }
 
 // The four bytes of an attribute.
 fn attribute_bytes(word: u32) -> [u8; 4]
     ensures { result ≡ attribute_bytes word }
 {
-    [
-        (word / 16_777_216) as u8,
-        (word / 65_536 % 256) as u8,
-        (word / 256 % 256) as u8,
-        (word % 256) as u8,
-    ]
+    word.to_be_bytes()
 }
 
 // Writes how a request ended.

@@ -13,10 +13,10 @@ mod record;
 mod writing;
 
 pub use events::{Events, Fall, Reported, Stop};
-pub use kind::{LineKind, template_law};
+pub use kind::template_law;
 pub use reader::Reader;
 pub use reading::{BadLine, Line, read_line, reading_law};
-pub use record::{CycleRecord, Move, Sent, Totals, push_sent, put_sent};
+pub use record::{CycleRecord, Move, Sent, Totals, put_sent};
 pub use writing::{
     write_cycle, write_end, write_header, write_marked_cycle, write_marked_end, write_marked_header,
 };

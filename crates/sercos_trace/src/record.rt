@@ -90,15 +90,8 @@ impl Model for CycleRecord {
     ghost view = { λ r. record { cycle = r.cycle; phase = r.phase; sent = r.sent.items; moves = r.moves.items; events = r.events; unseen = r.unseen } };
 }
 
-/// Appends a telegram: its kind, its start in bit times after the MST's end, the length of its frame in bits, and its
-/// content, which is copied.
-pub fn push_sent(
-    sent: &mut ArrayVec<Sent, 66>,
-    kind: Kind,
-    start: i32,
-    bits: u32,
-    content: &Content,
-)
+// Appends a telegram.
+fn push_sent(sent: &mut ArrayVec<Sent, 66>, kind: Kind, start: i32, bits: u32, content: &Content)
     requires { length sent.old.items < 66 }
     ensures items { sent.new.items ≡ sent.old.items ++ (record { kind = kind; start = start; bits = bits; content = content.now }) ∷ [] }
     ensures len { length sent.new.items ≡ length sent.old.items + 1 }
@@ -108,8 +101,9 @@ pub fn push_sent(
     sent[place].fill(kind, start, bits, content.as_slice());
 }
 
-/// Puts a telegram after the first `count` of a list and counts it, as [`push_sent`] appends it. If one stands there, it is
-/// replaced in its place, so that a record which is used again copies only as many bytes as the content has.
+/// Puts a telegram after the first `count` of a list and counts it: its kind, its start in bit times after the MST's end, the
+/// length of its frame in bits, and its content, which is copied. If one is there, it is replaced in its place, so that a record
+/// which is used again copies only as many bytes as the content has.
 pub fn put_sent(
     sent: &mut ArrayVec<Sent, 66>,
     count: &mut usize,
@@ -157,14 +151,6 @@ impl CycleRecord {
         self.moves.clear();
         self.events.clear();
         self.unseen = 0;
-    }
-
-    /// Makes it the record of a cycle in which nothing has happened yet.
-    pub fn begin(&mut self, cycle: u32)
-        ensures { self.new ≡ record { cycle = cycle; phase = 0; sent = []; moves = []; events = record { outcomes = []; plan = None; stop = None; fall = None }; unseen = 0 } }
-    {
-        self.sent.clear();
-        self.reuse(cycle);
     }
 }
 
