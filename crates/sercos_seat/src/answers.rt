@@ -54,14 +54,14 @@ pub fn asked_by(request: &Request) -> Asked
 fn first_word(bytes: &[u8]) -> u16
     ensures { result ≡ short_in bytes.now }
 {
-    u16::from(byte_at(bytes, 0)) + 256 * u16::from(byte_at(bytes, 1))
+    u16::from_le_bytes([byte_at(bytes, 0), byte_at(bytes, 1)])
 }
 
 // The third and the fourth byte as a word.
 fn second_word(bytes: &[u8]) -> u16
     ensures { result ≡ short_in (drop 2 bytes.now) }
 {
-    u16::from(byte_at(bytes, 2)) + 256 * u16::from(byte_at(bytes, 3))
+    u16::from_le_bytes([byte_at(bytes, 2), byte_at(bytes, 3)])
 }
 
 /// The two words of up to four bytes.
@@ -237,7 +237,7 @@ pub fn idns_in(bytes: &[u8]) -> ArrayVec<Idn, 64>
     for place in 0..64usize {
         if 2 * place + 1 < bytes.len() {
             idns.push(Idn {
-                raw: u16::from(bytes[2 * place]) + 256 * u16::from(bytes[2 * place + 1]),
+                raw: u16::from_le_bytes([bytes[2 * place], bytes[2 * place + 1]]),
             });
         }
     }

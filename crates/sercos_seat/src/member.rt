@@ -159,8 +159,7 @@ pub fn write_word(raw: u16, value: u16) -> Request
     ensures request { IsRequest result }
 {
     let mut bytes = Bytes::new();
-    bytes.push_within((value % 256) as u8);
-    bytes.push_within((value / 256) as u8);
+    bytes.push_word_within(value);
     Request::Write {
         idn: Idn { raw },
         element: DATA,
@@ -175,8 +174,7 @@ fn list_bytes(idns: &[Idn]) -> Bytes
 {
     let mut bytes = Bytes::new();
     for idn in idns {
-        bytes.push_within((idn.raw % 256) as u8);
-        bytes.push_within((idn.raw / 256) as u8);
+        bytes.push_word_within(idn.raw);
     }
     bytes
 }
