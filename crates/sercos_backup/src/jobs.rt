@@ -82,7 +82,7 @@ fn number_at(bytes: &[u8], place: usize) -> u16
     requires { 2 * place + 1 < length bytes.now }
     ensures { result ≡ slice_index bytes.now (2 * place) + 256 * slice_index bytes.now (2 * place + 1) }
 {
-    u16::from(bytes[2 * place]) + 256 * u16::from(bytes[2 * place + 1])
+    u16::from_le_bytes([bytes[2 * place], bytes[2 * place + 1]])
 }
 
 // Appends the reads of the blocks on a list.

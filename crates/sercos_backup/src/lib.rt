@@ -11,4 +11,4 @@ pub use jobs::{DataJobs, data_jobs, list_jobs, place_of_other};
 pub use replies::{failed_reply, many_reply, other_reply, saved_reply};
 pub use saved::write_saved;
 pub use texts::push_restored;
-pub use tracked::{Tracked, all_well, is_well, lists_told, note, track};
+pub use tracked::{Tracked, all_well, lists_told, note, track};

@@ -1,5 +1,5 @@
 // The lines of requests.
-ghost use Rattle.std.specs.Prelude.{◌≡◌, ◌≤◌, ◌∷◌, [], ◌++◌, length, OnOk};
+ghost use Rattle.std.specs.Prelude.{◌≡◌, ◌≤◌, ◌/◌, ◌%◌, ◌∷◌, [], ◌++◌, length, OnOk};
 ghost use Rattle.std.specs.Option.{option_copied};
 ghost use Rattle.sercos_text.specs.Templates.{line_text};
 ghost use Rattle.sercos_text.specs.Templates.Value.{number, ident};
@@ -23,13 +23,20 @@ fn put_plain(address: u8, idn: Idn, template: &[u8], line: &mut Line)
     push_line(template, &values, line);
 }
 
+// The two bytes of a code, the high byte first, as its hexadecimal text has them.
+fn big_endian(code: Code) -> [u8; 2]
+    ensures { result ≡ (code.raw / 256) ∷ (code.raw % 256) ∷ [] }
+{
+    code.raw.to_be_bytes()
+}
+
 // Puts the line of a request that was refused with a code.
 #[tactic(auto, unfolding(crate::specs::Texts::failed_text))]
 fn put_refused(address: u8, idn: Idn, code: Code, line: &mut Line)
     ensures { line.new ≡ refused_text address idn.raw code.raw }
 {
     line.clear();
-    let code = [(code.raw / 256) as u8, (code.raw % 256) as u8];
+    let code = big_endian(code);
     let values = [
         Given::Number(u32::from(address)),
         Given::Ident(idn),

@@ -8,4 +8,3 @@ pub mod show;
 mod text;
 
 pub use law::{line_law, place_law};
-pub use line::LineKind;
