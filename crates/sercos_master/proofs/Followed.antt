@@ -14,6 +14,7 @@ use Rattle.sercos_step.specs.declared.request.Outcome.TheVariants as outcome
 use Rattle.sercos_step.specs.declared.step.Answer.{Answer}
 use Rattle.sercos_step.specs.declared.step.Step.{Step}
 use Rattle.sercos_step.specs.Steps.{is_whole, answer_words, result_of, outcome_of, next_step}
+use Rattle.sercos_step.proofs.Ends.{has_next}
 use Rattle.sercos_timing.specs.Order.{record_bytes}
 use Rattle.sercos_timing.specs.Views.{PlanView}
 use Rattle.sercos_plan.specs.Views.{ChainView}
@@ -28,9 +29,10 @@ use Rattle.sercos_seat.specs.Agenda.{agenda, reads, reads_count, writes, is_chec
 use Rattle.sercos_seat.specs.Channel.{with_outcome, outcomes_in, last_outcome, trouble_by, of_phase}
 use Rattle.sercos_seat.proofs.Gets.{get_map, get_left, get_right, get_none, length_map, length_append}
 use Rattle.sercos_seat.proofs.Agendas.{reads_length, ended_there}
-use Rattle.sercos_master.specs.Annals.{Call, HearMst, HearAt, Mdt, End, Restart, Past, past, outcomes, with_at, is_idle, is_taken, after_taken, after_at_of, place_of, trouble, first_trouble, first_trouble_from, with_stop, is_plan_due, all_read, with_plan, planned_by, with_due_plan, settled, has_turn, next_task, with_task, with_begin, begun, ready_to_send, is_sent_to, addressed_in, after_mdt, fall_of, next_phase, goes_on, new_epoch, still_waiting}
-use Rattle.sercos_master.specs.Written.{IsWritten, AreWritten}
-use Rattle.sercos_master.proofs.Configured.{configured}
+use Rattle.sercos_master.specs.Annals.{Call, HearMst, HearAt, Mdt, End, Restart, Past, past, outcomes, all_checked, with_at, is_idle, is_taken, after_taken, after_at_of, place_of, trouble, first_trouble, first_trouble_from, with_stop, is_plan_due, all_read, with_plan, planned_by, with_due_plan, settled, has_turn, next_task, with_task, with_begin, begun, ready_to_send, is_sent_to, addressed_in, after_mdt, fall_of, next_phase, goes_on, new_epoch, still_waiting}
+use Rattle.sercos_master.specs.Kept.{CoreView, IsIn}
+use Rattle.sercos_master.specs.Written.{IsWritten, AreWritten, HoldsPlan}
+use Rattle.sercos_master.proofs.Configured.{each_passes}
 
 -- a transfer without an outcome has a next step
 abbrev pub HasNext : Type 0
@@ -425,18 +427,27 @@ written_at has s requests h k i within below checked =
             let done = f.well w.0 in
             (plan, sym same, record { newer = f.newer; one = f.one; older = f.older; split = f.split; place = f.place; asks = w.1 ∙ ap (λ r. Some r) (sym f.follows.asks); bytes = done.0; answered = done.1 })
 
--- in phases 3 and 4
-pub are_written : HasNext → (s : Known) (requests : ℕ → List Task) (h : List Call) → 1 ≤ length s.drives → nat_le 3 (past s requests h).now.phase ≡ true → AreWritten s (past s requests h)
-are_written has s requests h some late =
-    let first = written_at has s requests h 0 0 (omega (arith, some)) (omega arith) (configured s requests h 0 (omega (arith, some)) late) in
+-- once each drive's check for phase 3 has ended well
+pub are_written : HasNext → (s : Known) (requests : ℕ → List Task) (h : List Call) → 1 ≤ length s.drives → all_checked s (past s requests h) ≡ true → AreWritten s (past s requests h)
+are_written has s requests h some all =
+    let first = at 0 0 (omega (arith, some)) (omega arith) in
     record {
       plan = first.0;
       plan_is = first.1;
-      written = λ k i within below. same_plan (first.1) (written_at has s requests h k i within below (configured s requests h k within late));
+      written = λ k i within below. same_plan (first.1) (at k i within below);
     }
   where
+    at : (k i : ℕ) → k < length s.drives → i < 11 → (plan : PlanView) × ((past s requests h).plan ≡ Some plan) × IsWritten s k plan (begun_by ((past s requests h).calls k)) i
+    at k i within below = written_at has s requests h k i within below (each_passes (length s.drives) 0 (λ j. is_checked (member s j) (outcomes (past s requests h) j)) all k (omega arith) (omega (arith, within)))
+
     same_plan : {plan : PlanView} {k i : ℕ} → (past s requests h).plan ≡ Some plan → (other : PlanView) × ((past s requests h).plan ≡ Some other) × IsWritten s k other (begun_by ((past s requests h).calls k)) i → IsWritten s k plan (begun_by ((past s requests h).calls k)) i
     same_plan {plan} {k} {i} is (other, also, written) = subst (λ q. IsWritten s k q (begun_by ((past s requests h).calls k)) i) (inside (sym also ∙ is)) written
       where
         inside : {A : Type 0} {a b : A} → Some a ≡ Some b → a ≡ b
         inside e = cc
+
+-- the plan is kept then, also in the next phase
+pub holds_plan : {phase : ℕ} {v w : CoreView} (s : Known) (requests : ℕ → List Task) (h : List Call) → w.plan ≡ v.plan → IsIn phase v s (past s requests h) → all_checked s (past s requests h) ≡ true → HoldsPlan w s (past s requests h)
+holds_plan s requests h same stands all =
+    let written = are_written has_next s requests h stands.known.some all in
+    record { all = written; held = same ∙ (stands.stands.plan_is ∙ written.plan_is) }

@@ -61,9 +61,6 @@ abbrev pub waited_for : Option ℕ → List Turn → ℕ
 waited_for None turns = 0
 waited_for (Some k) turns = min (count_addressed k turns) 64
 
-abbrev pub no_seat : SeatView → List SeatView → ℕ → SeatView
-no_seat v seats k = slice_index_or seats k v
-
 abbrev pub waited_row : List Turn → ℕ
 waited_row [] = 0
 waited_row (t ∷ turns) = waited_for t.addressed (t ∷ turns)

@@ -8,6 +8,7 @@ use Rattle.sercos_service_master.specs.Calls.{begun_by}
 use Rattle.sercos_seat.specs.Agenda.{reads_count, writes}
 use Rattle.sercos_seat.specs.Ring.{Known, member}
 use Rattle.sercos_master.specs.Annals.{Past}
+use Rattle.sercos_master.specs.Kept.{CoreView}
 
 -- Of what was begun on a channel, the newest first, the request after the reads and i writes is the i-th write of this plan, and
 -- it was answered without error.
@@ -26,3 +27,8 @@ pub record AreWritten (s : Known) (p : Past) : Type 0 where
   pub plan : PlanView
   pub plan_is : p.plan ≡ Some plan
   pub written : (k i : ℕ) → k < length s.drives → i < 11 → IsWritten s k plan (begun_by (p.calls k)) i
+
+-- The plan is kept whose writes were answered so.
+pub record HoldsPlan (v : CoreView) (s : Known) (p : Past) : Type 0 where
+  pub all : AreWritten s p
+  pub held : v.plan ≡ Some all.plan

@@ -6,11 +6,12 @@ ghost use Rattle.sercos_step.specs.declared.request.Job.{Job};
 ghost use Rattle.sercos_step.specs.Steps.{IsRequest};
 ghost use Rattle.sercos_block.specs.Rings.{is_ring};
 ghost use Rattle.sercos_trace.specs.declared.events.Fall.TheVariants as fall;
-ghost use Rattle.sercos_seat.specs.Ring.{Known, IsKnown, known_of, tasks_for};
+ghost use Rattle.sercos_seat.specs.Ring.{Known, Task, IsKnown, known_of, tasks_for};
 ghost use Rattle.sercos_master.specs.Annals.{Call, HearMst, HearAt, Mdt, End, Restart, Past, past, new_epoch, still_waiting, is_closed, all_identified, all_checked, all_ready};
 ghost use Rattle.sercos_master.specs.Says.{mst_said, mdt_said, sent_as};
 ghost use Rattle.sercos_master.specs.Reports.{AreOpen, events_told, restart_told, with_broken};
 ghost use Rattle.sercos_master.specs.Kept.{CoreStandsFor, IsIn};
+ghost use Rattle.sercos_master.specs.Written.{HoldsPlan};
 
 use crate::ring::Ring;
 use sercos_bits::Content;
@@ -100,10 +101,13 @@ impl Master<Cp1> {
 }
 
 impl Master<Cp2> {
-    /// Commands phase 3. The old state comes back, unchanged, exactly if some job of phase 2 isn't complete, or some drive's check for phase 3 (S-0-0127) didn't end with data status 3.
+    /// Commands phase 3. The old state comes back, unchanged, exactly if some drive's check for phase 3 (S-0-0127), its last job
+    /// of phase 2, hasn't ended with data status 3. The new state has the plan, and each drive has answered the writes of this
+    /// plan without error since the last fall.
     pub fn rise(mut self) -> Result<Master<Cp3>, Master<Cp2>>
         ensures exactly { (s : Known) (p : Past) → IsIn 2 self s p → is_ok result ≡ all_checked s p }
         ensures up { IfOk result (λ m. m ≡ record self { phase = 3 }) }
+        ensures plan { IfOk result (λ m. (s : Known) (requests : ℕ → List Task) (h : List Call) → IsIn 2 self s (past s requests h) → HoldsPlan m s (past s requests h)) }
         ensures same { IfErr result (λ m. m ≡ self) }
     {
         if self.ring.is_done() {
@@ -116,10 +120,13 @@ impl Master<Cp2> {
 }
 
 impl Master<Cp3> {
-    /// Commands phase 4. The old state comes back, unchanged, exactly if some drive's check for phase 4 (S-0-0128) hasn't ended with data status 3.
+    /// Commands phase 4. The old state comes back, unchanged, exactly if some drive's check for phase 4 (S-0-0128) hasn't ended
+    /// with data status 3. The new state has the plan, and each drive has answered the writes of this plan without error since
+    /// the last fall.
     pub fn rise(mut self) -> Result<Master<Cp4>, Master<Cp3>>
         ensures exactly { (s : Known) (p : Past) → IsIn 3 self s p → is_ok result ≡ all_ready s p }
         ensures up { IfOk result (λ m. m ≡ record self { phase = 4 }) }
+        ensures plan { IfOk result (λ m. (s : Known) (requests : ℕ → List Task) (h : List Call) → IsIn 3 self s (past s requests h) → HoldsPlan m s (past s requests h)) }
         ensures same { IfErr result (λ m. m ≡ self) }
     {
         if self.ring.is_done() {

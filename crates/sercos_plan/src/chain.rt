@@ -18,7 +18,7 @@ pub struct Link {
 
 /// Links from an inequality 1 or 2 to a bound that they break; to the bound 10 there are none. Contracts see the record of
 /// its fields, the links as a list.
-#[derive(Clone, Debug, PartialEq, Eq, Drop)]
+#[derive(Debug, PartialEq, Eq, Drop)]
 pub struct Chain {
     /// The links, each of which follows from the one before.
     pub links: ArrayVec<Link, 66>,

@@ -18,6 +18,7 @@ ghost use Rattle.sercos_replay.specs.Differences.{looks_back, mst_place_of, mdt_
 ghost use Rattle.sercos_replay.specs.Places.{expected_as, if_differs, if_told};
 
 use crate::difference::{Difference, compare, in_bits};
+use arrayvec::ArrayVec;
 use sercos_bits::Content;
 use sercos_block::RingSetup;
 use sercos_hdlc::{frame_len, framing_law};
@@ -155,7 +156,15 @@ impl MasterReplay {
         let master = AnyMaster::open(alloc, setup, jobs)?;
         let told = Box::new(alloc, Difference::new())?;
         let said = Box::new(alloc, Content::new())?;
-        let events = Box::new(alloc, Events::new())?;
+        let events = Box::new(
+            alloc,
+            Events {
+                outcomes: ArrayVec::new(),
+                plan: None,
+                stop: None,
+                fall: None,
+            },
+        )?;
         Ok(MasterReplay {
             master: Some(master),
             rate: setup.rate,

@@ -227,7 +227,22 @@ impl<L: BitLink> Ring<L> {
     {
         let drives = open_drives(alloc, setup)?;
         let master = AnyMaster::open(alloc, setup, jobs)?;
-        let made = Box::new(alloc, CycleRecord::new())?;
+        let made = Box::new(
+            alloc,
+            CycleRecord {
+                cycle: 0,
+                phase: 0,
+                sent: ArrayVec::new(),
+                moves: ArrayVec::new(),
+                events: Events {
+                    outcomes: ArrayVec::new(),
+                    plan: None,
+                    stop: None,
+                    fall: None,
+                },
+                unseen: 0,
+            },
+        )?;
         let desk = Box::new(alloc, Desk::new())?;
         Ok(Ring {
             link,

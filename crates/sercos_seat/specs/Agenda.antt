@@ -28,7 +28,7 @@ short_in bytes = slice_index bytes 0 + 256 * slice_index bytes 1
 abbrev pub long_in : List ℕ → ℕ
 long_in bytes = short_in bytes + 65536 * short_in (drop 2 bytes)
 
--- the identifier numbers of a list: its whole pairs of bytes, 64 at most
+-- the identifier numbers of a list: its whole pairs of bytes
 abbrev pub idns_in : List ℕ → List Idn
 idns_in (low ∷ high ∷ bytes) = (record { raw = low + 256 * high }) ∷ idns_in bytes
 idns_in _ = []

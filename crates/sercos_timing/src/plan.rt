@@ -6,7 +6,7 @@ use std::marker::Model;
 
 /// The time slots of a cycle and the places in the MDT. Times are microseconds after the MST's end. Contracts see the
 /// record of its fields, each vector as the list of its items.
-#[derive(Clone, Debug, PartialEq, Eq, Drop)]
+#[derive(Debug, PartialEq, Eq, Drop)]
 pub struct Plan {
     /// The AT starting time T1 (S-0-0006) of each drive, in the order of the ring.
     pub t1: ArrayVec<u16, 64>,

@@ -44,7 +44,7 @@ pub struct Wish {
 }
 
 /// What a ring asks of its plan. Contracts see the record of its fields, each vector as the list of its items.
-#[derive(Clone, Debug, PartialEq, Eq, Drop)]
+#[derive(Debug, PartialEq, Eq, Drop)]
 pub struct Wishes {
     /// The rate, in bits per microsecond.
     pub rate: u8,

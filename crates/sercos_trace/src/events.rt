@@ -96,18 +96,6 @@ fn forget<T: Drop>(event: &mut Option<T>)
 }
 
 impl Events {
-    /// No events.
-    pub fn new() -> Events
-        ensures { (result.outcomes ≡ []) × (result.plan ≡ None) × (result.stop ≡ None) × (result.fall ≡ None) }
-    {
-        Events {
-            outcomes: ArrayVec::new(),
-            plan: None,
-            stop: None,
-            fall: None,
-        }
-    }
-
     /// Removes all events.
     pub fn clear(&mut self)
         ensures { self.new ≡ record { outcomes = []; plan = None; stop = None; fall = None } }

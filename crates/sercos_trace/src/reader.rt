@@ -79,7 +79,9 @@ fn keep(kind: LineKind, told: &Told, telegram: &mut Line, other: &mut Line) -> b
 
 impl Reader {
     /// A reader to which no line has come.
-    pub fn new() -> Reader {
+    pub fn new() -> Reader
+        ensures { result ≡ line.Other }
+    {
         Reader {
             told: Told::new(),
             telegram: Line::Other,
