@@ -128,10 +128,13 @@ told_few n (inr above) = let test : nat_le n 8 ≡ false = grind (arith, nat_tes
 told_well : (n : ℕ) → 2 ≤ n → n ≤ 8 → (nat_le 2 n && nat_le n 8) ≡ true
 told_well n two eight = let a : nat_le 2 n ≡ true = grind (arith, nat_tests, two) in let b : nat_le n 8 ≡ true = grind (arith, nat_tests, eight) in ap (λ x. x && nat_le n 8) a ∙ b
 
+pub not_few : (n m : ℕ) → n ≡ m → 2 ≤ n → n ≤ 8 → ((m < 2) ⊎ (8 < m)) → ⊥
+not_few n m is two eight (inl below) = omega (arith, is, two, below)
+not_few n m is two eight (inr above) = omega (arith, is, eight, above)
+
 -- nothing is said of too few or too many documents, and the documents are the same that were read
 few_said : (bytes : List ℕ) (n : ℕ) → n ≡ length (parts_of bytes) → ((n < 2) ⊎ (8 < n)) → RunsItsRings bytes
-few_said bytes n is (inl below) two eight documents said = absurd (omega (arith, is, below, two))
-few_said bytes n is (inr above) two eight documents said = absurd (omega (arith, is, above, eight))
+few_said bytes n is why two eight documents said = absurd (not_few _ n (sym is) two eight why)
 
 all_said : (bytes : List ℕ) (documents : List DocumentView) → documents_from 1 (parts_of bytes) ≡ Ok documents → AreRuns documents → RunsItsRings bytes
 all_said bytes documents said runs two eight other too = subst AreRuns (by (documents_from 1 (parts_of bytes)) said too) runs

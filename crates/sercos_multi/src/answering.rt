@@ -1,11 +1,12 @@
 // What is answered to several ring documents.
-ghost use Rattle.std.specs.Prelude.{◌≡◌, ◌≢◌, ℕ, ◌≤◌, ◌<◌, ◌&&◌, nat_le, codes, ◌∷◌, [], List, length, map, drop, true, OnOk, Option, Some, None};
+ghost use Rattle.std.specs.Prelude.{◌≡◌, ◌≢◌, ℕ, ◌≤◌, ◌<◌, ◌⊎◌, ◌&&◌, nat_le, codes, ◌∷◌, [], List, length, map, drop, true, OnOk, Option, Some, None};
 ghost use Rattle.sercos_text.specs.Templates.{line_text};
 ghost use Rattle.sercos_text.specs.Templates.Value.{number};
 ghost use Rattle.sercos_trace.specs.Written as plain;
 ghost use Rattle.sercos_call.specs.Outcome.{Replies, Writes, changed};
 ghost use Rattle.sercos_multi.specs.Asking.{count_line, cycle_fault, cycle_line, cycles_answer, cycles_of, document_line, first_cycle, is_common, other_cycle, rings_answer, voices_from};
 ghost use Rattle.sercos_config.specs.Views.{DocumentView};
+ghost use Rattle.sercos_multi.specs.Divided.{parts_of};
 ghost use Rattle.sercos_multi.specs.Ended.{EndsUnopened, IsTold, ended_by};
 ghost use Rattle.sercos_multi.specs.Merged.{Voice, merged};
 ghost use Rattle.sercos_multi.specs.Parts.{AllAt};
@@ -174,10 +175,12 @@ fn refuse_unopened<K: Sink>(why: &Unopened, sink: &mut K) -> Status
 }
 
 /// Answers an input of at most 1,048,576 bytes by the merged text of the rings of its 2 to 8 documents, or by its first refusal. All
-/// rings are opened before anything is written.
+/// rings are opened before anything is written. A number of documents is refused without memory.
 pub fn answer_rings<K: Sink>(alloc: Global, bytes: &[u8], sink: &mut K) -> Status
     requires few { length bytes.now ≤ 1048576 }
-    ensures { Replies (rings_answer bytes.now) (RunsItsRings bytes.now) (changed K.held K.faults K.room sink.old sink.new) (sink.new ≡ sink.old) result }
+    ensures answer { Replies (rings_answer bytes.now) (RunsItsRings bytes.now) (changed K.held K.faults K.room sink.old sink.new) (sink.new ≡ sink.old) result }
+    ensures count { (length (parts_of bytes.now) < 2) ⊎ (8 < length (parts_of bytes.now)) →
+        Writes Status.Refused (count_line (length (parts_of bytes.now))) (changed K.held K.faults K.room sink.old sink.new) result }
 {
     let count = count_parts(bytes);
     if count < 2 || count > 8 {

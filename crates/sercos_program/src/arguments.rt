@@ -1,13 +1,14 @@
 // The words of a program.
-ghost use Rattle.std.specs.Prelude.{◌≡◌, ◌≢◌, ◌⊎◌, IfErr, IfOk, drop, map, string_bytes};
+ghost use Rattle.std.specs.Prelude.{◌≡◌, ◌≢◌, ◌⊎◌, Err, IfErr, IfOk, MatchResult, drop, map, string_bytes};
+ghost use Rattle.std.specs.IoError.{error_kind};
 ghost use Rattle.std.specs.Vec.Iter.{into_iter_items};
 
 use sercos_io::{Status, Words};
 use std::alloc::Global;
-use std::env;
 use std::env::Args;
 use std::io::ErrorKind;
 use std::rt::Env;
+use std::{env, io};
 
 // The status if the words can't be read. Either no memory was found, or one is no UTF-8 text, and so no word of a command.
 fn unread(kind: ErrorKind) -> Status
@@ -35,12 +36,25 @@ fn words_after_name(alloc: Global, mut arguments: Args) -> Result<Words, Status>
     Ok(words)
 }
 
-/// The words after the program's name. The error is `BadWords` if one of them is no UTF-8 text, and `Memory` if no memory was found.
+// The words that a process is given, from what std makes of its arguments.
+fn words_of(alloc: Global, arguments: io::Result<Args>) -> Result<Words, Status>
+    ensures words { IfOk arguments (λ all. MatchResult result
+        (λ words. words ≡ map string_bytes (drop 1 (into_iter_items all)))
+        (λ status. status ≡ Status.Memory)) }
+    ensures no_memory { IfErr arguments (λ error. error_kind error ≡ ErrorKind.OutOfMemory → result ≡ Err Status.Memory) }
+    ensures no_text { IfErr arguments (λ error. error_kind error ≢ ErrorKind.OutOfMemory → result ≡ Err Status.BadWords) }
+{
+    match arguments {
+        Ok(arguments) => words_after_name(alloc, arguments),
+        Err(error) => Err(unread(error.kind())),
+    }
+}
+
+/// The words after the program's name, in their order. The error is `BadWords` if one of them is no UTF-8 text, and `Memory` if no
+/// memory was found. The clause doesn't say which words the process has, since std says nothing of what `args` returns: `words_of` says
+/// what is made of it.
 pub fn given_words(rt: &(impl Env + Alloc<A = Global>)) -> Result<Words, Status>
     ensures { IfErr result (λ status. (status ≡ Status.Memory) ⊎ (status ≡ Status.BadWords)) }
 {
-    match env::args(rt) {
-        Ok(arguments) => words_after_name(rt.alloc(), arguments),
-        Err(error) => Err(unread(error.kind())),
-    }
+    words_of(rt.alloc(), env::args(rt))
 }

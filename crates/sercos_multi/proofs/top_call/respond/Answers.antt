@@ -68,5 +68,5 @@ returns g c =
       how =
           answer_ends _ _ _ _ form c.in-Ok.bytes.items _ _ _ _ _ is c.in-Ok.ensures.cause
           (reads_all _ _ _ _ (sym (reads_none (form_of c.args.words.now) form is)) (record { consumed = read.0; ended = read.1; fits = read.2 }))
-          (ap g.K.Sink.faults) (rw (c.as_slice.ensures.value) at c.answer_rings.ensures);
+          (ap g.K.Sink.faults) (rw (c.as_slice.ensures.value) at c.answer_rings.ensures.answer);
     }
