@@ -1,4 +1,4 @@
-//! What a command answers, a status and a text, and the lines of a text that it is given.
+//! What a command answers, a status and a text, and the lines of its input.
 #![tactic(auto)]
 
 mod lines;

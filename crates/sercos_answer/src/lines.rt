@@ -4,7 +4,7 @@ ghost use Rattle.std.specs.List.{before_first, after_first, position_or_len};
 
 use memchr::memchr;
 
-// How many bytes stand before the first line feed.
+// Returns the number of bytes before the first line feed.
 fn line_len(text: &[u8]) -> usize
     ensures value { result ≡ position_or_len (λ byte. byte == 10) text.now }
     ensures bound { result ≤ length text.now }

@@ -30,7 +30,7 @@ command_answer carry restarts forms.Restore bytes = restore_answer bytes
 command_answer carry restarts (forms.Gen drives) bytes = gen_answer carry restarts drives
 command_answer carry restarts (forms.Replay address) bytes = replay_answer address bytes
 
--- what the answer of each command says beside its text
+-- what the answer of each command promises beside its text
 abbrev pub SaysWell : Carry → Restarts → Form → List ℕ → Type 0
 SaysWell carry restarts forms.Show bytes = Unit {0}
 SaysWell carry restarts forms.Plan bytes = PlansItsRing bytes

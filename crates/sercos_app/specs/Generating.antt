@@ -13,8 +13,8 @@ use Rattle.sercos_answer.specs.Answer.{Answer, line_feed}
 use Rattle.sercos_law_run.specs.Totals.Totals.{totals_of}
 use Rattle.sercos_opened.specs.Kept.{document_run, IsDocumentRun}
 
--- The summary of the run of n drives. In the parts of the line a `D` stands for a number: how many drives and cycles; the first
--- cycle commanded phase 4, if there is one; and the counts.
+-- The summary of the run of n drives. In the parts of the line a `D` is a number: of drives and of cycles; the first cycle
+-- commanded phase 4, if there is one; and the counts.
 abbrev pub head_text : ℕ → ℕ → List ℕ
 head_text n cycles = line_text (codes "gen D cycles D phase4 ") (number n ∷ number cycles ∷ [])
 

@@ -1,5 +1,5 @@
--- What a ring makes while its run is written. `stands` says what a ring stands for: what its opening was given, and its cycles, the
--- newest first.
+-- What a ring makes while its run is written. `stands` relates a ring to what it stands for: the arguments of its opening, and its
+-- cycles, the newest first.
 use Rattle.std.specs.Prelude.{◌≡◌, ℕ, ◌≤◌, Bool, true, List, [], length, reverse, Result, Ok, Err}
 use Rattle.std.specs.List.{flat_map}
 use Rattle.sercos_step.specs.declared.request.Job.{Job}
@@ -29,7 +29,7 @@ pub record IsRingOf {R : Type 0} (stands : R → RingView → List Job → Carry
   pub wishes : w ≡ wishes_of setup
   pub stands_for : stands ring setup jobs carry restarts j
 
--- what is said of the first n cycles of the run of a ring that has made none
+-- the properties of the first n cycles of the run of a ring that has made none
 abbrev pub OfRun : {R : Type 0} → (R → RingView → List Job → Carry → Restarts → List CycleView → Type 0) → R → ℕ → (List CycleView → Type 0) → Type 0
 OfRun stands ring n Says = (r : RingView) (jobs : List Job) (carry : Carry) (restarts : Restarts) → stands ring r jobs carry restarts [] → Says (run_of r jobs carry restarts n)
 

@@ -35,7 +35,7 @@ pub record AgreesThroughout (address : ℕ) (input capture : List ℕ) : Type 0 
   pub starts : late_start capture ≡ None
   pub replays : replay_answer address input ≡ place_answer None (length (cycles_in capture))
 
--- This holds of what `run` writes of the document over whatever link, if no cycle of that run is disturbed.
+-- This holds of what `run` writes of the document over any link, if no cycle of that run is disturbed.
 abbrev pub OwnRunAgrees : ℕ → List ℕ → Type 0
 OwnRunAgrees address input = (carry : Carry) (restarts : Restarts) (d : DocumentView) (own : IsOwnRun carry restarts address input d) → IsCalm carry restarts d → AgreesThroughout address input own.capture
 
@@ -55,7 +55,7 @@ OpensItsRing input = (document capture : List ℕ) → divided input ≡ Some (d
 abbrev pub OwnRunsAgree : Type 0
 OwnRunsAgree = (address : ℕ) (input : List ℕ) → OpensItsRing input → OwnRunAgrees address input
 
--- What the answer of `replay` says beside its text: when each status comes, and that its own run agrees.
+-- What the answer of `replay` promises beside its text: when each status is returned, and that its own run agrees.
 pub record ReplaysItsRing (address : ℕ) (input : List ℕ) : Type 0 where
   pub replays : Replays address input
   pub own : OwnRunAgrees address input

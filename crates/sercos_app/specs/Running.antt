@@ -18,7 +18,7 @@ use Rattle.sercos_app.specs.Journals.{journal_text}
 abbrev pub run_traced : RingView → List Job → Carry → Restarts → Answer
 run_traced r jobs carry restarts = record { status = Done; output = journal_text (wishes_of r) (run_of r jobs carry restarts r.cycles) }
 
--- the answer to what a document says, or to its refusal
+-- the answer to the contents of a document, or to its refusal
 unfoldable pub traced_answer : Carry → Restarts → Result DocumentView BadDocument → Answer
 traced_answer carry restarts (Ok d) = run_traced d.setup d.jobs (carry_under d carry) (restarts_under d restarts)
 traced_answer carry restarts (Err bad) = record { status = Refused; output = line_of bad }

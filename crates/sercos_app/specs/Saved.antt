@@ -25,7 +25,7 @@ use Rattle.sercos_app.specs.Saving.{run_tracked, last_data}
 abbrev pub second_jobs : RingView → Carry → Restarts → List Job
 second_jobs r carry restarts = data_jobs (lists_told (run_tracked r (list_jobs r) carry restarts))
 
--- requests are what their types say, if they are few enough for a run
+-- requests keep their types' ranges, if they are few enough for a run
 abbrev pub AreTypedIfFew : List Job → Type 0
 AreTypedIfFew jobs = length jobs ≤ 4096 → AreTypedJobs jobs
 

@@ -46,7 +46,7 @@ blocks_at r carry restarts j (Some k) = store_at (drive_at r k) r.rate (given_be
 abbrev pub place_of : RingView → ℕ → Option ℕ
 place_of r address = position (λ (d : DriveView). d.address == address) r.drives
 
--- the operation data of a block in a cycle; none, if there is no block
+-- the operation data of a block in a cycle; none without the block
 abbrev pub data_of : ℕ → Option Block → List ℕ
 data_of cycle None = []
 data_of cycle (Some b) = data_in cycle b

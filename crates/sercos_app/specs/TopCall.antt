@@ -1,5 +1,5 @@
--- What the answers of the top call say, command by command. The bytes that a source has left and those that a sink holds are known
--- where it tells them.
+-- What the answers of the top call promise, command by command. The bytes left in a source and those that a sink holds are known if it
+-- exposes them.
 use Rattle.std.specs.Prelude.{◌≡◌, ℕ, ◌<◌, ◌≤◌, Bool, true, false, List, [], codes, length, reverse, Option, Some, None, Ok}
 use Rattle.std.specs.Io.KnownBytes.{Appends}
 use Rattle.sercos_call.specs.TopCall.{ReadsWhole}
@@ -34,8 +34,8 @@ use Rattle.sercos_config.specs.Document.{document_of}
 use Rattle.sercos_config.specs.Generated.{generated}
 use Rattle.sercos_app.specs.Generating.{gen_line}
 
--- The source was read to its end as the document of a ring for which no plan fits, whatever plan it is. What was appended is the
--- text of a chain of what the ring asks, whose sum is above its bound.
+-- The source was read to its end as the document of a ring for which no plan fits. What was appended is the text of a chain of the ring's
+-- requirements, whose sum is above its bound.
 pub record NonePlanned (left left' held held' : Option (List ℕ)) : Type 0 where
   pub bytes : List ℕ
   pub read : ReadsWhole left left' bytes
@@ -56,8 +56,8 @@ pub record LeastPlanned (left left' held held' : Option (List ℕ)) : Type 0 whe
   pub least : IsLeast (wishes_of says.setup) plan
   pub written : Appends held held' (plan_text (wishes_of says.setup) plan)
 
--- The source was read to its end as the document of a ring. What was appended says how far each time of its drives can go, and which
--- cycle time is the least; or, where no plan fits it, the least cycle time and a chain that proves it.
+-- The source was read to its end as the document of a ring. What was appended is the slack of each time of its drives, and the least cycle
+-- time; or, if no plan fits it, the least cycle time and a chain that proves it.
 pub record MarginsTold (left left' held held' : Option (List ℕ)) : Type 0 where
   pub bytes : List ℕ
   pub read : ReadsWhole left left' bytes
@@ -94,9 +94,8 @@ pub record CleanTold (left left' held held' : Option (List ℕ)) : Type 0 where
   pub none : first_violation [] (lines_of bytes) ≡ None
   pub written : Appends held held' (clean_text (length (lines_of bytes)))
 
--- The source was read to its end as the document of a ring and a capture, and asks for the replay of the station with an address.
--- What was appended is the first place at which this station said something else than its rules give, with both telegrams; or, where
--- there is none, the number of cycles.
+-- The source was read to its end as the document of a ring and a capture, for the replay of the station with an address. What was appended
+-- is the first place at which this station deviated from its rules, with both telegrams; or, without one, the number of cycles.
 pub record PlaceTold (address : ℕ) (left left' held held' : Option (List ℕ)) : Type 0 where
   pub bytes : List ℕ
   pub read : ReadsWhole left left' bytes
@@ -123,9 +122,9 @@ pub record BreachTold (address : ℕ) (left left' held held' : Option (List ℕ)
   pub breaks : Breaks address bytes
   pub written : Appends held held' (violation_text breaks.line breaks.rule)
 
--- The source was read to its end as the document of a ring, and what was appended is the trace of the one run of this ring, for its
--- number of cycles, under its script followed by the link handed in. Its cycles keep all that is promised of them. The newest cycle of
--- the journal comes first.
+-- The source was read to its end as the document of a ring, and what was appended is the trace of the one run of this ring, for its number
+-- of cycles, under its script followed by the link passed in. Its cycles have all promised properties. The newest cycle of the journal
+-- comes first.
 pub record RunTraced (carry : Carry) (restarts : Restarts) (left left' held held' : Option (List ℕ)) : Type 0 where
   pub bytes : List ℕ
   pub read : ReadsWhole left left' bytes
@@ -139,8 +138,8 @@ pub record RunTraced (carry : Carry) (restarts : Restarts) (left left' held held
   pub count : length journal ≡ says.setup.cycles
   pub written : Appends held held' (trace_of (wishes_of says.setup) (reverse journal) (totals_of (reverse journal)))
 
--- What was appended is the summary of the one run of the generated ring of n drives, for its number of cycles, under its script
--- followed by the link handed in. Its cycles keep all that is promised of them. The newest cycle of the journal comes first.
+-- What was appended is the summary of the one run of the generated ring of n drives, for its number of cycles, under its script followed by
+-- the link passed in. Its cycles have all promised properties. The newest cycle of the journal comes first.
 pub record RunSummed (carry : Carry) (restarts : Restarts) (n : ℕ) (held held' : Option (List ℕ)) : Type 0 where
   pub journal : List CycleView
   pub run : IsRun (generated n).setup (generated n).jobs (carry_under (generated n) carry) (restarts_under (generated n) restarts) journal
@@ -150,8 +149,8 @@ pub record RunSummed (carry : Carry) (restarts : Restarts) (n : ℕ) (held held'
   pub count : length journal ≡ (generated n).setup.cycles
   pub written : Appends held held' (gen_line n (totals_of (reverse journal)))
 
--- Nothing is saved of a ring, and this text says why: the lists of some drives couldn't be read; the blocks on the lists are too many;
--- or some of them couldn't be read.
+-- Nothing is saved of a ring, and this text has the reason: the lists of some drives couldn't be read; the blocks on the lists are too
+-- many; or some of them couldn't be read.
 pub data IsUnsaved (r : RingView) (carry : Carry) (restarts : Restarts) : List ℕ → Type 0 where
   lists_failed : are_well true (run_tracked r (list_jobs r) carry restarts) ≡ false → IsUnsaved r carry restarts (failed_lines true (run_tracked r (list_jobs r) carry restarts))
   too_many : are_well true (run_tracked r (list_jobs r) carry restarts) ≡ true → 4096 < length (second_jobs r carry restarts) → IsUnsaved r carry restarts (many_answer (length (second_jobs r carry restarts))).output
@@ -171,7 +170,7 @@ pub record BackupSaved (left left' held held' : Option (List ℕ)) : Type 0 wher
   pub runs : IsSaved says.setup (script_carry says) (script_restarts says)
   pub written : Appends held held' (saved_lines (run_tracked says.setup (second_jobs says.setup (script_carry says) (script_restarts says)) (script_carry says) (script_restarts says)))
 
--- The same, but that nothing is saved, and what was appended says why.
+-- The same input, but nothing is saved, and what was appended has the reason.
 pub record BackupFailed (left left' held held' : Option (List ℕ)) : Type 0 where
   pub bytes : List ℕ
   pub read : ReadsWhole left left' bytes
@@ -181,9 +180,9 @@ pub record BackupFailed (left left' held held' : Option (List ℕ)) : Type 0 whe
   pub why : IsUnsaved says.setup (script_carry says) (script_restarts says) text
   pub written : Appends held held' text
 
--- The source was read to its end as the document of a ring whose requests all write operation data. What was appended has a line for
--- each of them, from the one run of the ring over its script: what the drive has after its last cycle, or how the request failed. `all` says whether none
--- did.
+-- The source was read to its end as the document of a ring whose requests all write operation data. What was appended has a line for each
+-- of them, from the one run of the ring over its script: what the drive has after its last cycle, or how the request failed. `all` is
+-- whether none did.
 pub record RestoreTold (all : Bool) (left left' held held' : Option (List ℕ)) : Type 0 where
   pub bytes : List ℕ
   pub read : ReadsWhole left left' bytes

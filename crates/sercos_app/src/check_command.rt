@@ -19,8 +19,8 @@ fn give_verdict<K: Sink>(verdict: Verdict, sink: &mut K) -> Status
     }
 }
 
-/// Writes the verdict on a capture: the first fault of grammar or shape, else the first violation, else the number of lines. It
-/// takes no memory.
+/// Writes the verdict on a capture: the first fault of grammar or shape, otherwise the first violation, otherwise the number of
+/// lines. It takes no memory.
 pub fn write_verdict<K: Sink>(text: &[u8], sink: &mut K) -> Status
     requires { length text.now ≤ 1048576 }
     ensures { Writes (check_answer text.now).status (check_answer text.now).output (changed K.held K.faults K.room sink.old sink.new) result }

@@ -10,9 +10,9 @@ use sercos_io::{MemorySink, PlainSource, Status, Words};
 use sercos_script::BitLink;
 use std::alloc::Global;
 
-/// The top call over a source that never fails and a sink in memory. Where the words are a command's, the input has at
+/// The top call over a source that never fails and a sink in memory. If the words are a command's, the input has at
 /// most 1,048,576 bytes, and the sink fails no call and has room for the whole output, nothing outside can fail: the
-/// answer is given whole, or `Memory` is returned.
+/// answer is written whole, or `Memory` is returned.
 pub fn answer_in_memory<L: BitLink>(
     alloc: Global,
     words: &Words,

@@ -5,8 +5,8 @@ use sercos_law_run::run_law;
 use sercos_law_trace::clean_law;
 use sercos_replay::undisturbed_law;
 
-/// A law and no code. Where an input has a document that may be opened with its requests, and what `run` writes of it over whatever
-/// link, and nothing is disturbed in that run, `check` finds what is written clean, and the answer of `replay` is the number of its
+/// A law, without code. If an input has a document that may be opened with its requests, and what `run` writes of it over any link,
+/// and nothing is disturbed in that run, `check` finds what is written clean, and the answer of `replay` is the number of its
 /// cycles, for the master and for each drive.
 pub fn replay_law()
     ensures { OwnRunsAgree }

@@ -50,12 +50,12 @@ fn reply_undivided(alloc: Global, address: u8) -> Result<Reply, BadDocument>
     }
 }
 
-/// Answers a ring document, a line that is exactly `capture`, and a capture: the first place at which the station with an address
-/// said something else than its rules give of all that the capture has before that place, with `No`; or the number of cycles, if
-/// there is none. The master has the address 0. An input without such a line is refused, then a document, an address that no drive
-/// has, a capture, and one that doesn't begin with cycle 0; a capture that breaks a rule is answered as `check` does. The error is the
-/// document's first refusal, or `Memory`. Unless it is `Memory`, the document of the input may be opened with its requests, if there is
-/// one that isn't refused.
+/// Answers a ring document, a line that is exactly `capture`, and a capture: with `No` and the first place at which the station with an
+/// address deviated from its rules, given all that the capture has before that place; or with the number of cycles, if there is none.
+/// The master has the address 0. An input without such a line is refused, then a document, an address without a drive, a capture, and
+/// one that doesn't begin with cycle 0; a capture that breaks a rule is answered as `check` does. The error is the document's first
+/// refusal, or `Memory`. Unless it is `Memory`, the document of the input may be opened with its requests, if there is one that isn't
+/// refused.
 #[tactic(auto, unfolding(sercos_replay::specs::Replaying::replay_answer, sercos_replay::specs::Replaying::parts_answer, sercos_replay::specs::Divided::divided))]
 pub fn replay(alloc: Global, address: u8, bytes: &[u8]) -> Result<Reply, BadDocument>
     requires few { length bytes.now ≤ 1048576 }

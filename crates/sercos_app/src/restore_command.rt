@@ -49,7 +49,7 @@ fn place_of(setup: &RingSetup, address: u8) -> Option<usize>
         .position(|drive| drive.address == address)
 }
 
-// Puts the operation data of a block of a store as it is in a cycle; nothing, if there is no block.
+// Copies the operation data of a block of a store as it is in a cycle; nothing without the block.
 fn put_shown(store: &Store, idn: Idn, cycle: u32, out: &mut Bytes)
     requires { out.old ≡ [] }
     ensures { out.new ≡ data_of cycle (find_block idn.raw store.now) }

@@ -23,7 +23,7 @@ use sercos_step::Job;
 use sercos_timing::Wishes;
 use std::alloc::Global;
 
-/// How many cycles a ring runs: 1 to 50,000.
+/// Returns how many cycles a ring runs: 1 to 50,000.
 #[tactic(auto, unfolding(sercos_block::specs::Rings::is_ring, sercos_block::specs::Rings::are_ring_numbers))]
 pub fn cycles_of(setup: &RingSetup) -> u32
     requires { is_ring setup.now ≡ true }
@@ -34,7 +34,7 @@ pub fn cycles_of(setup: &RingSetup) -> u32
     setup.cycles
 }
 
-/// How many drives a ring has: at most 64.
+/// Returns how many drives a ring has: at most 64.
 pub fn drives_of(setup: &RingSetup) -> u8
     requires { is_ring setup.now ≡ true }
     ensures { result ≡ length setup.now.drives }

@@ -126,11 +126,11 @@ fn write_whole<L: BitLink, K: Sink>(
 /// Writes the trace of a ring's run: the head, the lines of each cycle as it is made, and the last line with the totals, which are
 /// returned. It takes no memory.
 ///
-/// The ring has made no cycle, and the wishes are those of the setup with which it was opened; 1 to 50,000 cycles. After an error
-/// the sink has taken a prefix of the text, short of the whole, and its count of faults has risen. In both cases the ring stands
-/// for the cycles that it has made. If it was opened with what its types say, each cycle up to the first arrival that is unseen keeps
-/// all that `headline_law` says, and all that `recovery_law` says of what comes after faults; and each up to the first that
-/// is disturbed keeps all that `undisturbed_law` says of a start-up.
+/// The ring has made no cycle, and the planner's input is that of the setup with which it was opened; 1 to 50,000 cycles. After an
+/// error the sink has accepted a prefix of the text, short of the whole, and its count of faults has risen. In both cases the ring
+/// stands for the cycles that it has made. If the arguments of its opening keep their types' ranges, each cycle up to the first
+/// undetected damage has the properties of `headline_law`, and those of `recovery_law` after faults; and each up to the first that is
+/// disturbed has those of `undisturbed_law` for a start-up.
 pub fn write_run<L: BitLink, K: Sink>(
     ring: &mut Ring<L>,
     w: &Wishes,

@@ -35,14 +35,14 @@ use sercos_show::show::show;
 use sercos_words::{Form, form_of};
 use std::alloc::{AllocError, Global};
 
-// What `show` gives for an input.
+// Answers an input of `show`.
 fn shown(alloc: Global, text: &[u8]) -> Result<Given, AllocError>
     ensures { IfOk result (λ given. Gives given (show_answer text.now)) }
 {
     Ok(Given::Reply(show(alloc, text)?))
 }
 
-// What `plan` gives for an input.
+// Answers an input of `plan`.
 fn planned(alloc: Global, bytes: &[u8]) -> Result<Given, AllocError>
     ensures given { IfOk result (λ given. Gives given (plan_answer bytes.now)) }
     ensures says { IfOk result (λ _. PlansItsRing bytes.now) }
@@ -53,7 +53,7 @@ fn planned(alloc: Global, bytes: &[u8]) -> Result<Given, AllocError>
     }
 }
 
-// What `margin` gives for an input.
+// Answers an input of `margin`.
 fn measured(alloc: Global, bytes: &[u8]) -> Result<Given, AllocError>
     ensures given { IfOk result (λ given. Gives given (margin_answer bytes.now)) }
     ensures says { IfOk result (λ _. MeasuresItsRing bytes.now) }
@@ -64,7 +64,7 @@ fn measured(alloc: Global, bytes: &[u8]) -> Result<Given, AllocError>
     }
 }
 
-// What `replay` gives for an input. Its stack is apart from that of the other commands: the states of a drive and of the master are large.
+// Answers an input of `replay`. Its stack is apart from that of the other commands: the states of a drive and of the master are large.
 #[inline(never)]
 fn replayed(alloc: Global, address: u8, bytes: &[u8]) -> Result<Given, AllocError>
     requires few { length bytes.now ≤ 1048576 }
@@ -121,7 +121,7 @@ fn answer_replay<K: Sink>(alloc: Global, address: u8, bytes: &[u8], sink: &mut K
     give_made(&replayed(alloc, address, bytes), sink)
 }
 
-// Whether a command reads its source.
+// Returns whether a command reads its source.
 #[tactic(auto, unfolding(sercos_words::specs::Form::reads_input))]
 fn reads_input(form: Form) -> bool
     ensures { result ≡ reads_input (Some form) }
@@ -156,7 +156,7 @@ fn answer<K: Sink, L: BitLink>(
     }
 }
 
-// Reads the input, and gives the reply to it.
+// Reads the input, and writes the reply to it.
 fn respond<S: Source, K: Sink, L: BitLink>(
     alloc: Global,
     words: &Words,
@@ -191,26 +191,25 @@ fn respond<S: Source, K: Sink, L: BitLink>(
     answer(alloc, form, bytes.as_slice(), sink, link)
 }
 
-/// Runs the command that the words name, over one input and one output, and answers the status with which it ends.
+/// Runs the command that the words name, over one input and one output, and returns the status with which it ends.
 ///
-/// The input is the source's bytes up to its end, at most 1,048,576 of them. It is read whole before anything is written; `gen`
-/// reads nothing. `run` writes the lines of each cycle as the cycle is made; each other command writes its output once it is
-/// whole. The clauses on the bytes of source and sink hold where these tell them, as those in memory do.
+/// The input is the source's bytes up to its end, at most 1,048,576 of them. It is read whole before anything is written; `gen` reads
+/// nothing. `run` writes the lines of each cycle as the cycle is made; each other command writes its output once it is whole. The clauses
+/// on the bytes of source and sink hold if these expose their bytes, as those in memory do.
 ///
-/// The forms of words are `show`, `plan`, `margin`, `run`, `check`, `backup`, `restore`, `gen N` for 1 to 64 drives, and `replay A` for an address from 0 to
-/// 254, with at most one word `--` anywhere.
-/// `run` and `gen` run their ring over the script of the document, followed by `link`; no other command uses `link`. `backup` and
-/// `restore` run theirs over the script alone.
-/// Words in no form are `BadWords`, and nothing is read. `ReadFault` is returned if a read failed, `TooLong` if the input is longer,
-/// and `Memory` if no memory was found; then nothing is written. A refused input is `Refused`, also if its line couldn't be written
-/// whole. After any other failed write the status is `WriteFault`, and the sink has taken a prefix of the output.
+/// The forms of words are `show`, `plan`, `margin`, `run`, `check`, `backup`, `restore`, `gen N` for 1 to 64 drives, and `replay A` for an
+/// address from 0 to 254, with at most one word `--` anywhere. `run` and `gen` run their ring over the script of the document, followed by
+/// `link`; no other command uses `link`. `backup` and `restore` run theirs over the script alone. Any other words are `BadWords`, and
+/// nothing is read. `ReadFault` is returned if a read failed, `TooLong` if the input is longer, and `Memory` if no memory was found; then
+/// nothing is written. A refused input is `Refused`, also if its line couldn't be written whole. After any other failed write the status is
+/// `WriteFault`, and the sink has accepted a prefix of the output.
 ///
-/// Of each run that `run` traces and `gen` sums, up to the first arrival that is unseen, whatever was lost or damaged: if no cycle after a
-/// fall is disturbed, the ring starts up again; and from the cycle on that comes twice the bound of a start-up and 200 cycles after the
-/// last disturbed one, phase 4 is commanded, or the master stands at a stop for its cause.
+/// Of each run that `run` traces and `gen` sums, up to the first undetected damage, regardless of losses and restarts: if no cycle after a
+/// fall is disturbed, the ring starts up again; and from twice the bound of a start-up and 200 cycles after the last disturbed one on,
+/// phase 4 is commanded, or the master is at a stop for its cause.
 ///
-/// Where the capture of `replay A` is what `run` writes of its document, over whatever link, and no cycle of that run is disturbed,
-/// `check` finds the capture clean, and the replay agrees, for the master and for each drive.
+/// If the capture of `replay A` is what `run` writes of its document, over any link, and no cycle of that run is disturbed, `check` finds
+/// the capture clean, and the replay agrees, for the master and for each drive.
 pub fn sercos<S: Source, K: Sink, L: BitLink>(
     alloc: Global,
     words: &Words,
@@ -218,7 +217,7 @@ pub fn sercos<S: Source, K: Sink, L: BitLink>(
     sink: &mut K,
     link: L,
 ) -> Status
-    // The words come first: those in no form are refused, if memory was found to read them, before anything is read. `gen` reads
+    // The words come first: words that are not a form are refused, if memory was found to read them, before anything is read. `gen` reads
     // nothing either.
     ensures bad_words { result ≡ Status.BadWords → form_of words.now ≡ None }
     ensures no_form { form_of words.now ≡ None → (result ≡ Status.Memory) ⊎ (result ≡ Status.BadWords) }
@@ -228,19 +227,19 @@ pub fn sercos<S: Source, K: Sink, L: BitLink>(
     ensures taken { TakesAtMost 1048577 (S.left source.old) (S.left source.new) }
     ensures taken_few { result ≢ Status.TooLong → TakesAtMost 1048576 (S.left source.old) (S.left source.new) }
 
-    // BadWords, ReadFault, TooLong and Memory come before anything is written.
+    // BadWords, ReadFault, TooLong and Memory are returned before anything is written.
     ensures unwritten { IsTrue (writes_nothing result) → sink.new ≡ sink.old }
 
-    // ReadFault comes only where the source's count rose; elsewhere no read failed.
+    // ReadFault is returned only if the source's count rose; otherwise no read failed.
     ensures read_fault { result ≡ Status.ReadFault → Rose (S.faults source.old) (S.faults source.new) }
     ensures read_count { S.faults source.old ≤ S.faults source.new }
     ensures read_well { result ≢ Status.ReadFault → S.faults source.new ≡ S.faults source.old }
 
-    // TooLong comes only where 1,048,577 bytes were taken.
+    // TooLong is returned only if 1,048,577 bytes were read.
     ensures too_long { result ≡ Status.TooLong → TakesTooMany (S.left source.old) (S.left source.new) }
 
-    // Done and No come only where the input was read to its end, its answer has this status, and the whole output was
-    // appended; No comes from `plan`, `margin`, `check`, `backup`, `restore` and `replay` alone.
+    // Done and No are returned only if the input was read to its end, its answer has this status, and the whole output was appended; No is
+    // returned by `plan`, `margin`, `check`, `backup`, `restore` and `replay` alone.
     ensures done { result ≡ Status.Done → IsAnswered (reads_input (form_of words.now)) (answer_of (L.carry link) (L.restart link) words.now) Status.Done
         (S.left source.old) (S.left source.new) (K.held sink.old) (K.held sink.new) }
     ensures no { result ≡ Status.No → IsAnswered (reads_input (form_of words.now)) (answer_of (L.carry link) (L.restart link) words.now) Status.No
@@ -248,30 +247,30 @@ pub fn sercos<S: Source, K: Sink, L: BitLink>(
     ensures no_of { result ≡ Status.No → (form_of words.now ≡ Some Form.Plan) ⊎ (form_of words.now ≡ Some Form.Margin) ⊎ (form_of words.now ≡ Some Form.Check)
         ⊎ (form_of words.now ≡ Some Form.Backup) ⊎ (form_of words.now ≡ Some Form.Restore) ⊎ ((address : ℕ) × (form_of words.now ≡ Some (Form.Replay address))) }
 
-    // No comes from `plan` only where no plan fits the ring that was read, whatever plan it is, and with the text of a chain that
-    // proves it; and Done only with the text of the least plan.
+    // No is returned by `plan` only if no plan fits the ring that was read, and with the text of a chain that proves it; and Done only with
+    // the text of the least plan.
     ensures none_fits { result ≡ Status.No → form_of words.now ≡ Some Form.Plan → NonePlanned
         (S.left source.old) (S.left source.new) (K.held sink.old) (K.held sink.new) }
     ensures least { result ≡ Status.Done → form_of words.now ≡ Some Form.Plan → LeastPlanned
         (S.left source.old) (S.left source.new) (K.held sink.old) (K.held sink.new) }
 
-    // Done comes from `margin` only with how far each time of each drive can go, and the least cycle time; No, only where no plan fits,
-    // with that cycle time and the text of a chain that proves it.
+    // Done is returned by `margin` only with the slack of each time of each drive, and the least cycle time; No, only if no plan fits, with
+    // that cycle time and the text of a chain that proves it.
     ensures margins { result ≡ Status.Done → form_of words.now ≡ Some Form.Margin → MarginsTold
         (S.left source.old) (S.left source.new) (K.held sink.old) (K.held sink.new) }
     ensures chain { result ≡ Status.No → form_of words.now ≡ Some Form.Margin → ChainTold
         (S.left source.old) (S.left source.new) (K.held sink.old) (K.held sink.new) }
 
-    // No comes from `check` only with the first line that breaks a rule and the lowest rule that it breaks, and Done only where none
-    // does; each only where no line has a fault of grammar or shape.
+    // No is returned by `check` only with the first line that breaks a rule and the lowest rule that it breaks, and Done only if none does;
+    // each only if no line has a fault of grammar or shape.
     ensures violation { result ≡ Status.No → form_of words.now ≡ Some Form.Check → ViolationTold
         (S.left source.old) (S.left source.new) (K.held sink.old) (K.held sink.new) }
     ensures clean { result ≡ Status.Done → form_of words.now ≡ Some Form.Check → CleanTold
         (S.left source.old) (S.left source.new) (K.held sink.old) (K.held sink.new) }
 
-    // No comes from `replay A` only with the first place at which the station with the address A said something else than its rules give of
-    // all that the capture has before that place; or, where the capture breaks a rule, with what `check` says of it. Done comes only where
-    // no place differs. Wherever the input asks for a replay, and nothing outside fails, the answer is that place or the number of cycles.
+    // No is returned by `replay A` only with the first place at which the station with the address A deviated from its rules, given all
+    // that the capture has before that place; or, if the capture breaks a rule, with the answer of `check`. Done is returned only if no
+    // place differs. Whenever the input is that of a replay, and nothing outside fails, the answer is that place or the number of cycles.
     ensures differs { (address : ℕ) → result ≡ Status.No → form_of words.now ≡ Some (Form.Replay address) →
         PlaceTold address (S.left source.old) (S.left source.new) (K.held sink.old) (K.held sink.new)
         ⊎ BreachTold address (S.left source.old) (S.left source.new) (K.held sink.old) (K.held sink.new) }
@@ -284,9 +283,9 @@ pub fn sercos<S: Source, K: Sink, L: BitLink>(
         → (result ≡ Status.Memory)
         ⊎ IsAnswer (place_answer (station_differs station (cycles_in capture)) (length (cycles_in capture))) result (K.held sink.old) (K.held sink.new) }
 
-    // Where the input is a document and, as its capture, what `run` writes of this document over whatever link, and no cycle of that run
-    // is disturbed, `check` finds the capture clean, it begins with cycle 0, and the answer is the number of its cycles, for the master
-    // and for every drive, if nothing outside fails; or Memory.
+    // If the input is a document and, as its capture, what `run` writes of this document over any link, and no cycle of that run is
+    // disturbed, `check` finds the capture clean, it begins with cycle 0, and the answer is the number of its cycles, for the master and
+    // for every drive, if nothing outside fails; or Memory.
     ensures calm { (address : ℕ) (bytes : List ℕ) (carry : Carry) (restarts : Restarts) (d : DocumentView) (own : IsOwnRun carry restarts address bytes d)
         → form_of words.now ≡ Some (Form.Replay address) → S.left source.old ≡ Some bytes → length bytes ≤ 1048576 → IsCalm carry restarts d
         → (Rose (S.faults source.old) (S.faults source.new) → ⊥)
@@ -294,39 +293,39 @@ pub fn sercos<S: Source, K: Sink, L: BitLink>(
         → (result ≡ Status.Memory)
         ⊎ (AgreesThroughout address bytes own.capture × IsAnswer (place_answer None (length (cycles_in own.capture))) result (K.held sink.old) (K.held sink.new)) }
 
-    // Done comes from `run` only with the trace of the one run of the ring that was read, and from `gen` only with the summary of
-    // the one run of the ring that it generates.
+    // Done is returned by `run` only with the trace of the one run of the ring that was read, and by `gen` only with the summary of the one
+    // run of the ring that it generates.
     ensures traced { result ≡ Status.Done → form_of words.now ≡ Some Form.Run → RunTraced (L.carry link) (L.restart link)
         (S.left source.old) (S.left source.new) (K.held sink.old) (K.held sink.new) }
     ensures summed { (n : ℕ) → result ≡ Status.Done → form_of words.now ≡ Some (Form.Gen n) →
         RunSummed (L.carry link) (L.restart link) n (K.held sink.old) (K.held sink.new) }
 
-    // Done comes from `backup` only with the saved data of all blocks on the drives' lists of backup operation data, which were read in two
-    // runs of the ring; where nothing was unseen in a run, what was read in it are the bytes that the drive's store had in the one
-    // cycle in which the drive accepted the selection of that read's own transfer. No comes only with the requests that failed, or
-    // where the blocks are too many.
+    // Done is returned by `backup` only with the saved data of all blocks on the drives' lists of backup operation data, which were read in
+    // two runs of the ring; if nothing was undetected in a run, what was read in it are the bytes that the drive's store had in the one
+    // cycle in which the drive accepted the selection of that read's own transfer. No is returned only with the requests that failed, or if
+    // the blocks are too many.
     ensures saved { result ≡ Status.Done → form_of words.now ≡ Some Form.Backup → BackupSaved
         (S.left source.old) (S.left source.new) (K.held sink.old) (K.held sink.new) }
     ensures unsaved { result ≡ Status.No → form_of words.now ≡ Some Form.Backup → BackupFailed
         (S.left source.old) (S.left source.new) (K.held sink.old) (K.held sink.new) }
 
-    // Done and No come from `restore` only where each request of the ring writes operation data, with a line for each: what the drive
-    // has after the last cycle of the one run of the ring, or how the request failed; Done only where none did. Where nothing was
-    // unseen in the run, what is printed for a complete write is its data, filled up to whole words, if no later request to the drive
-    // is one to the same block, which the drive has.
+    // Done and No are returned by `restore` only if each request of the ring writes operation data, with a line for each: what the drive
+    // has after the last cycle of the one run of the ring, or how the request failed; Done only if none did. If nothing was undetected in
+    // the run, what is printed for a complete write is its data, filled up to whole words, if no later request to the drive is one to the
+    // same block, which the drive has.
     ensures restored { result ≡ Status.Done → form_of words.now ≡ Some Form.Restore → RestoreTold true
         (S.left source.old) (S.left source.new) (K.held sink.old) (K.held sink.new) }
     ensures unrestored { result ≡ Status.No → form_of words.now ≡ Some Form.Restore → RestoreTold false
         (S.left source.old) (S.left source.new) (K.held sink.old) (K.held sink.new) }
 
-    // Refused too comes only where the input was read to its end; if writing the refusal failed, a prefix of it was appended.
+    // Refused too is returned only if the input was read to its end; if writing the refusal failed, a prefix of it was appended.
     ensures refused { result ≡ Status.Refused →
         ((K.faults sink.new ≡ K.faults sink.old) × IsAnswered (reads_input (form_of words.now)) (answer_of (L.carry link) (L.restart link) words.now) Status.Refused
         (S.left source.old) (S.left source.new) (K.held sink.old) (K.held sink.new))
         ⊎ (Rose (K.faults sink.old) (K.faults sink.new) × IsCutShort (reads_input (form_of words.now)) (answer_of (L.carry link) (L.restart link) words.now) Status.Refused
         (S.left source.old) (S.left source.new) (K.held sink.old) (K.held sink.new)) }
 
-    // WriteFault comes only where the sink's count rose, after a prefix of the output; elsewhere no write failed.
+    // WriteFault is returned only if the sink's count rose, after a prefix of the output; otherwise no write failed.
     ensures write_fault { result ≡ Status.WriteFault →
         Rose (K.faults sink.old) (K.faults sink.new) × IsCutShort (reads_input (form_of words.now)) (answer_of (L.carry link) (L.restart link) words.now) Status.WriteFault
         (S.left source.old) (S.left source.new) (K.held sink.old) (K.held sink.new) }
@@ -334,8 +333,8 @@ pub fn sercos<S: Source, K: Sink, L: BitLink>(
     ensures write_well { result ≢ Status.WriteFault → result ≢ Status.Refused →
         K.faults sink.new ≡ K.faults sink.old }
 
-    // Completeness: of a source that tells an input of at most 1,048,576 bytes, or where nothing is read, and where no count
-    // rose, the call gives the answer whole, or Memory. Its refusal is given whatever the sink does.
+    // Completeness: if the source exposes an input of at most 1,048,576 bytes, or nothing is read, and no count rose, the call writes the
+    // answer whole, or returns Memory. Its refusal is returned whatever the sink does.
     ensures answers { (bytes : List ℕ) → HasInput (reads_input (form_of words.now)) (S.left source.old) bytes → length bytes ≤ 1048576
         → form_of words.now ≢ None
         → (Rose (S.faults source.old) (S.faults source.new) → ⊥)

@@ -1,4 +1,4 @@
-// The run of a ring, with what is told of its requests.
+// The run of a ring, with the reports on its requests.
 ghost use Rattle.std.specs.Prelude.{◌≡◌, ℕ, ◌<◌, ◌≤◌, ◌^◌, ◌++◌, true, List, [], length, IfOk};
 ghost use Rattle.std.specs.List.{All};
 ghost use Rattle.sercos_step.specs.declared.request.Job.{Job};
@@ -23,7 +23,7 @@ use sercos_script::BitLink;
 use sercos_step::Job;
 use std::alloc::{AllocError, Global};
 
-/// A ring that has made its cycles, and its requests, each with the outcome that was told of it.
+/// A ring that has made its cycles, and its requests, each with its reported outcome.
 #[derive(Drop)]
 pub struct Run<L: BitLink> {
     /// The requests, in their order.
@@ -32,7 +32,7 @@ pub struct Run<L: BitLink> {
     pub ring: Ring<L>,
 }
 
-// Goes on by a cycle, and notes the outcomes that are told in it.
+// Makes the next cycle, and notes the outcomes that are reported in it.
 fn note_next<L: BitLink>(ring: &mut Ring<L>, list: &mut [Tracked])
     requires made { cycles_made ring.old < 2 ^ 31 }
     ensures after { AfterCycle L.carry L.restart ring.old ring.new }
@@ -42,7 +42,7 @@ fn note_next<L: BitLink>(ring: &mut Ring<L>, list: &mut [Tracked])
     note(made.events.outcomes.as_slice(), list);
 }
 
-// Makes a number of cycles of a ring that has made none, and notes all outcomes that are told.
+// Makes a number of cycles of a ring that has made none, and notes all outcomes that are reported.
 fn note_cycles<L: BitLink>(ring: &mut Ring<L>, cycles: u32, list: &mut [Tracked])
     requires made { cycles_made ring.old ≡ 0 }
     requires few { cycles ≤ 50000 }

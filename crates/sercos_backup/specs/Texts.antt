@@ -1,5 +1,5 @@
--- What a backup and a restore answer. In a template `D` stands for a number, `I` for an identifier number, `H` for bytes as
--- hexadecimal digits, `-` for none, and `C` for the two bytes of a code.
+-- The answers of a backup and a restore. In a template `D` is a number, `I` an identifier number, `H` bytes as hexadecimal digits,
+-- `-` for none, and `C` the two bytes of a code.
 use Rattle.std.specs.Prelude.{ℕ, ◌+◌, ◌/◌, ◌%◌, Bool, false, if◌then◌else◌, List, [], ◌∷◌, codes, Option, Some, None}
 use Rattle.std.specs.List.{flat_map}
 use Rattle.sercos_step.specs.declared.request.Outcome.{Outcome}
@@ -11,7 +11,7 @@ use Rattle.sercos_answer.specs.Answer.{Answer}
 use Rattle.sercos_backup.specs.declared.tracked.Tracked.{Tracked}
 use Rattle.sercos_backup.specs.Tracking.{is_well, are_well, bytes_told}
 
--- the five lines of a ring document that ask for a write of a block's operation data
+-- the five lines of a ring document that request a write of a block's operation data
 unfoldable pub saved_text : ℕ → ℕ → List ℕ → List ℕ
 saved_text address raw [] = line_text (codes "[[request]]\ndrive = D\nkind = \"write\"\nidn = \"I\"\ndata = \"\"\n") (number address ∷ ident raw ∷ [])
 saved_text address raw (byte ∷ content) = line_text (codes "[[request]]\ndrive = D\nkind = \"write\"\nidn = \"I\"\ndata = \"H\"\n") (number address ∷ ident raw ∷ bytes (byte ∷ content) ∷ [])

@@ -1,4 +1,4 @@
--- Requests, each with the outcome that was told of it.
+-- Requests, each with the outcome that was reported of it.
 use Rattle.std.specs.Prelude.{ℕ, suc, ◌==◌, Bool, true, false, ◌&&◌, List, [], ◌∷◌, map, Option, Some, None, option_map}
 use Rattle.std.specs.List.{find, list_all}
 use Rattle.std.specs.Option.{option_or}
@@ -15,7 +15,8 @@ idn_in (request.Read idn e) = idn
 idn_in (request.Write idn e bytes) = idn
 idn_in (request.Command idn) = idn
 
--- The outcome that was told of the request with a number, if one was. Outcomes are told with the number of their request, in order.
+-- The outcome that was reported of the request with a number, if there is one. Outcomes are reported with the number of their
+-- request, in order.
 abbrev pub told_of : List (ℕ × Outcome) → ℕ → Option Outcome
 told_of told number = option_map (λ (o : ℕ × Outcome). o.1) (find (λ (o : ℕ × Outcome). o.0 == number) told)
 
@@ -23,12 +24,12 @@ told_of told number = option_map (λ (o : ℕ × Outcome). o.1) (find (λ (o : �
 abbrev pub with_outcome : Option Outcome → Job → Tracked
 with_outcome told job = record { drive = job.drive; idn = idn_in job.request; outcome = told }
 
--- requests that are numbered from a number on, each with what was told of it
+-- requests, numbered from a number on, each with its reported outcome
 unfoldable pub tracked_from : ℕ → List (ℕ × Outcome) → List Job → List Tracked
 tracked_from number told [] = []
 tracked_from number told (job ∷ jobs) = with_outcome (told_of told number) job ∷ tracked_from (suc number) told jobs
 
--- the requests of a ring, numbered from 1 on, each with what was told of it
+-- the requests of a ring, numbered from 1 on, each with its reported outcome
 abbrev pub tracked : List (ℕ × Outcome) → List Job → List Tracked
 tracked told jobs = tracked_from 1 told jobs
 
@@ -36,7 +37,7 @@ tracked told jobs = tracked_from 1 told jobs
 abbrev pub noted : Outcome → Tracked → Tracked
 noted o t = record t { outcome = option_or t.outcome (Some o) }
 
--- Whether a request ended well: it was complete, or, where `absent` says so, the drive has no such block.
+-- Whether a request ended well: it was complete, or, if `absent` allows it, the drive has no such block.
 abbrev pub is_well : Bool → Option Outcome → Bool
 is_well absent (Some (outcome.Complete bytes)) = true
 is_well absent (Some (outcome.Refused code)) = absent && (code.raw == 0x1001)

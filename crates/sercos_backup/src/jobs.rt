@@ -56,7 +56,7 @@ pub fn list_jobs(alloc: Global, setup: &RingSetup) -> Result<Vec<Job>, AllocErro
     Ok(jobs)
 }
 
-// How many blocks are on a list.
+// Returns how many blocks are on a list.
 #[tactic(auto, using(crate::proofs::ListLemmas::numbers_count))]
 fn count_on(bytes: &[u8]) -> usize
     ensures value { result ≡ length (numbers_in bytes.now) }
@@ -65,7 +65,7 @@ fn count_on(bytes: &[u8]) -> usize
     bytes.len() / 2
 }
 
-// How many blocks are on some lists.
+// Returns how many blocks are on some lists.
 fn count_all(lists: &[(u8, Bytes)]) -> u32
     requires { length lists.now ≤ 64 }
     ensures { result ≡ length (data_jobs lists.now) }
@@ -108,9 +108,9 @@ fn all_listed(alloc: Global, lists: &[(u8, Bytes)]) -> Result<Vec<Job>, AllocErr
     Ok(jobs)
 }
 
-/// Returns the requests that read the operation data of each block on some lists, at most 64, each given with the address of its
-/// drive: one for each whole pair of bytes, the low byte first, in order. The error is `TooMany` exactly if there are more than 4096
-/// of them, and says how many; otherwise `Memory`.
+/// Returns the requests that read the operation data of each block on some lists, at most 64, each with the address of its drive:
+/// one for each whole pair of bytes, the low byte first, in order. The error is `TooMany` iff there are more than 4096 of them, with
+/// their number; otherwise `Memory`.
 pub fn data_jobs(alloc: Global, lists: &[(u8, Bytes)]) -> Result<Vec<Job>, DataJobs>
     requires { length lists.now ≤ 64 }
     ensures value { MatchResult result
@@ -128,7 +128,7 @@ pub fn data_jobs(alloc: Global, lists: &[(u8, Bytes)]) -> Result<Vec<Job>, DataJ
     }
 }
 
-// Whether a request writes operation data.
+// Returns whether a request writes operation data.
 fn writes_data(request: &Request) -> bool
     ensures { result ≡ writes_data request.now }
 {

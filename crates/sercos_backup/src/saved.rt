@@ -34,9 +34,9 @@ pub(crate) fn put_saved(address: u8, idn: Idn, bytes: &[u8], line: &mut Line)
     }
 }
 
-/// Writes the saved data of a block of the drive with an address, at most 1024 bytes: the five lines of a ring document that ask
-/// for these bytes to be written. For no bytes the last line is `data = ""`. After an error the sink has taken a prefix of them,
-/// short of the whole, and its count of faults has risen. It takes no memory.
+/// Writes the saved data of a block of the drive with an address, at most 1024 bytes: the five lines of a ring document that
+/// request these bytes to be written. For no bytes the last line is `data = ""`. After an error the sink has accepted a prefix
+/// of them, short of the whole, and its count of faults has risen. It takes no memory.
 pub fn write_saved<K: Sink>(
     address: u8,
     idn: Idn,

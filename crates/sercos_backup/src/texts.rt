@@ -13,7 +13,7 @@ use sercos_step::Outcome;
 use sercos_text::{Given, Line, push_line};
 use std::alloc::AllocError;
 
-// Puts a line that says how a request failed beside a code.
+// Makes the line of a request that failed with a code.
 fn put_plain(address: u8, idn: Idn, template: &[u8], line: &mut Line)
     requires { length template.now ≤ 100 }
     ensures { line.new ≡ line_text template.now (number address ∷ ident idn.raw ∷ []) }
@@ -147,7 +147,7 @@ fn push_complete(request: &Tracked, content: &[u8], out: &mut Vec<u8>) -> Result
 }
 
 /// Appends the line of a write of a restore: `restored A IDN HEX` if it was complete, with the operation data that the drive has in
-/// the end, at most 1024 bytes, `-` for none; otherwise a line that says how it failed, as a backup does.
+/// the end, at most 1024 bytes, `-` for none; otherwise a line with the way it failed, as a backup does.
 pub fn push_restored(request: &Tracked, content: &[u8], out: &mut Vec<u8>) -> Result<(), AllocError>
     requires { length content.now ≤ 1024 }
     ensures { OnOk result (out.new.items ≡ out.old.items ++ restored_by content.now request.now) }

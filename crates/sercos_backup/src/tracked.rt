@@ -10,7 +10,7 @@ use sercos_idn::{Code, Idn};
 use sercos_step::{Job, Outcome, Request};
 use std::alloc::{AllocError, Global};
 
-/// A request to a drive, with the outcome that was told of it, if one was.
+/// A request to a drive, with the outcome that was reported of it, if there is one.
 #[derive(Debug, PartialEq, Eq, Drop)]
 pub struct Tracked {
     /// The drive's address.
@@ -70,7 +70,7 @@ fn copied(outcome: &Outcome) -> Outcome
     }
 }
 
-// Puts an outcome where there is none.
+// Keeps an outcome if there is none yet.
 fn put(slot: &mut Option<Outcome>, outcome: &Outcome)
     ensures { slot.new ≡ option_or slot.old (Some outcome.now) }
 {
@@ -100,8 +100,8 @@ fn note_one(number: u16, outcome: &Outcome, list: &mut [Tracked])
     note_in(&mut list[place], outcome);
 }
 
-/// Notes outcomes, each told with the number of its request, from 1 on. Of each request the first one counts; a number of no
-/// request is passed over. It takes no memory.
+/// Notes outcomes, each with the number of its request, from 1 on. Of each request the first one counts; a number without a
+/// request is ignored. It takes no memory.
 pub fn note(outcomes: &[(u16, Outcome)], list: &mut [Tracked])
     ensures { (told : List (ℕ × Outcome)) (jobs : List Job) → list.old ≡ tracked told jobs → list.new ≡ tracked (told ++ outcomes.now) jobs }
 {
@@ -140,7 +140,7 @@ pub(crate) fn bytes_in(outcome: Option<&Outcome>) -> &[u8]
     }
 }
 
-// The same as a list of its own.
+// Returns a copy as a list of its own.
 fn bytes_told(outcome: Option<&Outcome>) -> Bytes
     ensures { result ≡ bytes_told (option_copied outcome.entry) }
 {

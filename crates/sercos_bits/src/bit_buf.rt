@@ -54,7 +54,7 @@ impl Model for BitBuf {
 }
 
 impl BitBuf {
-    /// A list of no bits.
+    /// Returns a list of no bits.
     pub fn new() -> Self
         ensures { result ≡ [] }
     {
@@ -64,7 +64,7 @@ impl BitBuf {
         }
     }
 
-    /// How many bits there are.
+    /// Returns how many bits there are.
     pub fn len(&self) -> usize
         ensures value { result ≡ length self.now }
         ensures bound { result ≤ 19696 }
@@ -72,7 +72,7 @@ impl BitBuf {
         self.len
     }
 
-    /// The bit at a place, the first being at 0.
+    /// Returns the bit at a place, the first being at 0.
     pub fn get(&self, place: usize) -> bool
         requires { place < length self.now }
         ensures { result ≡ slice_index_or self.now place false }
@@ -111,7 +111,7 @@ impl BitBuf {
         Ok(())
     }
 
-    // Appends a bit, where there is room for it.
+    // Appends a bit if there is room for it.
     fn push_within(&mut self, bit: bool)
         requires { length self.old < 19696 }
         ensures { self.new ≡ self.old ++ bit ∷ [] }
@@ -119,7 +119,7 @@ impl BitBuf {
         self.push_lowest(u16::from(bit), 1);
     }
 
-    // Appends the lowest bits of a number, `len` of them, the least significant first, where there is room for them.
+    // Appends the lowest `len` bits of a number, the least significant first, if there is room for them.
     pub(crate) fn push_lowest(&mut self, number: u16, len: usize)
         requires { length self.old + len ≤ 19696 }
         ensures { self.new ≡ self.old ++ low_bits len number }
@@ -136,7 +136,7 @@ impl BitBuf {
         flip_in(&mut self.words, place);
     }
 
-    /// Keeps the first `len` bits, or all where there are fewer.
+    /// Keeps the first `len` bits, or all if there are fewer.
     pub fn cut(&mut self, len: usize)
         ensures { self.new ≡ take len self.old }
     {

@@ -118,7 +118,7 @@ fn remainder_of(byte: u8) -> u16
     REMAINDERS[usize::from(byte)]
 }
 
-/// The register after the eight bits of a byte, the least significant first.
+/// Returns the register after the eight bits of a byte, the least significant first.
 pub fn with_byte(register: u16, byte: u8) -> u16
     ensures { low_bits 16 result ≡ fold fed (low_bits 16 register) (low_bits 8 byte) }
 {
@@ -133,7 +133,7 @@ fn later_of(byte: u8) -> u16
     LATER[usize::from(byte)]
 }
 
-/// The register after the bits of two bytes. The tables are looked up beside each other, and not one after the other.
+/// Returns the register after the bits of two bytes. The tables are looked up beside each other, and not one after the other.
 pub fn with_two(register: u16, first: u8, second: u8) -> u16
     ensures { low_bits 16 result ≡ fold fed (fold fed (low_bits 16 register) (low_bits 8 first)) (low_bits 8 second) }
 {
@@ -198,8 +198,8 @@ fn with_rest(register: u16, bytes: &[u8], from: usize) -> u16
     rest
 }
 
-/// The frame check sequence of ISO/IEC 3309: the complement of the remainder by the generator x^16 + x^12 + x^5 + 1, the
-/// bits taken least significant first and the first sixteen complemented. A frame carries its low byte first.
+/// Returns the frame check sequence of ISO/IEC 3309: the complement of the remainder by the generator x^16 + x^12 + x^5 + 1, the bits taken
+/// least significant first and the first sixteen complemented. A frame carries its low byte first.
 pub fn fcs(bytes: &[u8]) -> u16
     ensures { result ≡ fcs_of bytes.now }
 {

@@ -23,7 +23,7 @@ impl Model for Register {
 }
 
 impl Register {
-    /// The register before the first byte.
+    /// Returns the register before the first byte.
     pub fn new() -> Self
         ensures { result ≡ sixteen_ones }
     {
@@ -44,7 +44,8 @@ impl Register {
         self.register = with_two(self.register, first, second);
     }
 
-    /// The frame check sequence of the bytes that the register has taken: that of [`fcs`](crate::fcs).
+    /// Returns the frame check sequence of the bytes that the register has taken: that of
+    /// [`fcs`](crate::fcs).
     pub fn fcs(&self) -> u16
         ensures { (bytes : List ℕ) → self.now ≡ fold fed sixteen_ones (bits_of bytes) → result ≡ fcs_of bytes }
     {

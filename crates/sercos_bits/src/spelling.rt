@@ -11,14 +11,14 @@ const BYTE_BITS: usize = 8;
 /// Why bits spell no content.
 #[derive(Clone, Copy, Debug, PartialEq, Eq)]
 pub enum BadBits {
-    /// Their number is no multiple of eight: how many bits stand past the last whole byte, 1 to 7.
+    /// Their number is not a multiple of eight: how many bits follow the last whole byte, 1 to 7.
     Ragged(usize),
     /// They spell more than 2048 bytes.
     Long,
 }
 
-/// Appends the lowest bits of a number, `len` of them, the least significant first, where there is room for them.
-/// Those from the seventeenth on are zeros.
+/// Appends the lowest `len` bits of a number, the least significant first, if there is room for them. Bits from the
+/// seventeenth on are zeros.
 pub fn push_number(number: u16, len: usize, out: &mut BitBuf)
     requires { length out.old + len ≤ 19696 }
     ensures bits { out.new ≡ out.old ++ low_bits len number }
@@ -27,8 +27,8 @@ pub fn push_number(number: u16, len: usize, out: &mut BitBuf)
     out.push_lowest(number, len);
 }
 
-/// Appends the bits of bytes, the least significant of each byte first. `Full` exactly where they have no room, and then
-/// nothing is appended.
+/// Appends the bits of bytes, the least significant of each byte first. Returns `Full` iff there is no room for them;
+/// then nothing is appended.
 pub fn bits_of(bytes: &[u8], out: &mut BitBuf) -> Result<(), Full>
     ensures full { IsErr result ↔ (19696 < length out.old + 8 * length bytes.now) }
     ensures ok { OnOk result (out.new ≡ out.old ++ bits_of bytes.now) }
@@ -44,8 +44,8 @@ pub fn bits_of(bytes: &[u8], out: &mut BitBuf) -> Result<(), Full>
     Ok(())
 }
 
-/// Replaces the content by the bytes that bits spell, eight bits each, and answers their number. A refusal leaves the
-/// content as it was: `Ragged` where the number of bits is no multiple of eight, else `Long` where there are more than
+/// Replaces the content by the bytes that the bits spell, eight bits each, and returns their number. An error leaves the
+/// content as it was: `Ragged` if the number of bits is not a multiple of eight, otherwise `Long` if there are more than
 /// 2048 bytes.
 pub fn bytes_of(bits: &BitBuf, out: &mut Content) -> Result<usize, BadBits>
     ensures ok { OnOk result (out.new ≡ bytes_of bits.now) }

@@ -65,7 +65,7 @@ pub fn put_number(words: &mut [u64], place: usize, number: u16, len: usize)
     let shift = place % WORD_BITS;
     set_ones(words, word, bits << shift);
     if len > WORD_BITS - shift {
-        // Two shifts, since there is none by 64.
+        // Two shifts, since a shift by 64 does not exist.
         set_ones(words, word + 1, bits >> 1 >> (WORD_BITS - 1 - shift));
     }
 }

@@ -24,7 +24,7 @@ abbrev pub number_end : Length → ℕ
 number_end Two = 2 ^ 16
 number_end _ = 2 ^ 32
 
--- the bits of the number that the bytes of a value are, and the bytes of these bits; the low byte comes first
+-- the bits of the number that the bytes of a value spell, and the bytes of these bits; the low byte comes first
 abbrev pub bits_in : Attribute → List ℕ → ℕ
 bits_in a bytes = from_le_bytes (width_of a.length) bytes
 

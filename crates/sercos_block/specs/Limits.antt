@@ -1,22 +1,22 @@
 -- The limits of this profile for a drive's setup, its data blocks and a run.
 use Rattle.std.specs.Prelude.{ℕ}
 
--- a drive has at most so many data blocks beside the built-in ones
+-- the most data blocks that a drive has beside the built-in ones
 abbrev pub most_blocks : ℕ
 most_blocks = 36
 
--- for at most so many cycles a drive is busy with a step of the service channel, and a procedure command runs
+-- the most cycles that a drive is busy with a step of the service channel, or that a procedure command runs
 abbrev pub most_busy : ℕ
 most_busy = 20
 
 abbrev pub most_command : ℕ
 most_command = 200
 
--- an AT, or a data record of the MDT, carries at most so many identifier numbers
+-- the most identifier numbers that an AT, or a data record of the MDT, carries
 abbrev pub most_carried : ℕ
 most_carried = 16
 
--- a run has 1 to so many cycles
+-- the most cycles of a run; the least is 1
 abbrev pub most_cycles : ℕ
 most_cycles = 50000
 

@@ -38,7 +38,7 @@ block_of region e = record {
 abbrev pub blocks_of : List ℕ → List Entry → List Block
 blocks_of region entries = map (block_of region) entries
 
--- the bytes of an attribute, and those of a limit, of which there may be none
+-- the bytes of an attribute, and those of a limit, which may be absent
 abbrev pub word_bytes : Attribute → List ℕ
 word_bytes a = to_le_bytes w32 (attribute_word a)
 
@@ -120,7 +120,7 @@ pub record HasPacked (blocks : List Block) (region : List ℕ) (entries : List E
   pub laid : AreLaid 0 (length region) entries
   pub numbers : HaveNumbers region entries
 
--- one block more, whose bytes come after all others
+-- one more block, whose bytes come after all others
 pub record HasAppended (b : Block) (before after : List ℕ) (e : Entry) : Type 0 where
   pub kept : take (length before) after ≡ before
   pub len : length after ≡ length before + room_of b

@@ -1,4 +1,4 @@
--- The rules that a ring and its drives keep, and what a ring asks of its plan.
+-- The rules that a ring and its drives keep, and the planner's input that a ring makes.
 use Rattle.std.specs.Prelude.{ℕ, ◌+◌, ◌≤◌, ◌==◌, nat_lt, nat_le, Bool, true, false, not, ◌&&◌, if◌then◌else◌, List, [], ◌∷◌, ◌++◌, length, map, Option, Some, None, is_some, is_none, unwrap_or, option_map, option_and_then}
 use Rattle.std.specs.List.{list_all, list_any, find, sum_by}
 use Rattle.std.specs.Option.{option_or}
@@ -27,7 +27,7 @@ attribute_in word = if is_none (attribute_fault word) then Some (attribute_of wo
 unfoldable pub row_in : List BuiltIn → ℕ → Option BuiltIn
 row_in rows raw = find (λ row. row.idn.raw == raw) rows
 
--- the attribute of the data block with an identifier number: a built-in one, or one of these of a drive
+-- the attribute of the data block with an identifier number: a built-in block, or one of these blocks of a drive
 unfoldable pub built_in_attribute : ℕ → Option Attribute
 built_in_attribute raw = option_and_then (λ row. attribute_in row.attribute) (row_in built_ins raw)
 
@@ -38,7 +38,7 @@ unfoldable pub block_attribute : List Block → ℕ → Option Attribute
 block_attribute blocks raw = option_or (built_in_attribute raw) (own_attribute blocks raw)
 
 -- How many bytes an identifier number adds to a telegram of a drive with these data blocks: two or four, those of the
--- operation data of its block. Only a number can stand in a telegram, and no procedure command.
+-- operation data of its block. A telegram carries numbers alone, and no procedure command.
 abbrev pub number_len : Attribute → Option ℕ
 number_len a = if is_number a then Some (item_len a.length) else None
 
@@ -94,7 +94,7 @@ has_drive_numbers d = are_drive_numbers d.address d.slave d.busy d.command d.tim
 unfoldable pub has_blocks : DriveView → Bool
 has_blocks d = nat_le (length d.blocks) most_blocks && is_none (blocks_fault [] d.blocks)
 
--- what its telegrams carry can stand in them
+-- its telegrams can carry what they list
 unfoldable pub are_cyclic : List Block → List Idn → Bool
 are_cyclic blocks idns = list_all (λ idn. is_cyclic blocks idn.raw) idns
 
@@ -111,18 +111,18 @@ unfoldable pub has_other_data : ℕ → ℕ → List DriveView → Bool
 has_other_data address raw drives =
     list_any (λ d. (d.address == address) && is_no_command (block_attribute d.blocks raw)) drives
 
--- a drive may stand behind these in the ring
+-- a drive differs from these enough to follow them in the ring
 unfoldable pub is_drive : List DriveView → DriveView → Bool
 is_drive before d =
     not (has_address d.address before) && (has_drive_numbers d && (has_blocks d
     && (are_cyclic d.blocks d.at && are_cyclic d.blocks d.mdt)))
 
--- each drive may stand behind those before it
+-- each drive may follow those before it
 unfoldable pub are_drives : List DriveView → List DriveView → Bool
 are_drives before [] = true
 are_drives before (d ∷ drives) = is_drive before d && are_drives (before ++ d ∷ []) drives
 
--- one of so many places may stand behind these in the order
+-- one of n places may follow these in the order
 unfoldable pub is_turn : ℕ → List ℕ → ℕ → Bool
 is_turn drives before place = nat_lt place drives && not (list_any (λ k. k == place) before)
 
@@ -130,7 +130,7 @@ unfoldable pub are_turns : ℕ → List ℕ → List ℕ → Bool
 are_turns drives before [] = true
 are_turns drives before (place ∷ order) = is_turn drives before place && are_turns drives (before ++ place ∷ []) order
 
--- the order lists the place of each of so many drives once
+-- the order lists the place of each of n drives once
 unfoldable pub is_order : ℕ → List ℕ → Bool
 is_order drives order = (length order == drives) && are_turns drives [] order
 
@@ -143,7 +143,7 @@ has_drives r =
 unfoldable pub is_ring : RingView → Bool
 is_ring r = has_ring_numbers r && (has_drives r && is_order (length r.drives) r.order)
 
--- what a ring asks of its plan: the times that its drives declare, and the lengths of their telegrams
+-- the planner's input: the times that the drives declare, and the lengths of their telegrams
 abbrev pub wish_of : DriveView → Wish
 wish_of d = record { address = d.address; slave = d.slave; times = d.times; at_len = at_len d; record_len = record_len d }
 

@@ -21,17 +21,17 @@ has_block raw blocks = list_any (λ b. b.idn.raw == raw) blocks
 abbrev pub is_printable : ℕ → Bool
 is_printable byte = nat_le 0x20 byte && nat_le byte 0x7e
 
--- a name or a unit, where there is one, has a byte, at most so many, and printable ones alone
+-- a name or a unit, if present, has 1 byte to the given number, all printable
 abbrev pub is_text : ℕ → Option (List ℕ) → Bool
 is_text most None = true
 is_text most (Some text) = nat_le 1 (length text) && (nat_le (length text) most && list_all is_printable text)
 
--- a minimum or a maximum, where there is one, is that of a number, and has the number's bits
+-- a minimum or a maximum, if present, is that of a number, and has the number's bits
 abbrev pub is_limit : Attribute → Option ℕ → Bool
 is_limit a None = true
 is_limit a (Some bits) = is_number a && nat_lt bits (number_end a.length)
 
--- the most bytes of a list are at least 1, not too many, and whole items; what is no list has none
+-- the most bytes of a list are at least 1, at most the limit, and whole items; a block without a list has none
 abbrev pub is_max_len : Attribute → ℕ → Bool
 is_max_len a most = if is_list a.length then nat_le 1 most && (nat_le most most_data && (most % item_len a.length == 0)) else most == 0
 
@@ -46,8 +46,8 @@ is_value b =
 abbrev pub is_step : Block → Bool
 is_step b = (b.step == 0) || (is_number b.attribute && (is_none b.min && is_none b.max))
 
--- The first rule that a block breaks behind these: it has an identifier number of its own, which no built-in block has;
--- then the rules on name, unit, minimum, maximum, most bytes, operation data and step; and only a procedure command fails.
+-- The first rule that a block breaks if these blocks precede it: its identifier number is its own and not built in; then
+-- the rules on name, unit, minimum, maximum, most bytes, operation data and step; and only a procedure command fails.
 unfoldable pub block_fault : List Block → Block → Option Field
 block_fault before b =
     option_or (then_some (is_built_in b.idn.raw || has_block b.idn.raw before) Idn)
@@ -60,7 +60,7 @@ block_fault before b =
     (option_or (then_some (not (is_step b)) Step)
     (then_some (b.fails && not b.attribute.command) Fails))))))))
 
--- the first rule that is broken in the first of these blocks that breaks one, behind the blocks before them
+-- the first rule broken by the first block that breaks one, with the blocks before it
 unfoldable pub blocks_fault : List Block → List Block → Option BadBlock
 blocks_fault before [] = None
 blocks_fault before (b ∷ blocks) =

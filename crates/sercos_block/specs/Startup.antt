@@ -1,4 +1,4 @@
--- The number of cycles that this profile gives a start-up.
+-- The number of cycles that this profile allows a start-up.
 use Rattle.std.specs.Prelude.{ℕ, ◌+◌, ◌*◌, length}
 use Rattle.std.specs.List.{sum_by}
 use Rattle.sercos_block.specs.Views.{DriveView, RingView}

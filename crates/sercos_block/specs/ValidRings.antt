@@ -1,4 +1,4 @@
--- What is so of every ring that keeps the rules.
+-- Properties of every ring that keeps the rules.
 use Rattle.std.specs.Prelude.{◌≤◌, length, map}
 use Rattle.std.specs.List.{All}
 use Rattle.sercos_timing.specs.Limits.{most_drives, most_t1min, most_tatmt, most_t4min, most_tatat, most_tmtsy, most_tmtsg}

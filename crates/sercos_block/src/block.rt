@@ -13,18 +13,18 @@ pub struct Block {
     pub idn: Idn,
     /// The attribute, element 3.
     pub attribute: Attribute,
-    /// The name, element 2: 1 to 60 printable bytes, where there is one.
+    /// The name, element 2, if present: 1 to 60 printable bytes.
     pub name: Option<Text>,
-    /// The unit, element 4: 1 to 12 printable bytes, where there is one.
+    /// The unit, element 4, if present: 1 to 12 printable bytes.
     pub unit: Option<Text>,
-    /// The bits of the minimum, element 5, where there is one: as many as the number has, in two's complement where the
-    /// display form is signed. So -10 is 0xfff6 in two bytes.
+    /// The bits of the minimum, element 5, if present: as many as the number has, in two's complement if the display form is
+    /// signed. So -10 is 0xfff6 in two bytes.
     pub min: Option<u32>,
-    /// The bits of the maximum, element 6, where there is one.
+    /// The bits of the maximum, element 6, if present.
     pub max: Option<u32>,
     /// The operation data, element 7: the bytes of a number, low byte first, or of a list.
     pub value: Text,
-    /// The most bytes of the list; 0 where the operation data is no list.
+    /// The most bytes of the list; 0 if the operation data is not a list.
     pub max_len: u16,
     /// Whether the master can never write the operation data. Neither can it write that of a block with a step.
     pub fixed: bool,

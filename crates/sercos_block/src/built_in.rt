@@ -32,7 +32,7 @@ pub enum Opening {
     Tmtsy,
     /// The time that the drive declares, in microseconds.
     Tmtsg,
-    /// The empty list, of at most so many bytes.
+    /// The empty list of at most `max_len` bytes.
     Empty(u16),
 }
 
@@ -58,7 +58,7 @@ const DECLARED: u32 = 0x7011_0001;
 // A list of identifier numbers that the master writes in phase 2.
 const WRITTEN_LIST: u32 = 0x6055_0001;
 
-// A list of identifier numbers that the drive gives.
+// A list of identifier numbers that the drive itself writes.
 const GIVEN_LIST: u32 = 0x7055_0001;
 
 // A procedure command for phase 2 alone, and one for phase 3 alone.
@@ -264,7 +264,7 @@ pub(crate) fn built_in_block(setup: &DriveSetup, row: &BuiltIn) -> Block
     }
 }
 
-/// Whether every drive has a block with this identifier number.
+/// Returns whether every drive has a block with this identifier number.
 pub fn is_built_in(idn: Idn) -> bool
     ensures { result ≡ is_built_in idn.raw }
 {

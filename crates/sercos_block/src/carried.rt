@@ -8,7 +8,7 @@ use crate::setup::DriveSetup;
 use crate::value::is_number;
 use sercos_idn::{Attribute, Idn};
 
-/// The attribute that a word is, if it is one's.
+/// Returns the attribute that a word is, if it is one's.
 #[tactic(auto, unfolding(crate::specs::Rings::attribute_in))]
 pub fn attribute_in(word: u32) -> Option<Attribute>
     ensures { result ≡ attribute_in word }
@@ -53,7 +53,7 @@ fn own_attribute(blocks: &[Block], idn: Idn) -> Option<Attribute>
     }
 }
 
-/// The attribute of the data block with an identifier number: a built-in one, or one of these.
+/// Returns the attribute of the data block with an identifier number: a built-in one, or one of these.
 #[tactic(auto, unfolding(crate::specs::Rings::block_attribute))]
 pub fn block_attribute(blocks: &[Block], idn: Idn) -> Option<Attribute>
     ensures { result ≡ block_attribute blocks.now idn.raw }
@@ -64,8 +64,8 @@ pub fn block_attribute(blocks: &[Block], idn: Idn) -> Option<Attribute>
     }
 }
 
-/// How many bytes a block's operation data adds to a telegram: two or four where it is a number, and none where it is a list
-/// or a procedure command, which can't stand in a telegram.
+/// Returns how many bytes a block's operation data adds to a telegram: two or four for a number, `None` for a list or a
+/// procedure command, which no telegram carries.
 pub fn number_len(attribute: Attribute) -> Option<usize>
     ensures value { result ≡ number_len attribute }
     ensures bound { IfSome result (λ len. len ≤ 4) }
@@ -77,8 +77,8 @@ pub fn number_len(attribute: Attribute) -> Option<usize>
     }
 }
 
-/// How many bytes an identifier number adds to a telegram of a drive with these data blocks beside the built-in ones: two
-/// or four where it is that of a number, and nothing else can stand in a telegram.
+/// Returns how many bytes an identifier number adds to a telegram of a drive with these data blocks beside the built-in
+/// ones: two or four if its block has a number. A telegram carries nothing else.
 #[tactic(auto, unfolding(crate::specs::Rings::cyclic_len))]
 pub fn cyclic_len(blocks: &[Block], idn: Idn) -> Option<usize>
     ensures value { result ≡ cyclic_len blocks.now idn.raw }
@@ -90,7 +90,7 @@ pub fn cyclic_len(blocks: &[Block], idn: Idn) -> Option<usize>
     }
 }
 
-// The same, and 0 where the number can't stand in a telegram.
+// Returns how many bytes the number adds to a telegram; 0 if no telegram can carry it.
 fn value_len(blocks: &[Block], idn: Idn) -> u16
     ensures value { result ≡ value_len blocks.now idn.raw }
     ensures bound { result ≤ 4 }
@@ -115,7 +115,7 @@ fn listed_len(blocks: &[Block], idns: &[Idn]) -> u16
     len
 }
 
-// Whether all of a list can stand in a telegram.
+// Returns whether a telegram can carry every entry of a list.
 #[tactic(auto, unfolding(crate::specs::Rings::are_cyclic))]
 pub(crate) fn are_cyclic(blocks: &[Block], idns: &[Idn]) -> bool
     ensures { result ≡ are_cyclic blocks.now idns.now }
@@ -123,7 +123,7 @@ pub(crate) fn are_cyclic(blocks: &[Block], idns: &[Idn]) -> bool
     idns.iter().all(|idn| cyclic_len(blocks, *idn).is_some())
 }
 
-/// How many bytes the MDT of the drives has after its address.
+/// Returns how many bytes the MDT of the drives has after its address.
 #[tactic(auto, unfolding(crate::specs::Rings::mdt_len))]
 pub fn mdt_len(drives: &[DriveSetup]) -> u32
     requires { length drives.now ≤ 64 }
@@ -138,7 +138,7 @@ pub fn mdt_len(drives: &[DriveSetup]) -> u32
 }
 
 impl DriveSetup {
-    // How many bytes the drive's AT has after its address: the status word, the information word and the configured
+    // Returns how many bytes the drive's AT has after its address: the status word, the information word and the configured
     // feedback values.
     pub(crate) fn at_len(&self) -> u16
         ensures value { result ≡ at_len self.now }
@@ -147,7 +147,7 @@ impl DriveSetup {
         listed_len(self.blocks.as_slice(), self.at.as_slice())
     }
 
-    // How many bytes the drive's data record in the MDT has: the control word, the information word and the configured
+    // Returns how many bytes the drive's data record in the MDT has: the control word, the information word and the configured
     // command values.
     pub(crate) fn record_len(&self) -> u16
         ensures value { result ≡ record_len self.now }

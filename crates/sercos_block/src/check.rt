@@ -25,14 +25,14 @@ pub enum Field {
     Min,
     /// The same of the maximum.
     Max,
-    /// The most bytes of a list aren't 1 to 1024 or no whole items; or they aren't 0 and there is no list.
+    /// The most bytes of a list are not 1 to 1024, or not whole items; or they are not 0 and there is no list.
     MaxLen,
-    /// The operation data of a list has more than the most bytes, or no whole items; other operation data has another
-    /// length than its attribute says; or that of a procedure command isn't 0.
+    /// The operation data of a list is longer than the most bytes, or not whole items; other operation data has another
+    /// length than its attribute requires; or that of a procedure command is not 0.
     Value,
     /// There is a step and the operation data isn't a number, or it has a minimum or a maximum.
     Step,
-    /// The block is to fail and is no procedure command.
+    /// The block is to fail and is not a procedure command.
     Fails,
 }
 
@@ -52,7 +52,7 @@ pub fn has_block(blocks: &[Block], idn: Idn) -> bool
     blocks.iter().any(|block| block.idn == idn)
 }
 
-// Whether all bytes can be printed.
+// Returns whether all bytes can be printed.
 fn are_printable(bytes: &[u8]) -> bool
     ensures { result ≡ list_all is_printable bytes.now }
 {
@@ -70,7 +70,7 @@ pub fn is_text(text: &[u8], most: usize) -> bool
     some && few && plain
 }
 
-// Whether a name or a unit can stand, of which there may be none.
+// Returns whether a name or a unit, which may be absent, is valid.
 fn is_text_or_none(text: &Option<Text>, most: usize) -> bool
     ensures { result ≡ is_text most text.now }
 {
@@ -80,7 +80,7 @@ fn is_text_or_none(text: &Option<Text>, most: usize) -> bool
     }
 }
 
-// Whether a minimum or a maximum can stand.
+// Returns whether a minimum or a maximum, which may be absent, is valid.
 fn is_limit(attribute: &Attribute, limit: Option<u32>) -> bool
     ensures { result ≡ is_limit attribute.now limit }
 {
@@ -90,7 +90,7 @@ fn is_limit(attribute: &Attribute, limit: Option<u32>) -> bool
     }
 }
 
-// Whether these can be the most bytes of the list, or of what is none.
+// Returns whether the most bytes are valid for the list, or 0 without a list.
 fn is_max_len(attribute: &Attribute, most: u16) -> bool
     ensures { result ≡ is_max_len attribute.now most }
 {
@@ -101,14 +101,14 @@ fn is_max_len(attribute: &Attribute, most: u16) -> bool
     }
 }
 
-// Whether all bytes are 0.
+// Returns whether all bytes are 0.
 fn are_zero(bytes: &[u8]) -> bool
     ensures { result ≡ list_all (λ byte. byte == 0) bytes.now }
 {
     bytes.iter().all(|byte| *byte == 0)
 }
 
-// Whether the operation data can stand.
+// Returns whether the operation data is valid.
 fn is_value(block: &Block) -> bool
     ensures { result ≡ is_value block.now }
 {
@@ -121,14 +121,14 @@ fn is_value(block: &Block) -> bool
     }
 }
 
-// Whether the step can stand.
+// Returns whether the step is valid.
 fn is_step(block: &Block) -> bool
     ensures { result ≡ is_step block.now }
 {
     block.step == 0 || is_number(&block.attribute) && block.min.is_none() && block.max.is_none()
 }
 
-// The first rule that a block breaks behind these.
+// Returns the first rule that a block breaks if these blocks precede it.
 #[tactic(auto, unfolding(crate::specs::Rules::block_fault))]
 fn block_fault(before: &[Block], block: &Block) -> Option<Field>
     ensures { result ≡ block_fault before.now block.now }
@@ -163,8 +163,8 @@ fn block_fault(before: &[Block], block: &Block) -> Option<Field>
     None
 }
 
-/// Whether the drive can have its data blocks beside the built-in ones; else the first block that breaks a rule, and the
-/// first rule that it breaks, in the order of [`Field`]. How many blocks there are isn't looked at.
+/// Returns `Ok` if a drive can have these data blocks beside the built-in ones; otherwise the first block that breaks a
+/// rule, and the first rule that it breaks, in the order of [`Field`]. The number of blocks isn't checked.
 #[tactic(auto, unfolding(crate::specs::Rules::blocks_fault))]
 pub fn check_blocks(setup: &DriveSetup) -> Result<(), BadBlock>
     ensures { result_err result ≡ blocks_fault [] setup.now.blocks }

@@ -35,7 +35,7 @@ pub(crate) struct Entry {
 }
 
 impl Entry {
-    // Says how many bytes the operation data has.
+    // Returns how many bytes the operation data has.
     pub(crate) fn set_len(&mut self, len: u16)
         ensures { self.new ≡ record self.old { value = record self.old.value { len = len } } }
     {

@@ -1,4 +1,5 @@
-// Laws that are the subject's own: which blocks a store has, and how they stand; and what is so of every ring that keeps the rules.
+// Laws in the words of the subject: which blocks a store has, and in which order; and the properties of every ring that keeps the
+// rules.
 ghost use Rattle.std.specs.Prelude.{◌≡◌, ℕ, ◌^◌, ◌<◌, ◌≤◌, ◌++◌, List, [], length, Some, None, true};
 ghost use Rattle.std.specs.List.{list_all};
 ghost use Rattle.std.specs.List.Sorted.{IsPermutation};

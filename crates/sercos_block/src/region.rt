@@ -134,7 +134,7 @@ fn append_block(region: &mut Vec<u8>, block: &Block) -> Result<Entry, AllocError
     })
 }
 
-// How many bytes a name or a unit has, of which there may be none.
+// Returns how many bytes a name or a unit has, of which there may be none.
 fn text_len(text: &Option<Text>) -> usize
     ensures value { result ≡ length (unwrap_or text.now []) }
     ensures few { result ≤ 1024 }
@@ -145,7 +145,7 @@ fn text_len(text: &Option<Text>) -> usize
     }
 }
 
-// How many bytes a limit has, of which there may be none.
+// Returns how many bytes a limit has, of which there may be none.
 fn limit_len(attribute: Attribute, limit: Option<u32>) -> usize
     ensures value { result ≡ length (limit_bytes attribute limit) }
     ensures few { result ≤ 4 }
@@ -159,7 +159,7 @@ fn limit_len(attribute: Attribute, limit: Option<u32>) -> usize
     }
 }
 
-// How many bytes of a region a block has.
+// Returns how many bytes of a region a block has.
 fn room_of(block: &Block) -> usize
     requires { is_sound block.now ≡ true }
     ensures value { result ≡ room_of block.now }
@@ -170,7 +170,7 @@ fn room_of(block: &Block) -> usize
     4 + limits + texts + most_value(block)
 }
 
-// How many bytes a region has.
+// Returns how many bytes a region has.
 fn region_len(blocks: &[Block]) -> usize
     requires { IsStore blocks.now }
     ensures { result ≡ sum_by room_of blocks.now }

@@ -14,7 +14,7 @@ use sercos_timing::limits::{
 };
 use sercos_timing::{Times, is_address, is_control, is_cycle, is_rate};
 
-// Whether the times can be declared.
+// Returns whether the times can be declared.
 #[tactic(auto, unfolding(crate::specs::Rings::are_times))]
 fn are_times(times: &Times) -> bool
     ensures { result ≡ are_times times.now }
@@ -27,7 +27,7 @@ fn are_times(times: &Times) -> bool
         && times.tmtsg <= MOST_TMTSG
 }
 
-/// Whether one of the drives has the address.
+/// Returns whether one of the drives has the address.
 #[tactic(auto, unfolding(crate::specs::Rings::has_address))]
 pub fn has_address(address: u8, drives: &[DriveSetup]) -> bool
     ensures { result ≡ has_address address drives.now }
@@ -35,7 +35,7 @@ pub fn has_address(address: u8, drives: &[DriveSetup]) -> bool
     drives.iter().any(|drive| drive.address == address)
 }
 
-// Whether there is an attribute, and it isn't that of a procedure command.
+// Returns whether there is an attribute, and it isn't that of a procedure command.
 fn is_no_command(attribute: Option<Attribute>) -> bool
     ensures { result ≡ is_no_command attribute }
 {
@@ -46,7 +46,7 @@ fn is_no_command(attribute: Option<Attribute>) -> bool
 }
 
 /// Returns whether a drive with the address has a data block with the identifier number, built-in or own, whose operation
-/// data is no procedure command. Such a number can't be asked for as a command; a number that the drive hasn't can.
+/// data is not a procedure command. Such a number can't be requested as a command; a number that the drive lacks can.
 #[tactic(auto, unfolding(crate::specs::Rings::has_other_data))]
 pub fn has_other_data(address: u8, idn: Idn, drives: &[DriveSetup]) -> bool
     ensures { result ≡ has_other_data address idn.raw drives.now }
@@ -56,7 +56,7 @@ pub fn has_other_data(address: u8, idn: Idn, drives: &[DriveSetup]) -> bool
     })
 }
 
-// Whether each drive may stand behind those before it.
+// Returns whether each drive may follow those before it.
 #[tactic(auto, unfolding(crate::specs::Rings::are_drives))]
 fn are_drives(drives: &[DriveSetup]) -> bool
     ensures { result ≡ are_drives [] drives.now }
@@ -69,7 +69,7 @@ fn are_drives(drives: &[DriveSetup]) -> bool
     true
 }
 
-// Whether one of so many places may stand behind these in the order.
+// Returns whether one of `count` places may follow these in the order.
 #[tactic(auto, unfolding(crate::specs::Rings::is_turn))]
 fn is_turn(drives: usize, before: &[u8], place: u8) -> bool
     ensures { result ≡ is_turn drives before.now place }
@@ -84,7 +84,7 @@ fn stands_among(before: &[u8], place: u8) -> bool
     before.iter().any(|k| *k == place)
 }
 
-// Whether each place may stand behind those before it.
+// Returns whether the places are distinct.
 #[tactic(auto, unfolding(crate::specs::Rings::are_turns))]
 fn are_turns(drives: usize, order: &[u8]) -> bool
     ensures { result ≡ are_turns drives [] order.now }
@@ -97,7 +97,7 @@ fn are_turns(drives: usize, order: &[u8]) -> bool
     true
 }
 
-// Whether the order lists the place of each of so many drives once.
+// Returns whether the order lists the place of each of `count` drives once.
 #[tactic(auto, unfolding(crate::specs::Rings::is_order))]
 fn is_order(drives: usize, order: &[u8]) -> bool
     ensures { result ≡ is_order drives order.now }
@@ -106,7 +106,7 @@ fn is_order(drives: usize, order: &[u8]) -> bool
 }
 
 impl DriveSetup {
-    // Whether its numbers lie in their ranges.
+    // Returns whether its numbers lie in their ranges.
     #[tactic(auto, unfolding(crate::specs::Rings::are_drive_numbers))]
     fn has_numbers(&self) -> bool
         ensures { result ≡ has_drive_numbers self.now }
@@ -120,7 +120,7 @@ impl DriveSetup {
             && self.cycle_max <= MOST_CYCLE
     }
 
-    // Whether it has not too many data blocks, and they keep their rules.
+    // Returns whether it has not too many data blocks, and they keep their rules.
     #[tactic(auto, unfolding(crate::specs::Rings::has_blocks))]
     fn has_blocks(&self) -> bool
         ensures { result ≡ has_blocks self.now }
@@ -128,7 +128,7 @@ impl DriveSetup {
         self.blocks.len() <= MOST_BLOCKS && check_blocks(self).is_ok()
     }
 
-    // Whether the drive may stand behind these in the ring.
+    // Returns whether the drive may follow these in the ring.
     #[tactic(auto, unfolding(crate::specs::Rings::is_drive))]
     fn is_drive(&self, before: &[DriveSetup]) -> bool
         ensures { result ≡ is_drive before.now self.now }
@@ -142,7 +142,7 @@ impl DriveSetup {
 }
 
 impl RingSetup {
-    // Whether its own numbers lie in their ranges.
+    // Returns whether its own numbers lie in their ranges.
     #[tactic(auto, unfolding(crate::specs::Rings::are_ring_numbers, sercos_timing::specs::Valid::is_cycle))]
     fn has_numbers(&self) -> bool
         ensures { result ≡ has_ring_numbers self.now }
@@ -156,7 +156,7 @@ impl RingSetup {
             && self.cycles <= MOST_CYCLES
     }
 
-    // Whether it has at least one drive and not too many, which keep their rules and whose data records fit into an MDT.
+    // Returns whether it has at least one drive and not too many, which keep their rules and whose data records fit into an MDT.
     #[tactic(auto, unfolding(crate::specs::Rings::has_drives))]
     fn has_drives(&self) -> bool
         ensures { result ≡ has_drives self.now }
@@ -168,7 +168,7 @@ impl RingSetup {
             && mdt_len(drives) <= MOST_RECORDS
     }
 
-    /// Whether the ring keeps all rules of its numbers, of its drives and their data blocks, and of its order: those of a
+    /// Returns whether the ring keeps all rules of its numbers, of its drives and their data blocks, and of its order: those of a
     /// ring document, as far as the types leave room to break them.
     #[tactic(auto, unfolding(crate::specs::Rings::is_ring))]
     pub fn valid(&self) -> bool

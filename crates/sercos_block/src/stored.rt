@@ -100,28 +100,28 @@ impl<'a> Stored<'a> {
         self.entry.max.map(|limit| limit.bits)
     }
 
-    // The most bytes of the list; 0 where the operation data is no list.
+    // The most bytes of the list; 0 if the operation data is not a list.
     pub(crate) fn max_len(&self) -> u16
         ensures { result ≡ self.now.max_len }
     {
         self.entry.max_len
     }
 
-    // Whether the master can never write the operation data.
+    // Returns whether the master can never write the operation data.
     pub(crate) fn fixed(&self) -> bool
         ensures { result ≡ self.now.fixed }
     {
         self.entry.fixed
     }
 
-    // How much the number grows in each cycle.
+    // Returns how much the number grows in each cycle.
     pub(crate) fn step(&self) -> u32
         ensures { result ≡ self.now.step }
     {
         self.entry.step
     }
 
-    // Whether the procedure command ends with an error.
+    // Returns whether the procedure command ends with an error.
     pub(crate) fn fails(&self) -> bool
         ensures { result ≡ self.now.fails }
     {

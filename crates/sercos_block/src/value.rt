@@ -14,7 +14,8 @@ pub fn is_number(attribute: &Attribute) -> bool
     !attribute.length.is_list() && !attribute.command
 }
 
-/// Returns the number below which all numbers of a length lie: 2 to the power of 16 for two bytes, else 2 to the power of 32.
+/// Returns the number below which all numbers of a length lie: 2 to the power of 16 for two bytes, 2 to the power of 32 for
+/// four.
 pub fn number_end(length: Length) -> u64
     ensures value { result ≡ number_end length }
     ensures two { (result ≡ 65536) ⊎ (result ≡ 4294967296) }
@@ -59,7 +60,7 @@ fn meant(attribute: &Attribute, bits: u32) -> i64
     }
 }
 
-// Whether one number is less than another, each given by its bits.
+// Returns whether one number is less than another, both as bits.
 pub(crate) fn is_less(attribute: &Attribute, first: u32, second: u32) -> bool
     requires first { first < number_end attribute.now.length }
     requires second { second < number_end attribute.now.length }

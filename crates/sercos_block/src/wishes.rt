@@ -1,4 +1,4 @@
-// What a ring asks of its plan.
+// The planner's input that a ring makes.
 ghost use Rattle.std.specs.Prelude.{◌≡◌, ◌≤◌, true, length, map};
 ghost use Rattle.std.specs.List.{All};
 ghost use Rattle.sercos_timing.specs.Valid.{IsValid};
@@ -18,7 +18,7 @@ fn copied(order: &[u8]) -> ArrayVec<u8, 64>
     copy
 }
 
-// What the drives ask of their plan.
+// The planner's input of all drives.
 fn wish_list(drives: &[DriveSetup]) -> ArrayVec<Wish, 64>
     requires { length drives.now ≤ 64 }
     ensures value { result.items ≡ map wish_of drives.now }
@@ -32,7 +32,7 @@ fn wish_list(drives: &[DriveSetup]) -> ArrayVec<Wish, 64>
 }
 
 impl DriveSetup {
-    // What the drive asks of the plan.
+    // The planner's input of one drive.
     fn wish(&self) -> Wish
         ensures value { result ≡ wish_of self.now }
         ensures lens { HasLens result }
@@ -48,8 +48,8 @@ impl DriveSetup {
 }
 
 impl RingSetup {
-    /// What the ring asks of its plan: the times that the drives declare, and the lengths of their telegrams. The ring is
-    /// a valid one.
+    /// Returns the planner's input: the times that the drives declare, and the lengths of their telegrams. The ring is a
+    /// valid one.
     #[tactic(auto, unfolding(crate::specs::Rings::is_ring, crate::specs::Rings::has_drives, crate::specs::Rings::wishes_of))]
     pub fn wishes(&self) -> Wishes
         requires { is_ring self.now ≡ true }

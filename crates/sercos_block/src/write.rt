@@ -9,14 +9,14 @@ use crate::value::{bits_in, is_less, is_number};
 use sercos_idn::command::{CANCEL, SET};
 use sercos_idn::{Attribute, Code};
 
-// Whether the operation data can never be written.
+// Returns whether the operation data can never be written.
 fn is_fixed(block: &Stored<'_>) -> bool
     ensures { result ≡ is_fixed block.now }
 {
     block.fixed() || block.step() > 0
 }
 
-// Whether the operation data is write protected in a phase from 2 to 4.
+// Returns whether the operation data is write protected in a phase from 2 to 4.
 fn is_protected(attribute: &Attribute, phase: u8) -> bool
     ensures { result ≡ is_protected attribute.now phase }
 {
@@ -43,14 +43,14 @@ pub(crate) fn write_fault(block: &Stored<'_>, phase: u8) -> Option<Code>
     None
 }
 
-// Whether there are fewer bytes than the value has.
+// Returns whether there are fewer bytes than the value has.
 fn is_short(block: &Stored<'_>, bytes: &[u8]) -> bool
     ensures { result ≡ is_short block.now bytes.now }
 {
     !block.attribute().length.is_list() && bytes.len() < block.attribute().length.item_len()
 }
 
-// Whether there are more bytes than the value has, or than the list can have.
+// Returns whether there are more bytes than the value has, or than the list can have.
 fn is_long(block: &Stored<'_>, bytes: &[u8]) -> bool
     ensures { result ≡ is_long block.now bytes.now }
 {
@@ -62,7 +62,7 @@ fn is_long(block: &Stored<'_>, bytes: &[u8]) -> bool
     bytes.len() > most
 }
 
-// Whether the bytes, of which there are as many as a value has, are no value.
+// Returns whether the bytes, of which there are as many as a value has, are no value.
 fn is_invalid(block: &Stored<'_>, bytes: &[u8]) -> bool
     requires { is_list block.now.attribute.length ≡ false → length bytes.now ≡ item_len block.now.attribute.length }
     ensures { result ≡ is_invalid block.now bytes.now }
@@ -75,7 +75,7 @@ fn is_invalid(block: &Stored<'_>, bytes: &[u8]) -> bool
     attribute.command && !(bits == u32::from(CANCEL) || bits == u32::from(SET))
 }
 
-// Whether the number lies below the minimum, if there is one.
+// Returns whether the number lies below the minimum, if there is one.
 fn is_below(block: &Stored<'_>, bytes: &[u8], limit: Option<u32>) -> bool
     requires len { is_list block.now.attribute.length ≡ false → length bytes.now ≡ item_len block.now.attribute.length }
     requires limit { IfSome limit (λ bits. bits < number_end block.now.attribute.length) }
@@ -88,7 +88,7 @@ fn is_below(block: &Stored<'_>, bytes: &[u8], limit: Option<u32>) -> bool
     }
 }
 
-// Whether the number lies above the maximum, if there is one.
+// Returns whether the number lies above the maximum, if there is one.
 fn is_above(block: &Stored<'_>, bytes: &[u8], limit: Option<u32>) -> bool
     requires len { is_list block.now.attribute.length ≡ false → length bytes.now ≡ item_len block.now.attribute.length }
     requires limit { IfSome limit (λ bits. bits < number_end block.now.attribute.length) }
@@ -101,7 +101,7 @@ fn is_above(block: &Stored<'_>, bytes: &[u8], limit: Option<u32>) -> bool
     }
 }
 
-// Whether the operation data of a block is a number below its minimum or above its maximum.
+// Returns whether the operation data of a block is a number below its minimum or above its maximum.
 #[tactic(auto, using(crate::proofs::SoundLemmas::min_below, crate::proofs::SoundLemmas::max_below, crate::proofs::SoundLemmas::value_len))]
 pub(crate) fn is_outside(block: &Stored<'_>) -> bool
     requires { is_sound block.now ≡ true }

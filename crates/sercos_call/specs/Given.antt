@@ -1,4 +1,4 @@
--- What a command gives to the sink: its status, its text, and that it can be written.
+-- What a command writes: its status, its text, and that it can be written.
 use Rattle.std.specs.Prelude.{◌≡◌, ◌≢◌, ℕ, List}
 use Rattle.sercos_io.specs.declared.status.Status.{Status}
 use Rattle.sercos_io.specs.declared.status.Status.TheVariants as statuses
@@ -16,12 +16,12 @@ abbrev pub given_text : Given → List ℕ
 given_text (Reply reply) = reply.text.items
 given_text (Refusal bad) = line_of bad
 
--- `Memory` is no refusal
+-- `Memory` is not a refusal
 abbrev pub IsWritable : Given → Type 0
 IsWritable (Reply reply) = Unit {0}
 IsWritable (Refusal bad) = bad ≢ Memory
 
--- this answer is given
+-- this answer is written
 pub record Gives (given : Given) (answer : Answer) : Type 0 where
   pub writable : IsWritable given
   pub status : given_status given ≡ answer.status

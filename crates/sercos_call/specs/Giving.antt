@@ -1,4 +1,4 @@
--- What is given of a reply that was made in memory.
+-- What is written of a reply that was made in memory.
 use Rattle.std.specs.Prelude.{◌≡◌, Result, Ok, Err}
 use Rattle.sercos_io.specs.declared.status.Status.{Status}
 use Rattle.sercos_io.specs.declared.status.Status.TheVariants.{Memory}

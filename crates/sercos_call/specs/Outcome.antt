@@ -37,32 +37,32 @@ abbrev pub GivesMade : {E : Type 0} → Result Given E → SinkChange → Type 0
 GivesMade (Ok given) sink Unwritten status = Writes (given_status given) (given_text given) sink status
 GivesMade (Err error) sink Unwritten status = (status ≡ Memory) × Unwritten
 
--- How answering an input ends: no memory was found, or the answer was written, and it says what it should. Unwritten says that the
--- sink is as it was.
+-- How answering an input ends: no memory was found, or the answer was written, with what it promises. Unwritten says that the sink is
+-- as it was.
 pub data Replies (answer : Answer) (Says : Type 0) (sink : SinkChange) (Unwritten : Type 0) : Status → Type 0 where
   none_found : Unwritten → Replies answer Says sink Unwritten Memory
   replied : (status : Status) → Says → Writes answer.status answer.output sink status → Replies answer Says sink Unwritten status
 
--- How the call ends before anything is written: the words are in no form, a read failed, the input is too long, or no memory was
--- found. Unread says that the source is as it was.
+-- How the call ends before anything is written: the words are not a form, a read failed, the input is too long, or no memory was found.
+-- Unread says that the source is as it was.
 pub data Stops {F : Type 0} (form : Option F) (reads : Bool) (source : SourceChange) (Unread : Type 0) : Status → Type 0 where
   no_form : form ≡ None → Unread → source.left' ≡ source.left → source.faults' ≡ source.faults → Stops form reads source Unread BadWords
   unreadable : reads ≡ true → source.faults ≤ source.faults' → Rose source.faults source.faults' → TakesAtMost 1048576 source.left source.left' → Stops form reads source Unread ReadFault
   too_many : reads ≡ true → source.faults' ≡ source.faults → TakesTooMany source.left source.left' → Stops form reads source Unread TooLong
   no_memory : source.faults' ≡ source.faults → TakesAtMost 1048576 source.left source.left' → (reads ≡ false → Unread) → Stops form reads source Unread Memory
 
--- The bytes that an answer is given to: all those of the source, up to its end; none, where a command reads nothing.
+-- The bytes of the input: all those of the source, up to its end; none, if a command reads nothing.
 abbrev pub TakesInput : Bool → SourceChange → Type 0 → List ℕ → Type 0
 TakesInput true source Unread bytes = ReadsWhole source.left source.left' bytes
 TakesInput false source Unread bytes = Unread × (source.left' ≡ source.left) × (bytes ≡ [])
 
--- How the call ends. Unwritten says that the sink is as it was. `Says` is what the answer says beside its text.
+-- How the call ends. Unwritten says that the sink is as it was. `Says` is what the answer promises beside its text.
 pub data Outcome {F : Type 0} (form : Option F) (reads : Bool) (answer : List ℕ → Answer) (Says : List ℕ → Type 0) (source : SourceChange) (sink : SinkChange) (Unread Unwritten : Type 0) : Status → Type 0 where
   stopped : (status : Status) → Stops form reads source Unread status → Unwritten → sink.faults' ≡ sink.faults → Outcome form reads answer Says source sink Unread Unwritten status
   answered : (named : F) (bytes : List ℕ) (status : Status) → form ≡ Some named → Says bytes → source.faults' ≡ source.faults → TakesInput reads source Unread bytes → Writes (answer bytes).status (answer bytes).output sink status
       → Outcome form reads answer Says source sink Unread Unwritten status
 
--- What is so of the form, of whether it reads its source, and of its answers: a form that reads nothing has one answer, and answers are
+-- Properties of the form, of whether it reads its source, and of its answers: a form that reads nothing has one answer, and answers are
 -- done, no or refused.
 pub record IsCommand {F : Type 0} (form : Option F) (reads : Bool) (answer : List ℕ → Answer) : Type 0 where
   pub none : form ≡ None → reads ≡ false

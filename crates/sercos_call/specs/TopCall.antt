@@ -1,12 +1,12 @@
--- What a top call does with its source and its sink, whatever it answers. The bytes that a source has left and those that a sink holds
--- are known where it tells them. `answer` is the answer to an input, and `reads` says whether the words name a command that reads one.
+-- What a top call does with its source and its sink, regardless of its answer. The bytes left in a source and those that a sink holds
+-- are known if it exposes them. `answer` is the answer to an input, and `reads` is whether the words name a command that reads one.
 use Rattle.std.specs.Prelude.{◌≡◌, ℕ, ◌<◌, ◌≤◌, Bool, true, false, List, [], length, take, Option, Some, None}
 use Rattle.std.specs.Io.KnownBytes.{Appends, Consumes, IsAtEnd}
 use Rattle.sercos_io.specs.declared.status.Status.{Status}
 use Rattle.sercos_io.specs.declared.status.Status.TheVariants.{Done, No, BadWords, Refused, ReadFault, WriteFault, Memory, TooLong}
 use Rattle.sercos_answer.specs.Answer.{Answer}
 
--- the statuses that come before anything is written
+-- the statuses that are returned before anything is written
 unfoldable pub writes_nothing : Status → Bool
 writes_nothing BadWords = true
 writes_nothing ReadFault = true
@@ -25,12 +25,12 @@ pub record ReadsWhole (old new : Option (List ℕ)) (bytes : List ℕ) : Type 0 
   pub ended : IsAtEnd new
   pub fits : length bytes ≤ 1048576
 
--- The bytes that an answer is given to: all those of the source, up to its end; none, where a command reads nothing.
+-- The bytes of the input: all those of the source, up to its end; none, if a command reads nothing.
 abbrev pub IsInput : Bool → Option (List ℕ) → Option (List ℕ) → List ℕ → Type 0
 IsInput true old new bytes = ReadsWhole old new bytes
 IsInput false old new bytes = (new ≡ old) × (bytes ≡ [])
 
--- the bytes that a source tells to a command; any, where it reads nothing
+-- the bytes that a source exposes to a command; any, if it reads nothing
 abbrev pub HasInput : Bool → Option (List ℕ) → List ℕ → Type 0
 HasInput true left bytes = left ≡ Some bytes
 HasInput false left bytes = Unit {0}
@@ -69,7 +69,7 @@ pub record IsCutShort (reads : Bool) (answer : List ℕ → Answer) (status : St
   pub short : count < length (answer bytes).output
   pub written : Appends held held' (take count (answer bytes).output)
 
--- this answer was given: its status, and its whole output, which was appended
+-- this answer was returned: its status, and its whole output, which was appended
 pub record IsAnswer (answer : Answer) (status : Status) (held held' : Option (List ℕ)) : Type 0 where
   pub status_is : status ≡ answer.status
   pub written : Appends held held' answer.output

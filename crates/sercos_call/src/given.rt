@@ -1,4 +1,4 @@
-// What a command gives to the sink.
+// What a command writes.
 ghost use Rattle.std.specs.Prelude.{◌≡◌, ◌≢◌, ◌⊎◌, IfOk, MatchResult};
 ghost use Rattle.sercos_call.specs.Given.{IsWritable, given_status, given_text};
 ghost use Rattle.sercos_document.specs.Lines.{line_of};
@@ -11,14 +11,14 @@ use sercos_config::{BadDocument, write_refusal};
 use sercos_io::{Sink, Status, write_all};
 use std::alloc::AllocError;
 
-/// What a command gives to the sink: a reply, or the refusal of a document.
+/// What a command writes: a reply, or the refusal of a document.
 #[derive(Drop)]
 pub enum Given {
     Reply(Reply),
     Refusal(BadDocument),
 }
 
-/// The refusal of a document is given to the sink; `Memory` is not.
+/// Writes the refusal of a document; `Memory` isn't written.
 pub fn refused(bad: BadDocument) -> Result<Given, AllocError>
     ensures { MatchResult result
         (λ given. (given ≡ Given.Refusal bad) × (bad ≢ BadDocument.Memory))
@@ -30,7 +30,7 @@ pub fn refused(bad: BadDocument) -> Result<Given, AllocError>
     Ok(Given::Refusal(bad))
 }
 
-/// The status where writing a reply of this status fails.
+/// Returns the status where writing a reply of this status fails.
 #[tactic(auto, unfolding(crate::specs::TopCall::fault_status))]
 pub fn fault_status(status: Status) -> Status
     ensures { result ≡ fault_status status }
@@ -85,7 +85,7 @@ pub fn refuse<K: Sink>(bad: &BadDocument, sink: &mut K) -> Status
     give_refusal(bad, sink)
 }
 
-// Writes what a command gives, and answers its status, or that of a failed write.
+// Writes a command's answer, and returns its status, or that of a failed write.
 fn give<K: Sink>(given: &Given, sink: &mut K) -> Status
     requires { IsWritable given.now }
     ensures { Writes (given_status given.now) (given_text given.now)
@@ -97,7 +97,7 @@ fn give<K: Sink>(given: &Given, sink: &mut K) -> Status
     }
 }
 
-/// Writes what a command gives, if memory was found for it.
+/// Writes a command's answer if memory was found for it.
 pub fn give_made<K: Sink>(made: &Result<Given, AllocError>, sink: &mut K) -> Status
     requires { IfOk made.now IsWritable }
     ensures { GivesMade made.now (changed K.held K.faults K.room sink.old sink.new) (sink.new ≡ sink.old) result }

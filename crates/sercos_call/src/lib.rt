@@ -1,4 +1,4 @@
-//! What a top call does with its source and its sink, whatever it answers.
+//! What a top call does with its source and its sink, regardless of its answer.
 #![tactic(auto)]
 
 mod given;

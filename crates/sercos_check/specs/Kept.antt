@@ -1,4 +1,4 @@
--- What is kept of the telegrams of a capture, for which telegrams it stands, and the rules by what is kept.
+-- What is kept of the telegrams of a capture, the telegrams that it stands for, and the rules over what is kept.
 use Rattle.std.specs.Prelude.{◌≡◌, ℕ, ℤ, pos, ◌*◌, ◌+ℤ◌, ◌<◌, nat_lt, Bool, true, false, not, ◌&&◌, ◌||◌, if◌then◌else◌, List, [], ◌∷◌, length, Option, Some, None, slice_index_or, slice_set}
 use Rattle.std.specs.Int.Signed.{le_z}
 use Rattle.sercos_telegram.specs.declared.layout.Kind.{Kind}
@@ -88,7 +88,7 @@ abbrev pub later : Option ℤ → ℤ → Option ℤ
 later None time = Some time
 later (Some earlier) time = if le_z earlier time then Some time else Some earlier
 
--- an address byte that sends an AT; a content without bytes has none
+-- the address byte of an AT; none for an empty content
 abbrev pub with_address : List Bool → SentView → List Bool
 with_address heard s = if nat_lt 0 (length s.content) then slice_set heard (address_of s) true else heard
 

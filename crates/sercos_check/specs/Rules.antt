@@ -22,8 +22,8 @@ abbrev pub is_after : Mark → ℕ → ℤ → Bool
 is_after x n start = le_z (end_of x +ℤ pos n) start
 
 -- 1, order: an MST's cycle is the one after that of the MST before, if there was one. An AT or an MDT has the cycle of the newest
--- MST and doesn't start before the telegram before it; after the MDT of a cycle comes no AT and no other MDT; no address byte
--- sends two ATs in a cycle.
+-- MST and doesn't start before the telegram before it; no AT and no other MDT follows the MDT of a cycle; no address byte sends two
+-- ATs in a cycle.
 abbrev pub is_next_cycle : Option Command → ℕ → Bool
 is_next_cycle None cycle = true
 is_next_cycle (Some c) cycle = cycle == c.cycle + 1

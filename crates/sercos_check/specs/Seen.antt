@@ -60,7 +60,7 @@ newest_of (s ∷ sent) = Some s
 abbrev pub address_of : SentView → ℕ
 address_of s = slice_index s.content 0
 
--- what the drive with an address asks of the plan; nothing for another address
+-- the planner's input of the drive with an address; none for another address
 abbrev pub drive_with : List Wish → ℕ → Option Wish
 drive_with drives address = find (λ (d : Wish). d.address == address) drives
 
@@ -73,7 +73,7 @@ is_drive w address = list_any (λ (d : Wish). d.address == address) w.drives
 abbrev pub slave_of : WishesView → SentView → ℕ
 slave_of w s = (wish_for w (address_of s)).slave
 
--- where a telegram stands in its cycle
+-- the place of a telegram in its cycle
 abbrev pub mark_of : SentView → Mark
 mark_of s = record { start = s.start; bits = s.bits }
 
@@ -85,7 +85,7 @@ end_of x = x.start +ℤ pos x.bits
 abbrev pub sender_of : WishesView → SentView → Option ℕ
 sender_of w s = if is_at s.kind then Some (slave_of w s) else None
 
--- what the telegram after it asks of a telegram
+-- the requirement of a telegram on the next one
 abbrev pub note_of : WishesView → SentView → Note
 note_of w s = record { mark = mark_of s; sender = sender_of w s }
 

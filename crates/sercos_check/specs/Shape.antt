@@ -1,4 +1,5 @@
--- The shape of a capture: what comes after the lines so far, the newest first, and the wishes that its head spells.
+-- The shape of a capture: which line may follow the lines so far, the newest first, and the planner's input that its head
+-- spells.
 use Rattle.std.specs.Prelude.{◌≡◌, ℕ, ◌-◌, ◌==◌, nat_le, Bool, true, false, if◌then◌else◌, List, [], ◌∷◌, ◌++◌, length, map}
 use Rattle.std.specs.List.{position_or_len}
 use Rattle.sercos_timing.specs.declared.wishes.Wish.{Wish}
@@ -10,7 +11,7 @@ use Rattle.sercos_trace.specs.declared.reading.Line.TheVariants as line
 use Rattle.sercos_check.specs.declared.awaited.Awaited.{Awaited}
 use Rattle.sercos_check.specs.declared.awaited.Awaited.TheVariants as awaited
 
--- how many lines of drives are still to come: as many as the line of the ring says, less those after it
+-- how many lines of drives are missing: the number in the line of the ring, less the lines since
 abbrev pub drives_left : List Line → ℕ
 drives_left [] = 0
 drives_left (line.Ring rate cycle control gap drives ∷ before) = drives
@@ -20,8 +21,8 @@ drives_left (_ ∷ before) = drives_left before
 abbrev pub drive_or_order : ℕ → Awaited
 drive_or_order left = if left == 0 then awaited.Order else awaited.Drive
 
--- What comes next: first the version, after it the numbers of the ring, after these the lines of the drives, after the last one
--- the order, and after it lines of cycles, until the totals.
+-- Which line is next: first the version, then the numbers of the ring, then the lines of the drives, then the order, and then
+-- lines of cycles, up to the totals.
 abbrev pub awaited_after : List Line → Awaited
 awaited_after [] = awaited.Version
 awaited_after (line.Version ∷ before) = awaited.Ring
@@ -38,7 +39,7 @@ part_of (line.Drive wish) = awaited.Drive
 part_of (line.Order addresses) = awaited.Order
 part_of _ = awaited.Cycle
 
--- the place of the drive with an address; the number of drives, which is no place, if there is none
+-- the place of the drive with an address; without one the number of drives, which is not a place
 abbrev pub drive_place : List Wish → ℕ → ℕ
 drive_place drives address = position_or_len (λ (d : Wish). d.address == address) drives
 
@@ -57,7 +58,7 @@ wishes_by (line.Drive wish ∷ before) = record (wishes_by before) { drives = (w
 wishes_by (line.Order addresses ∷ before) = record (wishes_by before) { order = places (wishes_by before).drives addresses.items }
 wishes_by (_ ∷ before) = wishes_by before
 
--- with the order, the wishes must be ones for which a plan may be asked
+-- with the order, the planner's input must be valid
 abbrev pub IsHeadValid : List Line → Line → Type 0
 IsHeadValid before (line.Order addresses) = IsValid (wishes_by (line.Order addresses ∷ before))
 IsHeadValid before _ = Unit {0}
@@ -71,7 +72,7 @@ abbrev pub HasShape : List Line → Type 0
 HasShape [] = Unit {0}
 HasShape (line ∷ before) = CanFollow before line × HasShape before
 
--- the head is whole: the order has come
+-- the head is whole: it has its order
 abbrev pub is_past_head : Awaited → Bool
 is_past_head awaited.Cycle = true
 is_past_head awaited.Nothing = true
@@ -80,8 +81,8 @@ is_past_head _ = false
 abbrev pub has_head : List Line → Bool
 has_head lines = is_past_head (awaited_after lines)
 
--- What is kept of the head: `fits` says that a ring can have as many drives as came so far, and then `wishes` are those that
--- the lines spell.
+-- What is kept of the head: `fits` says that a ring can have as many drives as were read so far, and then `wishes` are those
+-- that the lines spell.
 pub record HeadView : Type 0 where
   pub awaited : Awaited
   pub left : ℕ
@@ -94,11 +95,11 @@ pub record HeadStandsFor (v : HeadView) (lines : List Line) : Type 0 where
   pub fits_is : v.fits ≡ nat_le (length (wishes_by lines).drives) most_drives
   pub wishes_are : v.fits ≡ true → v.wishes ≡ wishes_by lines
 
--- once the order has come, the wishes are valid
+-- with the order, the planner's input is valid
 abbrev pub IsSound : HeadView → Type 0
 IsSound v = v.awaited ≡ awaited.Cycle → (v.fits ≡ true) × IsValid v.wishes
 
--- a telegram has come after the head
+-- a telegram follows the head
 abbrev pub IsReady : HeadView → Line → Type 0
 IsReady v (line.Telegram cycle sent) = v.awaited ≡ awaited.Cycle
 IsReady v _ = Unit {0}

@@ -26,6 +26,6 @@ is_head_valid before _ = true
 unfoldable pub can_follow : List Line → Line → Bool
 can_follow before line = is_same_part (awaited_after before) (part_of line) && is_head_valid before line
 
--- the test tells what the relation says
+-- the test agrees with the relation
 abbrev pub TellsFollowing : Type 0
 TellsFollowing = (before : List Line) (line : Line) → ((can_follow before line ≡ true) ↔ CanFollow before line)

@@ -1,4 +1,4 @@
--- What a checker says of a capture, whose lines are listed the newest first.
+-- The result of a checker for a capture, whose lines are listed the newest first.
 use Rattle.std.specs.Prelude.{◌≡◌, ℕ, ◌+◌, ◌⊎◌, ◌↔◌, true, false, List, [], ◌∷◌, length, map, Option, Some, None}
 use Rattle.sercos_timing.specs.Views.{WishesView}
 use Rattle.sercos_trace.specs.declared.reading.Line.{Line}
@@ -82,7 +82,7 @@ pub record CheckerState : Type 0 where
   pub lines : ℕ
   pub trouble : Option Trouble
 
--- The telegrams are kept under the wishes of the head; before the head is whole there are none.
+-- The telegrams are kept under the planner's input of the head; before the head is whole there are none.
 abbrev pub AreSeen : SeenState → List Line → Type 0
 AreSeen seen lines = (w : WishesView) → (has_head lines ≡ true → w ≡ wishes_by lines) → SeenStandsFor seen w (told lines)
 
@@ -102,7 +102,7 @@ abbrev pub StandsBy : Option Trouble → CheckerState → List Line → Type 0
 StandsBy None v lines = IsRunning v lines
 StandsBy (Some t) v lines = IsTrouble lines t
 
--- The checker stands for these lines: all are clean so far, or their first trouble is kept.
+-- The checker stands for these lines: all are clean so far, or the first fault or violation is kept.
 pub record CheckerStandsFor (v : CheckerState) (lines : List Line) : Type 0 where
   pub count : v.lines ≡ length lines
   pub stands : StandsBy v.trouble v lines

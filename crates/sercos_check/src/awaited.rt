@@ -1,6 +1,6 @@
 // What a capture continues with.
 
-/// What comes next in a capture.
+/// Which line is next in a capture.
 #[derive(Clone, Copy, Debug, PartialEq, Eq)]
 pub(crate) enum Awaited {
     /// The version, the first line.

@@ -13,13 +13,13 @@ use crate::trouble::Trouble;
 use sercos_trace::Line;
 use std::marker::Model;
 
-/// Checks the lines of a capture one by one. It stands for the lines that have come since it was made; contracts list them the
-/// newest first. Nothing here takes memory.
+/// Checks the lines of a capture one by one. It stands for the lines since it was made; contracts list them the newest first.
+/// Nothing here takes memory.
 #[derive(Drop)]
 pub struct Checker {
     head: Head,
     seen: Seen,
-    // how many lines have come
+    // the number of lines so far
     lines: u32,
     // the first trouble among them
     trouble: Option<Trouble>,
@@ -69,7 +69,7 @@ fn take(head: &mut Head, seen: &mut Seen, line: &Line, number: u32) -> Option<Tr
 }
 
 impl Checker {
-    /// A checker to which no line has come.
+    /// Returns a checker without lines.
     pub fn new() -> Checker
         ensures lines { result.lines ≡ 0 }
         ensures stands { CheckerStandsFor result [] }
@@ -82,8 +82,8 @@ impl Checker {
         }
     }
 
-    /// Takes the next line of a capture. The error is the first trouble among the lines so far: a line that can't follow those
-    /// before it, or a telegram that breaks a rule (this profile). A head that is still short is no trouble yet. After an error
+    /// Checks the next line of a capture. The error is the first fault or violation among the lines so far: a line that can't
+    /// follow those before it, or a telegram that breaks a rule (this profile). A short head is not an error yet. After an error
     /// each call returns it again.
     pub fn line(&mut self, line: &Line) -> Result<(), Trouble>
         requires { self.old.lines < 2 ^ 31 }
@@ -106,8 +106,8 @@ impl Checker {
         }
     }
 
-    /// Ends the capture. Returns the number of its lines. The error is the first trouble among them; if there is none and the head
-    /// is not whole, a fault one past the last line.
+    /// Ends the capture. Returns the number of its lines. The error is the first fault or violation among them; without one, if
+    /// the head is not whole, a fault one past the last line.
     pub fn finish(&self) -> Result<u32, Trouble>
         ensures ok { (lines : List Line) → CheckerStandsFor self.now lines → IfOk result (IsWhole lines) }
         ensures whole { (lines : List Line) → CheckerStandsFor self.now lines → (n : ℕ) → IsWhole lines n → result_ok result ≡ Some n }

@@ -1,4 +1,4 @@
-// What drives ask of the plan, by their addresses.
+// The planner's input of drives, by their addresses.
 ghost use Rattle.std.specs.Prelude.{◌≡◌, ◌*◌, if◌then◌else◌, Some, None};
 ghost use Rattle.sercos_check.specs.Seen.{drive_with, is_at, address_of, mark_of};
 ghost use Rattle.sercos_check.specs.Found.{found_for};
@@ -54,18 +54,18 @@ fn sender_of(kind: Kind, slave: u8) -> Option<u8>
     }
 }
 
-/// What the rules ask of a telegram and of the drive that it addresses, looked up once.
+/// What the rules need for a telegram and its drive, looked up once.
 #[derive(Clone, Copy)]
 pub struct Found {
     /// Whether there is such a drive.
     pub is_drive: bool,
-    /// What it asks of the plan; all zeros for another address.
+    /// The drive's input for the planner; all zeros for another address.
     pub wish: Wish,
     /// What the rules for the next telegram need.
     pub note: Note,
 }
 
-/// Looks up what the rules ask of a telegram.
+/// Looks up what the rules need for a telegram.
 #[tactic(auto, using(crate::proofs::FoundLemmas::is_found))]
 pub fn found_for(w: &Wishes, sent: &Sent) -> Found
     ensures { result ≡ found_for w.now sent.now }

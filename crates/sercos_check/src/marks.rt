@@ -48,14 +48,14 @@ impl Mark {
         i64::from(self.start) + i64::from(self.bits) + i64::from(bits)
     }
 
-    // Whether a time is at least this number of bit times after the end.
+    // Returns whether a time is at least this number of bit times after the end.
     pub fn is_after(self, bits: u32, time: i64) -> bool
         ensures { result ≡ is_after self bits time }
     {
         self.after(bits) <= time
     }
 
-    // Whether the telegram ends at bit time 0, as an MST does.
+    // Returns whether the telegram ends at bit time 0, as an MST does.
     pub fn ends_at_zero(self) -> bool
         ensures { result ≡ int_eq (end_of self) (pos 0) }
     {
@@ -63,7 +63,7 @@ impl Mark {
     }
 }
 
-// The same for a telegram that may be missing: then every time is late enough.
+// The same test for a telegram that may be missing: then every time is late enough.
 pub fn is_after_mark(mark: Option<Mark>, bits: u32, time: i64) -> bool
     ensures { result ≡ is_after_mark mark bits time }
 {

@@ -36,7 +36,7 @@ pub fn phase_of(command: Option<Command>) -> u8
     }
 }
 
-// Whether an MST's cycle is the next one, or the first.
+// Returns whether an MST's cycle is the next one, or the first.
 pub fn is_next_cycle(command: Option<Command>, cycle: u32) -> bool
     ensures { result ≡ is_next_cycle command cycle }
 {
@@ -46,7 +46,7 @@ pub fn is_next_cycle(command: Option<Command>, cycle: u32) -> bool
     }
 }
 
-// Whether the cycle is that of the newest MST.
+// Returns whether the cycle is that of the newest MST.
 fn is_same_cycle(command: Option<Command>, cycle: u32) -> bool
     ensures { result ≡ is_same_cycle command cycle }
 {
@@ -56,7 +56,7 @@ fn is_same_cycle(command: Option<Command>, cycle: u32) -> bool
     }
 }
 
-// Whether a start isn't before that of the telegram before.
+// Returns whether a start isn't before that of the telegram before.
 fn starts_later(newest: Option<Note>, start: i32) -> bool
     ensures { result ≡ starts_later newest start }
 {
@@ -140,7 +140,7 @@ pub fn keeps_layout(w: &Wishes, phase: u8, sent: &Sent, found: &Found) -> bool
     }
 }
 
-// Whether a phase may follow the one that was commanded before.
+// Returns whether a phase may follow the one that was commanded before.
 fn is_next_phase(command: Option<Command>, phase: u8) -> bool
     ensures { result ≡ is_next_phase command phase }
 {
@@ -245,7 +245,7 @@ pub fn keeps_gap(w: &Wishes, phase: u8, newest: Option<Note>, sent: &Sent, found
     !is_cyclic(phase, sent.kind) || is_after_gap(w, newest, sent, found)
 }
 
-// Whether there is room for the gap, and for each drive's TMTSY, between an MDT and the next MST.
+// Returns whether there is room for the gap, and for each drive's TMTSY, between an MDT and the next MST.
 fn has_room(w: &Wishes, sent: &Sent) -> bool
     requires { IsValid w.now }
     ensures { result ≡ has_room w.now sent.now }

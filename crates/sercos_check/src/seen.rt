@@ -31,18 +31,18 @@ const NOTHING: Noted = Noted {
     mark: Mark { start: 0, bits: 0 },
 };
 
-/// What the rules need of the telegrams of a capture so far. It stands for a list of telegrams, the newest first: those
-/// that [`note`](Seen::note) has taken. Each call speaks of every such list. No call takes memory.
+/// What the rules need of the telegrams of a capture so far. It stands for the list of the telegrams passed to
+/// [`note`](Seen::note), the newest first. Each call holds for every such list. No call takes memory.
 #[derive(Drop)]
 pub struct Seen {
     // what the newest MST commands
     command: Option<Command>,
-    // all else is of its cycle: the newest telegram, and whether there is an MDT
+    // everything else is of its cycle: the newest telegram, and whether there is an MDT
     newest: Option<Note>,
     mdt: bool,
     // the round, which rises at each MST: what was noted in an earlier one counts as nothing
     round: u8,
-    // the last round in which an AT came from each address byte
+    // the last round with an AT of each address byte
     heard: [u8; BYTES],
     // the newest AT of each slave, and its round
     marks: [Noted; BYTES],
@@ -115,14 +115,14 @@ impl Seen {
         goes_on(self.command, self.newest, self.mdt, cycle, start)
     }
 
-    // Whether the address byte of an AT sends the first one in this cycle.
+    // Returns whether the address byte of an AT sends the first one in this cycle.
     fn is_alone(&self, sent: &Sent) -> bool
         ensures { result ≡ is_alone_by self.now sent.now }
     {
         sent.content.is_empty() || self.heard[usize::from(address_of(sent))] != self.round
     }
 
-    // Rule 1: the telegrams come in order.
+    // Rule 1: the telegrams are in order.
     fn keeps_order(&self, cycle: u32, sent: &Sent) -> bool
         ensures { result ≡ order_by sent.now.kind self.now cycle sent.now }
     {
@@ -157,7 +157,7 @@ impl Seen {
             || is_after_mark(mark, bit_times(w, wish.times.tatat), i64::from(sent.start))
     }
 
-    // Whether the transition of each AT has passed.
+    // Returns whether the transition of each AT has passed.
     fn is_free(&self, start: i32) -> bool
         ensures { result ≡ is_from self.now.free_at start }
     {
@@ -217,7 +217,7 @@ impl Seen {
         self.broken_by(w, cycle, sent, found)
     }
 
-    // Begins a round, so that nothing noted so far counts. It is cleared only where the numbers of rounds are used up.
+    // Begins a round, so that nothing noted so far counts. The table is cleared only when the numbers of rounds are used up.
     fn forget(&mut self)
         ensures heard { (address : ℕ) → heard_in self.new address ≡ false }
         ensures marks { (slave : ℕ) → mark_in self.new slave ≡ None }

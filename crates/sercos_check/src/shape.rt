@@ -18,7 +18,7 @@ use std::mem;
 #[derive(Drop)]
 pub(crate) struct Head {
     awaited: Awaited,
-    // how many drives are still to come
+    // the number of lines of drives that are missing
     left: u8,
     // whether there was room for all drives so far
     fits: bool,
@@ -35,7 +35,7 @@ impl Model for Head {
     ghost invariant = { λ h. IsSound (record { awaited = h.awaited; left = h.left; fits = h.fits; wishes = h.wishes }) };
 }
 
-// What comes next if this number of drives is still to come.
+// Returns which line is next if this number of lines of drives is missing.
 fn drive_or_order(left: u8) -> Awaited
     ensures { result ≡ drive_or_order left }
 {
@@ -53,7 +53,7 @@ fn place_found(drives: &[Wish], address: u8) -> Option<usize>
     drives.iter().position(|drive| drive.address == address)
 }
 
-// The place of the drive with an address; the number of drives if there is none.
+// Returns the place of the drive with an address; the number of drives if there is none.
 fn place(drives: &[Wish], address: u8) -> usize
     ensures value { result ≡ drive_place drives.now address }
     ensures bound { result ≤ length drives.now }
@@ -102,7 +102,7 @@ fn set_order(wishes: &mut Wishes, order: ArrayVec<u8, 64>) -> bool
 }
 
 impl Head {
-    /// The head of a capture of which no line has come.
+    /// The head of a capture without lines.
     pub(crate) fn new() -> Head
         ensures { HeadStandsFor result [] }
     {
@@ -226,7 +226,7 @@ impl Head {
         }
     }
 
-    /// Returns whether the head is whole: the order has come.
+    /// Returns whether the head is whole: it has its order.
     pub(crate) fn is_whole(&self) -> bool
         ensures { (lines : List Line) → HeadStandsFor self.now lines → result ≡ has_head lines }
     {

@@ -1,6 +1,6 @@
 // What a capture is refused for.
 
-/// Why a text is no clean capture. Lines are counted from 1.
+/// Why a text is not a clean capture. Lines are counted from 1.
 #[derive(Clone, Copy, Debug, PartialEq, Eq)]
 pub enum Trouble {
     /// A telegram breaks a rule.

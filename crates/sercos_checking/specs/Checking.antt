@@ -16,7 +16,7 @@ use Rattle.sercos_checking.specs.declared.verdict.Verdict.TheVariants as verdict
 use Rattle.sercos_answer.specs.Answer.{Answer, line_feed, refused_text}
 use Rattle.sercos_answer.specs.Lines.{lines_of}
 
--- the line of a trace that a text is; a text that is none has a fault of grammar
+-- the line of a trace that a text is; any other text has a fault of grammar
 unfoldable pub read_as : List ℕ → Line
 read_as text = unwrap_or (line_in text) line.Other
 

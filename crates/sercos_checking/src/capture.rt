@@ -70,8 +70,8 @@ fn ended(shape: &Checker, rules: &Checker) -> Verdict
     }
 }
 
-/// The verdict on a capture. Two checkers go through it together, and no line is kept: a fault of grammar or shape is an answer
-/// at once, and a violation only once all lines were seen.
+/// Returns the verdict on a capture. Two checkers go through it together, and no line is kept: a fault of grammar or shape is an answer at
+/// once, and a violation only once all lines were seen.
 pub fn verdict(text: &[u8]) -> Verdict
     requires { length text.now ≤ 1048576 }
     ensures { result ≡ verdict_of text.now }

@@ -9,14 +9,15 @@ use sercos_bits::ByteList;
 use sercos_check::Trouble;
 use sercos_io::Status;
 
-/// What `check` says of a capture. Lines are counted from 1.
+/// The verdict of `check` on a capture. Lines are counted from 1.
 #[derive(Clone, Copy, Debug, PartialEq, Eq)]
 pub enum Verdict {
-    /// A text is no line of a trace, or a line can't follow those before it, or the head ends early.
+    /// A text is not a line of a trace, or a line can't follow those before it, or the head ends
+    /// early.
     Refused {
         /// The line; one past the last line if the head ends early.
         line: u32,
-        /// The column of the first byte that can't stand, counted from 1; 1 if the line can't follow.
+        /// The column of the first byte that doesn't fit, counted from 1; 1 if the line can't follow.
         column: usize,
     },
     /// A telegram breaks a rule.
@@ -33,7 +34,7 @@ pub enum Verdict {
     },
 }
 
-/// The verdict that a checker's trouble is.
+/// Returns the verdict that a checker's trouble is.
 #[tactic(auto, unfolding(crate::specs::Taken::verdict_on))]
 pub fn verdict_on(trouble: Trouble) -> Verdict
     ensures { result ≡ verdict_on trouble }
@@ -44,7 +45,7 @@ pub fn verdict_on(trouble: Trouble) -> Verdict
     }
 }
 
-/// The status with which `check` ends.
+/// Returns the status with which `check` ends.
 #[tactic(auto, unfolding(crate::specs::Checking::verdict_status))]
 pub fn verdict_status(verdict: Verdict) -> Status
     ensures { result ≡ verdict_status verdict }
@@ -122,7 +123,7 @@ fn push_clean(lines: u32, line: &mut VerdictLine)
     line.push_within(b'\n');
 }
 
-/// The line of a verdict.
+/// Returns the line of a verdict.
 #[tactic(auto, unfolding(crate::specs::Checking::verdict_text))]
 pub fn verdict_line(verdict: Verdict) -> VerdictLine
     ensures { result ≡ verdict_text verdict }

@@ -1,4 +1,4 @@
--- What the calls on a drive's procedure commands come to. The newest call stands first.
+-- The effect of the calls on a drive's procedure commands. The newest call is first.
 use Rattle.std.specs.Prelude.{◌≡◌, ℕ, ◌+◌, ◌≤◌, ◌==◌, nat_le, Bool, false, ◌&&◌, ◌||◌, if◌then◌else◌, List, [], ◌∷◌, min, is_none}
 use Rattle.std.specs.List.{list_any}
 use Rattle.sercos_idn.specs.Commands.{to_cancel}
@@ -6,7 +6,8 @@ use Rattle.sercos_block.specs.declared.block.Block.{Block}
 use Rattle.sercos_command.specs.declared.commands.SetCommand.{SetCommand}
 use Rattle.sercos_command.specs.Settings.{CommandsView, find_set, without, with_set, ends_well, has_ended, status_by, is_from}
 
--- A write of 0 or 3 to a command in a cycle, where the blocks stood so; a write to other operation data in a cycle; phase 0.
+-- A write of 0 or 3 to a command in a cycle, with the blocks of that moment; a write to other operation data in a cycle;
+-- phase 0.
 pub data Call : Type 0 where
   Wrote : (raw value cycle : ℕ) → List Block → Call
   Other : (cycle : ℕ) → Call
@@ -43,13 +44,13 @@ abbrev pub newest : List Call → ℕ
 newest [] = 0
 newest (c ∷ h) = cycle_of c (newest h)
 
--- no call came in an earlier cycle than the one before it
+-- the cycles of the calls don't descend
 abbrev pub AreInOrder : List Call → Type 0
 AreInOrder [] = Unit {0}
 AreInOrder (c ∷ h) = AreInOrder h × (newest h ≤ newest (c ∷ h))
 
--- The commands stand for these calls: what is kept of each check tells whether it counts as passed in a cycle from that of
--- the newest call on.
+-- The commands stand for these calls: what is kept of each check decides whether it counts as passed, in any cycle from that
+-- of the newest call on.
 pub record CommandsStandFor (v : CommandsView) (rate time : ℕ) (h : List Call) : Type 0 where
   pub rate_is : v.rate ≡ rate
   pub time_is : v.time ≡ time

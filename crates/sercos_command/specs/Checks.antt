@@ -8,7 +8,7 @@ use Rattle.sercos_timing.specs.Valid.{is_cycle}
 use Rattle.sercos_block.specs.Rings.{number_len}
 use Rattle.sercos_block.specs.Stores.{find_block, is_below, is_above}
 
--- the operation data of the block with an identifier number, none where there is no such block
+-- the operation data of the block with an identifier number; none without the block
 abbrev pub data_at : List Block → ℕ → List ℕ
 data_at blocks raw = unwrap_or (option_map (λ b. b.value) (find_block raw blocks)) []
 
@@ -25,8 +25,8 @@ idns_in (low ∷ high ∷ bytes) = (record { raw = low + 256 * high }) ∷ idns_
 unfoldable pub idns_at : List Block → ℕ → List Idn
 idns_at blocks raw = idns_in (data_at blocks raw)
 
--- how many bytes an identifier number adds to a telegram: those of its block's number; there is none where it is no block
--- of two or four bytes, or a procedure command
+-- how many bytes an identifier number adds to a telegram: those of its block's number; none if it is not a block of two or
+-- four bytes, or a procedure command
 abbrev pub cyclic_len : List Block → ℕ → Option ℕ
 cyclic_len blocks raw = option_and_then (λ b. number_len b.attribute) (find_block raw blocks)
 

@@ -32,8 +32,8 @@ with_set s set = if is_some (find_set s.idn.raw set) then set else set ++ s ∷ 
 abbrev pub is_command : List Block → ℕ → Bool
 is_command blocks raw = unwrap_or (option_map (λ b. b.attribute.command) (find_block raw blocks)) false
 
--- Whether a command that is set now ends well: a check where the list that it writes is empty, any other but where the
--- drive says that it fails.
+-- Whether a command that is set now ends well: a check if the list that it writes is empty, any other unless the drive says
+-- that it fails.
 abbrev pub ends_well : ℕ → ℕ → List Block → Bool
 ends_well rate raw blocks =
     if raw == 127 then length (unfit_for_phase_3 rate blocks) == 0
@@ -79,7 +79,7 @@ from_write c check raw value cycle blocks first =
     else (if is_none (find_set raw c.set) && ends_well c.rate raw blocks then from_setting (cycle + c.time) first else first))
     else first
 
--- after a write of 0 or 3 to a command in a cycle, where the blocks stand so
+-- after a write of 0 or 3 to a command in a cycle, with these blocks
 unfoldable pub with_write : ℕ → ℕ → ℕ → List Block → CommandsView → CommandsView
 with_write raw value cycle blocks c = record {
   rate = c.rate;

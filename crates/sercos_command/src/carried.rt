@@ -43,7 +43,7 @@ pub fn idns_at(store: &Store, list: Idn) -> ArrayVec<Idn, 16>
     idns_in(store.data(list))
 }
 
-// How many bytes an identifier number adds to a telegram.
+// Returns how many bytes an identifier number adds to a telegram.
 fn cyclic_len(store: &Store, idn: Idn) -> Option<usize>
     ensures value { result ≡ cyclic_len store.now idn.raw }
     ensures bound { IfSome result (λ len. len ≤ 4) }
@@ -54,7 +54,7 @@ fn cyclic_len(store: &Store, idn: Idn) -> Option<usize>
     }
 }
 
-// The same, and 0 where the number can't stand in a telegram.
+// Returns how many bytes the number adds to a telegram; 0 if no telegram can carry it.
 fn value_len(store: &Store, idn: Idn) -> u32
     ensures value { result ≡ unwrap_or (cyclic_len store.now idn.raw) 0 }
     ensures bound { result ≤ 4 }
@@ -89,14 +89,14 @@ pub fn carried_len(store: &Store, list: Idn) -> u32
     listed_len(store, idns_at(store, list).as_slice())
 }
 
-// Whether all of a list can stand in a telegram.
+// Returns whether a telegram can carry every entry of a list.
 fn are_cyclic(store: &Store, idns: &[Idn]) -> bool
     ensures { result ≡ list_all (is_cyclic store.now) idns.now }
 {
     idns.iter().all(|idn| cyclic_len(store, *idn).is_some())
 }
 
-// Whether a list of what a telegram carries has an identifier number that can't stand in it.
+// Returns whether a list of what a telegram carries has an identifier number that no telegram can carry.
 #[tactic(auto, unfolding(crate::specs::Checks::breaks_list))]
 pub(crate) fn breaks_list(store: &Store, list: Idn) -> bool
     requires { (list.raw ≡ 16) ⊎ (list.raw ≡ 24) }

@@ -25,9 +25,9 @@ fn add_if(unfit: &mut ArrayVec<Idn, 64>, idn: Idn, broken: bool)
     }
 }
 
-/// The identifier numbers whose operation data isn't fit for phase 3 in a ring of a rate, in Mbit/s, ascending: times that
-/// don't go with one another or with those that the drive declares, a data record or telegrams that can't be, and lists of
-/// what can't stand in a telegram.
+/// Returns the identifier numbers whose operation data isn't fit for phase 3 in a ring of a rate, in Mbit/s, ascending:
+/// times that contradict one another or those that the drive declares, an impossible data record or telegram, and lists of
+/// what no telegram can carry.
 pub fn check127(rate: u8, store: &Store) -> ArrayVec<Idn, 64>
     ensures { result.items ≡ unfit_for_phase_3 rate store.now }
 {
@@ -46,8 +46,8 @@ pub fn check127(rate: u8, store: &Store) -> ArrayVec<Idn, 64>
     unfit
 }
 
-/// The identifier numbers whose operation data isn't fit for phase 4, ascending: those of numbers below their minimum or
-/// above their maximum.
+/// Returns the identifier numbers whose operation data isn't fit for phase 4, ascending: those of numbers below their minimum or above
+/// their maximum.
 pub fn check128(store: &Store) -> ArrayVec<Idn, 64>
     ensures { result.items ≡ unfit_for_phase_4 store.now }
 {

@@ -49,7 +49,7 @@ impl Model for Commands {
 }
 
 impl Commands {
-    /// The commands of a drive in a ring of a rate, in Mbit/s, each of which runs for `time` cycles. No command is set.
+    /// Returns the commands of a drive in a ring of a rate, in Mbit/s, each of which runs for `time` cycles. No command is set.
     #[tactic(auto, unfolding(crate::specs::Settings::are_distinct))]
     pub fn new(rate: u8, time: u16) -> Commands
         ensures view { result ≡ record { rate = rate; time = time; set = []; passed_127 = None; passed_128 = None } }
@@ -107,9 +107,9 @@ impl Commands {
         self.set(idn, cycle, well);
     }
 
-    /// A write of 0 (cancel) or 3 (set) to a procedure command of the drive, in a cycle. A set command is set in that cycle,
-    /// and a command that is set already stays as it is. The check for phase 3 writes what it finds unfit into S-0-0021, that
-    /// for phase 4 into S-0-0022; it ends well where that is nothing. Any other command ends well unless the drive says
+    /// Processes a write of 0 (cancel) or 3 (set) to a procedure command of the drive, in a cycle. A set command is set in
+    /// that cycle; one that is set already stays as it is. The check for phase 3 writes what it finds unfit into S-0-0021,
+    /// that for phase 4 into S-0-0022; it ends well if it finds nothing. Any other command ends well unless the drive says
     /// that it fails.
     pub fn write(&mut self, idn: Idn, value: u16, cycle: u32, store: &mut Store)
         requires command { is_command store.old idn.raw ≡ true }
@@ -133,7 +133,7 @@ impl Commands {
         let _count = store.count();
     }
 
-    // Whether a command is set.
+    // Returns whether a command is set.
     fn has(&self, idn: Idn) -> bool
         ensures { result ≡ is_some (find_set idn.raw self.now.set) }
     {
@@ -167,8 +167,8 @@ impl Commands {
         self.forget_checks();
     }
 
-    /// The data status of a command in a cycle: 0 not set, 7 running, 3 ended well, 15 ended with an error. A command runs
-    /// in the cycle in which it was set and below that of its end.
+    /// Returns the data status of a command in a cycle: 0 not set, 7 running, 3 ended well, 15 ended with an error. A command runs in the
+    /// cycle in which it was set and below that of its end.
     pub fn status(&self, idn: Idn, cycle: u32) -> u16
         ensures view { result ≡ status_in self.now idn.raw cycle }
         ensures stands { (rate time : ℕ) (h : List Call) → CommandsStandFor self.now rate time h → result ≡ status_of rate time h idn.raw cycle }
@@ -176,7 +176,7 @@ impl Commands {
         status_by(find_set(self.set.as_slice(), idn), self.time, cycle)
     }
 
-    /// The change bit of procedure commands in a cycle: whether some command that is set has ended.
+    /// Returns the change bit of procedure commands in a cycle: whether some command that is set has ended.
     pub fn change(&self, cycle: u32) -> bool
         ensures view { result ≡ change_in self.now cycle }
         ensures stands { (rate time : ℕ) (h : List Call) → CommandsStandFor self.now rate time h → result ≡ change_of rate time h cycle }
@@ -184,7 +184,7 @@ impl Commands {
         any_ended(self.set.as_slice(), self.time, cycle)
     }
 
-    /// Whether the check for phase 3, S-0-0127, counts as passed in a cycle, not before that of the newest call.
+    /// Returns whether the check for phase 3, S-0-0127, counts as passed in a cycle, not before that of the newest call.
     pub fn passed127(&self, cycle: u32) -> bool
         ensures view { result ≡ is_from self.now.passed_127 cycle }
         ensures stands { (rate time : ℕ) (h : List Call) → CommandsStandFor self.now rate time h → newest h ≤ cycle → result ≡ is_passed rate time 127 h cycle }
@@ -192,7 +192,7 @@ impl Commands {
         is_from(self.passed_127, cycle)
     }
 
-    /// Whether the check for phase 4, S-0-0128, counts as passed in a cycle, not before that of the newest call.
+    /// Returns whether the check for phase 4, S-0-0128, counts as passed in a cycle, not before that of the newest call.
     pub fn passed128(&self, cycle: u32) -> bool
         ensures view { result ≡ is_from self.now.passed_128 cycle }
         ensures stands { (rate time : ℕ) (h : List Call) → CommandsStandFor self.now rate time h → newest h ≤ cycle → result ≡ is_passed rate time 128 h cycle }

@@ -4,7 +4,7 @@ ghost use Rattle.sercos_command.specs.Settings.{is_from, from_setting, from_canc
 
 use sercos_idn::Idn;
 
-// Whether a check counts as passed in a cycle.
+// Returns whether a check counts as passed in a cycle.
 pub(crate) fn is_from(first: Option<u64>, cycle: u32) -> bool
     ensures { result ≡ is_from first cycle }
 {

@@ -13,7 +13,7 @@ use sercos_timing::{is_cycle, wire};
 // The telegram type of this profile.
 const CONFIGURED: u32 = 7;
 
-// The control unit cycle time is no positive multiple of the cycle time.
+// The control unit cycle time is not a positive multiple of the cycle time.
 #[tactic(auto, unfolding(crate::specs::Checks::breaks_1))]
 pub(crate) fn breaks_1(store: &Store) -> bool
     ensures { result ≡ breaks_1 store.now }
@@ -23,7 +23,7 @@ pub(crate) fn breaks_1(store: &Store) -> bool
     cycle == 0 || control == 0 || control % cycle != 0
 }
 
-// The cycle time is none of this profile.
+// The cycle time is not one of this profile.
 #[tactic(auto, unfolding(crate::specs::Checks::breaks_2))]
 pub(crate) fn breaks_2(store: &Store) -> bool
     ensures { result ≡ breaks_2 store.now }

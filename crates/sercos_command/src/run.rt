@@ -24,7 +24,7 @@ fn list_bytes(idns: &[Idn]) -> ByteList<128>
     bytes
 }
 
-// Writes what a check found into its list, and says whether it found nothing.
+// Writes what a check found into its list, and returns whether it found nothing.
 fn give(store: &mut Store, list: Idn, unfit: &[Idn]) -> bool
     requires list { (list.raw ≡ 21) ⊎ (list.raw ≡ 22) }
     requires few { length unfit.now ≤ 64 }
@@ -36,7 +36,7 @@ fn give(store: &mut Store, list: Idn, unfit: &[Idn]) -> bool
     unfit.is_empty()
 }
 
-// Runs a command, and says whether it ends well.
+// Runs a command, and returns whether it ends well.
 pub(crate) fn run(rate: u8, idn: Idn, store: &mut Store) -> bool
     ensures well { result ≡ ends_well rate idn.raw store.old }
     ensures blocks { store.new ≡ (if idn.raw == 127 then with_data 21 (list_bytes (unfit_for_phase_3 rate store.old)) store.old

@@ -27,7 +27,7 @@ pub(crate) fn cancel(set: &mut ArrayVec<SetCommand, 64>, idn: Idn)
     set.retain(|command| command.idn != idn);
 }
 
-// Whether a command that is set has ended.
+// Returns whether a command that is set has ended.
 fn has_ended(command: &SetCommand, time: u16, cycle: u32) -> bool
     ensures { result ≡ has_ended time cycle command.now }
 {
@@ -52,7 +52,7 @@ pub(crate) fn status_by(command: Option<SetCommand>, time: u16, cycle: u32) -> u
     }
 }
 
-// Whether some command that is set has ended.
+// Returns whether some command that is set has ended.
 pub(crate) fn any_ended(set: &[SetCommand], time: u16, cycle: u32) -> bool
     ensures { result ≡ list_any (has_ended time cycle) set.now }
 {

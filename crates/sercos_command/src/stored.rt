@@ -7,7 +7,7 @@ ghost use Rattle.sercos_command.specs.Settings.{CommandsView, is_command, are_co
 use sercos_block::Store;
 use sercos_idn::Idn;
 
-/// Whether the block with an identifier number is a procedure command; not where there is no block.
+/// Returns whether the block with an identifier number is a procedure command; false without the block.
 pub fn is_command(store: &Store, idn: Idn) -> bool
     ensures { result ≡ is_command store.now idn.raw }
 {

@@ -17,7 +17,7 @@ use Rattle.sercos_document.specs.Answers.{Answer, ◌>>=◌, ◌>>◌, demand, o
 use Rattle.sercos_document.specs.Tables.{Located, optional, required, number, number_or, boolean_or, known}
 use Rattle.sercos_config.specs.Numbers.{limit_of, max_len_of, data_of}
 
--- the identifier number that a text spells; else Range with the number of its bytes
+-- the identifier number that a text spells; otherwise Range with the number of its bytes
 unfoldable pub idn_of : List ℕ → Option Idn
 idn_of text = if is_none (idn_fault text) then Some (record { raw = spelled_raw text }) else None
 
@@ -36,7 +36,8 @@ attribute_under t = do
   word ← number t (codes "attribute") 0 4294967295
   or_refused (bad.Range (path t.place (codes "attribute")) (pos word)) (attribute_in word)
 
--- a name or a unit of at most so many bytes, if the key stands; else Range with the number of its bytes
+-- a name or a unit of at most n bytes, if the key is present; otherwise Range with the number of its
+-- bytes
 abbrev pub text_or_none : ℕ → List ℕ → Option (List ℕ) → Answer (Option (List ℕ))
 text_or_none most p None = Ok None
 text_or_none most p (Some text) = demand (is_text most (Some text)) (bad.Range p (pos (length text))) >> Ok (Some text)
@@ -63,7 +64,7 @@ block_keys =
     codes "idn" ∷ codes "attribute" ∷ codes "name" ∷ codes "unit" ∷ codes "min" ∷ codes "max" ∷ codes "max_len" ∷ codes "data"
     ∷ codes "fixed" ∷ codes "step" ∷ codes "fails" ∷ []
 
--- the data block of a table, behind these blocks of its drive
+-- the data block of a table, after these blocks of its drive
 unfoldable pub block_of : List Block → Located → Answer Block
 block_of before t = do
   known t block_keys
@@ -81,7 +82,7 @@ block_of before t = do
   fails ← fails_under attribute t
   Ok (record { idn = idn; attribute = attribute; name = name; unit = unit; min = min; max = max; value = value; max_len = max_len; fixed = fixed; step = step; fails = fails })
 
--- the data blocks of these tables, behind those
+-- the data blocks of these tables, after those
 unfoldable pub blocks_onto : ℕ → List Block → List Members → Answer (List Block)
 blocks_onto drive done [] = Ok done
 blocks_onto drive done (t ∷ ts) =

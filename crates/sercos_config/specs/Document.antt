@@ -1,5 +1,5 @@
 -- What a document says, or its first refusal: the top table, then the ring's, then each drive's with its blocks, each
--- request and each fault; the length of the MDT and the order come after all drives.
+-- request and each fault; the length of the MDT and the order are checked after all drives.
 use Rattle.std.specs.Prelude.{ℕ, pos, nat_le, List, [], ◌∷◌, codes, if◌then◌else◌, Option, Some, None, Ok, Err}
 use Rattle.std.specs.Str.{is_utf8}
 use Rattle.toml.specs.Data.{Members, as_table}

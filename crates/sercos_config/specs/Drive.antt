@@ -18,14 +18,14 @@ use Rattle.sercos_document.specs.Lists.{tables, short_list, all_onto}
 use Rattle.sercos_config.specs.declared.drive.DriveNumbers.{DriveNumbers}
 use Rattle.sercos_config.specs.Block.{idn_in, blocks_onto}
 
--- the identifier number of an item, which can stand in a telegram of the drive; else Range with the raw number
+-- the identifier number of an item, which a telegram of the drive can carry; otherwise Range with the raw number
 unfoldable pub idn_at : List Block → Place → List ℕ → ℕ → List ℕ → Answer Idn
 idn_at blocks place key item text = do
   idn ← idn_in (item_path place key item) text
   demand (is_cyclic blocks idn.raw) (bad.Range (item_path place key item) (pos idn.raw))
   Ok idn
 
--- those of these texts, behind those
+-- the identifier numbers of these texts, after those
 unfoldable pub idns_onto : List Block → Place → List ℕ → List Idn → List (List ℕ) → Answer (List Idn)
 idns_onto blocks place key done [] = Ok done
 idns_onto blocks place key done (text ∷ rest) =
@@ -63,7 +63,7 @@ new_address before t = do
   demand (not (has_address address before)) (bad.Twice (path t.place (codes "address")))
   Ok address
 
--- the numbers of a drive, behind these drives
+-- the numbers of a drive, after these drives
 unfoldable pub drive_numbers_of : List DriveView → Located → Answer DriveNumbers
 drive_numbers_of before t = do
   address ← new_address before t
@@ -75,8 +75,8 @@ drive_numbers_of before t = do
   cycle_max ← number_or t (codes "cycle_max") 0 most_cycle most_cycle
   Ok (record { address = address; slave = slave; busy = busy; command = command; times = times; cycle_min = cycle_min; cycle_max = cycle_max })
 
--- The drive of a table, behind these drives. Its blocks come after its own keys, and the items of `at` and `mdt` after the
--- blocks, in which they are looked up.
+-- The drive of a table, after these drives. Its blocks follow its own keys, and the items of `at` and `mdt` the blocks, in
+-- which they are looked up.
 unfoldable pub drive_of : List DriveView → Located → Answer DriveView
 drive_of before t = do
   known t drive_keys
@@ -89,7 +89,7 @@ drive_of before t = do
   mdt ← idns_of blocks t.place (codes "mdt") mdt_items
   Ok (with_lists numbers at mdt blocks)
 
--- the drives of these tables, behind those
+-- the drives of these tables, after those
 unfoldable pub drives_onto : List DriveView → List Members → Answer (List DriveView)
 drives_onto done [] = Ok done
 drives_onto done (t ∷ ts) =

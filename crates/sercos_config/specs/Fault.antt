@@ -116,7 +116,7 @@ from_of drives At t = do
   address ← required as_integer t (codes "from")
   or_refused (bad.Range (path t.place (codes "from")) address) (drive_station drives address)
 
--- the station hears such telegrams: the master alone hears an AT, drives alone an MDT
+-- the station receives such telegrams: the master alone an AT, drives alone an MDT
 unfoldable pub hears : Kind → ℕ → Bool
 hears Mst station = true
 hears At station = station == 0
@@ -166,7 +166,7 @@ fault_of drives t = do
   damage ← damage_of drives kind telegram t
   Ok (record { cycle = cycle; last = last; every = every; kind = telegram; from = from; damage = damage })
 
--- the faults of these tables, behind those
+-- the faults of these tables, after those
 unfoldable pub faults_onto : List DriveView → List Fault → List Members → Answer (List Fault)
 faults_onto drives done [] = Ok done
 faults_onto drives done (t ∷ ts) =

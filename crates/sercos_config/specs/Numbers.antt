@@ -1,4 +1,4 @@
--- The numbers and lists that a data block's keys give: minimum, maximum, most bytes and operation data.
+-- The numbers and lists of a data block's keys: minimum, maximum, most bytes and operation data.
 use Rattle.std.specs.Prelude.{ℕ, ℤ, pos, negsuc, ◌-◌, ◌*◌, ◌/◌, ◌%◌, ◌==◌, nat_le, int_le, Bool, not, ◌&&◌, ◌||◌, if◌then◌else◌, List, [], length, codes, Option, Some, None, Ok, Err}
 use Rattle.std.specs.List.{list_all}
 use Rattle.std.specs.Ordering.{int_eq}
@@ -26,7 +26,7 @@ unfoldable pub bits_of : Attribute → ℤ → ℕ
 bits_of a (pos n) = n
 bits_of a (negsuc n) = number_end a.length - 1 - n
 
--- a minimum or a maximum, if the key stands: only a number has one
+-- a minimum or a maximum, if the key is present: only a number has one
 abbrev pub limit_or_none : Attribute → List ℕ → Option ℤ → Answer (Option ℕ)
 limit_or_none a p None = Ok None
 limit_or_none a p (Some z) = demand (is_number a && is_in_range a z) (bad.Range p z) >> Ok (Some (bits_of a z))
@@ -34,7 +34,7 @@ limit_or_none a p (Some z) = demand (is_number a && is_in_range a z) (bad.Range 
 unfoldable pub limit_of : Located → List ℕ → Attribute → Answer (Option ℕ)
 limit_of t key a = optional as_integer t key >>= limit_or_none a (path t.place key)
 
--- the most bytes of a list, whole items; what is no list has none
+-- the most bytes of a list, whole items; a block without a list has none
 unfoldable pub list_max_len : Attribute → Located → Answer ℕ
 list_max_len a t = do
   most ← number t (codes "max_len") 1 most_data
@@ -50,7 +50,7 @@ max_len_of a t =
     if is_list a.length then list_max_len a t
     else (optional as_integer t (codes "max_len") >>= none_or_refused (path t.place (codes "max_len")))
 
--- the bytes of a list that a text spells: two hexadecimal digits of either case a byte, at most so many bytes, whole items
+-- the bytes of a list that a text spells: two hexadecimal digits of either case a byte, at most n bytes, whole items
 unfoldable pub list_bytes : ℕ → Attribute → List ℕ → Option (List ℕ)
 list_bytes most a text =
     if nat_le (length text) (2 * most) && (length text % (2 * item_len a.length) == 0) then result_ok (decode_of text) else None

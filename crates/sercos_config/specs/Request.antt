@@ -49,14 +49,14 @@ request_keys kind = keys_if (has_element kind) (has_data kind)
 unfoldable pub bytes_spelled : List ℕ → Option (List ℕ)
 bytes_spelled text = if nat_le (length text) (2 * most_data) then result_ok (decode_of text) else None
 
--- what is written; else Range with the number of the text's own bytes
+-- the bytes to write; otherwise Range with the number of the text's own bytes
 unfoldable pub bytes_under : Located → List ℕ → Answer (List ℕ)
 bytes_under t key = do
   text ← required as_str t key
   or_refused (bad.Range (path t.place key) (pos (length text))) (bytes_spelled text)
 
--- What a request of a kind does. The identifier number of a command is that of a procedure command where the drive has it;
--- else Range with the raw number. A number that the drive hasn't is taken, and the drive refuses it.
+-- What a request of a kind does. The identifier number of a command is that of a procedure command if the drive has it;
+-- otherwise Range with the raw number. A number that the drive lacks is accepted, and the drive refuses it.
 unfoldable pub asked_of : List DriveView → ℕ → RequestKind → Idn → Located → Answer Request
 asked_of drives address Read idn t = do
   element ← number_or t (codes "element") 1 7 7
@@ -79,7 +79,7 @@ request_of drives t = do
   request ← asked_of drives drive kind idn t
   Ok (record { drive = drive; request = request })
 
--- the requests of these tables, behind those
+-- the requests of these tables, after those
 unfoldable pub requests_onto : List DriveView → List Job → List Members → Answer (List Job)
 requests_onto drives done [] = Ok done
 requests_onto drives done (t ∷ ts) =

@@ -37,14 +37,14 @@ unfoldable pub place_from : ℕ → ℤ → List DriveView → Option ℕ
 place_from place address [] = None
 place_from place address (d ∷ ds) = if int_eq (pos d.address) address then Some place else place_from (place + 1) address ds
 
--- the drive that an item names, which stands in the order once
+-- the drive that an item names, which is in the order once
 unfoldable pub turn_of : List DriveView → Place → List ℕ → List ℕ → ℤ → Answer ℕ
 turn_of drives place key done address = do
   drive ← or_refused (bad.Range (item_path place key (length done)) address) (place_from 0 address drives)
   demand (not (list_any (λ k. k == drive) done)) (bad.Twice (item_path place key (length done)))
   Ok drive
 
--- the drives of these addresses, behind those
+-- the drives of these addresses, after those
 unfoldable pub turns_onto : List DriveView → Place → List ℕ → List ℕ → List ℤ → Answer (List ℕ)
 turns_onto drives place key done [] = Ok done
 turns_onto drives place key done (address ∷ rest) =

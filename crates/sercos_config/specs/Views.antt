@@ -1,4 +1,4 @@
--- What a document says, as plain data.
+-- The contents of a document, as plain data.
 use Rattle.std.specs.Prelude.{List}
 use Rattle.sercos_block.specs.Views.{RingView}
 use Rattle.sercos_step.specs.declared.request.Job.{Job}

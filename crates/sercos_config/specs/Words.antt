@@ -13,7 +13,7 @@ use Rattle.sercos_document.specs.Tables.{Located, required, number}
 unfoldable pub glimpse : {A : Type 0} → (List ℕ → Option A) → Located → List ℕ → Option A
 glimpse meaning t key = option_and_then meaning (option_and_then as_str (get_member key t.members))
 
--- one of some words; else Range with the number of the text's bytes
+-- one of some words; otherwise Range with the number of the text's bytes
 unfoldable pub word : {A : Type 0} → (List ℕ → Option A) → Located → List ℕ → Answer A
 word meaning t key = do
   text ← required as_str t key

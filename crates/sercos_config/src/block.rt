@@ -45,7 +45,7 @@ pub(crate) fn read_blocks(
     Ok(blocks)
 }
 
-// The data block of a table, behind these blocks of its drive.
+// Returns the data block of a table, after these blocks of its drive.
 #[tactic(auto, unfolding(crate::specs::Block::block_of, sercos_block::specs::Rules::block_fault))]
 fn read_block(keys: &Keys<'_>, before: &[Block]) -> Result<Block, BadDocument>
     ensures value { Gives result (block_of before.now (located keys.now)) }
@@ -122,7 +122,7 @@ pub(crate) fn read_idn(keys: &Keys<'_>, key: &str) -> Result<Idn, BadDocument>
     }
 }
 
-// Whether a built-in block or one of these has the identifier number.
+// Returns whether a built-in block or one of these has the identifier number.
 fn is_taken(idn: Idn, blocks: &[Block]) -> bool
     ensures { result ≡ (is_built_in idn.raw || has_block idn.raw blocks.now) }
 {
@@ -131,7 +131,7 @@ fn is_taken(idn: Idn, blocks: &[Block]) -> bool
     built_in || own
 }
 
-// The attribute whose word stands under its key.
+// Returns the attribute whose word is under its key.
 #[tactic(auto, unfolding(crate::specs::Block::attribute_under))]
 fn read_attribute(keys: &Keys<'_>) -> Result<Attribute, BadDocument>
     ensures { Gives result (attribute_under (located keys.now)) }
@@ -143,7 +143,7 @@ fn read_attribute(keys: &Keys<'_>) -> Result<Attribute, BadDocument>
     }
 }
 
-// The name or unit of at most so many bytes under a key, if the key stands.
+// Returns the name or unit of at most `most` bytes under a key, if the key is present.
 #[tactic(auto, unfolding(crate::specs::Block::text_under))]
 fn read_text(keys: &Keys<'_>, key: &str, most: usize) -> Result<Option<Text>, BadDocument>
     requires { most ≤ 1024 }
@@ -179,7 +179,7 @@ fn read_step(
     Ok(step)
 }
 
-// Whether the block fails.
+// Returns whether the block fails.
 #[tactic(auto, unfolding(crate::specs::Block::fails_under))]
 fn read_fails(keys: &Keys<'_>, attribute: Attribute) -> Result<bool, BadDocument>
     ensures value { Gives result (fails_under attribute (located keys.now)) }

@@ -1,4 +1,4 @@
-// The numbers and lists that a data block's keys give.
+// The numbers and lists of a data block's keys.
 ghost use Rattle.std.specs.Prelude.{◌≡◌, ◌≤◌, ◌<◌, ◌/◌, ◌%◌, ◌==◌, true, false, length, IfOk, IfSome};
 ghost use Rattle.std.specs.Result.{result_ok};
 ghost use Rattle.hex.specs.Hex.{decode_of};
@@ -24,7 +24,7 @@ fn is_signed(form: Form) -> bool
     }
 }
 
-// Whether the number is one of the block.
+// Returns whether the number is one of the block.
 #[tactic(auto, unfolding(crate::specs::Numbers::is_in_range))]
 fn is_in_range(attribute: Attribute, number: i64) -> bool
     ensures { result ≡ is_in_range attribute number }
@@ -52,7 +52,7 @@ fn bits_of(attribute: Attribute, number: i64) -> u32
     }
 }
 
-/// The minimum or maximum under a key, if the key stands.
+/// Returns the minimum or maximum under a key, if the key is present.
 #[tactic(auto, unfolding(crate::specs::Numbers::limit_of))]
 pub(crate) fn read_limit(
     keys: &Keys<'_>,
@@ -85,7 +85,7 @@ fn read_list_max_len(keys: &Keys<'_>, attribute: Attribute) -> Result<u16, BadDo
     Ok(most as u16)
 }
 
-/// The most bytes of a list, and 0 for what is none.
+/// Returns the most bytes of a list; 0 if it is not a list.
 #[tactic(auto, unfolding(crate::specs::Numbers::max_len_of))]
 pub(crate) fn read_max_len(keys: &Keys<'_>, attribute: Attribute) -> Result<u16, BadDocument>
     ensures value { Gives result (max_len_of attribute (located keys.now)) }
@@ -157,7 +157,7 @@ fn read_list_data(keys: &Keys<'_>, most: u16, attribute: Attribute) -> Result<Te
     }
 }
 
-// Whether the operation data of a number or a procedure command can be this number.
+// Returns whether the operation data of a number or a procedure command can be this number.
 #[tactic(auto, unfolding(crate::specs::Numbers::is_data))]
 fn is_data(attribute: Attribute, number: i64) -> bool
     ensures { result ≡ is_data attribute number }

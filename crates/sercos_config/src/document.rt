@@ -22,7 +22,7 @@ use std::alloc::Global;
 use std::marker::Model;
 use toml::Table;
 
-/// What a ring document says. Contracts see the record of its fields, each vector as the list of its items.
+/// The contents of a ring document. Contracts see the record of its fields, each vector as the list of its items.
 #[derive(Drop)]
 pub struct Document {
     /// What the ring is made of. It is a valid one.
@@ -42,13 +42,13 @@ impl Model for Document {
 }
 
 /// Reads a ring document (this profile), which is a TOML text of bytes in UTF-8. The error is its first refusal, or
-/// `Memory`. What is read is a valid ring, jobs that a master of it may be opened with, and faults whose `every` is at
-/// least 1.
+/// `Memory`. The result is a valid ring, jobs that a master of it may be opened with, and faults whose `every` is at least
+/// 1.
 ///
-/// The tables are looked at in this order: the top one, `ring`, each `drive` in turn with its `block` tables right after its
-/// own keys, each `request`, each `fault`. In each, the unknown keys come first, and the least of them in the order of bytes
-/// is named; then each key in the order in which the rules list it, as `Missing`, `Kind`, `Range` or `Twice`. The items of
-/// `at` and `mdt` come after the drive's blocks, and the length of the MDT and `order` after all drives.
+/// The tables are checked in this order: the top one, `ring`, each `drive` in turn with its `block` tables right after its
+/// own keys, each `request`, each `fault`. In each, unknown keys come first, and the least of them in the order of bytes is
+/// named; then each key in the order in which the rules list it, as `Missing`, `Kind`, `Range` or `Twice`. The items of `at`
+/// and `mdt` come after the drive's blocks, and the length of the MDT and `order` after all drives.
 #[tactic(auto, using(crate::proofs::TextLemmas::texts), unfolding(crate::specs::Document::document_of, crate::specs::Document::table_of))]
 pub fn read_ring(alloc: Global, bytes: &[u8]) -> Result<Document, BadDocument>
     ensures value { Gives result (document_of bytes.now) }
@@ -67,7 +67,7 @@ pub fn read_ring(alloc: Global, bytes: &[u8]) -> Result<Document, BadDocument>
     }
 }
 
-// What a document's table says.
+// Returns the contents of a document's table.
 #[tactic(auto, unfolding(crate::specs::Document::document_in))]
 fn read_table(alloc: Global, table: &Table) -> Result<Document, BadDocument>
     ensures value { Gives result (document_in (table_view table.now)) }

@@ -57,7 +57,7 @@ struct DriveNumbers {
     cycle_max: u16,
 }
 
-// The drive of a table, behind these drives.
+// Returns the drive of a table, after these drives.
 #[tactic(auto, unfolding(crate::specs::Drive::drive_of, sercos_block::specs::Rings::is_drive, sercos_block::specs::Rings::has_blocks))]
 fn read_drive(keys: &Keys<'_>, before: &[DriveSetup]) -> Result<DriveSetup, BadDocument>
     ensures value { Gives result (drive_of before.now (located keys.now)) }
@@ -98,7 +98,7 @@ fn read_new_address(keys: &Keys<'_>, before: &[DriveSetup]) -> Result<u8, BadDoc
     Ok(address as u8)
 }
 
-// The numbers of a drive, behind these drives.
+// Returns the numbers of a drive, after these drives.
 #[tactic(auto, unfolding(crate::specs::Drive::drive_numbers_of, sercos_block::specs::Rings::are_drive_numbers))]
 fn read_numbers(keys: &Keys<'_>, before: &[DriveSetup]) -> Result<DriveNumbers, BadDocument>
     ensures value { Gives result (drive_numbers_of before.now (located keys.now)) }
@@ -170,7 +170,8 @@ fn read_times(keys: &Keys<'_>) -> Result<Times, BadDocument>
     })
 }
 
-// The identifier numbers of a list, which can stand in a telegram of a drive with these blocks.
+// Returns the identifier numbers of a list, which a telegram of a drive with these blocks can
+// carry.
 #[tactic(auto, unfolding(crate::specs::Drive::idns_of))]
 fn read_idns(
     keys: &Keys<'_>,
@@ -187,7 +188,7 @@ fn read_idns(
     read_texts(keys, blocks, key, texts.as_slice())
 }
 
-// Those of these texts.
+// Returns the identifier numbers that the texts spell.
 #[tactic(auto, unfolding(crate::specs::Drive::idns_onto, sercos_block::specs::Rings::are_cyclic))]
 fn read_texts(
     keys: &Keys<'_>,
@@ -208,7 +209,7 @@ fn read_texts(
     Ok(idns)
 }
 
-// That of an item.
+// Returns the identifier number that an item spells.
 #[tactic(auto, unfolding(crate::specs::Drive::idn_at, sercos_document::specs::Answers::demand))]
 fn read_item(
     keys: &Keys<'_>,

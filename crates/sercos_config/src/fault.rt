@@ -129,7 +129,7 @@ fn known(
     )
 }
 
-// Refuses the least unknown key, where some of the keys count if they are said to.
+// Refuses the least unknown key; `counts` is whether some of the keys are known.
 #[tactic(auto, unfolding(crate::specs::Fault::keys_if))]
 fn known_if(
     keys: &Keys<'_>,
@@ -321,7 +321,8 @@ fn read_from(keys: &Keys<'_>, drives: &[DriveSetup], telegram: Kind) -> Result<u
     }
 }
 
-// Whether a station hears telegrams of a kind: the master alone an AT, drives alone an MDT.
+// Returns whether a station receives telegrams of a kind: the master alone an AT, drives alone an
+// MDT.
 #[tactic(auto, unfolding(crate::specs::Fault::hears))]
 fn hears(telegram: Kind, station: u8) -> bool
     ensures { result ≡ hears telegram station }

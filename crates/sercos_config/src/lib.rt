@@ -1,4 +1,4 @@
-//! Ring documents: what a TOML text says of a ring, or the first reason to refuse it.
+//! Ring documents: the ring that a TOML text describes, or the first reason to refuse it.
 #![tactic(auto)]
 
 mod block;

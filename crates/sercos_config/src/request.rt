@@ -23,7 +23,7 @@ use sercos_step::{Job, Request};
 use std::alloc::Global;
 use toml::Table;
 
-// What a request asks for.
+// The contents of a request.
 #[derive(Clone, Copy, Debug, PartialEq, Eq)]
 enum RequestKind {
     Read,
@@ -91,7 +91,7 @@ fn known(keys: &Keys<'_>, kind: Option<RequestKind>) -> Result<(), BadDocument>
     known_if(keys, has_element(kind), has_data(kind))
 }
 
-// Refuses the least unknown key, where some of the keys count if they are said to.
+// Refuses the least unknown key; `counts` is whether some of the keys are known.
 #[tactic(auto, unfolding(crate::specs::Request::keys_if))]
 fn known_if(keys: &Keys<'_>, element: bool, bytes: bool) -> Result<(), BadDocument>
     ensures { Gives result (known (located keys.now) (keys_if element bytes)) }

@@ -129,7 +129,7 @@ fn read_turns(
     Ok(order)
 }
 
-// The drive of an address, which doesn't stand among these.
+// Returns the drive of an address, which is not among these.
 #[tactic(auto, unfolding(crate::specs::Ring::turn_of, sercos_document::specs::Answers::demand, sercos_block::specs::Rings::is_turn))]
 fn read_turn(
     keys: &Keys<'_>,

@@ -1,5 +1,5 @@
 -- What is read from a part of a document, or its first refusal. Parts are read one after the other, up to the first that
--- is refused; want of memory is no refusal, and the one answer that is free.
+-- is refused; `AllocError` is not a refusal, and the one answer that is free.
 use Rattle.std.specs.Prelude.{◌≡◌, ◌⊎◌, Bool, true, false, Option, Some, None, Result, Ok, Err}
 use Rattle.sercos_document.specs.declared.refusal.BadDocument.{BadDocument}
 use Rattle.sercos_document.specs.declared.refusal.BadDocument.TheVariants.{Memory}
@@ -18,11 +18,11 @@ abbrev pub ◌>>◌ : {A B : Type 0} → Answer A → Answer B → Answer B
 (Ok x) >> next = next
 (Err e) >> next = Err e
 
--- the refusal is the wanted one, or there was want of memory
+-- the refusal is the wanted one, or no memory was found
 abbrev pub Refuses : BadDocument → BadDocument → Type 0
 Refuses bad wanted = (bad ≡ Memory) ⊎ (bad ≡ wanted)
 
--- the call's answer is the wanted one, or there was want of memory
+-- the call's answer is the wanted one, or no memory was found
 abbrev pub Gives : {A : Type 0} → Result A BadDocument → Answer A → Type 0
 Gives (Ok x) wanted = wanted ≡ Ok x
 Gives (Err bad) wanted = (bad ≡ Memory) ⊎ (wanted ≡ Err bad)
@@ -37,7 +37,7 @@ unfoldable pub demand : Bool → BadDocument → Answer (Unit {0})
 demand true bad = Ok tt
 demand false bad = Err bad
 
--- the value, or this refusal where there is none
+-- the value, or this refusal without one
 abbrev pub or_refused : {A : Type 0} → BadDocument → Option A → Answer A
 or_refused bad (Some x) = Ok x
 or_refused bad None = Err bad

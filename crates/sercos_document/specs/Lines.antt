@@ -11,7 +11,7 @@ path_line head p = concat (head ∷ p ∷ codes "\n" ∷ [])
 unfoldable pub range_line : List ℕ → List ℕ → List ℕ
 range_line p digits = concat (codes "refused 4 range " ∷ p ∷ codes " " ∷ digits ∷ codes "\n" ∷ [])
 
--- want of memory is no refusal, and has no line
+-- `AllocError` is not a refusal, and has no line
 unfoldable pub line_of : BadDocument → List ℕ
 line_of Toml = codes "refused 1 toml\n"
 line_of (Missing p) = path_line (codes "refused 2 missing ") p

@@ -7,23 +7,23 @@ use Rattle.sercos_document.specs.Paths.{path, item_path}
 use Rattle.sercos_document.specs.Answers.{Answer, ◌>>=◌, ◌>>◌, demand, or_refused}
 use Rattle.sercos_document.specs.Tables.{Located, optional, required}
 
--- the tables of a list, behind these; Kind at the list where an item is no table
+-- the tables of a list, after these; Kind at the list if an item is not a table
 unfoldable pub tables_onto : List ℕ → List Members → Items → Answer (List Members)
 tables_onto p done no_items = Ok done
 tables_onto p done (item d rest) = or_refused (bad.Kind p) (as_table d) >>= (λ t. tables_onto p (done ++ t ∷ []) rest)
 
--- the tables, where there are so many; else Range with their number
+-- the tables, if their number is in the range; otherwise Range with their number
 abbrev pub counted : List ℕ → ℕ → ℕ → List Members → Answer (List Members)
 counted p low high ts = demand (nat_le low (length ts) && nat_le (length ts) high) (bad.Range p (pos (length ts))) >> Ok ts
 
--- a required list of so many tables
+-- a required list of tables, their number in a range
 unfoldable pub required_tables : Located → List ℕ → ℕ → ℕ → Answer (List Members)
 required_tables t key low high = do
   items ← required as_array t key
   ts ← tables_onto (path t.place key) [] items
   counted (path t.place key) low high ts
 
--- a list of so many tables, or none where the key is absent
+-- a list of tables, their number in a range, or none if the key is absent
 abbrev pub tables_in : List ℕ → ℕ → ℕ → Option Items → Answer (List Members)
 tables_in p low high None = Ok []
 tables_in p low high (Some items) = tables_onto p [] items >>= counted p low high
@@ -31,7 +31,7 @@ tables_in p low high (Some items) = tables_onto p [] items >>= counted p low hig
 unfoldable pub tables : Located → List ℕ → ℕ → ℕ → Answer (List Members)
 tables t key low high = optional as_array t key >>= tables_in (path t.place key) low high
 
--- the values of one type in a list, behind these; Kind at the first item that has another
+-- the values of one type in a list, after these; Kind at the first item of another type
 unfoldable pub all_onto : {A : Type 0} → (Data → Option A) → Place → List ℕ → List A → Items → Answer (List A)
 all_onto kind place key done no_items = Ok done
 all_onto kind place key done (item d rest) =
@@ -42,7 +42,7 @@ unfoldable pub count_of : Items → ℕ
 count_of no_items = 0
 count_of (item d rest) = 1 + count_of rest
 
--- a list of at most so many values, or an empty one where the key is absent; else Range with their number
+-- a list of at most n values, or an empty one if the key is absent; otherwise Range with their number
 abbrev pub at_most : List ℕ → ℕ → Option Items → Answer Items
 at_most p most None = Ok no_items
 at_most p most (Some items) = demand (nat_le (count_of items) most) (bad.Range p (pos (count_of items))) >> Ok items

@@ -1,4 +1,4 @@
--- Where a table stands in a document, and the paths of its keys: `ring.gap`, `drive[0].block[2].idn`, `ring.order[1]`.
+-- Where a table is in a document, and the paths of its keys: `ring.gap`, `drive[0].block[2].idn`, `ring.order[1]`.
 use Rattle.std.specs.Prelude.{ℕ, List, [], ◌++◌, codes}
 use Rattle.std.specs.Fmt.{decimal}
 use Rattle.sercos_document.specs.declared.path.Place.{Place}
@@ -8,7 +8,7 @@ use Rattle.sercos_document.specs.declared.path.Place.TheVariants.{Top, Ring, Dri
 unfoldable pub listed : List ℕ → ℕ → List ℕ
 listed key place = key ++ codes "[" ++ decimal place ++ codes "]"
 
--- what stands before the keys of a table
+-- the path before the keys of a table
 unfoldable pub before_keys : Place → List ℕ
 before_keys Top = []
 before_keys Ring = codes "ring."

@@ -9,7 +9,7 @@ use Rattle.sercos_document.specs.declared.refusal.BadDocument.TheVariants as bad
 use Rattle.sercos_document.specs.Paths.{path}
 use Rattle.sercos_document.specs.Answers.{Answer, ◌>>=◌, or_refused}
 
--- a table, and where it stands
+-- a table, and where it is
 pub record Located : Type 0 where
   pub place : Place
   pub members : Members
@@ -26,7 +26,7 @@ optional kind t key = typed kind (path t.place key) (get_member key t.members)
 unfoldable pub required : {A : Type 0} → (Data → Option A) → Located → List ℕ → Answer A
 required kind t key = optional kind t key >>= or_refused (bad.Missing (path t.place key))
 
--- a number that isn't below the one nor above the other; else Range with the number
+-- a number from the one to the other; otherwise Range with the number
 unfoldable pub between : List ℕ → ℕ → ℕ → ℤ → Answer ℕ
 between p low high (pos n) = if nat_le low n && nat_le n high then Ok n else Err (bad.Range p (pos n))
 between p low high (negsuc n) = Err (bad.Range p (negsuc n))
@@ -35,7 +35,7 @@ between p low high (negsuc n) = Err (bad.Range p (negsuc n))
 unfoldable pub number : Located → List ℕ → ℕ → ℕ → Answer ℕ
 number t key low high = required as_integer t key >>= between (path t.place key) low high
 
--- a number, or what stands for it where the key is absent
+-- a number, or the default if the key is absent
 abbrev pub between_or : ℕ → List ℕ → ℕ → ℕ → Option ℤ → Answer ℕ
 between_or default p low high None = Ok default
 between_or default p low high (Some z) = between p low high z
@@ -43,7 +43,7 @@ between_or default p low high (Some z) = between p low high z
 unfoldable pub number_or : Located → List ℕ → ℕ → ℕ → ℕ → Answer ℕ
 number_or t key low high default = optional as_integer t key >>= between_or default (path t.place key) low high
 
--- a boolean, or what stands for it where the key is absent
+-- a boolean, or the default if the key is absent
 unfoldable pub boolean_or : Located → List ℕ → Bool → Answer Bool
 boolean_or t key default = optional as_bool t key >>= (λ truth. Ok (unwrap_or truth default))
 
@@ -67,6 +67,6 @@ abbrev pub refuse_unknown : Place → Option (List ℕ) → Answer (Unit {0})
 refuse_unknown place None = Ok tt
 refuse_unknown place (Some key) = Err (bad.Unknown (path place key))
 
--- the keys of a table are among these; else the least of the others is refused
+-- the keys of a table are among these; otherwise the least of the others is refused
 unfoldable pub known : Located → List (List ℕ) → Answer (Unit {0})
 known t keys = refuse_unknown t.place (least_unknown keys t.members)

@@ -15,13 +15,13 @@ use crate::refusal::BadDocument;
 use std::alloc::Global;
 use toml::{Table, Value};
 
-/// A table of a document, and where it stands. Each call answers a value or the refusal that the document's rules give;
-/// want of memory is the one other answer.
+/// A table of a document, and where it is. Each call returns a value or the refusal by the document's rules; the one
+/// other error is `AllocError`.
 #[derive(Clone, Copy)]
 pub struct Keys<'a> {
     /// What takes memory for lists, and for the paths of refusals.
     pub alloc: Global,
-    /// Where the table stands.
+    /// Where the table is.
     pub place: Place,
     /// The table.
     pub table: &'a Table,
@@ -60,7 +60,7 @@ impl<'a> Keys<'a> {
         }
     }
 
-    /// The refusal of a value that isn't allowed.
+    /// Returns the refusal of a value that isn't allowed.
     pub fn range(&self, key: &str, value: i64) -> BadDocument
         ensures { Refuses result (BadDocument.Range (path self.now.place key.now) value) }
     {
@@ -70,7 +70,7 @@ impl<'a> Keys<'a> {
         }
     }
 
-    /// The refusal of a list's item that isn't allowed.
+    /// Returns the refusal of a list's item that isn't allowed.
     pub fn item_range(&self, key: &str, item: usize, value: i64) -> BadDocument
         ensures { Refuses result (BadDocument.Range (item_path self.now.place key.now item) value) }
     {
@@ -80,7 +80,7 @@ impl<'a> Keys<'a> {
         }
     }
 
-    // The refusal of a value that stands twice.
+    // Returns the refusal of a value that occurs twice.
     fn twice(&self, key: &str) -> BadDocument
         ensures { Refuses result (BadDocument.Twice (path self.now.place key.now)) }
     {
@@ -90,7 +90,7 @@ impl<'a> Keys<'a> {
         }
     }
 
-    /// The refusal of a list's item that stands twice.
+    /// Returns the refusal of a list's item that occurs twice.
     pub fn item_twice(&self, key: &str, item: usize) -> BadDocument
         ensures { Refuses result (BadDocument.Twice (item_path self.now.place key.now item)) }
     {
@@ -123,7 +123,7 @@ impl<'a> Keys<'a> {
         }
     }
 
-    /// Refuses the value under a key, unless it stands once.
+    /// Refuses the value under a key unless it occurs once.
     #[tactic(auto, unfolding(crate::specs::Answers::demand))]
     pub fn demand_once(&self, once: bool, key: &str) -> Result<(), BadDocument>
         ensures value { Gives result (demand once (BadDocument.Twice (path self.now.place key.now))) }
@@ -132,14 +132,14 @@ impl<'a> Keys<'a> {
         if once { Ok(()) } else { Err(self.twice(key)) }
     }
 
-    /// The value under a key, if the key stands.
+    /// Returns the value under a key, if the key is present.
     pub fn value(&self, key: &str) -> Option<&'a Value>
         ensures { option_map (λ v. view v.now) result ≡ get_member key.now (located self.now).members }
     {
         self.table.get(key)
     }
 
-    /// The whole number under a key, if the key stands; else `Kind`.
+    /// Returns the whole number under a key, if the key is present. The error is `Kind`.
     #[tactic(auto, unfolding(crate::specs::Tables::optional))]
     pub fn integer(&self, key: &str) -> Result<Option<i64>, BadDocument>
         ensures { Gives result (optional as_integer (located self.now) key.now) }
@@ -153,7 +153,7 @@ impl<'a> Keys<'a> {
         }
     }
 
-    /// The whole number under a key; else `Missing` or `Kind`.
+    /// Returns the whole number under a key. The error is `Missing` or `Kind`.
     #[tactic(auto, unfolding(crate::specs::Tables::required))]
     pub fn required_integer(&self, key: &str) -> Result<i64, BadDocument>
         ensures { Gives result (required as_integer (located self.now) key.now) }
@@ -176,7 +176,7 @@ impl<'a> Keys<'a> {
         }
     }
 
-    /// The number under a key, from `low` to `high`; else `Missing`, `Kind` or `Range`.
+    /// Returns the number under a key, from `low` to `high`. The error is `Missing`, `Kind` or `Range`.
     #[tactic(auto, unfolding(crate::specs::Tables::number))]
     pub fn number(&self, key: &str, low: u32, high: u32) -> Result<u32, BadDocument>
         ensures value { Gives result (number (located self.now) key.now low high) }
@@ -186,7 +186,8 @@ impl<'a> Keys<'a> {
         self.between(key, low, high, number)
     }
 
-    /// The number under a key, from `low` to `high`, or the default where the key is absent; else `Kind` or `Range`.
+    /// Returns the number under a key, from `low` to `high`, or the default if the key is absent. The error is `Kind`
+    /// or `Range`.
     #[tactic(auto, unfolding(crate::specs::Tables::number_or))]
     pub fn number_or(
         &self,
@@ -206,7 +207,7 @@ impl<'a> Keys<'a> {
         }
     }
 
-    /// The boolean under a key, or the default where the key is absent; else `Kind`.
+    /// Returns the boolean under a key, or the default if the key is absent. The error is `Kind`.
     #[tactic(auto, unfolding(crate::specs::Tables::optional, crate::specs::Tables::boolean_or))]
     pub fn boolean_or(&self, key: &str, default: bool) -> Result<bool, BadDocument>
         ensures { Gives result (boolean_or (located self.now) key.now default) }
@@ -220,7 +221,7 @@ impl<'a> Keys<'a> {
         }
     }
 
-    /// The text under a key, if the key stands; else `Kind`.
+    /// Returns the text under a key, if the key is present. The error is `Kind`.
     #[tactic(auto, unfolding(crate::specs::Tables::optional))]
     pub fn text(&self, key: &str) -> Result<Option<&'a str>, BadDocument>
         ensures { Shows option_copied result (optional as_str (located self.now) key.now) }
@@ -234,7 +235,7 @@ impl<'a> Keys<'a> {
         }
     }
 
-    /// The text under a key; else `Missing` or `Kind`.
+    /// Returns the text under a key. The error is `Missing` or `Kind`.
     #[tactic(auto, unfolding(crate::specs::Tables::required))]
     pub fn required_text(&self, key: &str) -> Result<&'a str, BadDocument>
         ensures { Shows (λ t. t.now) result (required as_str (located self.now) key.now) }
@@ -245,7 +246,7 @@ impl<'a> Keys<'a> {
         }
     }
 
-    /// The table under a key; else `Missing` or `Kind`.
+    /// Returns the table under a key. The error is `Missing` or `Kind`.
     #[tactic(auto, unfolding(crate::specs::Tables::optional, crate::specs::Tables::required))]
     pub fn required_table(&self, key: &str) -> Result<&'a Table, BadDocument>
         ensures { Shows (λ t. table_view t.now) result (required as_table (located self.now) key.now) }
@@ -287,7 +288,7 @@ fn first_unknown<'t>(table: &'t Table, keys: &[&str]) -> Option<&'t String>
     table.keys().find(|key| !is_among(key.as_str(), keys))
 }
 
-// Whether the key is one of these.
+// Returns whether the key is one of these.
 #[tactic(auto, unfolding(crate::specs::Tables::is_among))]
 fn is_among(key: &str, keys: &[&str]) -> bool
     ensures { result ≡ is_among key.now (map (λ k. k.now) keys.now) }

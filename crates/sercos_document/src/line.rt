@@ -8,8 +8,8 @@ use crate::refusal::BadDocument;
 use itoa::Buffer;
 use sercos_io::{Sink, WriteFailed, write_all, write_pieces};
 
-/// Writes the line of a refusal to a sink, with its line feed: `refused 4 range ring.gap 1001`. Want of memory is no
-/// refusal. After an error the sink has taken a prefix of the line.
+/// Writes the line of a refusal to a sink, with its line feed: `refused 4 range ring.gap 1001`. `AllocError` is not
+/// a refusal. After an error the sink has accepted a prefix of the line.
 #[tactic(auto, unfolding(crate::specs::Lines::line_of))]
 pub fn write_refusal<K: Sink>(bad: &BadDocument, sink: &mut K) -> Result<(), WriteFailed>
     requires { bad.now ≢ BadDocument.Memory }

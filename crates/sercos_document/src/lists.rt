@@ -15,7 +15,7 @@ use toml::{Table, Value};
 impl<'a> Keys<'a> {
     ghost use Rattle.sercos_document.specs.Located.{located};
 
-    /// The list under a key, if the key stands; else `Kind`.
+    /// Returns the list under a key, if the key is present. The error is `Kind`.
     #[tactic(auto, unfolding(crate::specs::Tables::optional))]
     pub fn list(&self, key: &str) -> Result<Option<&'a Array>, BadDocument>
         ensures { Shows (option_map (λ v. array_view v.now)) result (optional as_array (located self.now) key.now) }
@@ -45,7 +45,7 @@ impl<'a> Keys<'a> {
         Ok(tables)
     }
 
-    // The tables, where there are so many.
+    // Returns the tables if their number is in the range.
     fn counted(
         &self,
         key: &str,
@@ -66,8 +66,8 @@ impl<'a> Keys<'a> {
         Ok(tables)
     }
 
-    /// The list of `low` to `high` tables under a key. Else `Missing`; `Kind` at the list, where it or an item has another
-    /// type; `Range` with the number of tables.
+    /// Returns the list of `low` to `high` tables under a key. The error is `Missing`; `Kind` at the list, if it or an
+    /// item has another type; `Range` with the number of tables.
     #[tactic(auto, unfolding(crate::specs::Tables::required, crate::specs::Lists::required_tables))]
     pub fn required_tables(
         &self,
@@ -105,8 +105,8 @@ impl<'a> Keys<'a> {
         }
     }
 
-    /// The list of at most so many values under a key, or an empty one where the key is absent; else `Kind`, or `Range`
-    /// with the number of values.
+    /// Returns the list of at most `most` values under a key, or an empty one if the key is absent. The error is `Kind`,
+    /// or `Range` with the number of values.
     #[tactic(auto, using(crate::proofs::Items::items_count), unfolding(crate::specs::Lists::short_list))]
     pub fn short_list(&self, key: &str, most: usize) -> Result<&'a [Value], BadDocument>
         ensures value { Shows (λ v. items_view v.now) result (short_list (located self.now) key.now most) }
@@ -122,7 +122,7 @@ impl<'a> Keys<'a> {
         }
     }
 
-    /// The texts of the list under a key; else `Kind` at the first item that is none.
+    /// Returns the texts of the list under a key. The error is `Kind` at the first item that is not a text.
     #[tactic(auto, unfolding(crate::specs::Lists::all_onto))]
     pub fn texts(&self, key: &str, list: &'a [Value]) -> Result<Vec<&'a str>, BadDocument>
         ensures value { Shows (λ v. map (λ t. t.now) v.items) result
@@ -139,7 +139,8 @@ impl<'a> Keys<'a> {
         Ok(texts)
     }
 
-    /// The whole numbers of the list under a key; else `Kind` at the first item that is none.
+    /// Returns the whole numbers of the list under a key. The error is `Kind` at the first item that is not a whole
+    /// number.
     #[tactic(auto, unfolding(crate::specs::Lists::all_onto))]
     pub fn numbers(&self, key: &str, list: &[Value]) -> Result<Vec<i64>, BadDocument>
         ensures { Shows (λ v. v.items) result (all_onto as_integer self.now.place key.now [] (items_view list.now)) }

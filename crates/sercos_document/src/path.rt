@@ -5,7 +5,7 @@ ghost use Rattle.sercos_document.specs.Paths.{listed, before_keys, path, item_pa
 use std::alloc::{AllocError, Global};
 use std::marker::Model;
 
-/// Where a table stands in a document. Places in lists are counted from 0.
+/// Where a table is in a document. Places in lists are counted from 0.
 #[derive(Clone, Copy, Debug, PartialEq, Eq)]
 pub enum Place {
     /// The document itself.
@@ -22,7 +22,7 @@ pub enum Place {
     Fault(usize),
 }
 
-/// The path to a key of a document, or to an item of its list: `drive[0].block[2].idn`, `ring.order[1]`. Keys stand in it
+/// The path to a key of a document, or to an item of its list: `drive[0].block[2].idn`, `ring.order[1]`. Keys are in it
 /// as they are. Contracts see the list of its bytes.
 #[derive(Drop)]
 pub struct Path {
@@ -38,14 +38,14 @@ impl Model for Path {
 }
 
 impl Path {
-    /// The bytes of the path.
+    /// Returns the bytes of the path.
     pub fn as_slice(&self) -> &[u8]
         ensures { result.now ≡ self.now }
     {
         self.text.as_bytes()
     }
 
-    /// The path of a key in the table at a place. The error is want of memory.
+    /// Returns the path of a key in the table at a place. The error is `AllocError`.
     #[tactic(auto, unfolding(crate::specs::Paths::path))]
     pub(crate) fn to_key(alloc: Global, place: Place, key: &str) -> Result<Path, AllocError>
         ensures { IfOk result (λ p. p ≡ path place key.now) }
@@ -56,7 +56,7 @@ impl Path {
         Ok(Path { text })
     }
 
-    /// The path of an item in the list under a key. The error is want of memory.
+    /// Returns the path of an item in the list under a key. The error is `AllocError`.
     #[tactic(auto, unfolding(crate::specs::Paths::item_path))]
     pub(crate) fn to_item(
         alloc: Global,
@@ -73,7 +73,7 @@ impl Path {
     }
 }
 
-// Appends what stands before the keys of the table at a place.
+// Appends the path before the keys of the table at a place.
 #[tactic(auto, unfolding(crate::specs::Paths::before_keys))]
 fn push_place(text: &mut String, place: Place) -> Result<(), AllocError>
     ensures { OnOk result (string_bytes text.new ≡ string_bytes text.old ++ before_keys place) }

@@ -4,20 +4,20 @@ ghost use Rattle.std.specs.Prelude.{◌≡◌};
 use crate::path::Path;
 use std::alloc::AllocFailed;
 
-/// The first reason for which a document is refused, with the path of the key; or want of memory.
+/// The first reason for which a document is refused, with the path of the key; or `AllocError`.
 #[derive(Drop)]
 pub enum BadDocument {
     /// The bytes are no TOML document.
     Toml,
     /// A required key is absent.
     Missing(Path),
-    /// A value has another of TOML's types than its key asks for. Of a list, the path is that of the item, or that of the
-    /// list where its items are tables.
+    /// A value has another of TOML's types than its key requires. For a list, the path is that of the item, or that of the
+    /// list if its items are tables.
     Kind(Path),
-    /// A value isn't allowed. The number is the value itself; of a text or a list that of its bytes or items; of a text that
-    /// spells an identifier number which can't stand there, the raw number; of a boolean 1.
+    /// A value isn't allowed. The number is the value itself; for a text or a list that of its bytes or items; for a text
+    /// that spells an identifier number which isn't allowed there, the raw number; for a boolean 1.
     Range(Path, i64),
-    /// A value stands for the second time where it may stand once.
+    /// A value occurs for the second time, and may occur once.
     Twice(Path),
     /// A key has no meaning in its table.
     Unknown(Path),

@@ -16,9 +16,9 @@ has_passed d rate cycle phase past =
     nat_le phase 2
     || (if phase == 3 then is_passed rate d.command 127 (calls_in past) cycle else is_passed rate d.command 128 (calls_in past) cycle)
 
--- The phase in which the drive stands after the MST's place of a cycle. If an MST commands its phase, it stays; if the MST commands
--- the next phase and its check is passed, it rises; any other MST takes it to 0. Without an MST it stays, but the second time in
--- a row it goes to 0.
+-- The phase of the drive after the MST's place of a cycle. If an MST commands its phase, it stays; if the MST commands the next
+-- phase and its check is passed, it rises; any other MST takes it to 0. Without an MST it stays, but the second time in a row it
+-- goes to 0.
 abbrev pub stands_in : DriveView → ℕ → ℕ → Option ℕ → List Moment → ℕ
 stands_in d rate cycle None past = if has_mst past then phase_in past else 0
 stands_in d rate cycle (Some phase) past =

@@ -44,7 +44,7 @@ record_in mdt_len position len content =
 unfoldable pub joint_in : List Block → List ℕ → Option Told
 joint_in blocks content = record_in (number_at blocks 10) (number_at blocks 9) (carried_len blocks 24) content
 
--- what the drive gets at the MDT's place, in the phase in which it stands
+-- what the drive gets at the MDT's place, in its phase
 abbrev pub mdt_got : ℕ → ℕ → List Block → Option (List ℕ) → Option Told
 mdt_got address phase blocks None = None
 mdt_got address phase blocks (Some content) = if nat_le 3 phase then joint_in blocks content else single_in address content

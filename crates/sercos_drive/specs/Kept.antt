@@ -1,4 +1,4 @@
--- What a drive keeps of the calls so far, and for which calls it stands.
+-- What a drive keeps of the calls so far, and the calls that it stands for. For proofs alone.
 use Rattle.std.specs.Prelude.{◌≡◌, ℕ, ◌^◌, ◌-◌, ◌≤◌, Bool, List, length, min}
 use Rattle.sercos_block.specs.declared.block.Block.{Block}
 use Rattle.sercos_block.specs.Views.{DriveView}
@@ -24,7 +24,7 @@ pub record DriveState : Type 0 where
   pub blocks : List Block
   pub slot : Slot
 
--- a count of 32 bits stands still at its end
+-- a count of 32 bits stops at its end
 abbrev pub counted : ℕ → ℕ
 counted n = min n (2 ^ 32 - 1)
 
@@ -40,7 +40,7 @@ pub record KeepsMoments (v : DriveState) (d : DriveView) (rate : ℕ) (past : Li
   pub channel_is : ChannelStandsFor v.channel d.busy (taken_in past)
   pub commands_is : v.commands ≡ commands_in d rate past
   pub blocks_is : v.blocks ≡ blocks_in d past
-  -- what was read of the blocks is what they say
+  -- what was read of the blocks is what they contain
   pub slot_is : v.slot ≡ slot_of v.blocks
   pub calls_are : CommandsStandFor v.commands rate d.command (calls_in past)
   -- no call on the procedure commands was for a later cycle

@@ -7,8 +7,8 @@ use Rattle.sercos_drive.specs.Heard.{DriveCall}
 use Rattle.sercos_drive.specs.Moments.{Moment, AtMst, AtMdt, AtRestart, phase_in, cycle_in, taken_in, blocks_in, commands_in}
 use Rattle.sercos_drive.specs.Annals.{annals, phase_at}
 
--- A record was processed in the cycle of the newest MST's place and in the phase in which the drive stood, with the data blocks
--- and the procedure commands as they were.
+-- A record was processed in the cycle of the newest MST's place and in the phase of the drive, with the data blocks and the
+-- procedure commands as they were.
 pub record WasHanded (d : DriveView) (rate : ℕ) (t : Taken) (past : List Moment) : Type 0 where
   pub cycle_is : t.cycle ≡ cycle_in past
   pub phase_is : t.phase ≡ phase_in past

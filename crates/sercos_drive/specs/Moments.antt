@@ -8,14 +8,14 @@ use Rattle.sercos_command.specs.Calls.{Call, Reset}
 use Rattle.sercos_service_drive.specs.Log.{Taken}
 use Rattle.sercos_service_drive.specs.Writes.{Write, with_added, added_on, blocks_with, commands_with, calls_with}
 
--- At the MST's place of a cycle: whether the MST was got, and the phase in which the drive then stands. At the MDT's place:
--- whether an MDT was taken, its record if it was processed, and the phase afterwards. A restart.
+-- At the MST's place of a cycle: whether the MST was got, and the drive's phase after it. At the MDT's place: whether an
+-- MDT was taken, its record if it was processed, and the phase afterwards. A restart.
 pub data Moment : Type 0 where
   AtMst : (cycle : ℕ) (got : Bool) (phase : ℕ) → Moment
   AtMdt : (took : Bool) (processed : Option Taken) (phase : ℕ) → Moment
   AtRestart : Moment
 
--- the phase in which the drive stands; before the first cycle it is 0
+-- the phase of the drive; before the first cycle it is 0
 abbrev pub phase_in : List Moment → ℕ
 phase_in [] = 0
 phase_in (AtMst cycle got phase ∷ past) = phase

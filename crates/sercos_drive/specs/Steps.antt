@@ -17,7 +17,7 @@ goes_to v cycle (Some phase) =
     if phase == v.phase then phase
     else (if (phase == v.phase + 1) && (nat_le phase 2 || (if phase == 3 then is_from v.commands.passed_127 cycle else is_from v.commands.passed_128 cycle)) then phase else 0)
 
--- From now on the drive stands in this phase.
+-- From now on the drive is in this phase.
 pub record IsEntered (v w : DriveState) (phase : ℕ) : Type 0 where
   pub same : w ≡ record v { phase = phase; commands = reset_in phase v.commands; channel = w.channel }
   pub channel : (busy : ℕ) (h : List Taken) → ChannelStandsFor v.channel busy h → ChannelStandsFor w.channel busy (in_phase phase h)

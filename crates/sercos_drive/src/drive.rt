@@ -29,9 +29,9 @@ use sercos_timing::limits::EARLY_AT;
 use std::alloc::{AllocError, Global};
 use std::marker::Model;
 
-/// A drive of a ring (IEC 61491:1995; the rules of its falls and of the checks are this profile's). It stands for the calls
-/// of [`hear_mst`](Drive::hear_mst), [`hear_mdt`](Drive::hear_mdt) and [`restart`](Drive::restart) since it was opened, and
-/// each call speaks of every such list of calls.
+/// A drive of a ring (IEC 61491:1995; the rules of its falls and of the checks are this profile's). It stands for the calls of
+/// [`hear_mst`](Drive::hear_mst), [`hear_mdt`](Drive::hear_mdt) and [`restart`](Drive::restart) since it was opened, and each
+/// call holds for every such list of calls.
 ///
 /// In each cycle `hear_mst` comes first, then [`at`](Drive::at), then `hear_mdt`; `restart` comes between two cycles. After
 /// opening no call takes memory.
@@ -116,7 +116,7 @@ impl Drive {
         })
     }
 
-    // Whether the check for a rise to this phase is passed in a cycle.
+    // Returns whether the check for a rise to this phase is passed in a cycle.
     fn has_passed(&self, cycle: u32, phase: u8) -> bool
         ensures { result ≡ (nat_le phase 2 || (if phase == 3 then is_from self.now.commands.passed_127 cycle else is_from self.now.commands.passed_128 cycle)) }
     {
@@ -128,7 +128,7 @@ impl Drive {
             }
     }
 
-    // The phase in which the drive stands after the MST's place of a cycle, with the phase that the MST commands, if one was got.
+    // Returns the phase of the drive after the MST's place of a cycle, with the phase that the MST commands, if one was got.
     fn stands_in(&self, cycle: u32, commanded: Option<u8>) -> u8
         requires { IfSome commanded (λ phase. phase ≤ 4) }
         ensures value { result ≡ goes_to self.now cycle commanded }
@@ -160,7 +160,7 @@ impl Drive {
         }
     }
 
-    // Ends the MST's place of a cycle: whether the MST was got, and the phase in which the drive then stands.
+    // Ends the MST's place of a cycle: whether the MST was got, and the phase after it.
     fn begin(&mut self, cycle: u32, got: bool, phase: u8)
         requires { phase ≤ 4 }
         ensures { IsEntered (record self.old { cycle = cycle; got = got }) self.new phase }
@@ -170,9 +170,9 @@ impl Drive {
         self.enter(phase);
     }
 
-    /// Hears what arrived at the MST's place of a cycle, the content of a frame if there was one, and moves the phase: the
-    /// drive stays in the commanded phase, rises to it by one (to 3 and 4 only with the check passed), or goes to 0. Without
-    /// an MST it stays, and goes to 0 at the second one in a row. The cycle isn't below that of an earlier call.
+    /// Processes what arrived at the MST's place of a cycle, the content of a frame if there was one, and moves the phase: the
+    /// drive stays in the commanded phase, rises to it by one (to 3 and 4 only with the check passed), or goes to 0. Without an
+    /// MST it stays, and goes to 0 at the second one in a row. The cycle isn't below that of an earlier call.
     pub fn hear_mst(&mut self, cycle: u32, content: Option<&[u8]>)
         ensures { (d : DriveView) (rate : ℕ) (h : List DriveCall) → DriveStandsFor self.old d rate h → cycle_at d rate h ≤ cycle →
             DriveStandsFor self.new d rate (Mst cycle (option_copied content.entry) ∷ h) }
@@ -206,7 +206,7 @@ impl Drive {
         }
     }
 
-    // Whether an AT is sent.
+    // Returns whether an AT is sent.
     fn sends(&self) -> bool
         ensures { result ≡ (self.now.got && (nat_le 3 self.now.phase || (nat_le 1 self.now.phase && self.now.took))) }
     {
@@ -251,7 +251,7 @@ impl Drive {
         mdt_got(self.address, self.phase, &self.slot, content)
     }
 
-    // Whether an MDT is taken, if one was got.
+    // Returns whether an MDT is taken, if one was got.
     fn takes(&self, told: Option<Told>) -> bool
         ensures { result ≡ (self.now.got && (nat_le 1 self.now.phase && is_some told)) }
     {
@@ -285,14 +285,14 @@ impl Drive {
         self.count(added);
     }
 
-    // Whether a record is processed.
+    // Returns whether a record is processed.
     fn processes(&self) -> bool
         ensures { result ≡ (self.now.got && nat_le 2 self.now.phase) }
     {
         self.got && 2 <= self.phase
     }
 
-    // The same for the record of an MDT, if there is one that is to be processed.
+    // Notes the MDT's place with the record of an MDT, if there is one that is to be processed.
     fn process_if(&mut self, told: Option<Told>)
         ensures { (busy : ℕ) (h : List Taken) → ChannelStandsFor self.old.channel busy h → AreThose self.old.blocks h →
             IsProcessed self.old self.new busy (processed_by self.old told) h }
@@ -316,15 +316,15 @@ impl Drive {
         self.enter(phase);
     }
 
-    /// Hears what arrived at the MDT's place of this cycle, the content of a frame if there was one. An MDT is taken if this
+    /// Processes what arrived at the MDT's place of this cycle, the content of a frame if there was one. An MDT is taken if this
     /// cycle's MST was got and the phase isn't 0: in phases 1 and 2 the MDT to its address, in phases 3 and 4 its record at
-    /// S-0-0009. From phase 2 on the record goes to the service channel. After two cycles in a row of phases 3 and 4 without
-    /// a taken MDT the drive goes to phase 0.
+    /// S-0-0009. From phase 2 on the record goes to the service channel. After two cycles in a row of phases 3 and 4 without a
+    /// taken MDT the drive goes to phase 0.
     pub fn hear_mdt(&mut self, content: Option<&[u8]>)
         ensures { (d : DriveView) (rate : ℕ) (h : List DriveCall) → DriveStandsFor self.old d rate h →
             DriveStandsFor self.new d rate (Mdt (option_copied content.entry) ∷ h) }
     {
-        // what was written so far has left the blocks alike, as the channel asks
+        // what was written so far has left the blocks alike, as the channel requires
         writes_law();
         let told = self.told(content);
         let took = self.takes(told);
@@ -343,8 +343,8 @@ impl Drive {
         self.enter(0);
     }
 
-    /// Returns the communication phase, 0 to 4: after `hear_mst` the one in which the drive stands in this cycle, after
-    /// `hear_mdt` the one with which the next cycle begins.
+    /// Returns the communication phase, 0 to 4: after `hear_mst` that of this cycle, after `hear_mdt` the one with which the next
+    /// cycle begins.
     pub fn phase(&self) -> u8
         ensures stands { (d : DriveView) (rate : ℕ) (h : List DriveCall) → DriveStandsFor self.now d rate h → result ≡ phase_at d rate h }
         ensures bound { result ≤ 4 }
@@ -359,8 +359,8 @@ impl Drive {
         &self.store
     }
 
-    /// Returns how many writes of operation data took effect since the drive was opened, those to procedure commands among
-    /// them; at most 2^32 - 1, where the count stands still.
+    /// Returns how many writes of operation data took effect since the drive was opened, those to procedure commands among them;
+    /// at most 2^32 - 1, where the count stops.
     pub fn writes(&self) -> u32
         ensures { (d : DriveView) (rate : ℕ) (h : List DriveCall) → DriveStandsFor self.now d rate h → result ≡ counted (length (writes_at d rate h)) }
     {

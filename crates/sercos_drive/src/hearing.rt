@@ -8,7 +8,7 @@ ghost use Rattle.sercos_drive.specs.Heard.{mst_in, mst_got, single_in, lies_with
 use crate::slot::Slot;
 use sercos_telegram::{Control, read_joint, read_mst, read_single};
 
-/// What an MDT tells the drive.
+/// What the drive reads of an MDT.
 #[derive(Clone, Copy, Debug, PartialEq, Eq)]
 pub struct Told {
     /// The control word.
@@ -51,7 +51,7 @@ fn single_in(address: u8, content: &[u8]) -> Option<Told>
     }
 }
 
-// Whether a record of this length lies within an MDT at this position.
+// Returns whether a record of this length lies within an MDT at this position.
 fn lies_within(mdt_len: u16, position: u16, len: u16) -> bool
     ensures { result ≡ lies_within mdt_len position len }
 {
@@ -83,7 +83,7 @@ fn joint_in(slot: &Slot, content: &[u8]) -> Option<Told>
     record_in(slot.mdt_len, slot.position, slot.record_len, content)
 }
 
-// What the drive gets at the MDT's place, in the phase in which it stands.
+// Returns what the drive gets at the MDT's place, in its phase.
 pub(crate) fn mdt_got(address: u8, phase: u8, slot: &Slot, content: Option<&[u8]>) -> Option<Told>
     requires { 4 ≤ slot.now.record_len }
     ensures { (blocks : List Block) → slot.now ≡ slot_of blocks → result ≡ mdt_got address phase blocks (option_copied content.entry) }

@@ -1,4 +1,4 @@
-//! A drive of the ring: its phase, what it takes of the MDTs, what it writes, and what it says.
+//! A drive of the ring: its phase, what it takes of the MDTs, what it writes, and what it sends.
 #![tactic(auto)]
 
 mod drive;

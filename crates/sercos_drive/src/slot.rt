@@ -23,7 +23,7 @@ pub(crate) struct Slot {
     pub feedback: ArrayVec<FeedbackValue, 16>,
 }
 
-/// The slot that the data blocks give.
+/// Returns the slot that the data blocks define.
 pub(crate) fn slot_of(store: &Store) -> Slot
     ensures value { result ≡ slot_of store.now }
     ensures bound { 4 ≤ result.record_len }

@@ -1,11 +1,11 @@
--- What the bits of a byte give a reader.
+-- What the bits of a byte add to a reader.
 use Rattle.std.specs.Prelude.{◌≡◌, ℕ, ◌+◌, ◌-◌, ◌/◌, ◌%◌, ◌==◌, Bool, true, false, cond, List, length, take}
 use Rattle.sercos_model.specs.Bits.{low_bits, number_of}
 use Rattle.sercos_hdlc.specs.declared.given.Given.{Given}
 use Rattle.sercos_hdlc.specs.Reason.{unstuffed}
 use Rattle.sercos_hdlc.specs.Sought.{ones_after, has_six, sixth_at, dropped_after}
 
--- after k ones in a row no sixth one is among the bits, and this is what they give
+-- after k ones in a row the bits contain no sixth one, and add this
 pub record IsGiven (k : ℕ) (bits : List Bool) (given : Given) : Type 0 where
   pub no_six : has_six k bits ≡ false
   pub plain : low_bits given.count given.bits ≡ unstuffed k bits
@@ -17,7 +17,7 @@ pub record IsGiven (k : ℕ) (bits : List Bool) (given : Given) : Type 0 where
 abbrev pub before_sixth : ℕ → List Bool → List Bool
 before_sixth k bits = take (sixth_at k bits) bits
 
--- after k ones in a row a sixth one is among the bits, and this is what those before it give
+-- after k ones in a row the bits contain a sixth one, and those before it add this
 pub record IsEnd (k : ℕ) (bits : List Bool) (given : Given) : Type 0 where
   pub six : has_six k bits ≡ true
   pub plain : low_bits given.count given.bits ≡ unstuffed k (before_sixth k bits)

@@ -1,4 +1,5 @@
--- Why a list of bits is no frame: the first of nine rules that applies. The rules speak of the whole list.
+-- Why a list of bits is not a frame: the first of nine rules that applies. The rules speak of the whole
+-- list.
 use Rattle.std.specs.Prelude.{ℕ, suc, ◌+◌, ◌-◌, ◌/◌, ◌%◌, ◌==◌, nat_lt, nat_le, Bool, true, false, not, ◌||◌, cond, List, [], ◌∷◌, length, take, drop, slice_index_or, Option, Some, None}
 use Rattle.std.specs.Option.{option_or}
 use Rattle.sercos_model.specs.Bits.{number_of, bytes_of}
@@ -26,7 +27,7 @@ unfoldable pub ends_in_five : List Bool → Bool
 ends_in_five [] = false
 ends_in_five (bit ∷ bits) = is_five (bit ∷ bits) || ends_in_five bits
 
--- the least place at which six ones come in a row, or the list's length if they don't occur
+-- the least place at which six ones occur in a row, or the list's length without them
 unfoldable pub six_place : List Bool → ℕ
 six_place [] = 0
 six_place (bit ∷ bits) = cond (begins_with_six (bit ∷ bits)) 0 (suc (six_place bits))
@@ -37,7 +38,7 @@ unstuffed k [] = []
 unstuffed k (true ∷ bits) = true ∷ unstuffed (suc k) bits
 unstuffed k (false ∷ bits) = cond (k == 5) (unstuffed 0 bits) (false ∷ unstuffed 0 bits)
 
--- where the first six ones after the opening flag are, or the list's length if there are none
+-- where the first six ones after the opening flag are, or the list's length without them
 abbrev pub ones_at : List Bool → ℕ
 ones_at bits = 8 + six_place (drop 8 bits)
 

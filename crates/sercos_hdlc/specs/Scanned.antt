@@ -4,7 +4,7 @@ use Rattle.sercos_model.specs.Frames.{flag}
 use Rattle.sercos_hdlc.specs.declared.scan.Scan.{Scan}
 use Rattle.sercos_hdlc.specs.Sought.{agree, IsSought, IsFound}
 
--- the scan has come to the end of the bits, which have given these plain bits
+-- the scan has reached the end of the bits, which spell these plain bits
 pub record IsScan (bits plain : List Bool) (scan : Scan) : Type 0 where
   pub taken_all : scan.taken ≡ length bits
   pub flag_first : scan.agrees ≡ agree bits flag

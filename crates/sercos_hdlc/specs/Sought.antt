@@ -1,4 +1,5 @@
--- How far the search for the closing flag has come: what is known of the bits after the opening flag, whatever bits follow them.
+-- How far the search for the closing flag is: what is known of the bits after the opening flag, regardless of the bits that
+-- follow.
 use Rattle.std.specs.Prelude.{◌≡◌, ℕ, zero, suc, ◌+◌, ◌≤◌, ◌==◌, ◌⊎◌, Bool, true, false, ◌&&◌, ◌||◌, cond, List, [], ◌∷◌, ◌++◌, length, slice_index_or}
 use Rattle.std.specs.Bool.{beq}
 use Rattle.sercos_hdlc.specs.Reason.{six_place, ends_in_five, unstuffed}
@@ -20,32 +21,33 @@ ones_after k [] = k
 ones_after k (true ∷ bits) = ones_after (suc k) bits
 ones_after k (false ∷ bits) = ones_after 0 bits
 
--- whether six ones in a row come
+-- whether six ones occur in a row
 unfoldable pub has_six : ℕ → List Bool → Bool
 has_six k [] = false
 has_six k (true ∷ bits) = (k == 5) || has_six (suc k) bits
 has_six k (false ∷ bits) = has_six 0 bits
 
--- the place of the sixth one in a row, or the number of bits if it doesn't come
+-- the place of the sixth one in a row, or the number of bits without it
 unfoldable pub sixth_at : ℕ → List Bool → ℕ
 sixth_at k [] = 0
 sixth_at k (true ∷ bits) = cond (k == 5) 0 (suc (sixth_at (suc k) bits))
 sixth_at k (false ∷ bits) = suc (sixth_at 0 bits)
 
--- whether the last zero was an inserted one, if no zero comes as it was before
+-- whether the last zero was an inserted one; without a zero, the value from before
 unfoldable pub dropped_after : ℕ → Bool → List Bool → Bool
 dropped_after k dropped [] = dropped
 dropped_after k dropped (true ∷ bits) = dropped_after (suc k) dropped bits
 dropped_after k dropped (false ∷ bits) = dropped_after 0 (k == 5) bits
 
--- The bits end in a zero and k ones. It was dropped if five ones come before it. Before it the plain bits are those of the body.
+-- The bits end in a zero and k ones. The zero was dropped if five ones precede it. The plain bits before it are those of the
+-- body.
 pub record IsBehindZero (bits : List Bool) (k : ℕ) (dropped : Bool) (plain : List Bool) : Type 0 where
   pub body : List Bool
   pub whole : bits ≡ body ++ (false ∷ ones_then k [])
   pub ends : ends_in_five body ≡ dropped
   pub before : plain ≡ unstuffed 0 body ++ (cond dropped [] (false ∷ []) ++ ones_then k [])
 
--- The bits have no six ones in a row. They end in k ones, and give these plain bits.
+-- The bits have no six ones in a row. They end in k ones, and spell these plain bits.
 pub record IsSought (bits : List Bool) (k : ℕ) (dropped : Bool) (plain : List Bool) : Type 0 where
   pub few : k ≤ 5
   pub six : (more : List Bool) → six_place (bits ++ more) + k ≡ length bits + six_place (ones_then k more)
@@ -53,8 +55,8 @@ pub record IsSought (bits : List Bool) (k : ℕ) (dropped : Bool) (plain : List 
   pub ends : (more : List Bool) → ends_in_five (bits ++ more) ≡ ends_in_five (ones_then k more)
   pub last_zero : (length bits ≡ k) ⊎ IsBehindZero bits k dropped plain
 
--- The bits have six ones in a row. Before the sixth of them come the bits `before`, and after it come `more`. The closing flag
--- begins with the bit before the six; its place counts from the first bit of the opening flag.
+-- The bits have six ones in a row, with the bits `before` in front of the sixth one and `more` after it. The closing flag begins
+-- with the bit before the six; its place counts from the first bit of the opening flag.
 pub record IsFound (bits : List Bool) (ones closing : ℕ) (seventh dropped : Bool) (plain : List Bool) : Type 0 where
   pub six : ones ≡ 6
   pub before : List Bool

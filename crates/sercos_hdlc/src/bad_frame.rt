@@ -1,5 +1,5 @@
-/// Why a list of bits is no frame. Where several rules apply, the first of the order NoOpen, NoClose, Abort,
-/// Ragged, Short, Long, Check, After is answered. Places count bits from 0 at the list's first bit.
+/// Why a list of bits is not a frame. If several rules apply, the first of the order NoOpen, NoClose, Abort, Ragged,
+/// Short, Long, Check, After is returned. Places count bits from 0 at the list's first bit.
 #[derive(Clone, Copy, Debug, PartialEq, Eq)]
 pub enum BadFrame {
     /// The list doesn't begin with the flag 01111110.

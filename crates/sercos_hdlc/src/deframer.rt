@@ -23,7 +23,7 @@ const OPENING: u32 = 8;
 
 const FIVE: u8 = 5;
 
-// Returns whether the last zero was an inserted one: as before if no zero came since.
+// Returns whether the last zero was an inserted one; without a new zero, the value from before.
 fn last_zero(is_kept: bool, before: bool, dropped: bool) -> bool
     ensures { result ≡ cond is_kept before dropped }
 {
@@ -38,8 +38,8 @@ fn bit_within(byte: u8, place: u8, len: u8) -> bool
     place < len && (byte >> place) % 2 == 1
 }
 
-/// Reads a frame whose bits come in pieces. The result is that of [`unframe`](crate::unframe) for all pieces together, however
-/// they were cut. It doesn't hold the bits: only counts, at most seven of the last bits, and at most 2050 bytes.
+/// Reads a frame whose bits arrive in pieces. The result is that of [`unframe`](crate::unframe) for all pieces together,
+/// however they were cut. It keeps counts, at most seven of the last bits, and at most 2050 bytes, and not the bits.
 #[derive(Debug, Drop)]
 pub struct Deframer {
     scan: Scan,
@@ -58,7 +58,7 @@ impl Deframer {
         }
     }
 
-    /// How many bits have been taken since it began.
+    /// Returns how many bits have been taken since it began.
     pub fn taken(&self) -> u32
         ensures value { result ≡ taken_of self.now }
         ensures all { (bits : List Bool) → IsFed bits self.now → result ≡ length bits }
@@ -66,7 +66,7 @@ impl Deframer {
         self.scan.taken
     }
 
-    /// Begins anew, whatever was taken.
+    /// Starts over, regardless of the bits so far.
     pub fn restart(&mut self)
         ensures fed { IsFed [] self.new }
         ensures taken { taken_of self.new ≡ 0 }
@@ -371,9 +371,9 @@ impl Deframer {
         answer
     }
 
-    /// Replaces the content by that of the frame whose bits were taken, and returns its number of bytes, as
-    /// [`unframe`](crate::unframe) does for the bits of all pieces together. Where they are no frame of any content, the first
-    /// rule that applies says why (see [`BadFrame`]), and the content is left empty. Then it begins anew.
+    /// Replaces the content by that of the frame that the bits so far are, and returns its number of bytes, as
+    /// [`unframe`](crate::unframe) does for all pieces together. If they are not a frame, the error is the first rule that
+    /// applies (see [`BadFrame`]), and the content is left empty. Then it starts over.
     pub fn finish(&mut self, out: &mut Content) -> Result<usize, BadFrame>
         ensures frame { (bits : List Bool) → IsFed bits self.old → OnOk result (IsFrame out.new bits) }
         ensures only { (bits : List Bool) (content : List ℕ) → IsFed bits self.old → IsFrame content bits

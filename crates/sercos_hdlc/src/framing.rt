@@ -16,7 +16,7 @@ pub struct TooLong;
 // The bits of two flags.
 const FLAGS_BITS: u32 = 16;
 
-// Appends a flag, where there is room for it.
+// Appends a flag if there is room for it.
 fn push_flag(out: &mut BitBuf)
     requires { length out.old + 8 ≤ 19696 }
     ensures { out.new ≡ out.old ++ flag }
@@ -55,9 +55,9 @@ fn write_frame(content: &[u8], out: &mut BitBuf)
     push_flag(out);
 }
 
-/// Replaces the bits by the one frame of a content, from the first bit of its opening flag to the last bit of its closing
-/// flag. `TooLong` exactly above 2048 bytes, and then the bits stay as they were. [`unframe`](crate::unframe) gives the
-/// content back: `ok` says that the bits are its frame, and of a frame of any content `unframe` answers that content.
+/// Replaces the bits by the one frame of a content, from the first bit of its opening flag to the last bit of its closing flag. The
+/// error is `TooLong` iff the content has more than 2048 bytes; then the bits stay as they were. [`unframe`](crate::unframe) returns
+/// the content again: the clause `ok` says that the bits are its frame, and `unframe` returns the content of every frame.
 #[tactic(auto, unfolding(crate::specs::Stuffed::frame_of))]
 pub fn frame(content: &[u8], out: &mut BitBuf) -> Result<(), TooLong>
     requires { 0 < length content.now }
@@ -82,7 +82,7 @@ fn bytes_of_check(register: &Register) -> [u8; 2]
     register.fcs().to_le_bytes()
 }
 
-/// How many bits the frame of a content of 1 to 2048 bytes has, flags and inserted zeros with it.
+/// Returns how many bits the frame of a content of 1 to 2048 bytes has, flags and inserted zeros with it.
 pub fn frame_len(content: &[u8]) -> u32
     requires some { 0 < length content.now }
     requires fits { length content.now ≤ 2048 }
@@ -97,9 +97,9 @@ pub fn frame_len(content: &[u8]) -> u32
     len
 }
 
-/// Laws and no code. Every content of 1 to 2048 bytes has a frame, and one alone, which `frame_of` gives. A frame has no more bits than
-/// `wire_bits` says of its content's length, so each fits a [`BitBuf`]. No frame is a proper prefix of another, and so what
-/// was framed is read again from its own bits alone.
+/// A law, without code. Every content of 1 to 2048 bytes has exactly one frame, `frame_of`. A frame has no more bits than `wire_bits`
+/// of its content's length, so each fits into a [`BitBuf`]. No frame is a proper prefix of another, so a frame is read again from its
+/// own bits alone.
 pub fn framing_law()
     ensures some { (content : List ℕ) → AreBytes content → 0 < length content → length content ≤ 2048
         → (bits : List Bool) × IsFrame content bits }

@@ -3,7 +3,7 @@ ghost use Rattle.sercos_model.specs.Bits.{low_bits};
 ghost use Rattle.sercos_hdlc.specs.Given.{parts_of, given_of, IsGiven, IsEnd};
 ghost use Rattle.sercos_hdlc.specs.Sought.{ones_after, has_six};
 
-/// What eight bits give a reader. If a sixth one is among them, only those before it count.
+/// What eight bits add to a reader. If they contain a sixth one, only those before it count.
 #[derive(Clone, Copy, Debug)]
 pub struct Given {
     /// The plain bits, the first as the least significant.
@@ -13,7 +13,7 @@ pub struct Given {
     /// The ones in a row that the eight bits then end in. If a sixth one is among them: 6, or 7 if a zero before it is an
     /// inserted one.
     pub ones: u8,
-    /// Whether their last zero is an inserted one. It is false if only ones come before the sixth one.
+    /// Whether their last zero is an inserted one; false if only ones precede the sixth one.
     pub dropped: bool,
 }
 
@@ -150,7 +150,7 @@ const GIVEN: [u16; 1536] = [
     0x477a, 0x6000, 0x477b, 0x6000, 0x577c, 0x6000, 0x577d, 0x6000, 0x763e, 0x6000, 0xf51f, 0x6000,
 ];
 
-// By byte, the ones in a row that its bits end in, whatever comes before them; 5 for more.
+// By byte, the ones in a row that its bits end in, regardless of the bits before; 5 for more.
 const ENDING: [u8; 256] = [
     0, 0, 0, 0, 0, 0, 0, 0, 0, 0, 0, 0, 0, 0, 0, 0, 0, 0, 0, 0, 0, 0, 0, 0, 0, 0, 0, 0, 0, 0, 0, 0,
     0, 0, 0, 0, 0, 0, 0, 0, 0, 0, 0, 0, 0, 0, 0, 0, 0, 0, 0, 0, 0, 0, 0, 0, 0, 0, 0, 0, 0, 0, 0, 0,
@@ -179,7 +179,7 @@ fn entry_for(ones: u8, byte: u8) -> u16
     GIVEN[256 * usize::from(ones) + usize::from(byte)]
 }
 
-/// Returns what the eight bits of a byte give after `ones` ones in a row.
+/// Returns what the eight bits of a byte add after `ones` ones in a row.
 pub fn given_by(ones: u8, byte: u8) -> Given
     requires { ones ≤ 5 }
     ensures given { result.ones ≤ 5 → IsGiven ones (low_bits 8 byte) result }

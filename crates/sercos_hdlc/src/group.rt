@@ -5,7 +5,7 @@ ghost use Rattle.sercos_hdlc.specs.Given.{IsGiven};
 use crate::given::{Given, ending, given_by};
 use crate::kept::joined;
 
-/// What the bits of at most seven bytes give a reader, where no sixth one is among them.
+/// What the bits of at most seven bytes add to a reader if they contain no sixth one.
 #[derive(Clone, Copy, Debug)]
 pub struct Group {
     /// How many bytes those are.
@@ -26,7 +26,7 @@ impl Group {
     ghost use Rattle.std.specs.Prelude.{List, []};
     ghost use Rattle.sercos_hdlc.specs.Grouped.{IsGroup};
 
-    // What no bytes give after `ones` ones in a row, with the last zero an inserted one or not.
+    // What no bytes add after `ones` ones in a row, with the last zero an inserted one or not.
     fn none(ones: u8, dropped: bool) -> Group
         requires { ones ≤ 5 }
         ensures group { IsGroup ones dropped [] result }
@@ -42,7 +42,7 @@ impl Group {
         }
     }
 
-    // Adds what one more byte gives.
+    // Adds one more byte.
     #[inline(always)]
     fn add(&mut self, byte: u8, given: Given)
         requires few { self.old.count ≤ 48 }
@@ -62,8 +62,8 @@ impl Group {
         self.ones = ending(byte);
     }
 
-    /// What the bits of bytes give after `ones` ones in a row, with the last zero an inserted one or not: of all bytes, or of
-    /// those before the first that has a sixth one.
+    /// Returns what the bits of bytes add after `ones` ones in a row, with the last zero an inserted one or not: those of all
+    /// bytes, or of the bytes before the first with a sixth one.
     #[inline(always)]
     pub fn after(ones: u8, dropped: bool, bytes: &[u8]) -> Group
         requires few { ones ≤ 5 }

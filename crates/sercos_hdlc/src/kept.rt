@@ -3,7 +3,7 @@ ghost use Rattle.sercos_model.specs.Bits.{low_bits};
 
 use crate::plain_bytes::PlainBytes;
 
-/// The plain bits that a reader has come to: their first whole bytes, at most 2050, and the bits after the last whole byte.
+/// The plain bits that a reader has so far: their first whole bytes, at most 2050, and the bits after the last whole byte.
 #[derive(Debug, Drop)]
 pub struct Kept {
     /// The whole bytes.
@@ -61,7 +61,7 @@ impl Kept {
         self.rest_len = 0;
     }
 
-    /// Appends at most 56 bits, the first of them as the least significant. Bytes are left out if there is no room.
+    /// Appends at most 56 bits, the first of them as the least significant. Bytes beyond the room are left out.
     #[inline(always)]
     pub fn push(&mut self, bits: u64, count: u8)
         requires few { count ≤ 56 }

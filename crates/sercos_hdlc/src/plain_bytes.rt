@@ -38,7 +38,7 @@ fn put_word(room: &mut [u8], place: usize, word: u64)
 }
 
 impl PlainBytes {
-    /// A list of no bytes.
+    /// Returns a list of no bytes.
     pub fn new() -> Self
         ensures { result ≡ [] }
     {
@@ -48,7 +48,7 @@ impl PlainBytes {
         }
     }
 
-    /// How many bytes there are.
+    /// Returns how many bytes there are.
     pub fn len(&self) -> usize
         ensures value { result ≡ length self.now }
         ensures bound { result ≤ 2050 }
@@ -56,7 +56,7 @@ impl PlainBytes {
         self.len
     }
 
-    /// The bytes as a slice.
+    /// Returns the bytes as a slice.
     pub fn as_slice(&self) -> &[u8]
         ensures value { result.now ≡ self.now }
         ensures bound { length result.now ≤ 2050 }

@@ -91,9 +91,9 @@ pub fn read_frame(scan: &Scan, kept: &Kept, out: &mut Content) -> Result<usize, 
     Ok(count)
 }
 
-/// Replaces the content by that of the frame that the bits are, from the first bit of one flag to the last bit of the
-/// next, and answers its number of bytes, 1 to 2048. Where the bits are no frame of any content, the first rule that
-/// applies says why (see [`BadFrame`]), and the content is left empty.
+/// Replaces the content by that of the frame that the bits are, from the first bit of one flag to the last bit of the next, and
+/// returns its number of bytes, 1 to 2048. If the bits are not a frame, the error is the first rule that applies (see
+/// [`BadFrame`]), and the content is left empty.
 pub fn unframe(bits: &BitBuf, out: &mut Content) -> Result<usize, BadFrame>
     ensures frame { OnOk result (IsFrame out.new bits.now) }
     ensures only { (content : List ℕ) → IsFrame content bits.now
@@ -103,14 +103,14 @@ pub fn unframe(bits: &BitBuf, out: &mut Content) -> Result<usize, BadFrame>
     ensures reason { result_err result ≡ reason_of bits.now }
     ensures empty { OnErr result (out.new ≡ []) }
 {
-    // Its length says that there is room for all bits.
+    // Its length implies that there is room for all bits.
     let _len = bits.len();
     let mut deframer = Deframer::new();
     deframer.feed(bits);
     deframer.finish(out)
 }
 
-/// A law and no code: no rule applies exactly where the bits are a frame, and that of one content alone.
+/// A law, without code: no rule applies iff the bits are a frame, and they are that of one content alone.
 pub fn frame_law()
     ensures frame { (bits : List Bool) → reason_of bits ≡ None
         → IsFrame (content_of (plain bits)) bits }

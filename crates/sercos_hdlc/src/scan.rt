@@ -4,7 +4,7 @@ ghost use Rattle.std.specs.Result.{result_err};
 use crate::bad_frame::BadFrame;
 use crate::flags::{FLAG, FLAG_BYTE};
 
-/// How far a reader has come: all that it knows of the bits taken, but for the plain bits themselves.
+/// How far a reader is: all that it knows of the bits so far, except the plain bits themselves.
 #[derive(Clone, Copy, Debug)]
 pub struct Scan {
     /// The bits taken.
@@ -70,7 +70,7 @@ impl Scan {
         self.taken = 8;
     }
 
-    /// Takes a plain bit: fewer than five ones come before it.
+    /// Adds a plain bit: fewer than five ones precede it.
     pub fn take_plain(&mut self, bit: bool)
         requires fits { self.old.taken < 2147483648 }
         requires behind { 8 ≤ self.old.taken }
@@ -129,7 +129,7 @@ impl Scan {
         self.taken += len;
     }
 
-    /// Takes bits in which no sixth one comes, `len` of them, of which `count` are plain.
+    /// Adds `len` bits without a sixth one, of which `count` are plain.
     #[inline(always)]
     pub fn take_clear(&mut self, ones: u8, dropped: bool, count: u8, len: u32)
         requires fits { self.old.taken + len ≤ 2147483648 }
@@ -150,8 +150,8 @@ impl Scan {
         self.taken += len;
     }
 
-    /// Takes bits, `len` of them, with the sixth one at `place`. Of those before it `count` are plain, and `seventh` says whether
-    /// a one comes after it.
+    /// Adds `len` bits with the sixth one at `place`. Of those before it `count` are plain, and `seventh` says whether a one
+    /// follows it.
     #[inline(always)]
     pub fn take_end(&mut self, place: u8, dropped: bool, count: u8, seventh: bool, len: u32)
         requires within { place < len }
@@ -177,21 +177,21 @@ impl Scan {
         self.taken += len;
     }
 
-    // Whether the bits begin with the flag.
+    // Returns whether the bits begin with the flag.
     fn opens(&self) -> bool
         ensures value { result ≡ (nat_le 8 self.now.taken && self.now.agrees) }
     {
         self.taken >= 8 && self.agrees
     }
 
-    // Whether the first six ones touch the opening flag, or a seventh follows them.
+    // Returns whether the first six ones touch the opening flag, or a seventh follows them.
     fn runs_on(&self) -> bool
         ensures value { result ≡ ((self.now.closing == 7) || self.now.seventh) }
     {
         self.closing == 7 || self.seventh
     }
 
-    /// How many plain bits there are between the flags, or the first reason why these hold none.
+    /// Returns how many plain bits there are between the flags, or the first reason why these hold none.
     pub fn between(&self) -> Result<u32, BadFrame>
         ensures reason { (bits plain : List Bool) → IsScan bits plain self.now
             → IfErr result (λ reason. reason_of bits ≡ Some reason) }

@@ -37,7 +37,7 @@ pub fn push_bytes(bytes: &[u8], ones: usize, out: &mut BitBuf) -> usize
     run
 }
 
-// How many ones end a byte of ones. It stands apart, so that the next byte waits for it after such a byte alone.
+// Returns how many ones end a byte of ones. It is a function of its own, so that the next byte waits for it after such a byte alone.
 #[cold]
 #[inline(never)]
 fn ones_behind_ones(ones: usize) -> usize
@@ -48,7 +48,7 @@ fn ones_behind_ones(ones: usize) -> usize
     usize::from(counts_of(ones, 255) % 16)
 }
 
-// How many ones end what is sent for a byte after `ones` ones in a row.
+// Returns how many ones end what is sent for a byte after `ones` ones in a row.
 #[inline(always)]
 fn ones_after(byte: u8, ones: usize) -> usize
     requires { ones < 5 }

@@ -98,7 +98,7 @@ const ENDS: [u8; 255] = [
     3, 3, 3, 3, 3, 3, 3, 3, 3, 3, 3, 3, 3, 3, 3, 3, 4, 4, 4, 4, 4, 4, 4, 4, 0, 0, 0, 0, 1, 1, 2,
 ];
 
-/// How many ones in a row end what is sent for a byte that isn't all ones. It is the same after any number of ones.
+/// Returns how many ones in a row end what is sent for a byte that isn't all ones. It is the same after any number of ones.
 pub fn ones_at_end(byte: u8) -> usize
     requires { byte < 255 }
     ensures end { (ones : ℕ) → ones < 5 → result ≡ fold ones_behind ones (low_bits 8 byte) }
@@ -210,7 +210,7 @@ const SENT: [u16; 1280] = [
     0x0fa, 0x1f5, 0x17c, 0x2f9, 0x1be, 0x37d,
 ];
 
-/// The bits that are sent for a byte after `ones` ones in a row, at most ten, the first of them as the least significant.
+/// Returns the bits that are sent for a byte after `ones` ones in a row, at most ten, the first of them as the least significant.
 pub fn sent_for(ones: usize, byte: u8) -> u16
     requires { ones < 5 }
     ensures { result ≡ number_of (stuffed ones (low_bits 8 byte)) }

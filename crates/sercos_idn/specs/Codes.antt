@@ -7,7 +7,7 @@ use Rattle.sercos_idn.specs.declared.kinds.Length.TheVariants.{Two, Four, List1,
 use Rattle.sercos_idn.specs.declared.kinds.Form.{Form}
 use Rattle.sercos_idn.specs.declared.kinds.Form.TheVariants as forms
 
--- the codes of the lengths, bits 18 to 16; 0, 3 and 7 are none
+-- the codes of the lengths, bits 18 to 16; 0, 3 and 7 are not used
 abbrev pub length_code : Length → ℕ
 length_code Two = 1
 length_code Four = 2
@@ -32,7 +32,7 @@ item_len List1 = 1
 item_len List2 = 2
 item_len List4 = 4
 
--- the codes of the display forms, bits 22 to 20; 6 and 7 are none
+-- the codes of the display forms, bits 22 to 20; 6 and 7 are not used
 abbrev pub form_code : Form → ℕ
 form_code forms.Binary = 0
 form_code forms.Unsigned = 1
@@ -55,8 +55,8 @@ length_bits word = word / 2 ^ 16 % 8
 abbrev pub form_bits : ℕ → ℕ
 form_bits word = word / 2 ^ 20 % 8
 
--- The first of the bits 16, 19, 20, 23 and 31 that is refused: 16 for a length that is none, 19 for a command of another
--- length than two bytes, 20 for a display form that is none, and 23 and 31 where they are ones.
+-- The first of the bits 16, 19, 20, 23 and 31 that is refused: 16 for an unused length, 19 for a command of another
+-- length than two bytes, 20 for an unused display form, and 23 and 31 if they are one.
 unfoldable pub attribute_fault : ℕ → Option ℕ
 attribute_fault word =
     option_or (then_some (not (is_length (length_bits word))) 16)

@@ -23,18 +23,18 @@ four_digits n = (48 + n / 1000) ∷ (48 + n / 100 % 10) ∷ (48 + n / 10 % 10) �
 unfoldable pub idn_text : ℕ → List ℕ
 idn_text raw = letter_of raw ∷ 45 ∷ (48 + set_of raw) ∷ 45 ∷ four_digits (number_of raw)
 
--- whether a byte can stand in a slot: `S` or `P`, `-`, a digit up to 7, any digit
+-- whether a byte fits a slot: `S` or `P`, `-`, a digit up to 7, any digit
 abbrev pub can_stand : Slot → ℕ → Bool
 can_stand Letter byte = (byte == 83) || (byte == 80)
 can_stand Dash byte = byte == 45
 can_stand Octal byte = nat_le 48 byte && nat_le byte 55
 can_stand Decimal byte = nat_le 48 byte && nat_le byte 57
 
--- whether a text has a byte at a place, and one that can stand there
+-- whether a text has a byte at a place, and one that fits there
 abbrev pub has_byte : List ℕ → ℕ → Slot → Bool
 has_byte text place slot = nat_lt place (length text) && can_stand slot (slice_index text place)
 
--- a place where the text has no byte that can stand there; where all bytes before it stand, the place of a missing byte is the text's length
+-- a place at which the text has no byte that fits; if all bytes before it fit, the place of a missing byte is the text's length
 abbrev pub slot_fault : List ℕ → ℕ → Slot → Option ℕ
 slot_fault text place slot = then_some (not (has_byte text place slot)) place
 
@@ -54,9 +54,9 @@ digit_at text place = slice_index text place - 48
 abbrev pub spelled_number : List ℕ → ℕ
 spelled_number text = 1000 * digit_at text 4 + 100 * digit_at text 5 + 10 * digit_at text 6 + digit_at text 7
 
--- The place of the first byte that can't stand. A missing byte gives the text's length, a number above 4095 gives the
--- place of its first digit, and an overlong text the place of its ninth byte. Where several hold, the earliest place is
--- given: a number that is too large stands before what is too long.
+-- The place of the first byte that doesn't fit. A missing byte yields the text's length, a number above 4095 the place of its first digit,
+-- and an overlong text the place of its ninth byte. If several apply, the earliest place is the result: a number that is too large comes
+-- before what is too long.
 unfoldable pub idn_fault : List ℕ → Option ℕ
 idn_fault text =
     option_or (head_fault text)

@@ -1,4 +1,4 @@
--- What the place of a refused text says of it: how far the text is that of an identifier number.
+-- What the place of a refused text means: how far the text is that of an identifier number.
 use Rattle.std.specs.Prelude.{◌≡◌, ◌≢◌, ℕ, suc, ◌^◌, ◌<◌, List, ◌++◌, length, take}
 use Rattle.sercos_idn.specs.Idns.{idn_text, four_digits}
 
@@ -16,10 +16,10 @@ pub data Begins (bytes : List ℕ) : Type 0 where
   begins : (raw : ℕ) (rest : List ℕ) → raw < 2 ^ 16 → idn_text raw ≡ bytes ++ rest → Begins bytes
   begins_large : (rest : List ℕ) → IsLarge (bytes ++ rest) → Begins bytes
 
--- Why a text is refused at a place. A number is looked at once it has four digits. So one that is too large is refused at its
--- first digit, place 4, whatever follows it, and the bytes before another place may begin a number that is too large, as
--- `S-0-9` does. Otherwise the bytes before the place begin an identifier number's text, and with the byte at the place they
--- begin none; or the text ends at the place, and is none.
+-- Why a text is refused at a place. A number is checked once it has four digits. So one that is too large is refused at its
+-- first digit, place 4, regardless of what follows it, and the bytes before another place may begin a number that is too
+-- large, as `S-0-9` does. Otherwise the bytes before the place begin the text of an identifier number, and with the byte at
+-- the place they don't; or the text ends at the place and is incomplete.
 pub data IsRefusedAt (text : List ℕ) : ℕ → Type 0 where
   large : IsLarge (take 8 text) → IsRefusedAt text 4
   at_byte : (place : ℕ) → (IsLarge (take 8 text) → ⊥) → place < length text → Begins (take place text) → (Begins (take (suc place) text) → ⊥) → IsRefusedAt text place

@@ -6,7 +6,7 @@ use crate::kinds::{
     Form, Length, TWO, form_code, form_of, is_form, is_length, length_code, length_of,
 };
 
-// The parts of the word, as the numbers that their lowest bits stand for.
+// The parts of the word, as powers of two of their lowest bits.
 const LENGTH: u32 = 0x0001_0000;
 
 const COMMAND: u32 = 0x0008_0000;
@@ -30,7 +30,7 @@ const CODES: u32 = 8;
 
 const PLACES: u32 = 16;
 
-// Whether a word has a bit.
+// Returns whether a word has a bit.
 fn has(word: u32, bit: u32) -> bool
     requires { 0 < bit }
     ensures { result ≡ (word / bit % 2 == 1) }
@@ -93,7 +93,7 @@ pub struct Attribute {
     ghost command_is_two: { command ≡ true → length ≡ Two },
 }
 
-/// A word that is no attribute.
+/// A word that is not an attribute.
 #[derive(Clone, Copy, Debug, PartialEq, Eq)]
 pub struct BadAttribute {
     /// The first of these bits that is refused: 16, where bits 18 to 16 are no length; 19, a procedure command of
@@ -104,8 +104,8 @@ pub struct BadAttribute {
 impl Attribute {
     ghost use Rattle.sercos_idn.specs.Attributes.{attribute_word, attribute_of};
 
-    /// The attribute that a word is. One attribute has one word, which `write` gives; any other word is refused at the
-    /// first bit that is.
+    /// Returns the attribute of a word. One attribute has one word, which `write` returns; any other word is refused
+    /// at the first bit that is wrong.
     pub fn read(word: u32) -> Result<Attribute, BadAttribute>
         ensures ok { IfOk result (λ attribute. attribute_word attribute ≡ word) }
         ensures value { IfOk result (λ attribute. attribute ≡ attribute_of word) }
@@ -118,7 +118,7 @@ impl Attribute {
         }
     }
 
-    /// The word. `read` gives the attribute back.
+    /// Returns the word, of which `read` returns the attribute.
     pub fn write(&self) -> u32
         ensures value { result ≡ attribute_word self.now }
         ensures factor { self.now.factor < 2 ^ 16 }

@@ -1,5 +1,5 @@
 //! The elements of a data block (IEC 61491:1995), by their numbers in a control word.
-/// The identifier number. A write of it opens the block; a read of it gives the data status.
+/// The identifier number. A write of it opens the block; a read of it returns the data status.
 pub const IDENTIFIER: u8 = 1;
 
 /// The name, a list of characters.

@@ -19,10 +19,10 @@ const MOST_NUMBER: u16 = 4095;
 // How many bytes the text of an identifier number has.
 const LENGTH: usize = 8;
 
-// Where the number stands in the text.
+// Where the number is in the text.
 const NUMBER: usize = 4;
 
-// What the letter P stands for, and what the parameter set is multiplied by.
+// The value of the letter P, and the factor of the parameter set.
 const PRODUCT: u16 = 32768;
 
 const SET: u16 = 4096;
@@ -30,7 +30,7 @@ const SET: u16 = 4096;
 // How many parameter sets there are.
 const SETS: u16 = 8;
 
-// Whether a byte can stand in a slot.
+// Returns whether a byte fits a slot.
 fn can_stand(slot: Slot, byte: u8) -> bool
     ensures { result ≡ can_stand slot byte }
 {
@@ -42,14 +42,14 @@ fn can_stand(slot: Slot, byte: u8) -> bool
     }
 }
 
-// Whether a text has a byte at a place, and one that can stand there.
+// Returns whether a text has a byte at a place, and one that fits there.
 fn has_byte(text: &[u8], place: usize, slot: Slot) -> bool
     ensures { result ≡ has_byte text.now place slot }
 {
     place < text.len() && can_stand(slot, text[place])
 }
 
-// The place of the first byte that can't stand, among letter, dash, parameter set and dash.
+// Returns the place of the first byte that doesn't fit, among letter, dash, parameter set and dash.
 #[tactic(auto, unfolding(crate::specs::Idns::head_fault))]
 fn head_fault(text: &[u8]) -> Option<usize>
     ensures value { result ≡ head_fault text.now }
@@ -71,7 +71,7 @@ fn head_fault(text: &[u8]) -> Option<usize>
     None
 }
 
-// The place of the first byte that can't stand, among the digits of the number.
+// Returns the place of the first byte that doesn't fit, among the digits of the number.
 #[tactic(auto, unfolding(crate::specs::Idns::digits_fault))]
 fn digits_fault(text: &[u8]) -> Option<usize>
     ensures value { result ≡ digits_fault text.now }
@@ -113,8 +113,8 @@ fn spelled_number(text: &[u8]) -> u32
         + u32::from(digit_at(text, 7))
 }
 
-/// Returns the place of the first byte of a text that can't stand in that of an identifier number, as [`BadIdn`] names it;
-/// `None` exactly if the text is that of one.
+/// Returns the place of the first byte of a text that doesn't fit the text of an identifier number, as [`BadIdn`] names
+/// it; `None` iff the text is that of one.
 #[tactic(auto, unfolding(crate::specs::Idns::idn_fault))]
 pub fn idn_fault(text: &[u8]) -> Option<usize>
     ensures value { result ≡ idn_fault text.now }
@@ -136,7 +136,7 @@ pub fn idn_fault(text: &[u8]) -> Option<usize>
     None
 }
 
-// What the letter stands for.
+// The value of the letter.
 fn letter_value(letter: u8) -> u16
     ensures { result ≡ (if letter == 80 then 32768 else 0) }
 {
@@ -161,20 +161,20 @@ pub struct Idn {
     pub raw: u16,
 }
 
-/// A text that is no identifier number.
+/// A text that is not an identifier number.
 #[derive(Clone, Copy, Debug, PartialEq, Eq)]
 pub struct BadIdn {
-    /// The place of the first byte that can't stand, from 0 on, in bytes. It is the text's length where a byte is missing,
-    /// 4 where the number is above 4095, and 8 where the text goes on after the number.
+    /// The place of the first byte that doesn't fit, from 0 on, in bytes. It is the text's length if a byte is missing, 4
+    /// if the number is above 4095, and 8 if the text goes on after the number.
     pub place: usize,
 }
 
 impl Idn {
     ghost use Rattle.sercos_idn.specs.Idns.{idn_text};
 
-    /// The identifier number that a text spells. Each has one spelling, which `Display` prints: `S` or `P`, `-`, the
-    /// parameter set as a digit from 0 to 7, `-`, and the number, at most 4095, in four decimal digits. Any other text
-    /// is refused at the first byte that can't stand.
+    /// Returns the identifier number that a text spells. Each has one spelling, which `Display` prints: `S` or `P`, `-`,
+    /// the parameter set as a digit from 0 to 7, `-`, and the number, at most 4095, in four decimal digits. Any other text
+    /// is refused at the first byte that doesn't fit.
     pub fn parse(text: &str) -> Result<Idn, BadIdn>
         ensures ok { IfOk result (λ idn. text.now ≡ idn_text idn.raw) }
         ensures value { IfOk result (λ idn. idn ≡ record { raw = spelled_raw text.now }) }

@@ -24,7 +24,7 @@ impl Length {
     ghost use Rattle.std.specs.Prelude.{◌≤◌};
     ghost use Rattle.sercos_idn.specs.Codes.{is_list, item_len};
 
-    /// Whether the operation data is a list of variable length.
+    /// Returns whether the operation data is a list of variable length.
     pub fn is_list(self) -> bool
         ensures { result ≡ is_list self }
     {
@@ -34,7 +34,7 @@ impl Length {
         }
     }
 
-    /// How many bytes the value has, or each item of the list: 1, 2 or 4.
+    /// Returns how many bytes the value has, or each item of the list: 1, 2 or 4.
     pub fn item_len(self) -> usize
         ensures value { result ≡ item_len self }
         ensures bounds { (1 ≤ result) × (result ≤ 4) }
@@ -64,14 +64,14 @@ pub enum Form {
     Idn,
 }
 
-/// Whether a code is one of a length.
+/// Returns whether a code is one of a length.
 pub fn is_length(code: u32) -> bool
     ensures { result ≡ is_length code }
 {
     code != 0 && code != 3 && code < 7
 }
 
-/// The length of a code.
+/// Returns the length of a code.
 pub fn length_of(code: u32) -> Length
     requires { is_length code ≡ true }
     ensures { length_code result ≡ code }
@@ -85,7 +85,7 @@ pub fn length_of(code: u32) -> Length
     }
 }
 
-/// The code of a length.
+/// Returns the code of a length.
 pub fn length_code(length: Length) -> u32
     ensures { result ≡ length_code length }
 {
@@ -98,14 +98,14 @@ pub fn length_code(length: Length) -> u32
     }
 }
 
-/// Whether a code is one of a display form.
+/// Returns whether a code is one of a display form.
 pub fn is_form(code: u32) -> bool
     ensures { result ≡ is_form code }
 {
     code <= 5
 }
 
-/// The display form of a code.
+/// Returns the display form of a code.
 pub fn form_of(code: u32) -> Form
     requires { is_form code ≡ true }
     ensures { form_code result ≡ code }
@@ -120,7 +120,7 @@ pub fn form_of(code: u32) -> Form
     }
 }
 
-/// The code of a display form.
+/// Returns the code of a display form.
 pub fn form_code(form: Form) -> u32
     ensures { result ≡ form_code form }
 {

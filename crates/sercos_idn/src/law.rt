@@ -8,10 +8,10 @@ ghost use Rattle.sercos_idn.specs.declared.attribute.Attribute.{Attribute};
 
 use crate::code::Code;
 
-/// A law and no code: where a text is refused at a place, the bytes before it begin the text of an identifier number, and
-/// with the byte at the place they begin none. Where the place is the end of the text, the text is none itself. A number
-/// above 4095 is refused at its first digit once all four digits are there; the bytes before any other place may begin such
-/// a number, too.
+/// A law, without code: if a text is refused at a place, the bytes before it begin the text of an identifier number, and
+/// with the byte at the place they don't. If the place is the end of the text, the text is incomplete. A number above 4095
+/// is refused at its first digit once all four digits are there; the bytes before any other place may begin such a number,
+/// too.
 pub fn place_law()
     ensures { (text : List ℕ) (place : ℕ) → idn_fault text ≡ Some place → IsRefusedAt text place }
 {}
@@ -23,7 +23,8 @@ pub fn attribute_law()
     ensures back { (a : Attribute) → a.factor < 2 ^ 16 → attribute_of (attribute_word a) ≡ a }
 {}
 
-/// A law and no code: the information word of each error code that is the same for all elements. This profile gives them.
+/// A law, without code: the information word of each error code that is the same for all elements. The words are this
+/// profile's.
 pub fn code_law()
     ensures not_open { Code.NOT_OPEN.raw ≡ 0x0001 }
     ensures no_idn { Code.NO_IDN.raw ≡ 0x1001 }

@@ -6,8 +6,8 @@ use Rattle.sercos_model.specs.Streams.{last_count}
 abbrev pub raised : ℕ → ℕ
 raised count = min (count + 1) last_count
 
--- the bytes to come, the number of bytes that a call gives at most, the numbers of the calls that fail, counted from 1,
--- the number of calls made, and that of the calls that failed
+-- the bytes to come, the most bytes of a call, the numbers of the calls that fail, counted from 1, the number of calls
+-- so far, and that of the calls that failed
 pub record SourceState : Type 0 where
   pub left : List ℕ
   pub piece : ℕ

@@ -1,16 +1,17 @@
--- What it says that a source could not be read to its end.
+-- Why a source could not be read to its end.
 use Rattle.std.specs.Prelude.{◌≡◌, ℕ, ◌≤◌, List, length, Result, MatchResult}
 use Rattle.sercos_model.specs.Streams.{Rose}
 use Rattle.sercos_io.specs.declared.whole.ReadAll.{ReadAll}
 use Rattle.sercos_io.specs.declared.whole.ReadAll.TheVariants.{ReadFault, TooLong, Memory}
 
--- what an answer other than Ok says of the count of faults: a read fault has raised it, and nothing else moves it
+-- what an answer other than Ok implies for the count of faults: a read fault has raised it, and nothing else
+-- changes it
 abbrev pub FaultsBy : ReadAll → ℕ → ℕ → Type 0
 FaultsBy ReadFault old new = (old ≤ new) × Rose old new
 FaultsBy TooLong old new = new ≡ old
 FaultsBy Memory old new = new ≡ old
 
--- the count of faults has risen where the answer is a read fault, and else stays
+-- the count of faults has risen if the answer is a read fault, and is otherwise unchanged
 abbrev pub ReadAllHasCause : {T : Type 0} → ℕ → ℕ → Result T ReadAll → Type 0
 ReadAllHasCause old new r = MatchResult r (λ _. new ≡ old) (λ why. FaultsBy why old new)
 

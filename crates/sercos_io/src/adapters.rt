@@ -17,8 +17,8 @@ const MOST_INTERRUPTED: u32 = 1000;
 
 /// A source over a reader of std.
 ///
-/// A contract sees the bytes that the reader has left, where they are known, and the number of reads that failed,
-/// which stands still at 2^64 - 1.
+/// A contract sees the bytes that the reader has left, if they are known, and the number of reads that failed,
+/// which stops at 2^64 - 1.
 #[derive(Drop)]
 pub struct StdSource<R: Read> {
     reader: R,
@@ -34,7 +34,7 @@ impl<R: Read> Model for StdSource<R> {
 }
 
 impl<R: Read> StdSource<R> {
-    /// A source over this reader, with no failure yet.
+    /// Returns a source over this reader, with no failure yet.
     pub fn new(reader: R) -> StdSource<R>
         ensures { result ≡ record { bytes = R.remaining reader; faults = 0 } }
     {
@@ -66,11 +66,11 @@ impl<R: Read> Source for StdSource<R> {
     }
 }
 
-/// A sink over a writer of std. What stands in a writer's own buffer counts as written, so a writer with one is
-/// handed in by a `&mut` and flushed afterwards.
+/// A sink over a writer of std. Bytes in a writer's own buffer count as written, so a writer with a buffer is
+/// passed as a `&mut` and flushed afterwards.
 ///
-/// A contract sees the bytes that the writer holds, where they are known, and the number of writes that failed,
-/// which stands still at 2^64 - 1.
+/// A contract sees the bytes that the writer holds, if they are known, and the number of writes that failed,
+/// which stops at 2^64 - 1.
 #[derive(Drop)]
 pub struct StdSink<W: Write> {
     writer: W,
@@ -86,7 +86,7 @@ impl<W: Write> Model for StdSink<W> {
 }
 
 impl<W: Write> StdSink<W> {
-    /// A sink over this writer, with no failure yet.
+    /// Returns a sink over this writer, with no failure yet.
     pub fn new(writer: W) -> StdSink<W>
         ensures { result ≡ record { bytes = W.contents writer; faults = 0 } }
     {
@@ -99,8 +99,8 @@ impl<W: Write> Sink for StdSink<W> {
 
     ghost faults = { λ s. s.faults };
 
-    /// Writes to the writer. A call that was interrupted is made again, and the 1,000th in a row is a failure. So
-    /// is a 0 for a piece that isn't empty.
+    /// Writes to the writer. An interrupted call is made again, and the 1,000th in a row is a failure. A 0 for a
+    /// piece that isn't empty is a failure, too.
     fn write(&mut self, piece: &[u8]) -> Result<usize, WriteFailed>
         ensures bound { WritesAtMost result piece.now }
         ensures some { IfOk result (λ count. 0 < length piece.now → 0 < count) }

@@ -9,7 +9,7 @@ pub(crate) fn one_more(count: u64) -> u64
     count.saturating_add(1)
 }
 
-/// Whether the call with this number is to fail.
+/// Returns whether the call with this number is to fail.
 pub(crate) fn is_listed(failing: &[u32], number: u64) -> bool
     ensures { IsTrue result ↔ Contains failing.now number }
 {

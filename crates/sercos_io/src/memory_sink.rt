@@ -9,11 +9,11 @@ use crate::calls::{is_listed, one_more};
 use crate::sink::{Sink, WriteFailed};
 use std::marker::Model;
 
-/// Appends bytes to a `Vec` as far as its capacity goes, in pieces of a set size, and fails the calls with the
-/// numbers that it is told. It never takes memory.
+/// Appends bytes to a `Vec` up to its capacity, in pieces of a set size, and fails the calls with the listed
+/// numbers. It never takes memory.
 ///
-/// A contract sees the record of the bytes, `held`, of `spare`, the number of bytes that it still takes, and of
-/// `piece`, `failing`, `calls` and `faults`. The two counts stand still at 2^64 - 1.
+/// A contract sees the record of the bytes, `held`, of `spare`, the number of bytes that still fit, and of
+/// `piece`, `failing`, `calls` and `faults`. The two counts stop at 2^64 - 1.
 #[derive(Drop)]
 pub struct MemorySink {
     bytes: Vec<u8>,
@@ -43,8 +43,8 @@ impl Model for MemorySink {
 }
 
 impl MemorySink {
-    /// A sink that appends to `room` as far as its capacity goes. It takes at most `piece` bytes a call, which is
-    /// at least 1, and fails the calls whose numbers, counted from 1, stand in `failing`.
+    /// Returns a sink that appends to `room` up to its capacity. It accepts at most `piece` bytes a call,
+    /// which is at least 1, and fails the calls whose numbers, counted from 1, are in `failing`.
     pub fn new(room: Vec<u8>, piece: u32, failing: Vec<u32>) -> MemorySink
         requires { 1 ≤ piece }
         ensures { result ≡ record {
@@ -66,7 +66,7 @@ impl MemorySink {
         }
     }
 
-    /// The bytes that it holds.
+    /// Returns the bytes that it holds.
     pub fn as_slice(&self) -> &[u8]
         ensures { result.now ≡ self.now.held }
     {

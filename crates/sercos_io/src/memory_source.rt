@@ -1,4 +1,4 @@
-//! A source over bytes in memory whose calls fail as told.
+//! A source over bytes in memory with calls that fail.
 ghost use Rattle.std.specs.Prelude.{◌≡◌, ◌↔◌, ◌≤◌, ◌++◌, Some, min, length, take, drop, vec_items, Contains, IfOk, OnErr, IsErr};
 ghost use Rattle.std.specs.Io.{ReadsAtMost};
 ghost use Rattle.std.specs.Io.KnownBytes.{ReadConsumes};
@@ -9,10 +9,10 @@ use crate::calls::{copy_front, is_listed, one_more};
 use crate::source::{ReadFailed, Source};
 use std::marker::Model;
 
-/// Gives the bytes of a `Vec` in pieces of a set size, and fails the calls with the numbers that it is told.
+/// Returns the bytes of a `Vec` in pieces of a set size, and fails the calls with the listed numbers.
 ///
 /// A contract sees the record of the bytes to come, `left`, and of `piece`, `failing`, `calls` and `faults`. The
-/// two counts stand still at 2^64 - 1.
+/// two counts stop at 2^64 - 1.
 #[derive(Drop)]
 pub struct MemorySource {
     bytes: Vec<u8>,
@@ -41,8 +41,8 @@ impl Model for MemorySource {
 }
 
 impl MemorySource {
-    /// A source of these bytes. It gives at most `piece` bytes a call, which is at least 1, and fails the calls
-    /// whose numbers, counted from 1, stand in `failing`.
+    /// Returns a source of these bytes. It returns at most `piece` bytes a call, which is at least 1, and
+    /// fails the calls whose numbers, counted from 1, are in `failing`.
     pub fn new(bytes: Vec<u8>, piece: u32, failing: Vec<u32>) -> MemorySource
         requires { 1 ≤ piece }
         ensures { result ≡ record {
@@ -69,8 +69,8 @@ impl Source for MemorySource {
 
     ghost faults = { λ s. s.faults };
 
-    /// Gives the next bytes, as many as a call gives, as the piece holds and as are left. Exactly the calls
-    /// whose numbers are listed fail.
+    /// Returns the next bytes, as many as the size of a call and the piece allow and as are left. The calls that
+    /// fail are exactly those whose numbers are listed.
     fn read(&mut self, piece: &mut [u8]) -> Result<usize, ReadFailed>
         ensures bound { ReadsAtMost result piece.new }
         ensures bytes { ReadConsumes (Some self.old.left) (Some self.new.left) result piece.new }

@@ -8,7 +8,7 @@ use crate::calls::copy_front;
 use crate::source::{ReadFailed, Source};
 use std::marker::Model;
 
-/// Gives the bytes of a `Vec`, and never fails.
+/// Returns the bytes of a `Vec`, and never fails.
 ///
 /// A contract sees the list of the bytes to come.
 #[derive(Drop)]
@@ -28,7 +28,7 @@ impl Model for PlainSource {
 }
 
 impl PlainSource {
-    /// A source of these bytes.
+    /// Returns a source of these bytes.
     pub fn new(bytes: Vec<u8>) -> PlainSource
         ensures { result ≡ bytes.items }
     {
@@ -41,7 +41,7 @@ impl Source for PlainSource {
 
     ghost faults = { λ _. 0 };
 
-    /// Gives the next bytes, as many as the piece holds and as are left. It never fails.
+    /// Returns the next bytes, as many as fit into the piece and are left. It never fails.
     fn read(&mut self, piece: &mut [u8]) -> Result<usize, ReadFailed>
         ensures bound { ReadsAtMost result piece.new }
         ensures bytes { ReadConsumes (Some self.old) (Some self.new) result piece.new }

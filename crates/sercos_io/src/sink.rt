@@ -11,11 +11,11 @@ use thiserror::Error;
 #[error("the sink could not be written")]
 pub struct WriteFailed;
 
-/// Takes bytes in pieces, and counts the writes that fail.
+/// Accepts bytes in pieces, and counts the writes that fail.
 ///
-/// `held` are the bytes that it has taken, or `None` where the sink tells nothing of them. `faults` is a count
-/// that never falls, and stands still at 2^64 - 1. `room` is the number of bytes that the sink surely still
-/// takes without a failure, in whatever pieces.
+/// `held` are the bytes accepted so far, or `None` if the sink doesn't expose them. `faults` is a count that
+/// never falls, and stops at 2^64 - 1. `room` is the number of bytes that the sink is sure to accept without a
+/// failure, in any pieces.
 pub trait Sink {
     ghost held: { Self → Option (List ℕ) };
 

@@ -11,10 +11,10 @@ use thiserror::Error;
 #[error("the source could not be read")]
 pub struct ReadFailed;
 
-/// Gives bytes in pieces, and counts the reads that fail.
+/// Returns bytes in pieces, and counts the reads that fail.
 ///
-/// `left` are the bytes to come, or `None` where the source tells nothing of them. `faults` is a count that
-/// never falls, and stands still at 2^64 - 1.
+/// `left` are the bytes to come, or `None` if the source doesn't expose them. `faults` is a count that
+/// never falls, and stops at 2^64 - 1.
 pub trait Source {
     ghost left: { Self → Option (List ℕ) };
 

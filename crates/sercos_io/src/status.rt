@@ -6,11 +6,11 @@ ghost use Rattle.std.specs.Prelude.{◌≡◌};
 pub enum Status {
     /// The command did its work: 0.
     Done,
-    /// The answer is no, and the output says why: 1.
+    /// The answer is no, and the output has the reason: 1.
     No,
     /// The words are no command: 2.
     BadWords,
-    /// The input is refused, and the output says why: 3.
+    /// The input is refused, and the output has the reason: 3.
     Refused,
     /// The input could not be read: 4.
     ReadFault,
@@ -25,14 +25,14 @@ pub enum Status {
 impl Status {
     ghost use Rattle.sercos_io.specs.Status.{status_code, status_name};
 
-    /// The exit status, 0 to 7.
+    /// Returns the exit status, 0 to 7.
     pub fn code(self) -> u8
         ensures { result ≡ status_code self }
     {
         self as u8
     }
 
-    /// The status's name, as `BadWords`.
+    /// Returns the status's name, as `BadWords`.
     pub fn name(self) -> &'static str
         ensures { result.now ≡ status_name self }
     {

@@ -12,7 +12,7 @@ use thiserror::Error;
 /// The number of bytes that an input may have.
 const MOST_BYTES: usize = 1_048_576;
 
-/// The number of bytes that are asked for at once.
+/// The number of bytes that are requested at once.
 const PIECE_BYTES: usize = 8192;
 
 /// Why an input could not be read to its end.
@@ -29,10 +29,10 @@ pub enum ReadAll {
     Memory,
 }
 
-/// The bytes of a source up to its end, at most 1,048,576 of them.
+/// Returns the bytes of a source up to its end, at most 1,048,576 of them.
 ///
-/// `TooLong` comes where 1,048,577 bytes were taken, and no more are ever taken. `ReadFault` comes where a read
-/// failed. After any error the source has lost the bytes that were read from it.
+/// The error is `TooLong` if 1,048,577 bytes were read, and no more are ever read; it is `ReadFault` if a read
+/// failed. After any error the bytes that were read are lost.
 pub fn read_all<S: Source>(alloc: Global, source: &mut S) -> Result<Vec<u8>, ReadAll>
     ensures ok { IfOk result (λ bytes. Consumes (S.left source.old) (S.left source.new) bytes.items
         × IsAtEnd (S.left source.new) × (length bytes.items ≤ 1048576)) }
@@ -45,7 +45,7 @@ pub fn read_all<S: Source>(alloc: Global, source: &mut S) -> Result<Vec<u8>, Rea
     let mut bytes = Vec::new(alloc);
     let mut piece = [0u8; PIECE_BYTES];
     'pieces: loop {
-        // One byte more than may come is asked for, so that a longer input shows.
+        // One byte more than the limit is requested, so that a longer input shows.
         let wanted = (MOST_BYTES + 1 - bytes.len()).min(PIECE_BYTES);
         let Ok(count) = source.read(&mut piece[..wanted]) else {
             return Err(ReadAll::ReadFault);

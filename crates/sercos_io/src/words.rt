@@ -28,7 +28,7 @@ impl Words {
         }
     }
 
-    /// Appends a word. The error is want of memory, after which the words are as before.
+    /// Appends a word. The error is `AllocError`; then the words are as before.
     pub fn push(&mut self, word: &str) -> Result<(), AllocError>
         ensures ok { OnOk result (self.new ≡ self.old ++ word.now ∷ []) }
         ensures err { OnErr result (self.new ≡ self.old) }
@@ -38,14 +38,14 @@ impl Words {
         Ok(())
     }
 
-    /// The number of words.
+    /// Returns the number of words.
     pub fn len(&self) -> usize
         ensures { result ≡ length self.now }
     {
         self.words.len()
     }
 
-    /// The word at a place, counted from 0. The place is below `len`.
+    /// Returns the word at a place, counted from 0. The place is below `len`.
     pub fn get(&self, place: usize) -> &str
         requires { place < length self.now }
         ensures { slice_get self.now place ≡ Some result.now }

@@ -1,4 +1,5 @@
--- How long a service channel takes, on runs of one drive and the master: in epochs in which nothing is lost, after whatever was lost, and for each request.
+-- How long a service channel takes, on runs of one drive and the master: in epochs in which nothing is lost, after any losses, and for each
+-- request.
 pub mod Times
 pub mod Stretches
 pub mod Passages

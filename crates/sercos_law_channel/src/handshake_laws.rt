@@ -20,7 +20,7 @@ use sercos_block::store_law;
 use sercos_idn::attribute_law;
 use sercos_service_drive::writes_law;
 
-/// A law and no code: each move of the two ends keeps them in step. The drive's handshake bit tells whether the number of
+/// A law, without code: each move of the two ends keeps them in step. The drive's handshake bit is whether the number of
 /// steps that it accepted is odd; and a record joins them if its bit differs from that.
 pub fn handshake_law()
     ensures hears { Hears }
@@ -30,9 +30,9 @@ pub fn handshake_law()
     ensures joins { (t : Taken) (h : List Taken) → log_of (t ∷ h) ≡ with_taken t (reply_of t (log_of h)) (log_of h) }
 {}
 
-/// A law and no code: where both ends are in step, what the drive has accepted falls into the parts of the requests, one
-/// after the other: each part are the steps of one request, as far as it came, with the answers that the master took. So
-/// the laws on transfers hold of each part.
+/// A law, without code: if both ends are in step, what the drive has accepted falls into the parts of the requests, one after
+/// the other: each part are the steps of one request, as far as it got, with the answers that the master took. So the laws on
+/// transfers hold of each part.
 pub fn parts_law()
     ensures turn { ComeInTurn }
     ensures parts { FallIntoParts }
@@ -41,12 +41,12 @@ pub fn parts_law()
 {}
 
 /// A law: a write of operation data adds one entry to the drive's writes, with its bytes, and only with the step that
-/// completes it. A read and a write of another element add none. A transfer to a data block that the drive hasn't is refused
+/// completes it. A read and a write of another element add none. A transfer to a data block that the drive lacks is refused
 /// at its opening, and adds none. One that sets a procedure command adds the setting with its second step, and the cancel
-/// with the step that completes it; then it gives the data status of the last step that reads it. Where such a transfer is
-/// refused, it adds neither, if the block is a procedure command that isn't write protected at the refusal, or was so at
-/// each step before. A read that is complete gives the element's bytes as they stood in the one cycle in which the drive
-/// accepted the selection of the element, the first of its own steps.
+/// with the step that completes it; then it returns the data status of the last step that reads it. If such a transfer is
+/// refused, it adds neither, if the block is a procedure command that isn't write protected at the refusal, or was so at each
+/// step before. A read that is complete returns the element's bytes of the one cycle in which the drive accepted the
+/// selection of the element, the first of its own steps.
 pub fn transfer_law()
     ensures writes_once { WritesOnce }
     ensures writes_nothing { WritesNothing }
@@ -63,13 +63,13 @@ pub fn transfer_law()
     store_law();
 }
 
-/// A law and no code, over a whole run of one drive and the master: whatever telegrams are lost, through all falls, epochs,
-/// resets and restarts of either end. The drive stands no later than the later of the phases commanded in a cycle and in the
-/// one before, and processes a record in the commanded phase alone. From the second cycle in a row commanded 0 on it is in
-/// phase 0. Before phase 2 is commanded nothing was begun or accepted in the epoch. In every cycle both ends are in step over
-/// the epoch, also if the drive has fallen since. A drive that isn't in phase 0 has since its reset accepted what it accepted
-/// in the epoch, so both ends are in step over that too: no step is accepted twice, and no answer is taken for that to
-/// another step. And there is a run for any choices.
+/// A law, without code, over a whole run of one drive and the master: regardless of losses, through all falls, epochs, resets
+/// and restarts of either end. The drive is in no higher phase than the later one commanded in a cycle or the one before, and
+/// processes a record in the commanded phase alone. From the second cycle in a row commanded 0 on it is in phase 0. Before
+/// phase 2 is commanded nothing was begun or accepted in the epoch. In every cycle both ends are in step over the epoch, also
+/// if the drive has fallen since. A drive that isn't in phase 0 has since its reset accepted what it accepted in the epoch,
+/// so both ends are in step over that too: no step is accepted twice, and no answer is taken for that to another step. And
+/// there is a run for any choices.
 pub fn run_law()
     ensures no_later { StandsNoLater }
     ensures commanded { StandsAsCommanded }
@@ -89,10 +89,10 @@ pub fn run_law()
 {}
 
 /// A law over a whole run, through all epochs: the requests in the order begun, the steps that the drive accepted, and its
-/// writes go side by side, transfer by transfer. The steps of a transfer come in one phase. It writes all that it gives if it
-/// is complete, nothing if it is refused, and the first of it if it is open or was broken. A complete read gives the
-/// element's bytes as they stood in the one cycle in which the drive accepted the selection, and a complete setting of a
-/// procedure command gives its data status.
+/// writes go side by side, transfer by transfer. The steps of a transfer are accepted in one phase. Its writes are whole if
+/// it is complete, none if it is refused, and the first of them if it is open or was broken. A complete read returns the
+/// element's bytes of the one cycle in which the drive accepted the selection, and a complete setting of a procedure command
+/// returns its data status.
 pub fn exact_law()
     ensures { (busy : ℕ) → RunsAreExact busy }
 {
@@ -101,8 +101,8 @@ pub fn exact_law()
 
 /// A law over a whole run: a block holds what was written to it last. Nothing is written in a cycle commanded 0 or 1, nor to
 /// a block that is write protected in the commanded phase, and never to a fixed block. What a complete write of the epoch
-/// wrote stays the newest write to its block as long as no later request gives anything to it, whether or not the drive has
-/// fallen or restarted since.
+/// wrote stays the newest write to its block as long as no later request writes to it, whether or not the drive has fallen or
+/// restarted since.
 pub fn values_law()
     ensures newest { HoldsNewest }
     ensures protected { StaysProtected }

@@ -12,19 +12,19 @@ ghost use Rattle.sercos_law_channel.specs.Pace.Passes.{PassesBySetting, PassesLa
 
 use sercos_idn::attribute_law;
 
-/// A law and no code, over an epoch in which nothing is lost. An answer comes busy time and one cycle after the cycle in
-/// which the drive accepted its step. So the cycles in which a step was open are the busy time and one for each answer,
-/// and those since the open step was accepted: at most the busy time and one for each step.
+/// A law, without code, over an epoch in which nothing is lost. An answer arrives busy time and one cycle after the cycle in
+/// which the drive accepted its step. So the cycles in which a step was open are the busy time and one for each answer, and
+/// those since the open step was accepted: at most the busy time and one for each step.
 pub fn time_law()
     ensures on_time { (busy : ℕ) → AreOnTime busy }
     ensures answers { (busy : ℕ) → AnswersOnTime busy }
     ensures time { (busy : ℕ) → TakesTime busy }
 {}
 
-/// A law and no code, over a stretch of cycles in which nothing is lost, whatever went before. The cycles in which a step
-/// was open are at most busy time and one for each answer, and no step gets older than that, but for one that was open
-/// before the stretch. From phase 0 of an epoch on, an answer comes exactly busy time and one cycle after its step was
-/// begun, and a channel that never idles keeps time to the cycle.
+/// A law, without code, over a stretch of cycles in which nothing is lost, regardless of the cycles before. The cycles in
+/// which a step was open are at most busy time and one for each answer, and no step gets older than that, except for one
+/// that was open before the stretch. From phase 0 of an epoch on, an answer arrives exactly busy time and one cycle after
+/// its step was begun, and a channel that never idles keeps time to the cycle.
 pub fn stretch_law()
     ensures in_time { (busy : ℕ) → ComesInTime busy }
     ensures since { (busy : ℕ) → TakesTimeSince busy }
@@ -34,11 +34,11 @@ pub fn stretch_law()
     ensures keeps { (busy : ℕ) → KeepsTime busy }
 {}
 
-/// A law and no code, over cycles in which every telegram comes and nothing restarts. From phase 0 of an epoch on, the
-/// drive stands in the commanded phase if its checks are passed, nothing is lost, and the master hears it in phases 3 and
-/// 4. After whatever was lost and a first such cycle, either the drive is in phase 0 by now, or nothing was lost since. A
-/// drive in phase 0 stays there while 2 to 4 is commanded: the master hears nothing of it and takes no answer, and an open
-/// step gets older with each cycle.
+/// A law, without code, over cycles in which every telegram arrives and nothing restarts. From phase 0 of an epoch on, the
+/// drive is in the commanded phase if its checks are passed, nothing is lost, and the master hears it in phases 3 and 4.
+/// After any losses and a first such cycle, either the drive is in phase 0 by now, or nothing was lost since. A drive in
+/// phase 0 stays there while 2 to 4 is commanded: the master receives nothing of it and takes no answer, and an open step
+/// gets older with each cycle.
 pub fn passage_law()
     ensures throughout { (busy : ℕ) → StandsThroughout busy }
     ensures clean { (busy : ℕ) → StaysClean busy }
@@ -50,10 +50,10 @@ pub fn passage_law()
 {}
 
 /// A law: the steps that a drive accepts in an epoch are busy time and one apart, in every run. A procedure command that
-/// runs was set by the newest write to it, if what is set when an MDT comes was set at the end of the cycle before. So it is
-/// asked for its status only so often, and the steps of an epoch cost no more than its requests. The same is so of the
-/// cycles with an open step: in a stretch in which nothing is lost, in a whole start-up in which every telegram comes, and
-/// after whatever was lost, if the drive isn't in phase 0.
+/// runs was set by the newest write to it, if what is set when an MDT arrives was set at the end of the cycle before. So its
+/// status is read only a bounded number of times, and the steps of an epoch cost no more than its requests. The same holds
+/// of the cycles with an open step: in a stretch in which nothing is lost, in a whole start-up in which every telegram
+/// arrives, and after any losses, if the drive isn't in phase 0.
 pub fn cost_law()
     ensures spaced { (busy : ℕ) → SpacesSteps busy }
     ensures timed { ComesTimed }
@@ -80,10 +80,10 @@ pub fn jobs_law()
     ensures request { (busy : ℕ) → RequestCosts busy }
 {}
 
-/// A law and no code: the calls of the master's channel in a run are allowed and give the requests that were begun, and the
-/// channel counts the age of the open step, if each open step is sent. A run's newest cycle without its fall makes a run
-/// too. So, while every telegram comes and the checks are passed, no channel counts more than the busy time before a
-/// cycle's end, and no fall comes from the drive.
+/// A law, without code: the calls of the master's channel in a run are allowed and yield the requests that were begun, and
+/// the channel counts the age of the open step, if each open step is sent. A run's newest cycle without its fall makes a run
+/// too. So, while every telegram arrives and the checks are passed, no channel counts more than the busy time before a
+/// cycle's end, and no fall is caused by the drive.
 pub fn calls_law()
     ensures stays { (busy : ℕ) → StaysARun busy }
     ensures begin { (busy : ℕ) → CallsBegin busy }

@@ -1,4 +1,5 @@
--- What becomes of a ring after faults: after a fall, and in cycles in which nothing is disturbed, whatever was lost before them.
+-- What becomes of a ring after faults: after a fall, and in cycles in which nothing is disturbed, regardless of losses before
+-- them.
 pub mod Stretches
 pub mod UpOrDown
 pub mod FallsInTime

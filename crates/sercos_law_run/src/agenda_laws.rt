@@ -10,17 +10,17 @@ ghost use Rattle.sercos_law_run.specs.Agenda.Events.{AreTold, AreToldAtRestart};
 // Laws on what the master does on the channel of one drive, after any calls.
 use sercos_step::steps_law;
 
-/// A law and no code: whatever the master is given, the channel of each drive goes through moves. Within a cycle the drive is
-/// identified, its first status is heard, the plan is made, or the next task begins; then the cycle ends, or the epoch does.
+/// A law, without code: regardless of the calls of the master, the channel of each drive goes through moves. Within a cycle the drive is
+/// identified, its first status is received, the plan is made, or the next task begins; then the cycle ends, or the epoch does.
 pub fn channel_law()
     ensures moves { CallsAreMoves }
 {}
 
-/// A law: the requests that were begun on a channel in an epoch are those of its agenda, each at its place, and each outcome is
-/// that of one of them. Nothing is begun in phases 0 and 1, and in phase 2 at most one channel has an open transfer. Without a stop
-/// one has after each MDT until all checks for phase 3 have ended well; in phase 3 each has until its own check has, and in phase 4
-/// each as long as requests to its drive wait. If there is a plan, each drive has answered all reads without error. From where the check for phase 3 has been begun, and up to phase 3,
-/// each of the eleven writes of the plan was answered without error, and nothing newer writes to its identifier number.
+/// A law: the requests that were begun on a channel in an epoch are those of its agenda, each at its place, and each outcome is that of one
+/// of them. Nothing is begun in phases 0 and 1, and in phase 2 at most one channel has an open transfer. Without a stop one has after each
+/// MDT until all checks for phase 3 have ended well; in phase 3 each has until its own check has, and in phase 4 each as long as requests
+/// to its drive wait. If there is a plan, each drive has answered all reads without error. From where the check for phase 3 has been begun,
+/// and up to phase 3, each of the eleven writes of the plan was answered without error, and nothing newer writes to its identifier number.
 pub fn agenda_law()
     ensures tasks { BeginsTasks }
     ensures ended { EndsTasks }

@@ -13,12 +13,12 @@ use sercos_law_channel::{exact_law, run_law, transfer_law, values_law};
 use sercos_master::master_law;
 use sercos_service_drive::writes_law;
 
-/// A law over every run of a ring, over every link and with every restart. In each cycle up to the first arrival that is unseen, which
-/// is one that isn't what was sent and passes the check sequence all the same: if phase 3 or 4 is commanded, all telegrams lie apart
-/// and keep the times that every drive declares, and what each drive in phase 3 or 4 holds agrees with the MDT. No drive stands later
-/// than the later phase commanded in this cycle or the one before. Each transfer reported complete is exact, and the requests to a
-/// drive are reported once and in order. Both ends of each service channel are in step.
-/// The master stops with `NoFit` only if no plan fits what the ring asks, and never with `BadConfig` or `Check127`.
+/// A law over every run of a ring, over every link and with every restart. In each cycle up to the first undetected damage, an arrival
+/// that isn't what was sent and passes the check sequence anyway: if phase 3 or 4 is commanded, all telegrams lie apart and keep the
+/// times that every drive declares, and what each drive in phase 3 or 4 holds agrees with the MDT. No drive is in a higher phase than
+/// the later one commanded in this cycle or the one before. Each transfer reported complete is exact, and the requests to a drive are
+/// reported once and in order. Both ends of each service channel are in step. The master stops with `NoFit` only if no plan fits the
+/// ring's requirements, and never with `BadConfig` or `Check127`.
 pub fn headline_law()
     ensures { Headline }
 {

@@ -22,16 +22,16 @@ use sercos_law_channel::{
 use sercos_master::master_law;
 use sercos_service_drive::writes_law;
 
-/// A law over every run of a ring, over every link and with every restart, in which nothing was unseen. In cycles in which nothing is
-/// disturbed and the ring doesn't fall, whatever was lost before them, each drive is in the commanded phase and nothing of its channel is
-/// lost, or it is in phase 0. There it stays while 2 to 4 is commanded: the master hears nothing of it, and an open step gets older with
-/// each cycle. No step is open at the ends of more than 64 cycles, in no run: then the ring falls. It falls as well in the second cycle of
-/// phase 3 or 4 in which a drive is in phase 0. So if a drive is in phase 0, a fall comes in time: each other drive has spent at most its
-/// reads or its writes by then, and 65 cycles more have passed. If none is, a fall comes when at most the busy time of the slowest drive
-/// and one cycle have passed, or not at all; then phase 4 is commanded, or the master has a stop, once the cycles of a start-up and 41 steps
-/// more of the slowest drive have passed. If a record tells a fall, a restart of the master among them, and no cycle after it is disturbed,
-/// the ring starts up again as after its opening. And together: from so many cycles after the last disturbed one as twice the bound of a
-/// start-up and 200, phase 4 is commanded, or the master stands at a stop for its cause.
+/// A law over every run of a ring without undetected damage, over every link and with every restart. In cycles in which nothing is
+/// disturbed and the ring doesn't fall, regardless of losses before them, each drive is in the commanded phase and nothing of its channel
+/// is lost, or it is in phase 0. There it stays while 2 to 4 is commanded: the master receives nothing of it, and an open step gets older
+/// with each cycle. No step is open at the ends of more than 64 cycles, in no run: then the ring falls. It falls as well in the second
+/// cycle of phase 3 or 4 in which a drive is in phase 0. So if a drive is in phase 0, the ring falls in time: each other drive has spent at
+/// most its reads or its writes by then, and 65 cycles more have passed. If none is, the ring falls within the busy time of the slowest
+/// drive and one cycle, or not at all; then phase 4 is commanded, or the master has a stop, once the cycles of a start-up and 41 steps more
+/// of the slowest drive have passed. If a record has a fall, a restart of the master included, and no cycle after it is disturbed, the ring
+/// starts up again as after its opening. And together: from twice the bound of a start-up and 200 cycles after the last disturbed cycle on,
+/// phase 4 is commanded, or the master is at a stop for its cause.
 pub fn recovery_law()
     ensures up_or_down { UpOrDown }
     ensures down { StaysDown }

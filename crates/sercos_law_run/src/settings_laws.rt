@@ -7,7 +7,7 @@ use sercos_law_channel::transfer_law;
 
 /// A law on the settings of a drive's procedure commands in a run. At each MST's place they are what the records since the drive
 /// was last in phase 0 left; and a procedure command whose newest write since then isn't 0 is set. If each check for phase 3 was
-/// set well, each that is set ends well, and each complete check for phase 3 gives 3.
+/// set well, each that is set ends well, and each complete check for phase 3 returns 3.
 pub fn settings_law()
     ensures kept { SetByKept }
     ensures set { IsSetByWrites }

@@ -8,9 +8,9 @@ ghost use Rattle.sercos_law_run.specs.Start.Answers.{AsksAsRing, SaysLength, NoA
 ghost use Rattle.sercos_law_run.specs.Start.Held.{WritesStartUp, HoldsPlan};
 ghost use Rattle.sercos_law_run.specs.Start.RingSlots.{RingKeepsApart, RingSendsApart};
 
-/// A law and no code: what an identifier number adds to a telegram is the same by a drive's store and by its description,
-/// whatever was written, and so are the lengths of AT and data record. If the drive holds the start-up values of a plan that
-/// fits, its check for phase 3 finds nothing.
+/// A law, without code: what an identifier number adds to a telegram is the same by a drive's store and by its description,
+/// regardless of what was written, and so are the lengths of AT and data record. If the drive holds the start-up values of a plan
+/// that fits, its check for phase 3 finds nothing.
 pub fn start_up_law()
     ensures carry_alike { CarryAlike }
     ensures as_long { AreAsLong }
@@ -51,10 +51,10 @@ pub fn own_block_law()
     ensures opening { OwnAtOpening }
 {}
 
-/// A law and no code: whatever was written, each word of a write on the service channel is refused as at opening. Of the words of
-/// the start-up values only that of the cycle time can be refused, and it is refused exactly if it is outside the drive's limits.
-/// A ring's wishes are valid. The check for phase 3 ends well, and that for phase 4 exactly if no own block is outside its limits.
-/// The stop after a failed check has the drive's whole list.
+/// A law, without code: regardless of what was written, each word of a write on the service channel is refused as at opening. Of
+/// the words of the start-up values only that of the cycle time can be refused, and it is refused iff it is outside the drive's
+/// limits. A ring's planner input is valid. The check for phase 3 ends well, and that for phase 4 iff no own block is outside its
+/// limits. The stop after a failed check has the drive's whole list.
 pub fn cause_law()
     ensures alike { CausesAlike }
     ensures cycle { CycleCause }
@@ -65,8 +65,8 @@ pub fn cause_law()
     ensures whole { StopsWithList }
 {}
 
-/// A law and no code: by its drives' answers the master asks of the plan what the ring asks, and no attribute that is configured
-/// stops it. What it then writes are the start-up values, and a drive that holds them holds the plan.
+/// A law, without code: by its drives' answers the master's planner input is the ring's, and no attribute that is configured stops
+/// it. What it then writes are the start-up values, and a drive that holds them holds the plan.
 pub fn answer_law()
     ensures asks { AsksAsRing }
     ensures says { SaysLength }
@@ -76,8 +76,8 @@ pub fn answer_law()
     ensures holds { HoldsPlan }
 {}
 
-/// A law and no code: if each drive in phase 3 or 4 holds the start-up values of a plan that fits, the telegrams of a cycle are
-/// apart, and keep the times that the drives declare, whichever ATs are missing.
+/// A law, without code: if each drive in phase 3 or 4 holds the start-up values of a plan that fits, the telegrams of a cycle are
+/// apart, and keep the times that the drives declare, even if ATs are missing.
 pub fn ring_slot_law()
     ensures apart { RingKeepsApart }
     ensures sends { RingSendsApart }

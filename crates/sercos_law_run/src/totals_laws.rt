@@ -13,7 +13,7 @@ ghost use Rattle.sercos_law_run.specs.Totals.Totals.{totals_of};
 
 use sercos_master::master_law;
 
-/// A law and no code. The plan that is told in a cycle has a time and a position for each drive.
+/// A law, without code. The plan that is reported in a cycle has a time and a position for each drive.
 pub fn plan_law()
     ensures starts { (r : RingView) (jobs : List Job) (carry : Carry) (restarts : Restarts) (t : CycleView) (j : List CycleView) → IsNext r jobs carry restarts t j →
         IfSome t.events.plan (λ p. length p.t1 ≡ length (wishes_of r).drives) }

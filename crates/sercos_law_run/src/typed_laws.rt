@@ -10,7 +10,7 @@ use sercos_service_drive::writes_law;
 
 /// A law over all runs of a ring that is typed at opening. The data blocks of each drive are a store, whatever arrives at it, and each
 /// record that it processed has an element of three bits and a word of sixteen. If the jobs of the master are typed too, then in each
-/// cycle MST, ATs and MDT are contents that their frames give back, and what the master and the drives say fits into their records.
+/// cycle MST, ATs and MDT are contents that their frames return, and what the master and the drives send fits into their records.
 pub fn typed_law()
     ensures always { KeepsAlways }
     ensures within { KeepsWithin }

@@ -1,4 +1,4 @@
-//! Laws, and no code: what the trace of a run says. Its outcomes are exact, and it keeps the rules of a capture.
+//! Laws, without code, on the trace of a run: its outcomes are exact, and it keeps the rules of a capture.
 #![tactic(auto)]
 
 mod clean_laws;

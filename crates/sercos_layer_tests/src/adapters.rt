@@ -3,7 +3,7 @@ use sercos_io::{ReadFailed, Sink, Source, StdSink, StdSource, WriteFailed};
 use std::io;
 use std::io::{ErrorKind, Read, Write};
 
-// A reader whose first calls are interrupted; then it gives one byte, and then it fails.
+// A reader whose first calls are interrupted; then it returns one byte, and then it fails.
 #[derive(Drop)]
 struct Stuttering {
     interrupted: u32,
@@ -25,7 +25,7 @@ impl Read for Stuttering {
     }
 }
 
-// A reader that fails at its first call; each later call gives its own number as a byte.
+// A reader that fails at its first call; each later call returns its own number as a byte.
 #[derive(Drop)]
 struct FailsFirst {
     calls: u8,
@@ -84,7 +84,7 @@ impl Write for Recovering {
 
 #[test]
 fn interrupted_reads(rt: HostRuntime) {
-    // How often the first call is interrupted, and whether it then gives the byte.
+    // How often the first call is interrupted, and whether it then returns the byte.
     for (interrupted, gives) in [(0, true), (999, true), (1000, false)] {
         let mut source = StdSource::new(Stuttering {
             interrupted,
@@ -96,7 +96,7 @@ fn interrupted_reads(rt: HostRuntime) {
             gives,
             "after {interrupted}"
         );
-        // The next call gives the byte that the first one didn't reach, or fails.
+        // The next call returns the byte that the first one didn't reach, or fails.
         assert_eq!(rt;
             source.read(&mut piece).is_ok(),
             !gives,

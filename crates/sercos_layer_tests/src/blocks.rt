@@ -11,7 +11,7 @@ pub const SIGNED_FOUR: u32 = 0x0022_0001;
 
 pub const UNSIGNED_TWO: u32 = 0x0011_0001;
 
-// A block of a number: no name, no unit, no step. A bad attribute gives none.
+// A block of a number: no name, no unit, no step. None for a bad attribute.
 pub fn number(
     raw: u16,
     attribute: u32,
@@ -70,7 +70,7 @@ pub fn drive(alloc: Global) -> Result<DriveSetup, AllocError> {
     })
 }
 
-// The store of a drive, if its blocks can stand.
+// The store of a drive, if its blocks are valid.
 pub fn opened(alloc: Global, setup: &DriveSetup) -> Result<Option<Store>, AllocError> {
     if setup.blocks.len() > 36 {
         return Ok(None);
@@ -81,7 +81,7 @@ pub fn opened(alloc: Global, setup: &DriveSetup) -> Result<Option<Store>, AllocE
     }
 }
 
-// So many letters, along the alphabet.
+// The first `count` letters, along the alphabet.
 pub fn letters(count: usize) -> Option<Text> {
     let mut text = Text::new();
     for place in 0..count {

@@ -12,7 +12,7 @@ use sercos_step::{Outcome, Request};
 use std::alloc::{AllocError, Global};
 use std::test::Fail;
 
-// Both ends. Lost are the ATs, and the MDTs, of the cycles that give this remainder when they are divided by two.
+// Both ends. Lost are the ATs, and the MDTs, of the cycles with this remainder when they are divided by two.
 #[derive(Drop)]
 struct Channel {
     master: MasterChannel,
@@ -23,7 +23,7 @@ struct Channel {
 }
 
 impl Channel {
-    // The ends at their reset, if the drive's blocks can stand.
+    // The ends at their reset, if the drive's blocks are valid.
     fn open(alloc: Global, setup: &DriveSetup) -> Result<Option<Channel>, AllocError> {
         match Station::open(alloc, setup)? {
             None => Ok(None),
@@ -55,7 +55,7 @@ impl Channel {
         self.master.end_cycle();
     }
 
-    // Begins a request in a cycle, and carries it on in the 200 cycles behind. When and how it ended, if it did.
+    // Begins a request in a cycle, and carries it on in the next 200 cycles. When and how it ended, if it did.
     fn carry(&mut self, request: Request, begin: u32) -> Option<(u32, Outcome)>
         requires request { IsRequest request }
         requires early { begin < 1000 }
@@ -94,7 +94,7 @@ fn read(raw: u16) -> Request
     }
 }
 
-// A number that grows by 10 in each cycle is read whole, as it stands in the cycle in which its selection, the fourth of five
+// A number that grows by 10 in each cycle is read whole, as it is in the cycle in which its selection, the fourth of five
 // steps, is accepted.
 #[test]
 fn growing_number(rt: HostRuntime) -> Result<(), Fail> {

@@ -35,7 +35,7 @@ fn planned(alloc: Global, setup: &DriveSetup, t1: u16) -> Result<Option<Store>, 
 }
 
 // The drive can't send before 10 microseconds. At 4 Mbit/s an AT with one value of four bytes, 121 bits at most, that begins at
-// 10 ends at bit time 161. The drive's 6 microseconds behind it end at 185, and T2 is 188: one microsecond later is too late.
+// 10 ends at bit time 161. The drive's 6 microseconds after it end at 185, and T2 is 188: one microsecond later is too late.
 #[test]
 fn unfit_for_phase_3(rt: HostRuntime) -> Result<(), Fail> {
     let setup = drive(rt.alloc())?;

@@ -7,7 +7,7 @@ use sercos_idn::Idn;
 use std::alloc::{AllocError, Global};
 use std::test::Fail;
 
-// A drive in phase 0 in a ring of 4 Mbit/s, if its blocks can stand.
+// A drive in phase 0 in a ring of 4 Mbit/s, if its blocks are valid.
 fn opened(alloc: Global, setup: &DriveSetup) -> Result<Option<Drive>, AllocError> {
     if setup.blocks.len() > 36 {
         return Ok(None);
@@ -19,7 +19,7 @@ fn opened(alloc: Global, setup: &DriveSetup) -> Result<Option<Drive>, AllocError
 }
 
 // In phase 1 the drive is addressed; in phase 2 it writes 10 to S-0-0006, the starting time of its AT. A restart puts it into
-// phase 0, where it says nothing, and keeps what was written.
+// phase 0, where it sends nothing, and keeps what was written.
 #[test]
 fn writes_and_restarts(rt: HostRuntime) -> Result<(), Fail> {
     // The phase of the MST, the AT that is wanted, and the MDT.

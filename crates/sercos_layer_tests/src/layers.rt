@@ -4,7 +4,7 @@ use sercos_hdlc::{BadFrame, TooLong, frame, frame_len, unframe};
 use sercos_io::{PlainSource, Words, read_all};
 use std::test::Fail;
 
-// The check value that catalogues of check sequences give for this one.
+// The check value of this check sequence in catalogues.
 #[test]
 fn check_value(rt: HostRuntime) {
     assert_eq!(rt; fcs(b"123456789"), 0x906e);
@@ -24,7 +24,7 @@ fn too_long_a_frame(rt: HostRuntime) {
     assert_eq!(rt; content.as_slice().len(), 0);
 }
 
-// A frame of 49 bits, told by the bytes that its bits fill, and read again.
+// A frame of 49 bits, as the bytes that its bits fill, and read again.
 #[test]
 fn frame_and_content(rt: HostRuntime) -> Result<(), Fail> {
     let mut bits = BitBuf::new();

@@ -27,7 +27,7 @@ fn read_in_pieces(
     reader.finish(content)
 }
 
-// Whether the reader then reads the frame of the bytes ff and 00, as if nothing had come before.
+// Returns whether the reader then reads the frame of the bytes ff and 00, as if nothing had been read before.
 fn reads_the_frame(reader: &mut Deframer, size: usize, content: &mut Content) -> bool {
     let read = read_in_pieces(reader, b"\x7e\xdf\x01\x0e\xe1\xfd\x00", 49, size, content);
     read == Ok(2) && content.as_slice() == b"\xff\x00".as_slice()

@@ -22,7 +22,7 @@ pub struct Station {
 }
 
 impl Station {
-    // A drive at its opening, if its blocks can stand.
+    // A drive at its opening, if its blocks are valid.
     pub fn open(alloc: Global, setup: &DriveSetup) -> Result<Option<Station>, AllocError> {
         match opened(alloc, setup)? {
             None => Ok(None),
@@ -35,7 +35,7 @@ impl Station {
         }
     }
 
-    // Takes a record, and says whether it wrote.
+    // Processes a record, and returns whether it wrote.
     pub fn take(&mut self, cycle: u32, control: &Control, info: u16, phase: u8) -> bool
         requires { (2 ≤ phase) × (phase ≤ 4) }
     {
@@ -49,7 +49,7 @@ impl Station {
         )
     }
 
-    // Takes a step with the last handshake bit, and says whether it wrote.
+    // Processes a step with the last handshake bit, and returns whether it wrote.
     pub fn repeat(&mut self, cycle: u32, phase: u8, step: Step) -> bool
         requires { (2 ≤ phase) × (phase ≤ 4) }
     {
@@ -63,7 +63,7 @@ impl Station {
         self.take(cycle, &control, step.word, phase)
     }
 
-    // Takes a step with the handshake bit changed, and says whether it wrote.
+    // Processes a step with the handshake bit changed, and returns whether it wrote.
     pub fn step(&mut self, cycle: u32, phase: u8, step: Step) -> bool
         requires { (2 ≤ phase) × (phase ≤ 4) }
     {

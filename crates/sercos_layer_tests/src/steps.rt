@@ -100,9 +100,9 @@ fn step(does: Does, word: u16) -> Step {
 type Row = (u16, u8, Does, u16, u16);
 
 // Each code, and below them each pair of causes that one step can have, in the order in which they are tried. No other pairs
-// meet: where nothing is open there is no block that could be fixed, protected or of another length; elements 2 to 6 are no
+// meet: if nothing is open there is no block that could be fixed, protected or of another length; elements 2 to 6 are not
 // operation data; a list and a procedure command have no limits, so 0x7008 and a list's length (0x7003) don't meet them; and
-// limits are looked at with the word that is marked as the last, so 0x7003 of one that isn't doesn't, either.
+// limits are tested with the word that is marked as the last, so 0x7003 of one that isn't doesn't, either.
 const ROWS: [Row; 38] = [
     (0, 2, Does::Open, 99, 0x1001),
     (0, 2, Does::Read(7), 0, 0x0001),
@@ -139,7 +139,7 @@ const ROWS: [Row; 38] = [
     (127, 3, Does::Last, 1, 0x7005),
     (2, 3, Does::Last, 124, 0x7005),
     (2, 3, Does::Last, 64001, 0x7005),
-    // 0x7002 with 0x7003, 0x7008, and with 0x7006 and 0x7007, if the words that came are taken for the number.
+    // 0x7002 with 0x7003, 0x7008, and with 0x7006 and 0x7007, if the words so far are taken for the number.
     (LISTED, 2, Does::Last, 10, 0x7002),
     (LISTED, 2, Does::Last, 3, 0x7002),
     (LONG, 2, Does::Last, 5, 0x7002),
@@ -228,7 +228,7 @@ const STORIES: [Story; 9] = [
         47,
         &[0; 4],
     ),
-    // Behind the copy there is 0.
+    // After the copy there is 0.
     (
         &[
             (2, Does::Open, LIMITED),
@@ -313,8 +313,8 @@ fn stories(rt: HostRuntime) -> Result<(), Fail> {
     Ok(())
 }
 
-// A record that comes again with the same handshake bit is no step: the drive isn't busy with it, and the read goes on where
-// it was. In cycle 110 the number is 65600.
+// A record that is repeated with the same handshake bit is not a step: the drive isn't busy with it, and the read goes on
+// where it was. In cycle 110 the number is 65600.
 #[test]
 fn repeated_record(rt: HostRuntime) -> Result<(), Fail> {
     let setup = setup(rt.alloc())?;
@@ -356,7 +356,7 @@ fn set_command(rt: HostRuntime) -> Result<(), Fail> {
     Ok(())
 }
 
-// Behind a reset nothing is set or open, and the handshake bit is 0.
+// After a reset nothing is set or open, and the handshake bit is 0.
 #[test]
 fn reset(rt: HostRuntime) -> Result<(), Fail> {
     let setup = setup(rt.alloc())?;

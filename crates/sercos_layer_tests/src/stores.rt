@@ -9,7 +9,7 @@ use std::test::Fail;
 // The attribute of a number of two bytes with sign.
 const SIGNED_TWO: u32 = 0x0021_0001;
 
-// All that a store tells of the block with an identifier number, but for its operation data.
+// All that a store returns of the block with an identifier number, except for its operation data.
 fn told(alloc: Global, store: &Store, idn: Idn) -> Result<Vec<u8>, AllocError> {
     let mut bytes = Vec::from_slice(alloc, &store.max_len(idn).to_le_bytes())?;
     bytes.extend_from_slice(&store.step(idn).to_le_bytes())?;
@@ -25,7 +25,7 @@ fn told(alloc: Global, store: &Store, idn: Idn) -> Result<Vec<u8>, AllocError> {
     Ok(bytes)
 }
 
-// Whether two stores have the same blocks, but for the operation data of one identifier number, if that is given.
+// Whether two stores have the same blocks, except for the operation data of one identifier number, if there is one.
 fn are_same(
     alloc: Global,
     first: &Store,
@@ -139,10 +139,10 @@ fn limited(alloc: Global) -> Result<DriveSetup, AllocError> {
     Ok(setup)
 }
 
-// An identifier number, the bytes, the phase, and the code, 0 where there is none.
+// An identifier number, the bytes, the phase, and the code, 0 for none.
 type Write = (u16, &'static [u8], u8, u16);
 
-// Whether a write is answered so: with a code nothing changes, else the operation data of that block alone.
+// Returns whether a write has this answer: with a code nothing changes, otherwise the operation data of that block alone.
 fn is_answered(alloc: Global, setup: &DriveSetup, write: Write) -> Result<bool, AllocError> {
     let (raw, bytes, phase, code) = write;
     let idn = Idn { raw };
@@ -237,7 +237,7 @@ fn given_lists(rt: HostRuntime) -> Result<(), Fail> {
     Ok(())
 }
 
-// A block that breaks the rule of a part, and those of the parts behind it that it can.
+// A block that breaks the rule of a part, and those of the later parts that it can.
 fn breaking(field: Field) -> Option<Block> {
     let mut block = number(0x8014, UNSIGNED_TWO, None, None, &[0, 0])?;
     let command = Attribute::read(0x0009_0001).ok()?;

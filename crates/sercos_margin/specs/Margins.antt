@@ -92,7 +92,7 @@ unfoldable pub highest : (ℕ → Bool) → ℕ → ℕ → ℕ
 highest f low zero = low
 highest f low (suc n) = if f (low + suc n) then low + suc n else highest f low n
 
--- how far the time t of the drive k can go, found value by value: a plan fits exactly where the least times keep their bounds
+-- how far the time t of the drive k can go, found value by value: a plan fits iff the least times keep their bounds
 unfoldable pub margin_of : WishesView → ℕ → Time → ℕ
 margin_of w k t = highest (λ v. is_roomy (with_time w k t v)) (declared w k t) (greatest t - declared w k t)
 

@@ -26,7 +26,7 @@ pub enum Time {
     Tmtsg,
 }
 
-/// The greatest value of this time that a drive may declare, in microseconds (this profile).
+/// Returns the greatest value of this time that a drive may declare, in microseconds (this profile).
 pub fn greatest(t: Time) -> u16
     ensures value { result ≡ greatest t }
     ensures limit { result ≤ 64_000 }
@@ -111,7 +111,7 @@ fn wishes_of(drives: &[Wish]) -> ArrayVec<Wish, 64>
     wishes
 }
 
-// A copy in which another wish stands at a place of the ring.
+// A copy with another drive's input at a place of the ring.
 fn with_wish(drives: &[Wish], index: usize, wish: Wish) -> ArrayVec<Wish, 64>
     requires count { length drives.now ≤ 64 }
     requires within { index < length drives.now }

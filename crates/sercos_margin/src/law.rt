@@ -1,4 +1,4 @@
-// Laws on wishes that ask more.
+// Laws on planner's input with greater times.
 ghost use Rattle.std.specs.Prelude.{ℕ, ◌<◌, ◌≤◌};
 ghost use Rattle.sercos_timing.specs.Views.{WishesView, PlanView};
 ghost use Rattle.sercos_timing.specs.Inequalities.{Fits};

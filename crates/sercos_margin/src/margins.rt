@@ -10,7 +10,7 @@ use sercos_plan::plan;
 use sercos_timing::Wishes;
 use sercos_timing::limits::{CYCLE_UNIT, LEAST_CYCLE, MOST_CYCLE};
 
-// Whether a plan fits.
+// Returns whether a plan fits.
 #[tactic(auto, using(crate::proofs::EasierLemmas::some_plan))]
 fn has_plan(w: &Wishes) -> bool
     requires { IsValid w.now }
@@ -23,7 +23,7 @@ fn has_plan(w: &Wishes) -> bool
     }
 }
 
-// Whether a plan fits where one time of a drive has another value.
+// Returns whether a plan fits where one time of a drive has another value.
 fn has_with_time(w: &Wishes, index: usize, t: Time, value: u16) -> bool
     requires valid { IsValid w.now }
     requires within { index < length w.now.drives }
@@ -34,7 +34,7 @@ fn has_with_time(w: &Wishes, index: usize, t: Time, value: u16) -> bool
     has_plan(&new)
 }
 
-// Whether a plan fits with another cycle time.
+// Returns whether a plan fits with another cycle time.
 #[tactic(auto, using(crate::proofs::EasierLemmas::valid_cycle))]
 fn has_with_cycle(w: &Wishes, cycle: u16) -> bool
     requires valid { IsValid w.now }
@@ -101,8 +101,8 @@ fn least_multiple(w: &Wishes) -> u16
     CYCLE_UNIT * low
 }
 
-/// The least cycle time, in microseconds, with which a plan fits where it is also the control unit cycle time: 125, or a
-/// multiple of 250 up to 64,000. From it on a plan fits with each of these, and below it with none. None exactly where no
+/// Returns the least cycle time, in microseconds, with which a plan fits if it is also the control unit cycle time: 125,
+/// or a multiple of 250 up to 64,000. From it on a plan fits with each of these, and below it with none. `None` iff no
 /// plan fits with any of them.
 pub fn least_cycle(w: &Wishes) -> Option<u16>
     requires { IsValid w.now }

@@ -21,8 +21,8 @@ use Rattle.sercos_seat.specs.Agenda.{agenda, at_len, is_checked, is_read, is_rea
 use Rattle.sercos_seat.specs.Channel.{Report, count_requests, is_place, last_outcome, number_in, of_phase, outcomes_in, report_of, trouble_by}
 use Rattle.sercos_seat.specs.Ring.{Known, Task, member}
 
--- What the master is given: the MST that came back to it, if one did; an AT; its turn to send the MDT; the end of the cycle;
--- and a restart.
+-- The calls of the master: the MST that came back to it, if one did; an AT; its turn to send the MDT; the end of the cycle; and a
+-- restart.
 pub data Call : Type 0 where
   HearMst : (content : Option (List ℕ)) → Call
   HearAt : (content : List ℕ) → Call
@@ -30,9 +30,9 @@ pub data Call : Type 0 where
   End : Call
   Restart : Call
 
--- A cycle, as far as it has come: the phase commanded in it; whether its MST came back whole; from which drives an AT was
--- taken, by their places; to which drive its MDT is, if it is to one; whether the plan was made and a stop was found in it;
--- and which request to each drive an AT ended.
+-- A cycle so far: the phase commanded in it; whether its MST came back whole; from which drives an AT was taken, by their places;
+-- the drive that its MDT addresses, if it addresses one; whether the plan was made and a stop was found in it; and which request
+-- to each drive an AT ended.
 pub record Turn : Type 0 where
   pub phase : ℕ
   pub whole : Bool
@@ -53,9 +53,9 @@ new_turn phase = record {
   report = λ k. None;
 }
 
--- What the master looks back on: how many cycles ended since the opening; the requests to each drive that had not been begun
--- when the epoch began; the cycles of the epoch, the present one first; what each channel was given in the epoch, and which
--- tasks were begun on it; the plan and the stop, if there is one. Channels are named by the drive's place.
+-- What the master looks back on: the number of cycles since the opening; the requests to each drive that had not been begun when
+-- the epoch began; the cycles of the epoch, the present one first; the calls on each channel in the epoch, and the tasks begun on
+-- it; the plan and the stop, if there is one. Channels are named by the drive's place.
 pub record Past : Type 0 where
   pub cycle : ℕ
   pub waiting : ℕ → List Task
@@ -130,7 +130,7 @@ wanted_len s p k = if nat_le 3 p.now.phase then at_len (member s k) (outcomes p 
 abbrev pub is_taken : Known → Past → ℕ → List ℕ → Bool
 is_taken s p k content = is_awaited p k && (not (p.now.heard k) && is_none (at_fault (member s k).address (wanted_len s p k) content))
 
--- Its status is heard on the channel, and an outcome of a request is to be reported. In phase 1 the AT alone counts.
+-- Its status is passed to the channel, and an outcome of a request is to be reported. In phase 1 the AT alone counts.
 abbrev pub calls_with : Bool → ℕ → List ℕ → Past → List channel.Call
 calls_with identifies k content p = if identifies then p.calls k else Hear (status_of (word_at content 1)) (word_at content 3) ∷ p.calls k
 
@@ -174,7 +174,7 @@ with_stop (Some x) p = if is_some p.stop then p else record p { now = record p.n
 abbrev pub all_read : Known → Past → Bool
 all_read s p = each_place s (λ k. is_read (member s k) (outcomes p k))
 
--- the plan is due: all reads have ended, there is none yet and no stop
+-- the plan is due: all reads have ended, and there is no plan yet and no stop
 abbrev pub is_plan_due : Known → Past → Bool
 is_plan_due s p = (p.now.phase == 2) && (is_none p.stop && (is_none p.plan && all_read s p))
 
@@ -193,8 +193,8 @@ with_due_plan s p = if is_plan_due s p then planned_by s p else p
 abbrev pub settled : Known → Past → Past
 settled s p = with_due_plan s (with_stop (first_trouble s p) p)
 
--- Then each idle channel begins its next task, if that belongs to the phase and there is no stop. In phase 2 one drive
--- after the other has its turn: the first that isn't read, and then the first whose check for phase 3 hasn't ended well.
+-- Then each idle channel begins its next task, if that belongs to the phase and there is no stop. In phase 2 one drive after the
+-- other has its turn: the first with unfinished reads, and then the first whose check for phase 3 hasn't ended well.
 abbrev pub in_turn : Known → Past → Option ℕ
 in_turn s p = option_or (first_place s (λ k. not (is_read (member s k) (outcomes p k)))) (first_place s (λ k. not (is_checked (member s k) (outcomes p k))))
 

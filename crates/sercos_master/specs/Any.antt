@@ -14,6 +14,6 @@ StandsAt (P2 m) s p = IsIn 2 m s p
 StandsAt (P3 m) s p = IsIn 3 m s p
 StandsAt (P4 m) s p = IsIn 4 m s p
 
--- the master stands for what its opening was given, and for its calls since, the newest first
+-- the master stands for the arguments of its opening, and for its calls since, the newest first
 abbrev pub AnyStandsFor : AnyMaster → Known → List Job → List Call → Type 0
 AnyStandsFor m s jobs h = StandsAt m s (past s (tasks_for s jobs) h)

@@ -1,4 +1,4 @@
--- What the master keeps of its ring, and how that stands for what it looks back on.
+-- What the master keeps of its ring, and how it stands for what it looks back on. For proofs alone.
 use Rattle.std.specs.Prelude.{zero, suc, unwrap_or, ◌^◌, ◌%◌, slice_index_or, ◌≡◌, ℕ, ◌+◌, ◌<◌, ◌≤◌, ◌==◌, ◌++◌, nat_le, nat_lt, if◌then◌else◌, Bool, false, not, ◌&&◌, List, [], ◌∷◌, length, min, Option, Some, None, is_some}
 use Rattle.sercos_step.specs.declared.request.Outcome.{Outcome}
 use Rattle.std.specs.List.{position}
@@ -27,10 +27,10 @@ seen_at p k = record {
   waiting = p.waiting k;
 }
 
--- What is kept of the ring: its numbers; the place of each address; a seat for each drive; the cycle's number; the phase; whether the MST of the present
--- cycle came back whole, how many did in a row before, counted up to 10, and whether that of the cycle before did not, in
--- phases 1 to 4; to which drive the MDT is and was; in how many cycles of phase 1 in a row it was to that drive; the plan and the
--- stop, and whether they are of this cycle.
+-- What is kept of the ring: its numbers; the place of each address; a seat for each drive; the cycle's number; the phase; whether the MST
+-- of the present cycle came back whole, how many did in a row before, counted up to 10, and whether that of the cycle before did not, in
+-- phases 1 to 4; the drives that the MDT addresses and addressed; in how many cycles of phase 1 in a row it was that drive; the plan and
+-- the stop, and whether they are of this cycle.
 pub record CoreView : Type 0 where
   pub rate : ℕ
   pub cycle : ℕ
@@ -74,7 +74,7 @@ abbrev pub waited_with : ℕ → Option ℕ → Option ℕ → ℕ → ℕ
 waited_with phase addressed before waited =
     if (phase == 1) && is_some addressed then (if is_same addressed before then min (waited + 1) 64 else 1) else 0
 
--- each seat stands for its drive and what was seen of it
+-- each seat stands for its drive and the drive's telegrams
 abbrev pub SeatsStandFor : List SeatView → Known → (ℕ → Seen) → Type 0
 SeatsStandFor seats s seen = (k : ℕ) (v : SeatView) → k < length seats → SeatStandsFor (slice_index_or seats k v) (member s k) (seen k)
 
@@ -128,6 +128,6 @@ with_pair (Some x) reports = inserted x.0 x.1 reports
 abbrev pub place_in : ℕ → List (ℕ × Outcome) → ℕ
 place_in number reports = unwrap_or (position (λ x. nat_lt number x.0) reports) (length reports)
 
--- each seat stands for its drive, of which nothing was seen
+-- each seat stands for its drive, without telegrams
 abbrev pub AreFresh : List SeatView → List MemberView → Type 0
 AreFresh seats members = (k : ℕ) (v : SeatView) (d : MemberView) → k < length seats → SeatStandsFor (slice_index_or seats k v) (slice_index_or members k d) (nothing_seen [])

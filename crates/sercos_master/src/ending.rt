@@ -19,7 +19,7 @@ use sercos_timing::Plan;
 use sercos_trace::{Fall, Reported, Stop};
 
 impl Ring {
-    // Whether all that belongs to the phase is done.
+    // Returns whether all that belongs to the phase is done.
     pub fn is_done(&self) -> bool
         ensures { (s : Known) (p : Past) → CoreStandsFor self.now s p → result ≡ is_done s p }
     {
@@ -32,7 +32,7 @@ impl Ring {
         }
     }
 
-    // The cycle ends, and the next one is of this phase. A stop of the cycle is told.
+    // Ends the cycle; the next one is of this phase. A stop of the cycle is reported.
     fn go_on(&mut self, next: u8, reports: &mut ArrayVec<Reported, 128>, told: &mut Option<Stop>)
         ensures stop { told.new ≡ option_or self.old.stop told.old }
         ensures told { (s : Known) (p : Past) → CoreStandsFor self.old s p → length reports.old.items + length s.drives ≤ 128 →
@@ -74,7 +74,7 @@ impl Ring {
         self.stop = None;
     }
 
-    // Tells the plan of the cycle, if there is one.
+    // Reports the plan of the cycle, if there is one.
     pub fn tell_plan(&self, told: &mut Option<Plan>)
         ensures { (s : Known) (p : Past) → CoreStandsFor self.now s p → told.new ≡ option_or (plan_told p) told.old }
     {
@@ -86,8 +86,8 @@ impl Ring {
         }
     }
 
-    // Ends the cycle: the ring falls, or goes on, in the next phase if all that belongs to this one is done. A stop of the cycle is
-    // told.
+    // Ends the cycle: the ring falls, or goes on, in the next phase if everything of this one is done. A stop of the cycle is
+    // reported.
     pub fn end_cycle(
         &mut self,
         reports: &mut ArrayVec<Reported, 128>,
@@ -111,7 +111,7 @@ impl Ring {
         fall
     }
 
-    // The phase of the next cycle, if there is no fall.
+    // Returns the phase of the next cycle if there is no fall.
     fn next_phase(&self) -> u8
         ensures value { (s : Known) (p : Past) → CoreStandsFor self.now s p → result ≡ next_phase s p }
         ensures bound { self.now.phase ≤ 4 → result ≤ 4 }
@@ -208,7 +208,7 @@ fn plan_copy(plan: &Plan) -> Plan
     }
 }
 
-// Tells a stop, if there is one. It is moved only then, since it is large.
+// Reports a stop, if there is one. It is moved only then, since it is large.
 fn tell_stop(stop: &mut Option<Stop>, told: &mut Option<Stop>)
     ensures told { told.new ≡ option_or stop.old told.old }
     ensures none { stop.new ≡ None }

@@ -1,4 +1,4 @@
-// What the master hears: its own MST, and the ATs.
+// How the master processes its own MST, and the ATs.
 ghost use Rattle.std.specs.Prelude.{◌≡◌, ◌<◌, ◌≤◌, ◌==◌, ◌&&◌, true, false, length, nat_le, Option, Some, None, IfSome, option_map, if◌then◌else◌, slice_index_or};
 ghost use Rattle.sercos_seat.specs.Ring.{Known};
 ghost use Rattle.sercos_master.specs.Annals.{Past, is_mst, after_mst, after_at, place_of, is_awaited, wanted_len, after_at_of};
@@ -12,7 +12,7 @@ use sercos_bits::byte_at;
 use sercos_telegram::read_mst;
 
 impl Ring {
-    // The own MST comes back, or doesn't.
+    // The master's own MST came back, or didn't.
     pub fn hear_mst(&mut self, content: Option<&[u8]>)
         ensures { (s : Known) (p : Past) → CoreStandsFor self.old s p →
             CoreStandsFor self.new s (after_mst (option_map (λ c. c.now) content.entry) p) }
@@ -20,7 +20,7 @@ impl Ring {
         self.whole = is_mst(self.phase, content);
     }
 
-    // Whether the AT of the drive at a place is awaited.
+    // Returns whether the AT of the drive at a place is awaited.
     fn is_awaited(&self, place: usize) -> bool
         ensures { result ≡ (if nat_le 3 self.now.phase then true else (nat_le 1 self.now.phase && is_place place self.now.before)) }
     {
@@ -30,7 +30,7 @@ impl Ring {
         self.phase >= 1 && is_place(place, self.before)
     }
 
-    // How many bytes its AT has after the address.
+    // Returns how many bytes its AT has after the address.
     fn wanted_len(&self, place: usize) -> u16
         requires { place < length self.now.seats }
         ensures value { (v : SeatView) → result ≡ (if nat_le 3 self.now.phase then at_len_kept (slice_index_or self.now.seats place v) else 4) }
@@ -43,7 +43,7 @@ impl Ring {
         }
     }
 
-    // Hears an AT of the drive at a place.
+    // Processes an AT of the drive at a place.
     fn hear_from(&mut self, place: usize, content: &[u8])
         requires { place < length self.old.seats }
         ensures { (s : Known) (p : Past) → CoreStandsFor self.old s p → CoreStandsFor self.new s (after_at_of s (Some place) content.now p) }
@@ -81,7 +81,7 @@ impl Ring {
     }
 }
 
-// Whether a content is the MST of a phase.
+// Returns whether a content is the MST of a phase.
 fn is_mst(phase: u8, content: Option<&[u8]>) -> bool
     ensures { result ≡ is_mst phase (option_map (λ c. c.now) content.entry) }
 {

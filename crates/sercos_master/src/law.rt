@@ -7,11 +7,11 @@ ghost use Rattle.sercos_master.specs.Written.{AreWritten};
 // Laws on what the master looks back on, after any calls.
 use sercos_step::steps_law;
 
-/// Laws, which hold after any sequence of calls. A plan is the least one of what was read in this epoch. Where phase 3 or 4 is
-/// commanded there is a plan, each drive has answered the eleven writes of this plan without error, and its check for phase 3
-/// has ended well, all in this epoch; where phase 4 is, its check for phase 4 too. What waits of the requests to a drive is what is
-/// left of them in their order; a request that begins is the first that waits; and it waits no longer, through all falls and
-/// restarts. So each is begun at most once, in the order in which they were given.
+/// Laws, which hold after any sequence of calls. A plan is the least one of what was read in this epoch. If phase 3 or 4 is
+/// commanded there is a plan, each drive has answered the eleven writes of this plan without error, and its check for phase 3 has
+/// ended well, all in this epoch; in phase 4 its check for phase 4 has, too. The requests to a drive that wait are those that are
+/// left in their order; a request that begins is the first that waits; and it waits no longer, through all falls and restarts. So
+/// each is begun at most once, in the order of the requests.
 pub fn master_law()
     ensures left { (s : Known) (jobs : List Job) (h : List Call) (k : ℕ) → (n : ℕ) × ((past s (tasks_for s jobs) h).waiting k ≡ drop n (tasks_for s jobs k)) }
     ensures first { (s : Known) (jobs : List Job) (h : List Call) (k : ℕ) (t : Task) → k < length s.drives → begins s (settled s (past s (tasks_for s jobs) h)) k ≡ Some t → is_some t.number ≡ true →

@@ -69,7 +69,7 @@ fn in_state<P>(ring: Box<Ring>) -> Master<P>
 }
 
 impl Master<Cp0> {
-    /// Commands phase 1. The old state comes back, unchanged, exactly if fewer than ten MSTs in a row came back whole.
+    /// Commands phase 1. The error is the old state, unchanged, iff fewer than ten MSTs in a row came back whole.
     pub fn rise(mut self) -> Result<Master<Cp1>, Master<Cp0>>
         ensures exactly { (s : Known) (p : Past) → IsIn 0 self s p → is_ok result ≡ is_closed p }
         ensures up { IfOk result (λ m. m ≡ record self { phase = 1 }) }
@@ -85,7 +85,7 @@ impl Master<Cp0> {
 }
 
 impl Master<Cp1> {
-    /// Commands phase 2. The old state comes back, unchanged, exactly if some drive hasn't answered its identification.
+    /// Commands phase 2. The error is the old state, unchanged, iff some drive hasn't answered its identification.
     pub fn rise(mut self) -> Result<Master<Cp2>, Master<Cp1>>
         ensures exactly { (s : Known) (p : Past) → IsIn 1 self s p → is_ok result ≡ all_identified s p }
         ensures up { IfOk result (λ m. m ≡ record self { phase = 2 }) }
@@ -101,9 +101,9 @@ impl Master<Cp1> {
 }
 
 impl Master<Cp2> {
-    /// Commands phase 3. The old state comes back, unchanged, exactly if some drive's check for phase 3 (S-0-0127), its last job
-    /// of phase 2, hasn't ended with data status 3. The new state has the plan, and each drive has answered the writes of this
-    /// plan without error since the last fall.
+    /// Commands phase 3. The error is the old state, unchanged, iff some drive's check for phase 3 (S-0-0127), its last job of
+    /// phase 2, hasn't ended with data status 3. The new state has the plan, and each drive has answered the writes of this plan
+    /// without error since the last fall.
     pub fn rise(mut self) -> Result<Master<Cp3>, Master<Cp2>>
         ensures exactly { (s : Known) (p : Past) → IsIn 2 self s p → is_ok result ≡ all_checked s p }
         ensures up { IfOk result (λ m. m ≡ record self { phase = 3 }) }
@@ -120,8 +120,8 @@ impl Master<Cp2> {
 }
 
 impl Master<Cp3> {
-    /// Commands phase 4. The old state comes back, unchanged, exactly if some drive's check for phase 4 (S-0-0128) hasn't ended
-    /// with data status 3. The new state has the plan, and each drive has answered the writes of this plan without error since
+    /// Commands phase 4. The error is the old state, unchanged, iff some drive's check for phase 4 (S-0-0128) hasn't ended with
+    /// data status 3. The new state has the plan, and each drive has answered the writes of this plan without error since
     /// the last fall.
     pub fn rise(mut self) -> Result<Master<Cp4>, Master<Cp3>>
         ensures exactly { (s : Known) (p : Past) → IsIn 3 self s p → is_ok result ≡ all_ready s p }
@@ -207,9 +207,9 @@ fn tell_fall(fall: Option<Fall>, told: &mut Option<Fall>)
     }
 }
 
-/// The master's end of the ring, in the phase that it commands. It knows of the drives only what the setup's addresses, slaves
-/// and lists say, and what it heard. In each cycle `mst`, `hear_mst`, `hear_at` any number of times, `mdt` and `end_cycle` are called
-/// in this order; a call in another order is safe, and means what the definitions say of it. No call but `open` takes memory.
+/// The master's end of the ring, in the phase that it commands. It knows of the drives only the setup's addresses, slaves and lists,
+/// and what it received. In each cycle `mst`, `hear_mst`, `hear_at` any number of times, `mdt` and `end_cycle` are called in this
+/// order; a call in another order is safe, and its effect is what the definitions say. No call but `open` takes memory.
 #[derive(Drop)]
 pub enum AnyMaster {
     /// In phase 0.
@@ -227,9 +227,9 @@ pub enum AnyMaster {
 impl AnyMaster {
     ghost use Rattle.sercos_master.specs.Any.{StandsAt, AnyStandsFor};
 
-    /// Opens a master in phase 0 that has heard nothing, with at most 4,096 requests. It uses no time that a drive declares and no
-    /// data block of the setup. A request to an address that no drive of the setup has is never begun. `AllocError` comes where
-    /// memory isn't found, and then nothing is left behind.
+    /// Opens a master in phase 0 that has received nothing, with at most 4,096 requests. It uses no time that a drive declares and no
+    /// data block of the setup. A request to an address without a drive in the setup is never begun. The error is `AllocError`; then
+    /// nothing is left behind.
     pub fn open(alloc: Global, setup: &RingSetup, jobs: Vec<Job>) -> Result<AnyMaster, AllocError>
         requires ring { is_ring setup.now ≡ true }
         requires few { length jobs.items ≤ 4096 }
@@ -268,7 +268,7 @@ impl AnyMaster {
         );
     }
 
-    /// Hears the own MST as it came back, or that it didn't.
+    /// Processes the own MST as it came back, or that it didn't.
     pub fn hear_mst(&mut self, content: Option<&[u8]>)
         ensures { (s : Known) (jobs : List Job) (h : List Call) → AnyStandsFor self.old s jobs h →
             AnyStandsFor self.new s jobs (HearMst (option_map (λ c. c.now) content.entry) ∷ h) }
@@ -282,7 +282,7 @@ impl AnyMaster {
         }
     }
 
-    /// Hears the content of a frame where ATs are awaited. It is taken as the AT of the drive with its address: the first of that
+    /// Processes the content of a frame at a place of ATs. It is taken as the AT of the drive with its address: the first of that
     /// drive in a cycle that has the length of its AT, in phases 1 and 2 only of the drive addressed in the cycle before.
     pub fn hear_at(&mut self, content: &[u8])
         ensures { (s : Known) (jobs : List Job) (h : List Call) → AnyStandsFor self.old s jobs h → AnyStandsFor self.new s jobs (HearAt content.now ∷ h) }
@@ -313,7 +313,7 @@ impl AnyMaster {
         }
     }
 
-    // What it keeps, whatever its state.
+    // Its invariant in every state.
     fn into_ring(self) -> Box<Ring>
         ensures stands { (s : Known) (p : Past) → StandsAt self s p → CoreStandsFor result.value s p }
         ensures phase { (s : Known) (p : Past) → StandsAt self s p → result.value.phase ≤ 4 }
@@ -356,7 +356,7 @@ impl AnyMaster {
         AnyMaster::of_ring(ring)
     }
 
-    /// Restarts the master: it commands phase 0 and has heard nothing. The open requests are added to the events as broken, and
+    /// Restarts the master: it commands phase 0 and has received nothing. The open requests are added to the events as broken, and
     /// the fall `Restart`; the events have at most 64 outcomes before.
     pub fn restart(self, events: &mut Events) -> AnyMaster
         ensures stands { (s : Known) (jobs : List Job) (h : List Call) → AnyStandsFor self s jobs h → AnyStandsFor result s jobs (Restart ∷ h) }

@@ -24,7 +24,7 @@ fn idns_of(idns: &[Idn]) -> ArrayVec<Idn, 16>
     copy
 }
 
-// What a setup tells the master of a drive.
+// What the master knows of a drive from the setup.
 fn member_of(drive: &DriveSetup) -> Member
     ensures value { result ≡ member_of drive.now }
     ensures lists { HasLists result }
@@ -49,7 +49,7 @@ pub fn open_seats(alloc: Global, drives: &[DriveSetup]) -> Result<Vec<Seat>, All
     Ok(seats)
 }
 
-// Gives each drive its requests, from the last one on.
+// Hands each drive its requests, from the last one on.
 pub fn deal(mut jobs: Vec<Job>, seats: &mut Vec<Seat>) -> Result<(), AllocError>
     requires few { length jobs.items ≤ 4096 }
     requires requests { All (λ job. IsRequest job.request) jobs.items }
@@ -66,7 +66,7 @@ pub fn deal(mut jobs: Vec<Job>, seats: &mut Vec<Seat>) -> Result<(), AllocError>
     Ok(())
 }
 
-// Gives the drive with its address a request.
+// Hands the drive with its address a request.
 fn give(number: u16, job: Job, seats: &mut Vec<Seat>) -> Result<(), AllocError>
     requires { IsRequest job.request }
     ensures count { OnOk result (length seats.new.items ≡ length seats.old.items) }

@@ -27,7 +27,7 @@ impl Ring {
         }
     }
 
-    // What the ring asks of its plan.
+    // Returns the planner's input of the ring.
     fn wishes(&self) -> Wishes
         ensures { (s : Known) (p : Past) → IsKnown s → CoreStandsFor self.now s p → result ≡ wishes_given s (outcomes p) }
     {

@@ -74,7 +74,7 @@ impl Model for Ring {
 }
 
 impl Ring {
-    // A ring of which nothing was heard yet.
+    // A ring without telegrams.
     pub fn open(alloc: Global, setup: &RingSetup, jobs: Vec<Job>) -> Result<Ring, AllocError>
         requires ring { is_ring setup.now ≡ true }
         requires few { length jobs.items ≤ 4096 }

@@ -62,7 +62,7 @@ impl Ring {
         }
     }
 
-    // Whether there is no stop.
+    // Returns whether there is no stop.
     fn may_begin(&self) -> bool
         ensures { (s : Known) (p : Past) → CoreStandsFor self.now s p → result ≡ is_none p.stop }
     {

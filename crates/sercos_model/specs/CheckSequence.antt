@@ -58,8 +58,8 @@ unfoldable pub raised : ℕ → List Bool → List Bool
 raised zero rest = rest
 raised (suc places) rest = false ∷ raised places rest
 
--- The rest is what is left of p by the generator: p is a multiple of the generator plus the rest, which has sixteen
--- coefficients. This says what the long division computes.
+-- The rest is what remains of p after division by the generator: p is a multiple of the generator plus the rest,
+-- which has sixteen coefficients. This is what the long division computes.
 pub record IsRest (p rest : List Bool) : Type 0 where
   pub sixteen : length rest ≡ 16
   pub quotient : List Bool

@@ -8,16 +8,16 @@ use Rattle.sercos_model.specs.CheckSequence.{fcs_of}
 abbrev pub flag : List Bool
 flag = false ∷ true ∷ true ∷ true ∷ true ∷ true ∷ true ∷ false ∷ []
 
--- `IsStuffed k plain out`: after k ones in a row, the plain bits are sent as out. A zero stands in out after each
--- five ones in a row, also where the five ones end the plain bits.
+-- `IsStuffed k plain out`: after k ones in a row, the plain bits are sent as out. In out a zero follows each five ones
+-- in a row, also if the five ones end the plain bits.
 pub data IsStuffed : ℕ → List Bool → List Bool → Type 0 where
   both_end : {k : ℕ} → k < 5 → IsStuffed k [] []
   zero_kept : {k : ℕ} {plain out : List Bool} → k < 5 → IsStuffed 0 plain out → IsStuffed k (false ∷ plain) (false ∷ out)
   one_kept : {k : ℕ} {plain out : List Bool} → k < 5 → IsStuffed (suc k) plain out → IsStuffed k (true ∷ plain) (true ∷ out)
   zero_inserted : {plain out : List Bool} → IsStuffed 0 plain out → IsStuffed 5 plain (false ∷ out)
 
--- The bits between the flags before zeros are inserted: those of the content, and then those of its check sequence,
--- whose low byte comes first, as its bits are listed from the least significant one on.
+-- The bits between the flags before zeros are inserted: those of the content, and then those of its check sequence, low
+-- byte first, each byte from its least significant bit on.
 abbrev pub plain_of : List ℕ → List Bool
 plain_of content = bits_of content ++ low_bits 16 (fcs_of content)
 
@@ -30,7 +30,7 @@ pub record IsFrame (content : List ℕ) (bits : List Bool) : Type 0 where
   pub stuffed : IsStuffed 0 (plain_of content) out
   pub whole : bits ≡ flag ++ out ++ flag
 
--- the bits that no frame of so many bytes of content exceeds: those of two flags, of the content and the check sequence,
--- and an inserted zero for each five of these
+-- the most bits of a frame with n bytes of content: those of two flags, of the content and the check sequence, and an
+-- inserted zero for each five of these
 abbrev pub wire_bits : ℕ → ℕ
 wire_bits bytes = 16 + 8 * (bytes + 2) + (8 * (bytes + 2)) / 5

@@ -1,12 +1,12 @@
--- What is said of sources and sinks beside the known bytes that the standard library speaks of: their counts of
--- faults, and the room that a sink has.
+-- What is stated of sources and sinks beside the known bytes of the standard library: their counts of faults,
+-- and the room of a sink.
 use Rattle.std.specs.Prelude.{◌≡◌, ℕ, ◌+◌, ◌<◌, ◌≤◌, ◌⊎◌, Result, MatchResult, IsOkAnd}
 
 -- the last value of a count of faults: 2^64 - 1
 abbrev pub last_count : ℕ
 last_count = 18446744073709551615
 
--- a count rose: it is greater than before, or it stands at the last value, where a count stands still
+-- a count rose: it is greater than before, or it is at its last value, where a count stops
 abbrev pub Rose : ℕ → ℕ → Type 0
 Rose old new = (old < new) ⊎ (new ≡ last_count)
 

@@ -36,7 +36,7 @@ unfoldable pub voices_from : ℕ → List DocumentView → List Voice
 voices_from n [] = []
 voices_from n (d ∷ documents) = voice_of n d ∷ voices_from (n + 1) documents
 
--- what all parts say, or the first refusal with the number of its part; the first number is n
+-- the contents of all parts, or the first refusal with the number of its part; the first number is n
 unfoldable pub with_document : ℕ → Result DocumentView BadDocument → Result (List DocumentView) (ℕ × BadDocument) → Result (List DocumentView) (ℕ × BadDocument)
 with_document n (Err bad) others = Err (n, bad)
 with_document n (Ok d) (Err refusal) = Err refusal

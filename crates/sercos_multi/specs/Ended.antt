@@ -13,7 +13,7 @@ abbrev pub ended_by : {T E : Type 0} → Result T E → Status → Status
 ended_by (Ok x) status = status
 ended_by (Err e) status = fault_status status
 
--- how refusing what isn't opened ends: `Memory` is no refusal
+-- how refusing what isn't opened ends: `Memory` is not a refusal
 abbrev pub EndsUnopened : Unopened → SinkChange → Type 0 → Status → Type 0
 EndsUnopened unopened.Memory sink Unwritten status = (status ≡ Memory) × Unwritten
 EndsUnopened (unopened.Refused n bad) sink Unwritten status = Writes Refused (document_line n bad) sink status

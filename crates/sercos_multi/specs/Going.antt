@@ -8,7 +8,7 @@ use Rattle.sercos_trace.specs.Views.{CycleView}
 use Rattle.sercos_law_run.specs.Journal.Runs.{next_record}
 use Rattle.sercos_multi.specs.Merged.{Voice, span, lines_at, moment_line}
 
--- what is so of each, of one, and of each two at the same place
+-- what holds of each, of one, and of each two at the same place
 unfoldable pub Each : {X : Type 0} → (X → Type 0) → List X → Type 0
 Each P [] = Unit {0}
 Each P (x ∷ xs) = P x × Each P xs

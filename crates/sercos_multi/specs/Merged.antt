@@ -10,8 +10,8 @@ use Rattle.sercos_trace.specs.declared.record.Totals.{Totals}
 use Rattle.sercos_answer.specs.Answer.{line_feed}
 use Rattle.sercos_trace.specs.Marked.{marked}
 
--- A ring from a moment on: its number, what its plan asks, the totals of its whole run, the moment at which its next cycle begins,
--- and the cycles from there on, in their order.
+-- A ring from a moment on: its number, its planner's input, the totals of its whole run, the moment at which its next cycle
+-- begins, and the cycles from there on, in their order.
 pub record Voice : Type 0 where
   pub number : ℕ
   pub wishes : WishesView

@@ -1,4 +1,4 @@
--- What opening the rings of documents gives.
+-- The result of opening the rings of documents.
 use Rattle.std.specs.Prelude.{◌≡◌, ◌≢◌, ℕ, ◌+◌, ◌≤◌, List, ◌++◌, length, drop, Result, Ok, Err}
 use Rattle.sercos_script.specs.Links.{Carry, Restarts}
 use Rattle.sercos_document.specs.declared.refusal.BadDocument.{BadDocument}
@@ -13,20 +13,20 @@ use Rattle.sercos_multi.specs.Parts.{IsAt, AllAt}
 use Rattle.sercos_opened.specs.Kept.{IsScriptRun}
 use Rattle.sercos_multi.specs.RingRuns.{AreRuns}
 
--- a ring of what a part says
+-- a ring of a part's contents
 abbrev pub OpensPart : {L : Type 0} → (L → Carry) → (L → Restarts) → ℕ → List ℕ → Result (Part L) Unopened → Type 0
 OpensPart carry_of restart_of n bytes (Ok p) = (d : DocumentView) × (document_of bytes ≡ Ok d) × IsAt carry_of restart_of p (voice_of n d) × IsScriptRun d × (1 ≤ d.setup.cycles)
 OpensPart carry_of restart_of n bytes (Err unopened.Memory) = Unit {0}
 OpensPart carry_of restart_of n bytes (Err (unopened.Refused m bad)) = (m ≡ n) × (document_of bytes ≡ Err bad) × (bad ≢ bads.Memory)
 
--- the rings of what all parts say
+-- the rings of all parts' contents
 pub record OpensAll {L : Type 0} (carry_of : L → Carry) (restart_of : L → Restarts) (parts : List (List ℕ)) (ps : List (Part L)) : Type 0 where
   pub documents : List DocumentView
   pub said : documents_from 1 parts ≡ Ok documents
   pub all : AllAt carry_of restart_of ps (voices_from 1 documents)
   pub runs : AreRuns documents
 
--- what the documents so far say, before what the others do
+-- the contents of the documents so far, before those of the others
 unfoldable pub joined : List DocumentView → Result (List DocumentView) (ℕ × BadDocument) → Result (List DocumentView) (ℕ × BadDocument)
 joined documents (Ok more) = Ok (documents ++ more)
 joined documents (Err refusal) = Err refusal

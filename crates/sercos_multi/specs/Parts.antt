@@ -1,4 +1,4 @@
--- For which voice a ring stands that is on its way.
+-- The voice that a ring in progress stands for.
 use Rattle.std.specs.Prelude.{◌≡◌, ℕ, ◌+◌, ◌*◌, ◌<◌, ◌≤◌, true, List, ◌++◌, length, reverse, map, take, drop, Option, Some, None, Result, IfOk, Bool}
 use Rattle.std.specs.List.{flat_map, sum_by}
 use Rattle.sercos_step.specs.declared.request.Job.{Job}

@@ -5,6 +5,6 @@ abbrev pub soonest : Option ℕ → ℕ → Option ℕ
 soonest None at = Some at
 soonest (Some other) at = Some (min at other)
 
--- with a ring of which so many cycles are left, and whose next one begins at a moment, counted from another one on
+-- with a ring of which n cycles are left, and whose next one begins at a moment, counted from another one on
 abbrev pub sooner : Option ℕ → ℕ → ℕ → ℕ → Option ℕ
 sooner best left at from = if (left == 0) || nat_lt at from then best else soonest best at

@@ -108,7 +108,7 @@ fn other_cycle<L: BitLink>(parts: &[Part<L>], time: u16) -> Option<(u32, u16)>
     None
 }
 
-// Whether a cycle time divides 1000 microseconds.
+// Returns whether a cycle time divides 1000 microseconds.
 fn is_common(cycle: u16) -> bool
     ensures { result ≡ is_common cycle }
 {

@@ -6,7 +6,7 @@ ghost use Rattle.sercos_multi.specs.Divided.{is_next, parts_of, parts_after};
 
 use sercos_answer::cut_line;
 
-// How many bytes the first line of a text has, with its line feed.
+// Returns how many bytes the first line of a text has, with its line feed.
 fn line_len(text: &[u8]) -> usize
     requires { 0 < length text.now }
     ensures value { result ≡ length text.now - length (after_first is_feed text.now) }
@@ -32,7 +32,7 @@ fn rest_of(text: &[u8], len: usize) -> &[u8]
     &text[len..]
 }
 
-// Whether a line divides.
+// Returns whether a line divides.
 fn is_next(line: &[u8]) -> bool
     ensures { result ≡ is_next line.now }
 {
@@ -50,7 +50,7 @@ fn more_by(count: usize, next: bool) -> usize
     count
 }
 
-/// The number of the parts of an input of at most 1,048,576 bytes.
+/// Returns the number of the parts of an input of at most 1,048,576 bytes.
 pub fn count_parts(text: &[u8]) -> usize
     requires { length text.now ≤ 1048576 }
     ensures value { result ≡ length (parts_of text.now) }
@@ -67,7 +67,7 @@ pub fn count_parts(text: &[u8]) -> usize
     count
 }
 
-/// The first part of an input, what comes after the line that ends it, and whether there is such a line.
+/// Returns the first part of an input, what follows the line that ends it, and whether there is such a line.
 pub fn cut_part(text: &[u8]) -> (&[u8], &[u8], bool)
     ensures { parts_of text.now ≡ result.0.now ∷ parts_after result.2 result.1.now }
 {

@@ -42,14 +42,14 @@ fn write_number<K: Sink>(
     end_line(line, sink)
 }
 
-// Whether both are so.
+// Returns whether both are so.
 fn both(a: bool, b: bool) -> bool
     ensures { result ≡ (a && b) }
 {
     a && b
 }
 
-// All rings pass a moment. The result says whether each began a cycle commanded phase 3 or 4.
+// All rings pass a moment. Returns whether each began a cycle commanded phase 3 or 4.
 fn pass_all<L: BitLink, K: Sink>(
     parts: &mut Vec<Part<L>>,
     moment: u32,

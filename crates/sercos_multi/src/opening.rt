@@ -30,7 +30,7 @@ pub enum Unopened {
     Refused(u8, BadDocument),
 }
 
-// How many cycles a ring runs: 1 to 50,000.
+// Returns how many cycles a ring runs: 1 to 50,000.
 #[tactic(auto, unfolding(sercos_block::specs::Rings::is_ring, sercos_block::specs::Rings::are_ring_numbers))]
 fn cycles_of(setup: &RingSetup) -> u32
     requires { is_ring setup.now ≡ true }
@@ -49,7 +49,7 @@ fn show_cycles(setup: &RingSetup)
     let _cycles = cycles_of(setup);
 }
 
-// How many drives a ring has: at most 64.
+// Returns how many drives a ring has: at most 64.
 fn drives_of(setup: &RingSetup) -> u8
     requires { is_ring setup.now ≡ true }
     ensures { result ≡ length setup.now.drives }
@@ -115,7 +115,7 @@ fn open_document(
     open_ring(alloc, number, &setup, jobs, script)
 }
 
-// Opens the ring of what a part says.
+// Opens the ring of a part's contents.
 fn open_part(alloc: Global, number: u8, bytes: &[u8]) -> Result<Part<Scripted>, Unopened>
     requires { number < 10 }
     ensures { OpensPart ⟦<Scripted as BitLink>⟧.carry ⟦<Scripted as BitLink>⟧.restart number bytes.now result }

@@ -9,8 +9,8 @@ use crate::top_call::rings;
 use sercos_io::{MemorySink, PlainSource, Status, Words};
 use std::alloc::Global;
 
-/// The top call of several rings over a source that never fails and a sink in memory. Where the words are `run`, the input has at
-/// most 1,048,576 bytes, and the sink fails no call and has room for the whole output, nothing outside can fail: the answer is given
+/// The top call of several rings over a source that never fails and a sink in memory. If the words are `run`, the input has at most
+/// 1,048,576 bytes, and the sink fails no call and has room for the whole output, nothing outside can fail: the answer is written
 /// whole, or `Memory` is returned.
 pub fn rings_in_memory(
     alloc: Global,

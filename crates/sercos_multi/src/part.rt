@@ -100,7 +100,7 @@ fn write_last<K: Sink>(
     Ok(())
 }
 
-// Makes the next cycle of a ring, and writes its lines. The result says whether it is commanded phase 3 or 4.
+// Makes the next cycle of a ring, and writes its lines. Returns whether it is commanded phase 3 or 4.
 fn go_on<L: BitLink, K: Sink>(
     part: &mut Part<L>,
     time: u16,
@@ -130,8 +130,8 @@ fn go_on<L: BitLink, K: Sink>(
     Ok(phase >= 3)
 }
 
-/// Passes a moment: where the next cycle of a ring begins then, makes it, and writes its lines. The result says whether that cycle is
-/// commanded phase 3 or 4.
+/// Passes a moment: if the next cycle of a ring begins then, makes it, and writes its lines. Returns whether that cycle is commanded
+/// phase 3 or 4.
 pub fn pass<L: BitLink, K: Sink>(
     part: &mut Part<L>,
     moment: u32,

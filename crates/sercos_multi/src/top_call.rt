@@ -12,7 +12,7 @@ use crate::words::form_of;
 use sercos_io::{ReadAll, Sink, Source, Status, Words, read_all};
 use std::alloc::Global;
 
-// Reads the input, and gives the answer to it.
+// Reads the input, and writes the answer to it.
 fn respond<S: Source, K: Sink>(alloc: Global, words: &Words, source: &mut S, sink: &mut K) -> Status
     ensures words { form_of words.now ≡ None → result ≡ Status.BadWords }
     ensures how { Outcome (form_of words.now) (reads_input (form_of words.now)) rings_answer RunsItsRings
@@ -39,26 +39,26 @@ fn respond<S: Source, K: Sink>(alloc: Global, words: &Words, source: &mut S, sin
 
 /// Runs two to eight rings whose masters share one clock, over one input and one output, and returns the status with which it ends.
 ///
-/// The words are `run`, with at most one word `--` before or after it. The input is the source's bytes up to its end, at most
-/// 1,048,576 of them: ring documents, divided by lines that are exactly `next`. It is read whole, and all rings are opened, before
-/// anything is written. Each ring runs over the script of its document alone. The output begins with the head of each ring, in the
-/// order of the documents, each line after the ring's number and a space. Then come the moments at which a ring begins a cycle, in
-/// microseconds, each with a line `t`, the lines of the cycles that begin then, and the end line of a ring after its last cycle. A
-/// cycle takes 1000 microseconds if phase 0, 1 or 2 is commanded in it, and the common cycle time otherwise. The last line counts
-/// the moments at which every ring begins a cycle commanded phase 3 or 4. No trace is held.
+/// The words are `run`, with at most one word `--` before or after it. The input is the source's bytes up to its end, at most 1,048,576 of
+/// them: ring documents, divided by lines that are exactly `next`. It is read whole, and all rings are opened, before anything is written.
+/// Each ring runs over the script of its document alone. The output begins with the head of each ring, in the order of the documents, each
+/// line after the ring's number and a space. The moments at which a ring begins a cycle follow, in microseconds, each with a line `t`, the
+/// lines of the cycles that begin then, and the end line of a ring after its last cycle. A cycle takes 1000 microseconds if phase 0, 1 or 2
+/// is commanded in it, and the common cycle time otherwise. The last line counts the moments at which every ring begins a cycle commanded
+/// phase 3 or 4. No trace is held.
 ///
-/// Words in no form are `BadWords`, and nothing is read. `ReadFault` is returned if a read failed, `TooLong` if the input is longer,
-/// and `Memory` if no memory was found; then nothing is written. `Refused` is returned, with one line, if there aren't 2 to 8
-/// documents, then for the first document that is refused, then for the first one whose cycle time differs from the first one's or
-/// doesn't divide 1000; also if that line couldn't be written whole. After any other failed write the status is `WriteFault`, and the
-/// sink has taken a prefix of the output. `No` is never returned.
+/// Any other words are `BadWords`, and nothing is read. `ReadFault` is returned if a read failed, `TooLong` if the input is longer, and
+/// `Memory` if no memory was found; then nothing is written. `Refused` is returned, with one line, if there aren't 2 to 8 documents, then
+/// for the first document that is refused, then for the first one whose cycle time differs from the first one's or doesn't divide 1000;
+/// also if that line couldn't be written whole. After any other failed write the status is `WriteFault`, and the sink has accepted a prefix
+/// of the output. `No` is never returned.
 pub fn rings<S: Source, K: Sink>(
     alloc: Global,
     words: &Words,
     source: &mut S,
     sink: &mut K,
 ) -> Status
-    // The words come first: those in no form are refused before anything is read.
+    // The words come first: words that are not a form are refused before anything is read.
     ensures bad_words { result ≡ Status.BadWords → form_of words.now ≡ None }
     ensures no_form { form_of words.now ≡ None → result ≡ Status.BadWords }
     ensures unread { reads_input (form_of words.now) ≡ false → source.new ≡ source.old }
@@ -67,19 +67,19 @@ pub fn rings<S: Source, K: Sink>(
     ensures taken { TakesAtMost 1048577 (S.left source.old) (S.left source.new) }
     ensures taken_few { result ≢ Status.TooLong → TakesAtMost 1048576 (S.left source.old) (S.left source.new) }
 
-    // BadWords, ReadFault, TooLong and Memory come before anything is written.
+    // BadWords, ReadFault, TooLong and Memory are returned before anything is written.
     ensures unwritten { IsTrue (writes_nothing result) → sink.new ≡ sink.old }
 
-    // ReadFault comes only where the source's count rose; elsewhere no read failed.
+    // ReadFault is returned only if the source's count rose; otherwise no read failed.
     ensures read_fault { result ≡ Status.ReadFault → Rose (S.faults source.old) (S.faults source.new) }
     ensures read_count { S.faults source.old ≤ S.faults source.new }
     ensures read_well { result ≢ Status.ReadFault → S.faults source.new ≡ S.faults source.old }
 
-    // TooLong comes only where 1,048,577 bytes were taken.
+    // TooLong is returned only if 1,048,577 bytes were read.
     ensures too_long { result ≡ Status.TooLong → TakesTooMany (S.left source.old) (S.left source.new) }
 
-    // Done comes only where the input was read to its end, its answer is the merged text of its documents' rings, and that was appended
-    // whole. No never comes.
+    // Done is returned only if the input was read to its end, its answer is the merged text of its documents' rings, and that was appended
+    // whole. No is never returned.
     ensures done { result ≡ Status.Done → IsAnswered (reads_input (form_of words.now)) rings_answer Status.Done
         (S.left source.old) (S.left source.new) (K.held sink.old) (K.held sink.new) }
     // What was appended then is the merged text of the runs of the documents' rings, each of which keeps all that is promised, up to its
@@ -89,14 +89,14 @@ pub fn rings<S: Source, K: Sink>(
     ensures merged { result ≡ Status.Done → RingsMerged (S.left source.old) (S.left source.new) (K.held sink.old) (K.held sink.new) }
     ensures never_no { result ≢ Status.No }
 
-    // Refused too comes only where the input was read to its end; if writing the refusal failed, a prefix of it was appended.
+    // Refused too is returned only if the input was read to its end; if writing the refusal failed, a prefix of it was appended.
     ensures refused { result ≡ Status.Refused →
         ((K.faults sink.new ≡ K.faults sink.old) × IsAnswered (reads_input (form_of words.now)) rings_answer Status.Refused
         (S.left source.old) (S.left source.new) (K.held sink.old) (K.held sink.new))
         ⊎ (Rose (K.faults sink.old) (K.faults sink.new) × IsCutShort (reads_input (form_of words.now)) rings_answer Status.Refused
         (S.left source.old) (S.left source.new) (K.held sink.old) (K.held sink.new)) }
 
-    // WriteFault comes only where the sink's count rose, after a prefix of the output; elsewhere no write failed.
+    // WriteFault is returned only if the sink's count rose, after a prefix of the output; otherwise no write failed.
     ensures write_fault { result ≡ Status.WriteFault →
         Rose (K.faults sink.old) (K.faults sink.new) × IsCutShort (reads_input (form_of words.now)) rings_answer Status.WriteFault
         (S.left source.old) (S.left source.new) (K.held sink.old) (K.held sink.new) }
@@ -104,8 +104,8 @@ pub fn rings<S: Source, K: Sink>(
     ensures write_well { result ≢ Status.WriteFault → result ≢ Status.Refused →
         K.faults sink.new ≡ K.faults sink.old }
 
-    // Completeness: of a source that tells an input of at most 1,048,576 bytes, and where no count rose, the call gives the answer
-    // whole, or Memory. Its refusal is given whatever the sink does.
+    // Completeness: if the source exposes an input of at most 1,048,576 bytes, and no count rose, the call writes the answer whole, or
+    // returns Memory. Its refusal is returned whatever the sink does.
     ensures answers { (bytes : List ℕ) → HasInput (reads_input (form_of words.now)) (S.left source.old) bytes → length bytes ≤ 1048576
         → form_of words.now ≢ None
         → (Rose (S.faults source.old) (S.faults source.new) → ⊥)

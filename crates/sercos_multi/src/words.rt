@@ -45,7 +45,7 @@ fn pair_form(first: &str, second: &str) -> Option<Form>
     None
 }
 
-/// The form in which the words are, if they are in one: the word `run`, with at most one word `--` before or after it.
+/// Returns the form in which the words are, if they are in one: the word `run`, with at most one word `--` before or after it.
 pub fn form_of(words: &Words) -> Option<Form>
     ensures { result ≡ form_of words.now }
 {

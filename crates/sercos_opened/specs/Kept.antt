@@ -32,8 +32,8 @@ document_run carry restarts d = run_of d.setup d.jobs (carry_under d carry) (res
 abbrev pub script_run : DocumentView → List CycleView
 script_run d = run_of d.setup d.jobs (script_carry d) (script_restarts d) d.setup.cycles
 
--- In each cycle of a run, up to the first arrival that is unseen, all is kept that is promised of it: its telegrams are apart, no drive
--- stands too late, and transfers are exact.
+-- Each cycle of a run, up to the first undetected damage, has all its promised properties: its telegrams are apart, no drive is in too
+-- high a phase, and transfers are exact.
 abbrev pub KeepsThroughout : RingView → List Job → Carry → Restarts → List CycleView → Type 0
 KeepsThroughout r jobs carry restarts run = (later : List CycleView) (t : CycleView) (j : List CycleView) → run ≡ later ++ t ∷ j → IsClear (t ∷ j) → KeepsAll r jobs carry restarts t j
 
@@ -41,8 +41,8 @@ KeepsThroughout r jobs carry restarts run = (later : List CycleView) (t : CycleV
 abbrev pub StartsThroughout : RingView → List Job → Carry → Restarts → List CycleView → Type 0
 StartsThroughout r jobs carry restarts run = (later : List CycleView) (t : CycleView) (j : List CycleView) → run ≡ later ++ t ∷ j → NeverDisturbed r carry restarts (t ∷ j) → StartsUp r jobs carry restarts t j
 
--- And in each cycle up to the first arrival that is unseen, whatever was lost or damaged, and whichever stations restarted: once no
--- cycle is disturbed any more, the ring is back in time.
+-- And in each cycle up to the first undetected damage, regardless of losses and restarts: once no cycle is disturbed any more, the ring
+-- is back in time.
 abbrev pub RecoversThroughout : RingView → List Job → Carry → Restarts → List CycleView → Type 0
 RecoversThroughout r jobs carry restarts run = (later : List CycleView) (t : CycleView) (j : List CycleView) → run ≡ later ++ t ∷ j → IsClear (t ∷ j) → RecoversIn r jobs carry restarts t j
 
@@ -60,6 +60,6 @@ IsDocumentRun carry restarts d = IsKept d.setup d.jobs (carry_under d carry) (re
 abbrev pub IsScriptRun : DocumentView → Type 0
 IsScriptRun d = IsKept d.setup d.jobs (script_carry d) (script_restarts d) (script_run d)
 
--- All this is kept of a ring that may be opened with its requests, over whatever link, and for each number of cycles.
+-- All this holds of a ring that may be opened with its requests, over any link, and for each number of cycles.
 abbrev pub OpenedIsKept : Type 0
 OpenedIsKept = (r : RingView) (jobs : List Job) (carry : Carry) (restarts : Restarts) (cycles : ℕ) → IsOpened r jobs → IsKept r jobs carry restarts (run_of r jobs carry restarts cycles)

@@ -1,5 +1,5 @@
-// What the types of a document's values say of its ring and its requests, as the law on runs asks for it. The functions do nothing: each
-// hands on to the proof what the type of its argument says.
+// What the types of a document's values imply for its ring and its requests, as the law on runs requires it. The functions do nothing:
+// each hands on to the proof what the type of its argument implies.
 ghost use Rattle.std.specs.Prelude.{◌≡◌, ◌<◌, true};
 ghost use Rattle.std.specs.List.{All, list_all};
 ghost use Rattle.sercos_step.specs.Steps.{IsRequest};
@@ -42,7 +42,7 @@ fn show_drive(drive: &DriveSetup)
     let _mdt = drive.mdt.as_slice();
 }
 
-// Those of all drives.
+// The ranges of all drives' numbers.
 fn show_drives(drives: &[DriveSetup])
     ensures { All IsTyped drives.now }
 {
@@ -51,7 +51,7 @@ fn show_drives(drives: &[DriveSetup])
     }
 }
 
-// Those of a ring's drives.
+// The ranges of the numbers of a ring's drives.
 fn show_setup(setup: &RingSetup)
     ensures { All IsTyped setup.now.drives }
 {
@@ -79,7 +79,7 @@ fn show_request(request: &Request)
     }
 }
 
-/// Those of all requests.
+/// The ranges of all requests' numbers.
 pub fn show_jobs(jobs: &[Job])
     requires { All (λ job. IsRequest job.request) jobs.now }
     ensures { AreTypedJobs jobs.now }

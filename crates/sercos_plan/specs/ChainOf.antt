@@ -13,7 +13,7 @@ use Rattle.sercos_plan.specs.declared.chain.Link.{Link}
 use Rattle.sercos_plan.specs.declared.chaining.Time.{Time}
 use Rattle.sercos_plan.specs.declared.chaining.Time.TheVariants.{Tmtsy, Tmtsg, T4min}
 
--- what is asked gives the time t, after rounding up to a microsecond: the time can't be less
+-- the requirement yields the time t, after rounding up to a microsecond: the time can't be less
 abbrev pub is_tight : WishesView → Option ℕ → ℕ → Bool
 is_tight w None t = false
 is_tight w (Some asked) t = round_up w.rate asked == t

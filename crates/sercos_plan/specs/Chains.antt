@@ -9,7 +9,7 @@ use Rattle.sercos_plan.specs.LeastTimes.{round_up}
 use Rattle.sercos_plan.specs.Views.{ChainView}
 use Rattle.sercos_plan.specs.declared.chain.Link.{Link}
 
--- the time of which an inequality asks something: T1 of its drive, T2 or T3
+-- the time that an inequality bounds: T1 of its drive, T2 or T3
 pub data Moment : Type 0 where
   of_t1 : Moment
   of_t2 : Moment
@@ -39,7 +39,7 @@ abbrev pub is_t3 : Moment → Bool
 is_t3 of_t3 = true
 is_t3 _ = false
 
--- the AT of the drive with this address, with the ATs before it; [] where there is no such drive
+-- the AT of the drive with this address, with the ATs before it; [] if there is no such drive
 abbrev pub up_to : WishesView → ℕ → List ℕ → List ℕ
 up_to w address [] = []
 up_to w address (k ∷ before) = if (wish w k).address == address then k ∷ before else up_to w address before
@@ -47,7 +47,7 @@ up_to w address (k ∷ before) = if (wish w k).address == address then k ∷ bef
 abbrev pub last_place : WishesView → ℕ
 last_place w = slice_index w.order (length w.order - 1)
 
--- the link says something of T1 of the drive j
+-- the link bounds T1 of the drive j
 abbrev pub is_t1_of : WishesView → Link → Option ℕ → Bool
 is_t1_of w l None = false
 is_t1_of w l (Some j) = is_t1 (moment_of (of_number l.rule)) && ((wish w j).address == l.drive)
@@ -56,8 +56,8 @@ abbrev pub given_if : Bool → Option ℕ → Option ℕ
 given_if true asked = asked
 given_if false asked = None
 
--- What an inequality of the drive k asks if the earlier time in it is that of the link before and is at the bit time of that
--- link; None if its earlier time is another. The list is the drive's AT with the ATs before it
+-- What an inequality of the drive k requires if the earlier time in it is that of the link before and is at the bit time of
+-- that link; None if its earlier time is another. The list is the drive's AT with the ATs before it
 abbrev pub asked_after : WishesView → Option Inequality → Option Link → List ℕ → Option ℕ
 asked_after w (Some Own) None (k ∷ before) = asked_1 w (λ _. 0) k before
 asked_after w (Some Gap) None (k ∷ before) = asked_2 w (λ _. 0) k before
@@ -68,7 +68,7 @@ asked_after w (Some Master) (Some l) (k ∷ before) = given_if (is_t1_of w l (So
 asked_after w (Some Records) (Some l) (k ∷ before) = given_if (is_t2 (moment_of (of_number l.rule))) (asked_7 w l.at k before)
 asked_after w rule from ats = None
 
--- the bit time is what is asked, rounded up to a microsecond
+-- the bit time is the requirement, rounded up to a microsecond
 abbrev pub Gives : WishesView → Option ℕ → ℕ → Type 0
 Gives w None time = ⊥
 Gives w (Some asked) time = time ≡ w.rate * round_up w.rate asked
@@ -86,7 +86,7 @@ abbrev pub head_of : List ℕ → Option ℕ
 head_of [] = None
 head_of (k ∷ before) = Some k
 
--- the time that stands in place of the greatest TMTSY: that of the drive, or the gap where no drive is named
+-- the time used as the greatest TMTSY: that of the drive, or the gap if no drive is named
 abbrev pub pause_of : WishesView → ℕ → Option ℕ
 pause_of w drive = if drive == 0 then Some w.gap else option_map (λ k. (times w k).tmtsy) (head_of (up_to w drive (sent w)))
 

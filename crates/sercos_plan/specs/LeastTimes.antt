@@ -6,11 +6,11 @@ use Rattle.sercos_timing.specs.Views.{WishesView, PlanView}
 use Rattle.sercos_timing.specs.Order.{times, sent, record_bytes}
 use Rattle.sercos_timing.specs.Inequalities.{asked_1, asked_2, asked_3, asked_4, asked_5, asked_6, asked_7, greatest, greatest_tmtsy, sum_9, bound_9, positions}
 
--- the least number of microseconds that has so many bit times
+-- the least number of microseconds with at least n bit times
 abbrev pub round_up : ℕ → ℕ → ℕ
 round_up rate bits = (bits + (rate - 1)) / rate
 
--- the bit time that 1 to 4 ask together of the start of the AT of k
+-- the bit time that 1 to 4 together require of the start of the AT of k
 abbrev pub needed : WishesView → (ℕ → ℕ) → ℕ → List ℕ → ℕ
 needed w b k before =
     max (unwrap_or (asked_1 w b k before) 0) (max (unwrap_or (asked_2 w b k before) 0)

@@ -4,7 +4,7 @@ ghost use Rattle.std.specs.Prelude.{◌≡◌, ◌≤◌, length};
 use arrayvec::ArrayVec;
 use std::marker::Model;
 
-/// One step of a chain: an inequality, and the bit time that it gives a time of the plan.
+/// One step of a chain: an inequality, and the bit time that it requires of a time of the plan.
 #[derive(Clone, Copy, Debug, Default, PartialEq, Eq)]
 pub struct Link {
     /// The number of the inequality, 1 to 7.
@@ -24,9 +24,9 @@ pub struct Chain {
     pub links: ArrayVec<Link, 66>,
     /// The number of the inequality that is broken: 8, 9 or 10.
     pub rule: u8,
-    /// The address of its drive; 0 in 9 where the gap stands in place of a drive's TMTSY.
+    /// The address of its drive; 0 in 9 if the gap is used in place of a drive's TMTSY.
     pub drive: u8,
-    /// What the inequality asks, in bit times.
+    /// What the inequality requires, in bit times.
     pub sum: u32,
     /// What there is room for, in bit times.
     pub bound: u32,
@@ -55,7 +55,7 @@ impl Model for Chain {
 }
 
 impl Chain {
-    /// The links in their order.
+    /// Returns the links in their order.
     pub fn links(&self) -> &[Link]
         ensures value { result.now ≡ self.now.links }
         ensures limit { length result.now ≤ 66 }
@@ -63,28 +63,28 @@ impl Chain {
         self.links.as_slice()
     }
 
-    /// The number of the inequality that is broken.
+    /// Returns the number of the inequality that is broken.
     pub fn rule(&self) -> u8
         ensures { result ≡ self.now.rule }
     {
         self.rule
     }
 
-    /// The address of its drive, or 0.
+    /// Returns the address of its drive, or 0.
     pub fn drive(&self) -> u8
         ensures { result ≡ self.now.drive }
     {
         self.drive
     }
 
-    /// What it asks, in bit times.
+    /// Returns what it requires, in bit times.
     pub fn sum(&self) -> u32
         ensures { result ≡ self.now.sum }
     {
         self.sum
     }
 
-    /// What there is room for, in bit times.
+    /// Returns what there is room for, in bit times.
     pub fn bound(&self) -> u32
         ensures { result ≡ self.now.bound }
     {

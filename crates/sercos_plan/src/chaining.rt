@@ -12,7 +12,7 @@ use crate::planning::is_mst_roomy;
 use arrayvec::ArrayVec;
 use sercos_timing::{Inequality, Wish, Wishes, asked_of_start, bits_after};
 
-// So many microseconds in bit times, as a number of 32 bits.
+// A number of microseconds in bit times, as a number of 32 bits.
 fn bits(w: &Wishes, micros: u32) -> u32
     requires valid { IsValid w.now }
     requires micros { micros ≤ 10_000_000 }
@@ -22,7 +22,7 @@ fn bits(w: &Wishes, micros: u32) -> u32
     w.bits(micros) as u32
 }
 
-// Whether what is asked gives this time.
+// Returns whether the requirement yields this time.
 fn is_tight(w: &Wishes, asked: Option<u64>, t: u32) -> bool
     requires valid { IsValid w.now }
     requires limit { IfSome asked (λ bits. bits < 2 ^ 43) }
@@ -34,7 +34,7 @@ fn is_tight(w: &Wishes, asked: Option<u64>, t: u32) -> bool
     }
 }
 
-// Whether an inequality gives the T1 of the AT at a place of the order.
+// Returns whether an inequality yields the T1 of the AT at a place of the order.
 fn is_start_tight(w: &Wishes, t1: &[u32], rule: Inequality, at: usize) -> bool
     requires valid { IsValid w.now }
     requires starts { AreStarts w.now t1.now }
@@ -106,7 +106,7 @@ fn push_trail(w: &Wishes, t1: &[u32], at: usize, links: &mut ArrayVec<Link, 66>)
     links.push(link);
 }
 
-// The times whose greatest stands in an inequality.
+// The times of which an inequality has the greatest.
 #[derive(Clone, Copy, Debug, PartialEq, Eq)]
 enum Time {
     Tmtsy,
@@ -152,7 +152,8 @@ fn first_greatest(time: Time, drives: &[Wish]) -> u8
     first_with(time, greatest_of(time, drives), drives)
 }
 
-// The bit time at which the AT of a drive has ended and so many microseconds have passed, at the least T1.
+// Returns the bit time at which the AT of a drive has ended and `more` microseconds have passed, at the
+// least T1.
 fn after_start(w: &Wishes, t1: &[u32], place: usize, micros: u32) -> u64
     requires valid { IsValid w.now }
     requires starts { AreStarts w.now t1.now }
@@ -164,7 +165,7 @@ fn after_start(w: &Wishes, t1: &[u32], place: usize, micros: u32) -> u64
     bits_after(w, t1, place, micros)
 }
 
-// Whether 5 gives T2.
+// Returns whether 5 yields T2.
 fn is_last_tight(w: &Wishes, t1: &[u32], t2: u32) -> bool
     requires valid { IsValid w.now }
     requires starts { AreStarts w.now t1.now }
@@ -175,7 +176,7 @@ fn is_last_tight(w: &Wishes, t1: &[u32], t2: u32) -> bool
     is_tight(w, Some(after_start(w, t1, last, w.gap())), t2)
 }
 
-// Whether 6 of the AT at a place of the order gives T2.
+// Returns whether 6 of the AT at a place of the order yields T2.
 fn is_master_tight(w: &Wishes, t1: &[u32], t2: u32, at: usize) -> bool
     requires valid { IsValid w.now }
     requires starts { AreStarts w.now t1.now }
@@ -188,7 +189,7 @@ fn is_master_tight(w: &Wishes, t1: &[u32], t2: u32, at: usize) -> bool
     is_tight(w, Some(after_start(w, t1, place, tatmt)), t2)
 }
 
-// The place in the order of the first AT whose 6 gives T2.
+// Returns the place in the order of the first AT whose 6 yields T2.
 fn first_tight(w: &Wishes, t1: &[u32], t2: u32) -> Option<usize>
     requires valid { IsValid w.now }
     requires starts { AreStarts w.now t1.now }

@@ -26,7 +26,7 @@ fn find(w: &Wishes, address: u8) -> Option<usize>
     found
 }
 
-// Whether a link with this number says something of T1 of its drive.
+// Returns whether a link with this number bounds T1 of its drive.
 fn is_t1(number: u8) -> bool
     ensures { result ≡ is_t1 (moment_of (of_number number)) }
 {
@@ -36,7 +36,7 @@ fn is_t1(number: u8) -> bool
     )
 }
 
-// Whether it says something of T2.
+// Returns whether it bounds T2.
 fn is_t2(number: u8) -> bool
     ensures { result ≡ is_t2 (moment_of (of_number number)) }
 {
@@ -46,7 +46,7 @@ fn is_t2(number: u8) -> bool
     )
 }
 
-// Whether it says something of T3.
+// Returns whether it bounds T3.
 fn is_t3(number: u8) -> bool
     ensures { result ≡ is_t3 (moment_of (of_number number)) }
 {
@@ -66,7 +66,7 @@ fn place(w: &Wishes, at: Option<usize>) -> Option<usize>
     }
 }
 
-// Whether the link says something of T1 of the drive at this place of the ring.
+// Returns whether the link bounds T1 of the drive at this place of the ring.
 fn is_t1_of(w: &Wishes, link: Link, place: Option<usize>) -> bool
     requires valid { IsValid w.now }
     requires within { IfSome place (λ j. j < length w.now.drives) }
@@ -78,7 +78,8 @@ fn is_t1_of(w: &Wishes, link: Link, place: Option<usize>) -> bool
     }
 }
 
-// The bit time at which the AT of this drive has ended and so many microseconds have passed, where the link gives its start.
+// Returns the bit time at which the AT of this drive has ended and `more` microseconds have passed, if the link has its
+// start.
 fn after_start(w: &Wishes, link: Link, place: Option<usize>, micros: u32) -> Option<u64>
     requires valid { IsValid w.now }
     requires within { IfSome place (λ j. j < length w.now.drives) }
@@ -99,7 +100,7 @@ fn after_start(w: &Wishes, link: Link, place: Option<usize>, micros: u32) -> Opt
     }
 }
 
-// What 5 asks after the link.
+// Returns what 5 requires after the link.
 fn after_last(w: &Wishes, link: Link, at: usize) -> Option<u64>
     requires valid { IsValid w.now }
     requires within { at < length w.now.order }
@@ -118,7 +119,7 @@ fn after_last(w: &Wishes, link: Link, at: usize) -> Option<u64>
     }
 }
 
-// What 7 asks after the link.
+// Returns what 7 requires after the link.
 fn after_records(w: &Wishes, link: Link, at: usize) -> Option<u64>
     requires valid { IsValid w.now }
     requires within { at < length w.now.order }
@@ -135,7 +136,7 @@ fn after_records(w: &Wishes, link: Link, at: usize) -> Option<u64>
     }
 }
 
-// What the inequality of the first link asks.
+// Returns what the inequality of the first link requires.
 fn asked_first(w: &Wishes, rule: Option<Inequality>, at: usize) -> Option<u64>
     requires valid { IsValid w.now }
     requires within { at < length w.now.order }
@@ -150,7 +151,7 @@ fn asked_first(w: &Wishes, rule: Option<Inequality>, at: usize) -> Option<u64>
     }
 }
 
-// What the inequality of a later link asks after this one.
+// Returns what the inequality of a later link requires after this one.
 fn asked_next(w: &Wishes, rule: Option<Inequality>, link: Link, at: usize) -> Option<u64>
     requires valid { IsValid w.now }
     requires within { at < length w.now.order }
@@ -174,7 +175,7 @@ fn asked_next(w: &Wishes, rule: Option<Inequality>, link: Link, at: usize) -> Op
     }
 }
 
-// Whether the bit time is what is asked, rounded up to a microsecond.
+// Returns whether the bit time is the requirement, rounded up to a microsecond.
 fn gives(w: &Wishes, asked: Option<u64>, time: u32) -> bool
     requires valid { IsValid w.now }
     requires limit { IfSome asked (λ bits. bits < 2 ^ 42) }
@@ -187,7 +188,7 @@ fn gives(w: &Wishes, asked: Option<u64>, time: u32) -> bool
     }
 }
 
-// Whether a link follows from the wishes and the link before it.
+// Returns whether a link follows from the wishes and the link before it.
 fn follows(w: &Wishes, from: Option<Link>, link: Link) -> bool
     requires { IsValid w.now }
     ensures { result
@@ -227,7 +228,7 @@ fn last_link(links: &[Link]) -> Option<Link>
     last
 }
 
-// The time that stands for the greatest TMTSY: that of the drive, or the gap at drive 0.
+// Returns the time used as the greatest TMTSY: that of the drive, or the gap at drive 0.
 fn pause(w: &Wishes, drive: u8) -> Option<u32>
     requires { IsValid w.now }
     ensures value { result ≡ pause_of w.now drive }
@@ -342,8 +343,8 @@ fn is_chain(w: &Wishes, c: &Chain) -> bool
     are_all(linked, ended, above)
 }
 
-/// Whether each link of a chain follows from the wishes and the link before it, and the chain ends in a sum that is above its
-/// bound. Then no plan fits. It stands on the wishes and the chain alone, and calls no planner.
+/// Returns whether each link of a chain follows from the planner's input and the link before it, and the chain ends in a sum
+/// that is above its bound. Then no plan fits. It relies on the planner's input and the chain alone, and calls no planner.
 #[tactic(auto, using(crate::proofs::SoundLemmas::chain_none))]
 pub fn check_chain(w: &Wishes, c: &Chain) -> bool
     requires { IsValid w.now }

@@ -9,7 +9,7 @@ ghost use Rattle.sercos_plan.specs.LeastTimes.{round_up, needed, least_t1, least
 use arrayvec::ArrayVec;
 use sercos_timing::{Inequality, Wishes, asked_of_start, bits_after};
 
-// The least number of microseconds that has so many bit times.
+// Returns the least number of microseconds with at least `bits` bit times.
 pub fn round_up(w: &Wishes, bits: u64) -> u64
     requires valid { IsValid w.now }
     requires bits { bits < 2 ^ 43 }
@@ -19,8 +19,9 @@ pub fn round_up(w: &Wishes, bits: u64) -> u64
     (bits + (rate - 1)) / rate
 }
 
-// What an inequality asks of the start of the AT at a place of the order, in bit times; 0 where it asks nothing. Each AT
-// takes at most 66,300 microseconds with what is asked after it, and `t1` has the least T1 of the ATs before.
+// Returns what an inequality requires of the start of the AT at a place of the order, in bit times; 0 if it requires
+// nothing. Each AT takes at most 66,300 microseconds with the pauses after it, and `t1` has the least T1 of the ATs
+// before.
 fn start_bits(w: &Wishes, t1: &[u32], rule: Inequality, at: usize) -> u64
     requires valid { IsValid w.now }
     requires within { at < length w.now.order }
@@ -92,7 +93,7 @@ pub fn starts(w: &Wishes) -> ArrayVec<u32, 64>
     t1
 }
 
-// What inequality 5 asks of T2.
+// Returns what inequality 5 requires of T2.
 pub fn last_bits(w: &Wishes, t1: &[u32]) -> u64
     requires valid { IsValid w.now }
     requires count { length t1.now ≡ length w.now.drives }
@@ -124,7 +125,7 @@ pub fn least_t2(w: &Wishes, t1: &[u32]) -> u32
     round_up(w, gap.max(most)) as u32
 }
 
-// What inequality 7 asks of T3 for the drive at a place of the ring.
+// Returns what inequality 7 requires of T3 for the drive at a place of the ring.
 fn record_bits(w: &Wishes, t2: u32, place: usize) -> u64
     requires valid { IsValid w.now }
     requires within { place < length w.now.drives }

@@ -44,7 +44,7 @@ fn narrowed(times: &[u32]) -> ArrayVec<u16, 64>
     narrow
 }
 
-// Whether 9 holds at the least T2.
+// Returns whether 9 holds at the least T2.
 pub fn is_mst_roomy(w: &Wishes, t2: u32) -> bool
     requires valid { IsValid w.now }
     requires value { t2 ≡ least_t2 w.now }
@@ -54,7 +54,7 @@ pub fn is_mst_roomy(w: &Wishes, t2: u32) -> bool
     w.bits(t2) + (w.mdt_bits() + w.bits(pause)) <= w.recovered_by()
 }
 
-// Whether the least times keep the bounds 8, 9 and 10.
+// Returns whether the least times keep the bounds 8, 9 and 10.
 fn is_roomy(w: &Wishes, t2: u32, t3: u32) -> bool
     requires valid { IsValid w.now }
     requires t2 { t2 ≡ least_t2 w.now }
@@ -85,7 +85,7 @@ fn least_plan(w: &Wishes, t1: &[u32], t2: u32, t3: u32) -> Plan
     }
 }
 
-// The plan of the least times, where they keep the bounds; else the chain to the first that they break.
+// Returns the plan of the least times if they keep the bounds; otherwise the chain to the first that they break.
 fn planned(w: &Wishes) -> Result<Plan, Chain>
     requires { IsValid w.now }
     ensures { result ≡ planned w.now }
@@ -101,16 +101,16 @@ fn planned(w: &Wishes) -> Result<Plan, Chain>
     }
 }
 
-/// The least plan, made in one pass through the order: it keeps the twelve inequalities, and every plan that does has each
-/// T1, T2 and T3 at least as late, and T4 at most as late. Exactly where no plan keeps them, the answer is a chain of
-/// inequalities that proves it: from an inequality 1 or 2 along the least times to the first of the bounds 9, 8 and 10 that
-/// these break.
+/// Returns the least plan, made in one pass through the order: it keeps the twelve inequalities, and every plan that does
+/// has each T1, T2 and T3 at least as late, and T4 at most as late. If and only if no plan keeps them, the result is a
+/// chain of inequalities that proves it: from an inequality 1 or 2 along the least times to the first of the bounds 9, 8
+/// and 10 that these break.
 pub fn plan(w: &Wishes) -> Result<Plan, Chain>
     requires { IsValid w.now }
     ensures least { IfOk result (IsLeast w.now) }
     ensures only { (p : PlanView) → IsLeast w.now p → result ≡ Ok p }
     ensures none { OnErr result (NoneFits w.now) }
-    // it is the plan of the least times, where these keep the bounds, and else their chain
+    // it is the plan of the least times if these keep the bounds, and otherwise their chain
     ensures answer { result ≡ planned w.now }
     ensures chain { IfErr result (λ chain. chain ≡ chain_of w.now) }
     // which `check_chain` takes

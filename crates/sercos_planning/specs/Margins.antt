@@ -36,12 +36,12 @@ unfoldable pub margin_lines : WishesView → (ℕ → Time → ℕ) → ℕ → 
 margin_lines w values zero = []
 margin_lines w values (suc n) = margin_lines w values n ++ margin_line (wish w n).address (values n)
 
--- the answer to what a ring asks of its plan
+-- the answer to the planner's input of a ring
 unfoldable pub wishes_margins : WishesView → Result PlanView ChainView → Answer
 wishes_margins w (Ok p) = record { status = Done; output = cycle_line (least_cycle_of w) ++ margin_lines w (margin_of w) (length w.drives) }
 wishes_margins w (Err c) = record { status = No; output = cycle_line (least_cycle_of w) ++ chain_text c }
 
--- the answer to what a document says of its ring, its requests and faults left aside, or to its refusal
+-- the answer to a document's contents, its requests and faults ignored, or to its refusal
 unfoldable pub document_margins : Result DocumentView BadDocument → Answer
 document_margins (Ok d) = wishes_margins (wishes_of d.setup) (planned (wishes_of d.setup))
 document_margins (Err bad) = record { status = Refused; output = line_of bad }
@@ -53,7 +53,7 @@ margin_answer bytes = document_margins (document_of bytes)
 abbrev pub AreLimited : WishesView → Type 0
 AreLimited w = (k : ℕ) (t : Time) → k < length w.drives → declared w k t ≤ greatest t
 
--- A text says of a ring for which a plan fits: its least cycle time, and how far each time of each drive can go.
+-- A text about a ring for which a plan fits: its least cycle time, and the slack of each time of each drive.
 pub record TellsMargins (w : WishesView) (text : List ℕ) : Type 0 where
   pub plan : HasPlan w
   pub cycle : Option ℕ
@@ -62,7 +62,7 @@ pub record TellsMargins (w : WishesView) (text : List ℕ) : Type 0 where
   pub margins : (k : ℕ) (t : Time) → k < length w.drives → IsMargin w k t (values k t)
   pub text_is : text ≡ cycle_line cycle ++ margin_lines w values (length w.drives)
 
--- A text says of a ring for which none fits: its least cycle time, and a chain that proves that none fits with its own.
+-- A text about a ring for which none fits: its least cycle time, and a chain that proves that none fits with its own.
 pub record TellsChain (w : WishesView) (text : List ℕ) : Type 0 where
   pub none : NoneFits w
   pub cycle : Option ℕ
@@ -71,11 +71,11 @@ pub record TellsChain (w : WishesView) (text : List ℕ) : Type 0 where
   pub is_chain : IsChain w chain
   pub text_is : text ≡ cycle_line cycle ++ chain_text chain
 
--- an answer says what it should of wishes
+-- an answer is right about planner's input
 pub record AreMargins (w : WishesView) (answer : Answer) : Type 0 where
   pub no : answer.status ≡ No → TellsChain w answer.output
   pub done : answer.status ≡ Done → TellsMargins w answer.output
 
--- the answer to a document does so of what its ring asks
+-- the answer to a document is right about its ring's planner's input
 abbrev pub MeasuresItsRing : List ℕ → Type 0
 MeasuresItsRing bytes = (d : DocumentView) → document_of bytes ≡ Ok d → AreMargins (wishes_of d.setup) (margin_answer bytes)

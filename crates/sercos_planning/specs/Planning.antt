@@ -42,12 +42,12 @@ end_line c = two_numbers (codes "rule ") c.rule (codes " drive ") c.drive ++ two
 unfoldable pub chain_text : ChainView → List ℕ
 chain_text c = codes "no plan" ++ line_feed ++ flat_map link_line c.links ++ end_line c
 
--- the answer to what a ring asks of its plan
+-- the answer to the planner's input of a ring
 unfoldable pub wishes_answer : WishesView → Result PlanView ChainView → Answer
 wishes_answer w (Ok p) = record { status = Done; output = plan_text w p }
 wishes_answer w (Err c) = record { status = No; output = chain_text c }
 
--- the answer to what a document says of its ring, its requests and faults left aside, or to its refusal
+-- the answer to a document's contents, its requests and faults ignored, or to its refusal
 unfoldable pub document_answer : Result DocumentView BadDocument → Answer
 document_answer (Ok d) = wishes_answer (wishes_of d.setup) (planned (wishes_of d.setup))
 document_answer (Err bad) = record { status = Refused; output = line_of bad }
@@ -55,13 +55,13 @@ document_answer (Err bad) = record { status = Refused; output = line_of bad }
 unfoldable pub plan_answer : List ℕ → Answer
 plan_answer bytes = document_answer (document_of bytes)
 
--- An answer says what it should of wishes: no, only where no plan fits, whatever plan it is, and with the text of a chain that
--- proves it; done, only with the text of the least plan.
+-- An answer is right about planner's input: no, only if no plan fits, and with the text of a chain that proves it; done, only
+-- with the text of the least plan.
 pub record IsPlanned (w : WishesView) (answer : Answer) : Type 0 where
   pub no : answer.status ≡ No → NoneFits w
   pub chain : answer.status ≡ No → (c : ChainView) × IsChain w c × (answer.output ≡ chain_text c)
   pub done : answer.status ≡ Done → (p : PlanView) × IsLeast w p × (answer.output ≡ plan_text w p)
 
--- the answer to a document does so of what its ring asks
+-- the answer to a document is right about its ring's planner's input
 abbrev pub PlansItsRing : List ℕ → Type 0
 PlansItsRing bytes = (d : DocumentView) → document_of bytes ≡ Ok d → IsPlanned (wishes_of d.setup) (plan_answer bytes)

@@ -102,9 +102,9 @@ fn answer_wishes(alloc: Global, wishes: &Wishes) -> Result<Reply, AllocError>
     Ok(Reply { status, text })
 }
 
-/// Answers a ring document: by the least cycle time with which a plan fits, and by how far each time of each drive can go; or
-/// with `No` by that cycle time and the chain that proves that no plan fits with the ring's own. The error is the document's first
-/// refusal, or want of memory.
+/// Answers a ring document: with the least cycle time with which a plan fits, and the slack of each time of each drive; or with
+/// `No`, that cycle time and the chain that proves that no plan fits with the ring's own. The error is the document's first
+/// refusal, or `AllocError`.
 #[tactic(auto, unfolding(crate::specs::Margins::margin_answer, crate::specs::Margins::document_margins), using(crate::proofs::MarginLemmas::limited_wishes))]
 pub fn margins(alloc: Global, bytes: &[u8]) -> Result<Reply, BadDocument>
     ensures answer { MatchResult result

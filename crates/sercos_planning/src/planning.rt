@@ -35,8 +35,8 @@ fn answer_wishes(alloc: Global, wishes: &Wishes) -> Result<Reply, AllocError>
     Ok(Reply { status, text })
 }
 
-/// Answers a ring document: by the least plan, or with `No` by the chain that proves that none fits. The error is the
-/// document's first refusal, or want of memory.
+/// Answers a ring document: with the least plan, or with `No` and the chain that proves that none fits. The error is
+/// the document's first refusal, or `AllocError`.
 #[tactic(auto, unfolding(crate::specs::Planning::plan_answer, crate::specs::Planning::document_answer))]
 pub fn plan(alloc: Global, bytes: &[u8]) -> Result<Reply, BadDocument>
     ensures answer { MatchResult result

@@ -10,7 +10,7 @@ use std::io::ErrorKind;
 use std::rt::Env;
 use std::{env, io};
 
-// The status if the words can't be read. Either no memory was found, or one is no UTF-8 text, and so no word of a command.
+// The status if the words can't be read: no memory was found, or one isn't UTF-8 text, and so not a word of a command.
 fn unread(kind: ErrorKind) -> Status
     ensures no_memory { kind ≡ ErrorKind.OutOfMemory → result ≡ Status.Memory }
     ensures no_text { kind ≢ ErrorKind.OutOfMemory → result ≡ Status.BadWords }
@@ -50,9 +50,9 @@ fn words_of(alloc: Global, arguments: io::Result<Args>) -> Result<Words, Status>
     }
 }
 
-/// The words after the program's name, in their order. The error is `BadWords` if one of them is no UTF-8 text, and `Memory` if no
-/// memory was found. The clause doesn't say which words the process has, since std says nothing of what `args` returns: `words_of` says
-/// what is made of it.
+/// Returns the words after the program's name, in their order. The error is `BadWords` if one of them isn't UTF-8 text, and `Memory`
+/// if no memory was found. Which words the process has is not stated, since std states nothing of what `args` returns: `words_of`
+/// states what is made of it.
 pub fn given_words(rt: &(impl Env + Alloc<A = Global>)) -> Result<Words, Status>
     ensures { IfErr result (λ status. (status ≡ Status.Memory) ⊎ (status ≡ Status.BadWords)) }
 {

@@ -6,7 +6,7 @@ ghost use Rattle.sercos_io.specs.Status.{status_code};
 use sercos_io::Status;
 use std::process::ExitCode;
 
-/// The status if what was kept of the output couldn't be written: a refusal is one whether or not its line was written whole.
+/// Returns the status if what was kept of the output couldn't be written: a refusal is one whether or not its line was written whole.
 pub fn unwritten(status: Status) -> Status
     ensures done { status ≡ Status.Done → result ≡ Status.WriteFault }
     ensures no { status ≡ Status.No → result ≡ Status.WriteFault }

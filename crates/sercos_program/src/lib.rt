@@ -1,4 +1,4 @@
-//! What the programs share: the words that they are given, and how they end.
+//! What the programs share: how they read their words, and how they end.
 #![tactic(auto)]
 
 mod arguments;

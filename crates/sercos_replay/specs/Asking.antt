@@ -1,4 +1,4 @@
--- What the answer says of a replay, in other words than the chain of its refusals.
+-- The promises of a replay's answer, in other words than the chain of its refusals.
 use Rattle.std.specs.Prelude.{◌≡◌, ◌⊎◌, ℕ, List, length, Some, None, Ok}
 use Rattle.sercos_io.specs.declared.status.Status.TheVariants.{Done, No}
 use Rattle.sercos_config.specs.Views.{DocumentView}
@@ -11,7 +11,7 @@ use Rattle.sercos_replay.specs.Divided.{divided}
 use Rattle.sercos_replay.specs.Stations.{Station, station_of, station_differs, lines_read}
 use Rattle.sercos_replay.specs.Replaying.{late_start, verdict_answer, place_answer, replay_answer}
 
--- An input asks for the replay of a station over a capture: its document has the station, and its capture is clean and begins with
+-- An input is that of a replay of a station over a capture: its document has the station, and its capture is clean and begins with
 -- cycle 0.
 pub record Asks (address : ℕ) (bytes : List ℕ) (s : Station) (capture : List ℕ) : Type 0 where
   pub document : List ℕ
@@ -26,14 +26,14 @@ pub record Asks (address : ℕ) (bytes : List ℕ) (s : Station) (capture : List
 abbrev pub cycles_in : List ℕ → List Cycle
 cycles_in capture = cycles_of (lines_read capture)
 
--- It asks for one, and no place differs.
+-- It is that of a replay, and no place differs.
 pub record Agrees (address : ℕ) (bytes : List ℕ) : Type 0 where
   pub s : Station
   pub capture : List ℕ
   pub asks : Asks address bytes s capture
   pub same : station_differs s (cycles_in capture) ≡ None
 
--- It asks for one, and a place differs: this is the first.
+-- It is that of a replay, and a place differs: this is the first.
 pub record Differs (address : ℕ) (bytes : List ℕ) : Type 0 where
   pub s : Station
   pub capture : List ℕ
@@ -55,8 +55,8 @@ pub record Breaks (address : ℕ) (bytes : List ℕ) : Type 0 where
   pub violation : verdict_of capture ≡ Violation line rule
   pub starts : late_start capture ≡ None
 
--- Done comes exactly where the input asks for a replay and no place differs, and No where one does, or where the capture breaks a rule.
--- Wherever it asks for a replay, the answer is the first place that differs, or the number of cycles.
+-- Done is returned iff the input is that of a replay and no place differs, and No iff one does, or the capture breaks a rule. Whenever
+-- it is that of a replay, the answer is the first place that differs, or the number of cycles.
 pub record Replays (address : ℕ) (bytes : List ℕ) : Type 0 where
   pub done : (replay_answer address bytes).status ≡ Done → Agrees address bytes
   pub agrees : Agrees address bytes → (replay_answer address bytes).status ≡ Done

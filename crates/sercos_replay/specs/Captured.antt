@@ -21,7 +21,7 @@ abbrev pub NeverDisturbed : RingView → Carry → Restarts → List CycleView �
 NeverDisturbed r carry restarts [] = Unit {0}
 NeverDisturbed r carry restarts (t ∷ j) = NeverDisturbed r carry restarts j × (is_disturbed_in r carry restarts (length j) t.sent ≡ false)
 
--- lines of the same telegrams, whatever other lines stand among them
+-- lines of the same telegrams, with any other lines between them
 unfoldable pub telegrams : List Line → List Line
 telegrams [] = []
 telegrams (line.Telegram cycle sent ∷ before) = line.Telegram cycle sent ∷ telegrams before

@@ -1,5 +1,5 @@
--- A capture as its cycles. Lists of lines and of cycles have their newest item first; the ATs of a cycle are in the order in which
--- they came.
+-- A capture as its cycles. Lists of lines and of cycles have their newest item first; the ATs of a cycle are in the order of their
+-- lines.
 use Rattle.std.specs.Prelude.{ℕ, ◌≤◌, List, [], ◌∷◌, ◌++◌, Option, Some, None}
 use Rattle.sercos_telegram.specs.declared.layout.Kind.{Kind}
 use Rattle.sercos_telegram.specs.declared.layout.Kind.TheVariants as telegram
@@ -18,7 +18,7 @@ pub record Cycle : Type 0 where
 abbrev pub begun : ℕ → SentView → Cycle
 begun cycle sent = record { cycle = cycle; mst = sent; ats = []; mdt = None }
 
--- The cycle with a telegram more. After its MDT nothing comes that counts.
+-- The cycle with a telegram more. After its MDT nothing counts.
 abbrev pub at_after : Option SentView → SentView → Cycle → Cycle
 at_after None sent t = record t { ats = t.ats ++ sent ∷ [] }
 at_after (Some mdt) sent t = t
@@ -27,7 +27,7 @@ abbrev pub mdt_after : Option SentView → SentView → Cycle → Cycle
 mdt_after None sent t = record t { mdt = Some sent }
 mdt_after (Some mdt) sent t = t
 
--- the same for the newest cycle; before the first MST nothing counts
+-- the newest cycle with a telegram more; before the first MST nothing counts
 abbrev pub with_at : SentView → List Cycle → List Cycle
 with_at sent [] = []
 with_at sent (t ∷ j) = at_after t.mdt sent t ∷ j

@@ -1,4 +1,4 @@
--- Where a station first said something else than its rules give of all that the capture has before that place.
+-- Where a station first deviated from its rules, given all that the capture has before that place.
 use Rattle.std.specs.Prelude.{ℕ, ◌*◌, pos, ◌==◌, Bool, ◌||◌, if◌then◌else◌, List, [], ◌∷◌, Option, Some, None, is_some, option_map, slice_index}
 use Rattle.std.specs.List.{find}
 use Rattle.std.specs.Option.{option_or}
@@ -47,7 +47,7 @@ abbrev pub drive_differs : DriveView → ℕ → List Cycle → Option PlaceView
 drive_differs d rate [] = None
 drive_differs d rate (t ∷ j) = option_or (drive_differs d rate j) (if_differs (at_place d rate t j))
 
--- THE MASTER hears each MST as its own, come back whole, and each AT, in their order. It never restarts.
+-- THE MASTER receives each MST as its own, come back whole, and each AT, in their order. It never restarts.
 abbrev pub at_calls : List SentView → List Call → List Call
 at_calls [] h = h
 at_calls (s ∷ ats) h = at_calls ats (HearAt s.content ∷ h)
@@ -86,8 +86,8 @@ master_differs s jobs [] = None
 master_differs s jobs (t ∷ j) =
     option_or (master_differs s jobs j) (option_or (if_differs (mst_place s jobs t j)) (if_differs (mdt_place s jobs t j)))
 
--- WHAT IS TOLD while lines still come: the first place that differs, as soon as its telegram is there or the capture has one of a
--- later place. In the newest cycle the AT's place is passed when the MDT has come; the MDT's place is the last one.
+-- WHAT IS REPORTED while lines are added: the first place that differs, as soon as its telegram is there or the capture has one
+-- of a later place. In the newest cycle the AT's place is passed with the MDT; the MDT's place is the last one.
 abbrev pub if_passed : Bool → PlaceView → Option PlaceView
 if_passed passed p = if passed then if_differs p else None
 

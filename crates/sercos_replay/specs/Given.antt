@@ -1,5 +1,5 @@
--- What a replay tells while lines still come, in other words: the first place that differs, if its telegram is there or the capture has one
--- of a later place. Places are ordered by cycle, and in a cycle MST, AT, MDT. Lists of lines have their newest line first.
+-- What a replay reports while lines are added, in other words: the first place that differs, if its telegram is there or the capture has
+-- one of a later place. Places are ordered by cycle, and in a cycle MST, AT, MDT. Lists of lines have their newest line first.
 use Rattle.std.specs.Prelude.{ℕ, ◌==◌, nat_lt, Bool, false, ◌&&◌, ◌||◌, if◌then◌else◌, List, [], ◌∷◌, Option, Some, None, is_some}
 use Rattle.sercos_telegram.specs.declared.layout.Kind.{Kind}
 use Rattle.sercos_telegram.specs.declared.layout.Kind.TheVariants as telegram

@@ -1,4 +1,4 @@
--- What a replay keeps, and for which lines of a capture it stands.
+-- What a replay keeps, and the lines of a capture that it stands for. For proofs alone.
 use Rattle.std.specs.Prelude.{◌≡◌, ◌⊎◌, ℕ, Bool, true, false, List, [], ◌∷◌, Option, Some, None, is_some}
 use Rattle.sercos_step.specs.declared.request.Job.{Job}
 use Rattle.sercos_block.specs.Views.{DriveView}
@@ -24,16 +24,16 @@ abbrev pub Goes : (Cycle → List Cycle → Type 0) → (List Cycle → Type 0) 
 Goes Awaits Rests [] = Rests []
 Goes Awaits Rests (t ∷ j) = GoesIn Awaits Rests t.mdt t j
 
--- A difference was told, and it is the first one; or none was told, and this holds.
+-- A difference was reported, and it is the first one; or none was reported, and this holds.
 abbrev pub ToldOr : Bool → PlaceView → Option PlaceView → Type 0 → Type 0
 ToldOr true told first Holds = first ≡ Some told
 ToldOr false told first Holds = Holds
 
--- the difference that was told
+-- the difference that was reported
 abbrev pub drive_kept : DriveReplay → Option PlaceView
 drive_kept v = if_told v.differs v.told.value
 
--- A DRIVE. The newest cycle has no MDT yet: the drive got its MST, and whether its AT came is kept.
+-- A DRIVE. The newest cycle has no MDT yet: the drive got its MST, and whether it has its AT is kept.
 pub record DriveAwaits (v : DriveReplay) (d : DriveView) (rate : ℕ) (t : Cycle) (j : List Cycle) : Type 0 where
   pub address_is : v.address ≡ d.address
   pub rate_is : v.rate ≡ rate
@@ -45,7 +45,7 @@ pub record DriveAwaits (v : DriveReplay) (d : DriveView) (rate : ℕ) (t : Cycle
   pub before : drive_differs d rate j ≡ None
   pub agrees : v.found ≡ true → if_differs (at_place d rate t j) ≡ None
 
--- The place of its AT is passed, and compared: only the MDT's place is still to come.
+-- The place of its AT is passed, and compared: only the MDT's place is left.
 pub record DriveHasPassed (v : DriveReplay) (d : DriveView) (rate : ℕ) (t : Cycle) (j : List Cycle) : Type 0 where
   pub address_is : v.address ≡ d.address
   pub rate_is : v.rate ≡ rate
@@ -91,11 +91,11 @@ abbrev pub HasMaster : Option AnyMaster → Known → List Job → List Call →
 HasMaster None s jobs h = ⊥
 HasMaster (Some master) s jobs h = AnyStandsFor master s jobs h
 
--- the difference that was told
+-- the difference that was reported
 abbrev pub master_kept : MasterReplay → Option PlaceView
 master_kept v = if_told v.differs v.told.value
 
--- The newest cycle has no MDT yet: the master heard its MST, which is as it said, and the ATs so far.
+-- The newest cycle has no MDT yet: the master received its MST, which is as it sent it, and the ATs so far.
 pub record MasterAwaits (v : MasterReplay) (s : Known) (jobs : List Job) (t : Cycle) (j : List Cycle) : Type 0 where
   pub rate_is : v.rate ≡ s.rate
   pub cycle_is : v.cycle ≡ t.cycle

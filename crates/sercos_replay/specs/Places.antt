@@ -1,4 +1,4 @@
--- A place of a capture at which a station may say something: what it was to say there, and what the capture has.
+-- A place of a capture at which a station may send something: what it was to send there, and what the capture has.
 use Rattle.std.specs.Prelude.{ℕ, ℤ, Bool, true, false, not, ◌&&◌, if◌then◌else◌, List, length, Option, Some, None, option_map}
 use Rattle.std.specs.Ordering.{int_eq}
 use Rattle.std.specs.Str.{bytes_eq}
@@ -25,7 +25,7 @@ agree _ _ = false
 abbrev pub differs : PlaceView → Bool
 differs p = not (agree p.expected p.found)
 
--- the place, if the station said something else there
+-- the place, if the station deviated there
 abbrev pub if_differs : PlaceView → Option PlaceView
 if_differs p = if differs p then Some p else None
 

@@ -61,7 +61,7 @@ unfoldable pub place_answer : Option PlaceView → ℕ → Answer
 place_answer None cycles = record { status = Done; output = number_line (codes "agrees ") cycles }
 place_answer (Some p) cycles = record { status = No; output = place_text p }
 
--- what the lines of a clean capture say of a station
+-- the answer of a station's replay for the lines of a clean capture
 unfoldable pub station_answer : Station → List Line → Answer
 station_answer s lines = place_answer (station_differs s (cycles_of lines)) (length (cycles_of lines))
 
@@ -112,7 +112,7 @@ unfoldable pub parts_answer : Option (List ℕ × List ℕ) → ℕ → Answer
 parts_answer None address = refused (codes "refused 9 capture" ++ line_feed)
 parts_answer (Some parts) address = document_answer (document_of parts.0) address parts.1
 
--- The answer to an input: where the station with an address first said something else than its rules give of all that the capture has
--- before that place.
+-- The answer to an input: where the station with an address first deviated from its rules, given all that the capture has before that
+-- place.
 unfoldable pub replay_answer : ℕ → List ℕ → Answer
 replay_answer address bytes = parts_answer (divided bytes) address

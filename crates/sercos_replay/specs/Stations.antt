@@ -1,4 +1,4 @@
--- The station that is replayed, and the lines of a capture that it is given. Lists of lines have their newest line first.
+-- The station that is replayed, and the lines of a capture passed to it. Lists of lines have their newest line first.
 use Rattle.std.specs.Prelude.{◌≡◌, ℕ, ◌==◌, ◌+◌, Bool, if◌then◌else◌, List, [], ◌∷◌, length, Option, Some, None, option_map}
 use Rattle.std.specs.List.{position}
 use Rattle.sercos_telegram.specs.declared.layout.Kind.{Kind}
@@ -36,7 +36,7 @@ drive_of address r = option_map (λ index. drive (drive_at r index) r.rate) (pos
 unfoldable pub station_of : ℕ → DocumentView → Option Station
 station_of address d = if address == 0 then Some (master (known_of d.setup) d.jobs) else drive_of address d.setup
 
--- the first place of a capture at which the station said something else than its rules give
+-- the first place of a capture at which the station deviated from its rules
 unfoldable pub station_differs : Station → List Cycle → Option PlaceView
 station_differs (master s jobs) j = master_differs s jobs j
 station_differs (drive d rate) j = drive_differs d rate j
@@ -59,13 +59,13 @@ unfoldable pub mst_cycle : Line → Option ℕ
 mst_cycle (line.Telegram cycle sent) = kind_cycle sent.kind cycle
 mst_cycle _ = None
 
--- a replay stands for a station that was given these lines
+-- a replay stands for a station after these lines
 abbrev pub ReplayStandsFor : Replay → Station → List Line → Type 0
 ReplayStandsFor (replay.Master v) (master s jobs) lines = MasterReplayStandsFor v s jobs lines
 ReplayStandsFor (replay.Drive v) (drive d rate) lines = DriveReplayStandsFor v d rate lines
 ReplayStandsFor _ _ lines = ⊥
 
--- A replay was given a line, which is clean after these lines. The number is that of the cycles that begin with it.
+-- A replay was passed a line, which is clean after these lines. The number is that of the cycles that begin with it.
 pub record IsGiven (old new : Replay) (before : List Line) (l : Line) (begun : ℕ) : Type 0 where
   pub clean : IsClean (l ∷ before)
   pub stands : (s : Station) → ReplayStandsFor old s before → ReplayStandsFor new s (l ∷ before)

@@ -28,11 +28,12 @@ pub record FitsLine (cycle : ℕ) (s : SentView) : Type 0 where
 abbrev pub FitLines : List CycleView → Type 0
 FitLines j = All (λ (t : CycleView). All (FitsLine t.cycle) t.sent) j
 
--- The trace of a journal is read back as the telegrams of its cycles, whatever its other lines are.
+-- The trace of a journal is read back as the telegrams of its cycles, regardless of its other
+-- lines.
 abbrev pub ReadsTraces : Type 0
 ReadsTraces = (w : WishesView) (j : List CycleView) (t : Totals) → FitLines j → telegrams (lines_read (trace_of w (reverse j) t)) ≡ telegrams (lines_of j)
 
--- A journal is a run of what a document says, in which nothing is disturbed.
+-- A journal is a run of a document's contents, in which nothing is disturbed.
 pub record IsCalm (d : DocumentView) (carry : Carry) (restarts : Restarts) (j : List CycleView) : Type 0 where
   pub ring : is_ring d.setup ≡ true
   pub typed : AreTyped d.setup

@@ -11,7 +11,8 @@ use Rattle.sercos_replay.specs.Stations.{Station, lines_read}
 use Rattle.sercos_replay.specs.Replaying.{place_answer, replay_answer}
 use Rattle.sercos_replay.specs.Asking.{Asks, cycles_in}
 
--- A journal is a run of what a document says, in which nothing is disturbed; and a capture has its telegrams.
+-- A journal is a run of a document's contents, in which nothing is disturbed; and a capture has its
+-- telegrams.
 pub record IsCaptured (d : DocumentView) (carry : Carry) (restarts : Restarts) (j : List CycleView) (capture : List ℕ) : Type 0 where
   pub ring : is_ring d.setup ≡ true
   pub typed : AreTyped d.setup
@@ -20,7 +21,7 @@ pub record IsCaptured (d : DocumentView) (carry : Carry) (restarts : Restarts) (
   pub calm : NeverDisturbed d.setup carry restarts j
   pub same : telegrams (lines_read capture) ≡ telegrams (lines_of j)
 
--- Whatever station is replayed, no place differs, so that the answer is the number of cycles.
+-- No place differs for any station, so the answer is the number of cycles.
 abbrev pub UndisturbedAgree : Type 0
 UndisturbedAgree = (address : ℕ) (bytes capture : List ℕ) (s : Station) (asks : Asks address bytes s capture) (carry : Carry) (restarts : Restarts) (j : List CycleView) →
     IsCaptured asks.d carry restarts j capture → replay_answer address bytes ≡ place_answer None (length (cycles_in capture))

@@ -1,4 +1,4 @@
-// Where a station said something else than its rules give.
+// Where a station deviated from its rules.
 ghost use Rattle.std.specs.Prelude.{◌≡◌, ◌*◌, ◌<◌, ◌≤◌, not, pos, true, length, is_some, option_map, Some, None};
 ghost use Rattle.std.specs.Str.{bytes_eq};
 ghost use Rattle.sercos_telegram.specs.declared.layout.Kind.{Kind};
@@ -10,7 +10,7 @@ use sercos_telegram::Kind;
 use sercos_trace::Sent;
 use std::marker::Model;
 
-/// A place of a capture at which a station said something else than its rules give. Contracts see the record of its fields.
+/// A place of a capture at which a station deviated from its rules. Contracts see the record of its fields.
 #[derive(Debug, Drop)]
 pub struct Difference {
     /// The cycle.
@@ -112,7 +112,7 @@ fn has_content(sent: &Sent, content: &Content) -> bool
     content.as_slice() == sent.content.as_slice()
 }
 
-// Whether what was found is what was to be sent.
+// Returns whether what was found is what was to be sent.
 fn agree(content: &Content, start: Option<i32>, found: Option<&Sent>) -> bool
     ensures { (kind : Kind) → result ≡ agree (expected_as kind content.now start) (option_map (λ s. s.now) found.entry) }
 {

@@ -23,26 +23,25 @@ use sercos_telegram::Kind;
 use sercos_trace::{Line, Sent};
 use std::alloc::{AllocError, Global};
 
-/// The replay of a drive: it gets each MST and each MDT as the lines of a capture have it, and its ATs are compared with those of
-/// its address. It stands for the lines given since it was opened; contracts list them the newest first. No call but `open` takes
-/// memory.
+/// The replay of a drive: it gets each MST and each MDT as the lines of a capture have it, and its ATs are compared with those of its
+/// address. It stands for the lines since it was opened; contracts list them the newest first. No call but `open` takes memory.
 #[derive(Drop)]
 pub struct DriveReplay {
     drive: Drive,
     address: u8,
     rate: u8,
-    // the newest cycle; whether its MDT is still to come, and whether an AT of the drive came in it
+    // the newest cycle; whether its MDT is still missing, and whether it has an AT of the drive
     cycle: u32,
     is_open: bool,
     found: bool,
-    // whether a difference was told, and it
+    // whether a difference was reported, and it
     differs: bool,
     told: Box<Difference>,
     // where the drive writes its AT
     said: Box<Content>,
 }
 
-// Compares what the drive says with what was found at the place of its AT. If they differ, the place is put into `told`.
+// Compares what the drive sends with what was found at the place of its AT. If they differ, the place is put into `told`.
 fn compare_at(
     drive: &Drive,
     told: &mut Difference,
@@ -103,7 +102,7 @@ impl DriveReplay {
         );
     }
 
-    // If no AT of the drive came in the newest cycle, that is compared.
+    // If the newest cycle has no AT of the drive, that is compared.
     fn pass(&mut self)
         ensures { (d : DriveView) (rate : ℕ) (t : Cycle) (j : List Cycle) → DriveAwaits self.old d rate t j → self.old.differs ≡ false → DriveHasPassed self.new d rate t j }
     {
@@ -154,7 +153,7 @@ impl DriveReplay {
         }
     }
 
-    // Whether an AT is awaited, and this is one of the drive.
+    // Returns whether an AT is awaited, and this is one of the drive.
     fn awaits(&self, sent: &Sent) -> bool
         ensures { result ≡ (self.now.is_open && (not self.now.found && is_of self.now.address sent.now)) }
     {
@@ -200,7 +199,7 @@ impl DriveReplay {
         }
     }
 
-    // A line, if no difference was told yet.
+    // Processes a line if no difference was reported yet.
     fn take_line(&mut self, line: &Line)
         ensures { (d : DriveView) (rate : ℕ) (lines : List Line) → DriveReplayStandsFor self.old d rate lines → self.old.differs ≡ false → GoesOn lines line.now →
             DriveReplayStandsFor self.new d rate (line.now ∷ lines) }
@@ -245,7 +244,7 @@ impl DriveReplay {
     }
 
     /// Takes the next line of a capture, in which cycles don't go back. Returns the first place at which the drive deviated from its
-    /// rules, as soon as its telegram or one of a later place was given; `None` if there is none so far. After a difference each
+    /// rules, as soon as the capture has its telegram or one of a later place; `None` if there is none so far. After a difference each
     /// call returns it again.
     pub fn line(&mut self, line: &Line) -> Option<Difference>
         ensures after { DriveAfterLine self.old line.now self.new }
@@ -256,8 +255,8 @@ impl DriveReplay {
         self.difference()
     }
 
-    /// Ends the capture, after which no line is given. Returns the first place at which the drive deviated from its rules, or sent nothing
-    /// where they ask for a telegram; `None` if there is none. It may be called again, and returns the same.
+    /// Ends the capture; no line may follow. Returns the first place at which the drive deviated from its rules, or sent nothing though
+    /// they require a telegram; `None` if there is none. It may be called again, and returns the same.
     pub fn finish(&mut self) -> Option<Difference>
         ensures after { DriveAfterEnd self.old self.new }
         ensures differs { (d : DriveView) (rate : ℕ) (lines : List Line) → (DriveReplayStandsFor self.old d rate lines ⊎ DriveReplayHasFinished self.old d rate lines) →

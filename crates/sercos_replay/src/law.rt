@@ -18,8 +18,8 @@ ghost use Rattle.sercos_replay.specs.Asking.{Replays};
 
 use sercos_law_run::typed_law;
 
-/// A law and no code. In a clean capture no cycle goes back. What a replay tells of it is the first place that differs, if its telegram is
-/// there or one of a later place was given. Lines that are no telegrams say nothing to a replay.
+/// A law, without code. In a clean capture no cycle goes back. What a replay reports of it is the first place that differs, if its
+/// telegram is there or the capture has one of a later place. Lines that are not telegrams don't affect a replay.
 pub fn capture_law()
     ensures clean { (before : List Line) (line : Line) → IsClean (line ∷ before) → GoesOn before line }
     ensures drive_tells { (d : DriveView) (rate : ℕ) (lines : List Line) → IsClean lines → drive_tells d rate (cycles_of lines) ≡ if_given lines (drive_differs d rate (cycles_of lines)) }
@@ -27,8 +27,8 @@ pub fn capture_law()
     ensures telegrams { (lines : List Line) → cycles_of lines ≡ cycles_of (telegrams lines) }
 {}
 
-/// A law and no code. The capture of a run in which nothing is disturbed agrees: no drive and no master says anything else than its
-/// rules give. The numbers of ring and requests are those of their types, so that each telegram is the content of its frame.
+/// A law, without code. The capture of a run in which nothing is disturbed agrees: no drive and no master deviates from its rules. The
+/// numbers of ring and requests are in their types' ranges, so that each telegram is the content of its frame.
 pub fn agreement_law()
     ensures drive { (r : RingView) (jobs : List Job) (carry : Carry) (restarts : Restarts) (j : List CycleView) (index : ℕ) → is_ring r ≡ true →
         AreTyped r → AreTypedJobs jobs → IsRun r jobs carry restarts j → NeverDisturbed r carry restarts j → index < length r.drives →
@@ -40,9 +40,8 @@ pub fn agreement_law()
     typed_law();
 }
 
-/// A law and no code. `Done` is the answer exactly where an input asks for a replay and no place differs, and `No` where one does, or
-/// where the capture breaks a rule. Wherever an input asks for a replay, the answer is the first place that differs, or the number of
-/// cycles.
+/// A law, without code. `Done` is the answer iff an input is that of a replay and no place differs, and `No` iff one does, or the capture
+/// breaks a rule. Whenever an input is that of a replay, the answer is the first place that differs, or the number of cycles.
 #[tactic(auto, using(crate::proofs::AskingLemmas::replays))]
 pub fn asking_law()
     ensures { (address : ℕ) (bytes : List ℕ) → Replays address bytes }

@@ -1,5 +1,5 @@
-//! The replay of one end of a ring against a capture: where a drive or the master first said something else than its rules give. And
-//! the answer of `replay A`, to an input that a line `capture` divides into a ring document and a capture.
+//! The replay of one end of a ring against a capture: where a drive or the master first deviated from its rules. And the answer of
+//! `replay A`, to an input that a line `capture` divides into a ring document and a capture.
 #![tactic(auto)]
 
 mod difference;

@@ -73,7 +73,7 @@ pub fn late_start(text: &[u8]) -> Option<u32>
     }
 }
 
-// Gives a line to a replay, and returns how many cycles begin with it.
+// Passes a line to a replay, and returns how many cycles begin with it.
 fn give_line(replay: &mut Replay, line: &Line) -> u64
     ensures stands { (s : Station) (before : List Line) → ReplayStandsFor replay.old s before → IsClean (line.now ∷ before) → ReplayStandsFor replay.new s (line.now ∷ before) }
     ensures count { (before : List Line) → length (cycles_of (line.now ∷ before)) ≡ length (cycles_of before) + result }
@@ -84,7 +84,7 @@ fn give_line(replay: &mut Replay, line: &Line) -> u64
     u64::from(mst_cycle(line).is_some())
 }
 
-// Gives the text of a clean line to a replay, and returns how many cycles begin with it.
+// Passes the text of a clean line to a replay, and returns how many cycles begin with it.
 fn give_text(replay: &mut Replay, reader: &mut Reader, text: &[u8]) -> u64
     ensures given { (before : List Line) → IsClean before → column_of before text.now ≡ None → rule_broken before (read_as text.now) ≡ None →
         IsGiven replay.old replay.new before (read_as text.now) result }
@@ -97,7 +97,8 @@ fn give_text(replay: &mut Replay, reader: &mut Reader, text: &[u8]) -> u64
     }
 }
 
-/// Gives all lines of a clean capture to a replay, and returns how many cycles they have. No line is kept.
+/// Passes all lines of a clean capture to a replay, and returns how many cycles they have. No line is
+/// kept.
 pub fn give_all(replay: &mut Replay, text: &[u8]) -> u64
     requires { (count : ℕ) × (verdict_of text.now ≡ Clean count) }
     ensures stands { (s : Station) → ReplayStandsFor replay.old s [] → ReplayStandsFor replay.new s (lines_read text.now) }

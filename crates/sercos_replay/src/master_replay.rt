@@ -28,18 +28,17 @@ use sercos_telegram::Kind;
 use sercos_trace::{Events, Line, Sent};
 use std::alloc::{AllocError, Global};
 
-/// The replay of the master: it hears each MST of a capture as its own, come back whole, and each AT, and what it says is compared
-/// with the MSTs and MDTs. It stands for the lines given since it was opened; contracts list them the newest first. No call but
-/// `open` takes memory.
+/// The replay of the master: it receives each MST of a capture as its own, come back whole, and each AT, and what it sends is compared with
+/// the MSTs and MDTs. It stands for the lines since it was opened; contracts list them the newest first. No call but `open` takes memory.
 #[derive(Drop)]
 pub struct MasterReplay {
     // there between the calls
     master: Option<AnyMaster>,
     rate: u8,
-    // the newest cycle, and whether its MDT is still to come
+    // the newest cycle, and whether its MDT is still missing
     cycle: u32,
     is_open: bool,
-    // whether a difference was told, and it
+    // whether a difference was reported, and it
     differs: bool,
     told: Box<Difference>,
     // where the master writes its telegrams, and what it reports
@@ -47,7 +46,7 @@ pub struct MasterReplay {
     events: Box<Events>,
 }
 
-// The length of the frame of an MST that is said, in bits.
+// Returns the length of the frame of the master's MST, in bits.
 fn len_of(said: &Content) -> u32
     requires { 0 < length said.now }
     ensures value { result ≡ length (frame_of said.now) }
@@ -86,7 +85,7 @@ fn say_mdt(master: &mut AnyMaster, rate: u8, said: &mut Content) -> Option<i32>
     in_bits(rate, start)
 }
 
-// Compares the MST of a cycle with that of the capture, and the master hears that one. If they differ, the place is put into `told`.
+// Compares the MST of a cycle with that of the capture, and passes that one to the master. If they differ, the place is put into `told`.
 fn begin_cycle(
     master: &mut AnyMaster,
     told: &mut Difference,
@@ -278,7 +277,7 @@ impl MasterReplay {
         }
     }
 
-    // A line, if no difference was told yet.
+    // Processes a line if no difference was reported yet.
     fn take_line(&mut self, line: &Line)
         ensures { (s : Known) (jobs : List Job) (lines : List Line) → MasterReplayStandsFor self.old s jobs lines → self.old.differs ≡ false →
             MasterReplayStandsFor self.new s jobs (line.now ∷ lines) }
@@ -322,8 +321,8 @@ impl MasterReplay {
         }
     }
 
-    /// Takes the next line of a capture. Returns the first place at which the master deviated from its rules, as soon as its telegram
-    /// or one of a later place was given; `None` if there is none so far. After a difference each call returns it again.
+    /// Takes the next line of a capture. Returns the first place at which the master deviated from its rules, as soon as the capture has
+    /// its telegram or one of a later place; `None` if there is none so far. After a difference each call returns it again.
     pub fn line(&mut self, line: &Line) -> Option<Difference>
         ensures after { MasterAfterLine self.old line.now self.new }
         ensures tells { (s : Known) (jobs : List Job) (lines : List Line) → MasterReplayStandsFor self.old s jobs lines →
@@ -333,8 +332,8 @@ impl MasterReplay {
         self.difference()
     }
 
-    /// Ends the capture, after which no line is given. Returns the first place at which the master deviated from its rules, or sent nothing
-    /// where they ask for a telegram; `None` if there is none. It may be called again, and returns the same.
+    /// Ends the capture; no line may follow. Returns the first place at which the master deviated from its rules, or sent nothing though
+    /// they require a telegram; `None` if there is none. It may be called again, and returns the same.
     pub fn finish(&mut self) -> Option<Difference>
         ensures after { MasterAfterEnd self.old self.new }
         ensures differs { (s : Known) (jobs : List Job) (lines : List Line) → (MasterReplayStandsFor self.old s jobs lines ⊎ MasterReplayHasFinished self.old s jobs lines) →

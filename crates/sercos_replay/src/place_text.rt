@@ -106,7 +106,7 @@ fn push_difference(
     push_sent_line(alloc, "found ", &difference.found, out)
 }
 
-/// The reply with a text.
+/// Returns the reply with a text.
 pub fn reply_with(alloc: Global, status: Status, text: &[u8]) -> Result<Reply, AllocError>
     ensures { IfOk result (λ reply. (reply.status ≡ status) × (reply.text.items ≡ text.now)) }
 {

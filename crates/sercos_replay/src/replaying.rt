@@ -1,4 +1,4 @@
-// `replay A`: where one end of a ring first said something else than its rules give.
+// `replay A`: where one end of a ring first deviated from its rules.
 ghost use Rattle.std.specs.Prelude.{◌≡◌, ℕ, ◌<◌, ◌≤◌, ◌==◌, true, List, [], length, Some, None, Ok, IfOk, ◌++◌, codes};
 ghost use Rattle.std.specs.List.{All};
 ghost use Rattle.sercos_step.specs.Jobs.{AreJobs};
@@ -22,7 +22,7 @@ use sercos_config::Document;
 use sercos_io::Status;
 use std::alloc::{AllocError, Global};
 
-// The reply of a verdict, as `check` gives it.
+// Makes the reply of a verdict, as `check` does.
 #[tactic(auto, unfolding(crate::specs::Replaying::verdict_answer))]
 fn verdict_reply(alloc: Global, verdict: Verdict) -> Result<Reply, AllocError>
     ensures { IfOk result (λ reply. Says reply (verdict_answer verdict)) }
@@ -167,9 +167,9 @@ fn reply_addressed(
     }
 }
 
-/// Replies to a ring document that was read, and a capture: the first place at which the station with an address said something else
-/// than its rules give of all that the capture has before that place, with `No`; or the number of cycles, if there is none. The
-/// master has the address 0. An address that no drive has is refused, then a capture, and one that doesn't begin with cycle 0; a
+/// Replies to the contents of a ring document, and a capture: with `No` and the first place at which the station with an address
+/// deviated from its rules, given all that the capture has before that place; or with the number of cycles, if there is none. The
+/// master has the address 0. An address without a drive is refused, then a capture, and one that doesn't begin with cycle 0; a
 /// capture that breaks a rule is answered as `check` does. The error is `AllocError`.
 #[tactic(auto, unfolding(crate::specs::Replaying::found_answer, crate::specs::Stations::station_of))]
 pub fn replay_document(

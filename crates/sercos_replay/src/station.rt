@@ -74,7 +74,7 @@ impl Replay {
         }
     }
 
-    /// Replies with the first place that differs in all lines that were given, which have this number of cycles.
+    /// Replies with the first place that differs in all lines so far, which have this number of cycles.
     pub fn reply(&mut self, alloc: Global, cycles: u64) -> Result<Reply, AllocError>
         ensures { (s : Station) (lines : List Line) → ReplayStandsFor self.old s lines → IfOk result (λ reply. Says reply (place_answer (station_differs s (cycles_of lines)) cycles)) }
     {

@@ -5,9 +5,9 @@ ghost use Rattle.sercos_replay.specs.Undisturbed.{UndisturbedAgree};
 use crate::law::{agreement_law, capture_law};
 use sercos_trace::reading_law;
 
-/// A law and no code. Where an input asks for a replay, and the telegrams of its capture are those of a run of its document in which
-/// nothing is disturbed, the answer is the number of cycles, for the master and for each drive. The trace of a run whose numbers fit
-/// their fields is read back as its telegrams; so it is if the capture is the trace of such a run.
+/// A law, without code. If an input is that of a replay, and the telegrams of its capture are those of a run of its document in
+/// which nothing is disturbed, the answer is the number of cycles, for the master and for each drive. The trace of a run whose
+/// numbers fit their fields is read back as its telegrams; so the same holds if the capture is the trace of such a run.
 pub fn undisturbed_law()
     ensures agree { UndisturbedAgree }
     ensures reads { ReadsTraces }

@@ -1,4 +1,4 @@
--- What a ring keeps, and for which cycles it stands.
+-- What a ring keeps, and the cycles that it stands for.
 use Rattle.std.specs.Prelude.{◌≡◌, ℕ, ◌+◌, ◌≤◌, List, [], ◌∷◌, length, true, Option, Some, None}
 use Rattle.sercos_step.specs.declared.request.Job.{Job}
 use Rattle.sercos_block.specs.Views.{RingView}
@@ -38,8 +38,8 @@ abbrev pub HasMaster : Option AnyMaster → Known → List Job → List Call →
 HasMaster None s jobs h = ⊥
 HasMaster (Some master) s jobs h = AnyStandsFor master s jobs h
 
--- A ring over a link stands for what its opening was given, and for a journal, the newest cycle first: the journal is a run, and the
--- link, the drives and the master are as they are after it. `carry_of` and `restart_of` are the link's meanings.
+-- A ring over a link stands for the arguments of its opening, and for a journal, the newest cycle first: the journal is a run, and
+-- the link, the drives and the master are as they are after it. `carry_of` and `restart_of` are the link's meanings.
 pub record RingStandsFor {L : Type 0} (carry_of : L → Carry) (restart_of : L → Restarts) (ring : Ring L) (r : RingView) (jobs : List Job) (carry : Carry) (restarts : Restarts)
     (j : List CycleView) : Type 0 where
   pub valid : is_ring r ≡ true
@@ -74,7 +74,7 @@ pub record AfterCycle {L : Type 0} (carry_of : L → Carry) (restart_of : L → 
   pub count : cycles_made new ≤ cycles_made old + 1
   pub drives : drives_in new ≡ drives_in old
 
--- a record is that of the next cycle of a ring, whatever the ring stands for
+-- a record is that of the next cycle of a ring, for whatever cycles the ring stands
 pub record IsNextOf {L : Type 0} (carry_of : L → Carry) (restart_of : L → Restarts) (ring : Ring L) (made : CycleView) : Type 0 where
   pub next : (r : RingView) (jobs : List Job) (carry : Carry) (restarts : Restarts) (j : List CycleView)
       → RingStandsFor carry_of restart_of ring r jobs carry restarts j → IsNext r jobs carry restarts made j
@@ -89,8 +89,8 @@ pub record StartsUpOf {L : Type 0} (carry_of : L → Carry) (restart_of : L → 
   pub starts : (r : RingView) (jobs : List Job) (carry : Carry) (restarts : Restarts) (j : List CycleView)
       → RingStandsFor carry_of restart_of ring r jobs carry restarts j → IsOpened r jobs → NeverDisturbed r carry restarts (made ∷ j) → StartsUp r jobs carry restarts made j
 
--- And what holds of it whatever was lost or damaged, and whichever stations restarted, if nothing was unseen so far: once no cycle is
--- disturbed any more, the ring is back in time.
+-- And what holds of it regardless of losses and restarts, if nothing was undetected so far: once no cycle is disturbed any more, the
+-- ring is back in time.
 pub record RecoversOf {L : Type 0} (carry_of : L → Carry) (restart_of : L → Restarts) (ring : Ring L) (made : CycleView) : Type 0 where
   pub recovers : (r : RingView) (jobs : List Job) (carry : Carry) (restarts : Restarts) (j : List CycleView)
       → RingStandsFor carry_of restart_of ring r jobs carry restarts j → IsOpened r jobs → IsClear (made ∷ j) → RecoversIn r jobs carry restarts made j

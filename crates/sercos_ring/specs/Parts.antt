@@ -12,8 +12,8 @@ use Rattle.sercos_script.specs.Links.{Carry, Restarts}
 use Rattle.sercos_law_run.specs.Journal.Runs.{drive_at, master_calls, given_before, IsRun}
 use Rattle.sercos_ring.specs.Stations.{AllStand, addresses_below}
 
--- What a link carries and whom it restarts; the number of the cycle, the rate and the addresses; the drives and the master: they
--- stand for what the ring's opening was given, and for its cycles, the newest first.
+-- What a link carries and which stations it restarts; the number of the cycle, the rate and the addresses; the drives and the
+-- master: they stand for the arguments of the ring's opening, and for its cycles, the newest first.
 pub record PartsStandFor (carries : Carry) (restarting : Restarts) (cycle rate : ℕ)
     (addresses : List ℕ) (drives : List DriveState) (master : AnyMaster) (r : RingView) (jobs : List Job) (carry : Carry) (restarts : Restarts) (j : List CycleView) : Type 0 where
   pub carry_is : carries ≡ carry

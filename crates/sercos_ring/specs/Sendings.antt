@@ -1,4 +1,4 @@
--- How the telegrams of a cycle pass: what they are in the record, and what comes of them.
+-- How the telegrams of a cycle pass: their entries in the record, and their effect.
 use Rattle.std.specs.Prelude.{◌≡◌, ℕ, ◌+◌, ◌<◌, length, slice_index, slice_index_or, List, [], ◌∷◌, ◌++◌, Option, Some, None}
 use Rattle.sercos_step.specs.declared.request.Job.{Job}
 use Rattle.sercos_block.specs.Views.{DriveView, RingView}
@@ -13,7 +13,7 @@ use Rattle.sercos_script.specs.Links.{Carry}
 use Rattle.sercos_law_run.specs.Journal.Runs.{ats_said, at_calls, unseen_ats, contents, station_of}
 use Rattle.sercos_ring.specs.declared.turns.AtTurn.{AtTurn}
 
--- what the drives at these turns say
+-- what the drives at these turns send
 abbrev pub with_first : Option Said → List Said → List Said
 with_first None others = others
 with_first (Some s) others = s ∷ others
@@ -22,14 +22,15 @@ abbrev pub said_by : (ℕ → DriveView) → ℕ → (ℕ → List DriveCall) �
 said_by d rate h [] = []
 said_by d rate h (t ∷ turns) = with_first (drive_says (d t.place) rate (h t.place)) (said_by d rate h turns)
 
--- what comes of ATs that were sent: they stand in the record, the master has heard what arrived, and the unseen ones are counted
+-- the effect of ATs that were sent: they are in the record, the master has processed what arrived, and the undetected ones are
+-- counted
 pub record AreSent (r : RingView) (carry : Carry) (cycle rate : ℕ)
     (ats : List Said) (before after : List SentView) (old new : AnyMaster) (unseen : ℕ) : Type 0 where
   pub sent : after ≡ before ++ ats_said rate ats
   pub heard : (s : Known) (jobs : List Job) (h : List Call) → AnyStandsFor old s jobs h → AnyStandsFor new s jobs (at_calls r carry cycle (contents ats) h)
   pub count : unseen ≡ unseen_ats r carry cycle (contents ats)
 
--- the drive at each of these turns says something, and its station is found by the address
+-- the drive at each of these turns sends something, and its station is found by the address
 pub record IsTurn (n : ℕ) (d : ℕ → DriveView) (rate : ℕ) (h : ℕ → List DriveCall) (r : RingView) (t : AtTurn) : Type 0 where
   pub says : Said
   pub inside : t.place < n

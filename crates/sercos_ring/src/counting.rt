@@ -9,7 +9,7 @@ use sercos_block::ring_law;
 use sercos_step::Outcome;
 use sercos_trace::{CycleRecord, Fall, Reported, Totals};
 
-// How many requests were complete.
+// Returns how many requests were complete.
 fn complete_in(outcomes: &[Reported]) -> usize
     ensures value { result ≡ ended is_complete outcomes.now }
     ensures few { result ≤ length outcomes.now }
@@ -20,7 +20,7 @@ fn complete_in(outcomes: &[Reported]) -> usize
         .count()
 }
 
-// How many requests were refused.
+// Returns how many requests were refused.
 fn refused_in(outcomes: &[Reported]) -> usize
     ensures value { result ≡ ended is_refused outcomes.now }
     ensures few { result ≤ length outcomes.now }
@@ -31,7 +31,7 @@ fn refused_in(outcomes: &[Reported]) -> usize
         .count()
 }
 
-// How many requests were broken.
+// Returns how many requests were broken.
 fn broken_in(outcomes: &[Reported]) -> usize
     ensures value { result ≡ ended is_broken outcomes.now }
     ensures few { result ≤ length outcomes.now }
@@ -59,7 +59,7 @@ fn falls_in(fall: Option<Fall>) -> u32
     u32::from(fall.is_some())
 }
 
-/// The totals before the first cycle.
+/// Returns the totals before the first cycle.
 pub fn no_totals() -> Totals
     ensures { result ≡ none_made }
 {

@@ -11,7 +11,7 @@ ghost use Rattle.sercos_ring.specs.declared.ring.Ring.{Ring};
 
 use sercos_script::BitLink;
 
-/// A law and no code. The cycles for which a ring stands are a run of a valid setup, and it has made as many.
+/// A law, without code. The cycles that a ring stands for are a run of a valid setup, as many as it has made.
 pub fn standing_law<L: BitLink>()
     ensures run { (ring : Ring L) (r : RingView) (jobs : List Job) (carry : Carry) (restarts : Restarts) (j : List CycleView) →
         RingStandsFor L.carry L.restart ring r jobs carry restarts j → IsRun r jobs carry restarts j }

@@ -1,4 +1,4 @@
-// Which drives stand in another phase than before.
+// Which drives are in another phase than before.
 ghost use Rattle.std.specs.Prelude.{◌≡◌, ℕ, ◌+◌, ◌≤◌, ◌<◌, ◌++◌, List, length};
 ghost use Rattle.sercos_block.specs.Views.{DriveView};
 ghost use Rattle.sercos_drive.specs.Heard.{DriveCall};

@@ -50,7 +50,7 @@ pub struct Ring<L: BitLink> {
     desk: Box<Desk>,
 }
 
-// Where a telegram is worked on: what is said, its frame, and what arrives of it.
+// Where a telegram is worked on: its content, its frame, and what arrives of it.
 #[derive(Drop)]
 struct Desk {
     said: Content,
@@ -256,7 +256,7 @@ impl<L: BitLink> Ring<L> {
         })
     }
 
-    // Whether it has 1 to 64 drives, each with its address.
+    // Returns whether it has 1 to 64 drives, each with its address.
     fn is_whole(&self) -> bool
         ensures { result ≡ (nat_le (length self.now.drives.items) 64 && (length self.now.addresses.items == length self.now.drives.items)) }
     {
@@ -297,22 +297,22 @@ impl<L: BitLink> Ring<L> {
         }
     }
 
-    /// Goes on by a cycle, and lends what happened in it: the telegrams, the moves of the drives, what the master reports, and how
-    /// many arrivals were unseen. The ring has made fewer than 2^31 cycles. The order within a cycle is that of IEC 61491:1995,
-    /// the rest this profile's.
+    /// Makes the next cycle, and lends its record: the telegrams, the moves of the drives, what the master reports, and the number of
+    /// undetected arrivals. The ring has made fewer than 2^31 cycles. The order within a cycle is that of IEC 61491:1995, the rest this
+    /// profile's.
     ///
-    /// Whatever the link does, as long as nothing was unseen: if phase 3 or 4 is commanded, the telegrams are apart and keep the
-    /// times that the drives declare; no drive stands later than the later phase commanded in this cycle or the one before; and
-    /// all transfers so far are exact, and told once and in order.
+    /// Over any link, as long as nothing was undetected: if phase 3 or 4 is commanded, the telegrams are apart and keep the times that
+    /// the drives declare; no drive is in a higher phase than the later one commanded in this cycle or the one before; and all
+    /// transfers so far are exact, and reported once and in order.
     ///
-    /// As long as no cycle was disturbed: no fall is told, and no request as broken. Phase 4 is commanded from the cycle on that
-    /// `startup_bound` says, and stays, exactly if a plan fits, the cycle time lies within each drive's limits, and no own block of a
-    /// drive was outside its limits at opening. Otherwise a stop for its cause is told at most 41 steps of the slowest drive later.
+    /// As long as no cycle was disturbed: no fall is reported, and no request as broken. Phase 4 is commanded from the cycle
+    /// `startup_bound` on at the latest, and stays, iff a plan fits, the cycle time lies within each drive's limits, and no own block
+    /// of a drive was outside its limits at opening. Otherwise a stop for its cause is reported at most 41 steps of the slowest drive
+    /// later.
     ///
-    /// Whatever was lost or damaged before, as long as nothing was unseen: after a fall, a restart of the master among them, after
-    /// which no cycle is disturbed, the ring starts up again as it does from its opening. From the cycle on that comes `recovery_bound`
-    /// cycles after the last disturbed one, twice the bound of a start-up and 200, phase 4 is commanded, or the master stands at a
-    /// stop for its cause.
+    /// Regardless of earlier losses and damage, as long as nothing was undetected: after a fall, a restart of the master included,
+    /// after which no cycle is disturbed, the ring starts up again as it does from its opening. From `recovery_bound` cycles after the
+    /// last disturbed one on, twice the bound of a start-up and 200, phase 4 is commanded, or the master is at a stop for its cause.
     pub fn cycle(&mut self) -> &CycleRecord
         requires room { cycles_made self.old < 2 ^ 31 }
         ensures* after { sem 𝓛 (follows_so (the_row L.row) (the_row L.row) self.entry.ghost_name none (λ _ _. ⊤) (λ new. AfterCycle L.carry L.restart self.old new × (result.now ≡ newest new))) }

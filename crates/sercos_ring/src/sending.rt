@@ -1,4 +1,4 @@
-// How the telegrams of a cycle are sent, and what comes of them.
+// How the telegrams of a cycle are sent, and their effect.
 ghost use Rattle.std.specs.Prelude.{◌≡◌, ℕ, ◌+◌, ◌*◌, ◌<◌, ◌≤◌, take, List, [], ◌∷◌, ◌++◌, Option, Some, None, true, is_some, if◌then◌else◌, pos, vec_len, length, slice_index, slice_index_or};
 ghost use Rattle.sercos_hdlc.specs.Stuffed.{frame_of};
 ghost use Rattle.sercos_telegram.specs.declared.layout.Kind.TheVariants as kinds;
@@ -28,7 +28,7 @@ use sercos_script::{BitLink, Passage};
 use sercos_telegram::Kind;
 use sercos_trace::{Sent, put_sent};
 
-// The master hears what arrives at the place of its own MST.
+// The master processes what arrives at the place of its own MST.
 fn hear_own(master: &mut AnyMaster, framed: bool, content: &Content)
     ensures { (s : Known) (jobs : List Job) (h : List Call) → AnyStandsFor master.old s jobs h →
         AnyStandsFor master.new s jobs (HearMst (if framed then Some content.now else None) ∷ h) }
@@ -40,7 +40,7 @@ fn hear_own(master: &mut AnyMaster, framed: bool, content: &Content)
     }
 }
 
-/// The master hears what arrives of its own MST. The answer is how many arrivals are unseen.
+/// The master processes what arrives of its own MST. Returns the number of undetected arrivals.
 pub(crate) fn pass_own<L: BitLink>(
     link: &mut L,
     master: &mut AnyMaster,
@@ -69,7 +69,7 @@ pub(crate) fn pass_own<L: BitLink>(
     one(receipt.unseen)
 }
 
-// The master hears what arrives of an AT.
+// The master processes what arrives of an AT.
 fn hear_at(master: &mut AnyMaster, framed: bool, content: &Content)
     ensures { (s : Known) (jobs : List Job) (h : List Call) → AnyStandsFor master.old s jobs h →
         AnyStandsFor master.new s jobs (with_at (if framed then Some content.now else None) h) }
@@ -157,7 +157,7 @@ pub(crate) fn push_mst(list: &mut ArrayVec<Sent, 66>, count: &mut usize, said: &
     put_sent(list, count, Kind::Mst, before(bits), bits, said);
 }
 
-// What a drive says is sent. The answer is how many arrivals are unseen.
+// Sends the AT of a drive. Returns the number of undetected arrivals.
 fn send_said<L: BitLink>(
     link: &mut L,
     master: &mut AnyMaster,

@@ -24,7 +24,8 @@ never_restarts cycle station = false
 abbrev pub IsQuiet : Carry → ℕ → Kind → ℕ → Type 0
 IsQuiet carry cycle kind from = (p : Passage) (bits : List Bool) → p.cycle ≡ cycle → p.kind ≡ kind → p.from ≡ from → carry p bits ≡ Some bits
 
--- One link after another: the second is given what the first lets arrive. If the first lets nothing arrive, nothing does.
+-- One link after another: the second receives what the first lets through. If the first lets nothing through, nothing
+-- arrives.
 abbrev pub carried_by_both : Carry → Carry → Carry
 carried_by_both first second p bits = option_and_then (λ came. second p came) (first p bits)
 

@@ -64,7 +64,7 @@ impl Gathered {
         self.cycle = cycle;
     }
 
-    // Turns to a cycle. In a later one only those stretches are looked into whose cycle has come.
+    // Turns to a cycle. In a later one only the stretches whose cycle has come are searched.
     pub(crate) fn turn(&mut self, script: &[Fault], cycle: u32)
         requires gathered { IsGathered script.now self.old }
         requires ahead { AreAhead script.now (self.old.cycle + 1) self.old.soonest }

@@ -52,8 +52,8 @@ impl Scripted {
     ghost use Rattle.std.specs.Prelude.{◌≡◌};
     ghost use Rattle.sercos_script.specs.Scripts.{carried, restarts_at};
 
-    /// Returns the links of a ring of `stations` drives under a script of faults. What they carry, and which stations restart, is
-    /// what the script given says. Time is quadratic in the number of faults.
+    /// Returns the links of a ring of `stations` drives under a script of faults. The script decides what they carry, and which
+    /// stations restart. Time is quadratic in the number of faults.
     pub fn new(faults: Vec<Fault>, stations: u8) -> Scripted
         ensures carry { carried result.stations result.faults ≡ carried stations faults.items }
         ensures restart { restarts_at result.faults ≡ restarts_at faults.items }

@@ -1,5 +1,5 @@
-// The faults of a script in stretches, each with a number of a cycle before which none of its faults acts, so that in a cycle
-// only those stretches are looked into whose cycle has come.
+// The faults of a script in stretches, each with the number of a cycle before which none of its faults acts, so that in a
+// cycle only the stretches whose cycle has come are searched.
 ghost use Rattle.std.specs.Prelude.{◌≡◌, ◌≤◌, ◌<◌, ◌+◌, ◌++◌, true, false, ℕ, [], length, replicate};
 ghost use Rattle.std.specs.List.{filter};
 ghost use Rattle.sercos_script.specs.Scripts.{acts};
@@ -60,7 +60,7 @@ struct Turn {
     next: u32,
 }
 
-// Returns what a fault does in a cycle, with one division if the cycle is in its range, and none else.
+// Returns what a fault does in a cycle, with one division if the cycle is in its range, otherwise without.
 #[tactic(auto, unfolding(crate::specs::Scripts::acts))]
 fn turn_of(fault: &Fault, cycle: u32) -> Turn
     ensures acts { result.acts ≡ acts cycle fault.now }
@@ -124,7 +124,7 @@ fn look_into(faults: &[Fault], cycle: u32, acting: &mut ArrayVec<Fault, ROOM>) -
     }
 }
 
-// Gathers the faults that act in a cycle, from the stretches whose cycle has come, and keeps when each of these comes next.
+// Gathers the faults that act in a cycle, from the stretches whose cycle has come, and keeps when each of these acts next.
 // Returns whether all of them found room.
 pub(crate) fn gather(
     script: &[Fault],

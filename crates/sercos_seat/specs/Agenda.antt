@@ -1,5 +1,5 @@
--- The tasks of each channel in an epoch, as far as the outcomes so far determine them, and what the outcomes say. Outcomes
--- come oldest first.
+-- The tasks of each channel in an epoch, as far as the outcomes so far determine them, and the values in the outcomes.
+-- Outcomes are oldest first.
 use Rattle.std.specs.Prelude.{ℕ, ◌+◌, ◌*◌, ◌==◌, nat_le, Bool, false, ◌&&◌, if◌then◌else◌, List, [], ◌∷◌, ◌++◌, length, map, take, drop, sum_by, Option, Some, None, is_none, is_some, option_map, option_and_then, unwrap_or, slice_get, slice_index}
 use Rattle.sercos_idn.specs.Elements.{attribute_element, data_element}
 use Rattle.sercos_idn.specs.declared.idn.Idn.{Idn}
@@ -17,7 +17,7 @@ use Rattle.sercos_trace.specs.declared.events.Stop.TheVariants as stop
 use Rattle.sercos_seat.specs.declared.answers.Asked.{Asked}
 use Rattle.sercos_seat.specs.Ring.{Known, MemberView, Task, member, startup}
 
--- What an outcome says. A missing byte is 0.
+-- The values in an outcome. A missing byte is 0.
 abbrev pub bytes_of : Outcome → List ℕ
 bytes_of (outcome.Complete bytes) = bytes
 bytes_of _ = []
@@ -33,7 +33,7 @@ abbrev pub idns_in : List ℕ → List Idn
 idns_in (low ∷ high ∷ bytes) = (record { raw = low + 256 * high }) ∷ idns_in bytes
 idns_in _ = []
 
--- what the i-th outcome gives
+-- the values in the i-th outcome
 abbrev pub given : List Outcome → ℕ → List ℕ
 given outcomes i = unwrap_or (option_map bytes_of (slice_get outcomes i)) []
 
@@ -69,7 +69,7 @@ writes s p k =
     ∷ writes_word 9 (slice_index p.position k) ∷ writes_word 10 p.mdt_len ∷ writes_word 15 7
     ∷ writes_list 16 (member s k).at ∷ writes_list 24 (member s k).mdt ∷ writes_word 89 p.t2 ∷ []
 
--- A check: its procedure command; then, if it ended well, what comes next; otherwise the drive's list of invalid data, and
+-- A check: its procedure command; then, if it ended well, the next task; otherwise the drive's list of invalid data, and
 -- nothing more.
 abbrev pub checking : ℕ → ℕ → ℕ → Option Outcome → List Task → List Task
 checking phase command list None next = startup phase (request.Command (idn command)) ∷ []
@@ -131,7 +131,7 @@ times_given outcomes = record {
   tmtsg = short_in (given outcomes 5);
 }
 
--- what a drive asks of the plan, by its answers
+-- a drive's input for the planner, by its answers
 abbrev pub wish_given : MemberView → List Outcome → Wish
 wish_given d outcomes = record {
   address = d.address;
@@ -145,7 +145,7 @@ abbrev pub wishes_from : List MemberView → ℕ → (ℕ → List Outcome) → 
 wishes_from [] k outcomes = []
 wishes_from (d ∷ drives) k outcomes = wish_given d (outcomes k) ∷ wishes_from drives (k + 1) outcomes
 
--- what the ring asks of its plan, by the outcomes of each channel
+-- the planner's input, by the outcomes of each channel
 abbrev pub wishes_given : Known → (ℕ → List Outcome) → WishesView
 wishes_given s outcomes = record {
   rate = s.rate;
@@ -162,8 +162,8 @@ asked_by (request.Read i e) = record { idn = i; reads = Some e }
 asked_by (request.Write i e bytes) = record { idn = i; reads = None }
 asked_by (request.Command i) = record { idn = i; reads = None }
 
--- The stop that the outcome of a start-up task brings: it is refused; an attribute can't be configured; or the list after
--- a failed check has come.
+-- The stop that the outcome of a start-up task causes: it is refused; an attribute can't be configured; or the list after a
+-- failed check is read.
 abbrev pub attribute_stop : ℕ → Idn → ℕ → Option Stop
 attribute_stop address i word = if is_none (len_said word) then Some (stop.BadConfig address i word) else None
 

@@ -1,4 +1,5 @@
--- What came of the tasks of a channel in an epoch. Lists have their newest item first, but for the outcomes.
+-- The results of the tasks of a channel in an epoch. Lists have their newest item first, except for the
+-- outcomes.
 use Rattle.std.specs.Prelude.{ℕ, ◌+◌, ◌==◌, Bool, false, if◌then◌else◌, List, [], ◌∷◌, ◌++◌, Option, Some, None, is_some, option_map}
 use Rattle.sercos_step.specs.declared.request.Outcome.{Outcome}
 use Rattle.sercos_step.specs.declared.request.Outcome.TheVariants as outcome

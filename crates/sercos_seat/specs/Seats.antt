@@ -1,4 +1,4 @@
--- What the master keeps of one drive, and how that stands for what it looks back on.
+-- What the master keeps of one drive, and how it stands for what it looks back on. For proofs alone.
 use Rattle.std.specs.Prelude.{reverse, unwrap_or, ◌-◌, slice_get, ◌*◌, sum_by, slice_index_or, ◌≡◌, ℕ, ◌+◌, ◌≤◌, ◌==◌, ◌++◌, nat_le, nat_lt, if◌then◌else◌, Bool, true, false, not, ◌&&◌, List, [], ◌∷◌, length, map, take, drop, min, Option, Some, None, is_some, option_map, is_none}
 use Rattle.sercos_idn.specs.Elements.{data_element}
 use Rattle.sercos_step.specs.declared.request.Outcome.{Outcome}
@@ -45,8 +45,8 @@ words_in bytes = record { low = short_in bytes; high = short_in (drop 2 bytes) }
 abbrev pub words_of : Outcome → Words
 words_of o = words_in (bytes_of o)
 
--- What is kept: the drive; its channel; how many outcomes there are, counted up to 100; what the reads gave; whether each
--- check ended well; what is asked by the task at work, and its number; and what was seen.
+-- What is kept: the drive; its channel; the number of outcomes, counted up to 100; the results of the reads; whether each check
+-- ended well; the request of the task at work, and its number; and the drive's telegrams.
 pub record SeatView : Type 0 where
   pub member : MemberView
   pub channel : MasterView
@@ -100,7 +100,7 @@ pub record IsQueue (kept : List Waiting) (d : MemberView) (x : Seen) : Type 0 wh
   pub none : is_ready d (outcomes_seen x) ≡ false → count_requests x.tasks ≡ 0
   pub count : is_ready d (outcomes_seen x) ≡ true → length (outcomes_seen x) + opened_in x ≡ reads_count d + 13 + count_requests x.tasks
 
--- a seat stands for a drive and what was seen of it
+-- a seat stands for a drive and its telegrams
 pub record SeatStandsFor (v : SeatView) (d : MemberView) (x : Seen) : Type 0 where
   pub member_is : v.member ≡ d
   -- a drive's telegrams carry at most sixteen values each
@@ -135,7 +135,7 @@ kept_ready reads done checked ready bytes = if done == reads + 12 then checked &
 pub record IsSeat (v : SeatView) : Type 0 where
   pub few : length v.given ≤ 38
 
--- what was seen of a drive whose status was heard
+-- the telegrams of a drive after one whose status was processed
 abbrev pub heard_in : Status → ℕ → Seen → Seen
 heard_in status word x = record x {
   heard = true;
@@ -201,7 +201,7 @@ identified_in x = record x { heard = true; identified = true }
 abbrev pub taken_in : Bool → Status → ℕ → Seen → Seen
 taken_in identifies status word x = if identifies then identified_in x else heard_in status word x
 
--- what was seen where an AT comes with the drive's address
+-- the telegrams after one with the drive's address
 abbrev pub at_in : Bool → ℕ → ℕ → List ℕ → Seen → Seen
 at_in identifies address wanted content x =
     if not x.heard && is_none (at_fault address wanted content) then taken_in identifies (status_of (word_at content 1)) (word_at content 3) x else x

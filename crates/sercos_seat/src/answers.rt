@@ -1,4 +1,4 @@
-// What outcomes say.
+// The values in outcomes.
 ghost use Rattle.std.specs.Prelude.{◌%◌, ◌&&◌, nat_le, nat_lt, map, ◌≡◌, ℕ, ◌+◌, ◌*◌, ◌<◌, ◌≤◌, ◌==◌, List, [], ◌∷◌, ◌++◌, length, take, drop, Option, Some, None, IfSome, slice_index, if◌then◌else◌};
 ghost use Rattle.sercos_step.specs.declared.request.Outcome.TheVariants as outcome;
 ghost use Rattle.sercos_seat.specs.Agenda.{last_long, long_stop, bytes_of, short_in, long_in, idns_in, ended_well, len_said, attribute_stop, list_stop, reads_that, reads_element, asked_by, stop_by_bytes, stop_by, stop_of_task};
@@ -30,7 +30,7 @@ pub struct Asked {
     pub reads: Option<u8>,
 }
 
-/// What a request names.
+/// Returns what a request names.
 pub fn asked_by(request: &Request) -> Asked
     ensures { result ≡ asked_by request.now }
 {
@@ -64,7 +64,7 @@ fn second_word(bytes: &[u8]) -> u16
     u16::from_le_bytes([byte_at(bytes, 2), byte_at(bytes, 3)])
 }
 
-/// The two words of up to four bytes.
+/// Returns the two words of up to four bytes.
 pub fn words_in(bytes: &[u8]) -> Words
     ensures { result ≡ words_in bytes.now }
 {
@@ -75,7 +75,7 @@ pub fn words_in(bytes: &[u8]) -> Words
 }
 
 impl Words {
-    /// The number of both.
+    /// Returns the number of both.
     pub fn long(&self) -> u32
         ensures { result ≡ self.now.low + 65536 * self.now.high }
     {
@@ -83,14 +83,14 @@ impl Words {
     }
 }
 
-/// The data status of a procedure command that ended well.
+/// Returns the data status of a procedure command that ended well.
 pub fn ended_well(bytes: &[u8]) -> bool
     ensures { result ≡ ended_well bytes.now }
 {
     first_word(bytes) == 3
 }
 
-/// The bytes that an outcome gives.
+/// Returns the bytes of an outcome.
 pub fn outcome_bytes(outcome: &Outcome) -> &[u8]
     ensures { result.now ≡ bytes_of outcome.now }
 {
@@ -100,7 +100,7 @@ pub fn outcome_bytes(outcome: &Outcome) -> &[u8]
     }
 }
 
-/// How many bytes the attribute of a word adds to a telegram.
+/// Returns how many bytes the attribute of a word adds to a telegram.
 pub fn len_said(word: u32) -> Option<usize>
     ensures value { result ≡ len_said word }
     ensures bound { IfSome result (λ len. len ≤ 4) }
@@ -111,7 +111,7 @@ pub fn len_said(word: u32) -> Option<usize>
     }
 }
 
-/// How many bytes the attribute of these words adds to a telegram: 0 if it is not that of a number.
+/// Returns how many bytes the attribute of these words adds to a telegram: 0 if it is not that of a number.
 pub fn len_of(words: &Words) -> u16
     ensures value { result ≡ len_of_words words.now }
     ensures bound { result ≤ 4 }
@@ -122,7 +122,7 @@ pub fn len_of(words: &Words) -> u16
     }
 }
 
-/// The lengths that these attributes give.
+/// Returns the lengths by these attributes.
 pub fn lens_of(words: &[Words]) -> ArrayVec<u8, 16>
     requires { length words.now ≤ 16 }
     ensures value { result.items ≡ map len_of_words words.now }
@@ -158,7 +158,7 @@ pub fn part(words: &[Words], from: usize, count: usize) -> &[Words]
     &rest[..count.min(rest.len())]
 }
 
-/// The first word of the pair at a place.
+/// Returns the first word of the pair at a place.
 pub fn low_at(words: &[Words], place: usize) -> u16
     ensures { result ≡ low_at words.now place }
 {
@@ -194,7 +194,7 @@ pub fn put_command_values(count: u32, lens: &[u8], values: &mut ArrayVec<u8, 64>
     }
 }
 
-/// The last of these numbers that was read as one of four bytes, with its word.
+/// Returns the last of these numbers that was read as one of four bytes, with its word.
 pub fn last_long(idns: &[Idn], words: &[Words]) -> Option<(Idn, u32)>
     ensures { result ≡ last_long idns.now (map long_of words.now) }
 {
@@ -221,14 +221,14 @@ fn long_stop(address: u8, found: Option<(Idn, u32)>) -> Option<Stop>
     }
 }
 
-/// The stop that the last of these brings.
+/// Returns the stop that the last of these brings.
 pub fn last_long_stop(address: u8, idns: &[Idn], words: &[Words]) -> Option<Stop>
     ensures { result ≡ long_stop address (last_long idns.now (map long_of words.now)) }
 {
     long_stop(address, last_long(idns, words))
 }
 
-/// The identifier numbers of a list: its whole pairs of bytes, 64 at most.
+/// Returns the identifier numbers of a list: its whole pairs of bytes, 64 at most.
 #[tactic(auto, using(crate::proofs::Lists::one_idn, crate::proofs::Lists::no_idn, crate::proofs::Lists::idns_length))]
 pub fn idns_in(bytes: &[u8]) -> ArrayVec<Idn, 64>
     ensures { result.items ≡ take 64 (idns_in bytes.now) }
@@ -298,7 +298,7 @@ impl Asked {
         }
     }
 
-    /// The stop that an outcome of the start-up brings.
+    /// Returns the stop that an outcome of the start-up brings.
     pub fn stop_by(&self, address: u8, outcome: &Outcome) -> Option<Stop>
         ensures { result ≡ stop_by address self.now outcome.now }
     {

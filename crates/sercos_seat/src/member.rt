@@ -30,7 +30,7 @@ impl Model for Member {
 }
 
 impl Member {
-    /// A drive by its address, its slave, and what its AT and its data record are to carry.
+    /// Returns a drive by its address, its slave, and what its AT and its data record are to carry.
     pub fn new(address: u8, slave: u8, at: ArrayVec<Idn, 16>, mdt: ArrayVec<Idn, 16>) -> Member
         ensures { (result.address ≡ address) × (result.slave ≡ slave) × (result.at ≡ at.items) × (result.mdt ≡ mdt.items) }
     {
@@ -124,7 +124,7 @@ fn idn_at(idns: &[Idn], place: usize) -> Idn
 // The identifier numbers of the times that a drive declares.
 const TIMES: [u16; 6] = [3, 4, 5, 87, 88, 90];
 
-/// The numbers of the ring that its drives are told.
+/// The numbers of the ring that its drives need.
 #[derive(Clone, Copy)]
 pub struct Numbers {
     /// The control unit cycle time.
@@ -133,7 +133,7 @@ pub struct Numbers {
     pub cycle: u16,
 }
 
-/// A read.
+/// Returns a read.
 pub fn read(raw: u16, element: u8) -> Request
     requires { (1 ≤ element) × (element ≤ 7) }
     ensures value { result ≡ request.Read (idn raw) element }
@@ -145,7 +145,7 @@ pub fn read(raw: u16, element: u8) -> Request
     }
 }
 
-/// A procedure command.
+/// Returns a procedure command.
 pub fn command(raw: u16) -> Request
     ensures value { result ≡ request.Command (idn raw) }
     ensures request { IsRequest result }
@@ -153,7 +153,7 @@ pub fn command(raw: u16) -> Request
     Request::Command { idn: Idn { raw } }
 }
 
-/// A write of operation data of one word.
+/// Returns a write of operation data of one word.
 pub fn write_word(raw: u16, value: u16) -> Request
     ensures value { result ≡ writes_word raw value }
     ensures request { IsRequest result }
@@ -179,7 +179,7 @@ fn list_bytes(idns: &[Idn]) -> Bytes
     bytes
 }
 
-/// A write of a list of identifier numbers.
+/// Returns a write of a list of identifier numbers.
 pub fn write_list(raw: u16, idns: &[Idn]) -> Request
     requires { length idns.now ≤ 16 }
     ensures value { result ≡ writes_list raw idns.now }
@@ -192,7 +192,7 @@ pub fn write_list(raw: u16, idns: &[Idn]) -> Request
     }
 }
 
-/// The number at a place, or 0 past the end.
+/// Returns the number at a place, or 0 past the end.
 pub fn number_at(numbers: &[u16], place: usize) -> u16
     ensures { result ≡ slice_index numbers.now place }
 {

@@ -41,17 +41,17 @@ const CHECK_127: usize = 11;
 
 const CHECK_128: usize = 12;
 
-/// One drive as the master keeps it: its channel, what its answers said, what was seen of it, and the requests that wait. Contracts
-/// see the record of what it keeps.
+/// One drive as the master keeps it: its channel, its answers, its telegrams, and the requests that wait. Contracts see the record
+/// of what it keeps.
 #[derive(Drop)]
 pub struct Seat {
     member: Member,
     channel: MasterChannel,
     done: u8,
     given: ArrayVec<Words, 38>,
-    // by what is given, the bytes of its AT after the address in phases 3 and 4
+    // by the attributes read, the bytes of its AT after the address in phases 3 and 4
     at_len: u16,
-    // by what is given, the bytes of each value of its record
+    // by the attributes read, the bytes of each value of its record
     mdt_lens: ArrayVec<u8, 16>,
     checked: bool,
     ready: bool,
@@ -102,7 +102,7 @@ fn one_more(done: u8) -> u8
     }
 }
 
-// How many bytes the AT of a drive has after the address in phases 3 and 4, by the words that were read of it.
+// Returns how many bytes the AT of a drive has after the address in phases 3 and 4, by the words that were read of it.
 fn at_len_of(given: &[Words], member: &Member) -> u16
     ensures value { result ≡ listed_len (take (length member.now.at) (drop 6 given.now)) }
     ensures bounds { (4 ≤ result) × (result ≤ 68) }
@@ -153,7 +153,7 @@ impl Seat {
         }
     }
 
-    /// Keeps a request, which is to come before those that wait already.
+    /// Keeps a request that comes before those that wait already.
     pub fn wait(&mut self, number: u16, request: Request) -> Result<(), AllocError>
         requires { IsRequest request }
         ensures { OnOk result ((d : MemberView) (waiting : List Task) → SeatStandsFor self.old d (nothing_seen waiting) →
@@ -163,7 +163,7 @@ impl Seat {
         Ok(())
     }
 
-    // Keeps what an outcome gives.
+    // Keeps the values of an outcome.
     fn keep(&mut self, bytes: &[u8])
         ensures few { reads_count self.old.member ≤ 38 }
         ensures kept { self.new ≡ record self.old {
@@ -211,7 +211,7 @@ impl Seat {
         }
     }
 
-    // Hears a status of the drive, and the information word after it.
+    // Processes a status of the drive, and the information word after it.
     fn hear(&mut self, status: &Status, info: u16)
         ensures { (d : MemberView) (x : Seen) → SeatStandsFor self.old d x → SeatStandsFor self.new d (heard_in status.now info x) }
     {
@@ -229,7 +229,7 @@ impl Seat {
         self.identified = true;
     }
 
-    // Takes an AT: it identifies the drive, or its status is heard.
+    // Takes an AT: it identifies the drive, or its status is processed.
     fn take(&mut self, identifies: bool, status: &Status, info: u16)
         ensures { (d : MemberView) (x : Seen) → SeatStandsFor self.old d x → SeatStandsFor self.new d (taken_in identifies status.now info x) }
     {
@@ -240,8 +240,8 @@ impl Seat {
         }
     }
 
-    /// Hears a content with the drive's address. It is taken as its AT if it has the wanted length, in bytes after the address, and
-    /// is the first one of the cycle. In phase 1 it identifies the drive, later its status is heard.
+    /// Processes a content with the drive's address. It is taken as its AT if it has the wanted length, in bytes after the address,
+    /// and is the first one of the cycle. In phase 1 it identifies the drive, later its status is processed.
     pub fn take_at(&mut self, identifies: bool, wanted: u16, content: &[u8])
         requires { 4 ≤ wanted }
         ensures { (d : MemberView) (x : Seen) → SeatStandsFor self.old d x → SeatStandsFor self.new d (at_in identifies d.address wanted content.now x) }
@@ -545,7 +545,7 @@ impl Seat {
         &self.member
     }
 
-    /// Returns what the drive asks of the plan, by its answers to the reads. A time that wasn't read is 0.
+    /// Returns the drive's input for the planner, by its answers to the reads. A time that wasn't read is 0.
     pub fn wish(&self) -> Wish
         ensures { (d : MemberView) (x : Seen) → SeatStandsFor self.now d x → result ≡ wish_given d (outcomes_seen x) }
     {

@@ -1,4 +1,4 @@
--- What a drive's end of a channel keeps, and the records that it stands for.
+-- What a drive's end of a channel keeps, and the records that it stands for. For proofs alone.
 use Rattle.std.specs.Prelude.{◌≡◌, ℕ, ◌+◌, ◌<◌, ◌≤◌, ◌%◌, ◌==◌, Bool, true, false, ◌&&◌, ◌||◌, if◌then◌else◌, List, [], ◌∷◌, length, min, slice_index, Option, Some, None, IfSome, option_map}
 use mathlib.Core.Bool.{beq}
 use Rattle.sercos_idn.specs.declared.idn.Idn.{Idn}
@@ -106,7 +106,7 @@ pub record ChannelView : Type 0 where
   pub last : Option Last
   pub session : SessionView
 
--- the channel stands for these records that it took
+-- the channel stands for these processed records
 pub record ChannelStandsFor (v : ChannelView) (busy : ℕ) (h : List Taken) : Type 0 where
   pub busy_is : v.busy ≡ busy
   pub ahs_is : v.ahs ≡ ahs h

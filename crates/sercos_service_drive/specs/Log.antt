@@ -8,8 +8,8 @@ use Rattle.sercos_step.specs.declared.step.Answer.{Answer}
 use Rattle.sercos_block.specs.declared.block.Block.{Block}
 use Rattle.sercos_command.specs.Settings.{CommandsView}
 
--- A record that the drive took in a cycle, in which it stood in a phase: its handshake bit and its step. The blocks and the
--- procedure commands are as they stood before.
+-- A record that the drive processed in a cycle, in a phase: its handshake bit and its step, with the blocks and the
+-- procedure commands before it.
 pub record Taken : Type 0 where
   pub cycle : ℕ
   pub phase : ℕ
@@ -45,7 +45,7 @@ pub record Entry : Type 0 where
 abbrev pub opens : Step → Bool
 opens s = s.write && (s.element == identifier_element)
 
--- the identifier number that is open: that of the last opening, if the drive has it and no step of element 0 came since
+-- the identifier number that is open: that of the last opening, if the drive has it and no step of element 0 followed
 abbrev pub open_idn : List Entry → Option ℕ
 open_idn [] = None
 open_idn (e ∷ log) =

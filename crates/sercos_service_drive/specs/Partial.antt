@@ -1,4 +1,4 @@
--- What a word of operation data that is written comes to, at its place in the run.
+-- The effect of a written word of operation data, at its place in the run. For proofs alone.
 use Rattle.std.specs.Prelude.{◌≡◌, ℕ, ◌≤◌, ◌%◌, ◌==◌, nat_lt, nat_le, Bool, true, false, not, ◌&&◌, ◌||◌, List, [], ◌∷◌, Option, Some, None}
 use Rattle.std.specs.Bool.{then_some}
 use Rattle.std.specs.Option.{option_or}
@@ -36,13 +36,13 @@ pub record IsEffect (w : Option Write) (cycle : ℕ) (blocks blocks' : List Bloc
   pub commands_is : commands' ≡ commands_with w blocks commands
   pub calls : (rate time : ℕ) (h : List Call) → CommandsStandFor commands rate time h → newest h ≤ cycle → CommandsStandFor commands' rate time (calls_with w blocks h)
 
--- the write of the last word, where there is no cause against it
+-- the write of the last word, if there is no cause against it
 abbrev pub write_by : Bool → Option ℕ → Write → Option Write
 write_by true code w = unless code w
 write_by false code w = None
 
--- What a word of operation data comes to, where with it the run has these words: the code against it, if there is one; and
--- if there is none, the bytes are kept, and the last word writes them.
+-- The effect of a word of operation data, if with it the run has these words: the code against it; without one, the bytes
+-- are kept, and the last word writes them.
 pub record IsWord (raw cycle phase : ℕ) (b : Block) (last : Bool) (words : List ℕ) (code : Option ℕ) (buffer : List ℕ) (blocks blocks' : List Block) (commands commands' : CommandsView) : Type 0 where
   pub code_is : code ≡ write_cause b phase last words
   pub buffer_is : code ≡ None → buffer ≡ bytes_in words

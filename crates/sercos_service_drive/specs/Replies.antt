@@ -20,7 +20,7 @@ good word = record { error = false; word = word }
 abbrev pub refused : ℕ → Answer
 refused code = record { error = true; word = code }
 
--- refused by the first cause, if there is one, and else answered with a word
+-- refused by the first cause, if there is one, and otherwise answered with a word
 abbrev pub answer_by : Option ℕ → ℕ → Answer
 answer_by None word = good word
 answer_by (Some code) word = refused code
@@ -45,7 +45,7 @@ element_words e cycle b =
     else (if e == data_element then (if is_list b.attribute.length then list_words b.max_len b.value else words_of (data_in cycle b))
     else words_of (unwrap_or (element_of b e) [])))
 
--- what a selection of an element copies in a cycle: the data status, or the words of the element as they then stand
+-- what a selection of an element copies in a cycle: the data status, or the words of the element at that moment
 abbrev pub words_at : ℕ → ℕ → ℕ → List Block → CommandsView → List ℕ
 words_at raw e cycle blocks commands =
     if e == identifier_element then status_in commands raw cycle ∷ [] else unwrap_or (option_map (element_words e cycle) (find_block raw blocks)) []
@@ -76,7 +76,7 @@ words_wanted b first = words_by b.attribute first
 unfoldable pub bytes_written : Block → List ℕ → List ℕ
 bytes_written b words = if is_list b.attribute.length then take (slice_index words 0) (bytes_in (drop 2 words)) else bytes_in words
 
--- the last word comes too early
+-- the last word is too early
 abbrev pub ends_early : Block → Bool → List ℕ → Bool
 ends_early b last words = last && nat_lt (length words) (words_wanted b (slice_index words 0))
 
@@ -86,7 +86,7 @@ is_over b last words =
     (is_list b.attribute.length && (selects words && nat_lt b.max_len (slice_index words 0)))
     || (not last && nat_le (words_wanted b (slice_index words 0)) (length words))
 
--- a list's length is no whole items, at its first word
+-- a list's length is not a number of whole items, at its first word
 abbrev pub is_uneven : Block → List ℕ → Bool
 is_uneven b words = is_list b.attribute.length && (selects words && not (slice_index words 0 % item_len b.attribute.length == 0))
 
@@ -96,9 +96,9 @@ is_no_setting b last words =
     b.attribute.command && (last && not ((bits_in b.attribute (bytes_written b words) == to_cancel) || (bits_in b.attribute (bytes_written b words) == to_set)))
 
 -- The first cause for which a step that writes a word of operation data is refused: the block is fixed (0x7004), at the
--- first word; it is protected in the phase of the step (0x7005), at any word; the last word comes too early (0x7002); the
--- list or the value is too long (0x7003); the list's length is no whole items, or the number no setting (0x7008); the number
--- lies below the minimum (0x7006) or above the maximum (0x7007), at the last word.
+-- first word; it is protected in the phase of the step (0x7005), at any word; the last word is too early (0x7002); the list
+-- or the value is too long (0x7003); the list's length is not a number of whole items, or the number is not a setting
+-- (0x7008); the number is below the minimum (0x7006) or above the maximum (0x7007), at the last word.
 unfoldable pub write_cause : Block → ℕ → Bool → List ℕ → Option ℕ
 write_cause b phase last words =
     option_or (then_some (selects words && is_fixed b) 0x7004)
@@ -116,7 +116,7 @@ write_cause_in (Some b) phase last words = write_cause b phase last words
 
 -- The replies.
 
--- to a step on the identifier number that is open, after these steps of its run: a read step gives the next word of the
+-- to a step on the identifier number that is open, after these steps of its run: a read step returns the next word of the
 -- copy that the selection made, and 0 after its end; an element from 2 to 6 can't be written (0x2004 to 0x6004)
 abbrev pub reply_on : ℕ → Taken → List Taken → Answer
 reply_on raw t run =

@@ -1,4 +1,4 @@
--- What a drive says of the records that it took.
+-- What a drive sends after the records that it processed.
 use Rattle.std.specs.Prelude.{ℕ, ◌-◌, nat_le, Bool, true, false, if◌then◌else◌, List, [], ◌∷◌}
 use Rattle.sercos_telegram.specs.declared.words.Status.{Status}
 use Rattle.sercos_command.specs.Settings.{CommandsView, change_in}
@@ -14,7 +14,7 @@ pub record Shown : Type 0 where
   pub word : ℕ
 
 -- In a cycle: as long as the last accepted step is no older than the busy time, the drive is busy; then it shows the reply.
--- Where no step was accepted it shows nothing but the bits.
+-- If no step was accepted it shows nothing but the bits.
 abbrev pub shown : ℕ → ℕ → Bool → Bool → List Entry → Shown
 shown busy cycle bit change [] = record { ahs = bit; busy = false; error = false; change = change; word = 0 }
 shown busy cycle bit change (e ∷ log) =

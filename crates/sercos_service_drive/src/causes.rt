@@ -8,7 +8,7 @@ ghost use Rattle.sercos_service_drive.specs.Partial.{length_cause, place_cause};
 use sercos_block::Store;
 use sercos_idn::{Attribute, Code, Idn};
 
-// How many words the operation data has, where the first of them is known.
+// Returns how many words the operation data has, where the first of them is known.
 fn words_by(attribute: &Attribute, first: u16) -> u32
     ensures { result ≡ words_by attribute.now first }
 {
@@ -19,7 +19,7 @@ fn words_by(attribute: &Attribute, first: u16) -> u32
     }
 }
 
-// Whether a list is longer than it can be, at its first word, or the word isn't the last though it must be.
+// Returns whether a list is longer than it can be, at its first word, or the word isn't the last though it must be.
 fn is_over(attribute: &Attribute, most: u16, last: bool, count: u32, first: u16) -> bool
     ensures { result ≡ ((is_list attribute.now.length && ((count == 1) && nat_lt most first)) || (not last && nat_le (words_by attribute.now first) count)) }
 {
@@ -27,7 +27,7 @@ fn is_over(attribute: &Attribute, most: u16, last: bool, count: u32, first: u16)
         || !last && words_by(attribute, first) <= count
 }
 
-// Whether a list is no whole items, at its first word.
+// Returns whether a list's length is not a number of whole items, at its first word.
 fn is_uneven(attribute: &Attribute, count: u32, first: u16) -> bool
     ensures { result ≡ (is_list attribute.now.length && ((count == 1) && not (first % item_len attribute.now.length == 0))) }
 {

@@ -25,8 +25,8 @@ pub struct Last {
     pub answer: Answer,
 }
 
-/// The drive's end of a service channel (IEC 61491:1995). It stands for the records that it took since its reset: a record
-/// whose handshake bit isn't that of the record before it is a step, which takes effect at once; any other is dropped.
+/// The drive's end of a service channel (IEC 61491:1995). It stands for the records that it processed since its reset: a record whose
+/// handshake bit isn't that of the record before it is a step, which takes effect at once; any other is dropped.
 ///
 /// No call takes memory.
 #[derive(Drop)]
@@ -58,14 +58,14 @@ fn step_of(control: &Control, info: u16) -> Step
     }
 }
 
-// Whether a step that got this reply writes operation data.
+// Returns whether a step that got this reply writes operation data.
 fn adds(step: Step, answer: Answer) -> bool
     ensures { result ≡ (step.write && ((step.element == data_element) && (step.last && not answer.error))) }
 {
     step.write && step.element == DATA && step.last && !answer.error
 }
 
-// Whether the drive is busy in a cycle with a step of an earlier one.
+// Returns whether the drive is busy in a cycle with a step of an earlier one.
 fn is_busy(cycle: u32, since: u32, busy: u8) -> bool
     ensures { result ≡ nat_le (cycle - since) busy }
 {
@@ -73,7 +73,7 @@ fn is_busy(cycle: u32, since: u32, busy: u8) -> bool
 }
 
 impl DriveChannel {
-    /// A channel that has taken no record, of a drive that is busy with each step for `busy` cycles.
+    /// Returns a channel that has taken no record, of a drive that is busy with each step for `busy` cycles.
     pub fn new(busy: u8) -> DriveChannel
         ensures { ChannelStandsFor result busy [] }
     {
@@ -85,9 +85,9 @@ impl DriveChannel {
         }
     }
 
-    /// Takes a record in a cycle and in a phase from 2 to 4. The store is that of the drive: but for their operation data, its
-    /// blocks are those of each earlier record since the reset, and they are so of this record too. A step that writes the last word of operation data changes
-    /// the block, and tells the procedure commands. True where a step was accepted that wrote operation data.
+    /// Processes a record in a cycle and in a phase from 2 to 4. The store is that of the drive: except for their operation data, its
+    /// blocks are those of each earlier record since the reset, and of this record too. A step that writes the last word of operation data
+    /// changes the block, and informs the procedure commands. Returns whether a step was accepted that wrote operation data.
     pub fn take(
         &mut self,
         cycle: u32,
@@ -124,8 +124,8 @@ impl DriveChannel {
         adds(step, answer)
     }
 
-    /// What an AT of a cycle shows: the bits of the status word and the information word. As long as the last step is no older
-    /// than the busy time, it is busy; then the reply to that step stands there.
+    /// Returns what an AT of a cycle shows: the bits of the status word and the information word. As long as the last step is no older than
+    /// the busy time, it is busy; then it has the reply to that step.
     pub fn say(&self, cycle: u32, commands: &Commands) -> (Status, u16)
         ensures shown { (busy : ℕ) (h : List Taken) → ChannelStandsFor self.now busy h → shown_by result.0 result.1 ≡ drive_says busy cycle commands.now h }
         ensures cyclic { result.0.cyclic ≡ 0 }

@@ -74,7 +74,7 @@ fn copy_found(
     }
 }
 
-// Copies an element, 1 to 7, as it stands in a cycle. The code is why it can't be read.
+// Copies an element, 1 to 7, as it is in a cycle. The error is the code of why it can't be read.
 pub(crate) fn copy_element(
     buffer: &mut Buffer,
     idn: Idn,

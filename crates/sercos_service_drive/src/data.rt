@@ -55,9 +55,9 @@ pub fn push_grown<const CAPACITY: usize>(
     push_number(out, kind, grown(kind, bits, step, cycle));
 }
 
-/// Appends operation data as it is in a cycle, of a block with this attribute, step and operation data: the bytes
-/// themselves, or, where the step isn't 0, those of the number plus the step times the cycle, modulo 2 to the power of its
-/// bits (this profile). The low byte comes first.
+/// Appends operation data as it is in a cycle, of a block with this attribute, step and operation data: the bytes themselves,
+/// or, if the step isn't 0, those of the number plus the step times the cycle, modulo 2 to the power of its bits (this profile).
+/// The low byte comes first.
 #[tactic(auto, unfolding(crate::specs::Replies::data_in))]
 pub fn push_data<const CAPACITY: usize>(
     out: &mut ByteList<CAPACITY>,

@@ -49,7 +49,7 @@ impl Model for Session {
     ghost view = { λ s. record { opened = s.opened; selection = s.selection; buffer = s.buffer } };
 }
 
-// Whether a step opens an identifier number.
+// Returns whether a step opens an identifier number.
 fn opens(step: Step) -> bool
     ensures { result ≡ opens step }
 {
@@ -73,7 +73,7 @@ fn refused(code: Code) -> Answer
     }
 }
 
-// How many steps of the run a step goes on.
+// Returns how many steps of the run a step goes on.
 fn place_in(selection: Option<Selection>, write: bool, element: u8) -> u16
     ensures { result ≡ place_in selection write element }
 {
@@ -148,7 +148,7 @@ fn first_word(buffer: &Buffer, place: u16, word: u16) -> u16
     }
 }
 
-// The bytes that words write: those of a list come after its two lengths.
+// Returns the bytes that words write: those of a list follow its two lengths.
 fn written(bytes: &[u8], list: bool, count: u16) -> &[u8]
     ensures { result.now ≡ (if list then take count (drop 4 bytes.now) else bytes.now) }
 {
@@ -159,7 +159,7 @@ fn written(bytes: &[u8], list: bool, count: u16) -> &[u8]
     &items[..items.len().min(usize::from(count))]
 }
 
-// Whether the operation data of a block is a list.
+// Returns whether the operation data of a block is a list.
 fn is_list(store: &Store, idn: Idn) -> bool
     ensures { (b : Block) → find_block idn.raw store.now ≡ Some b → result ≡ is_list b.attribute.length }
 {

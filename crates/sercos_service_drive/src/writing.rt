@@ -1,4 +1,4 @@
-// Operation data that came whole is written.
+// Writes operation data that is complete.
 ghost use Rattle.std.specs.Prelude.{◌≡◌, ℕ, ◌≤◌, ◌==◌, ◌⊎◌, if◌then◌else◌, true, List, ◌∷◌, option_map};
 ghost use Rattle.std.specs.Int.{w16, from_le_bytes};
 ghost use Rattle.sercos_idn.specs.Commands.{to_cancel, to_set};
@@ -19,7 +19,7 @@ fn setting_in(bytes: &[u8]) -> u16
     u16::from_le_bytes([byte_at(bytes, 0), byte_at(bytes, 1)])
 }
 
-// Tells the procedure commands that operation data was written: that of a command, or other.
+// Informs the procedure commands that operation data was written: that of a command, or other.
 fn tell(
     commands: &mut Commands,
     idn: Idn,
@@ -44,7 +44,8 @@ fn tell(
     }
 }
 
-// Writes the operation data of a block in a phase, and tells the procedure commands. The code is the first cause against it.
+// Writes the operation data of a block in a phase, and informs the procedure commands. The error is the first cause against
+// it.
 pub(crate) fn write_data(
     idn: Idn,
     bytes: &[u8],

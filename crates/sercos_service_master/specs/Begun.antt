@@ -1,4 +1,5 @@
--- The requests that were begun on a channel, and what the master says of them. Each list has its newest item first.
+-- The requests that were begun on a channel, and what the master sends of them. Each list has its newest item
+-- first.
 use Rattle.std.specs.Prelude.{ℕ, Bool, false, not, ◌&&◌, if◌then◌else◌, List, [], ◌∷◌, ◌++◌, Option, Some, None, is_some}
 use mathlib.Core.Bool.{beq}
 use Rattle.sercos_telegram.specs.declared.words.Control.{Control}
@@ -49,7 +50,7 @@ is_odd (x ∷ xs) = not (is_odd xs)
 abbrev pub mhs_in : List Begun → Bool
 mhs_in past = is_odd (steps_in past)
 
--- A status answers the open step where it has its bit and isn't busy.
+-- A status answers the open step if it has its bit and isn't busy.
 abbrev pub answers_it : List Begun → Status → Bool
 answers_it past status = is_some (open_in past) && (beq status.ahs (mhs_in past) && not status.busy)
 
@@ -66,7 +67,7 @@ abbrev pub outcome_with : Answer → List Begun → Option Outcome
 outcome_with a [] = None
 outcome_with a (b ∷ past) = outcome_of b.request (a ∷ b.answers)
 
--- What the master says: the handshake bit, and the open step, or a step of zeros.
+-- What the master sends: the handshake bit, and the open step, or a step of zeros.
 pub record Said : Type 0 where
   pub mhs : Bool
   pub step : Step
@@ -81,7 +82,7 @@ step_or_none (Some s) = s
 abbrev pub master_says : List Begun → Said
 master_says past = record { mhs = mhs_in past; step = step_or_none (open_in past) }
 
--- what a control word and the information word after it say
+-- the meaning of a control word and the information word after it
 abbrev pub said_by : Control → ℕ → Said
 said_by control word =
     record { mhs = control.mhs; step = record { write = control.write; last = control.last; element = control.element; word = word } }

@@ -1,11 +1,12 @@
--- What a channel was given since its reset, and what it comes to. The newest call stands first.
+-- The calls on a channel since its reset, and their effect. The newest call is first.
 use Rattle.std.specs.Prelude.{◌≡◌, ℕ, ◌+◌, if◌then◌else◌, List, [], ◌∷◌, min, Option, Some, None, is_some, option_map, unwrap_or}
 use Rattle.sercos_telegram.specs.declared.words.Status.{Status}
 use Rattle.sercos_step.specs.declared.request.Request.{Request}
 use Rattle.sercos_step.specs.declared.request.Outcome.{Outcome}
 use Rattle.sercos_service_master.specs.Begun.{Begun, open_in, answers_it, answer_in, with_answer, outcome_with}
 
--- a request is begun; the record is sent; a status is heard, with the information word after it; the cycle ends
+-- a request is begun; the record is sent; a status is received, with the information word after it; the cycle
+-- ends
 pub data Call : Type 0 where
   Begin : Request → Call
   Send : Call
@@ -36,7 +37,7 @@ age_of (EndCycle ∷ h) = option_map (λ age. age + 1) (age_of h)
 abbrev pub cycles_open : List Call → ℕ
 cycles_open h = min (unwrap_or (age_of h) 0) 64
 
--- a request was begun only where no step was open
+-- a request was begun only if no step was open
 abbrev pub AreCalls : List Call → Type 0
 AreCalls [] = Unit {0}
 AreCalls (Begin r ∷ h) = AreCalls h × (open_in (begun_by h) ≡ None)

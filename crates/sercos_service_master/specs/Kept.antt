@@ -1,4 +1,4 @@
--- What the master's end of a channel keeps, and how that stands for the calls.
+-- What the master's end of a channel keeps, and how it stands for the calls. For proofs alone.
 use Rattle.std.specs.Prelude.{◌≡◌, ℕ, ◌≤◌, Bool, true, false, List, [], ◌∷◌, min, Option, None, IfSome, is_some, is_none, option_map, unwrap_or}
 use Rattle.sercos_step.specs.Kept.{TransferView, TransferStandsFor}
 use Rattle.sercos_service_master.specs.Begun.{Begun, open_in, mhs_in}
@@ -11,7 +11,7 @@ pub record MasterView : Type 0 where
   pub mhs : Bool
   pub age : Option ℕ
 
--- what is so of every channel: a transfer that is kept goes on, and where none is kept nothing is counted
+-- the invariant of every channel: a transfer that is kept goes on, and without one nothing is counted
 pub record IsChannel (v : MasterView) : Type 0 where
   pub goes_on : IfSome v.transfer (λ t. t.done ≡ false)
   pub counted : unwrap_or v.age 0 ≤ 64

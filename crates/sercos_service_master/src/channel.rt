@@ -61,7 +61,7 @@ fn step_of(work: &Option<Transfer>) -> Step
     }
 }
 
-// Gives the transfer an answer, and lets it go where it ends.
+// Passes an answer to the transfer, and drops the transfer if it ends.
 fn answer_with(work: &mut Option<Transfer>, answer: Answer) -> Option<Outcome>
     requires { IfSome work.old (λ t. t.done ≡ false) }
     ensures goes_on { IfSome work.new (λ t. t.done ≡ false) }
@@ -99,7 +99,7 @@ impl Model for MasterChannel {
 }
 
 impl MasterChannel {
-    /// A channel at its reset, with no request and MHS 0.
+    /// Returns a channel at its reset, with no request and MHS 0.
     pub fn new() -> MasterChannel
         ensures stands { MasterStandsFor result [] }
         ensures idle { is_none result.transfer ≡ true }
@@ -111,7 +111,7 @@ impl MasterChannel {
         }
     }
 
-    /// Whether there is no request at work.
+    /// Returns whether there is no request at work.
     pub fn idle(&self) -> bool
         ensures work { result ≡ is_none self.now.transfer }
         ensures calls { (h : List Call) → MasterStandsFor self.now h → result ≡ is_none (open_in (begun_by h)) }
@@ -130,8 +130,8 @@ impl MasterChannel {
         self.mhs = !self.mhs;
     }
 
-    /// The record of the next MDT: the open step with its handshake bit and its information word, or the idle record, which
-    /// has the last handshake bit and is 0 else.
+    /// Returns the record of the next MDT: the open step with its handshake bit and its information word, or the idle record,
+    /// which has the last handshake bit and is otherwise 0.
     pub fn send(&mut self) -> (Control, u16)
         ensures stands { (h : List Call) → MasterStandsFor self.old h → MasterStandsFor self.new (Send ∷ h) }
         ensures says { (h : List Call) → MasterStandsFor self.old h → said_by result.0 result.1 ≡ master_says (begun_by h) }
@@ -150,7 +150,7 @@ impl MasterChannel {
         (control, step.word)
     }
 
-    // Whether a status answers the open step.
+    // Returns whether a status answers the open step.
     fn answers(&self, status: &Status) -> bool
         ensures { result ≡ (is_some self.now.transfer && (beq status.now.ahs self.now.mhs && not status.now.busy)) }
     {
@@ -172,8 +172,8 @@ impl MasterChannel {
         outcome
     }
 
-    /// Hears a status and the information word after it. Where it answers the open step, the next step is open, or the
-    /// transfer ends: then this says how.
+    /// Processes a status and the information word after it. If it answers the open step, the next step is open, or the
+    /// transfer ends; then the result is its outcome.
     pub fn hear(&mut self, status: &Status, info: u16) -> Option<Outcome>
         ensures stands { (h : List Call) → MasterStandsFor self.old h → MasterStandsFor self.new (Hear status.now info ∷ h) }
         ensures outcome { (h : List Call) → MasterStandsFor self.old h → result ≡ outcome_at h status.now info }
@@ -197,7 +197,7 @@ impl MasterChannel {
         self.age = self.age.map(one_more);
     }
 
-    /// How many cycles ended since the open step was first sent, counted up to 64. It is 0 where no step that was sent is open.
+    /// Returns how many cycles ended since the open step was first sent, counted up to 64. It is 0 where no step that was sent is open.
     pub fn cycles_open(&self) -> u8
         ensures value { (h : List Call) → MasterStandsFor self.now h → result ≡ cycles_open h }
         ensures kept { result ≡ unwrap_or self.now.age 0 }

@@ -58,8 +58,8 @@ count_fault text =
 unfoldable pub dash_fault : List ℕ → Option ℕ
 dash_fault text = option_or (then_some (not (slice_index text 0 == 45)) 0) (then_some (nat_lt 1 (length text)) 1)
 
--- The HEX of at least one bit. The last pair's spare bits are refused at its first digit, whether that digit alone
--- shows them or the second one. Elsewhere the first byte that is no digit is refused, and then a byte too many.
+-- The HEX of at least one bit. The last pair's spare bits are refused at its first digit, whether that digit alone shows them or the second
+-- one. Elsewhere the first byte that is not a digit is refused, and then a byte too many.
 unfoldable pub digits_fault : ℕ → List ℕ → Option ℕ
 digits_fault count text =
     let wanted = wanted_digits count in
@@ -74,11 +74,11 @@ digits_fault count text =
 unfoldable pub hex_fault : ℕ → List ℕ → Option ℕ
 hex_fault count text = if count == 0 then dash_fault text else digits_fault count text
 
--- what comes after the kind
+-- what follows the kind
 abbrev pub count_text : LineKind → List ℕ → List ℕ
 count_text kind line = drop (length (kind_text kind)) line
 
--- what comes after COUNT and its space
+-- what follows COUNT and its space
 abbrev pub hex_text : List ℕ → List ℕ
 hex_text text = drop (number_len text + 1) text
 
@@ -91,7 +91,7 @@ unfoldable pub fault_by : Option LineKind → List ℕ → Option ℕ
 fault_by None line = Some (kind_fault line)
 fault_by (Some kind) line = behind (length (kind_text kind)) (numbers_fault (count_text kind line))
 
--- the place of the first byte of a line that can't stand, if there is one
+-- the place of the first byte of a line that doesn't fit, if there is one
 unfoldable pub line_fault : List ℕ → Option ℕ
 line_fault line = fault_by (kind_of line) line
 
@@ -106,6 +106,6 @@ unfoldable pub bits_by : Option LineKind → List ℕ → List Bool
 bits_by None line = []
 bits_by (Some kind) line = numbers_bits (count_text kind line)
 
--- the bits that a line without a fault gives
+-- the bits of a line without a fault
 unfoldable pub line_bits : List ℕ → List Bool
 line_bits line = bits_by (kind_of line) line

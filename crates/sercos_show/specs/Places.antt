@@ -1,4 +1,4 @@
--- What the place of a refused line of `show` says of it: how far the line is one.
+-- What the place of a refused line of `show` means: how far the line is one.
 use Rattle.std.specs.Prelude.{◌≡◌, ℕ, suc, ◌<◌, Bool, true, List, ◌++◌, length, take, slice_index}
 use Rattle.std.specs.Char.{is_ascii_hexdigit}
 use Rattle.sercos_text.specs.Fields.{number_of}
@@ -23,9 +23,9 @@ pub record IsLarge (kind : LineKind) (line : List ℕ) : Type 0 where
 abbrev pub HasDigit : List ℕ → ℕ → Type 0
 HasDigit line place = is_ascii_hexdigit (slice_index line place) ≡ true
 
--- Why a line is refused at a place. The bytes before the place begin a line, and with the byte at the place they begin none; or
--- the line ends at the place, and is none. There are two exceptions. A COUNT that is too large is refused at its first digit. A
--- pair of digits is refused at its first digit if only its second one shows that bits after the last one aren't zeros.
+-- Why a line is refused at a place. The bytes before the place begin a line, and with the byte at the place they don't; or the
+-- line ends at the place, and is incomplete. There are two exceptions. A COUNT that is too large is refused at its first digit.
+-- A pair of digits is refused at its first digit if only its second one shows that bits after the last one aren't zeros.
 pub data IsRefusedAt (line : List ℕ) : ℕ → Type 0 where
   at_byte : (place : ℕ) → place < length line → BeginsLine (take place line) → (BeginsLine (take (suc place) line) → ⊥) → IsRefusedAt line place
   at_end : BeginsLine line → ((kind : LineKind) (bits : List Bool) → IsLine kind line bits → ⊥) → IsRefusedAt line (length line)

@@ -39,7 +39,7 @@ bit_and_number first bit second number = first ++ bit_text bit ++ second ++ deci
 unfoldable pub two_words : List ℕ → ℕ → List ℕ → ℕ → List ℕ
 two_words first a second b = first ++ word_text a ++ second ++ word_text b
 
--- bytes in hexadecimal digits, or `-` where there are none
+-- bytes in hexadecimal digits, or `-` for none
 unfoldable pub data_text : List ℕ → List ℕ
 data_text [] = codes "-"
 data_text (byte ∷ bytes) = encode_lower (byte ∷ bytes)
@@ -82,7 +82,7 @@ at_text address status info values =
     ++ two_words (codes " info ") info (codes " cyclic ") status.cyclic
     ++ codes " data " ++ data_text values
 
--- the address that is wanted: the one found, where it is a drive's, and else 1
+-- the address that is wanted: the one found, if it is a drive's, otherwise 1
 unfoldable pub wanted_address : List ℕ → ℕ
 wanted_address content = let found = slice_index content 0 in if nat_lt 0 found && nat_lt found 255 then found else 1
 
@@ -90,7 +90,7 @@ wanted_address content = let found = slice_index content 0 in if nat_lt 0 found 
 unfoldable pub wanted_len : List ℕ → ℕ
 wanted_len content = max (length content - 1) 4
 
--- what a content says, read as its line asks
+-- the text of a content, read as its line requires
 unfoldable pub content_text : LineKind → List ℕ → List ℕ
 content_text Raw content = codes "ok " ++ encode_lower content
 content_text Mst content = layout_or (mst_fault content) (mst_text (slice_index content 1))
@@ -101,7 +101,7 @@ content_text At content =
     layout_or (at_fault (wanted_address content) (wanted_len content) content)
     (at_text (wanted_address content) (status_of (word_at content 1)) (word_at content 3) (drop 5 content))
 
--- what the content of a frame says, or `error` and the refusal
+-- the text of the content of a frame, or `error` and the refusal
 unfoldable pub frame_text : LineKind → List Bool → Option BadFrame → List ℕ
 frame_text kind bits None = content_text kind (content_of (plain bits)) ++ line_feed
 frame_text kind bits (Some reason) = codes "error " ++ refusal_text reason ++ line_feed
@@ -119,7 +119,7 @@ unfoldable pub first_fault : ℕ → List (List ℕ) → Option (ℕ × ℕ)
 first_fault number [] = None
 first_fault number (line ∷ lines) = option_or (option_map (λ place. (number, place + 1)) (line_fault line)) (first_fault (number + 1) lines)
 
--- the refusal of the first line that has a fault; else the answer to each line, in order
+-- the refusal of the first line that has a fault; otherwise the answer to each line, in order
 unfoldable pub show_text : List ℕ → Option (ℕ × ℕ) → List ℕ
 show_text bytes None = flat_map line_answer (lines_of bytes)
 show_text bytes (Some fault) = refused_text fault.0 fault.1

@@ -1,13 +1,13 @@
-// What the rules on a line of `show` come to, seen from the bits, and where a line is refused.
+// The rules on a line of `show`, seen from the bits, and where a line is refused.
 ghost use Rattle.std.specs.Prelude.{◌≡◌, ℕ, ◌≤◌, Bool, List, Option, Some, None, length};
 ghost use Rattle.sercos_show.specs.Line.{kind_of, line_fault, line_bits};
 ghost use Rattle.sercos_show.specs.SpelledLine.{IsLine};
 ghost use Rattle.sercos_show.specs.Places.{IsRefusedAt};
 ghost use Rattle.sercos_show.specs.declared.line.LineKind.{LineKind};
 
-/// A law and no code: a line of `show` has no fault exactly where it is the line `KIND COUNT HEX` of some bits, which
-/// are then those that it gives, with that kind. So a line is read as one list of bits at most, of one kind, and each
-/// list of at most 19696 bits has a line of each kind.
+/// A law, without code: a line of `show` has no fault iff it is the line `KIND COUNT HEX` of some bits, which are then those
+/// that are read, with that kind. So a line is read as one list of bits at most, of one kind, and each list of at most 19696
+/// bits has a line of each kind.
 pub fn line_law()
     ensures spelled { (line : List ℕ) → line_fault line ≡ None
         → (kind : LineKind) × (kind_of line ≡ Some kind) × IsLine kind line (line_bits line) }
@@ -17,10 +17,10 @@ pub fn line_law()
         → (line : List ℕ) × IsLine kind line bits }
 {}
 
-/// A law and no code: where a line is refused at a place, the bytes before it begin a line of some bits, and with the byte at
-/// the place they begin none. Where the place is the end of the line, the line is none itself. There are two exceptions: a
-/// COUNT above 19696 is refused at its first digit, and a pair of digits at its first digit, if only its second one shows that
-/// a bit after the last one is 1.
+/// A law, without code: if a line is refused at a place, the bytes before it begin a line of some bits, and with the byte at
+/// the place they don't. If the place is the end of the line, the line is incomplete. There are two exceptions: a COUNT above
+/// 19696 is refused at its first digit, and a pair of digits at its first digit, if only its second one shows that a bit after
+/// the last one is 1.
 pub fn place_law()
     ensures { (line : List ℕ) (place : ℕ) → line_fault line ≡ Some place → IsRefusedAt line place }
 {}

@@ -1,4 +1,4 @@
-//! `show`: what lines of frames say, or the place at which a line is wrong.
+//! `show`: the telegrams in lines of frames, or the place at which a line is wrong.
 #![tactic(auto)]
 
 mod digits;

@@ -26,7 +26,7 @@ pub enum LineKind {
 /// The largest COUNT.
 const MOST_BITS: u32 = 19696;
 
-// How many bytes of a text a line begins with.
+// Returns how many bytes of a text a line begins with.
 fn shared_with(line: &[u8], text: &[u8]) -> usize
     ensures value { result ≡ common_prefix_len nat_eq line.now text.now }
     ensures bound { result ≤ length line.now }
@@ -66,7 +66,7 @@ fn kind_of(line: &[u8]) -> Result<LineKind, usize>
     Err(raw.max(mst).max(single).max(at))
 }
 
-// How many bytes there are before COUNT.
+// Returns how many bytes there are before COUNT.
 fn kind_len(kind: LineKind) -> usize
     ensures { result ≡ length (kind_text kind) }
 {
@@ -165,7 +165,7 @@ fn read_count(text: &[u8]) -> Result<(usize, usize), usize>
     Ok((len + 1, count as usize))
 }
 
-// How many bytes there are for a number of bits.
+// Returns how many bytes there are for a number of bits.
 fn byte_len(count: usize) -> usize
     requires { count ≤ 19696 }
     ensures value { result ≡ (count + 7) / 8 }
@@ -231,8 +231,8 @@ fn read_numbers(text: &[u8], room: &mut Room, deframer: &mut Deframer) -> Result
     }
 }
 
-/// Feeds the bits that a line gives, whose bytes are put into the room, and returns its kind. The error is the place, from 0 on, of the first
-/// byte of the line that can't stand.
+/// Feeds the bits of a line, whose bytes are put into the room, and returns its kind. The error is the place, from 0 on, of the first byte
+/// of the line that doesn't fit.
 #[tactic(auto, unfolding(crate::specs::Line::line_fault, crate::specs::Line::fault_by, crate::specs::Line::line_bits, crate::specs::Line::bits_by))]
 pub fn read_line(line: &[u8], room: &mut Room, deframer: &mut Deframer) -> Result<LineKind, usize>
     requires { taken_of deframer.old ≡ 0 }

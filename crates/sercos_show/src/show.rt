@@ -1,4 +1,4 @@
-// `show`: what lines of frames say.
+// `show`: the telegrams in lines of frames.
 ghost use Rattle.std.specs.Prelude.{◌≡◌, ◌≤◌, Bool, List, [], ◌++◌, length, slice_index, drop, IfOk, OnOk, codes, decimal};
 ghost use Rattle.sercos_show.specs.Show.{layout_text, layout_or, mst_text, single_text, at_text, wanted_address, wanted_len, content_text, refusal_text, frame_text, show_answer};
 ghost use Rattle.sercos_answer.specs.Answer.{line_feed, refused_text};
@@ -62,7 +62,7 @@ fn push_raw(content: &[u8], out: &mut Vec<u8>) -> Result<(), AllocError>
     push_hex(content, out)
 }
 
-// Appends what an MST says.
+// Appends the text of an MST.
 #[tactic(auto, unfolding(crate::specs::Show::layout_or))]
 fn show_mst(content: &[u8], out: &mut Vec<u8>) -> Result<(), AllocError>
     ensures { OnOk result (out.new.items
@@ -74,7 +74,7 @@ fn show_mst(content: &[u8], out: &mut Vec<u8>) -> Result<(), AllocError>
     }
 }
 
-// The address that is wanted: the one found, where it is a drive's, and else 1.
+// Returns the address that is wanted: the one found, if it is a drive's, otherwise 1.
 #[tactic(auto, unfolding(crate::specs::Show::wanted_address))]
 fn wanted_address(content: &[u8]) -> u8
     ensures { result ≡ wanted_address content.now }
@@ -85,7 +85,7 @@ fn wanted_address(content: &[u8]) -> u8
     }
 }
 
-// Appends what an MDT of phases 1 and 2 says.
+// Appends the text of an MDT of phases 1 and 2.
 #[tactic(auto, unfolding(crate::specs::Show::layout_or))]
 fn show_single(content: &[u8], out: &mut Vec<u8>) -> Result<(), AllocError>
     ensures { OnOk result (out.new.items ≡ out.old.items
@@ -99,7 +99,7 @@ fn show_single(content: &[u8], out: &mut Vec<u8>) -> Result<(), AllocError>
     }
 }
 
-// How many bytes an AT should have after its address: as many as were found, but at least four.
+// Returns how many bytes an AT should have after its address: as many as were found, but at least four.
 #[tactic(auto, unfolding(crate::specs::Show::wanted_len))]
 fn wanted_len(content: &[u8]) -> u16
     requires { length content.now ≤ 2048 }
@@ -109,7 +109,7 @@ fn wanted_len(content: &[u8]) -> u16
     content.len().saturating_sub(1).max(4) as u16
 }
 
-// Appends what an AT says.
+// Appends the text of an AT.
 #[tactic(auto, unfolding(crate::specs::Show::layout_or))]
 fn show_at(content: &[u8], out: &mut Vec<u8>) -> Result<(), AllocError>
     requires { length content.now ≤ 2048 }
@@ -124,7 +124,7 @@ fn show_at(content: &[u8], out: &mut Vec<u8>) -> Result<(), AllocError>
     }
 }
 
-// Appends what a content says, read as its line asks.
+// Appends the text of a content, read as its line requires.
 #[tactic(auto, unfolding(crate::specs::Show::content_text))]
 fn push_content(kind: LineKind, content: &[u8], out: &mut Vec<u8>) -> Result<(), AllocError>
     requires { length content.now ≤ 2048 }
@@ -138,7 +138,7 @@ fn push_content(kind: LineKind, content: &[u8], out: &mut Vec<u8>) -> Result<(),
     }
 }
 
-// Appends a line of what a content says.
+// Appends the line of a content.
 fn push_content_line(kind: LineKind, content: &[u8], out: &mut Vec<u8>) -> Result<(), AllocError>
     requires { length content.now ≤ 2048 }
     ensures { OnOk result (out.new.items ≡ out.old.items ++ (content_text kind content.now ++ line_feed)) }
@@ -176,7 +176,8 @@ fn push_answer(
     }
 }
 
-/// Answers the lines of a text: the refusal of the first line that has a fault, else the answer to each, in order.
+/// Answers the lines of a text: the refusal of the first line that has a fault, otherwise the answer to each, in
+/// order.
 pub fn show(alloc: Global, text: &[u8]) -> Result<Reply, AllocError>
     ensures status { IfOk result (λ reply. reply.status ≡ (show_answer text.now).status) }
     ensures text { IfOk result (λ reply. reply.text.items ≡ (show_answer text.now).output) }

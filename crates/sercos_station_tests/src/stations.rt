@@ -76,7 +76,7 @@ fn opened(alloc: Global) -> Result<Option<(Drive, AnyMaster)>, AllocError> {
     }
 }
 
-// The first half of a cycle: the MST, which comes back to the master, and comes to the drive unless that is deaf.
+// The first half of a cycle: the MST, which returns to the master, and arrives at the drive unless that is deaf.
 fn begin(cycle: u32, drive: &mut Drive, master: &mut AnyMaster, is_deaf: bool) {
     let mut mst = Content::new();
     master.mst(&mut mst);
@@ -108,7 +108,7 @@ fn end(
     master.end_cycle(events)
 }
 
-// The phase that is commanded in a cycle of an undisturbed start-up. The last answer of phase 2 comes in cycle 94.
+// The phase that is commanded in a cycle of an undisturbed start-up. The last answer of phase 2 arrives in cycle 94.
 fn phase_of(cycle: u32) -> u8 {
     match cycle {
         0..=9 => 0,
@@ -135,7 +135,7 @@ struct Story {
 const NEVER: (u32, u32) = (1000, 0);
 
 // An undisturbed start-up; each AT from cycle 13 on withheld; and the ATs of 120 and 121, after which the drive is deaf to the MSTs of
-// 122 and 123. At the second of these it goes to phase 0, before it hears an MDT.
+// 122 and 123. At the second of these it goes to phase 0, before its MDT.
 const STORIES: [Story; 3] = [
     Story {
         cycles: 110,
@@ -164,7 +164,7 @@ fn is_within(cycle: u32, cycles: (u32, u32)) -> bool {
     cycles.0 <= cycle && cycle <= cycles.1
 }
 
-// In each cycle the phase that is commanded and that of the drive before the MDT, whether the plan is told, and the fall.
+// In each cycle the phase that is commanded and that of the drive before the MDT, whether the plan is reported, and the fall.
 fn check(rt: &impl Abort, alloc: Global, story: &Story) -> Result<(), Fail> {
     let (mut drive, mut master) = opened(alloc)?.expect(rt, "a drive and a master");
     let mut events = no_events();
@@ -229,8 +229,8 @@ fn step(rt: &impl Abort, drive: &mut Drive, cycle: u32, phase: u8, wanted: &[u8]
     drive.hear_mdt(Some(mdt));
 }
 
-// The drive gets the open of S-0-0024 and the first word of a new list. After the MST of phase 3 the next word comes in an MDT to
-// all drives: the list is protected there, and stays. S-0-0051 is 64500 + 970 in cycle 97.
+// The drive gets the open of S-0-0024 and the first word of a new list. After the MST of phase 3 the next word is in an MDT to all
+// drives: the list is protected there, and stays. S-0-0051 is 64500 + 970 in cycle 97.
 #[test]
 fn list_written_across_phases(rt: HostRuntime) -> Result<(), Fail> {
     let mut drive = checked(rt.alloc())?.expect(&rt, "a drive");

@@ -16,10 +16,10 @@ abbrev pub polls : List ℕ → ℕ
 polls [] = 1
 polls (status ∷ words) = 1 + (if status == running_status then polls words else 0)
 
--- How many answers a transfer has when it is complete, as far as the words so far tell. One answers the opening. In a read before
--- minimum, maximum and operation data, and in a write before operation data, two answer the reads of the attribute. Then there is
--- one for each word of the element. In a command one answers the opening, one the setting, one each read of the data status and
--- one the cancel.
+-- How many answers a transfer has when it is complete, as far as the words so far determine it. One answers the opening. In a
+-- read before minimum, maximum and operation data, and in a write before operation data, two answer the reads of the attribute.
+-- Then there is one for each word of the element. In a command one answers the opening, one the setting, one each read of the
+-- data status and one the cancel.
 abbrev pub count_of : Request → List ℕ → ℕ
 count_of (request.Read idn e) words = steps_before e + words_in (shape_of e (attribute_read e words)) (slice_index words (steps_before e))
 count_of (request.Write idn e bytes) words = if e == data_element then 3 + length (words_told (shape_of data_element (attribute_read data_element words)) bytes) else 1 + length (words_told (shape_of e 0) bytes)
@@ -37,13 +37,13 @@ HasAtMost = (r : Request) (h : List Answer) → AreAnswers r h → length h ≤ 
 abbrev pub AttributeTakes : Type 0
 AttributeTakes = (idn : Idn) (h : List Answer) → AreAnswers (request.Read idn attribute_element) h → length h ≤ 3
 
--- A read of a minimum, a maximum or operation data has at most four answers if the attribute says that it is one word. The
+-- A read of a minimum, a maximum or operation data has at most four answers if its attribute has the length of one word. The
 -- attribute is known after three answers.
 abbrev pub ValueTakes : Type 0
 ValueTakes = (idn : Idn) (e : ℕ) (h : List Answer) → minimum_element ≤ e → AreAnswers (request.Read idn e) h → (3 ≤ length h → shape_of e (attribute_read e (answer_words h)) ≡ shape.One) → length h ≤ 4
 
--- A read of operation data has at most 5 + k answers if the attribute says that it is a list, and the list has at most 2k bytes,
--- as its first word says.
+-- A read of operation data has at most 5 + k answers if its attribute is that of a list, and the list has at most 2k bytes by its
+-- first word.
 abbrev pub ListTakes : Type 0
 ListTakes = (idn : Idn) (k : ℕ) (h : List Answer) → AreAnswers (request.Read idn data_element) h → (3 ≤ length h → shape_of data_element (attribute_read data_element (answer_words h)) ≡ shape.List) → slice_index (answer_words h) 3 ≤ 2 * k → length h ≤ 5 + k
 

@@ -1,4 +1,4 @@
--- What a transfer keeps of the answers it was given, and how that stands for them.
+-- What a transfer keeps of its answers, and how it stands for them. For proofs alone.
 use Rattle.std.specs.Prelude.{◌≡◌, ℕ, ◌-◌, ◌%◌, ◌/◌, ◌==◌, nat_le, nat_lt, Bool, true, false, ◌&&◌, ◌||◌, if◌then◌else◌, List, [], ◌∷◌, ◌++◌, length, take, drop, min, slice_index, is_some}
 use Rattle.sercos_idn.specs.declared.idn.Idn.{Idn}
 use Rattle.sercos_idn.specs.Elements.{data_element}
@@ -57,12 +57,12 @@ pub record IsAtWrite (p : ProgressView) (words : List ℕ) : Type 0 where
   pub low_is : p.low ≡ slice_index words 1
   pub high_is : p.high ≡ slice_index words 2
 
--- all data statuses so far say that the command is running
+-- all data statuses so far show that the command is running
 abbrev pub is_running : List ℕ → Bool
 is_running [] = true
 is_running (status ∷ words) = (status == running_status) && is_running words
 
--- the answers to a command, where those that give the data status count as one, and that only once the command has ended
+-- the answers to a command, of which those with the data status count as one, once the command has ended
 abbrev pub command_count : List ℕ → ℕ
 command_count [] = 0
 command_count (opened ∷ []) = 1
@@ -105,7 +105,7 @@ result_kept (request.Read idn e) p = p.bytes
 result_kept (request.Write idn e bytes) p = []
 result_kept (request.Command idn) p = (p.status % 256) ∷ (p.status / 256) ∷ []
 
--- after these words: whether they are all, what is kept if not, and what the transfer gives if so
+-- after these words: whether they are complete, what is kept if not, and the transfer's result if so
 pub record IsAfterAnswer (r : Request) (p : ProgressView) (words : List ℕ) (whole : Bool) : Type 0 where
   pub whole_is : whole ≡ is_whole r words
   pub goes_on : whole ≡ false → IsAt r p words
@@ -116,7 +116,7 @@ pub record TransferView : Type 0 where
   pub progress : ProgressView
   pub done : Bool
 
--- a transfer stands for a request and the answers that it was given, the newest first
+-- a transfer stands for a request and the answers to it, the newest first
 pub record TransferStandsFor (v : TransferView) (request : Request) (h : List Answer) : Type 0 where
   pub request_is : v.request ≡ request
   pub in_turn : AreAnswers request h

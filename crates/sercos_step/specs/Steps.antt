@@ -26,7 +26,7 @@ run write e [] = []
 run write e (word ∷ []) = a_step write true e word ∷ []
 run write e (word ∷ next ∷ words) = a_step write false e word ∷ run write e (next ∷ words)
 
--- the steps that read an element, from the words of it that were answered; the first word of a list says how many there are
+-- the steps that read an element, from the words of it so far; the first word of a list is its length
 abbrev pub reading : Shape → ℕ → List ℕ → List Step
 reading shape.One e words = run false e (0 ∷ [])
 reading shape.Two e words = run false e (0 ∷ 0 ∷ [])
@@ -37,7 +37,7 @@ reading shape.List e (actual ∷ words) = run false e (replicate (words_in_list 
 abbrev pub writing : Shape → ℕ → List ℕ → List Step
 writing s e bytes = run true e (words_told s bytes)
 
--- the two words of the attribute, and then what depends on it and on the words that come after
+-- the two words of the attribute, and then what depends on it and on the words that follow
 abbrev pub attribute_then : (ℕ → List ℕ → List Step) → List ℕ → List Step
 attribute_then rest (low ∷ high ∷ words) = a_step false false attribute_element 0 ∷ a_step false true attribute_element 0 ∷ rest (low + 65536 * high) words
 attribute_then rest _ = a_step false false attribute_element 0 ∷ a_step false true attribute_element 0 ∷ []
@@ -67,13 +67,13 @@ steps_before e = if asks_attribute e then 3 else 1
 abbrev pub attribute_read : ℕ → List ℕ → ℕ
 attribute_read e words = if asks_attribute e then slice_index words 1 + 65536 * slice_index words 2 else 0
 
--- what a transfer gives when all its steps are answered
+-- the result of a transfer when all its steps are answered
 abbrev pub result_of : Request → List ℕ → List ℕ
 result_of (request.Read idn e) words = bytes_read (shape_of e (attribute_read e words)) (drop (steps_before e) words)
 result_of (request.Write idn e bytes) words = []
 result_of (request.Command idn) words = bytes_in (slice_index words (length words - 2) ∷ [])
 
--- Answers stand newest first, their words oldest first.
+-- Answers are newest first, their words oldest first.
 abbrev pub answer_words : List Answer → List ℕ
 answer_words [] = []
 answer_words (a ∷ h) = answer_words h ++ a.word ∷ []
@@ -92,7 +92,7 @@ outcome_of r (a ∷ h) =
 abbrev pub next_step : Request → List Answer → Option Step
 next_step r h = slice_get (steps_of r (answer_words h)) (length (answer_words h))
 
--- each answer came while the transfer was going on
+-- each answer was one to a transfer that went on
 abbrev pub AreAnswers : Request → List Answer → Type 0
 AreAnswers r [] = Unit {0}
 AreAnswers r (a ∷ h) = AreAnswers r h × (outcome_of r h ≡ None)

@@ -18,7 +18,7 @@ abbrev pub bytes_in : List ℕ → List ℕ
 bytes_in [] = []
 bytes_in (word ∷ words) = (word % 256) ∷ (word / 256) ∷ bytes_in words
 
--- the length that the word of an attribute says; a word that is none is handled as that of a value of two bytes
+-- the length in the word of an attribute; an invalid word counts as that of a value of two bytes
 abbrev pub length_said : ℕ → Length
 length_said word = if is_none (attribute_fault word) then (attribute_of word).length else len.Two
 
@@ -33,7 +33,7 @@ as_value shape.List = shape.One
 as_value s = s
 
 -- How the words of an element are laid out under the word of an attribute: the data status is one word, the attribute two,
--- name and unit are lists, and minimum, maximum and operation data are as the attribute says.
+-- name and unit are lists, and the attribute decides on minimum, maximum and operation data.
 abbrev pub shape_of : ℕ → ℕ → Shape
 shape_of e word =
     if e == identifier_element then shape.One
@@ -55,7 +55,7 @@ abbrev pub at_least_one : List ℕ → List ℕ
 at_least_one [] = 0 ∷ []
 at_least_one (word ∷ words) = word ∷ words
 
--- the words that write these bytes: a list has its length and a 0 before them, and else there is at least one word
+-- the words that write these bytes: a list has its length and a 0 before them, and anything else has at least one word
 abbrev pub words_told : Shape → List ℕ → List ℕ
 words_told shape.List bytes = length bytes ∷ 0 ∷ words_of bytes
 words_told _ bytes = at_least_one (words_of bytes)

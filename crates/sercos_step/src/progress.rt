@@ -71,7 +71,7 @@ fn steps_before(element: u8) -> u16
     if element >= MINIMUM { 3 } else { 1 }
 }
 
-// Whether one more answer ends a write, from the answers before it and the word of the attribute.
+// Returns whether one more answer ends a write, from the answers before it and the word of the attribute.
 fn ends_write(element: u8, attribute: u32, bytes: &[u8], count: u16) -> bool
     requires { length bytes.now ≤ 1024 }
     ensures { result ≡ ends_write element attribute bytes.now count }
@@ -96,7 +96,8 @@ fn count_with(count: u16, word: u16) -> u16
     }
 }
 
-// What a transfer keeps of its answers. Words stay as they came: so their own ranges bound what is computed from them.
+// What a transfer keeps of its answers. Words are kept as received, so their own ranges bound what is computed from
+// them.
 #[derive(Drop)]
 pub struct Progress {
     count: u16,
@@ -230,7 +231,7 @@ impl Progress {
         command_word(CANCEL)
     }
 
-    // Keeps an answer to a read, and says whether it was the last.
+    // Keeps an answer to a read, and returns whether it was the last.
     pub fn read_answer(&mut self, element: u8, word: u16) -> bool
         ensures { (idn : Idn) (words : List ℕ) → IsAtRead self.old element words → is_whole (Request.Read idn element) words ≡ false →
             IsAtRead self.new element (words ++ word ∷ []) × (result ≡ is_whole (Request.Read idn element) (words ++ word ∷ [])) }
@@ -254,7 +255,7 @@ impl Progress {
         whole
     }
 
-    // Keeps an answer to a write, and says whether it was the last.
+    // Keeps an answer to a write, and returns whether it was the last.
     pub fn write_answer(&mut self, element: u8, bytes: &Bytes, word: u16) -> bool
         ensures { (idn : Idn) (words : List ℕ) → IsAtWrite self.old words → is_whole (Request.Write idn element bytes.now) words ≡ false →
             IsAtWrite self.new (words ++ word ∷ []) × (result ≡ is_whole (Request.Write idn element bytes.now) (words ++ word ∷ [])) }
@@ -266,7 +267,7 @@ impl Progress {
         ends_write(element, attribute, bytes.as_slice(), count)
     }
 
-    // Keeps an answer to a command, and says whether it was the last, to the cancelling.
+    // Keeps an answer to a command, and returns whether it was the last, to the cancelling.
     pub fn command_answer(&mut self, word: u16) -> bool
         ensures { (idn : Idn) (words : List ℕ) → IsAtCommand self.old words → is_whole (Request.Command idn) words ≡ false →
             IsAfterCommand idn self.new (words ++ word ∷ []) result }

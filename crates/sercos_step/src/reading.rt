@@ -8,7 +8,7 @@ use crate::shape::{MOST_LIST_BYTES, Shape, words_in};
 use crate::step::Step;
 use sercos_bits::Bytes;
 
-// Whether the word at a place is the last, as far as that is known: a list's first word is not.
+// Returns whether the word at a place is the last, as far as that is known: a list's first word is not.
 fn is_last_read(shape: Shape, place: u16, first: u16) -> bool
     ensures { result ≡ is_last_read shape place first }
 {
@@ -47,7 +47,7 @@ fn push_limited(bytes: &mut Bytes, word: u16, limit: usize)
     }
 }
 
-// Keeps the bytes of the word at a place. Those of a list come after its two lengths.
+// Keeps the bytes of the word at a place. Those of a list follow its two lengths.
 fn keep_bytes(bytes: &mut Bytes, shape: Shape, place: u16, first: u16, word: u16)
     ensures { length bytes.old ≤ most_kept shape first → bytes.new ≡ kept_with shape place first word bytes.old }
 {
@@ -68,7 +68,7 @@ fn first_with(first: u16, place: u16, word: u16) -> u16
     if place == 0 { word } else { first }
 }
 
-// Keeps the word at a place, and says whether it was the last.
+// Keeps the word at a place, and returns whether it was the last.
 pub fn keep_word(shape: Shape, place: u16, word: u16, first: &mut u16, bytes: &mut Bytes) -> bool
     ensures { (e : ℕ) (words : List ℕ) → place ≡ length words → first.old ≡ slice_index words 0 → bytes.old ≡ bytes_read shape words → length words < length (reading shape e words) →
         IsAfterWord shape e (words ++ word ∷ []) first.new bytes.new result }

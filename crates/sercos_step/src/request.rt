@@ -5,7 +5,7 @@ use sercos_idn::{Code, Idn};
 /// What a transfer is to do.
 #[derive(Debug, PartialEq, Eq, Drop)]
 pub enum Request {
-    /// Reads an element, 1 to 7. Element 1 gives the data status.
+    /// Reads an element, 1 to 7. Element 1 returns the data status.
     Read {
         /// The identifier number of the data block.
         idn: Idn,
@@ -40,7 +40,7 @@ pub struct Job {
 /// How a transfer ended.
 #[derive(Debug, Default, PartialEq, Eq, Drop)]
 pub enum Outcome {
-    /// All steps were answered. A read gives the element's bytes, a write none, and a procedure command the two bytes of
+    /// All steps were answered. A read has the element's bytes, a write none, and a procedure command the two bytes of
     /// the last data status.
     Complete(Bytes),
     /// A step was refused, with this code.

@@ -19,7 +19,7 @@ pub enum Shape {
 // The most bytes of a list that are read.
 pub const MOST_LIST_BYTES: u16 = 1024;
 
-// The length that the word of an attribute says. A word that is none is handled as that of a value of two bytes.
+// Returns the length in the word of an attribute. An invalid word counts as that of a value of two bytes.
 fn length_said(word: u32) -> Length
     ensures { result ≡ length_said word }
 {
@@ -63,7 +63,7 @@ pub fn shape_of(element: u8, word: u32) -> Shape
     }
 }
 
-// How many words an element has that is read, where the first of them is known.
+// Returns how many words an element has that is read, where the first of them is known.
 pub fn words_in(shape: Shape, first: u16) -> u16
     ensures value { result ≡ words_in shape first }
     ensures bound { (1 ≤ result) × (result ≤ 514) }

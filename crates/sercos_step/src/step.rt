@@ -1,10 +1,10 @@
 // A step of the service channel, and the answer to it.
 
-/// A step of the service channel (IEC 61491:1995): what the master asks of a drive with one record of an MDT. The
-/// handshake bit goes beside it, in the control word.
+/// A step of the service channel (IEC 61491:1995): the master's order to a drive in one record of an MDT. The
+/// handshake bit is beside it, in the control word.
 #[derive(Clone, Copy, Debug, PartialEq, Eq)]
 pub struct Step {
-    /// Whether the step writes its word; else it reads one.
+    /// Whether the step writes its word; otherwise it reads one.
     pub write: bool,
     /// Whether the word is the last of the element.
     pub last: bool,

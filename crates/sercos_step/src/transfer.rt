@@ -28,7 +28,7 @@ fn step_at(request: &Request, progress: &Progress) -> Step
     }
 }
 
-// Keeps an answer to a request that goes on, and says whether it was the last.
+// Keeps an answer to a request that goes on, and returns whether it was the last.
 fn answer_at(request: &Request, progress: &mut Progress, word: u16) -> bool
     ensures { (words : List ℕ) → IsAt request.now progress.old words → is_whole request.now words ≡ false →
         IsAfterAnswer request.now progress.new (words ++ word ∷ []) result }
@@ -40,7 +40,7 @@ fn answer_at(request: &Request, progress: &mut Progress, word: u16) -> bool
     }
 }
 
-// What a request gives whose steps are all answered.
+// Returns the result of a request whose steps are all answered.
 fn result_at(request: &Request, progress: &mut Progress) -> Bytes
     ensures { result ≡ result_kept request.now progress.old }
 {
@@ -51,7 +51,7 @@ fn result_at(request: &Request, progress: &mut Progress) -> Bytes
     }
 }
 
-/// A request to a drive on its way: it gives the steps one by one and takes their answers.
+/// A request to a drive in progress: it returns the steps one by one and takes their answers.
 #[derive(Drop)]
 pub struct Transfer {
     request: Request,
@@ -71,7 +71,7 @@ impl Model for Transfer {
 }
 
 impl Transfer {
-    /// A transfer of which no step has gone yet. A read names one of the elements 1 to 7, a write one of 2 to 7.
+    /// Returns a transfer of which no step has gone yet. A read names one of the elements 1 to 7, a write one of 2 to 7.
     pub fn begin(request: Request) -> Transfer
         requires { IsRequest request }
         ensures { TransferStandsFor result request [] }
@@ -83,7 +83,7 @@ impl Transfer {
         }
     }
 
-    /// The next step: the first that has no answer. It stays the same until `answer`, so a step that was lost is sent again.
+    /// Returns the next step: the first that has no answer. It stays the same until `answer`, so a step that was lost is sent again.
     pub fn step(&self) -> Step
         requires { self.now.done ≡ false }
         ensures step { (request : Request) (h : List Answer) → TransferStandsFor self.now request h → Some result ≡ next_step request h }
@@ -92,8 +92,8 @@ impl Transfer {
         step_at(&self.request, &self.progress)
     }
 
-    /// Takes the answer to the step, and says how the transfer ended if this answer ends it: `Refused` with the code of an
-    /// error, `Complete` where all steps are answered.
+    /// Takes the answer to the step, and returns the outcome if this answer ends the transfer: `Refused` with the code of an
+    /// error, `Complete` if all steps are answered.
     pub fn answer(&mut self, a: Answer) -> Option<Outcome>
         requires { self.old.done ≡ false }
         ensures stands { (request : Request) (h : List Answer) → TransferStandsFor self.old request h → TransferStandsFor self.new request (a ∷ h) }

@@ -7,8 +7,8 @@ use crate::shape::Shape;
 use crate::step::Step;
 use sercos_bits::byte_at;
 
-/// The word at a place of the bytes taken two by two, the low byte first. A last odd byte is filled up with 0, and after the
-/// last word there is 0.
+/// Returns the word at a place of the bytes taken two by two, the low byte first. A last odd byte is filled up with 0, and after the last
+/// word there is 0.
 pub fn word_at(bytes: &[u8], place: u16) -> u16
     ensures { result ≡ slice_index (words_of bytes.now) place }
 {
@@ -16,7 +16,7 @@ pub fn word_at(bytes: &[u8], place: u16) -> u16
     u16::from_le_bytes([byte_at(bytes, low), byte_at(bytes, low + 1)])
 }
 
-// How many words write the bytes.
+// Returns how many words write the bytes.
 pub fn told_count(shape: Shape, bytes: &[u8]) -> u16
     requires { length bytes.now ≤ 1024 }
     ensures { result ≡ length (words_told shape bytes.now) }

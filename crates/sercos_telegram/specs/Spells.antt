@@ -14,7 +14,7 @@ all_drives = 255
 unfoldable pub word_bytes : ℕ → List ℕ
 word_bytes word = to_le_bytes w16 word
 
--- the word whose low byte stands at a place
+-- the word whose low byte is at a place
 unfoldable pub word_at : List ℕ → ℕ → ℕ
 word_at content place = slice_index content place + 256 * slice_index content (place + 1)
 

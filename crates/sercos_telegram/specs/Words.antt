@@ -13,7 +13,7 @@ control_word c = c.cyclic + cond c.mhs 1 0 + cond c.write 2 0 + cond c.last 4 0 
 abbrev pub status_word : Status → ℕ
 status_word s = s.cyclic + cond s.ahs 1 0 + cond s.busy 2 0 + cond s.error 4 0 + cond s.change 32 0
 
--- whether a word has the bit that stands for a number
+-- whether a word has the bit of a value
 abbrev pub has : ℕ → ℕ → Bool
 has word bit = word / bit % 2 == 1
 

@@ -1,4 +1,4 @@
-//! What a drive says: the AT.
+//! What a drive sends: the AT.
 ghost use Rattle.std.specs.Prelude.{◌≡◌, ℕ, ◌+◌, ◌^◌, ◌<◌, ◌≤◌, List, length, drop, IfOk, IsOkAnd};
 ghost use Rattle.std.specs.Result.{result_err};
 ghost use Rattle.sercos_telegram.specs.Faults.{at_fault};

@@ -12,7 +12,7 @@ pub struct Fields<'a> {
     pub values: &'a [u8],
 }
 
-/// The two words and the values that bytes are.
+/// Returns the two words and the values that bytes are.
 #[tactic(auto, unfolding(crate::specs::Spells::fields, crate::specs::Spells::word_bytes, crate::specs::Spells::word_at))]
 pub fn read_fields(bytes: &[u8]) -> Fields<'_>
     requires { 4 ≤ length bytes.now }

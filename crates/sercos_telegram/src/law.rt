@@ -2,8 +2,8 @@ ghost use Rattle.std.specs.Prelude.{◌≡◌, ℕ, ◌+◌, ◌-◌, ◌<◌, �
 ghost use Rattle.sercos_telegram.specs.Spells.{all_drives, record_bytes, SpellsRecord};
 ghost use Rattle.sercos_telegram.specs.declared.words.Control.{Control};
 
-/// A law and no code: in an MDT that begins with the address of all drives, a record that was appended stands at the
-/// position that was its length before, whatever records follow. So it is read back there.
+/// A law, without code: in an MDT that begins with the address of all drives, a record that was appended is at the
+/// position that was its length before, regardless of the records that follow. So it is read back there.
 pub fn joint_law()
     ensures { (control : Control) (info : ℕ) (before values after : List ℕ) →
         0 < length before → slice_index before 0 ≡ all_drives →

@@ -7,9 +7,9 @@ ghost use Rattle.sercos_telegram.specs.Faults.{head_fault};
 pub enum Kind {
     /// MST: the phase that the master commands.
     Mst,
-    /// AT: what a drive says.
+    /// AT: what a drive sends.
     At,
-    /// MDT: what the master says to one drive, or to all.
+    /// MDT: what the master sends to one drive, or to all.
     Mdt,
 }
 
@@ -20,7 +20,7 @@ pub enum Layout {
     Length(usize, usize),
     /// The address byte that was found, and the one that was wanted.
     Address(usize, usize),
-    /// The place of a byte whose value can't stand there: 1, for an MST's byte that isn't 0 to 4.
+    /// The place of a byte whose value is not allowed there: 1, for an MST's byte that isn't 0 to 4.
     BadField(usize),
 }
 

@@ -1,4 +1,4 @@
-//! What the master says: the MST and the MDT.
+//! What the master sends: the MST and the MDT.
 ghost use Rattle.std.specs.Prelude.{◌≡◌, ℕ, ◌+◌, ◌^◌, ◌<◌, ◌≤◌, ◌↔◌, [], ◌∷◌, ◌++◌, List, length, take, drop, slice_index, slice_range, IfOk, IsOkAnd, IsErr, OnOk, OnErr};
 ghost use Rattle.std.specs.Result.{result_err};
 ghost use Rattle.sercos_telegram.specs.Faults.{mst_fault, single_fault, joint_fault};
@@ -25,7 +25,7 @@ pub struct Mst {
     ghost phase_in_range: { phase ≤ 4 },
 }
 
-/// A record of an MDT: what the master says to one drive. In phases 3 and 4 its values are the configured command
+/// A record of an MDT: the master's part for one drive. In phases 3 and 4 its values are the configured command
 /// values.
 #[derive(Clone, Copy, Debug, PartialEq, Eq)]
 pub struct Record<'a> {
@@ -37,7 +37,7 @@ pub struct Record<'a> {
     pub values: &'a [u8],
 }
 
-/// Reads an MST. The first of a wrong length, a wrong address and a byte that is no phase is the error.
+/// Reads an MST. The error is the first of a wrong length, a wrong address and a byte that is not a phase.
 #[tactic(auto, unfolding(crate::specs::Faults::mst_fault))]
 pub fn read_mst(content: &[u8]) -> Result<Mst, Layout>
     ensures phase { IfOk result (λ mst. mst.phase ≡ slice_index content.now 1) }
@@ -137,7 +137,8 @@ pub fn joint_begin(out: &mut Content)
     out.push_within(ALL_DRIVES);
 }
 
-/// Appends a record to an MDT. `Full` exactly where it would pass 2048 bytes, and then nothing is appended.
+/// Appends a record to an MDT. The error is `Full` iff the MDT would be longer than 2048 bytes; then nothing is
+/// appended.
 pub fn joint_record(r: &Record<'_>, out: &mut Content) -> Result<(), Full>
     ensures full { IsErr result ↔ (2048 < length out.old + 4 + length r.now.values.now) }
     ensures ok { OnOk result (out.new ≡ out.old ++ record_bytes r.now.control r.now.info r.now.values.now) }

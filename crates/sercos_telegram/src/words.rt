@@ -1,7 +1,6 @@
 ghost use Rattle.std.specs.Prelude.{◌≡◌, ℕ, ◌*◌, ◌/◌, ◌%◌, ◌<◌, ◌≤◌, ◌==◌, if◌then◌else◌};
 
-// The bits of the control word, as the numbers that they stand for; the element has three bits, and the cyclic bits are
-// those from bit 6 on.
+// The bits of the control word, as powers of two; the element has three bits, and the cyclic bits begin with bit 6.
 const MHS: u16 = 1;
 
 const WRITE: u16 = 2;
@@ -27,7 +26,7 @@ const STATUS_LOW: u16 = 8;
 
 const STATUS_HIGH: u16 = 64;
 
-// Whether a word has a bit.
+// Returns whether a word has a bit.
 fn has(word: u16, bit: u16) -> bool
     requires { 0 < bit }
     ensures { result ≡ (word / bit % 2 == 1) }
@@ -63,7 +62,7 @@ pub struct Control {
 impl Control {
     ghost use Rattle.sercos_telegram.specs.Words.{control_word, control_of};
 
-    /// The control word that a word is. Every word is one, and `write` gives it back.
+    /// Returns the control word of a word. Every word has one, and `write` returns the word again.
     #[tactic(auto, unfolding(crate::specs::Words::control_of))]
     pub fn read(word: u16) -> Control
         ensures value { result ≡ control_of word }
@@ -79,7 +78,7 @@ impl Control {
         }
     }
 
-    /// The word.
+    /// Returns the word.
     pub fn write(&self) -> u16
         ensures { result ≡ control_word self.now }
     {
@@ -112,7 +111,7 @@ pub struct Status {
 impl Status {
     ghost use Rattle.sercos_telegram.specs.Words.{status_word, status_of};
 
-    /// The status word that a word is. Every word is one, and `write` gives it back.
+    /// Returns the status word of a word. Every word has one, and `write` returns the word again.
     #[tactic(auto, unfolding(crate::specs::Words::status_of))]
     pub fn read(word: u16) -> Status
         ensures value { result ≡ status_of word }
@@ -128,7 +127,7 @@ impl Status {
         }
     }
 
-    /// The word.
+    /// Returns the word.
     pub fn write(&self) -> u16
         ensures { result ≡ status_word self.now }
     {

@@ -46,7 +46,7 @@ fn answered(
     )
 }
 
-// Runs a command of which a read or a write fails: at most so many bytes are held, a prefix of the answer.
+// Runs a command of which a read or a write fails: at most `most` bytes are held, a prefix of the answer.
 fn check(
     rt: &impl Abort,
     alloc: Global,
@@ -171,7 +171,7 @@ fn writes_that_fail(rt: HostRuntime) -> Result<(), Fail> {
     check_writes(&rt, rt.alloc(), &WRITE_ROWS)
 }
 
-// A run over a source that gives a byte a call, and a sink that takes one.
+// A run over a source that returns a byte a call, and a sink that accepts one.
 #[test]
 fn single_bytes(rt: HostRuntime) -> Result<(), Fail> {
     let input = format!(in rt.alloc(); "{ONE_DRIVE}{READ}")?;
@@ -236,7 +236,7 @@ fn sinks_without_room(rt: HostRuntime) -> Result<(), Fail> {
     check_sinks(&rt, rt.alloc(), &SINK_ROWS)
 }
 
-// Over a source that never fails and a sink with room, with ample memory, the answer is given whole.
+// Over a source that never fails and a sink with room, with ample memory, the answer is written whole.
 #[test]
 fn answered_in_memory(rt: HostRuntime) -> Result<(), Fail> {
     let words = words_of(rt.alloc(), "show")?;

@@ -185,7 +185,7 @@ fn wishes(rt: &impl Abort, alloc: Global, edits: &str) -> Result<Option<Wishes>,
     }
 }
 
-// A chain of so many of the links that prove that no plan fits in a cycle of 125 microseconds.
+// A chain of the first links that prove that no plan fits in a cycle of 125 microseconds.
 fn chain(links: &[Link], sum: u32, bound: u32) -> Option<Chain> {
     Some(Chain {
         links: ArrayVec::try_from(links).ok()?,

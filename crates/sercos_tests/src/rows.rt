@@ -14,7 +14,7 @@ use std::test::Fail;
 // What an input is made from.
 #[derive(Clone, Copy)]
 pub enum Base {
-    // The text that a test gives.
+    // The text that a test makes.
     Given,
     // A ring document of one drive.
     OneDrive,
@@ -71,7 +71,7 @@ pub fn words_of(alloc: Global, line: &str) -> Result<Words, AllocError> {
     Ok(words)
 }
 
-// What a row has that says nothing else: an empty input, and an output of the lines that it names alone.
+// The defaults of a row: an empty input, and an output of the named lines alone.
 pub const PLAIN: Row = Row {
     shows: "",
     words: "",
@@ -134,7 +134,7 @@ pub fn edited(rt: &impl Abort, alloc: Global, text: &str, edits: &str) -> Result
     Ok(text)
 }
 
-// Whether a line has a form.
+// Returns whether a line has a form.
 fn has_form(line: &str, form: &str) -> bool {
     let start = form.strip_suffix("*").unwrap_or(form);
     if line.len() < start.len() || start.len() == form.len() && line.len() != form.len() {
@@ -148,7 +148,7 @@ fn has_form(line: &str, form: &str) -> bool {
     true
 }
 
-// Whether a line has one of several forms.
+// Returns whether a line has one of several forms.
 fn has_some_form(line: &str, forms: &str) -> bool {
     for form in forms.split("|") {
         if has_form(line, form) {
@@ -172,7 +172,7 @@ fn fault_in<'a>(output: &'a str, wanted: &'a str, only: &str) -> Option<&'a str>
     next
 }
 
-// Runs a row, with the text that a test gives and a link handed in.
+// Runs a row, with the text that a test makes and a link.
 pub fn check_over(
     rt: &impl Abort,
     alloc: Global,
@@ -193,7 +193,7 @@ pub fn check_over(
     Ok(())
 }
 
-// Runs the rows of a table, with the text that a test gives.
+// Runs the rows of a table, with the text that a test makes.
 pub fn check(rt: &impl Abort, alloc: Global, rows: &[Row], given: &str) -> Result<(), Fail> {
     for row in rows {
         check_over(rt, alloc, row, given, Clean)?;

@@ -1,6 +1,6 @@
--- The fields of a line. Each definition reads a field off the front of a text: the place, from 0 on, of the first byte
--- that can't stand, if there is one; how many bytes the field takes; and its value. A missing byte's place is the
--- text's length.
+-- The fields of a line. Each definition reads a field at the front of a text: the place, from 0 on, of the first byte
+-- that doesn't fit, if there is one; how many bytes the field has; and its value. A missing byte's place is the text's
+-- length.
 use Rattle.std.specs.Prelude.{ℕ, ℤ, pos, ◌-ℤ◌, ◌+◌, ◌-◌, ◌*◌, ◌%◌, ◌==◌, nat_lt, nat_le, cond, Bool, true, not, ◌||◌, ◌&&◌, if◌then◌else◌, List, [], ◌∷◌, ◌++◌, length, take, drop, slice_index, codes, decimal, Option, Some, None}
 use Rattle.std.specs.Bool.{then_some}
 use Rattle.std.specs.Char.{is_ascii_digit}
@@ -10,7 +10,7 @@ use Rattle.std.specs.Result.{result_unwrap_or}
 use Rattle.std.specs.Str.Parse.{digits_value}
 use Rattle.hex.specs.Hex.{decode_of}
 
--- a place in what comes after this number of bytes
+-- a place after the first n bytes
 abbrev pub behind : ℕ → Option ℕ → Option ℕ
 behind bytes place = option_map (λ p. bytes + p) place
 
@@ -82,7 +82,7 @@ pairs_of text = result_unwrap_or (decode_of text) []
 unfoldable pub hex_of : List ℕ → List ℕ
 hex_of text = if is_dash text then [] else pairs_of (take (hex_digits text) text)
 
--- bytes of a fixed number: the first byte that is no digit
+-- bytes of a fixed number: the first byte that is not a digit
 unfoldable pub digits_fault : ℕ → List ℕ → Option ℕ
 digits_fault count text = then_some (nat_lt (hex_digits text) (2 * count)) (hex_digits text)
 

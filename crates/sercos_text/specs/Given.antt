@@ -1,4 +1,4 @@
--- The values that a writer is given.
+-- The values that a writer takes.
 use Rattle.std.specs.Prelude.{ℕ, ◌*◌, List, length, max}
 use Rattle.sercos_text.specs.Templates.{Value}
 use Rattle.sercos_text.specs.Templates.Value.{number, signed, bytes, ident}

@@ -1,4 +1,4 @@
--- Lines by templates. A capital letter of a template stands for a field, and each other byte for itself.
+-- Lines by templates. A capital letter of a template is a field, and any other byte is itself.
 use Rattle.std.specs.Prelude.{◌≡◌, ℕ, ℤ, pos, negsuc, ◌*◌, ◌==◌, ◌≤◌, nat_lt, nat_le, Bool, true, not, ◌&&◌, ◌||◌, if◌then◌else◌, List, [], ◌∷◌, ◌++◌, length, take, drop, slice_index, slice_index_or, codes, decimal, Option, Some, None, is_none}
 use Rattle.std.specs.Fmt.{signed_decimal}
 use Rattle.hex.specs.Hex.{encode_lower}
@@ -13,8 +13,8 @@ use Rattle.sercos_text.specs.declared.tail.Tail.{Tail}
 use Rattle.sercos_text.specs.Tails.{tail_fault, tail_of, tail_text, IsTail}
 use Rattle.sercos_text.specs.Fields.{behind, number_fault, number_len, number_of, signed_fault, signed_len, signed_of, hex_fault, hex_len, hex_of, digits_fault, low_pairs}
 
--- the field that a letter stands for: numbers up to 255, 65535 and 2^32 - 1, a signed one, up to 2048 and 1024 bytes, exactly
--- two and four bytes, and an identifier number
+-- the field of a letter: numbers up to 255, 65535 and 2^32 - 1, a signed one, up to 2048 and 1024 bytes, exactly two and four
+-- bytes, and an identifier number
 unfoldable pub field_of : ℕ → Option Field
 field_of letter =
     if letter == 66 then Some (Number 255)
@@ -60,8 +60,8 @@ unfoldable pub part_len : Option Field → List ℕ → ℕ
 part_len (Some field) text = field_len field text
 part_len None text = 1
 
--- the first byte of a line that can't stand: in the part for the template's first letter, after it in the
--- parts for the other letters, or in the tail
+-- the first byte of a line that doesn't fit: in the part for the template's first letter, after it in the parts for the other
+-- letters, or in the tail
 unfoldable pub line_fault : Tail → List ℕ → List ℕ → Option ℕ
 line_fault tail [] text = tail_fault tail text
 line_fault tail (letter ∷ template) text =
@@ -103,14 +103,13 @@ IsOf (Digits count) (bytes list) = AreBytes list × (length list ≡ count)
 IsOf Ident (ident raw) = IsItem item.Ident raw
 IsOf _ _ = ⊥
 
--- The line is the template with the text of a value in the place of each letter that stands for a field, and then the
--- tail with the items.
+-- The line is the template with the text of a value in place of each field's letter, and then the tail with the items.
 pub data IsLine : Tail → List ℕ → List Value → List ℕ → List ℕ → Type 0 where
   line_ends : {tail : Tail} {items : List ℕ} → IsTail tail items → IsLine tail [] [] items (tail_text tail items)
   byte_stands : {tail : Tail} {letter : ℕ} {template items text : List ℕ} {values : List Value} → field_of letter ≡ None → IsLine tail template values items text → IsLine tail (letter ∷ template) values items (letter ∷ text)
   field_stands : {tail : Tail} {letter : ℕ} {field : Field} {value : Value} {template items text : List ℕ} {values : List Value} → field_of letter ≡ Some field → IsOf field value → IsLine tail template values items text → IsLine tail (letter ∷ template) (value ∷ values) items (value_text value ++ text)
 
--- the values that a line without a fault gives
+-- the values in a line without a fault
 unfoldable pub field_value : Field → List ℕ → Value
 field_value (Number most) text = number (number_of text)
 field_value Signed text = signed (signed_of text)
@@ -132,7 +131,7 @@ unfoldable pub items_of : Tail → List ℕ → List ℕ → List ℕ
 items_of tail [] text = tail_of tail text
 items_of tail (letter ∷ template) text = items_of tail template (drop (part_len (field_of letter) text) text)
 
--- after each letter that stands for a field the template ends or has a space
+-- after each letter of a field the template ends or has a space
 unfoldable pub is_template : List ℕ → Bool
 is_template [] = true
 is_template (letter ∷ template) = (is_none (field_of letter) || (slice_index_or template 0 32 == 32)) && is_template template

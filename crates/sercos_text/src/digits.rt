@@ -33,14 +33,14 @@ fn value_of(byte: u8) -> u8
     VALUES[usize::from(byte)]
 }
 
-// Whether a byte is a hexadecimal digit in lower case.
+// Returns whether a byte is a hexadecimal digit in lower case.
 fn is_hex(byte: u8) -> bool
     ensures { result ≡ is_hex byte }
 {
     value_of(byte) < 16
 }
 
-// How many hexadecimal digits a text begins with, found byte by byte.
+// Returns how many hexadecimal digits a text begins with, found byte by byte.
 fn first_digits(text: &[u8]) -> usize
     ensures value { result ≡ hex_digits text.now }
     ensures bound { result ≤ length text.now }
@@ -53,7 +53,7 @@ fn first_digits(text: &[u8]) -> usize
     text.len()
 }
 
-// Whether a byte is a hexadecimal digit in lower case, found without the table, so that the compiler can look at many bytes at
+// Returns whether a byte is a hexadecimal digit in lower case, found without the table, so that the compiler can look at many bytes at
 // once.
 fn is_digit(byte: u8) -> bool
     ensures { result ≡ is_hex byte }
@@ -61,7 +61,7 @@ fn is_digit(byte: u8) -> bool
     (b'0' <= byte) & (byte <= b'9') | (b'a' <= byte) & (byte <= b'f')
 }
 
-// Whether all bytes are hexadecimal digits.
+// Returns whether all bytes are hexadecimal digits.
 fn are_digits(bytes: &[u8]) -> bool
     ensures { result ≡ all_hex bytes.now }
 {
@@ -93,7 +93,7 @@ fn after_sixteens(text: &[u8]) -> usize
     text.len() / 16 * 16
 }
 
-// Whether eight bytes surely are hexadecimal digits. The value of another byte is above the sum of eight digits.
+// Returns whether eight bytes surely are hexadecimal digits. The value of another byte is above the sum of eight digits.
 fn are_eight(bytes: &[u8]) -> bool
     requires { length bytes.now ≡ 8 }
     ensures { result ≡ true → all_hex bytes.now ≡ true }
@@ -131,7 +131,7 @@ fn after_eights(text: &[u8]) -> usize
     text.len() / 8 * 8
 }
 
-// How many hexadecimal digits a text begins with, found by eights at first.
+// Returns how many hexadecimal digits a text begins with, found by eights at first.
 fn by_eights(text: &[u8]) -> usize
     ensures value { result ≡ hex_digits text.now }
     ensures bound { result ≤ length text.now }
@@ -140,7 +140,7 @@ fn by_eights(text: &[u8]) -> usize
     place + first_digits(&text[place..])
 }
 
-// How many hexadecimal digits a text begins with.
+// Returns how many hexadecimal digits a text begins with.
 fn leading_digits(text: &[u8]) -> usize
     ensures value { result ≡ hex_digits text.now }
     ensures bound { result ≤ length text.now }
@@ -174,8 +174,8 @@ fn read_pairs(text: &[u8], most: u16) -> Result<usize, usize>
     Ok(digits)
 }
 
-/// Bytes at the front of a text, at most `most` of them: how many bytes of the text they take. The error is the place of
-/// the first byte that can't stand.
+/// Reads at most `most` bytes at the front of a text, and returns how many bytes of the text they take. The error is the place
+/// of the first byte that doesn't fit.
 #[tactic(auto, unfolding(crate::specs::Fields::hex_fault, crate::specs::Fields::hex_len))]
 pub fn read_hex(text: &[u8], most: u16) -> Result<usize, usize>
     ensures fault { result_err result ≡ hex_fault most text.now }
@@ -192,8 +192,8 @@ pub fn read_hex(text: &[u8], most: u16) -> Result<usize, usize>
     read_pairs(text, most)
 }
 
-/// Exactly `count` bytes at the front of a text, as two hexadecimal digits each: how many bytes of the text they take. The
-/// error is the place of the first byte that is no digit.
+/// Reads exactly `count` bytes at the front of a text, as two hexadecimal digits each, and returns how many bytes of the text
+/// they take. The error is the place of the first byte that is not a digit.
 #[tactic(auto, unfolding(crate::specs::Fields::digits_fault))]
 pub fn read_digits(text: &[u8], count: u16) -> Result<usize, usize>
     ensures fault { result_err result ≡ digits_fault count text.now }
@@ -242,8 +242,7 @@ pub(crate) fn set_digits(text: &[u8], len: usize, bytes: &mut Room)
     set_pairs(&text[..len], bytes);
 }
 
-/// Replaces the bytes by those at the front of a text, where [`read_hex`] finds no byte that can't stand and takes `len`
-/// bytes of the text.
+/// Replaces the bytes by those at the front of a text, if [`read_hex`] accepts it and takes `len` bytes of the text.
 #[tactic(auto, unfolding(crate::specs::Fields::hex_of, crate::specs::Fields::hex_len))]
 pub(crate) fn set_bytes(text: &[u8], len: usize, bytes: &mut Room)
     requires len { len ≡ hex_len text.now }

@@ -68,7 +68,7 @@ fn read_item(item: Item, text: &[u8]) -> Result<(usize, u8), usize>
     }
 }
 
-// Whether a text begins with a space.
+// Returns whether a text begins with a space.
 fn goes_on(text: &[u8]) -> bool
     ensures value { result ≡ goes_on text.now }
     ensures some { result ≡ true → 0 < length text.now }
@@ -106,8 +106,8 @@ fn keep(item: Item, value: u8, items: &mut Addresses)
 }
 
 /// Reads at most `most` items at the front of a text, each after a space, and returns how many bytes they take. Addresses
-/// replace those that were kept. The error is the place of the first byte that can't stand; for one item too many that is its
-/// first byte.
+/// replace those of before. The error is the place of the first byte that doesn't fit; of one item too many that is its first
+/// byte.
 pub fn read_list(
     item: Item,
     most: usize,

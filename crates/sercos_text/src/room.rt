@@ -1,12 +1,12 @@
-// Lists of what a line gives. Their room is used again for each line, and emptying them writes nothing.
+// Lists of the values of a line. Their room is used again for each line, and emptying them writes nothing.
 ghost use Rattle.std.specs.Prelude.{◌≡◌, ◌<◌, ◌≤◌, ◌+◌, ◌++◌, ◌∷◌, [], length};
 
 use std::marker::Model;
 
-/// The most numbers that a line gives.
+/// The most numbers of a line.
 pub const MOST_NUMBERS: usize = 64;
 
-/// The most bytes that a line gives.
+/// The most bytes of a line.
 pub const MOST_BYTES: usize = 2048;
 
 /// At most [`MOST_NUMBERS`] numbers. Contracts see them as a list, `items`.
@@ -38,7 +38,7 @@ impl Numbers {
         }
     }
 
-    /// The numbers as a slice.
+    /// Returns the numbers as a slice.
     pub fn as_slice(&self) -> &[u32]
         ensures value { result.now ≡ self.now.items }
         ensures bound { length result.now ≤ 64 }
@@ -46,7 +46,7 @@ impl Numbers {
         &self.room[..self.count]
     }
 
-    // Appends a number, where there is room for it.
+    // Appends a number if there is room for it.
     pub(crate) fn push(&mut self, number: u32)
         requires { length self.old.items < 64 }
         ensures { self.new.items ≡ self.old.items ++ number ∷ [] }
@@ -91,7 +91,7 @@ impl Room {
         }
     }
 
-    /// The bytes as a slice.
+    /// Returns the bytes as a slice.
     pub fn as_slice(&self) -> &[u8]
         ensures value { result.now ≡ self.now }
         ensures bound { length result.now ≤ 2048 }

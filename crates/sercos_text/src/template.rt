@@ -1,4 +1,4 @@
-// Lines by templates. A capital letter of a template stands for a field, and each other byte for itself.
+// Lines by templates. A capital letter of a template is a field, and any other byte is itself.
 ghost use Rattle.std.specs.Prelude.{◌≡◌, ◌<◌, ◌≤◌, ◌+◌, ◌*◌, ◌++◌, [], ◌∷◌, pos, true, length, take, drop, IfOk, IfErr, IfSome, OnOk};
 ghost use Rattle.sercos_text.specs.Fields.{number_fault, number_len, number_of, signed_fault, signed_len, signed_of, hex_fault, hex_len, hex_of, digits_fault, low_pairs};
 ghost use Rattle.std.specs.Result.{result_err};
@@ -26,7 +26,7 @@ pub enum Field {
     Ident,
 }
 
-// The field that a letter of a template stands for.
+// The field of a template's letter.
 #[tactic(auto, unfolding(crate::specs::Templates::field_of))]
 pub(crate) fn field_of(letter: u8) -> Option<Field>
     ensures value { result ≡ field_of letter }
@@ -46,7 +46,7 @@ pub(crate) fn field_of(letter: u8) -> Option<Field>
     }
 }
 
-/// What the fields of a line give.
+/// The values of a line's fields.
 #[derive(Drop)]
 pub struct Told {
     /// Its numbers without a sign, in order.
@@ -60,7 +60,7 @@ pub struct Told {
 }
 
 impl Told {
-    /// What a line without fields gives.
+    /// Returns the values of a line without fields.
     pub fn new() -> Told
         ensures { (result.numbers.items ≡ []) × (result.signed ≡ pos 0) × (result.bytes ≡ []) × (result.addresses.items ≡ []) }
     {
@@ -153,7 +153,8 @@ fn take_digits(count: u16, text: &[u8], told: &mut Told) -> Result<usize, usize>
     }
 }
 
-// A field at the front of a text: how many bytes it takes. The error is the place of the first byte that can't stand.
+// Reads a field at the front of a text, and returns how many bytes it takes. The error is the place of the first byte that
+// doesn't fit.
 #[tactic(auto, unfolding(crate::specs::Templates::field_fault, crate::specs::Templates::field_len, crate::specs::Templates::field_value, crate::specs::Templates::numbers_in, crate::specs::Templates::signed_by, crate::specs::Templates::bytes_by))]
 fn read_field(field: Field, text: &[u8], told: &mut Told) -> Result<usize, usize>
     requires few { length told.old.numbers.items < 64 }
@@ -208,7 +209,7 @@ fn read_part(letter: u8, text: &[u8], told: &mut Told) -> Result<usize, usize>
 }
 
 /// Reads a line by its template and tail. `told` then has the numbers, the bytes and the addresses of its fields. The error is
-/// the place, from 0 on, of the first byte of the line that can't stand; a missing byte's place is the line's length. After an
+/// the place, from 0 on, of the first byte of the line that doesn't fit; a missing byte's place is the line's length. After an
 /// error `told` has no meaning.
 pub fn read_line(template: &[u8], tail: Tail, line: &[u8], told: &mut Told) -> Result<(), usize>
     requires { length template.now ≤ 64 }

@@ -53,7 +53,7 @@ fn push_signed(line: &mut Line, number: i32)
     line.append_within(buffer.format(number).as_bytes());
 }
 
-/// The bytes from a place on, at most 32 of them: what is spelled at a time.
+/// Returns the bytes from a place on, at most 32 of them: what is spelled at a time.
 pub fn piece_of(bytes: &[u8], place: usize) -> &[u8]
     requires { place ≤ length bytes.now }
     ensures value { result.now ≡ take 32 (drop place bytes.now) }

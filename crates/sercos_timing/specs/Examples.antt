@@ -17,7 +17,7 @@ small_drive address slave t1min tatat tmtsy = record {
 abbrev pub small_ring : ℕ → List ℕ → List Wish → WishesView
 small_ring cycle order drives = record { rate = 4; cycle = cycle; control = cycle; gap = 5; order = order; drives = drives }
 
--- two drives of two slaves, where the TMTSY of the first is given
+-- two drives of two slaves, the TMTSY of the first as an argument
 abbrev pub two_drives : ℕ → ℕ → WishesView
 two_drives cycle tmtsy = small_ring cycle (0 ∷ 1 ∷ []) (small_drive 1 1 10 5 tmtsy ∷ small_drive 2 2 12 5 10 ∷ [])
 

@@ -9,8 +9,8 @@ use Rattle.sercos_timing.specs.declared.fitting.Broken.{Broken}
 use Rattle.sercos_timing.specs.declared.inequality.Inequality.{Inequality}
 use Rattle.sercos_timing.specs.declared.inequality.Inequality.TheVariants.{Own, Gap, Neighbor, Slave, Last, Master, Records, Cycle, NextMst, Capture, Positions}
 
--- What an inequality asks of an AT at the times of the plan, and what the plan has at the time of which it is asked: that
--- of 1 to 4 is the start of the AT
+-- What an inequality requires of an AT at the times of the plan, and the plan's value at the time in question: that of 1
+-- to 4 is the start of the AT
 abbrev pub asked_by : WishesView → PlanView → Inequality → ℕ → List ℕ → Option ℕ
 asked_by w p Master = asked_6 w (bits_of w p.t1)
 asked_by w p Records = asked_7 w (w.rate * p.t2)
@@ -44,7 +44,7 @@ unfoldable pub broken_by : WishesView → PlanView → Inequality → Option Bro
 broken_by w p rule =
     option_map (λ k. record { rule = number_of rule; drive = (wish w k).address }) (first_unmet (asked_by w p rule) (has_by w p rule) (sent w))
 
--- an inequality that is no drive's own
+-- an inequality that belongs to no single drive
 abbrev pub broken_unless : Inequality → Bool → Option Broken
 broken_unless rule kept = if kept then None else Some (record { rule = number_of rule; drive = 0 })
 

@@ -1,4 +1,5 @@
--- The twelve inequalities between wishes and a plan. What each asks is written once, in bit times after the MST's end.
+-- The twelve inequalities between the planner's input and a plan. What each requires is written once, in bit times
+-- after the MST's end.
 use Rattle.std.specs.Prelude.{◌≡◌, ℕ, ◌+◌, ◌-◌, ◌*◌, ◌%◌, ◌<◌, ◌≤◌, ◌==◌, if◌then◌else◌, max, List, [], ◌∷◌, length, Option, Some, None, option_map}
 use Rattle.sercos_model.specs.Frames.{wire_bits}
 use Rattle.sercos_timing.specs.Views.{WishesView, PlanView}
@@ -29,9 +30,8 @@ of_number n =
     else (if n == 9 then Some NextMst else (if n == 10 then Some Capture else (if n == 11 then Some Control
     else (if n == 12 then Some Positions else None)))))))))))
 
--- What inequalities 1 to 4 ask of T1 of the drive k, whose AT is sent after those of `before`, where each AT begins at
--- the bit time `b` of its drive. None where one asks nothing of this AT.
--- 1: T1 is at least the drive's T1min
+-- What inequalities 1 to 4 require of T1 of the drive k, whose AT is sent after those of `before`, if each AT begins
+-- at the bit time `b` of its drive. None if one requires nothing of this AT. 1: T1 is at least the drive's T1min
 abbrev pub asked_1 : WishesView → (ℕ → ℕ) → ℕ → List ℕ → Option ℕ
 asked_1 w b k before = Some (w.rate * (times w k).t1min)
 
@@ -48,7 +48,7 @@ asked_3 w b k before = option_map (λ j. b j + (at_bits w j + w.rate * w.gap)) (
 abbrev pub asked_4 : WishesView → (ℕ → ℕ) → ℕ → List ℕ → Option ℕ
 asked_4 w b k before = option_map (λ j. b j + (at_bits w j + w.rate * (times w k).tatat)) (previous w k before)
 
--- the others ask nothing of the start of an AT
+-- the others require nothing of the start of an AT
 abbrev pub asked_of_start : WishesView → Inequality → (ℕ → ℕ) → ℕ → List ℕ → Option ℕ
 asked_of_start w Own = asked_1 w
 asked_of_start w Gap = asked_2 w
@@ -56,7 +56,7 @@ asked_of_start w Neighbor = asked_3 w
 asked_of_start w Slave = asked_4 w
 asked_of_start w _ = λ b k before. None
 
--- What 5 and 6 ask of T2. 5: the MDT begins at least the gap after the end of the last AT
+-- What 5 and 6 require of T2. 5: the MDT begins at least the gap after the end of the last AT
 abbrev pub asked_5 : WishesView → (ℕ → ℕ) → List ℕ → Option ℕ
 asked_5 w b [] = None
 asked_5 w b (last ∷ before) = Some (b last + (at_bits w last + w.rate * w.gap))
@@ -94,12 +94,12 @@ abbrev pub positions : ℕ → List Wish → List ℕ
 positions next [] = []
 positions next (d ∷ drives) = next ∷ positions (next + d.record_len) drives
 
--- what is asked is met
+-- the requirement is met
 abbrev pub Meets : Option ℕ → ℕ → Type 0
 Meets None has = Unit {0}
 Meets (Some asked) has = asked ≤ has
 
--- what is asked of each AT of a list, with those before it, is met
+-- the requirement is met by each AT of a list, with those before it
 abbrev pub Keeps : (ℕ → List ℕ → Option ℕ) → (ℕ → ℕ) → List ℕ → Type 0
 Keeps asked has [] = Unit {0}
 Keeps asked has (k ∷ before) = Meets (asked k before) (has k) × Keeps asked has before

@@ -2,7 +2,7 @@
 -- plan holds yet. Times are in microseconds.
 use Rattle.std.specs.Prelude.{ℕ}
 
--- a ring has 1 to so many drives
+-- the most drives of a ring; the least is 1
 abbrev pub most_drives : ℕ
 most_drives = 64
 

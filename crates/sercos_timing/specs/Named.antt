@@ -1,4 +1,4 @@
--- What the inequality and the drive that are named first say of a plan.
+-- What the inequality and the drive that are named first imply for a plan.
 use Rattle.std.specs.Prelude.{◌≡◌, ◌≢◌, ℕ, ◌*◌, ◌%◌, ◌<◌, ◌≤◌, List, ◌∷◌, ◌++◌, length, take, slice_index, Option}
 use Rattle.sercos_timing.specs.Views.{WishesView, PlanView}
 use Rattle.sercos_timing.specs.Order.{wish, sent, bits_of, record_bytes}
@@ -19,7 +19,7 @@ pub data IsKept (w : WishesView) (p : PlanView) : ℕ → Type 0 where
   kept_10 : Keeps (asked_10 w p.t4) (λ k. w.cycle) (sent w) → IsKept w p 10
   kept_11 : 0 < w.control → w.control % w.cycle ≡ 0 → IsKept w p 11
 
--- what is asked of the AT of the drive k isn't met, and each AT sent before it has what is asked of it
+-- the requirement on the AT of the drive k isn't met, and that on each AT sent before it is
 pub record FailsFirstAt (asked : ℕ → List ℕ → Option ℕ) (has : ℕ → ℕ) (ats : List ℕ) (k : ℕ) : Type 0 where
   pub later : List ℕ
   pub before : List ℕ

@@ -32,10 +32,10 @@ is_order order drives = (length order == drives) && (are_below order drives && a
 abbrev pub are_cycles : WishesView → Bool
 are_cycles w = is_rate w.rate && (is_cycle w.cycle && (is_control w.cycle w.control && nat_le w.gap most_gap))
 
--- a plan may be asked for these wishes
+-- planner's input for which a plan may be requested
 unfoldable pub is_valid : WishesView → Bool
 is_valid w = are_drives w && (is_order w.order (length w.drives) && are_cycles w)
 
--- the test tells what the relation says
+-- the test agrees with the relation
 abbrev pub TellsValid : Type 0
 TellsValid = (w : WishesView) → ((is_valid w ≡ true) ↔ IsValid w)

@@ -1,11 +1,11 @@
--- Wishes for which a plan may be asked.
+-- Planner's input for which a plan may be requested.
 use Rattle.std.specs.Prelude.{◌≡◌, ◌≢◌, ℕ, ◌<◌, ◌≤◌, ◌%◌, ◌⊎◌, Bool, ◌&&◌, ◌||◌, ◌==◌, nat_le, List, length, map, slice_index}
 use Rattle.sercos_timing.specs.Views.{WishesView}
 use Rattle.sercos_timing.specs.Limits.{most_drives, most_address, most_records, least_cycle, cycle_unit, most_cycle, most_gap}
 use Rattle.sercos_timing.specs.Order.{wish, record_bytes}
 use Rattle.sercos_timing.specs.declared.wishes.Wish.{Wish}
 
--- no number stands twice
+-- no number occurs twice
 abbrev pub AreDistinct : List ℕ → Type 0
 AreDistinct xs = (i j : ℕ) → i < j → j < length xs → slice_index xs i ≢ slice_index xs j
 
@@ -38,7 +38,7 @@ pub record AreDrives (w : WishesView) : Type 0 where
   pub apart : AreDistinct (addresses w.drives)
   pub mdt_len : record_bytes w.drives ≤ most_records
 
--- the order lists the place of each of so many drives once
+-- the order lists the place of each of n drives once
 pub record IsOrder (order : List ℕ) (drives : ℕ) : Type 0 where
   pub count : length order ≡ drives
   pub within : AreBelow order drives

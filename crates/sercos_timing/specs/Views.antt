@@ -2,7 +2,7 @@
 use Rattle.std.specs.Prelude.{ℕ, List}
 use Rattle.sercos_timing.specs.declared.wishes.Wish.{Wish}
 
--- what a ring asks of its plan; `order` has places in `drives`
+-- the planner's input; `order` has places in `drives`
 pub record WishesView : Type 0 where
   pub rate : ℕ
   pub cycle : ℕ

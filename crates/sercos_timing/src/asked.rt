@@ -1,4 +1,4 @@
-// What the inequalities ask of the start of an AT.
+// What the inequalities require of the start of an AT.
 ghost use Rattle.std.specs.Prelude.{◌≡◌, ℕ, ◌+◌, ◌*◌, ◌^◌, ◌<◌, ◌≤◌, length, slice_index, option_map, IfSome};
 ghost use Rattle.sercos_timing.specs.Order.{first_sent, place_at, at_bits, bits_of};
 ghost use Rattle.sercos_timing.specs.Inequalities.{asked_of_start};
@@ -7,8 +7,8 @@ ghost use Rattle.sercos_timing.specs.Valid.{IsValid};
 use crate::inequality::Inequality;
 use crate::wishes::Wishes;
 
-/// The bit time at which the AT of the drive at a place of the ring has ended, where it starts at its T1, and so many
-/// microseconds more have passed, below 65,536. `t1` has the T1 of each drive in microseconds, in the order of the ring.
+/// Returns the bit time at which the AT of the drive at a place of the ring has ended, if it starts at its T1, and `more`
+/// microseconds have passed since, below 65,536. `t1` has the T1 of each drive in microseconds, in the order of the ring.
 pub fn bits_after(w: &Wishes, t1: &[u32], place: usize, micros: u32) -> u64
     requires valid { IsValid w.now }
     requires count { length t1.now ≡ length w.now.drives }
@@ -21,7 +21,7 @@ pub fn bits_after(w: &Wishes, t1: &[u32], place: usize, micros: u32) -> u64
     w.bits(t1[place]) + (w.at_bits(place) + w.bits(micros))
 }
 
-// The same for the AT at a place of the order, where there is one.
+// The end of the AT at a place of the order, if there is one, in the same way.
 fn bits_after_at(w: &Wishes, t1: &[u32], at: Option<usize>, micros: u32) -> Option<u64>
     requires valid { IsValid w.now }
     requires count { length t1.now ≡ length w.now.drives }
@@ -39,9 +39,9 @@ fn bits_after_at(w: &Wishes, t1: &[u32], at: Option<usize>, micros: u32) -> Opti
     }
 }
 
-/// What an inequality asks of the start of the AT at a place of the order, in bit times after the MST's end. `None` if it
-/// asks nothing of it: only 1 to 4 ask something of the start of an AT, and not of each. `t1` has the T1 of each drive in
-/// microseconds, in the order of the ring.
+/// Returns what an inequality requires of the start of the AT at a place of the order, in bit times after the MST's end;
+/// `None` if it requires nothing of it: only 1 to 4 concern the start of an AT, and not of each. `t1` has the T1 of each
+/// drive in microseconds, in the order of the ring.
 pub fn asked_of_start(w: &Wishes, t1: &[u32], rule: Inequality, at: usize) -> Option<u64>
     requires valid { IsValid w.now }
     requires count { length t1.now ≡ length w.now.drives }

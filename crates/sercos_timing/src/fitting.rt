@@ -16,12 +16,12 @@ use arrayvec::ArrayVec;
 pub struct Broken {
     /// Its number, 1 to 12.
     pub rule: u8,
-    /// The address of the drive for which it is broken; 0 where it is no drive's own.
+    /// The address of the drive for which it is broken; 0 if it belongs to no single drive.
     pub drive: u8,
 }
 
-// What an inequality asks of the AT at a place of the order, None if it asks nothing of an AT alone; `t1` has the T1 of the
-// plan.
+// Returns what an inequality requires of the AT at a place of the order; `None` if it requires nothing of a single AT. `t1`
+// has the T1 of the plan.
 fn asked(w: &Wishes, p: &Plan, t1: &[u32], rule: Inequality, at: usize) -> Option<u64>
     requires valid { IsValid w.now }
     requires count { length p.now.t1 ≡ length w.now.drives }
@@ -41,7 +41,7 @@ fn asked(w: &Wishes, p: &Plan, t1: &[u32], rule: Inequality, at: usize) -> Optio
     }
 }
 
-// What the plan has at the time of which it is asked: that of an inequality 1 to 4 is the start of the AT.
+// Returns the plan's value at the time in question: that of an inequality 1 to 4 is the start of the AT.
 fn has(w: &Wishes, p: &Plan, rule: Inequality, at: usize) -> u64
     requires valid { IsValid w.now }
     requires count { length p.now.t1 ≡ length w.now.drives }
@@ -123,7 +123,7 @@ fn broken_unless(rule: Inequality, kept: bool) -> Option<Broken>
     }
 }
 
-// Whether 5 is kept: the MDT begins at least the gap after the end of the last AT.
+// Returns whether 5 is kept: the MDT begins at least the gap after the end of the last AT.
 fn is_last_kept(w: &Wishes, p: &Plan, t1: &[u32]) -> bool
     requires valid { IsValid w.now }
     requires count { length p.now.t1 ≡ length w.now.drives }
@@ -135,7 +135,7 @@ fn is_last_kept(w: &Wishes, p: &Plan, t1: &[u32]) -> bool
     bits_after(w, t1, last, w.gap()) <= w.bits(p.t2())
 }
 
-// Whether 9 is kept: after the MDT there is room for the gap and the recovery of each drive before the next MST.
+// Returns whether 9 is kept: after the MDT there is room for the gap and the recovery of each drive before the next MST.
 fn is_mst_kept(w: &Wishes, p: &Plan) -> bool
     requires valid { IsValid w.now }
     ensures { result ≡ nat_le (sum_9 w.now (w.now.rate * p.now.t2) (greatest_tmtsy w.now)) (bound_9 w.now) }
@@ -203,9 +203,9 @@ fn first_broken(w: &Wishes, p: &Plan) -> Option<Broken>
     own.or(gap.or(neighbor.or(slave.or(last.or(master.or(records.or(of_cycle)))))))
 }
 
-/// Whether a plan keeps the twelve inequalities. Else the answer is the first that it breaks: the least in number, and of
+/// Returns `Ok` if a plan keeps the twelve inequalities; otherwise the first that it breaks: the least in number, and of
 /// that the first AT in the order of the telegrams. In 12 the drive is the first of the ring whose position is wrong; it is
-/// 0 in 5, 8 and 9, and in 12 where only the length of the MDT is wrong.
+/// 0 in 5, 8 and 9, and in 12 if only the length of the MDT is wrong.
 pub fn fits(w: &Wishes, p: &Plan) -> Result<(), Broken>
     requires valid { IsValid w.now }
     requires times { length p.now.t1 ≡ length w.now.drives }

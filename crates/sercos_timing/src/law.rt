@@ -14,7 +14,8 @@ pub fn first_broken_law()
         → first_broken w p ≡ Some b → IsFirstBroken w p b }
 {}
 
-/// A law and no code: a test of wishes, which can be computed, tells whether a plan may be asked for them.
+/// A law, without code: a test on the planner's input, which can be computed, decides whether a plan may be requested
+/// for it.
 pub fn valid_law()
     ensures { TellsValid }
 {}

@@ -1,5 +1,4 @@
-//! The times that drives declare, what a ring asks of the plan of its time slots, the plan itself, and the inequalities
-//! between them.
+//! The times that drives declare, the planner's input, the plan of the time slots, and the inequalities between them.
 #![tactic(auto)]
 
 mod asked;

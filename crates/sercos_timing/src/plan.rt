@@ -80,7 +80,7 @@ impl Plan {
         u32::from(self.t4)
     }
 
-    /// The position of each drive's data record, in the order of the ring.
+    /// Returns the position of each drive's data record, in the order of the ring.
     pub fn position(&self) -> &[u16]
         ensures value { result.now ≡ self.now.position }
         ensures limit { length result.now ≤ 64 }
@@ -88,7 +88,7 @@ impl Plan {
         self.position.as_slice()
     }
 
-    /// The length of the MDT, in bytes after the address.
+    /// Returns the length of the MDT, in bytes after the address.
     pub fn mdt_len(&self) -> u32
         ensures value { result ≡ self.now.mdt_len }
         ensures limit { result < 65536 }

@@ -1,4 +1,4 @@
-// Wishes for which a plan may be asked.
+// Planner's input for which a plan may be requested.
 ghost use Rattle.std.specs.Prelude.{◌≡◌, ℕ, ◌+◌, ◌<◌, ◌≤◌, ◌↔◌, length, slice_index_or, IsTrue};
 ghost use Rattle.sercos_timing.specs.Order.{no_wish};
 ghost use Rattle.sercos_timing.specs.Valid.{AreDistinct, AreBelow, addresses, is_address, IsWish, AreDrives, IsOrder, is_rate, is_cycle, is_control, AreCycles, IsValid};
@@ -117,10 +117,11 @@ fn are_cycles(w: &Wishes) -> bool
     is_rate(w.rate) && w.gap <= MOST_GAP && is_cycle(w.cycle) && is_control(w.cycle, w.control)
 }
 
-/// Whether a plan may be asked for: 1 to 64 drives with addresses of their own from 1 to 254, an order that lists the place
-/// of each once, a rate of 2, 4, 8 or 16 bits per microsecond, a cycle time of 125 microseconds or a multiple of 250 from 250
-/// to 64,000, a control unit cycle time that is a positive multiple of it, a gap of at most 1,000 microseconds, and lengths
-/// that frames have room for: 4 to 68 bytes for each AT and each data record, and at most 2,047 for all records together.
+/// Returns whether a plan may be requested: 1 to 64 drives with distinct addresses from 1 to 254, an order that lists the
+/// place of each once, a rate of 2, 4, 8 or 16 bits per microsecond, a cycle time of 125 microseconds or a multiple of 250
+/// from 250 to 64,000, a control unit cycle time that is a positive multiple of it, a gap of at most 1,000 microseconds, and
+/// lengths that frames have room for: 4 to 68 bytes for each AT and each data record, and at most 2,047 for all records
+/// together.
 pub fn valid(w: &Wishes) -> bool
     ensures { IsTrue result ↔ IsValid w.now }
 {

@@ -1,4 +1,4 @@
-// What a ring asks of its plan.
+// The planner's input.
 ghost use Rattle.std.specs.Prelude.{◌≡◌, ◌+◌, ◌*◌, ◌^◌, ◌<◌, ◌≤◌, length, slice_index, sum_by, IfSome, Some};
 ghost use Rattle.sercos_timing.specs.Order.{wish, first_sent, place_at, neighbor, previous, at_bits, mdt_bits, record_bytes};
 ghost use Rattle.sercos_timing.specs.Inequalities.{greatest_tmtsy, bound_9};
@@ -28,7 +28,7 @@ pub struct Times {
     pub tmtsg: u16,
 }
 
-/// What one drive asks of the plan.
+/// The planner's input of one drive.
 #[derive(Clone, Copy, Debug, Default, PartialEq, Eq)]
 pub struct Wish {
     /// The drive's address, 1 to 254.
@@ -43,7 +43,7 @@ pub struct Wish {
     pub record_len: u16,
 }
 
-/// What a ring asks of its plan. Contracts see the record of its fields, each vector as the list of its items.
+/// The planner's input of a ring. Contracts see the record of its fields, each vector as the list of its items.
 #[derive(Debug, PartialEq, Eq, Drop)]
 pub struct Wishes {
     /// The rate, in bits per microsecond.
@@ -85,7 +85,7 @@ impl Model for Wishes {
 }
 
 impl Wishes {
-    /// The order of the ATs: places in the drives.
+    /// Returns the order of the ATs: places in the drives.
     pub fn order(&self) -> &[u8]
         ensures value { result.now ≡ self.now.order }
         ensures limit { length result.now ≤ 64 }
@@ -93,7 +93,7 @@ impl Wishes {
         self.order.as_slice()
     }
 
-    /// The wishes of the drives in the order of the ring.
+    /// Returns the wishes of the drives in the order of the ring.
     pub fn drives(&self) -> &[Wish]
         ensures value { result.now ≡ self.now.drives }
         ensures limit { length result.now ≤ 64 }
@@ -101,7 +101,7 @@ impl Wishes {
         self.drives.as_slice()
     }
 
-    /// The wish of the drive at a place of the ring.
+    /// Returns the wish of the drive at a place of the ring.
     pub fn wish(&self, place: usize) -> Wish
         requires { place < length self.now.drives }
         ensures { result ≡ wish self.now place }
@@ -109,7 +109,7 @@ impl Wishes {
         self.drives.as_slice()[place]
     }
 
-    /// The cycle time, in microseconds.
+    /// Returns the cycle time, in microseconds.
     pub fn cycle(&self) -> u32
         ensures value { result ≡ self.now.cycle }
         ensures limit { result < 65536 }
@@ -117,7 +117,7 @@ impl Wishes {
         u32::from(self.cycle)
     }
 
-    /// The gap between telegrams, in microseconds.
+    /// Returns the gap between telegrams, in microseconds.
     pub fn gap(&self) -> u32
         ensures value { result ≡ self.now.gap }
         ensures limit { result < 65536 }
@@ -125,7 +125,7 @@ impl Wishes {
         u32::from(self.gap)
     }
 
-    /// So many microseconds in bit times.
+    /// Returns a number of microseconds in bit times.
     pub fn bits(&self, micros: u32) -> u64
         ensures value { result ≡ self.now.rate * micros }
         ensures limit { result < 2 ^ 40 }
@@ -133,7 +133,7 @@ impl Wishes {
         u64::from(self.rate) * u64::from(micros)
     }
 
-    /// The bits that no frame of the AT of the drive at a place exceeds.
+    /// Returns the bits that no frame of the AT of the drive at a place exceeds.
     pub fn at_bits(&self, place: usize) -> u64
         requires valid { IsValid self.now }
         requires within { place < length self.now.drives }
@@ -143,7 +143,7 @@ impl Wishes {
         u64::from(wire(u32::from(self.wish(place).at_len) + 1))
     }
 
-    /// The length of the MDT in bytes after the address: that of all data records together.
+    /// Returns the length of the MDT in bytes after the address: that of all data records together.
     pub fn record_bytes(&self) -> u32
         ensures { result ≡ record_bytes self.now.drives }
     {
@@ -153,7 +153,7 @@ impl Wishes {
             .sum()
     }
 
-    /// The bits that no frame of the MDT exceeds.
+    /// Returns the bits that no frame of the MDT exceeds.
     pub fn mdt_bits(&self) -> u64
         requires { IsValid self.now }
         ensures value { result ≡ mdt_bits self.now }
@@ -162,8 +162,8 @@ impl Wishes {
         u64::from(wire(self.record_bytes() + 1))
     }
 
-    /// The place in the order of the AT that is sent right before the one at this place, where another slave sends it.
-    /// Between ATs of one slave there is TATAT alone (this profile).
+    /// Returns the place in the order of the AT that is sent right before the one at this place, where another slave sends it. Between ATs
+    /// of one slave there is TATAT alone (this profile).
     pub fn neighbor_at(&self, at: usize) -> Option<usize>
         requires valid { IsValid self.now }
         requires within { at < length self.now.order }
@@ -183,7 +183,7 @@ impl Wishes {
         }
     }
 
-    /// The place in the order of the last AT before this one that the same slave sends.
+    /// Returns the place in the order of the last AT before this one that the same slave sends.
     pub fn previous_at(&self, at: usize) -> Option<usize>
         requires valid { IsValid self.now }
         requires within { at < length self.now.order }
@@ -202,7 +202,7 @@ impl Wishes {
         found
     }
 
-    /// The greatest TMTSY, in microseconds.
+    /// Returns the greatest TMTSY, in microseconds.
     pub fn greatest_tmtsy(&self) -> u32
         requires { IsValid self.now }
         ensures value { result ≡ greatest_tmtsy self.now }
@@ -215,7 +215,7 @@ impl Wishes {
         most
     }
 
-    /// The bit time by which the next MST begins at the latest, where the MST ends with the cycle.
+    /// Returns the bit time by which the next MST begins at the latest, where the MST ends with the cycle.
     pub fn recovered_by(&self) -> u64
         requires { IsValid self.now }
         ensures value { result ≡ bound_9 self.now }

@@ -1,5 +1,5 @@
--- The kinds of lines of a trace, each with its template: B, W and D stand for numbers up to 255, 65535 and 2^32 - 1, S for a
--- signed one of 32 bits, H and R for up to 2048 and 1024 bytes, C and A for two and four bytes, I for an identifier number.
+-- The kinds of lines of a trace, each with its template: B, W and D are numbers up to 255, 65535 and 2^32 - 1, S is a signed
+-- one of 32 bits, H and R are up to 2048 and 1024 bytes, C and A two and four bytes, I is an identifier number.
 use Rattle.std.specs.Prelude.{ℕ, max, if◌then◌else◌, List, [], ◌∷◌, ◌++◌, codes, Option, Some, None, is_none}
 use Rattle.sercos_text.specs.declared.tail.Tail.{Tail}
 use Rattle.sercos_text.specs.declared.tail.Tail.TheVariants.{End, Addresses, Idents}
@@ -35,7 +35,7 @@ template_of kind.FallStep = codes "fall D step B"
 template_of kind.FallRestart = codes "fall D restart"
 template_of kind.End = codes "end D phase B complete D refused D broken D falls D unseen D"
 
--- what comes after it: the addresses of the order, the identifier numbers of a check's list, or nothing
+-- what follows it: the addresses of the order, the identifier numbers of a check's list, or nothing
 unfoldable pub tail_for : LineKind → Tail
 tail_for kind.Order = Addresses
 tail_for kind.Check127 = Idents
@@ -54,8 +54,8 @@ abbrev pub all_kinds : List LineKind
 all_kinds =
     kind.At ∷ kind.Mst ∷ kind.Mdt ∷ kind.Version ∷ kind.Ring ∷ kind.Drive ∷ kind.Order ∷ kind.Phase ∷ kind.Complete ∷ kind.Refused ∷ kind.Broken ∷ kind.Plan ∷ kind.Slot ∷ kind.NoFit ∷ kind.RuleAt ∷ kind.RuleSum ∷ kind.StopRefused ∷ kind.StopConfig ∷ kind.Check127 ∷ kind.Check128 ∷ kind.FallMst ∷ kind.FallAt ∷ kind.FallStep ∷ kind.FallRestart ∷ kind.End ∷ []
 
--- The faults of two kinds: none if one of them has none, else the later place, which is that of the first byte with which
--- neither goes on.
+-- The faults of two kinds: none if one of them has none, otherwise the later place, which is that of the first byte with
+-- which neither goes on.
 unfoldable pub later : Option ℕ → Option ℕ → Option ℕ
 later None other = None
 later (Some place) None = None

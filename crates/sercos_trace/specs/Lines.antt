@@ -1,4 +1,4 @@
--- What a line of a trace gives to its reader.
+-- The contents of a line of a trace for its reader.
 use Rattle.std.specs.Prelude.{◌≡◌, ℕ, ℤ, pos, ◌≤◌, ◌<◌, List, [], ◌∷◌, ◌++◌, length, slice_index, Option, Some, None, option_map}
 use Rattle.sercos_telegram.specs.declared.layout.Kind.{Kind}
 use Rattle.sercos_telegram.specs.declared.layout.Kind.TheVariants as telegram
@@ -13,7 +13,7 @@ use Rattle.sercos_trace.specs.declared.reading.Line.{Line}
 use Rattle.sercos_trace.specs.declared.reading.Line.TheVariants as line
 use Rattle.sercos_trace.specs.Kinds.{template_of, tail_for, all_kinds, first_kind}
 
--- what a drive asks of the plan, by the ten numbers of its line
+-- the planner's input of a drive, as the ten numbers of its line
 abbrev pub wish_by : List ℕ → Wish
 wish_by numbers = record {
   address = slice_index numbers 0;
@@ -53,13 +53,13 @@ telegram_kind kind.At = Some telegram.At
 telegram_kind kind.Mdt = Some telegram.Mdt
 telegram_kind _ = None
 
--- what a text gives as a line of a kind
+-- what a text is as a line of a kind
 abbrev pub line_as : LineKind → List ℕ → Line
 line_as kind text =
     line_by kind (numbers_in (values_of (template_of kind) text)) (signed_by (pos 0) (values_of (template_of kind) text))
     (bytes_by [] (values_of (template_of kind) text)) (addresses_in (tail_for kind) (items_of (tail_for kind) (template_of kind) text))
 
--- what a text gives as a line of a trace, without its line feed: nothing if it isn't one
+-- what a text is as a line of a trace, without its line feed; none if it isn't one
 abbrev pub line_in : List ℕ → Option Line
 line_in text = option_map (λ kind. line_as kind text) (first_kind all_kinds text)
 

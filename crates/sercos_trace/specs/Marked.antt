@@ -4,7 +4,7 @@ use Rattle.std.specs.Prelude.{◌≡◌, ℕ, ◌==◌, Bool, true, if◌then◌
 abbrev pub is_feed : ℕ → Bool
 is_feed byte = byte == 10
 
--- the first argument says whether a line begins where the text does
+-- the first argument is whether a line begins where the text does
 unfoldable pub marked_from : Bool → List ℕ → List ℕ → List ℕ
 marked_from begins mark [] = []
 marked_from begins mark (byte ∷ bytes) = (if begins then mark else []) ++ byte ∷ marked_from (is_feed byte) mark bytes

@@ -58,7 +58,7 @@ pub(crate) fn write_all_sent<K: Sink>(
     Ok(())
 }
 
-// Writes the line of a move, if it is a late one or not as asked.
+// Writes the line of a move, if it is late or not, as `late` requires.
 #[tactic(auto, using(crate::proofs::WriteLemmas::taken_none))]
 fn write_move<K: Sink>(
     cycle: u32,

@@ -51,7 +51,7 @@ pub enum Stop {
 /// Why the ring falls to phase 0 (this profile).
 #[derive(Clone, Copy, Debug, PartialEq, Eq)]
 pub enum Fall {
-    /// The master's own MST didn't come back whole in two cycles in a row of phases 1 to 4.
+    /// The master's own MST didn't return whole in two cycles in a row of phases 1 to 4.
     MstLost,
     /// No AT was got from the drive with this address in two cycles in a row of phases 3 and 4.
     AtLost(u8),
@@ -62,7 +62,7 @@ pub enum Fall {
     Restart,
 }
 
-/// The number of a request, counted from 1 in the order in which the requests were given, and how it ended.
+/// The number of a request, counted from 1 in the order of the requests, and how it ended.
 pub type Reported = (u16, Outcome);
 
 /// What the master reports in a cycle. Contracts see the record of its fields, its vectors as lists.

@@ -14,7 +14,7 @@ pub enum LineKind {
     Version,
     /// The numbers of the ring, the second line.
     Ring,
-    /// What a drive asks of the plan.
+    /// The planner's input of a drive.
     Drive,
     /// The addresses in the order of the ATs.
     Order,
@@ -126,13 +126,13 @@ pub(crate) fn template_for(kind: LineKind) -> &'static [u8]
     }
 }
 
-/// A law and no code. After each field of a kind's template comes a space, or nothing: so a line that is written of values of the
+/// A law, without code. A space, or nothing, follows each field of a kind's template: so a line that is written of values of the
 /// template's fields is a line of that kind, and is read as these values, by the law on lines.
 pub fn template_law()
     ensures { (kind : LineKind) → is_template (template_of kind) ≡ true }
 {}
 
-// What comes after the template of a kind.
+// What follows the template of a kind.
 #[tactic(auto, unfolding(crate::specs::Kinds::tail_for))]
 fn tail_for(kind: LineKind) -> Tail
     ensures { result ≡ tail_for kind }
@@ -172,8 +172,8 @@ fn read_kinds(kinds: &[LineKind], line: &[u8], told: &mut Told) -> Result<LineKi
     Err(last)
 }
 
-/// Reads a line of a trace, without its line feed: its kind, and what its fields give in `told`. The error is the place of the
-/// first byte with which no kind goes on.
+/// Reads a line of a trace, without its line feed: its kind, and the values of its fields in `told`. The error is the place of
+/// the first byte with which no kind goes on.
 pub(crate) fn read_kind(line: &[u8], told: &mut Told) -> Result<LineKind, usize>
     ensures fault { result_err result ≡ kinds_fault all_kinds line.now }
     ensures bound { IfErr result (λ place. place ≤ length line.now + 1) }

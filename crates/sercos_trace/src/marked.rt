@@ -7,7 +7,7 @@ ghost use Rattle.sercos_trace.specs.Marked.{is_feed, marked};
 use sercos_answer::cut_line;
 use sercos_io::{Sink, WriteFailed, write_all};
 
-// How many bytes the first line of a text has, with its line feed.
+// Returns how many bytes the first line of a text has, with its line feed.
 fn line_len(text: &[u8]) -> usize
     requires { 0 < length text.now }
     ensures value { result ≡ length text.now - length (after_first is_feed text.now) }

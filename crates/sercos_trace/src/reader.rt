@@ -58,8 +58,8 @@ fn put_telegram(room: &mut Line, kind: Kind, told: &Told)
     }
 }
 
-// Keeps the line of a kind whose fields were told, in the room for telegrams or in that for other lines, and says whether it is a
-// telegram's.
+// Keeps the line of a kind whose fields were read, in the room for telegrams or in that for other lines, and returns whether it is
+// a telegram's.
 #[tactic(auto, unfolding(crate::specs::Lines::telegram_kind, crate::specs::Lines::line_by, crate::specs::Lines::bounds_of, crate::specs::Lines::bound_by, crate::specs::Kinds::template_of, sercos_text::specs::Templates::field_of))]
 fn keep(kind: LineKind, told: &Told, telegram: &mut Line, other: &mut Line) -> bool
     requires { AreWithin told.now.numbers.items (bounds_of (template_of kind)) }
@@ -78,7 +78,7 @@ fn keep(kind: LineKind, told: &Told, telegram: &mut Line, other: &mut Line) -> b
 }
 
 impl Reader {
-    /// A reader to which no line has come.
+    /// Returns a reader without lines.
     pub fn new() -> Reader
         ensures { result ≡ line.Other }
     {

@@ -31,7 +31,7 @@ pub enum Line {
         /// How many drives there are.
         drives: u8,
     },
-    /// What a drive asks of the plan.
+    /// The planner's input of a drive.
     Drive(Wish),
     /// The addresses in the order of the ATs.
     Order(Addresses),
@@ -48,10 +48,10 @@ pub enum Line {
     End,
 }
 
-/// A text that is no line of a trace.
+/// A text that is not a line of a trace.
 #[derive(Clone, Copy, Debug, PartialEq, Eq)]
 pub struct BadLine {
-    /// The place of the first byte that can't stand, counted from 1; one past the end where a byte is missing.
+    /// The place of the first byte that doesn't fit, counted from 1; one past the end if a byte is missing.
     pub column: usize,
 }
 

@@ -78,7 +78,7 @@ pub struct CycleRecord {
     pub moves: ArrayVec<Move, 128>,
     /// What the master reports.
     pub events: Events,
-    /// How many arrivals differ from what was sent and are a frame all the same.
+    /// How many arrivals differ from what was sent and are a frame anyway.
     pub unseen: u32,
 }
 
@@ -155,7 +155,7 @@ pub struct Totals {
     pub broken: u32,
     /// How many falls there were, restarts of the master among them.
     pub falls: u32,
-    /// How many arrivals differed from what was sent and were a frame all the same.
+    /// How many arrivals differed from what was sent and were a frame anyway.
     pub unseen: u32,
     /// The first cycle in which phase 4 was commanded.
     pub phase4: Option<u32>,

@@ -226,7 +226,8 @@ fn write_totals<K: Sink>(
     write_line(LineKind::End, &values, mark, line, sink)
 }
 
-/// Writes the head of a trace as [`write_header`] does, with a mark before each line. Each is made in `line`, whatever that held.
+/// Writes the head of a trace as [`write_header`] does, with a mark before each line. Each is made in `line`, regardless of its
+/// contents.
 pub fn write_marked_header<K: Sink>(
     wishes: &Wishes,
     mark: &[u8],
@@ -239,7 +240,8 @@ pub fn write_marked_header<K: Sink>(
     write_head(wishes, mark, line, sink)
 }
 
-/// Writes the lines of a cycle as [`write_cycle`] does, with a mark before each. Each is made in `line`, whatever that held.
+/// Writes the lines of a cycle as [`write_cycle`] does, with a mark before each. Each is made in `line`, regardless of its
+/// contents.
 pub fn write_marked_cycle<K: Sink>(
     wishes: &Wishes,
     cycle: &CycleRecord,
@@ -254,7 +256,7 @@ pub fn write_marked_cycle<K: Sink>(
     write_lines(wishes, cycle, mark, line, sink)
 }
 
-/// Writes the end line of a trace as [`write_end`] does, after a mark. It is made in `line`, whatever that held.
+/// Writes the end line of a trace as [`write_end`] does, after a mark. It is made in `line`, regardless of its contents.
 pub fn write_marked_end<K: Sink>(
     totals: &Totals,
     mark: &[u8],

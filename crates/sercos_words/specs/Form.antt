@@ -5,7 +5,7 @@ use Rattle.std.specs.Str.{bytes_eq}
 use Rattle.sercos_words.specs.declared.form.Form.{Form}
 use Rattle.sercos_words.specs.declared.form.Form.TheVariants.{Show, Plan, Margin, Run, Check, Backup, Restore, Gen, Replay}
 
--- the words without the first `--`, wherever it stands
+-- the words without the first `--`, at any place
 unfoldable pub without_dashes : List (List ℕ) → List (List ℕ)
 without_dashes [] = []
 without_dashes (word ∷ words) = cond (bytes_eq word (codes "--")) words (word ∷ without_dashes words)
@@ -45,7 +45,7 @@ plain_form (word ∷ []) = word_form word
 plain_form (word ∷ number ∷ []) = number_form word number
 plain_form _ = None
 
--- the form in which the words are, if they are in one; one word `--` may stand anywhere
+-- the form of the words, if they have one; one word `--` may be at any place
 unfoldable pub form_of : List (List ℕ) → Option Form
 form_of words = plain_form (without_dashes words)
 

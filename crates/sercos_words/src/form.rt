@@ -28,8 +28,8 @@ pub enum Form {
     Backup,
     /// `restore`: a ring document that writes operation data is answered by what the drives then have.
     Restore,
-    /// `replay`: a ring document and a capture are answered by where the station with an address, 0 to 254, first said something else
-    /// than its rules give. The master has the address 0.
+    /// `replay`: for a ring document and a capture, where the station with an address, 0 to 254, first deviated from its rules. The
+    /// master has the address 0.
     Replay(u8),
 }
 

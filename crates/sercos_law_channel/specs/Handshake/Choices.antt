@@ -1,4 +1,4 @@
--- What is free in each cycle, and the run that such choices make, so that the laws of runs are not empty. The newest cycle stands
+-- What is free in each cycle, and the run that such choices make, so that the laws of runs are not empty. The newest cycle is
 -- first.
 use Rattle.std.specs.Prelude.{ℕ, nat_le, nat_lt, Bool, false, not, ◌&&◌, ◌||◌, if◌then◌else◌, List, [], ◌∷◌, length, Option, Some, None, IfSome, is_none}
 use Rattle.sercos_telegram.specs.declared.words.Status.{Status}
@@ -12,8 +12,8 @@ use Rattle.sercos_law_channel.specs.Handshake.Views.{Heard, View, standing, stoo
 use Rattle.sercos_law_channel.specs.Handshake.Epochs.{command, whole_row, with_heard, with_begun, unless_restart, epoch_begun}
 use Rattle.sercos_law_channel.specs.Handshake.WholeRun.{IsSound}
 
--- Which stations restart; which telegrams come; whether the drive's check is passed; its blocks and procedure commands; the bits of
--- the status word that don't belong to the channel; the request that is begun if one may be; whether a record is sent; and
+-- Which stations restart; which telegrams arrive; whether the drive's check is passed; its blocks and procedure commands; the bits
+-- of the status word that don't belong to the channel; the request that is begun if one may be; whether a record is sent; and
 -- whether the master falls, or rises if it may.
 pub record Choice : Type 0 where
   pub master_restarts : Bool
@@ -36,7 +36,7 @@ pub record Choice : Type 0 where
 abbrev pub status_with : Shown → Status → Status
 status_with s others = record others { ahs = s.ahs; busy = s.busy; error = s.error; change = s.change }
 
--- the cycle with nothing heard, begun or sent, and no rise
+-- the cycle with nothing received, begun or sent, and no rise
 abbrev pub silent_by : Choice → List View → View
 silent_by c past = record {
   phase = if c.master_restarts then 0 else command past;
@@ -56,7 +56,7 @@ silent_by c past = record {
   rises = false;
 }
 
--- what the drive shows, and what is heard of it
+-- what the drive shows, and what is received of it
 abbrev pub shown_at : ℕ → Choice → List View → Shown
 shown_at busy c past = drive_says busy (length past) c.showing (kept_in (silent_by c past) past)
 

@@ -1,5 +1,5 @@
--- What a transfer that sets a procedure command writes and gives, and what becomes of one to a data block that the drive
--- hasn't. Each list has its newest item first.
+-- What a transfer that sets a procedure command writes and returns, and what becomes of one to a data block that the drive
+-- lacks. Each list has its newest item first.
 use Rattle.std.specs.Prelude.{◌≡◌, ℕ, Bool, true, false, if◌then◌else◌, List, [], ◌∷◌, ◌++◌, Option, Some, None}
 use Rattle.sercos_idn.specs.declared.attribute.Attribute.{Attribute}
 use Rattle.sercos_idn.specs.declared.code.Code.{Code}
@@ -49,8 +49,8 @@ abbrev pub AreProtected : Attribute → List Entry → Type 0
 AreProtected a [] = Unit {0}
 AreProtected a (e ∷ entries) = AreProtected a entries × (is_protected a e.taken.phase ≡ true)
 
--- Such a transfer that is refused adds no write, where the block is a procedure command, and isn't write protected at the
--- refusal, or was so at each step before. One of these holds where all steps come in one phase.
+-- Such a transfer that is refused adds no write, if the block is a procedure command, and isn't write protected at the
+-- refusal, or was so at each step before. One of these holds if all steps come in one phase.
 abbrev pub RefusedAddsNothing : Type 0
 RefusedAddsNothing = (idn : Idn) (blocks : List Block) (b : Block) (e : Entry) (entries log : List Entry) (code : Code) →
     find_block idn.raw blocks ≡ Some b → b.attribute.command ≡ true → (is_protected b.attribute e.taken.phase ≡ true → AreProtected b.attribute entries) →
@@ -64,7 +64,7 @@ GivesStatus raw bytes part =
     (cancel : Entry) × (poll : Entry) × (before : List Entry) × (part ≡ cancel ∷ poll ∷ before) × (poll.taken.step.write ≡ false) × (poll.taken.step.element ≡ 1)
     × (bytes ≡ status_in poll.taken.commands raw poll.taken.cycle ∷ 0 ∷ [])
 
--- Such a transfer that is complete gives the data status of the last step that reads it.
+-- Such a transfer that is complete returns the data status of the last step that reads it.
 abbrev pub EndsWithStatus : Type 0
 EndsWithStatus = (idn : Idn) (bytes : List ℕ) (blocks : List Block) (e : Entry) (entries log : List Entry) → IsTransfer (request.Command idn) blocks e entries log →
     outcome_of (request.Command idn) (replies_of (e ∷ entries)) ≡ Some (outcome.Complete bytes) → GivesStatus idn.raw bytes (e ∷ entries)

@@ -22,7 +22,7 @@ abbrev pub whole_row : List View → ℕ
 whole_row [] = 0
 whole_row (v ∷ past) = if v.whole && ((v.phase == 0) && not v.falls) then (if v.master_restarts then 0 else whole_row past) + 1 else 0
 
--- the requests that were begun, with an AT that is heard, and with a request that is begun
+-- the requests that were begun, with an AT that is received, and with a request that is begun
 abbrev pub with_heard : Option Heard → List Begun → List Begun
 with_heard None begun = begun
 with_heard (Some a) begun = with_status a.status a.word begun

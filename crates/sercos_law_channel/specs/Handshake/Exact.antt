@@ -33,8 +33,8 @@ given_of w = record { raw = w.raw; bytes = w.bytes }
 abbrev pub gives : ℕ → List ℕ → Given
 gives raw bytes = record { raw = raw; bytes = bytes }
 
--- What a transfer gives if it is complete: a write of operation data gives its bytes, one that sets a procedure command gives 3 and
--- then 0, and any other gives nothing.
+-- The writes of a complete transfer: a write of operation data has its bytes, one that sets a procedure command has 3 and then 0,
+-- and any other has none.
 abbrev pub written_to : ℕ → List ℕ → Option Block → List Given
 written_to raw bytes None = []
 written_to raw bytes (Some b) = gives raw (stored b bytes) ∷ []
@@ -44,20 +44,20 @@ given_by blocks (request.Read idn e) = []
 given_by blocks (request.Write idn e bytes) = if e == data_element then written_to idn.raw bytes (find_block idn.raw blocks) else []
 given_by blocks (request.Command idn) = gives idn.raw (to_cancel ∷ 0 ∷ []) ∷ gives idn.raw (to_set ∷ 0 ∷ []) ∷ []
 
--- These are the writes of a transfer. A complete one writes all that it gives, a refused one nothing. One that is open or was
--- broken has written the first of it: without these last ones, which stand first.
+-- These are the writes of a transfer. A complete one has written everything, a refused one nothing. One that is open or was broken
+-- has written the first of it: without these last ones, which come first.
 pub data AreWrites (blocks : List Block) (b : Begun) (own : List Write) : Type 0 where
   Complete : (bytes : List ℕ) → outcome_of b.request b.answers ≡ Some (outcome.Complete bytes) → map given_of own ≡ given_by blocks b.request → AreWrites blocks b own
   Refused : (code : Code) → outcome_of b.request b.answers ≡ Some (outcome.Refused code) → own ≡ [] → AreWrites blocks b own
   Broken : (later : ℕ) → outcome_of b.request b.answers ≡ None → map given_of own ≡ drop later (given_by blocks b.request) → AreWrites blocks b own
 
--- A complete read gives the bytes of the element as the drive had them in the one cycle in which it accepted the selection. The
+-- A complete read returns the bytes of the element as the drive had them in the one cycle in which it accepted the selection. The
 -- drive has the block.
 abbrev pub ReadsExactly : List Block → Begun → List Entry → Type 0
 ReadsExactly blocks b part = (idn : Idn) (e : ℕ) (bytes : List ℕ) → b.request ≡ request.Read idn e → outcome_of b.request b.answers ≡ Some (outcome.Complete bytes) →
     (block : Block) × (find_block idn.raw blocks ≡ Some block) × (selection : Entry) × (entry_behind (steps_before e) part ≡ Some selection) × IsReadAt idn.raw e block bytes selection.taken
 
--- A complete setting of a procedure command gives the data status as the drive had it in the cycle in which it accepted the last
+-- A complete setting of a procedure command returns the data status as the drive had it in the cycle in which it accepted the last
 -- step that reads it.
 abbrev pub EndsExactly : Begun → List Entry → Type 0
 EndsExactly b part = (idn : Idn) (bytes : List ℕ) → b.request ≡ request.Command idn → outcome_of b.request b.answers ≡ Some (outcome.Complete bytes) → GivesStatus idn.raw bytes part

@@ -9,7 +9,7 @@ use Rattle.sercos_service_drive.specs.Says.{shown, shown_by}
 use Rattle.sercos_service_master.specs.Begun.{Begun, Said, open_in, is_odd, answers_it, answer_in, with_answer, master_says}
 use Rattle.sercos_law_channel.specs.Handshake.InStep.{AreInStep}
 
--- The master hears a status and a word that show what the drive shows of a log, whose AHS is the parity of the log.
+-- The master receives a status and a word that show what the drive shows of a log, whose AHS is the parity of the log.
 abbrev pub with_status : Status → ℕ → List Begun → List Begun
 with_status status word begun = if answers_it begun status then with_answer (answer_in status word) begun else begun
 

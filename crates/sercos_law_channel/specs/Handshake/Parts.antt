@@ -9,7 +9,7 @@ use Rattle.sercos_service_drive.specs.Replies.{answered}
 use Rattle.sercos_law_channel.specs.Handshake.InStep.{AreInStep, steps_of, replies_of}
 use Rattle.sercos_law_channel.specs.Handshake.Transfers.{AreReplies, HaveBlocks, IsTransfer}
 
--- each request was begun where no step of those before it was open, and each of its answers came while it went on
+-- each request was begun when no step of those before it was open, and each of its answers came while it went on
 abbrev pub AreInTurn : List Begun → Type 0
 AreInTurn [] = Unit {0}
 AreInTurn (b ∷ past) = AreInTurn past × ((open_in past ≡ None) × AreAnswers b.request b.answers)

@@ -1,4 +1,4 @@
--- What a complete read gives. Each list has its newest item first.
+-- The result of a complete read. Each list has its newest item first.
 use Rattle.std.specs.Prelude.{◌≡◌, ℕ, ◌^◌, ◌<◌, ◌≤◌, ◌==◌, false, not, ◌&&◌, if◌then◌else◌, List, [], ◌∷◌, length, Option, Some, None, unwrap_or}
 use Rattle.sercos_idn.specs.declared.idn.Idn.{Idn}
 use Rattle.sercos_idn.specs.Elements.{identifier_element, data_element}
@@ -40,8 +40,8 @@ pub record IsReadAt (raw e : ℕ) (b : Block) (bytes : List ℕ) (t : Taken) : T
   pub there : read_cause raw t ≡ None
   pub gives : (2 ≤ e → IsStore t.blocks) → bytes ≡ bytes_at raw e block t
 
--- A complete read gives the element's bytes as they stood when the drive accepted the selection, which is the first step
--- after the opening and, where the attribute is read, the two steps that read it.
+-- A complete read returns the element's bytes at the moment when the drive accepted the selection, which is the first step
+-- after the opening and, if the attribute is read, the two steps that read it.
 abbrev pub ReadsOnce : Type 0
 ReadsOnce = (idn : Idn) (e : ℕ) (bytes : List ℕ) (blocks : List Block) (b : Block) (s : Entry) (entries log : List Entry) → 1 ≤ e → e ≤ 7 →
     find_block idn.raw blocks ≡ Some b → b.attribute.factor < 2 ^ 16 → IsTransfer (request.Read idn e) blocks s entries log →

@@ -13,12 +13,12 @@ abbrev pub phase_commanded : List View → ℕ
 phase_commanded [] = 0
 phase_commanded (v ∷ past) = v.phase
 
--- No drive stands later than the later of the phases that are commanded in this cycle and in the one before. It needs no run:
--- it is so of all cycles.
+-- No drive is in a higher phase than the later one commanded in this cycle or the one before. It needs no run: it holds of all
+-- cycles.
 abbrev pub StandsNoLater : Type 0
 StandsNoLater = (v : View) (past : List View) → stood_in v (standing past) ≤ max v.phase (phase_commanded past)
 
--- A drive that gets the MST then stands in the commanded phase, or in 0.
+-- A drive that gets the MST is then in the commanded phase, or in 0.
 abbrev pub StandsAsCommanded : Type 0
 StandsAsCommanded = (v : View) (past : List View) → v.mst_comes ≡ true → (stood_in v (standing past) ≡ 0) ⊎ (stood_in v (standing past) ≡ v.phase)
 
@@ -26,7 +26,7 @@ StandsAsCommanded = (v : View) (past : List View) → v.mst_comes ≡ true → (
 abbrev pub StaysDown : Type 0
 StaysDown = (v : View) (past : List View) → (standing past).ended ≡ 0 → 2 ≤ v.phase → (standing (v ∷ past)).ended ≡ 0
 
--- While 0 or 1 is commanded, a drive that gets the MST stands there.
+-- While 0 or 1 is commanded, a drive that gets the MST is in that phase.
 abbrev pub ComesUp : ℕ → Type 0
 ComesUp busy = (v : View) (past : List View) → IsRun busy (v ∷ past) → v.phase ≤ 1 → v.mst_comes ≡ true → stood_in v (standing past) ≡ v.phase
 
@@ -45,11 +45,11 @@ AreBefore cycle (e ∷ entries) = (e.taken.cycle < cycle) × AreBefore e.taken.c
 abbrev pub AcceptsInOrder : Type 0
 AcceptsInOrder = (past : List View) → AreBefore (length past) (all_entries past)
 
--- A record is processed in the cycle in which it comes, in the phase that is commanded in it.
+-- A record is processed in the cycle in which it arrives, in the phase that is commanded in it.
 abbrev pub ProcessesInPhase : Type 0
 ProcessesInPhase = (v : View) (past : List View) (t : Taken) → processed_in v past ≡ Some t → (t.phase ≡ v.phase) × (t.cycle ≡ length past) × (2 ≤ t.phase)
 
--- how many cycles in a row, up to now, were commanded phase 0, whatever the epoch
+-- how many cycles in a row, up to now, were commanded phase 0, in any epoch
 abbrev pub zero_run : List View → ℕ
 zero_run [] = 0
 zero_run (v ∷ past) = if v.phase == 0 then zero_run past + 1 else 0

@@ -5,7 +5,7 @@ use Rattle.sercos_service_master.specs.Begun.{open_in, master_says}
 use Rattle.sercos_law_channel.specs.Handshake.Views.{Heard, View, standing, stood_in, kept_in}
 use Rattle.sercos_law_channel.specs.Handshake.Epochs.{command_in, whole_row, with_heard, unless_restart, epoch_begun, begun_in}
 
--- The drive sent an AT that is heard: it got the MST, isn't in phase 0, and shows what its channel says.
+-- The drive sent an AT that is received: it got the MST, isn't in phase 0, and shows what its channel answers.
 pub record IsShown (busy : ℕ) (a : Heard) (v : View) (past : List View) : Type 0 where
   pub got_mst : v.mst_comes ≡ true
   pub stands : 1 ≤ stood_in v (standing past)
@@ -15,12 +15,12 @@ pub record IsShown (busy : ℕ) (a : Heard) (v : View) (past : List View) : Type
 pub record IsNext (busy : ℕ) (v : View) (past : List View) : Type 0 where
   -- the commanded phase is that of the cycles before, and 0 if the master restarts
   pub commanded : v.phase ≡ command_in v past
-  -- what is heard was said
+  -- what is received was sent
   pub heard : IfSome v.heard (λ a. IsShown busy a v past)
   -- a request is begun in phases 2 to 4 alone, and only if no step is open
   pub late : IsSome v.begins → 2 ≤ v.phase
   pub begins : IsSome v.begins → open_in (with_heard v.heard (unless_restart v (epoch_begun past))) ≡ None
-  -- a record that is sent says what the master's channel says: the open step, or zeros
+  -- a record that is sent is that of the master's channel: the open step, or zeros
   pub sent : IfSome v.sent (λ s. s ≡ master_says (begun_in v past))
   -- phase 0 lasts until ten MSTs in a row came back whole
   pub ten : v.rises ≡ true → v.phase ≡ 0 → 10 ≤ whole_row (v ∷ past)

@@ -7,7 +7,7 @@ use Rattle.sercos_command.specs.Settings.{CommandsView}
 use Rattle.sercos_service_drive.specs.Log.{Taken}
 use Rattle.sercos_service_master.specs.Begun.{Said}
 
--- what the master's channel heard of the drive's AT
+-- what the master's channel received of the drive's AT
 pub record Heard : Type 0 where
   pub status : Status
   pub word : ℕ
@@ -19,20 +19,20 @@ pub record View : Type 0 where
   -- whether the master and the drive restart, before the MST
   pub master_restarts : Bool
   pub drive_restarts : Bool
-  -- whether the drive gets the MST, and whether it comes back to the master as it was sent
+  -- whether the drive gets the MST, and whether it returns to the master as it was sent
   pub mst_comes : Bool
   pub whole : Bool
   -- whether the drive's check for the commanded phase, 3 or 4, counts as passed
   pub checked : Bool
-  -- its procedure commands at its AT, and what the master hears of that AT: nothing where none was sent, or it was lost
+  -- its procedure commands at its AT, and what the master receives of that AT: nothing if none was sent, or it was lost
   pub showing : CommandsView
   pub heard : Option Heard
   -- the request that the master begins
   pub begins : Option Request
-  -- the record for the drive in the MDT that the master sends, and whether it comes
+  -- the record for the drive in the MDT that the master sends, and whether it arrives
   pub sent : Option Said
   pub mdt_comes : Bool
-  -- the drive's blocks and procedure commands when it comes
+  -- the drive's blocks and procedure commands when it arrives
   pub blocks : List Block
   pub commands : CommandsView
   -- whether the master falls at the end of the cycle, or rises to the next phase
@@ -59,19 +59,19 @@ before_mst v f = if v.drive_restarts then afresh else f
 abbrev pub moved : Bool → ℕ → ℕ → ℕ
 moved checked p q = if p == q then p else (if (p == q + 1) && (nat_le p 2 || checked) then p else 0)
 
--- The phase in which the drive stands after the MST's place. Without the MST it stays where it is, but goes to 0 if it
--- didn't get that of the cycle before either.
+-- The phase of the drive after the MST's place. Without the MST it stays where it is, but goes to 0 if it didn't get that of
+-- the cycle before either.
 abbrev pub stood_from : View → Standing → ℕ
 stood_from v f = if v.mst_comes then moved v.checked v.phase f.ended else (if f.got_mst then f.ended else 0)
 
 abbrev pub stood_in : View → Standing → ℕ
 stood_in v f = stood_from v (before_mst v f)
 
--- the record that comes to it
+-- the record that arrives at it
 abbrev pub got_in : View → Option Said
 got_in v = if v.mdt_comes then v.sent else None
 
--- it takes an MDT that comes if it got the MST and isn't in phase 0
+-- it takes an MDT that arrives if it got the MST and isn't in phase 0
 abbrev pub takes_in : View → ℕ → Bool
 takes_in v stood = v.mst_comes && (nat_le 1 stood && is_some (got_in v))
 
@@ -87,8 +87,8 @@ abbrev pub standing : List View → Standing
 standing [] = afresh
 standing (v ∷ past) = standing_after v (stood_in v (standing past)) (before_mst v (standing past))
 
--- The records that the drive processes: those that come in phases 2 to 4, if it got the MST. The number of a cycle is that of
--- the cycles before it.
+-- The records that the drive processes: those that arrive in phases 2 to 4, if it got the MST. The number of a cycle is that
+-- of the cycles before it.
 
 abbrev pub record_in : View → ℕ → ℕ → Said → Taken
 record_in v cycle stood s = record { cycle = cycle; phase = stood; mhs = s.mhs; step = s.step; blocks = v.blocks; commands = v.commands }

@@ -1,4 +1,4 @@
--- What was begun, accepted and written in a whole run, through all epochs, resets and restarts, and what is asked of the blocks
+-- What was begun, accepted and written in a whole run, through all epochs, resets and restarts, and the premises on the blocks
 -- and the requests. Each list has its newest item first.
 use Rattle.std.specs.Prelude.{◌≡◌, ℕ, ◌^◌, ◌<◌, ◌≤◌, Bool, true, if◌then◌else◌, List, [], ◌∷◌, ◌++◌, Option, Some, None, IfSome}
 use mathlib.Core.Bool.{beq}

@@ -25,7 +25,7 @@ age_in (v ∷ past) =
 abbrev pub AgesInTime : ℕ → Type 0
 AgesInTime busy = (v : View) (cycles past : List View) → IsRun busy (v ∷ (cycles ++ past)) → AreClean (v ∷ cycles) past → age_in (v ∷ (cycles ++ past)) ≤ age_in past + (busy + 1)
 
--- From phase 0 of an epoch on, while nothing is lost, an answer comes exactly busy time and one cycle after the cycle in which its step
+-- From phase 0 of an epoch on, while nothing is lost, an answer arrives exactly busy time and one cycle after the cycle in which its step
 -- was begun, and first sent.
 abbrev pub AnswersAtAge : ℕ → Type 0
 AnswersAtAge busy = (v : View) (a : Heard) (cycles past : List View) → IsRun busy (v ∷ (cycles ++ past)) → BeginsEpoch past → AreClean cycles past → v.master_restarts ≡ false →

@@ -18,7 +18,7 @@ staying v = record v { falls = false }
 abbrev pub StaysARun : ℕ → Type 0
 StaysARun busy = (v : View) (past : List View) → IsRun busy (v ∷ past) → IsRun busy (staying v ∷ past)
 
--- The calls with what is heard, begun and sent in a cycle. A record that is sent in phase 1 is no call of the channel.
+-- The calls with what is received, begun and sent in a cycle. A record that is sent in phase 1 is not a call of the channel.
 abbrev pub calls_heard : Option Heard → List Call → List Call
 calls_heard None h = h
 calls_heard (Some a) h = Hear a.status a.word ∷ h
@@ -46,7 +46,7 @@ abbrev pub AreSent : List View → Type 0
 AreSent [] = Unit {0}
 AreSent (v ∷ past) = v.falls ≡ false → (v.master_restarts ≡ false → AreSent past) × IsSent v past
 
--- The calls are allowed, and give the requests that were begun.
+-- The calls are allowed, and yield the requests that were begun.
 abbrev pub CallsBegin : ℕ → Type 0
 CallsBegin busy = (past : List View) → IsRun busy past → (AreCalls (channel_calls past)) × (begun_by (channel_calls past) ≡ epoch_begun past)
 
@@ -62,8 +62,8 @@ abbrev pub AgesBeforeEnd : ℕ → Type 0
 AgesBeforeEnd busy = (v : View) (past : List View) → IsRun busy (v ∷ past) → AreSent past → IsSent v past →
     option_map (λ age. age + 1) (age_of (calls_in v (channel_calls past))) ≡ age_if_open (is_some (open_in (begun_in v past))) (age_in (staying v ∷ past))
 
--- From phase 0 of an epoch on, while every telegram comes and the checks are passed, in each cycle before its end: the channel has
--- counted no more than the busy time, and in phases 3 and 4 the drive is heard. So no fall comes from this drive.
+-- From phase 0 of an epoch on, while every telegram arrives and the checks are passed, in each cycle before its end: the channel has
+-- counted no more than the busy time, and in phases 3 and 4 the drive is heard. So no fall is caused by this drive.
 abbrev pub NoneLate : ℕ → Type 0
 NoneLate busy = (v : View) (cycles past : List View) → IsRun busy (v ∷ (cycles ++ past)) → BeginsEpoch past → AreWhole cycles past → ArePassed cycles past → IsWhole (staying v) (cycles ++ past) → IsPassed v (cycles ++ past) →
     (cycles_open (calls_in v (channel_calls (cycles ++ past))) ≤ busy) × (3 ≤ v.phase → is_some v.heard ≡ true)

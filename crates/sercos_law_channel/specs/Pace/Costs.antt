@@ -45,7 +45,7 @@ abbrev pub AreTimed : ℕ → List View → Type 0
 AreTimed time [] = Unit {0}
 AreTimed time (v ∷ past) = AreTimed time past × IsTimed time v past
 
--- It is so if what is set when an MDT comes was set at the end of the cycle before, and a command runs for `time` cycles.
+-- This holds if what is set when an MDT arrives was set at the end of the cycle before, and a command runs for `time` cycles.
 abbrev pub set_after : List View → List SetCommand
 set_after [] = []
 set_after (v ∷ past) = (commands_with (write_of (processed_in v past) (kept_in v past)) v.blocks v.commands).set
@@ -78,7 +78,7 @@ abbrev pub write_steps : ℕ → List ℕ → Option Block → ℕ
 write_steps e bytes None = 1
 write_steps e bytes (Some b) = if e == data_element then 3 + length (words_told (shape_by b.attribute.length) bytes) else 1 + length (words_told (shape_of e 0) bytes)
 
--- Each list has at most as many words as `longest` says of its identifier number, or `longest` says as many as any list has.
+-- Each list has at most as many words as `longest` allows for its identifier number, or `longest` allows as many as any list has.
 abbrev pub IsListed : (ℕ → ℕ) → List Block → Type 0
 IsListed longest blocks = (raw : ℕ) (b : Block) → find_block raw blocks ≡ Some b → is_list b.attribute.length ≡ true → (length b.value ≤ 2 * longest raw) ⊎ (512 ≤ longest raw)
 

@@ -74,7 +74,7 @@ WritesCost busy = (time : ℕ) (longest : ℕ → ℕ) (blocks : List Block) (be
     AreWordWrites blocks before → AreWordWrites blocks after → length before + length after ≡ 9 → IsListBlock blocks ats → IsListBlock blocks mdts → length at_bytes ≤ 2 * k → length mdt_bytes ≤ 2 * m →
     sum_by (cost_of busy time longest blocks) (before ++ request.Write ats data_element at_bytes ∷ request.Write mdts data_element mdt_bytes ∷ (after ++ request.Command command ∷ [])) ≤ (busy + 1) * (50 + (k + m)) + time
 
--- Any request with at most 1,024 bytes costs no more than this profile gives a request.
+-- Any request with at most 1,024 bytes costs no more than this profile allows a request.
 abbrev pub IsShort : Request → Type 0
 IsShort (request.Read idn e) = Unit {0}
 IsShort (request.Write idn e bytes) = length bytes ≤ 1024

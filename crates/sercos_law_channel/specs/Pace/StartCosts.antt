@@ -11,14 +11,14 @@ use Rattle.sercos_law_channel.specs.Pace.Passages.{IsWhole, AreWhole, ArePassed,
 use Rattle.sercos_law_channel.specs.Pace.Costs.{AreTimed, AreListed, cost_of, cost_in}
 use Rattle.sercos_law_channel.specs.Pace.Ages.{age_in}
 
--- A start-up in which every telegram comes: from phase 0 of an epoch on, whatever went before, the cycles with an open step are at most
--- the cost of the requests, and no step gets older than busy time and one cycle.
+-- A start-up in which every telegram arrives: from phase 0 of an epoch on, regardless of the cycles before, the cycles with an open step
+-- are at most the cost of the requests, and no step gets older than busy time and one cycle.
 abbrev pub StartsInCost : ℕ → Type 0
 StartsInCost busy = (time : ℕ) (longest : ℕ → ℕ) (blocks : List Block) (cycles past : List View) → AreSmall blocks → IsRun busy (cycles ++ past) → AreSound blocks (cycles ++ past) → AreTimed time (cycles ++ past) → AreListed longest (cycles ++ past) →
     BeginsEpoch past → AreWhole cycles past → ArePassed cycles past → (open_since cycles past ≤ cost_in (cost_of busy time longest blocks) (epoch_begun (cycles ++ past))) × (age_in (cycles ++ past) ≤ busy + 1)
 
--- The rest of a start-up, whatever was lost before a first whole cycle: if the drive isn't in phase 0 by now, it is so since that cycle,
--- but for a step that was open at its end, which adds its age then.
+-- The rest of a start-up, regardless of losses before a first whole cycle: if the drive isn't in phase 0 by now, the same holds since
+-- that cycle, except for a step that was open at its end, which adds its age then.
 abbrev pub RecoversInCost : ℕ → Type 0
 RecoversInCost busy = (time : ℕ) (longest : ℕ → ℕ) (blocks : List Block) (cycles : List View) (first : View) (past : List View) → AreSmall blocks → IsRun busy (cycles ++ first ∷ past) → AreSound blocks (cycles ++ first ∷ past) → AreTimed time (cycles ++ first ∷ past) → AreListed longest (cycles ++ first ∷ past) →
     IsWhole first past → AreWhole cycles (first ∷ past) →

@@ -1,5 +1,5 @@
--- How long a channel is at work in a stretch of cycles in which nothing of it is lost, whatever went before. A stretch is the newest
--- `cycles` of a run, after those of `past`. Each list has its newest item first.
+-- How long a channel is at work in a stretch of cycles in which nothing of it is lost, regardless of the cycles before. A stretch is the
+-- newest `cycles` of a run, after those of `past`. Each list has its newest item first.
 use Rattle.std.specs.Prelude.{◌≡◌, ℕ, ◌+◌, ◌*◌, ◌<◌, ◌≤◌, false, List, [], ◌∷◌, ◌++◌, length, Some, None, is_some}
 use Rattle.sercos_service_drive.specs.Log.{Entry}
 use Rattle.sercos_service_master.specs.Begun.{open_in, steps_in, answers_in}
@@ -37,8 +37,8 @@ pub data IsInTime (busy : ℕ) (cycles past : List View) : Type 0 where
       e.taken.cycle < length (cycles ++ past) → length (cycles ++ past) ≤ e.taken.cycle + (busy + 1) →
       spent_since busy cycles past + e.taken.cycle ≤ time_for busy (answers_in (epoch_begun (cycles ++ past))) + length (cycles ++ past) → IsInTime busy cycles past
 
--- So it is after a stretch of one cycle or more, whatever was lost before it. A step that was open before it counts as one of the
--- stretch.
+-- The same holds after a stretch of one cycle or more, regardless of losses before it. A step that was open before it counts as one of
+-- the stretch.
 abbrev pub ComesInTime : ℕ → Type 0
 ComesInTime busy = (v : View) (cycles past : List View) → IsRun busy (v ∷ (cycles ++ past)) → AreClean (v ∷ cycles) past → IsInTime busy (v ∷ cycles) past
 

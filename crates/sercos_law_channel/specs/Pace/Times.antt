@@ -47,7 +47,7 @@ pub data IsOnTime (busy : ℕ) (past : List View) : Type 0 where
 abbrev pub AreOnTime : ℕ → Type 0
 AreOnTime busy = (past : List View) → IsRun busy past → AreUndisturbed past → IsOnTime busy past
 
--- An answer comes busy time and one cycle after the cycle in which the drive accepted its step.
+-- An answer arrives busy time and one cycle after the cycle in which the drive accepted its step.
 abbrev pub AnswersOnTime : ℕ → Type 0
 AnswersOnTime busy = (v : View) (past : List View) (a : Heard) → IsRun busy (v ∷ past) → AreUndisturbed past → v.heard ≡ Some a → answers_it (unless_restart v (epoch_begun past)) a.status ≡ true →
     (e : Entry) × (log : List Entry) × (epoch_log past ≡ e ∷ log) × (length past ≡ e.taken.cycle + (busy + 1))

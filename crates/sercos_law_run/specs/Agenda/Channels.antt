@@ -44,7 +44,7 @@ new_channel waiting = record { phase = 0; waiting = waiting; plan = None; begun 
 abbrev pub outcome_in : List Begun → Status → ℕ → Option Outcome
 outcome_in begun status word = if answers_it begun status then outcome_with (answer_in status word) begun else None
 
--- a status is heard
+-- a status is received
 abbrev pub hearing : Status → ℕ → Channel → Channel
 hearing status word c = record c {
   begun = with_status status word c.begun;
@@ -74,8 +74,8 @@ pub record IsDoneWith (s : Known) (k : ℕ) (c : Channel) : Type 0 where
   pub checked : c.phase ≡ 2 → is_checked (member s k) (outcomes_in c.begun) ≡ true
   pub ready : c.phase ≡ 3 → is_ready (member s k) (outcomes_in c.begun) ≡ true
 
--- What happens to a channel within a cycle: nothing; the drive is identified; a status is heard, the first in this cycle; the plan
--- is made; or a task begins.
+-- What happens to a channel within a cycle: nothing; the drive is identified; a status is received, the first in this cycle; the
+-- plan is made; or a task begins.
 pub data Steps (s : Known) (k : ℕ) (c d : Channel) : Type 0 where
   Stays : d ≡ c → Steps s k c d
   Identifies : d ≡ record c { heard = true } → Steps s k c d
@@ -95,16 +95,16 @@ abbrev pub newest : Channel → List Channel → Channel
 newest first [] = first
 newest first (c ∷ past) = c
 
--- each of these channels comes from the one before by a move
+-- each of these channels follows from the one before by a move
 abbrev pub AreMoves : Known → ℕ → Channel → List Channel → Type 0
 AreMoves s k first [] = Unit {0}
 AreMoves s k first (c ∷ past) = AreMoves s k first past × Moves s k (newest first past) c
 
--- one channel comes from another by moves
+-- one channel follows from another by moves
 abbrev pub GoesByMoves : Known → ℕ → Channel → Channel → Type 0
 GoesByMoves s k c d = (channels : List Channel) × AreMoves s k c channels × (d ≡ newest c channels)
 
--- EACH CALL. Whatever the master is given, the channel of each drive goes by moves.
+-- EACH CALL. Regardless of the calls of the master, the channel of each drive goes by moves.
 abbrev pub CallsAreMoves : Type 0
 CallsAreMoves = (s : Known) (requests : ℕ → List Task) (call : Call) (h : List Call) (k : ℕ) → k < length s.drives →
     GoesByMoves s k (channel_at (past s requests h) k) (channel_at (past s requests (call ∷ h)) k)

@@ -62,7 +62,7 @@ broken_in c = if is_none (open_in c.begun) then None else broken_number (number_
 abbrev pub still_to_tell : Channel → List (Option ℕ)
 still_to_tell c = with_number c.report (with_number (broken_in c) (task_numbers (drop (count_requests c.tasks) c.waiting)))
 
--- in this cycle neither an AT nor the MDT has come yet
+-- in this cycle there was neither an AT nor the MDT yet
 abbrev pub IsAtStart : List Call → Type 0
 IsAtStart [] = Unit {0}
 IsAtStart (HearMst content ∷ h) = IsAtStart h

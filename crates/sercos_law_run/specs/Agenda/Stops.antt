@@ -51,8 +51,8 @@ pub record IsBadAttribute (s : Known) (p : Past) (address : ℕ) (i : Idn) (word
 abbrev pub AreTooLong : Known → Past → Stop → Type 0
 AreTooLong s p x = (all_read s p ≡ true) × (nat_le (record_bytes (wishes_given s (outcomes p)).drives) 2047 ≡ false) × (last_long_stop s.drives 0 (outcomes p) ≡ Some x)
 
--- The check that comes `after` requests after the reads is complete at the drive with this address, but hasn't ended well; and then
--- the drive gave this list.
+-- The check that is `after` requests after the reads is complete at the drive with this address, but hasn't ended well; and then
+-- the drive returned this list.
 pub record HasFailedCheck (s : Known) (p : Past) (after address : ℕ) (list : List Idn) : Type 0 where
   pub place : ℕ
   pub there : place < length s.drives
@@ -77,7 +77,7 @@ abbrev pub BadConfigHasCause : Type 0
 BadConfigHasCause = (s : Known) (requests : ℕ → List Task) (h : List Call) (address : ℕ) (i : Idn) (word : ℕ) → (past s requests h).stop ≡ Some (stop.BadConfig address i word) →
     IsBadAttribute s (past s requests h) address i word ⊎ AreTooLong s (past s requests h) (stop.BadConfig address i word)
 
--- The check for phase 3 comes 11 requests after the reads, and that for phase 4 comes 12 after them.
+-- The check for phase 3 is 11 requests after the reads, and that for phase 4 is 12 after them.
 abbrev pub Check127HasCause : Type 0
 Check127HasCause = (s : Known) (requests : ℕ → List Task) (h : List Call) (address : ℕ) (list : List Idn) → ((j : ℕ) → AreNumbered (requests j)) → (past s requests h).stop ≡ Some (stop.Check127 address (record { items = list })) →
     HasFailedCheck s (past s requests h) 11 address list

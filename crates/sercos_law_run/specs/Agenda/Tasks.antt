@@ -16,8 +16,8 @@ use Rattle.sercos_seat.specs.Channel.{last_outcome, outcomes_in, trouble_by}
 use Rattle.sercos_seat.specs.Seats.{AreWaiting}
 use Rattle.sercos_master.specs.Annals.{Call, Past, outcomes, past}
 
--- The task that comes after these outcomes: a read; with a plan one of its eleven writes, or the check for phase 3; after that the
--- list of what it found, or the check for phase 4; and after that its list, or a request of those that wait.
+-- The task after these outcomes: a read; with a plan one of its eleven writes, or the check for phase 3; after that the list of
+-- what it found, or the check for phase 4; and after that its list, or a request of those that wait.
 pub data IsTask (s : Known) (k : ℕ) (plan : Option PlanView) (waiting : List Task) (outcomes : List Outcome) (t : Task) : Type 0 where
   OfReads : (r : Request) → length outcomes < reads_count (member s k) → slice_get (reads (member s k)) (length outcomes) ≡ Some r → t ≡ startup 2 r → IsTask s k plan waiting outcomes t
   OfWrites : (p : PlanView) → (i : ℕ) → (r : Request) → plan ≡ Some p → i < 11 → length outcomes ≡ reads_count (member s k) + i → slice_get (writes s p k) i ≡ Some r → t ≡ startup 2 r → IsTask s k plan waiting outcomes t

@@ -19,8 +19,8 @@ use Rattle.sercos_master.specs.Annals.{Call, outcomes, past}
 abbrev pub start_numbers : List ℕ
 start_numbers = 1 ∷ 2 ∷ 6 ∷ 7 ∷ 8 ∷ 9 ∷ 10 ∷ 15 ∷ 16 ∷ 24 ∷ 89 ∷ []
 
--- Among these requests to a drive with such blocks the write is found and complete, and no newer one gives anything to its
--- identifier number.
+-- Among these requests to a drive with such blocks the write is found and complete, and no newer one writes to its identifier
+-- number.
 pub record IsWrittenLast (blocks : List Block) (begun : List Begun) (idn : Idn) (bytes : List ℕ) : Type 0 where
   pub newer : List Begun
   pub one : Begun
@@ -42,7 +42,7 @@ abbrev pub WritesData : Type 0
 WritesData = (s : Known) (plan : PlanView) (k i : ℕ) → i < 11 → (idn : Idn) × (bytes : List ℕ) × (slice_get (writes s plan k) i ≡ Some (request.Write idn data_element bytes)) × (slice_get start_numbers i ≡ Some idn.raw)
 
 -- THE WRITES. From where the check for phase 3 has been begun, and up to phase 3, each write of the plan is complete, and nothing
--- newer gives anything to its identifier number.
+-- newer writes to its identifier number.
 abbrev pub ConfiguresFromCheck : Type 0
 ConfiguresFromCheck = (s : Known) (requests : ℕ → List Task) (h : List Call) (k : ℕ) (blocks : List Block) → ((j : ℕ) → AreWaiting (requests j)) → k < length s.drives → (past s requests h).now.phase ≤ 3 →
     reads_count (member s k) + 11 < length (begun_by ((past s requests h).calls k)) → IsConfigured s k blocks (past s requests h).plan (begun_by ((past s requests h).calls k))

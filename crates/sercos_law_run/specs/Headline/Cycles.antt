@@ -1,4 +1,4 @@
--- What holds in each cycle of a run in which nothing was unseen so far. The newest cycle of a journal comes first.
+-- What holds in each cycle of a run without undetected damage so far. The newest cycle of a journal comes first.
 use Rattle.std.specs.Prelude.{◌≡◌, ℕ, ◌≤◌, nat_le, Bool, List, [], ◌∷◌, length, max}
 use Rattle.std.specs.List.{All}
 use Rattle.sercos_hdlc.specs.Stuffed.{frame_of}
@@ -38,6 +38,6 @@ abbrev pub phase_before : List CycleView → ℕ
 phase_before [] = 0
 phase_before (t ∷ j) = t.phase
 
--- NO LATER. No drive stands later than the later of the phases that are commanded in this cycle and in the one before.
+-- NO LATER. No drive is in a higher phase than the later one commanded in this cycle or the one before.
 abbrev pub StandsNoLater : RingView → Carry → Restarts → CycleView → List CycleView → ℕ → Type 0
 StandsNoLater r carry restarts t j k = phase_in_cycle r carry restarts t j k ≤ max t.phase (phase_before j)

@@ -1,4 +1,4 @@
--- What holds in each cycle of a run up to the first arrival that is unseen. The newest cycle of a journal comes first.
+-- What holds in each cycle of a run up to the first undetected damage. The newest cycle of a journal comes first.
 use Rattle.std.specs.Prelude.{ℕ, ◌<◌, List, ◌∷◌, length}
 use Rattle.sercos_step.specs.declared.request.Job.{Job}
 use Rattle.sercos_block.specs.Views.{RingView}
@@ -10,9 +10,10 @@ use Rattle.sercos_law_run.specs.Headline.Cycles.{AreApartIn, HaveRealBits, Stand
 use Rattle.sercos_law_run.specs.Headline.Stops.{StopsRight}
 use Rattle.sercos_law_run.specs.Headline.Transfers.{IsExactAt, IsToldAt, AreReportedIn, AreInStepAt}
 
--- In a cycle commanded phase 3 or 4 all telegrams lie apart and keep every drive's declared times. No drive stands later than the later
--- phase commanded in this cycle or the one before. All transfers are exact, and told once and in order. Both ends of each service channel
--- are in step. The master stops with `NoFit` only if no plan fits what the ring asks, and never with `BadConfig` or `Check127`.
+-- In a cycle commanded phase 3 or 4 all telegrams lie apart and keep every drive's declared times. No drive is in a higher phase than the
+-- later one commanded in this cycle or the one before. All transfers are exact, and reported once and in order. Both ends of each service
+-- channel are in step. The master stops with `NoFit` only if no plan fits the ring's requirements, and never with `BadConfig` or
+-- `Check127`.
 pub record KeepsAll (r : RingView) (jobs : List Job) (carry : Carry) (restarts : Restarts) (t : CycleView) (j : List CycleView) : Type 0 where
   pub apart : AreApartIn r carry restarts t j
   pub real : HaveRealBits t.sent
@@ -23,7 +24,7 @@ pub record KeepsAll (r : RingView) (jobs : List Job) (carry : Carry) (restarts :
   pub stops : StopsRight r t.events.stop
   pub in_step : (k : ℕ) → k < length r.drives → AreInStepAt r jobs carry restarts t j k
 
--- So it is in the newest cycle of every run in which nothing was unseen so far, whatever was lost or damaged, and whoever restarted.
+-- This holds in the newest cycle of every run without undetected damage so far, regardless of losses and restarts.
 abbrev pub Headline : Type 0
 Headline = (r : RingView) (jobs : List Job) (carry : Carry) (restarts : Restarts) (t : CycleView) (j : List CycleView) → IsOpened r jobs → IsRun r jobs carry restarts (t ∷ j) → IsClear (t ∷ j) →
     KeepsAll r jobs carry restarts t j

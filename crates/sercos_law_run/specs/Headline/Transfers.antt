@@ -1,5 +1,5 @@
--- What is exact in a run in which nothing was unseen so far. The newest cycle of a journal comes first, and so does the newest item of
--- each list.
+-- What is exact in a run without undetected damage so far. The newest cycle of a journal comes first, and so does the newest item of each
+-- list.
 use Rattle.std.specs.Prelude.{◌≡◌, ◌⊎◌, ℕ, ◌<◌, ◌≤◌, List, [], ◌∷◌, length, Some, is_some}
 use Rattle.sercos_step.specs.declared.request.Job.{Job}
 use Rattle.sercos_step.specs.declared.request.Outcome.{Outcome}
@@ -34,11 +34,11 @@ OnStores (e ∷ entries) = OnStores entries × IsStore e.taken.blocks
 
 -- EXACT. All transfers to the drive at place k that were begun so far, those of the start-up and those of the file, through all epochs:
 -- with the steps that the drive accepted of them and with the drive's writes, which are the writes of these transfers and no others. A
--- complete read gives the element as the drive had it in the one cycle in which it accepted the selection; a complete write adds its
--- bytes, a complete command 3 and 0; a refused one adds nothing, and one that is open or broken the first of what it gives. So they are
--- also with what was accepted and written before this cycle: all that a transfer needs that is complete in this cycle came in earlier
--- ones. What is begun in an epoch is what the master's channel has begun, at the end of a cycle and when its MDT is sent; and what was
--- accepted since the drive's reset is what the drive accepted.
+-- complete read returns the element as the drive had it in the one cycle in which it accepted the selection; a complete write adds its
+-- bytes, a complete command 3 and 0; a refused one adds nothing, and one that is open or broken the first of its writes. The same holds
+-- with what was accepted and written before this cycle: all that a transfer needs that is complete in this cycle was in earlier ones.
+-- What is begun in an epoch is what the master's channel has begun, at the end of a cycle and when its MDT is sent; and what was accepted
+-- since the drive's reset is what the drive accepted.
 pub record IsExactAt (r : RingView) (jobs : List Job) (carry : Carry) (restarts : Restarts) (t : CycleView) (j : List CycleView) (k : ℕ) : Type 0 where
   pub exact : AreExact (store_of (drive_at r k)) (all_begun (views_of r jobs carry restarts k (t ∷ j))) (all_entries (views_of r jobs carry restarts k (t ∷ j))) (all_writes (views_of r jobs carry restarts k (t ∷ j)))
   pub before : AreExact (store_of (drive_at r k)) (all_begun (views_of r jobs carry restarts k (t ∷ j))) (all_entries (views_of r jobs carry restarts k j)) (all_writes (views_of r jobs carry restarts k j))
@@ -55,9 +55,9 @@ pub record IsToldAt (r : RingView) (jobs : List Job) (carry : Carry) (restarts :
       ≡ task_numbers (tasks_for (known_of r) jobs k)
   pub once : Descend (told (known_of r) (tasks_for (known_of r) jobs) k (master_calls r carry restarts j))
 
--- THE REPORTS of a cycle. An outcome stands in the events of its record exactly if a restart of the master or its end reported it of some
--- drive; and a request that is reported as ended was begun in this epoch, and ended so. What is begun on a channel are the tasks of its
--- agenda, each with the request of its task.
+-- THE REPORTS of a cycle. An outcome is in the events of its record iff a restart of the master or its end reported it of some drive; and
+-- a request that is reported as ended was begun in this epoch, and ended so. What is begun on a channel are the tasks of its agenda, each
+-- with the request of its task.
 pub record AreReportedIn (r : RingView) (jobs : List Job) (carry : Carry) (restarts : Restarts) (t : CycleView) (j : List CycleView) : Type 0 where
   pub events : (number : ℕ) (o : Outcome) → AreEquivalent (HasOutcome t.events.outcomes number o)
       (HasOutcome (restart_events r jobs restarts (length j) (master_calls r carry restarts j)).outcomes number o
@@ -69,7 +69,7 @@ pub record AreReportedIn (r : RingView) (jobs : List Job) (carry : Carry) (resta
       → IsReportOf x (begun_by ((behind_mdt r jobs carry restarts t.sent j).calls k)) ((behind_mdt r jobs carry restarts t.sent j).tasks k)
   pub tasks : (k : ℕ) → k < length r.drives → HasBegunTasks (known_of r) (behind_mdt r jobs carry restarts t.sent j) k
 
--- THE HANDSHAKE. In a cycle commanded 2 to 4 after which the drive stands in 2 to 4: what it has accepted since its reset is all that the
+-- THE HANDSHAKE. In a cycle commanded 2 to 4 after which the drive is in 2 to 4: what it has accepted since its reset is all that the
 -- master has sent to it in this epoch, or all but the last step; and each answer that the master took is the drive's to that step.
 abbrev pub AreInStepAt : RingView → List Job → Carry → Restarts → CycleView → List CycleView → ℕ → Type 0
 AreInStepAt r jobs carry restarts t j k =

@@ -13,7 +13,7 @@ use Rattle.sercos_master.specs.Annals.{Past}
 use Rattle.sercos_law_channel.specs.Handshake.Transfers.{stored}
 use Rattle.sercos_law_channel.specs.Handshake.Values.{newest_to}
 
--- A write that is asked for is held if the newest of the drive's writes to its identifier number has what it gives.
+-- A write is held if the newest of the drive's writes to its identifier number has its bytes.
 abbrev pub IsHeld : List Block → List Write → Request → Type 0
 IsHeld blocks writes (request.Read idn e) = Unit {0}
 IsHeld blocks writes (request.Write idn e bytes) = (b : Block) → find_block idn.raw blocks ≡ Some b → newest_to idn.raw writes ≡ Some (stored b bytes)

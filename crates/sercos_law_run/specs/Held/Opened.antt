@@ -9,8 +9,8 @@ use Rattle.sercos_law_channel.specs.Handshake.WholeRun.{IsSound}
 use Rattle.sercos_law_run.specs.Journal.Runs.{drive_at}
 use Rattle.sercos_law_run.specs.Typed.Typed.{AreTyped, AreTypedJobs}
 
--- The setup is valid, setup and requests are what their types say, and each request to a drive may be made: what it sets is a
--- procedure command of the drive, or a block that the drive hasn't.
+-- The setup is valid, setup and requests keep their types' ranges, and each request to a drive may be made: what it sets is a
+-- procedure command of the drive, or a block that the drive lacks.
 pub record IsOpened (r : RingView) (jobs : List Job) : Type 0 where
   pub valid : is_ring r ≡ true
   pub typed : AreTyped r

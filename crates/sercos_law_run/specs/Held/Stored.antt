@@ -6,7 +6,7 @@ use Rattle.sercos_block.specs.Views.{DriveView}
 use Rattle.sercos_law_run.specs.Start.StartUp.{IsStoreOf}
 use Rattle.sercos_law_channel.specs.Handshake.Views.{View}
 
--- these blocks are the drive's store, whatever was written to it
+-- these blocks are the drive's store, regardless of what was written to it
 abbrev pub IsStored : DriveView → List Block → Type 0
 IsStored d blocks = IsStore blocks × IsStoreOf d blocks
 

@@ -19,14 +19,15 @@ arrival carry p content = carry p (frame_of content)
 unfoldable pub content_in : List Bool → Option (List ℕ)
 content_in bits = if is_none (reason_of bits) then Some (content_of (plain bits)) else None
 
--- The content that arrives at a station, if a frame does. Whether the station takes it, its own rules say.
+-- The content that arrives at a station, if a frame does. The station's own rules decide whether it takes
+-- it.
 abbrev pub heard : Carry → Passage → List ℕ → Option (List ℕ)
 heard carry p content = option_and_then content_in (arrival carry p content)
 
 abbrev pub are_same : List Bool → List Bool → Bool
 are_same xs ys = pointwise beq xs ys
 
--- An arrival is unseen if it isn't what was sent, and is a frame all the same.
+-- An arrival is unseen, that is undetected damage, if it isn't what was sent, and is a frame anyway.
 unfoldable pub is_unseen : List Bool → Option (List Bool) → Bool
 is_unseen sent None = false
 is_unseen sent (Some came) = not (are_same came sent) && is_none (reason_of came)
@@ -39,7 +40,7 @@ abbrev pub is_disturbed : List Bool → Option (List Bool) → Bool
 is_disturbed sent None = true
 is_disturbed sent (Some came) = not (are_same came sent)
 
--- the sum of what a function gives below n
+-- the sum of the values of a function below n
 abbrev pub sum_below : ℕ → (ℕ → ℕ) → ℕ
 sum_below zero f = 0
 sum_below (suc n) f = sum_below n f + f n

@@ -1,5 +1,5 @@
--- The run of a ring: in each cycle each station says what its rules give of what it has got so far. Journals and lists of calls
--- have their newest item first.
+-- The run of a ring: in each cycle each station sends what its rules require after what it has got so far. Journals and lists of
+-- calls have their newest item first.
 use Rattle.std.specs.Prelude.{◌≡◌, ℕ, suc, zero, ◌+◌, ◌*◌, ◌==◌, nat_lt, Bool, true, false, ◌||◌, if◌then◌else◌, List, [], ◌∷◌, ◌++◌, length, Option, Some, None, slice_index, slice_index_or, ℤ, pos, negsuc}
 use Rattle.sercos_hdlc.specs.Stuffed.{frame_of}
 use Rattle.sercos_telegram.specs.declared.layout.Kind.TheVariants as kinds
@@ -37,7 +37,7 @@ no_drive = record {
 abbrev pub drive_at : RingView → ℕ → DriveView
 drive_at r k = slice_index_or r.drives k no_drive
 
--- what the drive at a station was given so far
+-- the calls of the drive at a station so far
 abbrev pub with_restart : Bool → List DriveCall → List DriveCall
 with_restart true h = Restart ∷ h
 with_restart false h = h
@@ -66,8 +66,8 @@ station_from station (d ∷ drives) address = if d.address == address then stati
 abbrev pub station_of : RingView → ℕ → ℕ
 station_of r address = station_from 1 r.drives address
 
--- What the master was given. It hears each AT of which a frame arrives, in the order in which they were sent; which it takes, its
--- own rules say.
+-- The calls of the master. It processes each AT of which a frame arrives, in the order in which they were sent; its own rules decide
+-- which it takes.
 abbrev pub with_at : Option (List ℕ) → List Call → List Call
 with_at None h = h
 with_at (Some content) h = HearAt content ∷ h
@@ -116,7 +116,7 @@ abbrev pub with_said : Option Said → List Said → List Said
 with_said None others = others
 with_said (Some s) others = inserted s others
 
--- what the drive at place k was given up to the MST's place of a cycle, if it was given the calls `h k` before
+-- the calls of the drive at place k up to the MST's place of a cycle, after its calls `h k`
 abbrev pub at_mst : Carry → Restarts → ℕ → List ℕ → (ℕ → List DriveCall) → ℕ → List DriveCall
 at_mst carry restarts cycle mst h k = mst_calls carry restarts cycle (k + 1) mst (h k)
 
@@ -133,7 +133,7 @@ abbrev pub contents : List Said → List (List ℕ)
 contents [] = []
 contents (s ∷ others) = s.content ∷ contents others
 
--- The moves of the first n drives: after the calls `h` a drive stands in another phase than after the calls `g`.
+-- The moves of the first n drives: after the calls `h` a drive is in another phase than after the calls `g`.
 abbrev pub move_of : Bool → ℕ → ℕ → ℕ → List Move
 move_of late address before after = if before == after then [] else (record { drive = address; phase = after; late = late }) ∷ []
 
@@ -175,12 +175,12 @@ abbrev pub content_of : Option Sent → Option (List ℕ)
 content_of None = None
 content_of (Some s) = Some s.content
 
--- the MDT's content, and what each drive was given up to its place
+-- the MDT's content, and the calls of each drive up to its place
 abbrev pub at_mdt : Carry → ℕ → Option (List ℕ) → (ℕ → List DriveCall) → ℕ → List DriveCall
 at_mdt carry cycle mdt h k = Mdt (mdt_heard carry cycle (k + 1) mdt) ∷ h k
 
--- The record of a cycle, by the MST, the ATs and the MDT that are sent in it; what the drives were given before it and up to the
--- MST's place; what the master looks back on at the MDT's place; and what the master was given before the cycle.
+-- The record of a cycle, by the MST, the ATs and the MDT that are sent in it; the calls of the drives before it and up to the MST's
+-- place; what the master looks back on at the MDT's place; and the calls of the master before the cycle.
 abbrev pub record_of : RingView → List Job → Carry → Restarts → ℕ → ℕ → List ℕ → List Said → Option Sent → (ℕ → List DriveCall) → (ℕ → List DriveCall) → Past → List Call → CycleView
 record_of r jobs carry restarts cycle phase mst ats mdt g h p calls = record {
   cycle = cycle;
@@ -208,14 +208,14 @@ next_record r jobs carry restarts j =
     let g : ℕ → List DriveCall = λ k. drive_calls carry restarts (k + 1) j in
     next_with r jobs carry restarts (length j) (looks_back r jobs (begin_calls restarts (length j) calls)) g calls
 
--- What the master was given before a cycle's MST, and what it was given up to the place of the MDT, of a cycle with these telegrams.
+-- The calls of the master before a cycle's MST, and those up to the place of the MDT, of a cycle with these telegrams.
 abbrev pub begins : RingView → Carry → Restarts → List CycleView → List Call
 begins r carry restarts j = begin_calls restarts (length j) (master_calls r carry restarts j)
 
 abbrev pub middle : RingView → Carry → Restarts → List SentView → List CycleView → List Call
 middle r carry restarts sent j = mid_calls r carry restarts (length j) (mst_in sent) (ats_in sent) (master_calls r carry restarts j)
 
--- what each drive was given before a cycle, and up to the place of the ATs
+-- the calls of each drive before a cycle, and up to the place of the ATs
 abbrev pub given_before : Carry → Restarts → List CycleView → ℕ → List DriveCall
 given_before carry restarts j k = drive_calls carry restarts (k + 1) j
 

@@ -1,4 +1,4 @@
--- What a run comes to after a fall, if no later cycle is disturbed. The newest cycle of a journal comes first.
+-- What becomes of a run after a fall, if no later cycle is disturbed. The newest cycle of a journal comes first.
 use Rattle.std.specs.Prelude.{◌≡◌, ◌⊎◌, ℕ, ◌+◌, ◌*◌, ◌<◌, ◌≤◌, true, List, ◌∷◌, ◌++◌, length, Some, slice_get}
 use Rattle.sercos_step.specs.declared.request.Job.{Job}
 use Rattle.sercos_block.specs.Startup.{startup_bound}
@@ -23,13 +23,13 @@ use Rattle.sercos_law_run.specs.Undisturbed.StopsLater.{IsRight}
 use Rattle.sercos_law_run.specs.Undisturbed.Undisturbed.{AreUndisturbed}
 use Rattle.sercos_law_run.specs.Undisturbed.WholeRuns.{HasTold, StopsForCause}
 
--- What holds of a cycle of an epoch, which is in phase 0 after the cycles `before`; those between them and this one are `cycles`. No fall is
--- told, and no broken request. From the cycle of the epoch on that the bound of a start-up says, phase 4 is commanded if the ring is right;
--- it is commanded only if it is; and once commanded, it stays. Phase 3 is commanded only if a plan fits, and the cycle time lies within
--- each drive's limits. From 41 steps of the slowest drive after that bound on, phase 4 is commanded, or the master has told a stop since
--- for its cause; and after a stop no other is told. A step is answered busy time and one cycle after the cycle in which it was begun,
--- and first sent. If phase 4 is commanded, the request to a drive at place i of those that waited when the epoch began, counted from 0, has
--- been reported since from the cycle on that comes i + 1 times the cycles of one request after the bound of a start-up.
+-- What holds of a cycle of an epoch, which is in phase 0 after the cycles `before`; those between them and this one are `cycles`. No fall
+-- is reported, and no broken request. From the cycle of the epoch that is the bound of a start-up on, phase 4 is commanded if the ring is
+-- right; it is commanded only if it is; and once commanded, it stays. Phase 3 is commanded only if a plan fits, and the cycle time lies
+-- within each drive's limits. From 41 steps of the slowest drive after that bound on, phase 4 is commanded, or the master has reported a
+-- stop since for its cause; and after a stop no other is reported. A step is answered busy time and one cycle after the cycle in which it
+-- was begun, and first sent. If phase 4 is commanded, the request to a drive at place i of those that waited when the epoch began, counted
+-- from 0, has been reported since: at the latest i + 1 times the cycles of one request after the bound of a start-up.
 pub record StartsAgain (r : RingView) (jobs : List Job) (carry : Carry) (restarts : Restarts) (t : CycleView) (cycles before : List CycleView) : Type 0 where
   pub tells : TellsNoFall t
   pub rises : startup_bound r ≤ length cycles → IsRight r → t.phase ≡ 4
@@ -43,8 +43,8 @@ pub record StartsAgain (r : RingView) (jobs : List Job) (carry : Carry) (restart
   pub reports : t.phase ≡ 4 → (k i : ℕ) (x : Task) → k < length r.drives → slice_get (waiting_after r jobs carry restarts before k) i ≡ Some x → startup_bound r + (i + 1) * request_cycles r k ≤ length cycles →
       (number : ℕ) × (x.number ≡ Some number) × HaveTold (t ∷ cycles) number
 
--- AFTER A FALL. If the record of cycle f tells a fall, a restart of the master among them, and no cycle after it is disturbed, the ring
--- starts up again in the cycle after f, whatever was lost before, if nothing was unseen. Where the master restarts in f, the epoch begins in
+-- AFTER A FALL. If the record of cycle f has a fall, a restart of the master included, and no cycle after it is disturbed, the ring starts
+-- up again in the cycle after f, regardless of losses before, if nothing was undetected. If the master restarts in f, the epoch begins in
 -- that very cycle; what is counted here begins in the next one.
 abbrev pub AfterFall : Type 0
 AfterFall = (r : RingView) (jobs : List Job) (carry : Carry) (restarts : Restarts) (t f : CycleView) (cycles before : List CycleView) (x : Fall) → IsOpened r jobs → IsRun r jobs carry restarts (t ∷ (cycles ++ f ∷ before)) →

@@ -1,4 +1,4 @@
--- How soon the ring falls if a drive is in phase 0 where phase 2 or a later one is commanded. The newest cycle of a journal comes first.
+-- How soon the ring falls if a drive is in phase 0 while phase 2 or a later one is commanded. The newest cycle of a journal comes first.
 use Rattle.std.specs.Prelude.{◌≡◌, ℕ, ◌+◌, ◌<◌, ◌≤◌, List, ◌∷◌, ◌++◌, length}
 use Rattle.std.specs.List.{sum_by}
 use Rattle.sercos_step.specs.declared.request.Job.{Job}
@@ -12,7 +12,7 @@ use Rattle.sercos_law_run.specs.Undisturbed.EpochStarts.{Falls}
 use Rattle.sercos_law_run.specs.Undisturbed.Undisturbed.{IsUndisturbed}
 use Rattle.sercos_law_run.specs.Recovery.Stretches.{IsDown, IsStretch}
 
--- so many cycles are at most a section of each drive but one, and the limit for that one
+-- the cycles are at most a section of each drive but one, and the limit for that one
 pub record IsSpared (r : RingView) (limit cycles : ℕ) : Type 0 where
   pub earlier : List DriveView
   pub one : DriveView

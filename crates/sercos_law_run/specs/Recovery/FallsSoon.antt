@@ -1,4 +1,4 @@
--- How soon a fall comes if no drive is in phase 0. The newest cycle of a journal comes first.
+-- How soon the ring falls, if it does, while no drive is in phase 0. The newest cycle of a journal comes first.
 use Rattle.std.specs.Prelude.{ℕ, ◌+◌, ◌<◌, ◌≤◌, List, ◌∷◌, ◌++◌, length}
 use Rattle.sercos_step.specs.declared.request.Job.{Job}
 use Rattle.sercos_block.specs.Views.{RingView}

@@ -1,4 +1,4 @@
--- What a run comes to after its last fault. The newest cycle of a journal comes first.
+-- What becomes of a run after its last fault. The newest cycle of a journal comes first.
 use Rattle.std.specs.Prelude.{◌≡◌, ◌⊎◌, ◌+◌, ◌≤◌, List, [], ◌∷◌, ◌++◌, length, Some, None}
 use Rattle.sercos_step.specs.declared.request.Job.{Job}
 use Rattle.sercos_block.specs.Views.{RingView}
@@ -14,23 +14,22 @@ use Rattle.sercos_law_run.specs.Undisturbed.Undisturbed.{AreUndisturbed}
 use Rattle.sercos_law_run.specs.Undisturbed.WholeRuns.{StopsForCause}
 use Rattle.sercos_law_run.specs.Recovery.AfterFalls.{StartsAgain}
 
--- THE MASTER STANDS AT A STOP: the record of one of these cycles tells it, and neither that one nor a later one tells a fall.
+-- THE MASTER IS AT A STOP: the record of one of these cycles has it, and neither that one nor a later one has a fall.
 abbrev pub StandsAt : Stop → List CycleView → Type 0
 StandsAt x [] = ⊥
 StandsAt x (t ∷ j) = (t.events.fall ≡ None) × ((t.events.stop ≡ Some x) ⊎ StandsAt x j)
 
--- The ring is back: phase 4 is commanded in the newest cycle, and the ring is right; or the master stands at a stop for its cause.
+-- The ring is back: phase 4 is commanded in the newest cycle, and the ring is right; or the master is at a stop for its cause.
 abbrev pub IsBack : RingView → CycleView → List CycleView → Type 0
 IsBack r t j = ((t.phase ≡ 4) × IsRight r) ⊎ ((x : Stop) × StandsAt x (t ∷ j) × StopsForCause r x)
 
--- What holds of the newest cycle. If no cycle is disturbed after one whose record tells a fall, the ring has started up again since. If
--- none is disturbed after the cycle `lost`, the ring is back from the cycle on that comes so many cycles after `lost` as the bound of a
--- recovery says.
+-- What holds of the newest cycle. If no cycle is disturbed after one whose record has a fall, the ring has started up again since. If none
+-- is disturbed after the cycle `lost`, the ring is back from the bound of a recovery after `lost` on.
 pub record RecoversIn (r : RingView) (jobs : List Job) (carry : Carry) (restarts : Restarts) (t : CycleView) (j : List CycleView) : Type 0 where
   pub after_fall : (cycles before : List CycleView) (f : CycleView) (x : Fall) → j ≡ cycles ++ f ∷ before → AreUndisturbed r carry restarts (t ∷ cycles) (f ∷ before) → f.events.fall ≡ Some x →
       StartsAgain r jobs carry restarts t cycles (f ∷ before)
   pub back : (cycles before : List CycleView) (lost : CycleView) → j ≡ cycles ++ lost ∷ before → AreUndisturbed r carry restarts (t ∷ cycles) (lost ∷ before) → length before + recovery_bound r ≤ length j → IsBack r t j
 
--- RECOVERY. So it is in each cycle of a run, as long as nothing is unseen, whatever was lost or damaged, and whichever stations restarted.
+-- RECOVERY. This holds in each cycle of a run, as long as nothing is undetected, regardless of losses and restarts.
 abbrev pub Recovers : Type 0
 Recovers = (r : RingView) (jobs : List Job) (carry : Carry) (restarts : Restarts) (t : CycleView) (j : List CycleView) → IsOpened r jobs → IsRun r jobs carry restarts (t ∷ j) → IsClear (t ∷ j) → RecoversIn r jobs carry restarts t j

@@ -1,5 +1,5 @@
--- Cycles of a run in which nothing is disturbed and the ring doesn't fall, whatever was lost before them. The newest cycle of a journal
--- comes first.
+-- Cycles of a run in which nothing is disturbed and the ring doesn't fall, regardless of losses before them. The newest cycle of a
+-- journal comes first.
 use Rattle.std.specs.Prelude.{◌≡◌, List, [], ◌∷◌, None, ℕ}
 use Rattle.sercos_step.specs.declared.request.Job.{Job}
 use Rattle.sercos_block.specs.Views.{RingView}
@@ -13,7 +13,7 @@ use Rattle.sercos_law_run.specs.Views.RingViews.{behind_mdt, views_of}
 use Rattle.sercos_law_run.specs.Undisturbed.StartUps.{NoneFalls}
 use Rattle.sercos_law_run.specs.Undisturbed.Undisturbed.{AreUndisturbed, IsUndisturbed}
 
--- The cycle `first` and those that come after it are undisturbed, and the ring falls at the end of none of them.
+-- The cycle `first` and the later ones are undisturbed, and the ring falls at the end of none of them.
 pub record IsStretch (r : RingView) (jobs : List Job) (carry : Carry) (restarts : Restarts) (cycles : List CycleView) (first : CycleView) (before : List CycleView) : Type 0 where
   pub calm : AreUndisturbed r carry restarts cycles (first ∷ before)
   pub stays : NoneFalls r jobs carry restarts cycles (first ∷ before)

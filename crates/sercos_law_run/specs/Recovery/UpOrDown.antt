@@ -25,14 +25,14 @@ pub record KeepsUp (r : RingView) (jobs : List Job) (carry : Carry) (restarts : 
   pub clean : AreClean (views_since r jobs carry restarts k cycles (first ∷ before)) (views_of r jobs carry restarts k (first ∷ before))
 
 -- UP OR DOWN. In cycles in which nothing is disturbed and the ring doesn't fall, each drive keeps up, or it is in phase 0 at the end of the
--- newest; whatever was lost before them, and in whatever phases the drives were, if nothing was unseen.
+-- newest; regardless of losses before them, and of the phases of the drives, if nothing was undetected.
 abbrev pub UpOrDown : Type 0
 UpOrDown = (r : RingView) (jobs : List Job) (carry : Carry) (restarts : Restarts) (cycles : List CycleView) (first : CycleView) (before : List CycleView) → IsOpened r jobs → IsRun r jobs carry restarts (cycles ++ first ∷ before) →
     IsClear (cycles ++ first ∷ before) → IsStretch r jobs carry restarts cycles first before → (k : ℕ) → k < length r.drives →
     IsDown r jobs carry restarts k (cycles ++ first ∷ before) ⊎ KeepsUp r jobs carry restarts k cycles first before
 
--- A drive in phase 0 stays there while 2 to 4 is commanded, in every run in which nothing was unseen: the master hears nothing of it, takes
--- no answer, and a step that is open stays so.
+-- A drive in phase 0 stays there while 2 to 4 is commanded, in every run without undetected damage: the master receives nothing of it,
+-- takes no answer, and a step that is open stays open.
 abbrev pub StaysDown : Type 0
 StaysDown = (r : RingView) (jobs : List Job) (carry : Carry) (restarts : Restarts) (t : CycleView) (j : List CycleView) → IsOpened r jobs → IsRun r jobs carry restarts (t ∷ j) → IsClear (t ∷ j) → (k : ℕ) → k < length r.drives →
     IsDown r jobs carry restarts k j → 2 ≤ t.phase → IsDead (view_of r jobs carry restarts k t j) (views_of r jobs carry restarts k j)

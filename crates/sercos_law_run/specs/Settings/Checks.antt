@@ -1,4 +1,4 @@
--- What a complete check for phase 3 gives. Each list has its newest item first.
+-- The result of a complete check for phase 3. Each list has its newest item first.
 use Rattle.std.specs.Prelude.{◌≡◌, ℕ, true, List, [], ◌∷◌, ◌++◌, Some}
 use Rattle.sercos_step.specs.declared.request.Request.TheVariants as request
 use Rattle.sercos_step.specs.declared.request.Outcome.TheVariants as outcome
@@ -15,7 +15,7 @@ use Rattle.sercos_law_run.specs.Settings.SetByWrites.{SettingsFollow}
 use Rattle.sercos_law_run.specs.Settings.WellSet.{AreSetWell, StandWell, HaveStores}
 
 -- In a run of a drive with these blocks: if the settings follow, and each check for phase 3 was set well, each complete check for
--- phase 3 of the epoch gives 3.
+-- phase 3 of the epoch returns 3.
 abbrev pub ChecksGive3 : ℕ → Type 0
 ChecksGive3 busy = (blocks : List Block) (past : List View) → IsRun busy past → AreSound blocks past → SettingsFollow past → AreSetWell past → HaveStores (λ blocks. is_command blocks 127 ≡ true) past →
     (newer older : List Begun) (b : Begun) (bytes : List ℕ) → epoch_begun past ≡ newer ++ b ∷ older → b.request ≡ request.Command (idn 127) → outcome_of b.request b.answers ≡ Some (outcome.Complete bytes) → bytes ≡ 3 ∷ 0 ∷ []

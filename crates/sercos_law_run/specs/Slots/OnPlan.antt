@@ -23,7 +23,7 @@ abbrev pub IsSentBefore : AtSlot → AtSlot → Type 0
 IsSentBefore s t = (s.start < t.start) ⊎ ((s.start ≡ t.start) × (s.drive < t.drive))
 
 -- Any drives send, each at the T1 that it holds. The master sends at the plan's T2, with a data record for each drive of the
--- length that this drive asks for. No telegram has more bits than a frame of its content can have.
+-- length that this drive requires. No telegram has more bits than a frame of its content can have.
 pub record AreOnPlan (w : WishesView) (p : PlanView) (held : ℕ → Option Held) (ats : List AtSlot) (mdt : MdtSlot) : Type 0 where
   pub holds : (k : ℕ) (h : Held) → k < length w.drives → held k ≡ Some h → h ≡ held_of p k
   pub drives : All (λ s. s.drive < length w.drives) ats
@@ -34,7 +34,7 @@ pub record AreOnPlan (w : WishesView) (p : PlanView) (held : ℕ → Option Held
   pub mdt_bits : mdt.bits ≤ mdt_bits w
   pub records : map length mdt.records ≡ map (λ d. d.record_len) w.drives
 
--- If every drive that takes part holds the values of one plan that fits, the slots of the cycle are apart, whichever ATs are
+-- If every drive that takes part holds the values of one plan that fits, the slots of the cycle are apart, even if ATs are
 -- missing.
 abbrev pub PlanKeepsApart : Type 0
 PlanKeepsApart = (w : WishesView) (p : PlanView) (held : ℕ → Option Held) (ats : List AtSlot) (mdt : MdtSlot) →

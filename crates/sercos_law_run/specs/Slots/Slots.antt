@@ -63,7 +63,7 @@ abbrev pub HasRecovered : WishesView → AtSlot → AtSlot → Type 0
 HasRecovered w earlier later =
     same_slave w earlier.drive later.drive ≡ true → end_of earlier + w.rate * (times w later.drive).tatat ≤ later.start
 
--- Two data records, given by their first byte and length, share no byte.
+-- Two data records, by their first byte and length, share no byte.
 abbrev pub AreSeparate : ℕ → ℕ → ℕ → ℕ → Type 0
 AreSeparate a a_len b b_len = (a + a_len ≤ b) ⊎ (b + b_len ≤ a)
 
@@ -103,7 +103,7 @@ pub record AreApart (w : WishesView) (held : ℕ → Option Held) (ats : List At
   pub recovered : AllPairs (HasRecovered w) ats
   -- the MDT starts when each drive that has sent can receive again
   pub receive : All (λ s. end_of s + w.rate * (times w s.drive).tatmt ≤ mdt.start) ats
-  -- the MDT has a data record for each drive of the ring, of the length that this drive asks for
+  -- the MDT has a data record for each drive of the ring, of the length that this drive requires
   pub records : map length mdt.records ≡ map (λ d. d.record_len) w.drives
   -- what each drive holds agrees with the MDT
   pub served : (k : ℕ) (h : Held) → k < length w.drives → held k ≡ Some h → IsServed w mdt k h

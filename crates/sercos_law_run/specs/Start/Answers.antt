@@ -1,4 +1,4 @@
--- What a drive answers to the master's first reads, and that the master asks of the plan what the ring asks.
+-- What a drive answers to the master's first reads, and that the master's planner input is the ring's.
 use Rattle.std.specs.Prelude.{◌≡◌, ℕ, ◌<◌, ◌==◌, true, List, [], ◌∷◌, ◌++◌, Some, None, option_and_then, unwrap_or, slice_get}
 use Rattle.std.specs.List.{All, list_all, list_any}
 use Rattle.sercos_idn.specs.declared.idn.Idn.{Idn}
@@ -20,7 +20,7 @@ use Rattle.sercos_law_run.specs.Start.StartUp.{IsStoreOf}
 abbrev pub element_read : List Block → ℕ → ℕ → List ℕ
 element_read blocks raw e = unwrap_or (option_and_then (λ b. element_of b e) (find_block raw blocks)) []
 
--- An outcome answers a read: it is complete, with the bytes of the element in a store of the drive, at whatever time.
+-- An outcome answers a read: it is complete, with the bytes of the element in a store of the drive, at any time.
 abbrev pub IsAnswer : DriveView → Request → Outcome → Type 0
 IsAnswer d (request.Read i e) o = (blocks : List Block) × IsStoreOf d blocks × (o ≡ outcome.Complete (element_read blocks i.raw e))
 IsAnswer d r o = ⊥
@@ -35,18 +35,18 @@ AreAnswers d (r ∷ requests) (o ∷ outcomes) = IsAnswer d r o × AreAnswers d 
 abbrev pub HaveFactors : DriveView → Type 0
 HaveFactors d = All (λ (b : Block). b.attribute.factor < 65536) d.blocks
 
--- So do those of all blocks that are what their types say.
+-- So do those of all blocks that keep their types' ranges.
 abbrev pub TypedHaveFactors : Type 0
 TypedHaveFactors = (d : DriveView) → list_all is_typed d.blocks ≡ true → HaveFactors d
 
--- If each drive has answered the first reads, the master asks of the plan what the ring asks. It knows nothing of the times that
--- the drives declare, or of their data blocks, but by these answers.
+-- If each drive has answered the first reads, the master's planner input is the ring's. It knows the times that the drives
+-- declare, and their data blocks, by these answers alone.
 abbrev pub AsksAsRing : Type 0
 AsksAsRing = (r : RingView) (outcomes : ℕ → List Outcome) → is_ring r ≡ true →
     ((k : ℕ) (d : DriveView) → slice_get r.drives k ≡ Some d → HaveFactors d × AreAnswers d (reads (member_of d)) (outcomes k)) →
     wishes_given (known_of r) outcomes ≡ wishes_of r
 
--- The attribute that was read says how many bytes the block adds to a telegram.
+-- The attribute that was read determines how many bytes the block adds to a telegram.
 abbrev pub SaysLength : Type 0
 SaysLength = (d : DriveView) (i : Idn) (o : Outcome) → blocks_fault [] d.blocks ≡ None → HaveFactors d → IsAnswer d (request.Read i 3) o →
     len_said (long_in (bytes_of o)) ≡ cyclic_len d.blocks i.raw

@@ -17,7 +17,7 @@ use Rattle.sercos_seat.specs.Agenda.{list_stop}
 use Rattle.sercos_law_run.specs.Start.StartUp.{IsStoreOf, Holds, start_up}
 use Rattle.sercos_law_run.specs.Start.Kept.{is_own_outside}
 
--- Whatever was written, each word of a write is refused as at opening, with the same code.
+-- Regardless of what was written, each word of a write is refused as at opening, with the same code.
 abbrev pub CausesAlike : Type 0
 CausesAlike = (d : DriveView) (blocks : List Block) → IsStoreOf d blocks → (raw phase : ℕ) (last : Bool) (words : List ℕ) →
     write_cause_in (find_block raw blocks) phase last words ≡ write_cause_in (find_block raw (store_of d)) phase last words
@@ -36,13 +36,13 @@ abbrev pub NumberHasNoCause : Type 0
 NumberHasNoCause = (d : DriveView) (blocks : List Block) (raw word : ℕ) → blocks_fault [] d.blocks ≡ None → IsStoreOf d blocks → is_start_number raw ≡ true →
     write_cause_in (find_block raw blocks) 2 true (word ∷ []) ≡ None
 
--- Nor is a word of a list of m identifier numbers, at most 16. Such a write has m + 2 words: the list's length in bytes, one that
--- says nothing, and the numbers.
+-- Nor is a word of a list of m identifier numbers, at most 16. Such a write has m + 2 words: the list's length in bytes, a zero,
+-- and the numbers.
 abbrev pub ListHasNoCause : Type 0
 ListHasNoCause = (d : DriveView) (blocks : List Block) (raw m n : ℕ) (words : List ℕ) → blocks_fault [] d.blocks ≡ None → IsStoreOf d blocks → ((raw == 16) ≡ true) ⊎ ((raw == 24) ≡ true) →
     m ≤ 16 → length words ≡ n → n < 2 + m → write_cause_in (find_block raw blocks) 2 (n == 1 + m) (2 * m ∷ words) ≡ None
 
--- A plan may be asked for what a ring asks, if no list of a drive has more than 16 entries.
+-- A plan may be requested for a ring's input if no list of a drive has more than 16 entries.
 abbrev pub RingIsValid : Type 0
 RingIsValid = (r : RingView) → is_ring r ≡ true → ((k : ℕ) (d : DriveView) → slice_get r.drives k ≡ Some d → (length d.at ≤ 16) × (length d.mdt ≤ 16)) → IsValid (wishes_of r)
 

@@ -32,7 +32,7 @@ abbrev pub WritesHold : Type 0
 WritesHold = (blocks : List Block) (raw other : ℕ) (bytes : List ℕ) → has_block raw blocks ≡ true →
     data_at (with_data raw bytes blocks) other ≡ (if other == raw then bytes else data_at blocks other)
 
--- Whatever was written, the same writes are refused as at opening, with the same codes.
+-- Regardless of what was written, the same writes are refused as at opening, with the same codes.
 abbrev pub RefuseAlike : Type 0
 RefuseAlike = (d : DriveView) (blocks : List Block) → IsStoreOf d blocks → (raw phase : ℕ) (bytes : List ℕ) →
     put_fault (find_block raw blocks) phase bytes ≡ put_fault (find_block raw (store_of d)) phase bytes
@@ -62,13 +62,13 @@ NamesOwn = (d : DriveView) (blocks : List Block) (cycle : ℕ) → IsStore block
     data_at blocks 2 ≡ to_le_bytes w16 cycle → cycle < 65536 → d.cycle_min ≤ cycle → cycle ≤ d.cycle_max →
     unfit_for_phase_4 blocks ≡ map (λ (b : Block). b.idn) (filter is_own_outside blocks)
 
--- So it finds nothing exactly if there is none.
+-- So it finds nothing iff there is none.
 abbrev pub PassesForPhase4 : Type 0
 PassesForPhase4 = (d : DriveView) (blocks : List Block) (cycle : ℕ) → IsStore blocks → blocks_fault [] d.blocks ≡ None → IsStoreOf d blocks →
     data_at blocks 2 ≡ to_le_bytes w16 cycle → cycle < 65536 → d.cycle_min ≤ cycle → cycle ≤ d.cycle_max →
     (unfit_for_phase_4 blocks ≡ []) ↔ (list_any is_own_outside blocks ≡ false)
 
--- A built-in block has no step. So what a read of its operation data gives doesn't depend on the cycle.
+-- A built-in block has no step. So the result of a read of its operation data doesn't depend on the cycle.
 abbrev pub BuiltInIsSteady : Type 0
 BuiltInIsSteady = (d : DriveView) (blocks : List Block) (raw cycle : ℕ) (b : Block) → blocks_fault [] d.blocks ≡ None → IsStoreOf d blocks →
     is_built_in raw ≡ true → find_block raw blocks ≡ Some b → data_in cycle b ≡ b.value

@@ -20,9 +20,9 @@ use Rattle.sercos_law_run.specs.Start.Held.{held_in}
 abbrev pub held_by : (ℕ → Bool) → (ℕ → List Block) → ℕ → Option Held
 held_by takes_part stores k = if takes_part k then Some (held_in (stores k)) else None
 
--- What is sent in a cycle. Some of the drives that take part send, each at the T1 in its store, an AT with the address and what
--- its list says. The master sends the MDT at the plan's T2, with a data record for each drive of the ring, of the length that
--- this drive asks for.
+-- What is sent in a cycle. Some of the drives that take part send, each at the T1 in its store, an AT with the address and the
+-- values of its list. The master sends the MDT at the plan's T2, with a data record for each drive of the ring, of the length
+-- that this drive requires.
 pub record AreSent (r : RingView) (p : PlanView) (takes_part : ℕ → Bool) (stores : ℕ → List Block) (ats : List AtSlot) (mdt : MdtSlot) : Type 0 where
   pub senders : All (λ s. (s.drive < length r.drives) × (takes_part s.drive ≡ true)) ats
   pub starts : All (λ s. s.start ≡ r.rate * number_at (stores s.drive) 6) ats
@@ -37,7 +37,7 @@ abbrev pub AllHold : RingView → PlanView → (ℕ → Bool) → (ℕ → List 
 AllHold r p takes_part stores = (k : ℕ) (d : DriveView) → slice_get r.drives k ≡ Some d → takes_part k ≡ true →
     IsStoreOf d (stores k) × Holds (stores k) (start_up r.control r.cycle p k d.at d.mdt)
 
--- If the plan fits what the ring asks, the slots are apart.
+-- If the plan fits the ring's requirements, the slots are apart.
 abbrev pub RingKeepsApart : Type 0
 RingKeepsApart = (r : RingView) (p : PlanView) (takes_part : ℕ → Bool) (stores : ℕ → List Block) (ats : List AtSlot) (mdt : MdtSlot) →
     is_ring r ≡ true → IsValid (wishes_of r) → Fits (wishes_of r) p → AllHold r p takes_part stores → AreSent r p takes_part stores ats mdt →

@@ -23,7 +23,7 @@ is_given raw = (raw == 21) || (raw == 22)
 abbrev pub kept : Block → Block
 kept b = if is_fixed b && not (is_given b.idn.raw) then b else record b { value = [] }
 
--- The blocks are the store of a drive, whatever was written to it since its opening.
+-- The blocks are the store of a drive, regardless of what was written to it since its opening.
 abbrev pub IsStoreOf : DriveView → List Block → Type 0
 IsStoreOf d blocks = map kept blocks ≡ map kept (store_of d)
 
@@ -51,7 +51,7 @@ Holds blocks [] = Unit {0}
 Holds blocks (v ∷ values) = (data_at blocks v.0 ≡ v.1) × Holds blocks values
 
 -- How many bytes an identifier number adds to a telegram is defined twice: over the blocks of a store, and over a drive's own
--- blocks beside the table of built-in ones. Both agree, whatever was written.
+-- blocks beside the table of built-in ones. Both agree, regardless of what was written.
 abbrev pub CarryAlike : Type 0
 CarryAlike = (d : DriveView) (blocks : List Block) → blocks_fault [] d.blocks ≡ None → IsStoreOf d blocks →
     (raw : ℕ) → checks.cyclic_len blocks raw ≡ cyclic_len d.blocks raw
@@ -62,7 +62,8 @@ AreAsLong = (d : DriveView) (blocks : List Block) → blocks_fault [] d.blocks �
     (data_at blocks 16 ≡ list_bytes d.at → carried_len blocks 16 ≡ at_len d)
     × (data_at blocks 24 ≡ list_bytes d.mdt → carried_len blocks 24 ≡ record_len d)
 
--- If a drive of a ring holds the start-up values of a plan that fits what the ring asks, its check for phase 3 finds nothing.
+-- If a drive of a ring holds the start-up values of a plan that fits the ring's requirements, its check for phase 3 finds
+-- nothing.
 abbrev pub PlanPassesCheck : Type 0
 PlanPassesCheck = (r : RingView) (p : PlanView) (k : ℕ) (d : DriveView) (blocks : List Block) →
     is_ring r ≡ true → IsValid (wishes_of r) → Fits (wishes_of r) p → slice_get r.drives k ≡ Some d →

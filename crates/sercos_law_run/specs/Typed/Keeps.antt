@@ -26,7 +26,7 @@ pub record Keeps (d : DriveView) (past : List Moment) : Type 0 where
   pub store : IsStore (blocks_in d past)
   pub taken : AreTaken (taken_in past)
 
--- So it is at the end of every journal, whatever the links make of what is sent ..
+-- This holds at the end of every journal, whatever the links do to what is sent ..
 abbrev pub KeepsAlways : Type 0
 KeepsAlways = (r : RingView) (carry : Carry) (restarts : Restarts) (j : List CycleView) (k : ℕ) → is_ring r ≡ true → AreTyped r → k < length r.drives → Keeps (drive_at r k) (annals (drive_at r k) r.rate (given_before carry restarts j k))
 

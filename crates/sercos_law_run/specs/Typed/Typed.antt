@@ -1,4 +1,4 @@
--- What the types say of a ring and of the requests to its drives, at opening.
+-- The ranges of a ring's numbers and of the requests to its drives, at opening.
 use Rattle.std.specs.Prelude.{◌≡◌, ℕ, ◌<◌, ◌≤◌, true, List, length}
 use Rattle.std.specs.List.{All, list_all}
 use Rattle.sercos_model.specs.Bits.{AreBytes}

@@ -1,4 +1,4 @@
--- Within how many cycles of an undisturbed epoch phase 4 comes, or a stop. The newest cycle of a journal comes first.
+-- Within how many cycles of an undisturbed epoch phase 4 begins, or a stop occurs. The newest cycle of a journal comes first.
 use Rattle.std.specs.Prelude.{◌≡◌, ◌⊎◌, ℕ, ◌+◌, ◌*◌, ◌<◌, ◌≤◌, true, false, List, ◌∷◌, ◌++◌, length, is_some}
 use Rattle.sercos_step.specs.declared.request.Job.{Job}
 use Rattle.sercos_block.specs.Startup.{startup_bound}
@@ -23,14 +23,14 @@ pub record HasBadCheck (r : RingView) (p : Past) : Type 0 where
   pub ended : reads_count (member (known_of r) place) + 12 < length (outcomes p place)
   pub badly : is_ready (member (known_of r) place) (outcomes p place) ≡ false
 
--- After so many cycles of an undisturbed epoch as a start-up has, phase 4 is commanded, or there is a stop, or one is to come, since a check
--- for phase 4 hasn't ended well.
+-- After the cycles of a start-up in an undisturbed epoch, phase 4 is commanded, or there is a stop, or one is to follow, since a check for
+-- phase 4 hasn't ended well.
 abbrev pub ComesToPhaseFour : Type 0
 ComesToPhaseFour = (r : RingView) (jobs : List Job) (carry : Carry) (restarts : Restarts) (t : CycleView) (cycles before : List CycleView) → IsOpened r jobs → IsRun r jobs carry restarts (t ∷ (cycles ++ before)) →
     IsClear (t ∷ (cycles ++ before)) → StartsEpoch r jobs carry restarts before → AreUndisturbed r carry restarts (t ∷ cycles) before → startup_bound r ≤ length cycles →
     (t.phase ≡ 4) ⊎ ((is_some (behind_mdt r jobs carry restarts t.sent (cycles ++ before)).stop ≡ true) ⊎ HasBadCheck r (looks_back r jobs (master_calls r carry restarts (cycles ++ before))))
 
--- And if that one has had the time to come, which is that of 41 steps more of the slowest drive, phase 4 is commanded, or there is a stop.
+-- And if that one has had its time, which is that of 41 steps more of the slowest drive, phase 4 is commanded, or there is a stop.
 abbrev pub ComesToAnEnd : Type 0
 ComesToAnEnd = (r : RingView) (jobs : List Job) (carry : Carry) (restarts : Restarts) (t : CycleView) (cycles before : List CycleView) → IsOpened r jobs → IsRun r jobs carry restarts (t ∷ (cycles ++ before)) →
     IsClear (t ∷ (cycles ++ before)) → StartsEpoch r jobs carry restarts before → AreUndisturbed r carry restarts (t ∷ cycles) before → startup_bound r + 41 * (slowest r.drives + 2) ≤ length cycles →

@@ -17,12 +17,12 @@ StartsEpoch r jobs carry restarts before = (looks_back r jobs (master_calls r ca
 abbrev pub came_back : RingView → List Job → Carry → Restarts → List CycleView → ℕ
 came_back r jobs carry restarts before = whole_row (looks_back r jobs (master_calls r carry restarts before)).turns
 
--- the ring falls at the end of cycle t, which comes after the others
+-- the ring falls at the end of cycle t, which is later than the others
 abbrev pub Falls : RingView → List Job → Carry → Restarts → CycleView → List CycleView → Type 0
 Falls r jobs carry restarts t j = is_some (fall_of (known_of r) (behind_mdt r jobs carry restarts t.sent j)) ≡ true
 
--- An epoch starts at the opening and after a fall, and no MST of it came back yet; and with a cycle in which the master restarts, and after
--- it phase 0 is commanded still, and its MST came back at most.
+-- An epoch starts at the opening and after a fall, without an MST of it that came back; and with a cycle in which the master restarts, and
+-- after it phase 0 is commanded still, and its MST came back at most.
 abbrev pub StartsAtOpening : Type 0
 StartsAtOpening = (r : RingView) (jobs : List Job) (carry : Carry) (restarts : Restarts) → StartsEpoch r jobs carry restarts [] × (came_back r jobs carry restarts [] ≡ 0)
 

@@ -1,4 +1,4 @@
--- What phases 3 and 4 say of a ring. The newest cycle of a journal comes first.
+-- What phases 3 and 4 imply for a ring. The newest cycle of a journal comes first.
 use Rattle.std.specs.Prelude.{◌≡◌, ℕ, ◌<◌, ◌≤◌, false, List, ◌∷◌, length}
 use Rattle.std.specs.List.{list_any}
 use Rattle.sercos_step.specs.declared.request.Job.{Job}
@@ -12,7 +12,7 @@ use Rattle.sercos_script.specs.Links.{Carry, Restarts}
 use Rattle.sercos_law_run.specs.Journal.Runs.{drive_at, IsRun, IsClear}
 use Rattle.sercos_law_run.specs.Held.Opened.{IsOpened}
 
--- A plan fits what the ring asks, and the cycle time lies within the limits of each drive.
+-- A plan fits the ring's requirements, and the cycle time lies within the limits of each drive.
 pub record IsFit (r : RingView) : Type 0 where
   pub plan : PlanView
   pub fits : Fits (wishes_of r) plan

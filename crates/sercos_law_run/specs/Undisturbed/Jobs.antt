@@ -15,7 +15,7 @@ abbrev pub jobs_of : Known → Option PlanView → ℕ → List Request
 jobs_of s None k = reads (member s k)
 jobs_of s (Some p) k = reads (member s k) ++ (writes s p k ++ request.Command (idn 127) ∷ request.Command (idn 128) ∷ request.Read (idn 22) data_element ∷ [])
 
--- Each of the requests that were begun stands in the list at the place that those begun before it leave it.
+-- Each of the requests that were begun is in the list at the place that those begun before it leave it.
 abbrev pub AreAt : List Request → List Begun → Type 0
 AreAt all [] = Unit {0}
 AreAt all (b ∷ older) = AreAt all older × (slice_get all (length older) ≡ Some b.request)

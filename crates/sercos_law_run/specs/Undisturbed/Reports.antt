@@ -23,7 +23,7 @@ abbrev pub HaveTold : List CycleView → ℕ → Type 0
 HaveTold [] number = ⊥
 HaveTold (t ∷ cycles) number = ((o : Outcome) × HasOutcome t.events.outcomes number o) ⊎ HaveTold cycles number
 
--- the cycles that this profile gives one request to the drive at place k, by its busy time and the time of its commands
+-- the cycles that this profile allows one request to the drive at place k, by its busy time and the time of its commands
 abbrev pub request_cycles : RingView → ℕ → ℕ
 request_cycles r k = ((drive_at r k).busy + 2) * (520 + (drive_at r k).command)
 

@@ -22,7 +22,7 @@ pub record GoesOnInTwo (r : RingView) (p : Past) : Type 0 where
   pub planned : all_read (known_of r) p ≡ true → is_some p.plan ≡ true
   pub unchecked : all_checked (known_of r) p ≡ false
 
--- .. and so it does in each of these cycles, which come after the others
+-- .. and the same holds in each of these cycles, which are later than the others
 abbrev pub AreInTwo : RingView → List Job → Carry → Restarts → List CycleView → List CycleView → Type 0
 AreInTwo r jobs carry restarts [] before = Unit {0}
 AreInTwo r jobs carry restarts (t ∷ cycles) before = AreInTwo r jobs carry restarts cycles before × GoesOnInTwo r (behind_mdt r jobs carry restarts t.sent (cycles ++ before))
@@ -33,7 +33,7 @@ NoneIdleInTwo = (r : RingView) (jobs : List Job) (carry : Carry) (restarts : Res
     AreInTwo r jobs carry restarts cycles before →
     length cycles ≤ sum_below (length r.drives) (λ k. open_since (views_since r jobs carry restarts k cycles before) (views_of r jobs carry restarts k before))
 
--- The same of phase 3 and the drive at place k: there is no stop but a plan, and its check for phase 4 hasn't ended well.
+-- The master goes on with phase 3 and the drive at place k: there is no stop but a plan, and its check for phase 4 hasn't ended well.
 pub record GoesOnInThree (r : RingView) (p : Past) (k : ℕ) : Type 0 where
   pub phase : p.now.phase ≡ 3
   pub goes_on : p.stop ≡ None

@@ -1,4 +1,4 @@
--- Which stops come of phase 2, and of what. The newest cycle of a journal comes first.
+-- The stops of phase 2, and their causes. The newest cycle of a journal comes first.
 use Rattle.std.specs.Prelude.{◌≡◌, ◌⊎◌, ℕ, ◌<◌, ◌≤◌, List, ◌∷◌, length, Some, None}
 use Rattle.sercos_idn.specs.declared.code.Code.{Code}
 use Rattle.sercos_idn.specs.declared.idn.Idn.{Idn}
@@ -19,7 +19,7 @@ use Rattle.sercos_law_run.specs.Journal.Runs.{drive_at, IsRun, IsClear}
 use Rattle.sercos_law_run.specs.Views.RingViews.{behind_mdt}
 use Rattle.sercos_law_run.specs.Held.Opened.{IsOpened}
 
--- the cycle time lies below the least that the drive can, and the code says so; or above the greatest
+-- the cycle time lies below the drive's least, with that code; or above its greatest
 abbrev pub IsOutside : DriveView → ℕ → Code → Type 0
 IsOutside d cycle code = ((cycle < d.cycle_min) × (code.raw ≡ 0x7006)) ⊎ ((d.cycle_max < cycle) × (code.raw ≡ 0x7007))
 
@@ -37,7 +37,7 @@ pub record RefusesCycleTime (r : RingView) (address : ℕ) (i : Idn) (code : Cod
   pub outside : IsOutside (drive_at r place) r.cycle code
   pub first : (k : ℕ) → k < place → IsWithin (drive_at r k) r.cycle
 
--- No plan fits what the ring asks, and the stop says so.
+-- No plan fits the ring's requirements, and the stop is `NoFit`.
 pub record StopsForThePlan (r : RingView) (x : Stop) : Type 0 where
   pub chain : ChainView
   pub is : x ≡ stop.NoFit chain

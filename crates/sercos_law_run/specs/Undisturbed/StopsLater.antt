@@ -1,4 +1,4 @@
--- Which stops come of phases 3 and 4, and how a start-up ends. The newest cycle of a journal comes first.
+-- The stops of phases 3 and 4, and how a start-up ends. The newest cycle of a journal comes first.
 use Rattle.std.specs.Prelude.{◌≡◌, ◌⊎◌, ℕ, ◌+◌, ◌*◌, ◌<◌, ◌≤◌, true, false, List, [], ◌∷◌, ◌++◌, length, map, Some, None}
 use Rattle.std.specs.List.{filter, list_any}
 use Rattle.sercos_idn.specs.declared.idn.Idn.{Idn}
@@ -24,9 +24,9 @@ use Rattle.sercos_law_run.specs.Undisturbed.EpochStarts.{StartsEpoch}
 use Rattle.sercos_law_run.specs.Undisturbed.Fit.{IsFit}
 use Rattle.sercos_law_run.specs.Undisturbed.StopsInTwo.{StopsForThePlan, StopsForTheCycleTime}
 
--- A plan fits, and the cycle time lies within each drive's limits; but the check for phase 4 of the drive with this address, which comes 12
+-- A plan fits, and the cycle time lies within each drive's limits; but the check for phase 4 of the drive with this address, which is 12
 -- requests after the reads, has ended badly, since an own block of the drive was outside its limits at opening. The stop has the list that
--- the drive then gave: the identifier numbers of exactly these blocks, ascending, as the store has them.
+-- the drive then returned: the identifier numbers of exactly these blocks, ascending, as the store has them.
 pub record StopsForTheCheck (r : RingView) (p : Past) (x : Stop) : Type 0 where
   pub address : ℕ
   pub list : List Idn
@@ -51,8 +51,8 @@ NoStopInFour = (r : RingView) (jobs : List Job) (carry : Carry) (restarts : Rest
 abbrev pub IsRight : RingView → Type 0
 IsRight r = IsFit r × ((k : ℕ) → k < length r.drives → list_any is_outside (drive_at r k).blocks ≡ false)
 
--- HOW AN UNDISTURBED START-UP ENDS. After so many cycles of the epoch as the bound says, and 41 steps more of the slowest drive, phase 4 is
--- commanded, there is no stop, and the ring is right; or the master has stopped for the plan, for the cycle time, or for a check.
+-- HOW AN UNDISTURBED START-UP ENDS. After the cycles of the bound, and 41 steps more of the slowest drive, phase 4 is commanded, there is
+-- no stop, and the ring is right; or the master has stopped for the plan, for the cycle time, or for a check.
 abbrev pub EndsStartUp : Type 0
 EndsStartUp = (r : RingView) (jobs : List Job) (carry : Carry) (restarts : Restarts) (t : CycleView) (cycles before : List CycleView) → IsOpened r jobs → IsRun r jobs carry restarts (t ∷ (cycles ++ before)) →
     IsClear (t ∷ (cycles ++ before)) → StartsEpoch r jobs carry restarts before → AreUndisturbed r carry restarts (t ∷ cycles) before → startup_bound r + 41 * (slowest r.drives + 2) ≤ length cycles →
@@ -60,7 +60,7 @@ EndsStartUp = (r : RingView) (jobs : List Job) (carry : Carry) (restarts : Resta
     ⊎ ((x : Stop) × ((behind_mdt r jobs carry restarts t.sent (cycles ++ before)).stop ≡ Some x)
     × (StopsForThePlan r x ⊎ (StopsForTheCycleTime r x ⊎ StopsForTheCheck r (behind_mdt r jobs carry restarts t.sent (cycles ++ before)) x)))
 
--- IF THE RING IS RIGHT, phase 4 is commanded after so many cycles of the epoch as the bound of a start-up says.
+-- IF THE RING IS RIGHT, phase 4 is commanded after the cycles of the bound of a start-up.
 abbrev pub RisesIfRight : Type 0
 RisesIfRight = (r : RingView) (jobs : List Job) (carry : Carry) (restarts : Restarts) (t : CycleView) (cycles before : List CycleView) → IsOpened r jobs → IsRun r jobs carry restarts (t ∷ (cycles ++ before)) →
     IsClear (t ∷ (cycles ++ before)) → StartsEpoch r jobs carry restarts before → AreUndisturbed r carry restarts (t ∷ cycles) before → startup_bound r ≤ length cycles → IsRight r → t.phase ≡ 4

@@ -10,7 +10,7 @@ use Rattle.sercos_law_run.specs.Journal.Runs.{is_disturbed_in, IsRun, IsClear}
 abbrev pub IsUndisturbed : RingView → Carry → Restarts → CycleView → List CycleView → Type 0
 IsUndisturbed r carry restarts t j = is_disturbed_in r carry restarts (length j) t.sent ≡ false
 
--- .. and so it is in each of these cycles, which come after the others
+-- .. and the same holds in each of these cycles, which are later than the others
 abbrev pub AreUndisturbed : RingView → Carry → Restarts → List CycleView → List CycleView → Type 0
 AreUndisturbed r carry restarts [] before = Unit {0}
 AreUndisturbed r carry restarts (t ∷ cycles) before = AreUndisturbed r carry restarts cycles before × IsUndisturbed r carry restarts t (cycles ++ before)

@@ -1,4 +1,5 @@
--- The views of some cycles of a run that come after others. The newest cycle of a journal comes first.
+-- The views of some cycles of a run that are later than others. The newest cycle of a journal comes
+-- first.
 use Rattle.std.specs.Prelude.{ℕ, List, [], ◌∷◌, ◌++◌}
 use Rattle.sercos_step.specs.declared.request.Job.{Job}
 use Rattle.sercos_block.specs.Views.{RingView}

@@ -1,4 +1,4 @@
--- What a run comes to in which nothing is disturbed, from its opening on. The newest cycle of a journal comes first.
+-- What becomes of a run in which nothing is disturbed, from its opening on. The newest cycle of a journal comes first.
 use Rattle.std.specs.Prelude.{◌≡◌, ◌⊎◌, ℕ, ◌+◌, ◌*◌, ◌<◌, ◌≤◌, true, false, List, [], ◌∷◌, length, map, Some, slice_get}
 use Rattle.std.specs.List.{filter, list_any}
 use Rattle.sercos_step.specs.declared.request.Job.{Job}
@@ -37,7 +37,7 @@ NeverDisturbed r carry restarts (t ∷ j) = NeverDisturbed r carry restarts j ×
 abbrev pub QuietIsUndisturbed : Type 0
 QuietIsUndisturbed = (r : RingView) (carry : Carry) (restarts : Restarts) (j : List CycleView) → ((cycle : ℕ) (kind : Kind) (from : ℕ) → IsQuiet carry cycle kind from) → ((cycle station : ℕ) → restarts cycle station ≡ false) → NeverDisturbed r carry restarts j
 
--- the record of one of these cycles tells the stop
+-- the record of one of these cycles has the stop
 abbrev pub HasTold : Stop → List CycleView → Type 0
 HasTold x [] = ⊥
 HasTold x (t ∷ j) = (t.events.stop ≡ Some x) ⊎ HasTold x j
@@ -51,18 +51,18 @@ pub record StopsForBlocks (r : RingView) (x : Stop) : Type 0 where
   pub outside : list_any is_outside (drive_at r place).blocks ≡ true
   pub fits : IsFit r
 
--- The three causes of a stop. One excludes the next: no plan fits; or one does, and a drive refuses the cycle time; or neither is so, and
--- a check finds blocks outside their limits.
+-- The three causes of a stop. One excludes the next: no plan fits; or one does, and a drive refuses the cycle time; or neither holds, and a
+-- check finds blocks outside their limits.
 abbrev pub StopsForCause : RingView → Stop → Type 0
 StopsForCause r x = StopsForThePlan r x ⊎ (StopsForTheCycleTime r x ⊎ StopsForBlocks r x)
 
--- What holds of the newest cycle. Nothing was unseen, no fall is told, and no broken request. From the cycle on that the bound of a
--- start-up says, phase 4 is commanded if the ring is right; it is commanded only if it is; and once commanded, it stays. Phase 3 is
--- commanded only if a plan fits, and the cycle time lies within each drive's limits. From 41 steps of the slowest drive after that bound
--- on, phase 4 is commanded, or the master has told a stop for its cause; and after a stop no other is told. No step is open for longer than
--- the busy time of its drive and one cycle, and an answer comes exactly then: so many cycles after the one in which its step was begun, and
--- first sent. If phase 4 is commanded, the request to a drive at place i, counted from 0, has been reported from the cycle on that comes i
--- + 1 times the cycles of one request after the bound of a start-up.
+-- What holds of the newest cycle. Nothing was undetected, no fall is reported, and no broken request. From the bound of a start-up on,
+-- phase 4 is commanded if the ring is right; it is commanded only if it is; and once commanded, it stays. Phase 3 is commanded only if a
+-- plan fits, and the cycle time lies within each drive's limits. From 41 steps of the slowest drive after that bound on, phase 4 is
+-- commanded, or the master has reported a stop for its cause; and after a stop no other is reported. No step is open for longer than the
+-- busy time of its drive and one cycle, and its answer arrives exactly that long after the cycle in which it was begun, and first sent. If
+-- phase 4 is commanded, the request to a drive at place i, counted from 0, has been reported: at the latest i + 1 times the cycles of one
+-- request after the bound of a start-up.
 pub record StartsUp (r : RingView) (jobs : List Job) (carry : Carry) (restarts : Restarts) (t : CycleView) (j : List CycleView) : Type 0 where
   pub clear : IsClear (t ∷ j)
   pub tells : TellsNoFall t

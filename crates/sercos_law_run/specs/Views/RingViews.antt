@@ -35,12 +35,12 @@ behind_ats r jobs carry restarts sent j =
 abbrev pub behind_mdt : RingView → List Job → Carry → Restarts → List SentView → List CycleView → Past
 behind_mdt r jobs carry restarts sent j = looks_back r jobs (middle r carry restarts sent j)
 
--- what a channel heard, if that was the last that it was given
+-- what a channel received, if that was its last call
 abbrev pub heard_last : List channel.Call → Option Heard
 heard_last (Hear status word ∷ calls) = Some (record { status = status; word = word })
 heard_last _ = None
 
--- what the MDT tells the drive at a place: in phases 1 and 2 if it is to this drive, in phases 3 and 4 always
+-- the MDT's record for the drive at a place: in phases 1 and 2 if it is addressed to this drive, in phases 3 and 4 always
 abbrev pub is_told : Past → ℕ → Bool
 is_told p k = (nat_le 3 p.now.phase && is_some p.plan) || is_place k p.now.addressed
 

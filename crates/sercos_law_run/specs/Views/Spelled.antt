@@ -17,11 +17,11 @@ use Rattle.sercos_law_run.specs.Journal.Records.{mst_in}
 use Rattle.sercos_law_run.specs.Journal.Runs.{drive_at, given_mst}
 use Rattle.sercos_law_run.specs.Views.RingViews.{behind_mdt, after_mst}
 
--- the frame of a content gives it back
+-- the frame of a content returns it
 abbrev pub IsWhole : List ℕ → Type 0
 IsWhole content = content_in (frame_of content) ≡ Some content
 
--- this content is what one of the drives says
+-- this content is what one of the drives sends
 pub record IsSaid (n : ℕ) (d : ℕ → DriveView) (rate : ℕ) (h : ℕ → List DriveCall) (content : List ℕ) : Type 0 where
   pub place : ℕ
   pub says : SaidByDrive
@@ -29,11 +29,11 @@ pub record IsSaid (n : ℕ) (d : ℕ → DriveView) (rate : ℕ) (h : ℕ → Li
   pub said : drive_says (d place) rate (h place) ≡ Some says
   pub content_is : content ≡ says.content
 
--- the element and the word of what is said fit into a record
+-- the element and the word of what is sent fit into a record
 abbrev pub IsSayable : Said → Type 0
 IsSayable said = (said.step.element < 8) × (said.step.word < 65536)
 
--- In a cycle each telegram is whole, and the words that drives and master say fit into sixteen bits.
+-- In a cycle each telegram is whole, and the words that drives and master send fit into sixteen bits.
 pub record IsSpelled (r : RingView) (jobs : List Job) (carry : Carry) (restarts : Restarts) (t : CycleView) (j : List CycleView) : Type 0 where
   pub mst : IsWhole (mst_in t.sent)
   pub ats : (content : List ℕ) → IsSaid (length r.drives) (drive_at r) r.rate (given_mst carry restarts t.sent j) content → IsWhole content

@@ -27,7 +27,7 @@ abbrev pub KeepRules : WishesView → List Told → Type 0
 KeepRules w [] = Unit {0}
 KeepRules w (t ∷ before) = KeepRules w before × (broken_rule w before t ≡ None)
 
--- So do the telegrams of every run in which nothing was unseen, whatever was lost or damaged, and whoever restarted.
+-- The telegrams of every run without undetected damage keep them too, regardless of losses and restarts.
 abbrev pub RunsKeepRules : Type 0
 RunsKeepRules = (r : RingView) (jobs : List Job) (carry : Carry) (restarts : Restarts) (j : List CycleView) → IsOpened r jobs → IsRun r jobs carry restarts j → IsClear j → KeepRules (wishes_of r) (told_in j)
 

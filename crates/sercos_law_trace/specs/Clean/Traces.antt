@@ -32,7 +32,7 @@ abbrev pub RunsFitOthers : Type 0
 RunsFitOthers = (r : RingView) (jobs : List Job) (carry : Carry) (restarts : Restarts) (j : List CycleView) → IsOpened r jobs → IsRun r jobs carry restarts j → IsClear j → length j ≤ 50000 → FitReports j
     → FitOthers (wishes_of r) j (totals_of (reverse j))
 
--- .. which is so if there are at most 65,535 requests.
+-- .. which holds if there are at most 65,535 requests.
 abbrev pub RunsFitReports : Type 0
 RunsFitReports = (r : RingView) (jobs : List Job) (carry : Carry) (restarts : Restarts) (j : List CycleView) → IsOpened r jobs → length jobs ≤ 65535 → IsRun r jobs carry restarts j → IsClear j → length j ≤ 4294967296 → FitReports j
 

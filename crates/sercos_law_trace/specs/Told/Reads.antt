@@ -1,4 +1,4 @@
--- The bytes that are told of reads of operation data. Journals and lists of requests and steps have their newest item first.
+-- The bytes that are reported of reads of operation data. Journals and lists of requests and steps have their newest item first.
 use Rattle.std.specs.Prelude.{◌≡◌, ℕ, ◌+◌, ◌<◌, false, List, ◌∷◌, ◌++◌, length, Some, slice_get}
 use Rattle.sercos_idn.specs.declared.idn.Idn.{Idn}
 use Rattle.sercos_idn.specs.Elements.{data_element}
@@ -33,7 +33,7 @@ pub record IsReadFrom (r : RingView) (jobs : List Job) (carry : Carry) (restarts
   pub place : ℕ
   pub below : place < length r.drives
   pub drive : (drive_at r place).address ≡ address
-  -- the cycle in which the outcome of the request is told
+  -- the cycle in which the outcome of the request is reported
   pub since : List CycleView
   pub told : CycleView
   pub before : List CycleView
@@ -75,7 +75,7 @@ pub record IsReadFrom (r : RingView) (jobs : List Job) (carry : Carry) (restarts
   pub found : find_block idn.raw (store_at (drive_at r place) r.rate (given_mst carry restarts cycle.sent older place)) ≡ Some block
   pub gives : bytes ≡ element_in data_element (length older) block
 
--- So it is with every complete read of operation data, in every run in which nothing was unseen, whatever was lost or damaged.
+-- This holds of every complete read of operation data, in every run without undetected damage, regardless of losses and restarts.
 abbrev pub ReadsAreExact : Type 0
 ReadsAreExact = (r : RingView) (jobs : List Job) (carry : Carry) (restarts : Restarts) (run : List CycleView) (n : ℕ) (job : Job) (idn : Idn) (bytes : List ℕ) →
     IsOpened r jobs → IsRun r jobs carry restarts run → IsClear run → slice_get jobs n ≡ Some job → job.request ≡ request.Read idn data_element →

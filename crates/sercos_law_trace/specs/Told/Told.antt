@@ -1,4 +1,4 @@
--- What is told of the requests of a run. Journals have their newest cycle first.
+-- What is reported of the requests of a run. Journals have their newest cycle first.
 use Rattle.std.specs.Prelude.{ℕ, List, reverse}
 use Rattle.std.specs.List.{flat_map}
 use Rattle.sercos_step.specs.declared.request.Outcome.{Outcome}
