@@ -20,7 +20,7 @@ use Rattle.sercos_service_master.specs.Begun.{Begun}
 use Rattle.sercos_law_channel.specs.Handshake.InStep.{replies_of}
 use Rattle.sercos_law_channel.specs.Handshake.Parts.{IsRow, IsPart, Unsent, Heard, Unheard}
 use Rattle.sercos_law_channel.specs.Handshake.Transfers.{AreReplies, HaveBlocks, IsTransfer, stored, is_complete, WritesOnce}
-use Rattle.sercos_law_channel.specs.Handshake.CommandTransfers.{AreProtected, setting, second_of, set_by, cancelled_by}
+use Rattle.sercos_law_channel.specs.Handshake.CommandTransfers.{AreProtected, setting, second_of, set_by, cancelled_by, idn_of}
 use Rattle.sercos_law_channel.specs.Handshake.ReadTransfers.{ReadsOnce, entry_behind, IsReadAt}
 use Rattle.sercos_law_channel.proofs.Handshake.UnknownBlocks.{writes_nowhere}
 use Rattle.sercos_law_channel.proofs.Handshake.QuietSteps.{writes_nothing}
@@ -29,7 +29,7 @@ use Rattle.sercos_law_channel.proofs.Handshake.CommandRefusals.{refused_adds_not
 use Rattle.sercos_step.proofs.Ends.{length-answer_words}
 use Rattle.sercos_law_channel.proofs.Handshake.TransferSteps.{length-replies_of, complete-outcome_of, goes_on-outcome_of}
 use Rattle.sercos_law_channel.specs.Handshake.WholeRun.{IsSound, AreSmall}
-use Rattle.sercos_law_channel.specs.Handshake.Exact.{Given, given_of, gives, written_to, given_by, AreWrites, Complete, Refused, Broken, AreInPhase, ReadsExactly, EndsExactly, IsExact}
+use Rattle.sercos_law_channel.specs.Handshake.Exact.{Given, given_of, gives, written_to, given_by, HasBlock, AreWrites, Complete, Refused, Broken, AreInPhase, ReadsExactly, EndsExactly, IsExact}
 use Rattle.sercos_law_channel.proofs.Handshake.CommandEnds.{one_long, unknown_incomplete, ends_with_status}
 use Rattle.sercos_law_channel.proofs.Handshake.OnePhase.{IsNamed, IsSteady, in_one_phase}
 
@@ -56,15 +56,6 @@ ends_so r (a ∷ h) = by a.error (is_whole r (answer_words h ++ a.word ∷ [])) 
 abbrev with : Request → List Answer → Begun
 with r answers = record { request = r; answers = answers }
 
--- where a transfer gives nothing it writes nothing
-pub gives_nothing : (blocks : List Block) (r : Request) (answers : List Answer) → given_by blocks r ≡ [] → AreWrites blocks (with r answers) []
-gives_nothing blocks r answers none = by (ends_so r answers)
-  where
-    by : Ends r answers → AreWrites blocks (with r answers) []
-    by (GoesOn on) = Broken 0 on (sym none)
-    by (IsWhole bytes is) = Complete bytes is (sym none)
-    by (IsRefused code is) = Refused code is refl
-
 -- where all entries are of one phase, what is protected at one of them was so at each
 protected_so : (a : Attribute) (phase at : ℕ) (entries : List Entry) → at ≡ phase → AreInPhase phase entries → is_protected a at ≡ true → AreProtected a entries
 protected_so a phase at [] same are on = tt
@@ -82,9 +73,24 @@ pub data Took (r : Request) (e : Entry) (entries : List Entry) (answers : List A
   AllButOne : answers ≡ replies_of entries → outcome_of r answers ≡ None → Took r e entries answers
 
 module _ (laws : Laws) (blocks : List Block) (small : AreSmall blocks) where
+  -- a transfer is complete only if the drive has the block
+  has_block : (r : Request) (e : Entry) (entries log : List Entry) (answers : List Answer) (bytes : List ℕ) → IsTransfer r blocks e entries log → Took r e entries answers → outcome_of r answers ≡ Some (outcome.Complete bytes) → HasBlock blocks r
+  has_block r e entries log answers bytes is (AllButOne same on) complete = absurd (cc)
+  has_block r e entries log answers bytes is (All same) complete = by (find_block (idn_of r).raw blocks) refl
+    where
+      by : (o : Option Block) → find_block (idn_of r).raw blocks ≡ o → HasBlock blocks r
+      by (Some b) found = (b, found)
+      by None none = absurd (unknown_incomplete r blocks e entries log bytes none is (ap (outcome_of r) (sym same) ∙ complete))
+
   -- a transfer that adds no write, and gives none
-  adds_nothing : (r : Request) (e : Entry) (entries log : List Entry) (answers : List Answer) → given_by blocks r ≡ [] → writes_of ((e ∷ entries) ++ log) ≡ writes_of log → Wrote blocks (with r answers) (e ∷ entries) log
-  adds_nothing r e entries log answers none same = record { own = []; adds = same; writes = gives_nothing blocks r answers none }
+  adds_nothing : (r : Request) (e : Entry) (entries log : List Entry) (answers : List Answer) → given_by blocks r ≡ [] → IsTransfer r blocks e entries log → Took r e entries answers → writes_of ((e ∷ entries) ++ log) ≡ writes_of log →
+      Wrote blocks (with r answers) (e ∷ entries) log
+  adds_nothing r e entries log answers none is took same = record { own = []; adds = same; writes = by (ends_so r answers) }
+    where
+      by : Ends r answers → AreWrites blocks (with r answers) []
+      by (GoesOn on) = Broken 0 on (sym none)
+      by (IsWhole bytes complete) = Complete bytes complete (has_block r e entries log answers bytes is took complete) (sym none)
+      by (IsRefused code refused) = Refused code refused refl
 
   -- a write of operation data
   written : (idn : Idn) (bytes : List ℕ) (b : Block) (e : Entry) (entries log : List Entry) (answers : List Answer) → AreBytes bytes → find_block idn.raw blocks ≡ Some b →
@@ -103,7 +109,7 @@ module _ (laws : Laws) (blocks : List Block) (small : AreSmall blocks) where
       by : Ends (request.Write idn 7 bytes) (replies_of (e ∷ entries)) → Took (request.Write idn 7 bytes) e entries answers → Wrote blocks (with (request.Write idn 7 bytes) answers) (e ∷ entries) log
       by (GoesOn on) (All same) = record { own = []; adds = law ∙ cond-false _ _ _ (ap is_complete on); writes = Broken 1 (ap (outcome_of (request.Write idn 7 bytes)) same ∙ on) (sym (ap (drop 1) given)) }
       by (GoesOn on) (AllButOne same before) = record { own = []; adds = law ∙ cond-false _ _ _ (ap is_complete on); writes = Broken 1 before (sym (ap (drop 1) given)) }
-      by (IsWhole x complete) (All same) = record { own = (record { cycle = e.taken.cycle; raw = idn.raw; bytes = stored b bytes }) ∷ []; adds = whole x complete; writes = Complete x (ap (outcome_of (request.Write idn 7 bytes)) same ∙ complete) (sym given) }
+      by (IsWhole x complete) (All same) = record { own = (record { cycle = e.taken.cycle; raw = idn.raw; bytes = stored b bytes }) ∷ []; adds = whole x complete; writes = Complete x (ap (outcome_of (request.Write idn 7 bytes)) same ∙ complete) (b, found) (sym given) }
       by (IsWhole x complete) (AllButOne same before) = record { own = (record { cycle = e.taken.cycle; raw = idn.raw; bytes = stored b bytes }) ∷ []; adds = whole x complete; writes = Broken 0 before (sym given) }
       by (IsRefused code refused) (All same) = record { own = []; adds = law ∙ cond-false _ _ _ (ap is_complete refused); writes = Refused code (ap (outcome_of (request.Write idn 7 bytes)) same ∙ refused) refl }
       by (IsRefused code refused) (AllButOne same before) = record { own = []; adds = law ∙ cond-false _ _ _ (ap is_complete refused); writes = Broken 1 before (sym (ap (drop 1) given)) }
@@ -170,7 +176,7 @@ module _ (laws : Laws) (blocks : List Block) (small : AreSmall blocks) where
       by : Ends (request.Command idn) (replies_of (e ∷ entries)) → Took (request.Command idn) e entries answers → Wrote blocks (with (request.Command idn) answers) (e ∷ entries) log
       by (GoesOn on) (All same) = command_front idn e entries log answers is (ap is_complete on) (ap (outcome_of (request.Command idn)) same ∙ on)
       by (GoesOn on) (AllButOne same before) = command_front idn e entries log answers is (ap is_complete on) before
-      by (IsWhole x complete) (All same) = let w = command_whole idn e entries log x is complete in record { own = w.0; adds = w.1; writes = Complete x (ap (outcome_of (request.Command idn)) same ∙ complete) w.2 }
+      by (IsWhole x complete) (All same) = let w = command_whole idn e entries log x is complete in record { own = w.0; adds = w.1; writes = Complete x (ap (outcome_of (request.Command idn)) same ∙ complete) (b, found) w.2 }
       by (IsWhole x complete) (AllButOne same before) = let w = command_whole idn e entries log x is complete in record { own = w.0; adds = w.1; writes = Broken 0 before w.2 }
       by (IsRefused code refused) (All same) = record {
         own = [];
@@ -187,24 +193,23 @@ module _ (laws : Laws) (blocks : List Block) (small : AreSmall blocks) where
       by : Ends (request.Command idn) answers → Wrote blocks (with (request.Command idn) answers) (e ∷ entries) log
       by (GoesOn on) = record { own = []; adds = writes_nowhere (request.Command idn) blocks e entries log none is; writes = Broken 2 on refl }
       by (IsRefused code refused) = record { own = []; adds = writes_nowhere (request.Command idn) blocks e entries log none is; writes = Refused code refused refl }
-      by (IsWhole bytes complete) = absurd (never took)
+      by (IsWhole bytes complete) = absurd (never (has_block (request.Command idn) e entries log answers bytes is took complete))
         where
-          never : Took (request.Command idn) e entries answers → ⊥
-          never (All same) = unknown_incomplete (request.Command idn) blocks e entries log bytes none is (ap (outcome_of (request.Command idn)) (sym same) ∙ complete)
-          never (AllButOne same on) = cc
+          never : HasBlock blocks (request.Command idn) → ⊥
+          never (b, found) = cc
 
   -- each transfer
   wrote : (r : Request) (e : Entry) (entries log : List Entry) (answers : List Answer) → IsSound blocks r → (phase : ℕ) → AreInPhase phase (e ∷ entries) → IsTransfer r blocks e entries log → Took r e entries answers → Wrote blocks (with r answers) (e ∷ entries) log
-  wrote (request.Read idn e) s entries log answers sound phase at is took = adds_nothing (request.Read idn e) s entries log answers refl (writes_nothing (request.Read idn e) blocks s entries log refl is)
+  wrote (request.Read idn e) s entries log answers sound phase at is took = adds_nothing (request.Read idn e) s entries log answers refl is took (writes_nothing (request.Read idn e) blocks s entries log refl is)
   wrote (request.Write idn e bytes) s entries log answers sound phase at is took = by (e == 7) refl
     where
       of_data : (o : Option Block) → find_block idn.raw blocks ≡ o → e ≡ 7 → Wrote blocks (with (request.Write idn e bytes) answers) (s ∷ entries) log
       of_data (Some b) found seven = rw seven (written idn bytes b s entries log answers sound.1 found (rw seven at is) (rw seven at took))
-      of_data None none seven = rw seven (adds_nothing (request.Write idn 7 bytes) s entries log answers (ap (written_to idn.raw bytes) none) (writes_nowhere (request.Write idn 7 bytes) blocks s entries log none (rw seven at is)))
+      of_data None none seven = rw seven (adds_nothing (request.Write idn 7 bytes) s entries log answers (ap (written_to idn.raw bytes) none) (rw seven at is) (rw seven at took) (writes_nowhere (request.Write idn 7 bytes) blocks s entries log none (rw seven at is)))
 
       by : (v : Bool) → (e == 7) ≡ v → Wrote blocks (with (request.Write idn e bytes) answers) (s ∷ entries) log
       by true on = of_data (find_block idn.raw blocks) refl (eqb-true e 7 on)
-      by false off = adds_nothing (request.Write idn e bytes) s entries log answers (cond-false (e == 7) _ [] off) (writes_nothing (request.Write idn e bytes) blocks s entries log (ap not off) is)
+      by false off = adds_nothing (request.Write idn e bytes) s entries log answers (cond-false (e == 7) _ [] off) is took (writes_nothing (request.Write idn e bytes) blocks s entries log (ap not off) is)
   wrote (request.Command idn) s entries log answers sound phase at is took = by (find_block idn.raw blocks) refl sound
     where
       by : (o : Option Block) → find_block idn.raw blocks ≡ o → IfSome o (λ b. b.attribute.command ≡ true) → Wrote blocks (with (request.Command idn) answers) (s ∷ entries) log

@@ -137,7 +137,7 @@ all-drop raw (suc later) [] all = refl
 all-drop raw (suc later) (g ∷ given) all = all-drop raw later given (and_parts (not (g.raw == raw)) _ all).1
 
 own_elsewhere : (raw : ℕ) (blocks : List Block) (b : Begun) (own : List Write) → AreWrites blocks b own → list_all (λ (g : Given). not (g.raw == raw)) (given_by blocks b.request) ≡ true → list_all (λ (g : Given). not (g.raw == raw)) (map given_of own) ≡ true
-own_elsewhere raw blocks b own (Complete bytes complete is) all = ap (list_all (λ (g : Given). not (g.raw == raw))) is ∙ all
+own_elsewhere raw blocks b own (Complete bytes complete has is) all = ap (list_all (λ (g : Given). not (g.raw == raw))) is ∙ all
 own_elsewhere raw blocks b own (Refused code refused none) all = ap (λ (l : List Write). list_all (λ (g : Given). not (g.raw == raw)) (map given_of l)) none
 own_elsewhere raw blocks b own (Broken later on is) all = ap (list_all (λ (g : Given). not (g.raw == raw))) is ∙ all-drop raw later (given_by blocks b.request) all
 
@@ -150,7 +150,7 @@ own_one raw x (w ∷ own) others is =
 
 module _ (blocks : List Block) (older : List Begun) (b : Begun) (idn : Idn) (bytes whole : List ℕ) (block : Block) (is : b.request ≡ request.Write idn 7 bytes) (complete : outcome_of b.request b.answers ≡ Some (outcome.Complete whole)) (found : find_block idn.raw blocks ≡ Some block) where
   own_newest : (own others : List Write) → AreWrites blocks b own → newest_to idn.raw (own ++ others) ≡ Some (stored block bytes)
-  own_newest own others (Complete x y given) = own_one idn.raw (stored block bytes) own others (given ∙ ap (given_by blocks) is ∙ ap (written_to idn.raw bytes) found)
+  own_newest own others (Complete x y has given) = own_one idn.raw (stored block bytes) own others (given ∙ ap (given_by blocks) is ∙ ap (written_to idn.raw bytes) found)
   own_newest own others (Refused code refused none) = absurd (cc)
   own_newest own others (Broken later on given) = absurd (cc)
 

@@ -17,7 +17,7 @@ use Rattle.sercos_service_master.specs.Begun.{Begun}
 use Rattle.sercos_law_channel.specs.Handshake.Parts.{IsPart}
 use Rattle.sercos_law_channel.specs.Handshake.ReadTransfers.{entry_behind, IsReadAt}
 use Rattle.sercos_law_channel.specs.Handshake.Transfers.{stored}
-use Rattle.sercos_law_channel.specs.Handshake.CommandTransfers.{GivesStatus}
+use Rattle.sercos_law_channel.specs.Handshake.CommandTransfers.{GivesStatus, idn_of}
 use Rattle.sercos_law_channel.specs.Handshake.Views.{View}
 use Rattle.sercos_law_channel.specs.Handshake.Runs.{IsRun}
 use Rattle.sercos_law_channel.specs.Handshake.WholeRun.{all_entries, all_writes, all_begun, AreSound, AreSmall}
@@ -44,10 +44,14 @@ given_by blocks (request.Read idn e) = []
 given_by blocks (request.Write idn e bytes) = if e == data_element then written_to idn.raw bytes (find_block idn.raw blocks) else []
 given_by blocks (request.Command idn) = gives idn.raw (to_cancel ∷ 0 ∷ []) ∷ gives idn.raw (to_set ∷ 0 ∷ []) ∷ []
 
--- These are the writes of a transfer. A complete one has written everything, a refused one nothing. One that is open or was broken
--- has written the first of it: without these last ones, which come first.
+-- the drive has the block that a request names
+abbrev pub HasBlock : List Block → Request → Type 0
+HasBlock blocks r = (block : Block) × (find_block (idn_of r).raw blocks ≡ Some block)
+
+-- These are the writes of a transfer. A complete one has written everything, and the drive has its block; a refused one nothing. One
+-- that is open or was broken has written the first of it: without these last ones, which come first.
 pub data AreWrites (blocks : List Block) (b : Begun) (own : List Write) : Type 0 where
-  Complete : (bytes : List ℕ) → outcome_of b.request b.answers ≡ Some (outcome.Complete bytes) → map given_of own ≡ given_by blocks b.request → AreWrites blocks b own
+  Complete : (bytes : List ℕ) → outcome_of b.request b.answers ≡ Some (outcome.Complete bytes) → HasBlock blocks b.request → map given_of own ≡ given_by blocks b.request → AreWrites blocks b own
   Refused : (code : Code) → outcome_of b.request b.answers ≡ Some (outcome.Refused code) → own ≡ [] → AreWrites blocks b own
   Broken : (later : ℕ) → outcome_of b.request b.answers ≡ None → map given_of own ≡ drop later (given_by blocks b.request) → AreWrites blocks b own
 

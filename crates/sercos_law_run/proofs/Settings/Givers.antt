@@ -41,7 +41,7 @@ not_away : (w : Write) (own : List Write) → are_away w.raw (map given_of (w �
 not_away w own all = false≢true (sym (not-true (w.raw == w.raw) (and_parts (not (w.raw == w.raw)) _ all).0) ∙ eq-eqb w.raw w.raw refl)
 
 gives_one : (blocks : List Block) (b : Begun) (w : Write) (own : List Write) → AreWrites blocks b (w ∷ own) → are_away w.raw (given_by blocks b.request) ≡ true → ⊥
-gives_one blocks b w own (Complete bytes is same) all = not_away w own (ap (are_away w.raw) same ∙ all)
+gives_one blocks b w own (Complete bytes is has same) all = not_away w own (ap (are_away w.raw) same ∙ all)
 gives_one blocks b w own (Refused code is none) all = cc
 gives_one blocks b w own (Broken later is same) all = not_away w own (ap (are_away w.raw) same ∙ drop_away w.raw later (given_by blocks b.request) all)
 

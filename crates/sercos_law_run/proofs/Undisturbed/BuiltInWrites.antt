@@ -84,7 +84,7 @@ own_given (w ∷ own) (g ∷ given) same are = (own_given own given (tail_is sam
     tail_is e = cc
 
 own_built : (blocks : List Block) (b : Begun) (own : List Write) → is_built b.request ≡ true → AreWrites blocks b own → AreBuiltIn own
-own_built blocks b own built (Complete bytes complete same) = own_given own (given_by blocks b.request) same (given_built blocks b.request built)
+own_built blocks b own built (Complete bytes complete has same) = own_given own (given_by blocks b.request) same (given_built blocks b.request built)
 own_built blocks b own built (Refused code refused none) = subst AreBuiltIn (sym none) tt
 own_built blocks b own built (Broken later broken same) = own_given own (drop later (given_by blocks b.request)) same (given_drop later (given_by blocks b.request) (given_built blocks b.request built))
 

@@ -37,7 +37,7 @@ away_append raw (w ∷ own) others none rest =
     and_from (not (w.raw == raw)) (are_away raw (map given_of (own ++ others))) parts.0 (away_append raw own others parts.1 rest)
 
 own_away : (raw : ℕ) (blocks : List Block) (b : Begun) (own : List Write) → AreWrites blocks b own → are_away raw (given_by blocks b.request) ≡ true → NoneTo raw own
-own_away raw blocks b own (Complete bytes is same) away = ap (are_away raw) same ∙ away
+own_away raw blocks b own (Complete bytes is has same) away = ap (are_away raw) same ∙ away
 own_away raw blocks b own (Refused code is none) away = ap (λ (l : List Write). are_away raw (map given_of l)) none
 own_away raw blocks b own (Broken later is same) away = ap (are_away raw) same ∙ drop_away raw later (given_by blocks b.request) away
 
@@ -78,7 +78,7 @@ two_of raw (x ∷ y ∷ z ∷ own) same =
     (rest_given (given_of x) (gives raw (0 ∷ 0 ∷ [])) (given_of y ∷ given_of z ∷ map given_of own) (gives raw (3 ∷ 0 ∷ []) ∷ []) same)))
 
 own_two : (raw : ℕ) (blocks : List Block) (b : Begun) (own : List Write) (bytes : List ℕ) → b.request ≡ request.Command (idn raw) → outcome_of b.request b.answers ≡ Some (outcome.Complete bytes) → AreWrites blocks b own → AreTwo raw own
-own_two raw blocks b own bytes asks complete (Complete other is same) = two_of raw own (same ∙ ap (given_by blocks) asks)
+own_two raw blocks b own bytes asks complete (Complete other is has same) = two_of raw own (same ∙ ap (given_by blocks) asks)
 own_two raw blocks b own bytes asks complete (Refused code is none) = absurd (cc)
 own_two raw blocks b own bytes asks complete (Broken later is same) = absurd (cc)
 

@@ -61,7 +61,7 @@ complete_append raw blocks (x ∷ xs) ys = let more = complete_append raw blocks
 
 -- A transfer has written at least what it has given, and exactly that if it has ended.
 own_least : (raw : ℕ) (blocks : List Block) (b : Begun) (own : List Write) → AreWrites blocks b own → count_given raw (given_if (outcome_of b.request b.answers) (given_by blocks b.request)) ≤ count_writes raw own
-own_least raw blocks b own (Complete bytes complete is) =
+own_least raw blocks b own (Complete bytes complete has is) =
     let all = ap (λ (o : Option Outcome). count_given raw (given_if o (given_by blocks b.request))) complete in
     let same = ap (count_given raw) is in omega (arith, all, same)
 own_least raw blocks b own (Refused code refused none) = let nothing = ap (λ (o : Option Outcome). count_given raw (given_if o (given_by blocks b.request))) refused in omega (arith, nothing)
@@ -69,7 +69,7 @@ own_least raw blocks b own (Broken later on is) = let nothing = ap (λ (o : Opti
 
 own_same : (raw : ℕ) (blocks : List Block) (b : Begun) (own : List Write) (o : Outcome) → outcome_of b.request b.answers ≡ Some o → AreWrites blocks b own
     → count_writes raw own ≡ count_given raw (given_if (outcome_of b.request b.answers) (given_by blocks b.request))
-own_same raw blocks b own o ended (Complete bytes complete is) = ap (count_given raw) is ∙ sym (ap (λ (x : Option Outcome). count_given raw (given_if x (given_by blocks b.request))) complete)
+own_same raw blocks b own o ended (Complete bytes complete has is) = ap (count_given raw) is ∙ sym (ap (λ (x : Option Outcome). count_given raw (given_if x (given_by blocks b.request))) complete)
 own_same raw blocks b own o ended (Refused code refused none) = ap (count_writes raw) none ∙ sym (ap (λ (x : Option Outcome). count_given raw (given_if x (given_by blocks b.request))) refused)
 own_same raw blocks b own o ended (Broken later on is) = absurd (none≢some (sym on ∙ ended))
 
