@@ -7,6 +7,7 @@ mod adapters;
 mod backups;
 #[cfg(test)]
 mod blocks;
+mod callers;
 #[cfg(test)]
 mod channels;
 #[cfg(test)]
