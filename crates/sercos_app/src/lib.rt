@@ -14,11 +14,8 @@ mod running;
 mod top_call;
 mod tracking;
 
-pub use backup_command::answer_backup;
-pub use gen_command::answer_gen;
 pub use over_memory::answer_in_memory;
 pub use replay::replay_law;
-pub use restore_command::answer_restore;
 pub use running::write_run;
 pub use sercos_script::Clean;
 pub use top_call::sercos;
