@@ -1,7 +1,11 @@
 // `backup` and `restore`: the data of the drives, saved as requests.
-use crate::rows::{Base, PLAIN, Row, check};
+use crate::rows::{Base, PLAIN, Row, check, check_over};
 use crate::texts::READ;
+use sercos_app::Clean;
 use sercos_io::Status;
+use sercos_script::{Damage, Fault, Scripted};
+use sercos_telegram::Kind;
+use std::alloc::{AllocError, Global};
 use std::test::Fail;
 
 const OF_ONE_DRIVE: Row = Row {
@@ -9,7 +13,7 @@ const OF_ONE_DRIVE: Row = Row {
     ..PLAIN
 };
 
-const BACKUP_ROWS: [Row; 5] = [
+const BACKUP_ROWS: &[Row] = &[
     Row {
         shows: "saved data of a block",
         words: "sercos backup",
@@ -85,9 +89,27 @@ const TOO_MANY: Row = Row {
     ..PLAIN
 };
 
+// A link that loses every AT.
+fn losing(alloc: Global) -> Result<Scripted, AllocError> {
+    let fault = Fault {
+        cycle: 0,
+        last: 49999,
+        every: 1,
+        kind: Kind::At,
+        from: 1,
+        damage: Damage::Lose { link: 1 },
+    };
+    Ok(Scripted::new(Vec::from_slice(alloc, &[fault])?, 1))
+}
+
+// Both commands leave the link that is handed in alone.
 #[test]
 fn backups(rt: HostRuntime) -> Result<(), Fail> {
-    check(&rt, rt.alloc(), &BACKUP_ROWS, "")
+    for row in BACKUP_ROWS {
+        check_over(&rt, rt.alloc(), row, "", Clean)?;
+        check_over(&rt, rt.alloc(), row, "", losing(rt.alloc())?)?;
+    }
+    Ok(())
 }
 
 #[test]

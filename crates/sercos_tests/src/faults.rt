@@ -64,7 +64,7 @@ fn check(
     Ok(())
 }
 
-const READ_ROWS: [Faulty; 4] = [
+const READ_ROWS: &[Faulty] = &[
     Faulty {
         words: "sercos show",
         base: Base::Given,
@@ -115,11 +115,11 @@ fn check_reads(rt: &impl Abort, alloc: Global, rows: &[Faulty]) -> Result<(), Fa
 
 #[test]
 fn reads_that_fail(rt: HostRuntime) -> Result<(), Fail> {
-    check_reads(&rt, rt.alloc(), &READ_ROWS)
+    check_reads(&rt, rt.alloc(), READ_ROWS)
 }
 
 // All writes of a plan and of a verdict, and the first two hundred of a run, which writes each line by one call.
-const WRITE_ROWS: [Faulty; 3] = [
+const WRITE_ROWS: &[Faulty] = &[
     Faulty {
         words: "sercos plan",
         base: Base::TwoDrives,
@@ -168,7 +168,7 @@ fn check_writes(rt: &impl Abort, alloc: Global, rows: &[Faulty]) -> Result<(), F
 
 #[test]
 fn writes_that_fail(rt: HostRuntime) -> Result<(), Fail> {
-    check_writes(&rt, rt.alloc(), &WRITE_ROWS)
+    check_writes(&rt, rt.alloc(), WRITE_ROWS)
 }
 
 // A run over a source that returns a byte a call, and a sink that accepts one.
@@ -185,7 +185,7 @@ fn single_bytes(rt: HostRuntime) -> Result<(), Fail> {
 }
 
 // Sinks without room, and a first write that fails; a refusal stays one if its line can't be written.
-const SINK_ROWS: [Faulty; 4] = [
+const SINK_ROWS: &[Faulty] = &[
     Faulty {
         words: "sercos show",
         base: Base::Given,
@@ -233,7 +233,7 @@ fn check_sinks(rt: &impl Abort, alloc: Global, rows: &[Faulty]) -> Result<(), Fa
 
 #[test]
 fn sinks_without_room(rt: HostRuntime) -> Result<(), Fail> {
-    check_sinks(&rt, rt.alloc(), &SINK_ROWS)
+    check_sinks(&rt, rt.alloc(), SINK_ROWS)
 }
 
 // Over a source that never fails and a sink with room, with ample memory, the answer is written whole.

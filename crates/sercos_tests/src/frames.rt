@@ -8,7 +8,7 @@ const SHOW: Row = Row {
     ..PLAIN
 };
 
-const FRAME_ROWS: [Row; 16] = [
+const FRAME_ROWS: &[Row] = &[
     Row {
         shows: "MST of phase 0",
         more: "raw 49 7edf010ee1fd00\n",
@@ -110,7 +110,7 @@ mst phase 0",
 
 #[test]
 fn frames(rt: HostRuntime) -> Result<(), Fail> {
-    check(&rt, rt.alloc(), &FRAME_ROWS, "")
+    check(&rt, rt.alloc(), FRAME_ROWS, "")
 }
 
 // A flag, zeros of a number of bytes, and a flag.

@@ -1,98 +1,89 @@
 // The document that is generated for 64 drives, written out as a text.
-use crate::rows::{PLAIN, Row, check};
-use sercos_block::{Block, DriveSetup};
-use sercos_config::{Document, generate};
-use sercos_idn::Idn;
-use sercos_script::{Damage, Fault};
-use sercos_step::{Job, Request};
+use crate::rows::{PLAIN, Row, check, output};
+use sercos_config::{generate, read_ring};
 use std::alloc::{AllocError, Global};
 use std::test::Fail;
 
-// The list of what a telegram carries; here it has one number.
-fn push_list(text: &mut String, key: &str, idns: &[Idn]) -> Result<(), AllocError> {
-    match idns {
-        [idn] => write!(text, "{key} = ['{idn}']\n"),
-        _ => Ok(()),
-    }
+const RING: &str = "[ring]
+rate = 4
+cycle = 4000
+cycles = 10613
+";
+
+// What all drives have, and the head of a request.
+const DRIVE: &str = "tatmt = 6
+t4min = 20
+tatat = 5
+tmtsy = 10
+tmtsg = 20
+at = ['S-0-0051']
+mdt = ['S-0-0047']
+[[drive.block]]
+idn = 'S-0-0047'
+attribute = 0x00220001
+[[drive.block]]
+idn = 'S-0-0051'
+attribute = 0x00220001
+data = 64500
+step = 10
+[[request]]
+kind = 'read'
+idn = 'S-0-0051'
+";
+
+// A fault.
+const FAULT: &str = "[[fault]]
+kind = 'lose'
+telegram = 'at'
+link = 64
+";
+
+fn push_number(text: &mut String, key: &str, number: u32) -> Result<(), AllocError> {
+    write!(text, "{key} = {number}\n")
 }
 
-// A block of a number.
-fn push_block(text: &mut String, block: &Block) -> Result<(), AllocError> {
-    let idn = block.idn;
-    let attribute = block.attribute.write();
-    let bytes = block.value.as_slice().iter().rev();
-    let data = bytes.fold(0u32, |bits, byte| bits.wrapping_mul(256) | u32::from(*byte));
-    let step = block.step;
-    write!(
-        text,
-        "[[drive.block]]\nidn = '{idn}'\nattribute = {attribute}\ndata = {data}\nstep = {step}\n"
-    )
+// Drive k, with its request and its fault.
+fn push_drive(text: &mut String, k: u8) -> Result<(), AllocError> {
+    let k = u32::from(k);
+    text.push_str("[[drive]]\n")?;
+    push_number(text, "address", k)?;
+    push_number(text, "slave", k.div_ceil(2))?;
+    push_number(text, "busy", k % 3)?;
+    push_number(text, "command", k % 4)?;
+    push_number(text, "t1min", 20 + k % 7)?;
+    text.push_str(DRIVE)?;
+    push_number(text, "drive", k)?;
+    text.push_str(FAULT)?;
+    push_number(text, "from", k)?;
+    push_number(text, "cycle", 37 * k)
 }
 
-fn push_drive(text: &mut String, drive: &DriveSetup) -> Result<(), AllocError> {
-    let (address, slave, busy, command) = (drive.address, drive.slave, drive.busy, drive.command);
-    write!(
-        text,
-        "[[drive]]\naddress = {address}\nslave = {slave}\nbusy = {busy}\ncommand = {command}\n"
-    )?;
-    let times = drive.times;
-    let (t1min, tatmt, t4min) = (times.t1min, times.tatmt, times.t4min);
-    write!(text, "t1min = {t1min}\ntatmt = {tatmt}\nt4min = {t4min}\n")?;
-    let (tatat, tmtsy, tmtsg) = (times.tatat, times.tmtsy, times.tmtsg);
-    write!(text, "tatat = {tatat}\ntmtsy = {tmtsy}\ntmtsg = {tmtsg}\n")?;
-    push_list(text, "at", drive.at.as_slice())?;
-    push_list(text, "mdt", drive.mdt.as_slice())?;
-    for block in drive.blocks.iter() {
-        push_block(text, block)?;
-    }
-    Ok(())
-}
-
-// A read of operation data; the document has no other request.
-fn push_job(text: &mut String, job: &Job) -> Result<(), AllocError> {
-    let drive = job.drive;
-    match job.request {
-        Request::Read { idn, element } => write!(
-            text,
-            "[[request]]\ndrive = {drive}\nkind = 'read'\nidn = '{idn}'\nelement = {element}\n"
-        ),
-        _ => Ok(()),
-    }
-}
-
-// An AT that is lost; the document has no other fault.
-fn push_fault(text: &mut String, fault: &Fault) -> Result<(), AllocError> {
-    let (cycle, from) = (fault.cycle, fault.from);
-    match fault.damage {
-        Damage::Lose { link } => write!(
-            text,
-            "[[fault]]\nkind = 'lose'\ncycle = {cycle}\ntelegram = 'at'\nfrom = {from}\nlink = {link}\n"
-        ),
-        _ => Ok(()),
-    }
-}
-
-fn written(alloc: Global, document: &Document) -> Result<String, AllocError> {
-    let setup = &document.setup;
-    let (rate, cycle, control, gap) = (setup.rate, setup.cycle, setup.control, setup.gap);
-    let cycles = setup.cycles;
-    let mut text = format!(in alloc;
-        "[ring]\nrate = {rate}\ncycle = {cycle}\ncontrol = {control}\ngap = {gap}\ncycles = {cycles}\n"
-    )?;
-    for drive in setup.drives.iter() {
-        push_drive(&mut text, drive)?;
-    }
-    for job in document.jobs.iter() {
-        push_job(&mut text, job)?;
-    }
-    for fault in document.faults.iter() {
-        push_fault(&mut text, fault)?;
+// The text of the document, with as many cycles as come to the first one that is commanded phase 4.
+fn written(alloc: Global) -> Result<String, AllocError> {
+    let mut text = String::from_str(alloc, RING)?;
+    for k in 1..65 {
+        push_drive(&mut text, k)?;
     }
     Ok(text)
 }
 
-// The last row runs up to the first cycle commanded phase 4.
-const DRIVES_64_ROWS: [Row; 2] = [
+// The generator makes the document of this text.
+#[test]
+fn generated_document(rt: HostRuntime) -> Result<(), Fail> {
+    let text = written(rt.alloc())?;
+    let Ok(read) = read_ring(rt.alloc(), text.as_str().as_bytes()) else {
+        assert!(rt; false);
+        return Ok(());
+    };
+    let made = generate(rt.alloc(), 64)?;
+    assert!(rt; read.jobs.as_slice() == made.jobs.as_slice());
+    assert!(rt; read.faults.as_slice() == made.faults.as_slice());
+    let (wishes, wanted) = (made.setup.wishes(), read.setup.wishes());
+    assert_eq!(rt; wishes, wanted);
+    Ok(())
+}
+
+const DRIVES_64_ROWS: &[Row] = &[
     Row {
         shows: "plan of sixty-four drives",
         words: "sercos plan",
@@ -104,8 +95,12 @@ slot 64 t1 2289 position 505",
     Row {
         shows: "start-up of sixty-four drives",
         words: "sercos run",
-        edits: "cycles = 18102 => cycles = 10613",
-        lines: "m 74 -49 49 ff01
+        lines: "sercos 1
+ring 4 4000 4000 5 64
+drive 1 1 21 6 20 5 10 20 8 8
+drive 64 32 21 6 20 5 10 20 8 8
+m 0 -49 49 ff00
+m 74 -49 49 ff01
 m 75 -49 49 ff02
 m 10598 -49 49 ff02
 m 10599 -50 50 ff03
@@ -117,9 +112,28 @@ end 10613 phase 4 complete 0 refused 0 broken 0 falls 0 unseen 0",
     },
 ];
 
+// Over the document and the trace of its start-up: no AT that is lost hits a drive that sends.
+const REPLAYED_64_ROWS: &[Row] = &[
+    Row {
+        shows: "last of sixty-four drives in its own run",
+        words: "sercos replay 64",
+        lines: "agrees 10613",
+        ..PLAIN
+    },
+    Row {
+        shows: "master of sixty-four drives in its own run",
+        words: "sercos replay 0",
+        lines: "agrees 10613",
+        ..PLAIN
+    },
+];
+
 #[test]
 fn sixty_four_drives(rt: HostRuntime) -> Result<(), Fail> {
-    let document = generate(rt.alloc(), 64)?;
-    let text = written(rt.alloc(), &document)?;
-    check(&rt, rt.alloc(), &DRIVES_64_ROWS, text.as_str())
+    let alloc = rt.alloc();
+    let text = written(alloc)?;
+    check(&rt, alloc, DRIVES_64_ROWS, text.as_str())?;
+    let trace = output(&rt, alloc, "sercos run", text.as_str())?;
+    let both = format!(in alloc; "{text}capture\n{trace}")?;
+    check(&rt, alloc, REPLAYED_64_ROWS, both.as_str())
 }

@@ -13,6 +13,8 @@ mod frames;
 #[cfg(test)]
 mod generated;
 #[cfg(test)]
+mod long;
+#[cfg(test)]
 mod plans;
 #[cfg(test)]
 mod refusals;

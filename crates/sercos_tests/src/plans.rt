@@ -1,13 +1,6 @@
-// Plans: `plan` and `margin`, and the layers below them.
-use crate::rows::{Base, PLAIN, Row, check, edited};
-use crate::texts::TWO_DRIVES;
-use arrayvec::ArrayVec;
-use sercos_config::read_ring;
+// Plans: `plan` and `margin`.
+use crate::rows::{Base, PLAIN, Row, check};
 use sercos_io::Status;
-use sercos_plan::{Chain, Link, check_chain, plan};
-use sercos_timing::{Wishes, valid, wire};
-use std::alloc::Global;
-use std::process::Abort;
 use std::test::Fail;
 
 const PLAN: Row = Row {
@@ -16,7 +9,7 @@ const PLAN: Row = Row {
     ..PLAIN
 };
 
-const PLAN_ROWS: [Row; 10] = [
+const PLAN_ROWS: &[Row] = &[
     Row {
         shows: "two drives",
         lines: "plan t2 83 t3 153 t4 230 mdt 16
@@ -111,6 +104,14 @@ slot 2 t1 43 position 9",
         ..PLAN
     },
     Row {
+        shows: "gap that is longer than the first drive's time",
+        base: Base::OneDrive,
+        edits: "gap = 5 => gap = 20",
+        lines: "plan t2 71 t3 122 t4 230 mdt 8
+slot 1 t1 20 position 1",
+        ..PLAN
+    },
+    Row {
         shows: "longest time from an AT to the MDT",
         base: Base::OneDrive,
         edits: "tatmt = 6 => tatmt = 155",
@@ -131,7 +132,7 @@ rule 9 drive 1 sum 949 bound 946",
     },
 ];
 
-const MARGIN_ROWS: [Row; 3] = [
+const MARGIN_ROWS: &[Row] = &[
     Row {
         shows: "one drive",
         words: "sercos margin",
@@ -166,89 +167,10 @@ margin 1 t1min 300 tatmt 300 t4min 64000 tatat 64000 tmtsy 250 tmtsg 63922",
 
 #[test]
 fn plans(rt: HostRuntime) -> Result<(), Fail> {
-    check(&rt, rt.alloc(), &PLAN_ROWS, "")
+    check(&rt, rt.alloc(), PLAN_ROWS, "")
 }
 
 #[test]
 fn margins(rt: HostRuntime) -> Result<(), Fail> {
-    check(&rt, rt.alloc(), &MARGIN_ROWS, "")
-}
-
-// What the ring of two drives, after edits, needs of its plan, if its document is taken.
-fn wishes(rt: &impl Abort, alloc: Global, edits: &str) -> Result<Option<Wishes>, Fail> {
-    match read_ring(
-        alloc,
-        edited(rt, alloc, TWO_DRIVES, edits)?.as_str().as_bytes(),
-    ) {
-        Ok(document) => Ok(Some(document.setup.wishes())),
-        Err(_) => Ok(None),
-    }
-}
-
-// A chain of the first links that prove that no plan fits in a cycle of 125 microseconds.
-fn chain(links: &[Link], sum: u32, bound: u32) -> Option<Chain> {
-    Some(Chain {
-        links: ArrayVec::try_from(links).ok()?,
-        rule: 9,
-        drive: 1,
-        sum,
-        bound,
-    })
-}
-
-#[test]
-fn chains(rt: HostRuntime) -> Result<(), Fail> {
-    let wishes = wishes(&rt, rt.alloc(), "cycle = 250 => cycle = 125")?.expect(
-        &rt,
-        "the document is taken",
-    );
-    let links = [
-        Link {
-            rule: 1,
-            drive: 1,
-            at: 40,
-        },
-        Link {
-            rule: 3,
-            drive: 2,
-            at: 184,
-        },
-        Link {
-            rule: 6,
-            drive: 2,
-            at: 332,
-        },
-    ];
-    if !valid(&wishes) {
-        assert!(rt; false);
-        return Ok(());
-    }
-    let wanted = chain(&links, 570, 446).expect(&rt, "a chain");
-    assert_eq!(rt; plan(&wishes).err(), Some(wanted));
-    let rows = [
-        (chain(&links, 570, 446), true),
-        (chain(&links, 569, 446), false),
-        (chain(&links, 570, 447), false),
-        (chain(&[links[0], links[2]], 570, 446), false),
-    ];
-    for (row, right) in rows {
-        let row = row.expect(&rt, "a chain");
-        assert_eq!(rt; check_chain(&wishes, &row), right);
-    }
-    Ok(())
-}
-
-#[test]
-fn wires(rt: HostRuntime) {
-    for (bytes, bits) in [
-        (2, 54),
-        (5, 83),
-        (9, 121),
-        (13, 160),
-        (17, 198),
-        (37, 390),
-        (2048, 19696),
-    ] {
-        assert_eq!(rt; wire(bytes), bits);
-    }
+    check(&rt, rt.alloc(), MARGIN_ROWS, "")
 }

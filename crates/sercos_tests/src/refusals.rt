@@ -10,7 +10,7 @@ const REFUSED: Row = Row {
     ..PLAIN
 };
 
-const REFUSED_ROWS: [Row; 16] = [
+const REFUSED_ROWS: &[Row] = &[
     Row {
         shows: "no text",
         base: Base::Given,
@@ -126,7 +126,7 @@ station = 1
     },
 ];
 
-const WORD_ROWS: [Row; 7] = [
+const WORD_ROWS: &[Row] = &[
     Row {
         shows: "no drive",
         words: "sercos gen 0",
@@ -171,49 +171,12 @@ const WORD_ROWS: [Row; 7] = [
     },
 ];
 
-const LONGEST: Row = Row {
-    shows: "longest text, all blanks",
-    base: Base::Given,
-    lines: "refused 2 missing ring",
-    ..REFUSED
-};
-
-const TOO_LONG_ROWS: [Row; 3] = [
-    Row {
-        shows: "text of a byte too many",
-        words: "sercos show",
-        status: Status::TooLong,
-        ..PLAIN
-    },
-    Row {
-        shows: "text of a byte too many",
-        base: Base::Given,
-        status: Status::TooLong,
-        ..REFUSED
-    },
-    Row {
-        shows: "text of a byte too many",
-        words: "sercos_rings run",
-        status: Status::TooLong,
-        ..PLAIN
-    },
-];
-
 #[test]
 fn refused_documents(rt: HostRuntime) -> Result<(), Fail> {
-    check(&rt, rt.alloc(), &REFUSED_ROWS, "")
+    check(&rt, rt.alloc(), REFUSED_ROWS, "")
 }
 
 #[test]
 fn bad_words(rt: HostRuntime) -> Result<(), Fail> {
-    check(&rt, rt.alloc(), &WORD_ROWS, "")
-}
-
-#[test]
-fn long_texts(rt: HostRuntime) -> Result<(), Fail> {
-    let alloc = rt.alloc();
-    let mut text = " ".repeat(alloc, 1048576)?;
-    check(&rt, alloc, &[LONGEST], text.as_str())?;
-    text.push_str(" ")?;
-    check(&rt, alloc, &TOO_LONG_ROWS, text.as_str())
+    check(&rt, rt.alloc(), WORD_ROWS, "")
 }

@@ -10,7 +10,7 @@ const RINGS: Row = Row {
 };
 
 // Over two rings of one drive.
-const SAME_ROWS: [Row; 3] = [
+const SAME_ROWS: &[Row] = &[
     Row {
         shows: "one cycle each, whole",
         edits: "cycles = 300 => cycles = 1 & cycles = 300 => cycles = 1",
@@ -68,7 +68,7 @@ together 205",
 ];
 
 // Over a ring of one drive and one of three.
-const OTHER_ROWS: [Row; 2] = [
+const OTHER_ROWS: &[Row] = &[
     Row {
         shows: "cycle of a millisecond",
         edits: "cycle = 250 => cycle = 1000 & cycles = 300 => cycles = 900",
@@ -88,6 +88,24 @@ together 75",
     },
 ];
 
+// Over eight rings of one drive.
+const MOST_ROW: Row = Row {
+    shows: "most rings, one cycle each",
+    edits: "cycles = 300 => cycles = 1 & cycles = 300 => cycles = 1 & cycles = 300 => cycles = 1 & cycles = 300 => cycles = 1 & cycles = 300 => cycles = 1 & cycles = 300 => cycles = 1 & cycles = 300 => cycles = 1 & cycles = 300 => cycles = 1",
+    lines: "1 sercos 1
+8 sercos 1
+8 ring 4 250 250 5 1
+8 drive 1 1 10 6 20 5 10 20 8 8
+8 order 1
+t 0
+1 m 0 -49 49 ff00
+8 m 0 -49 49 ff00
+8 end 1 phase 0 complete 0 refused 0 broken 0 falls 0 unseen 0
+together 0",
+    only: "t *|together *",
+    ..RINGS
+};
+
 const ALONE: Row = Row {
     shows: "one document",
     base: Base::OneDrive,
@@ -100,8 +118,10 @@ const ALONE: Row = Row {
 fn several_rings(rt: HostRuntime) -> Result<(), Fail> {
     let alloc = rt.alloc();
     let same = format!(in alloc; "{ONE_DRIVE}next\n{ONE_DRIVE}")?;
-    check(&rt, alloc, &SAME_ROWS, same.as_str())?;
+    check(&rt, alloc, SAME_ROWS, same.as_str())?;
     let other = format!(in alloc; "{ONE_DRIVE}next\n{THREE_DRIVES}")?;
-    check(&rt, alloc, &OTHER_ROWS, other.as_str())?;
+    check(&rt, alloc, OTHER_ROWS, other.as_str())?;
+    let most = format!(in alloc; "{same}next\n{same}next\n{same}next\n{same}")?;
+    check(&rt, alloc, &[MOST_ROW], most.as_str())?;
     check(&rt, alloc, &[ALONE], "")
 }

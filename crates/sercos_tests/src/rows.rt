@@ -83,6 +83,21 @@ pub const PLAIN: Row = Row {
     only: "*",
 };
 
+// The status of a program, `sercos_rings` or `sercos`.
+fn status_of(
+    alloc: Global,
+    program: &str,
+    words: &Words,
+    source: &mut MemorySource,
+    sink: &mut MemorySink,
+    link: impl BitLink,
+) -> Status {
+    if program == "sercos_rings" {
+        return rings(alloc, words, source, sink);
+    }
+    sercos(alloc, words, source, sink, link)
+}
+
 // Runs a program over an input, with a link handed in. The numbers are the most bytes of a read and the read that fails, the most
 // bytes of a write, the write that fails, and the room of the output; the call 0 is never made.
 pub fn answer_by(
@@ -101,26 +116,46 @@ pub fn answer_by(
     let mut source = MemorySource::new(Vec::from_slice(alloc, input)?, read.0, failing);
     let failing = Vec::from_slice(alloc, &[write.1])?;
     let mut sink = MemorySink::new(Vec::with_capacity(alloc, write.2)?, write.0, failing);
-    let status = if program == "sercos_rings" {
-        rings(alloc, &words, &mut source, &mut sink)
-    } else {
-        sercos(alloc, &words, &mut source, &mut sink, link)
-    };
+    let status = status_of(alloc, program, &words, &mut source, &mut sink, link);
     Ok((status, sink))
 }
 
-// The output of a program that ends with `Done`.
-pub fn output(rt: &impl Abort, alloc: Global, words: &str, input: &str) -> Result<String, Fail> {
+// What a program answers over a source and a sink that don't fail: its status, and its output.
+fn answer(
+    alloc: Global,
+    words: &str,
+    input: &str,
+    link: impl BitLink,
+) -> Result<(Status, String), Fail> {
     let (status, sink) = answer_by(
         alloc,
         words,
         input.as_bytes(),
         SOUND_READS,
         SOUND_WRITES,
-        Clean,
+        link,
     )?;
+    Ok((
+        status,
+        String::from_str(alloc, from_utf8(sink.as_slice())?)?,
+    ))
+}
+
+// The output of a program that ends with `Done`, with a link handed in.
+pub fn output_over(
+    rt: &impl Abort,
+    alloc: Global,
+    words: &str,
+    input: &str,
+    link: impl BitLink,
+) -> Result<String, Fail> {
+    let (status, output) = answer(alloc, words, input, link)?;
     assert_eq!(rt; status, Status::Done, "{words}");
-    Ok(String::from_str(alloc, from_utf8(sink.as_slice())?)?)
+    Ok(output)
+}
+
+pub fn output(rt: &impl Abort, alloc: Global, words: &str, input: &str) -> Result<String, Fail> {
+    output_over(rt, alloc, words, input, Clean)
 }
 
 // A text after edits.
@@ -183,10 +218,9 @@ pub fn check_over(
     let shows = row.shows;
     let mut input = edited(rt, alloc, text_of(row.base, given), row.edits)?;
     input.push_str(row.more)?;
-    let input = input.as_str().as_bytes();
-    let (status, sink) = answer_by(alloc, row.words, input, SOUND_READS, SOUND_WRITES, link)?;
+    let (status, output) = answer(alloc, row.words, input.as_str(), link)?;
     assert_eq!(rt; status, row.status, "{shows}");
-    let output = from_utf8(sink.as_slice())?;
+    let output = output.as_str();
     assert!(rt; output.is_empty() || output.ends_with("\n"), "{shows}");
     let fault = fault_in(output, row.lines, row.only);
     assert!(rt; fault.is_none(), "{shows}: {fault:?}");

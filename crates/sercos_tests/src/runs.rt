@@ -1,9 +1,6 @@
 // `run` and `gen`: whole runs of a ring.
-use crate::rows::{
-    Base, PLAIN, Row, SOUND_READS, SOUND_WRITES, answer_by, check, check_over, output,
-};
+use crate::rows::{Base, PLAIN, Row, check, check_over, output, output_over};
 use crate::texts::{LOST_TO_THE_LIMIT, ONE_DRIVE, READ, SHORT};
-use sercos_io::Status;
 use sercos_script::{Damage, Fault, Scripted};
 use sercos_telegram::Kind;
 use std::test::Fail;
@@ -26,7 +23,7 @@ const RUN: Row = Row {
     ..PLAIN
 };
 
-const START_UP_ROWS: [Row; 7] = [
+const START_UP_ROWS: &[Row] = &[
     Row {
         shows: "first thirteen cycles, whole",
         edits: "cycles = 300 => cycles = 13",
@@ -152,10 +149,10 @@ p 100 1 4",
 
 #[test]
 fn start_ups(rt: HostRuntime) -> Result<(), Fail> {
-    check(&rt, rt.alloc(), &START_UP_ROWS, "")
+    check(&rt, rt.alloc(), START_UP_ROWS, "")
 }
 
-const REQUEST_ROWS: [Row; 4] = [
+const REQUEST_ROWS: &[Row] = &[
     Row {
         shows: "writes of a protected number, of one below its minimum and of too long a list",
         more: "
@@ -281,10 +278,10 @@ end 300 phase 4 complete 0 refused 2 broken 0 falls 0 unseen 0",
 
 #[test]
 fn requests(rt: HostRuntime) -> Result<(), Fail> {
-    check(&rt, rt.alloc(), &REQUEST_ROWS, "")
+    check(&rt, rt.alloc(), REQUEST_ROWS, "")
 }
 
-const DAMAGED_ROWS: [Row; 5] = [
+const DAMAGED_ROWS: &[Row] = &[
     Row {
         shows: "name of sixty letters, with each second AT lost",
         edits: "idn = \"S-0-0051\" => idn = \"S-0-0051\"\nname = \"AAAAAAAAAAAAAAAAAAAAAAAAAAAAAAAAAAAAAAAAAAAAAAAAAAAAAAAAAAAA\"",
@@ -454,10 +451,10 @@ bit = 37
 
 #[test]
 fn damaged_runs(rt: HostRuntime) -> Result<(), Fail> {
-    check(&rt, rt.alloc(), &DAMAGED_ROWS, "")
+    check(&rt, rt.alloc(), DAMAGED_ROWS, "")
 }
 
-const RECOVERY_ROWS: [Row; 7] = [
+const RECOVERY_ROWS: &[Row] = &[
     Row {
         shows: "step that is answered in the last cycle",
         more: LOST_TO_THE_LIMIT,
@@ -632,10 +629,10 @@ end 300 phase 4 complete 1 refused 0 broken 1 falls 1 unseen 0",
 
 #[test]
 fn recoveries(rt: HostRuntime) -> Result<(), Fail> {
-    check(&rt, rt.alloc(), &RECOVERY_ROWS, "")
+    check(&rt, rt.alloc(), RECOVERY_ROWS, "")
 }
 
-const GENERATED_ROWS: [Row; 2] = [
+const GENERATED_ROWS: &[Row] = &[
     Row {
         shows: "one drive",
         words: "sercos gen 1",
@@ -652,7 +649,7 @@ const GENERATED_ROWS: [Row; 2] = [
 
 #[test]
 fn generated(rt: HostRuntime) -> Result<(), Fail> {
-    check(&rt, rt.alloc(), &GENERATED_ROWS, "")
+    check(&rt, rt.alloc(), GENERATED_ROWS, "")
 }
 
 // A script handed in as the link does what the same script in the document does.
@@ -668,18 +665,10 @@ fn script_handed_in(rt: HostRuntime) -> Result<(), Fail> {
         damage: Damage::Lose { link: 1 },
     };
     let script = Scripted::new(Vec::from_slice(alloc, &[fault])?, 1);
-    let (status, handed) = answer_by(
-        alloc,
-        "sercos run",
-        ONE_DRIVE.as_bytes(),
-        SOUND_READS,
-        SOUND_WRITES,
-        script,
-    )?;
+    let handed = output_over(&rt, alloc, "sercos run", ONE_DRIVE, script)?;
     let document = format!(in alloc; "{ONE_DRIVE}{LOST_TO_THE_LIMIT}")?;
     let written = output(&rt, alloc, "sercos run", document.as_str())?;
-    assert_eq!(rt; status, Status::Done);
-    assert_eq!(rt; handed.as_slice(), written.as_str().as_bytes());
+    assert_eq!(rt; handed.as_str(), written.as_str());
     Ok(())
 }
 
