@@ -1,12 +1,12 @@
 -- Cuts are harmless, since no frame begins another one.
-use Rattle.std.proofs.Common.{◌≡◌, Bool, List, [], ◌∷◌, ◌++◌, Option, Some, None, option_and_then, sym, ◌∙◌, ap, subst, append_assoc, append-nil}
+use Rattle.std.proofs.Common.{◌≡◌, Bool, List, [], ◌∷◌, ◌++◌, Option, Some, None, option_and_then, refl, sym, ◌∙◌, ap, subst, append_assoc, append-nil}
 use Rattle.std.specs.Prelude.{IfSome}
 use Rattle.sercos_hdlc.specs.Reason.{reason_of}
 use Rattle.sercos_hdlc.proofs.FramingLemmas.{no_longer_frame}
 use Rattle.sercos_hdlc.proofs.ReasonLemmas.{IsFrame-reason_none}
 use Rattle.sercos_script.specs.Links.{Carry}
 use Rattle.sercos_script.specs.Cuts.{IsCut, OnlyCuts}
-use Rattle.sercos_law_run.specs.Journal.Harmless.{BothAreHarmless, CutsAreHarmless, IsHarmlessAfterCuts}
+use Rattle.sercos_law_run.specs.Journal.Harmless.{BothAreHarmless, CutsAreHarmless, IsHarmlessAfterCuts, QuietIsHarmless}
 
 -- bits that are a frame and begin one are that one
 same_frame : (bits rest : List Bool) → reason_of bits ≡ None → reason_of (bits ++ rest) ≡ None → rest ≡ []
@@ -29,6 +29,10 @@ after_cuts carry cuts p bits rest whole = by (carry p bits) (cuts p bits)
 
 pub cuts_are_harmless : CutsAreHarmless
 cuts_are_harmless carry cuts = (λ p bits whole. after_cuts carry cuts p bits [] (subst (λ (l : List Bool). reason_of l ≡ None) (sym (append-nil bits)) whole), after_cuts carry cuts)
+
+pub quiet_is_harmless : QuietIsHarmless
+quiet_is_harmless carry quiet p bits rest whole =
+    subst (λ (o : Option (List Bool)). IfSome o (λ came. reason_of came ≡ None → came ≡ bits)) (sym (quiet p.cycle p.kind p.from p bits refl refl refl)) (λ one. refl)
 
 pub both_are_harmless : BothAreHarmless
 both_are_harmless first second cuts harmless p bits whole = by (first p bits) (cuts p bits)

@@ -22,7 +22,7 @@ use Rattle.sercos_trace.specs.Views.{SentView, CycleView}
 use Rattle.sercos_hdlc.specs.Stuffed.{frame_of}
 use Rattle.sercos_law_run.specs.Journal.Harmless.{IsHarmless, IsHarmlessAfterCuts}
 use Rattle.sercos_law_run.specs.Journal.Runs.{IsClear, run_of}
-use Rattle.sercos_law_run.proofs.Journal.HarmlessLemmas.{cuts_are_harmless}
+use Rattle.sercos_law_run.proofs.Journal.HarmlessLemmas.{cuts_are_harmless, quiet_is_harmless}
 use Rattle.sercos_trace.specs.declared.record.Move.{Move}
 use Rattle.sercos_law_run.specs.Journal.Arrivals as Arrivals
 use Rattle.sercos_model.specs.Bits as Bits
@@ -153,7 +153,7 @@ cut = refl
 cuts_do_no_harm : IsHarmless (carried 1 cuts)
 cuts_do_no_harm = (cuts_are_harmless (carried 1 cuts) (unflipped_only_cuts 1 cuts refl)).0
 
--- Of the run under the flips some arrival is unseen.
+-- The run under the flips isn't clear.
 all_seen : (j : List CycleView) → IsClear j → (happened j).unseen ≡ 0
 all_seen [] clear = refl
 all_seen (t ∷ j) (before, clear) = let none = all_seen j before in omega (arith, none, clear)
@@ -175,6 +175,9 @@ other_frame = refl
 flips_do_harm : IsHarmless (carried 1 flips) → ⊥
 unfolding mst_frame carried acts Bits.bits_of Bits.low_bits Bits.is_odd Bits.number_of Bits.bytes_of CheckSequence.fcs_of CheckSequence.divided CheckSequence.added CheckSequence.sum_of Reason.begins_with_six Reason.is_five Reason.ends_in_five Reason.six_place Reason.unstuffed Reason.given Reason.unclosed Reason.unreadable Reason.reason_of Stuffed.stuffed Stuffed.frame_of
 flips_do_harm harmless = true≢false (ap (λ (l : List Bool). slice_index_or l 17 false) (harmless (record { cycle = 5; kind = kinds.Mst; from = 0; to = 1 }) (mst_frame 0) refl refl))
+
+clean_does_no_harm : IsHarmlessAfterCuts carried_clean
+clean_does_no_harm = quiet_is_harmless carried_clean (λ cycle kind from p bits in_cycle of_kind sent_by. refl)
 
 -- A link that makes a frame out of the first 30 bits of another one does harm after cuts.
 mended : Carry

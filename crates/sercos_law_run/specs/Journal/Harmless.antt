@@ -1,8 +1,9 @@
 -- Links over which no damage passes for a frame.
-use Rattle.std.specs.Prelude.{◌≡◌, List, Bool, ◌++◌, None, IfSome}
+use Rattle.std.specs.Prelude.{◌≡◌, ℕ, List, Bool, ◌++◌, None, IfSome}
 use Rattle.sercos_hdlc.specs.Reason.{reason_of}
+use Rattle.sercos_telegram.specs.declared.layout.Kind.{Kind}
 use Rattle.sercos_script.specs.declared.link.Passage.{Passage}
-use Rattle.sercos_script.specs.Links.{Carry, carried_by_both}
+use Rattle.sercos_script.specs.Links.{Carry, IsQuiet, carried_by_both}
 use Rattle.sercos_script.specs.Cuts.{OnlyCuts}
 
 -- A link is harmless if what arrives of a frame is this frame, nothing, or bits that are not a frame.
@@ -13,6 +14,10 @@ IsHarmless carry = (p : Passage) (bits : List Bool) → reason_of bits ≡ None 
 -- of it. The whole frame is such a beginning too.
 abbrev pub IsHarmlessAfterCuts : Carry → Type 0
 IsHarmlessAfterCuts carry = (p : Passage) (bits rest : List Bool) → reason_of (bits ++ rest) ≡ None → IfSome (carry p bits) (λ came. reason_of came ≡ None → came ≡ bits)
+
+-- A link that changes nothing is harmless after cuts.
+abbrev pub QuietIsHarmless : Type 0
+QuietIsHarmless = (carry : Carry) → ((cycle : ℕ) (kind : Kind) (from : ℕ) → IsQuiet carry cycle kind from) → IsHarmlessAfterCuts carry
 
 -- A link that only cuts is harmless, and also after cuts, since no frame begins another one.
 abbrev pub CutsAreHarmless : Type 0
