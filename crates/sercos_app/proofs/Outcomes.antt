@@ -1,5 +1,6 @@
 -- What each way in which the top call can end says for its clauses.
-use Rattle.std.proofs.Common.{◌≡◌, ◌≢◌, ℕ, ◌≤◌, ◌⊎◌, inl, inr, Bool, true, false, List, [], length, Option, Some, None, Result, Ok, Err, refl, sym, ◌∙◌, ap, subst}
+use Rattle.std.proofs.Common.{◌≡◌, ◌≢◌, ℕ, ◌≤◌, ◌⊎◌, inl, inr, Bool, true, false, List, [], ◌∷◌, map, length, Option, Some, None, Result, Ok, Err, refl, sym, ◌∙◌, ap, subst}
+use Rattle.std.specs.List.{range_with_len}
 use Rattle.std.specs.Io.KnownBytes.{Appends}
 use Rattle.sercos_model.specs.Streams.{Rose}
 use Rattle.sercos_io.specs.declared.status.Status.{Status}
@@ -33,7 +34,9 @@ use Rattle.sercos_backup.specs.Jobs.{list_jobs, place_of_other}
 use Rattle.sercos_backup.specs.Tracking.{are_well}
 use Rattle.sercos_app.specs.Saving.{run_tracked, data_answer, lists_answer, ring_saved, writes_answer, ring_restored, answer_by, backup_answer, restore_answer}
 use Rattle.sercos_app.specs.Saved.{second_jobs}
-use Rattle.sercos_config.specs.Generated.{generated}
+use Rattle.sercos_config.specs.Generated.{generated, generated_fault}
+use Rattle.sercos_script.specs.Cuts.{has_flip}
+use Rattle.sercos_opened.proofs.KeptLemmas.{document_clear}
 use Rattle.sercos_app.specs.Generating.{gen_answer, RunsGenerated}
 use Rattle.sercos_timing.specs.Views.{WishesView, PlanView}
 use Rattle.sercos_plan.specs.Views.{ChainView}
@@ -382,6 +385,7 @@ traced-run carry restarts bytes left left' held held' says at input written =
       document = read;
       journal = document_run carry restarts d;
       run = (says d read).run;
+      clear = document_clear carry restarts d (says d read);
       keeps = (says d read).keeps;
       starts = (says d read).starts;
       recovers = (says d read).recovers;
@@ -396,6 +400,15 @@ at_traced out e f =
     let whole = done_whole _ _ Run a.bytes _ _ a.ends e in
     traced-run _ _ a.bytes _ _ _ _ a.says whole.0 a.input whole.1
 
+-- no fault of a generated document is a flip
+none_flipped : (n : ℕ) → has_flip (generated n).faults ≡ false
+unfolding generated generated_fault
+none_flipped n = by (range_with_len 1 n)
+  where
+    by : (drives : List ℕ) → has_flip (map (generated_fault n) drives) ≡ false
+    by [] = refl
+    by (k ∷ drives) = by drives
+
 -- what the answer of `gen` says
 summed-run : (carry : Carry) (restarts : Restarts) (n : ℕ) (bytes : List ℕ) (held held' : Option (List ℕ)) → RunsGenerated carry restarts n
     → Appends held held' (command_answer carry restarts (Gen n) bytes).output → RunSummed carry restarts n held held'
@@ -404,6 +417,7 @@ summed-run carry restarts n bytes held held' says written =
     record {
       journal = document_run carry restarts (generated n);
       run = says.run;
+      clear = document_clear carry restarts (generated n) says (none_flipped n);
       keeps = says.keeps;
       starts = says.starts;
       recovers = says.recovers;

@@ -8,26 +8,21 @@ use Rattle.sercos_script.specs.declared.fault.Fault.{Fault}
 use Rattle.sercos_script.specs.Links.{Carry, Restarts, carried_by_both, restarts_in_either}
 use Rattle.sercos_script.specs.Scripts.{carried, restarts_at}
 use Rattle.sercos_law_run.specs.Held.Opened.{IsOpened}
-use Rattle.sercos_law_run.specs.Headline.Headline.{Headline}
-use Rattle.sercos_law_run.specs.Undisturbed.WholeRuns.{StartsUndisturbed}
-use Rattle.sercos_law_run.specs.Recovery.Recovers.{Recovers}
 use Rattle.sercos_document.specs.declared.refusal.BadDocument.{BadDocument}
 use Rattle.sercos_document.specs.declared.refusal.BadDocument.TheVariants as bads
 use Rattle.sercos_document.specs.Lines.{line_of}
 use Rattle.sercos_config.specs.Views.{DocumentView}
 use Rattle.sercos_config.specs.Document.{document_of}
 use Rattle.sercos_answer.specs.Answer.{Answer}
-use Rattle.sercos_opened.specs.Kept.{IsDocumentRun, carry_under, restarts_under}
-use Rattle.sercos_opened.proofs.KeptLemmas.{AreNext, opened_is_kept}
+use Rattle.sercos_opened.specs.Kept.{IsDocumentRun, OpenedIsKept, carry_under, restarts_under}
 use Rattle.sercos_app.specs.Running.{RunsItsRing, run_answer, run_traced, traced_answer}
 use Rattle.sercos_config.specs.Generated.{generated}
 use Rattle.sercos_app.specs.Generating.{RunsGenerated, gen_answer, run_summed}
 use Rattle.sercos_call.specs.Outcome.{SinkChange, Writes, Replies}
 use Rattle.sercos_call.specs.Outcome.Replies.{none_found, replied}
 
-document_runs : AreNext → Headline → StartsUndisturbed → Recovers → (carry : Carry) (restarts : Restarts) (d : DocumentView) → IsOpened d.setup d.jobs → IsDocumentRun carry restarts d
-document_runs next law starts back carry restarts d opened =
-    opened_is_kept next law starts back d.setup d.jobs (carry_under d carry) (restarts_under d restarts) d.setup.cycles opened
+document_runs : OpenedIsKept → (carry : Carry) (restarts : Restarts) (d : DocumentView) → IsOpened d.setup d.jobs → IsDocumentRun carry restarts d
+document_runs kept carry restarts d opened = kept d.setup d.jobs (carry_under d carry) (restarts_under d restarts) d.setup.cycles opened
 
 pub run_answer_of : (carry : Carry) (restarts : Restarts) (bytes : List ℕ) (d : DocumentView) → document_of bytes ≡ Ok d
     → run_answer carry restarts bytes ≡ run_traced d.setup d.jobs (carry_under d carry) (restarts_under d restarts)
@@ -47,13 +42,13 @@ no_document : (read : Result DocumentView BadDocument) (bad : BadDocument) (d : 
 no_document (Ok said) bad d is too = cc
 no_document (Err other) bad d is too = cc
 
-pub run_replies : AreNext → Headline → StartsUndisturbed → Recovers
+pub run_replies : OpenedIsKept
     → (carry : Carry) (restarts : Restarts) (bytes : List ℕ) (d : DocumentView) (sink : SinkChange) (Unwritten : Type 0) (status : Status) → document_of bytes ≡ Ok d → IsOpened d.setup d.jobs
     → Replies (run_traced d.setup d.jobs (carry_under d carry) (restarts_under d restarts)) (Unit {0}) sink Unwritten status
     → Replies (run_answer carry restarts bytes) (RunsItsRing carry restarts bytes) sink Unwritten status
-run_replies next law starts back carry restarts bytes d sink Unwritten status is opened (none_found unwritten) = none_found unwritten
-run_replies next law starts back carry restarts bytes d sink Unwritten status is opened (replied ended says written) =
-    replied ended (λ other too. subst (λ (x : DocumentView). IsDocumentRun carry restarts x) (one_document (document_of bytes) d other is too) (document_runs next law starts back carry restarts d opened))
+run_replies kept carry restarts bytes d sink Unwritten status is opened (none_found unwritten) = none_found unwritten
+run_replies kept carry restarts bytes d sink Unwritten status is opened (replied ended says written) =
+    replied ended (λ other too. subst (λ (x : DocumentView). IsDocumentRun carry restarts x) (one_document (document_of bytes) d other is too) (document_runs kept carry restarts d opened))
     (subst (λ (a : Answer). Writes a.status a.output sink ended) (sym (run_answer_of carry restarts bytes d is)) written)
 
 pub run_refuses : (carry : Carry) (restarts : Restarts) (bytes : List ℕ) (bad : BadDocument) (sink : SinkChange) (Unwritten : Type 0) (status : Status) → (bad ≡ bads.Memory) ⊎ (document_of bytes ≡ Err bad)
@@ -85,12 +80,12 @@ says_too answer Says sink Unwritten status told (none_found unwritten) = none_fo
 says_too answer Says sink Unwritten status told (replied ended is written) = replied ended told written
 
 -- the summary of the run of a generated document
-pub gen_replies : AreNext → Headline → StartsUndisturbed → Recovers
+pub gen_replies : OpenedIsKept
     → (carry : Carry) (restarts : Restarts) (n : ℕ) (d : DocumentView) (sink : SinkChange) (Unwritten : Type 0) (status : Status) → d ≡ generated n → IsOpened d.setup d.jobs
     → Replies (run_summed n d.setup d.jobs (carry_under d carry) (restarts_under d restarts)) (Unit {0}) sink Unwritten status
     → Replies (gen_answer carry restarts n) (RunsGenerated carry restarts n) sink Unwritten status
 unfolding gen_answer
-gen_replies next law starts back carry restarts n d sink Unwritten status is opened replies =
+gen_replies kept carry restarts n d sink Unwritten status is opened replies =
     says_too (gen_answer carry restarts n) (RunsGenerated carry restarts n) sink Unwritten status
-    (document_runs next law starts back carry restarts (generated n) (subst (λ (x : DocumentView). IsOpened x.setup x.jobs) is opened))
+    (document_runs kept carry restarts (generated n) (subst (λ (x : DocumentView). IsOpened x.setup x.jobs) is opened))
     (subst (λ (x : DocumentView). Replies (run_summed n x.setup x.jobs (carry_under x carry) (restarts_under x restarts)) (Unit {0}) sink Unwritten status) is replies)

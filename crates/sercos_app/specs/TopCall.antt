@@ -4,6 +4,7 @@ use Rattle.std.specs.Prelude.{◌≡◌, ℕ, ◌<◌, ◌≤◌, Bool, true, fa
 use Rattle.std.specs.Io.KnownBytes.{Appends}
 use Rattle.sercos_call.specs.TopCall.{ReadsWhole}
 use Rattle.sercos_script.specs.Links.{Carry, Restarts}
+use Rattle.sercos_script.specs.Cuts.{has_flip}
 use Rattle.sercos_answer.specs.Lines.{lines_of}
 use Rattle.sercos_planning.specs.Planning.{plan_text, chain_text}
 use Rattle.sercos_planning.specs.Margins.{TellsMargins, TellsChain}
@@ -21,7 +22,8 @@ use Rattle.sercos_trace.specs.Views.{CycleView}
 use Rattle.sercos_trace.specs.Texts.{trace_of}
 use Rattle.std.specs.List.{flat_map}
 use Rattle.sercos_block.specs.Views.{RingView}
-use Rattle.sercos_law_run.specs.Journal.Runs.{IsRun, run_of}
+use Rattle.sercos_law_run.specs.Journal.Harmless.{IsHarmlessAfterCuts}
+use Rattle.sercos_law_run.specs.Journal.Runs.{IsClear, IsRun, run_of}
 use Rattle.sercos_backup.specs.Jobs.{list_jobs, place_of_other}
 use Rattle.sercos_backup.specs.Tracking.{are_well}
 use Rattle.sercos_backup.specs.Texts.{failed_lines, many_answer, restored_line, saved_lines}
@@ -123,8 +125,9 @@ pub record BreachTold (address : ℕ) (left left' held held' : Option (List ℕ)
   pub written : Appends held held' (violation_text breaks.line breaks.rule)
 
 -- The source was read to its end as the document of a ring, and what was appended is the trace of the one run of this ring, for its number
--- of cycles, under its script followed by the link passed in. Its cycles have all promised properties. The newest cycle of the journal
--- comes first.
+-- of cycles, under its script followed by the link passed in. Its cycles have all promised properties. If the script has no flip, and the
+-- link passed in is harmless after cuts, as one that changes nothing is, no arrival is unseen in it. The newest cycle of the journal comes
+-- first.
 pub record RunTraced (carry : Carry) (restarts : Restarts) (left left' held held' : Option (List ℕ)) : Type 0 where
   pub bytes : List ℕ
   pub read : ReadsWhole left left' bytes
@@ -132,6 +135,7 @@ pub record RunTraced (carry : Carry) (restarts : Restarts) (left left' held held
   pub document : document_of bytes ≡ Ok says
   pub journal : List CycleView
   pub run : IsRun says.setup says.jobs (carry_under says carry) (restarts_under says restarts) journal
+  pub clear : has_flip says.faults ≡ false → IsHarmlessAfterCuts carry → IsClear journal
   pub keeps : KeepsThroughout says.setup says.jobs (carry_under says carry) (restarts_under says restarts) journal
   pub starts : StartsThroughout says.setup says.jobs (carry_under says carry) (restarts_under says restarts) journal
   pub recovers : RecoversThroughout says.setup says.jobs (carry_under says carry) (restarts_under says restarts) journal
@@ -139,10 +143,12 @@ pub record RunTraced (carry : Carry) (restarts : Restarts) (left left' held held
   pub written : Appends held held' (trace_of (wishes_of says.setup) (reverse journal) (totals_of (reverse journal)))
 
 -- What was appended is the summary of the one run of the generated ring of n drives, for its number of cycles, under its script followed by
--- the link passed in. Its cycles have all promised properties. The newest cycle of the journal comes first.
+-- the link passed in. Its cycles have all promised properties. If that link is harmless after cuts, no arrival is unseen in it. The newest
+-- cycle of the journal comes first.
 pub record RunSummed (carry : Carry) (restarts : Restarts) (n : ℕ) (held held' : Option (List ℕ)) : Type 0 where
   pub journal : List CycleView
   pub run : IsRun (generated n).setup (generated n).jobs (carry_under (generated n) carry) (restarts_under (generated n) restarts) journal
+  pub clear : IsHarmlessAfterCuts carry → IsClear journal
   pub keeps : KeepsThroughout (generated n).setup (generated n).jobs (carry_under (generated n) carry) (restarts_under (generated n) restarts) journal
   pub starts : StartsThroughout (generated n).setup (generated n).jobs (carry_under (generated n) carry) (restarts_under (generated n) restarts) journal
   pub recovers : RecoversThroughout (generated n).setup (generated n).jobs (carry_under (generated n) carry) (restarts_under (generated n) restarts) journal

@@ -13,8 +13,7 @@ use sercos_block::RingSetup;
 use sercos_call::fault_status;
 use sercos_config::{Document, generate};
 use sercos_io::{Sink, Status, write_all};
-use sercos_law_run::{headline_law, recovery_law, run_law, undisturbed_law};
-use sercos_opened::show_opened;
+use sercos_opened::{kept_law, show_opened};
 use sercos_ring::Ring;
 use sercos_script::{BitLink, Both, Scripted};
 use sercos_step::Job;
@@ -145,10 +144,7 @@ pub fn answer_gen<L: BitLink, K: Sink>(alloc: Global, n: u8, link: L, sink: &mut
     ensures { Replies (gen_answer (L.carry link) (L.restart link) n) (RunsGenerated (L.carry link) (L.restart link) n)
         (changed K.held K.faults K.room sink.old sink.new) (sink.new ≡ sink.old) result }
 {
-    run_law();
-    headline_law();
-    undisturbed_law();
-    recovery_law();
+    kept_law();
     match generate(alloc, n) {
         Ok(document) => {
             show_opened(&document);

@@ -15,8 +15,7 @@ use sercos_block::{RingSetup, ring_law};
 use sercos_call::{fault_status, refuse};
 use sercos_config::{Document, read_ring};
 use sercos_io::{Sink, Status};
-use sercos_law_run::{headline_law, recovery_law, run_law, undisturbed_law};
-use sercos_opened::show_opened;
+use sercos_opened::{kept_law, show_opened};
 use sercos_ring::Ring;
 use sercos_script::{BitLink, Both, Scripted};
 use sercos_step::Job;
@@ -109,10 +108,7 @@ pub fn answer_run<L: BitLink, K: Sink>(alloc: Global, bytes: &[u8], link: L, sin
     ensures { Replies (run_answer (L.carry link) (L.restart link) bytes.now) (RunsItsRing (L.carry link) (L.restart link) bytes.now)
         (changed K.held K.faults K.room sink.old sink.new) (sink.new ≡ sink.old) result }
 {
-    run_law();
-    headline_law();
-    undisturbed_law();
-    recovery_law();
+    kept_law();
     match read_ring(alloc, bytes) {
         Ok(document) => {
             show_opened(&document);

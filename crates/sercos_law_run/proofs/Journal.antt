@@ -1,4 +1,5 @@
 pub mod ClearLemmas
 pub mod StationLemmas
 pub mod RunLemmas
+pub mod HarmlessLemmas
 pub mod Worked

@@ -7,6 +7,7 @@ pub use Rattle.sercos_law_run.proofs.Agenda.ReportedRuns.{count_so}
 pub use Rattle.sercos_law_run.proofs.Agenda.Requests.{numbered_drop}
 pub use Rattle.sercos_law_run.proofs.Agenda.TaskRuns.{all_ended}
 pub use Rattle.sercos_law_run.proofs.Journal.ClearLemmas.{heard-quiet, same_bits, same_heard, unseen-quiet}
+pub use Rattle.sercos_law_run.proofs.Journal.HarmlessLemmas.{both_are_harmless, cuts_are_harmless}
 pub use Rattle.sercos_law_run.proofs.Journal.RunLemmas.{AreParts, ats_in-said, length-run_of, mdt_in-said, parts_next}
 pub use Rattle.sercos_law_run.proofs.Journal.StationLemmas.{drives_so, few_drives, said_address, sound_blocks, station_found, station_is}
 pub use Rattle.sercos_law_run.proofs.Views.Coupled.{sends_so}

@@ -9,4 +9,5 @@ pub mod Plans
 pub mod Begun
 pub mod Mdts
 pub mod Spelled
+pub mod Clear
 pub mod Worked

@@ -2,3 +2,4 @@
 pub mod Arrivals
 pub mod Records
 pub mod Runs
+pub mod Harmless

@@ -2,3 +2,4 @@
 pub mod Typed
 pub mod Keeps
 pub mod Spelled
+pub mod Clear

@@ -25,5 +25,5 @@ pub use start_laws::{
     store_of_law,
 };
 pub use totals_laws::{plan_law, totals_law};
-pub use typed_laws::typed_law;
+pub use typed_laws::{harmless_law, typed_law};
 pub use undisturbed_laws::undisturbed_law;

@@ -15,6 +15,7 @@ use Rattle.sercos_multi.specs.Parts.{AllAt, IsAt}
 use Rattle.sercos_multi.specs.Said.{IsRefusedIn}
 use Rattle.std.proofs.lemmas.List.Elements.{All-nil, All-push}
 use Rattle.sercos_opened.specs.Kept.{IsScriptRun}
+use Rattle.sercos_opened.proofs.KeptLemmas.{script_clear}
 use Rattle.sercos_multi.specs.RingRuns.{IsRingRun}
 use Rattle.sercos_multi.proofs.ListLemmas.{dropped_all}
 
@@ -100,7 +101,7 @@ one_opened carry_of restart_of parts n ps new p part now is opens pushed =
           subst (λ l. AllAt carry_of restart_of l (voices_from 1 (now.documents ++ d ∷ []))) (sym pushed)
           (subst (λ vs. AllAt carry_of restart_of (ps ++ p ∷ []) vs) (sym (voices_push 1 now.documents d (n + 1) (omega (arith, count))))
           (all_push (IsAt carry_of restart_of) ps (voices_from 1 now.documents) p (voice_of (n + 1) d) now.all at));
-      runs = All-push IsRingRun now.documents d now.runs (record { some = cycles; kept = run });
+      runs = All-push IsRingRun now.documents d now.runs (record { some = cycles; kept = run; clear = script_clear d run });
     }
   where
     length_push : (documents : List DocumentView) (d : DocumentView) → length (documents ++ d ∷ []) ≡ length documents + 1

@@ -1,19 +1,23 @@
 -- What is known of the runs whose lines are merged.
-use Rattle.std.specs.Prelude.{◌≡◌, ℕ, ◌+◌, ◌<◌, ◌≤◌, true, List, length, Option, Some, None, Ok, slice_get}
+use Rattle.std.specs.Prelude.{◌≡◌, ℕ, ◌+◌, ◌<◌, ◌≤◌, true, false, List, length, Option, Some, None, Ok, slice_get}
 use Rattle.std.specs.List.{All}
 use Rattle.std.specs.Io.KnownBytes.{Appends}
 use Rattle.sercos_config.specs.Views.{DocumentView}
-use Rattle.sercos_opened.specs.Kept.{IsScriptRun}
+use Rattle.sercos_script.specs.Cuts.{has_flip}
+use Rattle.sercos_law_run.specs.Journal.Runs.{IsClear}
+use Rattle.sercos_opened.specs.Kept.{IsScriptRun, script_run}
 use Rattle.sercos_call.specs.TopCall.{ReadsWhole}
 use Rattle.sercos_multi.specs.Merged.{Voice, begun, is_cycle, is_timed, merged}
 use Rattle.sercos_multi.specs.Divided.{parts_of}
 use Rattle.sercos_multi.specs.OwnLines.{AreTraces}
 use Rattle.sercos_multi.specs.Asking.{cycles_of, cycle_fault, documents_from, first_cycle, voices_from}
 
--- The cycles of a document's ring, of which there is one at least, are its run, and keep all that is promised of them.
+-- The cycles of a document's ring, of which there is one at least, are its run, and keep all that is promised of them. If its script has
+-- no flip, no arrival is unseen.
 pub record IsRingRun (d : DocumentView) : Type 0 where
   pub some : 1 ≤ d.setup.cycles
   pub kept : IsScriptRun d
+  pub clear : has_flip d.faults ≡ false → IsClear (script_run d)
 
 abbrev pub AreRuns : List DocumentView → Type 0
 AreRuns documents = All IsRingRun documents

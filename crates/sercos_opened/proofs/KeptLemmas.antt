@@ -1,15 +1,21 @@
 -- From the laws on a cycle to those on a run.
-use Rattle.std.proofs.Common.{ℕ, zero, suc, List, [], ◌∷◌, ◌++◌, subst}
+use Rattle.std.proofs.Common.{◌≡◌, ℕ, zero, suc, false, List, [], ◌∷◌, ◌++◌, length, subst}
 use Rattle.sercos_step.specs.declared.request.Job.{Job}
 use Rattle.sercos_block.specs.Views.{RingView}
 use Rattle.sercos_script.specs.Links.{Carry, Restarts}
+use Rattle.sercos_script.specs.Cuts.{has_flip}
+use Rattle.sercos_script.proofs.CutLemmas.{unflipped_only_cuts}
 use Rattle.sercos_trace.specs.Views.{CycleView}
 use Rattle.sercos_law_run.specs.Held.Opened.{IsOpened}
+use Rattle.sercos_law_run.specs.Typed.Clear.{HarmlessIsClear}
 use Rattle.sercos_law_run.specs.Headline.Headline.{Headline}
 use Rattle.sercos_law_run.specs.Undisturbed.WholeRuns.{StartsUndisturbed}
 use Rattle.sercos_law_run.specs.Recovery.Recovers.{Recovers}
-use Rattle.sercos_law_run.specs.Journal.Runs.{IsNext, IsRun, next_record, run_of}
-use Rattle.sercos_opened.specs.Kept.{KeepsThroughout, RecoversThroughout, StartsThroughout, OpenedIsKept}
+use Rattle.sercos_law_run.specs.Journal.Harmless.{IsHarmlessAfterCuts}
+use Rattle.sercos_law_run.specs.Journal.Runs.{IsClear, IsNext, IsRun, next_record, run_of}
+use Rattle.sercos_law_run.proofs.Theorems.{both_are_harmless, cuts_are_harmless}
+use Rattle.sercos_config.specs.Views.{DocumentView}
+use Rattle.sercos_opened.specs.Kept.{document_run, script_carry, script_run, IsDocumentRun, IsScriptRun, KeepsThroughout, RecoversThroughout, StartsThroughout, OpenedIsKept}
 
 -- each cycle that the function gives is the next one
 abbrev pub AreNext : Type 0
@@ -43,10 +49,19 @@ run_recovers next law r jobs carry restarts n opened later t j is clear =
     law r jobs carry restarts t j opened
     (run_before r jobs carry restarts later (t ∷ j) (subst (λ (run : List CycleView). IsRun r jobs carry restarts run) is (run_is next r jobs carry restarts n))) clear
 
-pub opened_is_kept : AreNext → Headline → StartsUndisturbed → Recovers → OpenedIsKept
-opened_is_kept next law starts back r jobs carry restarts cycles opened = record {
+pub opened_is_kept : AreNext → HarmlessIsClear → Headline → StartsUndisturbed → Recovers → OpenedIsKept
+opened_is_kept next clear law starts back r jobs carry restarts cycles opened = record {
   run = run_is next r jobs carry restarts cycles;
+  clear = λ harmless. clear r jobs carry restarts (run_of r jobs carry restarts cycles) opened.valid opened.typed opened.jobs_typed harmless (run_is next r jobs carry restarts cycles);
   keeps = run_keeps next law r jobs carry restarts cycles opened;
   starts = run_starts next starts r jobs carry restarts cycles opened;
   recovers = run_recovers next back r jobs carry restarts cycles opened;
 }
+
+-- Nothing is unseen in the run of a document whose script has no flip, if the link handed in is harmless after cuts; nor in its run over
+-- its script alone.
+pub document_clear : (carry : Carry) (restarts : Restarts) (d : DocumentView) → IsDocumentRun carry restarts d → has_flip d.faults ≡ false → IsHarmlessAfterCuts carry → IsClear (document_run carry restarts d)
+document_clear carry restarts d kept plain harmless = kept.clear (both_are_harmless (script_carry d) carry (unflipped_only_cuts (length d.setup.drives) d.faults plain) harmless)
+
+pub script_clear : (d : DocumentView) → IsScriptRun d → has_flip d.faults ≡ false → IsClear (script_run d)
+script_clear d kept plain = kept.clear (cuts_are_harmless (script_carry d) (unflipped_only_cuts (length d.setup.drives) d.faults plain)).0

@@ -5,6 +5,7 @@ use Rattle.sercos_block.specs.Views.{RingView}
 use Rattle.sercos_script.specs.Links.{Carry, Restarts, carried_by_both, restarts_in_either}
 use Rattle.sercos_script.specs.Scripts.{carried, restarts_at}
 use Rattle.sercos_trace.specs.Views.{CycleView}
+use Rattle.sercos_law_run.specs.Journal.Harmless.{IsHarmless}
 use Rattle.sercos_law_run.specs.Journal.Runs.{IsRun, IsClear, run_of}
 use Rattle.sercos_law_run.specs.Headline.Headline.{KeepsAll}
 use Rattle.sercos_law_run.specs.Undisturbed.WholeRuns.{NeverDisturbed, StartsUp}
@@ -46,9 +47,11 @@ StartsThroughout r jobs carry restarts run = (later : List CycleView) (t : Cycle
 abbrev pub RecoversThroughout : RingView → List Job → Carry → Restarts → List CycleView → Type 0
 RecoversThroughout r jobs carry restarts run = (later : List CycleView) (t : CycleView) (j : List CycleView) → run ≡ later ++ t ∷ j → IsClear (t ∷ j) → RecoversIn r jobs carry restarts t j
 
--- Cycles are a run, in which each is the next one after those before it, and they keep all this.
+-- Cycles are a run, in which each is the next one after those before it, and they keep all this. If the link is harmless, no arrival
+-- is unseen.
 pub record IsKept (r : RingView) (jobs : List Job) (carry : Carry) (restarts : Restarts) (journal : List CycleView) : Type 0 where
   pub run : IsRun r jobs carry restarts journal
+  pub clear : IsHarmless carry → IsClear journal
   pub keeps : KeepsThroughout r jobs carry restarts journal
   pub starts : StartsThroughout r jobs carry restarts journal
   pub recovers : RecoversThroughout r jobs carry restarts journal

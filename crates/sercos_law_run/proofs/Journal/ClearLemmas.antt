@@ -1,10 +1,10 @@
 -- Where no arrival is unseen, a station hears what was sent, or nothing.
-use Rattle.std.proofs.Common.{◌≡◌, inl, inr, ◌⊎◌, ℕ, Bool, true, false, not, ◌&&◌, List, [], ◌∷◌, Option, Some, None, is_none, refl, sym, ◌∙◌, ap}
+use Rattle.std.proofs.Common.{◌≡◌, inl, inr, ◌⊎◌, ℕ, zero, suc, ◌<◌, Bool, true, false, not, ◌&&◌, List, [], ◌∷◌, Option, Some, None, is_none, refl, sym, ◌∙◌, ap, arith}
 use Rattle.std.specs.Prelude.{option_and_then, is_some, IfSome}
 use Rattle.sercos_hdlc.specs.Reason.{reason_of}
 use Rattle.sercos_hdlc.specs.Stuffed.{frame_of}
 use Rattle.sercos_script.specs.declared.link.Passage.{Passage}
-use Rattle.sercos_law_run.specs.Journal.Arrivals.{arrival, heard, content_in, is_unseen, are_same}
+use Rattle.sercos_law_run.specs.Journal.Arrivals.{arrival, heard, content_in, is_unseen, are_same, sum_below}
 use Rattle.sercos_script.specs.Links.{Carry, IsQuiet}
 
 pub same_bits : (xs ys : List Bool) → are_same xs ys ≡ true → xs ≡ ys
@@ -53,3 +53,8 @@ pub same_heard : (o : Option (List Bool)) (said content : List ℕ) (sent bits :
 same_heard None said content sent bits whole some is same copied = cc
 same_heard (Some came) said content sent bits whole some is same copied =
     ap (λ (c : List ℕ). Some c) copied ∙ sym whole ∙ ap content_in (sym (same_bits bits sent same) ∙ is)
+
+-- a sum of which each part is 0
+pub sum_none : (n : ℕ) (f : ℕ → ℕ) → ((k : ℕ) → k < n → f k ≡ 0) → sum_below n f ≡ 0
+sum_none zero f none = refl
+sum_none (suc n) f none = let rest = sum_none n f (λ k low. none k (omega (arith, low))) in let last = none n (omega arith) in omega (arith, rest, last)

@@ -1,14 +1,16 @@
 -- Runs of worked rings, computed from the definitions, down to the bits of each telegram.
-use Rattle.std.proofs.Common.{◌≡◌, ℕ, ◌+◌, List, [], ◌∷◌, Option, Some, None, refl, take}
-use Rattle.std.specs.Prelude.{pos, negsuc}
+use Rattle.std.proofs.Common.{◌≡◌, ℕ, ◌+◌, ◌==◌, Bool, true, false, List, [], ◌∷◌, length, Option, Some, None, if◌then◌else◌, refl, ap, arith, take, drop}
+use Rattle.std.specs.Prelude.{pos, negsuc, slice_index_or}
+use Rattle.std.proofs.lemmas.Bool.{true≢false}
 use Rattle.sercos_idn.specs.Attributes.{attribute_of}
 use Rattle.sercos_block.specs.Views.{DriveView, RingView}
 use Rattle.sercos_telegram.specs.declared.layout.Kind.TheVariants as kinds
 use Rattle.sercos_step.specs.declared.request.Job.{Job}
 use Rattle.sercos_step.specs.declared.request.Request.TheVariants as request
-use Rattle.sercos_script.specs.Links.{carried_clean, never_restarts}
+use Rattle.sercos_script.specs.Links.{Carry, carried_clean, never_restarts}
+use Rattle.sercos_script.proofs.CutLemmas.{unflipped_only_cuts}
 use Rattle.sercos_script.specs.declared.fault.Damage.{Damage}
-use Rattle.sercos_script.specs.declared.fault.Damage.TheVariants.{Lose, Flip, Deaf, Restart}
+use Rattle.sercos_script.specs.declared.fault.Damage.TheVariants.{Lose, Flip, Cut, Deaf, Restart}
 use Rattle.sercos_script.specs.declared.fault.Fault.{Fault}
 use Rattle.sercos_script.specs.Scripts.{carried, restarts_at, acts}
 use Rattle.sercos_telegram.specs.declared.layout.Kind.{Kind}
@@ -17,7 +19,10 @@ use Rattle.sercos_step.specs.declared.request.Outcome.TheVariants as outcome
 use Rattle.sercos_trace.specs.declared.events.Fall.{Fall}
 use Rattle.sercos_trace.specs.declared.events.Fall.TheVariants as fall
 use Rattle.sercos_trace.specs.Views.{SentView, CycleView}
-use Rattle.sercos_law_run.specs.Journal.Runs.{run_of}
+use Rattle.sercos_hdlc.specs.Stuffed.{frame_of}
+use Rattle.sercos_law_run.specs.Journal.Harmless.{IsHarmless, IsHarmlessAfterCuts}
+use Rattle.sercos_law_run.specs.Journal.Runs.{IsClear, run_of}
+use Rattle.sercos_law_run.proofs.Journal.HarmlessLemmas.{cuts_are_harmless, quiet_is_harmless}
 use Rattle.sercos_trace.specs.declared.record.Move.{Move}
 use Rattle.sercos_law_run.specs.Journal.Arrivals as Arrivals
 use Rattle.sercos_model.specs.Bits as Bits
@@ -105,8 +110,11 @@ started = (100, (1, 4) ∷ []) ∷ (95, (1, 3) ∷ []) ∷ (12, (1, 2) ∷ []) �
 abbrev flip : ℕ → Fault
 flip bit = fault 5 5 kinds.Mst 0 (Flip 0 bit)
 
+abbrev flips : List Fault
+flips = flip 17 ∷ flip 25 ∷ flip 28 ∷ flip 32 ∷ flip 33 ∷ flip 37 ∷ []
+
 -- the drive and the master each got it
-flipped : under [] (flip 17 ∷ flip 25 ∷ flip 28 ∷ flip 32 ∷ flip 33 ∷ flip 37 ∷ []) 18
+flipped : under [] flips 18
     ≡ record { moves = (16, (1, 1) ∷ []) ∷ (6, (1, 0) ∷ []) ∷ (5, (1, 1) ∷ []) ∷ []; falls = []; outcomes = []; unseen = 2 }
 unfolding carried restarts_at acts Bits.bits_of Bits.low_bits Bits.is_odd Bits.number_of Bits.bytes_of CheckSequence.fcs_of CheckSequence.divided CheckSequence.added CheckSequence.sum_of Arrivals.content_in Arrivals.is_unseen Reason.begins_with_six Reason.is_five Reason.ends_in_five Reason.six_place Reason.unstuffed Reason.given Reason.unclosed Reason.unreadable Reason.reason_of Stuffed.stuffed Stuffed.frame_of Faults.mst_fault Faults.head_fault Spells.word_bytes Spells.word_at Spells.fields Words.control_of Words.status_of Codes.attribute_fault Attributes.attribute_of Blocks.element_of BuiltIns.built_in Rings.attribute_in Valid.is_cycle Stores.inserted Stores.with_own Stores.store_of Checks.number_at Checks.idns_at Checks.carried_len Checks.breaks_1 Checks.breaks_2 Checks.breaks_6 Checks.breaks_7 Checks.breaks_8 Checks.breaks_9 Checks.breaks_10 Checks.breaks_15 Checks.breaks_list Checks.breaks_89 Checks.unfit_for_phase_3 Checks.unfit_for_phase_4 Settings.with_write Settings.with_lists Replies.data_in Replies.element_words Replies.bytes_written Replies.write_cause ChainOf.chain_of LeastTimes.least_plan LeastTimes.least_t2 LeastTimes.least_t3 Heard.mst_in Heard.single_in Heard.joint_in Says.value_in
 flipped = refl
@@ -127,6 +135,57 @@ fallen : under (write ∷ read ∷ []) (fault 105 106 kinds.At 1 (Lose 1) ∷ []
     }
 unfolding carried restarts_at acts Bits.bits_of Bits.low_bits Bits.is_odd Bits.number_of Bits.bytes_of CheckSequence.fcs_of CheckSequence.divided CheckSequence.added CheckSequence.sum_of Arrivals.content_in Arrivals.is_unseen Reason.begins_with_six Reason.is_five Reason.ends_in_five Reason.six_place Reason.unstuffed Reason.given Reason.unclosed Reason.unreadable Reason.reason_of Stuffed.stuffed Stuffed.frame_of Faults.mst_fault Faults.head_fault Spells.word_bytes Spells.word_at Spells.fields Words.control_of Words.status_of Codes.attribute_fault Attributes.attribute_of Blocks.element_of BuiltIns.built_in Rings.attribute_in Valid.is_cycle Stores.inserted Stores.with_own Stores.store_of Checks.number_at Checks.idns_at Checks.carried_len Checks.breaks_1 Checks.breaks_2 Checks.breaks_6 Checks.breaks_7 Checks.breaks_8 Checks.breaks_9 Checks.breaks_10 Checks.breaks_15 Checks.breaks_list Checks.breaks_89 Checks.unfit_for_phase_3 Checks.unfit_for_phase_4 Settings.with_write Settings.with_lists Replies.data_in Replies.element_words Replies.bytes_written Replies.write_cause ChainOf.chain_of LeastTimes.least_plan LeastTimes.least_t2 LeastTimes.least_t3 Heard.mst_in Heard.single_in Heard.joint_in Says.value_in
 fallen = refl
+
+-- If the ATs of these two cycles are cut to 60 bits, it is as if they were lost: they are not frames, and nothing is unseen.
+abbrev cuts : List Fault
+cuts = fault 105 106 kinds.At 1 (Cut 1 60) ∷ []
+
+cut : under (write ∷ read ∷ []) cuts 213
+    ≡ record {
+      moves = (207, (1, 4) ∷ []) ∷ (202, (1, 3) ∷ []) ∷ (119, (1, 2) ∷ []) ∷ (117, (1, 1) ∷ []) ∷ (107, (1, 0) ∷ []) ∷ started;
+      falls = (106, fall.AtLost 1) ∷ [];
+      outcomes = (212, 2, outcome.Complete (1 ∷ 0 ∷ 0 ∷ 0 ∷ [])) ∷ (106, 1, outcome.Broken) ∷ [];
+      unseen = 0;
+    }
+unfolding carried restarts_at acts Bits.bits_of Bits.low_bits Bits.is_odd Bits.number_of Bits.bytes_of CheckSequence.fcs_of CheckSequence.divided CheckSequence.added CheckSequence.sum_of Arrivals.content_in Arrivals.is_unseen Reason.begins_with_six Reason.is_five Reason.ends_in_five Reason.six_place Reason.unstuffed Reason.given Reason.unclosed Reason.unreadable Reason.reason_of Stuffed.stuffed Stuffed.frame_of Faults.mst_fault Faults.head_fault Spells.word_bytes Spells.word_at Spells.fields Words.control_of Words.status_of Codes.attribute_fault Attributes.attribute_of Blocks.element_of BuiltIns.built_in Rings.attribute_in Valid.is_cycle Stores.inserted Stores.with_own Stores.store_of Checks.number_at Checks.idns_at Checks.carried_len Checks.breaks_1 Checks.breaks_2 Checks.breaks_6 Checks.breaks_7 Checks.breaks_8 Checks.breaks_9 Checks.breaks_10 Checks.breaks_15 Checks.breaks_list Checks.breaks_89 Checks.unfit_for_phase_3 Checks.unfit_for_phase_4 Settings.with_write Settings.with_lists Replies.data_in Replies.element_words Replies.bytes_written Replies.write_cause ChainOf.chain_of LeastTimes.least_plan LeastTimes.least_t2 LeastTimes.least_t3 Heard.mst_in Heard.single_in Heard.joint_in Says.value_in
+cut = refl
+
+cuts_do_no_harm : IsHarmless (carried 1 cuts)
+cuts_do_no_harm = (cuts_are_harmless (carried 1 cuts) (unflipped_only_cuts 1 cuts refl)).0
+
+-- The run under the flips isn't clear.
+all_seen : (j : List CycleView) → IsClear j → (happened j).unseen ≡ 0
+all_seen [] clear = refl
+all_seen (t ∷ j) (before, clear) = let none = all_seen j before in omega (arith, none, clear)
+
+flipped_is_not_clear : IsClear (run_of ring [] (carried 1 flips) (restarts_at flips) 18) → ⊥
+flipped_is_not_clear clear =
+    let two : (under [] flips 18).unseen ≡ 2 = ap (λ (h : Happened). h.unseen) flipped in
+    let none : (under [] flips 18).unseen ≡ 0 = all_seen (run_of ring [] (carried 1 flips) (restarts_at flips) 18) clear in
+    omega (arith, two, none)
+
+-- The flips make the frame of an MST of phase 1 out of one of phase 0, so this script isn't harmless.
+mst_frame : ℕ → List Bool
+mst_frame phase = frame_of (255 ∷ phase ∷ [])
+
+other_frame : carried 1 flips (record { cycle = 5; kind = kinds.Mst; from = 0; to = 1 }) (mst_frame 0) ≡ Some (mst_frame 1)
+unfolding mst_frame carried acts Bits.bits_of Bits.low_bits Bits.is_odd Bits.number_of Bits.bytes_of CheckSequence.fcs_of CheckSequence.divided CheckSequence.added CheckSequence.sum_of Stuffed.stuffed Stuffed.frame_of
+other_frame = refl
+
+flips_do_harm : IsHarmless (carried 1 flips) → ⊥
+unfolding mst_frame carried acts Bits.bits_of Bits.low_bits Bits.is_odd Bits.number_of Bits.bytes_of CheckSequence.fcs_of CheckSequence.divided CheckSequence.added CheckSequence.sum_of Reason.begins_with_six Reason.is_five Reason.ends_in_five Reason.six_place Reason.unstuffed Reason.given Reason.unclosed Reason.unreadable Reason.reason_of Stuffed.stuffed Stuffed.frame_of
+flips_do_harm harmless = true≢false (ap (λ (l : List Bool). slice_index_or l 17 false) (harmless (record { cycle = 5; kind = kinds.Mst; from = 0; to = 1 }) (mst_frame 0) refl refl))
+
+clean_does_no_harm : IsHarmlessAfterCuts carried_clean
+clean_does_no_harm = quiet_is_harmless carried_clean (λ cycle kind from p bits in_cycle of_kind sent_by. refl)
+
+-- A link that makes a frame out of the first 30 bits of another one does harm after cuts.
+mended : Carry
+mended p bits = if length bits == 30 then Some (mst_frame 1) else Some bits
+
+mended_does_harm : IsHarmlessAfterCuts mended → ⊥
+unfolding mended mst_frame Bits.bits_of Bits.low_bits Bits.is_odd Bits.number_of Bits.bytes_of CheckSequence.fcs_of CheckSequence.divided CheckSequence.added CheckSequence.sum_of Reason.begins_with_six Reason.is_five Reason.ends_in_five Reason.six_place Reason.unstuffed Reason.given Reason.unclosed Reason.unreadable Reason.reason_of Stuffed.stuffed Stuffed.frame_of
+mended_does_harm harmless = let longer : 49 ≡ 30 = ap length (harmless (record { cycle = 5; kind = kinds.Mst; from = 0; to = 1 }) (take 30 (mst_frame 0)) (drop 30 (mst_frame 0)) refl refl) in omega (arith, longer)
 
 -- The ring falls, and the drive doesn't get the two MSTs after it: in the first of these cycles it still stands in phase 4.
 deaf : under [] (fault 120 121 kinds.At 1 (Lose 1) ∷ fault 122 123 kinds.Mst 0 (Deaf 1) ∷ []) 223

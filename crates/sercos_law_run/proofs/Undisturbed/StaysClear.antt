@@ -1,5 +1,5 @@
 -- In an undisturbed cycle no arrival is unseen.
-use Rattle.std.proofs.Common.{◌≡◌, ℕ, zero, suc, ◌+◌, ◌<◌, Bool, true, false, ◌&&◌, List, [], ◌∷◌, ◌++◌, length, Option, Some, None, refl, ap, arith, if◌then◌else◌}
+use Rattle.std.proofs.Common.{◌≡◌, ℕ, ◌+◌, Bool, true, false, ◌&&◌, List, [], ◌∷◌, ◌++◌, length, Option, Some, None, refl, ap, arith, if◌then◌else◌}
 use Rattle.std.specs.Prelude.{is_none, slice_index}
 use Rattle.sercos_hdlc.specs.Reason.{reason_of}
 use Rattle.sercos_telegram.specs.declared.layout.Kind.TheVariants as kinds
@@ -8,10 +8,11 @@ use Rattle.sercos_block.specs.Views.{RingView}
 use Rattle.sercos_trace.specs.Views.{CycleView}
 use Rattle.sercos_script.specs.declared.link.Passage.{Passage}
 use Rattle.sercos_script.specs.Links.{Carry, Restarts}
-use Rattle.sercos_law_run.specs.Journal.Arrivals.{is_disturbed, is_unseen, disturbed_at, unseen_at, sum_below, passage}
+use Rattle.sercos_law_run.specs.Journal.Arrivals.{is_disturbed, is_unseen, disturbed_at, unseen_at, passage}
 use Rattle.sercos_law_run.specs.Journal.Records.{mst_in, ats_in, mdt_in}
 use Rattle.sercos_law_run.specs.Journal.Runs.{disturbs_ats, disturbs_mdt, unseen_ats, unseen_mdt, unseen_mst, station_of, IsNext, IsRun, IsClear}
 use Rattle.sercos_law_run.specs.Undisturbed.Undisturbed.{IsUndisturbed, AreUndisturbed}
+use Rattle.sercos_law_run.proofs.Journal.ClearLemmas.{sum_none}
 use Rattle.sercos_law_run.proofs.Undisturbed.Comes.{IsCalm, calm_in}
 use Rattle.sercos_law_run.proofs.Undisturbed.Small.{both_off}
 
@@ -42,10 +43,6 @@ module _ (carry : Carry) where
       let parts = both_off (disturbed_at carry (passage cycle kinds.At (station_of r (slice_index at 0)) 0) at) (disturbs_ats r carry cycle ats) calm in
       let first = none_at (passage cycle kinds.At (station_of r (slice_index at 0)) 0) at parts.0 in
       let rest = none_ats r cycle ats parts.1 in omega (arith, first, rest)
-
-sum_none : (n : ℕ) (f : ℕ → ℕ) → ((k : ℕ) → k < n → f k ≡ 0) → sum_below n f ≡ 0
-sum_none zero f none = refl
-sum_none (suc n) f none = let rest = sum_none n f (λ k low. none k (omega (arith, low))) in let last = none n (omega arith) in omega (arith, rest, last)
 
 module _ (r : RingView) (jobs : List Job) (carry : Carry) (restarts : Restarts) where
   clear_in : (t : CycleView) (j : List CycleView) → IsNext r jobs carry restarts t j → IsUndisturbed r carry restarts t j → t.unseen ≡ 0

@@ -1,0 +1,79 @@
+-- Over a harmless link no arrival is unseen.
+use Rattle.std.proofs.Common.{◌≡◌, ℕ, ◌+◌, Bool, true, false, not, ◌&&◌, List, [], ◌∷◌, length, Option, Some, None, is_none, if◌then◌else◌, refl, ◌∙◌, ap, arith}
+use Rattle.std.specs.Prelude.{slice_index, IfSome}
+use Rattle.std.proofs.lemmas.Bool.{and_left, and_right}
+use Rattle.sercos_hdlc.specs.Reason.{reason_of, content_of, plain}
+use Rattle.sercos_hdlc.specs.Stuffed.{frame_of}
+use Rattle.sercos_hdlc.specs.declared.bad_frame.BadFrame.{BadFrame}
+use Rattle.sercos_telegram.specs.declared.layout.Kind.TheVariants as kinds
+use Rattle.sercos_step.specs.declared.request.Job.{Job}
+use Rattle.sercos_block.specs.Views.{DriveView, RingView}
+use Rattle.sercos_drive.specs.Heard.{DriveCall}
+use Rattle.sercos_drive.specs.Says.{Said}
+use Rattle.sercos_seat.specs.Ring.{known_of}
+use Rattle.sercos_master.specs.Says.{Sent, mdt_said}
+use Rattle.sercos_trace.specs.Views.{CycleView}
+use Rattle.sercos_script.specs.declared.link.Passage.{Passage}
+use Rattle.sercos_script.specs.Links.{Carry, Restarts}
+use Rattle.sercos_law_run.specs.Journal.Arrivals.{arrival, are_same, content_in, is_unseen, passage, sum_below, unseen_at}
+use Rattle.sercos_law_run.specs.Journal.Harmless.{IsHarmless}
+use Rattle.sercos_law_run.specs.Journal.Records.{ats_in, mdt_in, mst_in}
+use Rattle.sercos_law_run.specs.Journal.Runs.{contents, content_of as content_sent, drive_at, given_mst, said_below, station_of, unseen_ats, unseen_mdt, unseen_mst, IsNext}
+use Rattle.sercos_law_run.specs.Views.RingViews.{behind_mdt}
+use Rattle.sercos_law_run.specs.Views.Spelled.{IsSaid, IsSpelled, IsWhole}
+use Rattle.sercos_law_run.specs.Typed.Clear.{HarmlessIsClear}
+use Rattle.sercos_law_run.specs.Typed.Spelled.{SpelledNext}
+use Rattle.sercos_law_run.proofs.Journal.ClearLemmas.{are_same-refl, sum_none}
+use Rattle.sercos_law_run.proofs.Journal.RunLemmas.{ats_in-said, mdt_in-said}
+use Rattle.sercos_law_run.proofs.Views.Members.{AreSaid, all_said}
+
+-- bits that have a content are a frame
+framed : (bits : List Bool) (content : List ℕ) → content_in bits ≡ Some content → reason_of bits ≡ None
+unfolding content_in
+framed bits content whole = by (reason_of bits) whole
+  where
+    by : (o : Option BadFrame) → (if is_none o then Some (content_of (plain bits)) else None) ≡ Some content → o ≡ None
+    by None has = refl
+    by (Some bad) has = cc
+
+seen : (sent : List Bool) (o : Option (List Bool)) → IfSome o (λ came. reason_of came ≡ None → came ≡ sent) → is_unseen sent o ≡ false
+unfolding is_unseen
+seen sent None harmless = refl
+seen sent (Some came) harmless = by (reason_of came) (λ none. ap (λ (l : List Bool). are_same l sent) (harmless none) ∙ are_same-refl sent)
+  where
+    by : (o : Option BadFrame) → (o ≡ None → are_same came sent ≡ true) → (not (are_same came sent) && is_none o) ≡ false
+    by None same = and_left _ _ (ap not (same refl))
+    by (Some bad) same = and_right _ _ refl
+
+module _ (carry : Carry) (harmless : IsHarmless carry) where
+  none_at : (p : Passage) (content : List ℕ) → IsWhole content → unseen_at carry p content ≡ 0
+  none_at p content whole = ap (λ (b : Bool). if b then 1 else 0) (seen (frame_of content) (arrival carry p content) (harmless p (frame_of content) (framed (frame_of content) content whole)))
+
+  none_mdt : (cycle : ℕ) (o : Option Sent) → ((m : Sent) → o ≡ Some m → IsWhole m.content) → (k : ℕ) → unseen_mdt carry cycle (content_sent o) k ≡ 0
+  none_mdt cycle None whole k = refl
+  none_mdt cycle (Some m) whole k = none_at (passage cycle kinds.Mdt 0 (k + 1)) m.content (whole m refl)
+
+  module _ (r : RingView) where
+    none_ats : (cycle n : ℕ) (d : ℕ → DriveView) (rate : ℕ) (h : ℕ → List DriveCall) (said : List Said) → ((content : List ℕ) → IsSaid n d rate h content → IsWhole content) → AreSaid n d rate h said → unseen_ats r carry cycle (contents said) ≡ 0
+    none_ats cycle n d rate h [] whole all = refl
+    none_ats cycle n d rate h (s ∷ others) whole (one, all) =
+        let first = none_at (passage cycle kinds.At (station_of r (slice_index s.content 0)) 0) s.content (whole s.content one) in
+        let rest = none_ats cycle n d rate h others whole all in omega (arith, first, rest)
+
+    none_in : (jobs : List Job) (restarts : Restarts) (t : CycleView) (j : List CycleView) → IsNext r jobs carry restarts t j → IsSpelled r jobs carry restarts t j → t.unseen ≡ 0
+    none_in jobs restarts t j next spelled =
+        let said : List Said = said_below (length r.drives) (drive_at r) r.rate (given_mst carry restarts t.sent j) in
+        let mdt : Option Sent = mdt_said (known_of r) (behind_mdt r jobs carry restarts t.sent j) in
+        let all = next.unseen in
+        let msts = sum_none (length r.drives) (unseen_mst carry (length j) (mst_in t.sent)) (λ k low. none_at (passage (length j) kinds.Mst 0 (k + 1)) (mst_in t.sent) spelled.mst) in
+        let own = none_at (passage (length j) kinds.Mst 0 0) (mst_in t.sent) spelled.mst in
+        let ats : unseen_ats r carry (length j) (ats_in t.sent) ≡ 0 = ap (unseen_ats r carry (length j)) (ap ats_in next.sent ∙ ats_in-said r.rate said mdt)
+        ∙ none_ats (length j) (length r.drives) (drive_at r) r.rate (given_mst carry restarts t.sent j) said spelled.ats (all_said (length r.drives) (drive_at r) r.rate (given_mst carry restarts t.sent j)) in
+        let mdts : sum_below (length r.drives) (unseen_mdt carry (length j) (mdt_in t.sent)) ≡ 0 = ap (λ (o : Option (List ℕ)). sum_below (length r.drives) (unseen_mdt carry (length j) o)) (ap mdt_in next.sent ∙ mdt_in-said r.rate said mdt)
+        ∙ sum_none (length r.drives) (unseen_mdt carry (length j) (content_sent mdt)) (λ k low. none_mdt (length j) mdt spelled.mdt k) in
+        omega (arith, all, msts, own, ats, mdts)
+
+pub harmless_is_clear : SpelledNext → HarmlessIsClear
+harmless_is_clear spelled r jobs carry restarts [] valid typed jobs_typed harmless run = tt
+harmless_is_clear spelled r jobs carry restarts (t ∷ j) valid typed jobs_typed harmless (run, next) =
+    (harmless_is_clear spelled r jobs carry restarts j valid typed jobs_typed harmless run, none_in carry harmless r jobs restarts t j next (spelled r jobs carry restarts t j valid typed jobs_typed next))
