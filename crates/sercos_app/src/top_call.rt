@@ -207,7 +207,8 @@ fn respond<S: Source, K: Sink, L: BitLink>(
 ///
 /// Of each run that `run` traces and `gen` sums, up to the first arrival that is unseen, whatever was lost or damaged: if no cycle after a
 /// fall is disturbed, the ring starts up again; and from the cycle on that comes twice the bound of a start-up and 200 cycles after the
-/// last disturbed one, phase 4 is commanded, or the master stands at a stop for its cause.
+/// last disturbed one, phase 4 is commanded, or the master stands at a stop for its cause. No arrival is unseen if the script has no flip
+/// and `link` changes nothing, or is harmless after cuts: it makes no other frame of a frame or of the beginning of one.
 ///
 /// Where the capture of `replay A` is what `run` writes of its document, over whatever link, and no cycle of that run is disturbed,
 /// `check` finds the capture clean, and the replay agrees, for the master and for each drive.
