@@ -206,7 +206,8 @@ fn respond<S: Source, K: Sink, L: BitLink>(
 ///
 /// Of each run that `run` traces and `gen` sums, up to the first undetected damage, regardless of losses and restarts: if no cycle after a
 /// fall is disturbed, the ring starts up again; and from twice the bound of a start-up and 200 cycles after the last disturbed one on,
-/// phase 4 is commanded, or the master is at a stop for its cause.
+/// phase 4 is commanded, or the master is at a stop for its cause. No damage is undetected if the script has no flip and `link` changes
+/// nothing, or is harmless after cuts: it makes no other frame of a frame or of the beginning of one.
 ///
 /// If the capture of `replay A` is what `run` writes of its document, over any link, and no cycle of that run is disturbed, `check` finds
 /// the capture clean, and the replay agrees, for the master and for each drive.

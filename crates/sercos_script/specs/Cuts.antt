@@ -21,6 +21,7 @@ has_flip faults = list_any (λ (f : Fault). is_flip f.damage) faults
 abbrev pub IsCut : List Bool → Option (List Bool) → Type 0
 IsCut bits came = IfSome came (λ begun. (rest : List Bool) × (bits ≡ begun ++ rest))
 
+-- A link only cuts if this holds of each telegram.
 abbrev pub OnlyCuts : Carry → Type 0
 OnlyCuts carry = (p : Passage) (bits : List Bool) → IsCut bits (carry p bits)
 

@@ -10,8 +10,8 @@ use Rattle.sercos_script.specs.Cuts.{OnlyCuts}
 abbrev pub IsHarmless : Carry → Type 0
 IsHarmless carry = (p : Passage) (bits : List Bool) → reason_of bits ≡ None → IfSome (carry p bits) (λ came. reason_of came ≡ None → came ≡ bits)
 
--- It is harmless after cuts if the same holds of the beginning of a frame, which a link before it may have cut off: no frame is made
--- of it. The whole frame is such a beginning too.
+-- It is harmless after cuts if the same holds of the beginning of a frame, which is what a link before it may leave of one: it makes no
+-- frame of this. A whole frame is such a beginning too.
 abbrev pub IsHarmlessAfterCuts : Carry → Type 0
 IsHarmlessAfterCuts carry = (p : Passage) (bits rest : List Bool) → reason_of (bits ++ rest) ≡ None → IfSome (carry p bits) (λ came. reason_of came ≡ None → came ≡ bits)
 
