@@ -28,6 +28,7 @@ use Rattle.sercos_backup.specs.Texts.{failed_lines, many_answer, restored_line, 
 use Rattle.sercos_app.specs.Saving.{last_data, run_tracked}
 use Rattle.sercos_app.specs.Saved.{IsRestoredRun, IsSaved, second_jobs}
 use Rattle.sercos_law_run.specs.Totals.Totals.{totals_of}
+use Rattle.sercos_law_trace.specs.Clean.Traces.{IsCleanIfClear}
 use Rattle.sercos_opened.specs.Kept.{carry_under, restarts_under, script_carry, script_restarts, KeepsThroughout, RecoversThroughout, StartsThroughout}
 use Rattle.sercos_config.specs.Views.{DocumentView}
 use Rattle.sercos_config.specs.Document.{document_of}
@@ -124,8 +125,9 @@ pub record BreachTold (address : ℕ) (left left' held held' : Option (List ℕ)
   pub written : Appends held held' (violation_text breaks.line breaks.rule)
 
 -- The source was read to its end as the document of a ring, and what was appended is the trace of the one run of this ring, for its
--- number of cycles, under its script followed by the link handed in. Its cycles keep all that is promised of them. The newest cycle of
--- the journal comes first.
+-- number of cycles, under its script followed by the link handed in. Its cycles keep all that is promised of them; and if nothing was
+-- unseen in the run, `check`, given what was appended as its whole input, finds it clean, regardless of losses, damage and restarts. This
+-- holds of a text of any length; the command `check` takes at most 1,048,576 bytes. The newest cycle of the journal comes first.
 pub record RunTraced (carry : Carry) (restarts : Restarts) (left left' held held' : Option (List ℕ)) : Type 0 where
   pub bytes : List ℕ
   pub read : ReadsWhole left left' bytes
@@ -136,6 +138,7 @@ pub record RunTraced (carry : Carry) (restarts : Restarts) (left left' held held
   pub keeps : KeepsThroughout says.setup says.jobs (carry_under says carry) (restarts_under says restarts) journal
   pub starts : StartsThroughout says.setup says.jobs (carry_under says carry) (restarts_under says restarts) journal
   pub recovers : RecoversThroughout says.setup says.jobs (carry_under says carry) (restarts_under says restarts) journal
+  pub clean : IsCleanIfClear says.setup journal
   pub count : length journal ≡ says.setup.cycles
   pub written : Appends held held' (trace_of (wishes_of says.setup) (reverse journal) (totals_of (reverse journal)))
 

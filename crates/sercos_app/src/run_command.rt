@@ -16,6 +16,7 @@ use sercos_call::{fault_status, refuse};
 use sercos_config::{Document, read_ring};
 use sercos_io::{Sink, Status};
 use sercos_law_run::{headline_law, recovery_law, run_law, undisturbed_law};
+use sercos_law_trace::clean_law;
 use sercos_opened::show_opened;
 use sercos_ring::Ring;
 use sercos_script::{BitLink, Both, Scripted};
@@ -113,6 +114,7 @@ pub fn answer_run<L: BitLink, K: Sink>(alloc: Global, bytes: &[u8], link: L, sin
     headline_law();
     undisturbed_law();
     recovery_law();
+    clean_law();
     match read_ring(alloc, bytes) {
         Ok(document) => {
             show_opened(&document);

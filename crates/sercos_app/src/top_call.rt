@@ -209,6 +209,8 @@ fn respond<S: Source, K: Sink, L: BitLink>(
 /// fall is disturbed, the ring starts up again; and from the cycle on that comes twice the bound of a start-up and 200 cycles after the
 /// last disturbed one, phase 4 is commanded, or the master stands at a stop for its cause.
 ///
+/// If nothing was unseen in a run, what `run` wrote of it is clean: `check` finds no fault and no violation in it.
+///
 /// Where the capture of `replay A` is what `run` writes of its document, over whatever link, and no cycle of that run is disturbed,
 /// `check` finds the capture clean, and the replay agrees, for the master and for each drive.
 pub fn sercos<S: Source, K: Sink, L: BitLink>(
