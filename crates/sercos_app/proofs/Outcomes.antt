@@ -384,11 +384,12 @@ traced-run carry restarts bytes left left' held held' says at input written =
       says = d;
       document = read;
       journal = document_run carry restarts d;
-      run = (says d read).run;
-      clear = document_clear carry restarts d (says d read);
-      keeps = (says d read).keeps;
-      starts = (says d read).starts;
-      recovers = (says d read).recovers;
+      run = (says d read).kept.run;
+      clear = document_clear carry restarts d (says d read).kept;
+      keeps = (says d read).kept.keeps;
+      starts = (says d read).kept.starts;
+      recovers = (says d read).kept.recovers;
+      clean = (says d read).clean;
       count = length-run_of d.setup d.jobs (carry_under d carry) (restarts_under d restarts) d.setup.cycles;
       written = rw text at written;
     }

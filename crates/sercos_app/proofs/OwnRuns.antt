@@ -1,13 +1,8 @@
 -- The replay of the trace that `run` writes.
-use Rattle.std.proofs.Common.{◌≡◌, ◌⊎◌, inl, inr, ℕ, ◌≤◌, nat_le, true, List, [], ◌∷◌, length, reverse, Some, None, Result, Ok, Err, IfOk, sym, ap, ◌∙◌, subst, arith}
+use Rattle.std.proofs.Common.{◌≡◌, ◌⊎◌, inl, inr, ℕ, ◌≤◌, true, List, [], ◌∷◌, length, reverse, Some, None, Result, Ok, Err, IfOk, sym, ap, ◌∙◌, subst, arith}
 use Rattle.std.specs.Prelude.{MatchResult, option_map}
-use Rattle.std.proofs.lemmas.Bool.{and_parts}
-use Rattle.std.proofs.lemmas.Bool.Decides.{nat_tests}
 use Rattle.sercos_step.specs.declared.request.Job.{Job}
-use Rattle.sercos_timing.specs.Limits.{most_gap, most_cycle}
-use Rattle.sercos_timing.specs.Valid.{is_rate, is_cycle, is_control}
-use Rattle.sercos_block.specs.Limits.{most_cycles}
-use Rattle.sercos_block.specs.Rings.{is_ring, has_ring_numbers, are_ring_numbers, wishes_of}
+use Rattle.sercos_block.specs.Rings.{wishes_of}
 use Rattle.sercos_block.specs.Views.{RingView}
 use Rattle.sercos_answer.specs.Answer.{Answer}
 use Rattle.sercos_answer.specs.Lines.{lines_of}
@@ -28,6 +23,7 @@ use Rattle.sercos_replay.specs.Traced.{TracesAgree}
 use Rattle.sercos_law_run.specs.Totals.Totals.{totals_of}
 use Rattle.sercos_law_trace.specs.Clean.Ruled.{RunsFitLines}
 use Rattle.sercos_law_trace.specs.Clean.Traces.{IsCleanTrace, RunsAreClean}
+use Rattle.sercos_law_trace.proofs.Theorems.{few_cycles, whole_is_clean}
 use Rattle.sercos_opened.specs.Kept.{carry_under, restarts_under, document_run}
 use Rattle.sercos_app.specs.OwnRun.{MayBeOpened, OpensIfRead, OpensItsRing, OwnRunsAgree, ReplaysItsRing}
 use Rattle.sercos_app.proofs.RunLemmas.{run_answer_of}
@@ -42,19 +38,6 @@ AreCounted = (r : RingView) (jobs : List Job) (carry : Carry) (restarts : Restar
 clear_so : (r : RingView) (jobs : List Job) (carry : Carry) (restarts : Restarts) (j : List CycleView) → IsRun r jobs carry restarts j → NeverDisturbed r carry restarts j → IsClear j
 clear_so r jobs carry restarts [] run calm = tt
 clear_so r jobs carry restarts (t ∷ j) run calm = stays_clear r jobs carry restarts (t ∷ []) j run (clear_so r jobs carry restarts j run.0 calm.0) (tt, calm.1)
-
--- a ring runs at most 50,000 cycles
-few_cycles : (r : RingView) → is_ring r ≡ true → r.cycles ≤ 50000
-unfolding is_ring are_ring_numbers
-few_cycles r valid =
-    let numbers = (and_parts (has_ring_numbers r) _ valid).0 in
-    let a = (and_parts (is_rate r.rate) _ numbers).1 in
-    let b = (and_parts (is_cycle r.cycle) _ a).1 in
-    let c = (and_parts (is_control r.cycle r.control) _ b).1 in
-    let d = (and_parts (nat_le r.control most_cycle) _ c).1 in
-    let e = (and_parts (nat_le r.gap most_gap) _ d).1 in
-    let low = (and_parts (nat_le 1 r.cycles) (nat_le r.cycles most_cycles) e).1 in
-    grind (arith, nat_tests, low)
 
 pub own_runs : AreMade → AreCounted → TracesAgree → RunsFitLines → RunsAreClean → OwnRunsAgree
 own_runs made count law fit_law clean_law address input opens carry restarts d own calm = record { clean = clean; starts = starts; replays = replays }
@@ -81,7 +64,7 @@ own_runs made count law fit_law clean_law address input opens carry restarts d o
     text_is = own.written ∙ ap (λ (a : Answer). a.output) (run_answer_of carry restarts own.document d own.says)
 
     trace : IsCleanTrace (wishes_of d.setup) j (totals_of (reverse j))
-    trace = clean_law d.setup d.jobs (carry_under d carry) (restarts_under d restarts) j may.opened (let most = may.few in omega (arith, most)) run clear few
+    trace = whole_is_clean clean_law d.setup d.jobs (carry_under d carry) (restarts_under d restarts) may.opened may.few run clear
 
     clean : verdict_of own.capture ≡ Clean (length (lines_of own.capture))
     clean = subst (λ (text : List ℕ). verdict_of text ≡ Clean (length (lines_of text))) (sym text_is) trace.clean

@@ -1,5 +1,5 @@
 -- From a run that is written to what `run` answers.
-use Rattle.std.proofs.Common.{◌≡◌, ◌≢◌, ◌⊎◌, inl, inr, ℕ, List, length, Result, Ok, Err, refl, sym, ◌∙◌, subst}
+use Rattle.std.proofs.Common.{◌≡◌, ◌≢◌, ◌⊎◌, inl, inr, ℕ, ◌≤◌, List, length, Result, Ok, Err, refl, sym, ◌∙◌, subst}
 use Rattle.sercos_io.specs.declared.status.Status.{Status}
 use Rattle.sercos_io.specs.declared.status.Status.TheVariants.{Refused, Memory}
 use Rattle.sercos_step.specs.declared.request.Job.{Job}
@@ -8,6 +8,8 @@ use Rattle.sercos_script.specs.declared.fault.Fault.{Fault}
 use Rattle.sercos_script.specs.Links.{Carry, Restarts, carried_by_both, restarts_in_either}
 use Rattle.sercos_script.specs.Scripts.{carried, restarts_at}
 use Rattle.sercos_law_run.specs.Held.Opened.{IsOpened}
+use Rattle.sercos_law_trace.specs.Clean.Traces.{RunsAreClean}
+use Rattle.sercos_law_trace.proofs.Theorems.{whole_is_clean}
 use Rattle.sercos_document.specs.declared.refusal.BadDocument.{BadDocument}
 use Rattle.sercos_document.specs.declared.refusal.BadDocument.TheVariants as bads
 use Rattle.sercos_document.specs.Lines.{line_of}
@@ -15,7 +17,7 @@ use Rattle.sercos_config.specs.Views.{DocumentView}
 use Rattle.sercos_config.specs.Document.{document_of}
 use Rattle.sercos_answer.specs.Answer.{Answer}
 use Rattle.sercos_opened.specs.Kept.{IsDocumentRun, OpenedIsKept, carry_under, restarts_under}
-use Rattle.sercos_app.specs.Running.{RunsItsRing, run_answer, run_traced, traced_answer}
+use Rattle.sercos_app.specs.Running.{IsTracedRun, RunsItsRing, run_answer, run_traced, traced_answer}
 use Rattle.sercos_config.specs.Generated.{generated}
 use Rattle.sercos_app.specs.Generating.{RunsGenerated, gen_answer, run_summed}
 use Rattle.sercos_call.specs.Outcome.{SinkChange, Writes, Replies}
@@ -42,13 +44,18 @@ no_document : (read : Result DocumentView BadDocument) (bad : BadDocument) (d : 
 no_document (Ok said) bad d is too = cc
 no_document (Err other) bad d is too = cc
 
-pub run_replies : OpenedIsKept
-    → (carry : Carry) (restarts : Restarts) (bytes : List ℕ) (d : DocumentView) (sink : SinkChange) (Unwritten : Type 0) (status : Status) → document_of bytes ≡ Ok d → IsOpened d.setup d.jobs
+traced_runs : OpenedIsKept → RunsAreClean → (carry : Carry) (restarts : Restarts) (d : DocumentView) → IsOpened d.setup d.jobs → length d.jobs ≤ 4096 → IsTracedRun carry restarts d
+traced_runs kept clean carry restarts d opened few =
+    let own = document_runs kept carry restarts d opened in
+    record { kept = own; clean = whole_is_clean clean d.setup d.jobs (carry_under d carry) (restarts_under d restarts) opened few own.run }
+
+pub run_replies : OpenedIsKept → RunsAreClean
+    → (carry : Carry) (restarts : Restarts) (bytes : List ℕ) (d : DocumentView) (sink : SinkChange) (Unwritten : Type 0) (status : Status) → document_of bytes ≡ Ok d → IsOpened d.setup d.jobs → length d.jobs ≤ 4096
     → Replies (run_traced d.setup d.jobs (carry_under d carry) (restarts_under d restarts)) (Unit {0}) sink Unwritten status
     → Replies (run_answer carry restarts bytes) (RunsItsRing carry restarts bytes) sink Unwritten status
-run_replies kept carry restarts bytes d sink Unwritten status is opened (none_found unwritten) = none_found unwritten
-run_replies kept carry restarts bytes d sink Unwritten status is opened (replied ended says written) =
-    replied ended (λ other too. subst (λ (x : DocumentView). IsDocumentRun carry restarts x) (one_document (document_of bytes) d other is too) (document_runs kept carry restarts d opened))
+run_replies kept clean carry restarts bytes d sink Unwritten status is opened few (none_found unwritten) = none_found unwritten
+run_replies kept clean carry restarts bytes d sink Unwritten status is opened few (replied ended says written) =
+    replied ended (λ other too. subst (λ (x : DocumentView). IsTracedRun carry restarts x) (one_document (document_of bytes) d other is too) (traced_runs kept clean carry restarts d opened few))
     (subst (λ (a : Answer). Writes a.status a.output sink ended) (sym (run_answer_of carry restarts bytes d is)) written)
 
 pub run_refuses : (carry : Carry) (restarts : Restarts) (bytes : List ℕ) (bad : BadDocument) (sink : SinkChange) (Unwritten : Type 0) (status : Status) → (bad ≡ bads.Memory) ⊎ (document_of bytes ≡ Err bad)

@@ -10,7 +10,8 @@ use Rattle.sercos_document.specs.declared.refusal.BadDocument.{BadDocument}
 use Rattle.sercos_document.specs.Lines.{line_of}
 use Rattle.sercos_config.specs.Views.{DocumentView}
 use Rattle.sercos_config.specs.Document.{document_of}
-use Rattle.sercos_opened.specs.Kept.{IsDocumentRun, carry_under, restarts_under}
+use Rattle.sercos_law_trace.specs.Clean.Traces.{IsCleanIfClear}
+use Rattle.sercos_opened.specs.Kept.{IsDocumentRun, carry_under, document_run, restarts_under}
 use Rattle.sercos_answer.specs.Answer.{Answer}
 use Rattle.sercos_app.specs.Journals.{journal_text}
 
@@ -26,6 +27,10 @@ traced_answer carry restarts (Err bad) = record { status = Refused; output = lin
 unfoldable pub run_answer : Carry → Restarts → List ℕ → Answer
 run_answer carry restarts bytes = traced_answer carry restarts (document_of bytes)
 
--- what is written of a document is such a run
+-- What is written of a document is such a run; and it is clean, if nothing was unseen.
+pub record IsTracedRun (carry : Carry) (restarts : Restarts) (d : DocumentView) : Type 0 where
+  pub kept : IsDocumentRun carry restarts d
+  pub clean : IsCleanIfClear d.setup (document_run carry restarts d)
+
 abbrev pub RunsItsRing : Carry → Restarts → List ℕ → Type 0
-RunsItsRing carry restarts bytes = (d : DocumentView) → document_of bytes ≡ Ok d → IsDocumentRun carry restarts d
+RunsItsRing carry restarts bytes = (d : DocumentView) → document_of bytes ≡ Ok d → IsTracedRun carry restarts d

@@ -30,6 +30,7 @@ use Rattle.sercos_backup.specs.Texts.{failed_lines, many_answer, restored_line, 
 use Rattle.sercos_app.specs.Saving.{last_data, run_tracked}
 use Rattle.sercos_app.specs.Saved.{IsRestoredRun, IsSaved, second_jobs}
 use Rattle.sercos_law_run.specs.Totals.Totals.{totals_of}
+use Rattle.sercos_law_trace.specs.Clean.Traces.{IsCleanIfClear}
 use Rattle.sercos_opened.specs.Kept.{carry_under, restarts_under, script_carry, script_restarts, KeepsThroughout, RecoversThroughout, StartsThroughout}
 use Rattle.sercos_config.specs.Views.{DocumentView}
 use Rattle.sercos_config.specs.Document.{document_of}
@@ -126,8 +127,9 @@ pub record BreachTold (address : ℕ) (left left' held held' : Option (List ℕ)
 
 -- The source was read to its end as the document of a ring, and what was appended is the trace of the one run of this ring, for its number
 -- of cycles, under its script followed by the link passed in. Its cycles have all promised properties. If the script has no flip, and the
--- link passed in is harmless after cuts, as one that changes nothing is, no arrival is unseen in it. The newest cycle of the journal comes
--- first.
+-- link passed in is harmless after cuts, as one that changes nothing is, no arrival is unseen in it. If none is, `check`, given what was
+-- appended as its whole input, finds it clean, regardless of losses and restarts; this holds of a text of any length, though the command
+-- `check` takes at most 1,048,576 bytes. The newest cycle of the journal comes first.
 pub record RunTraced (carry : Carry) (restarts : Restarts) (left left' held held' : Option (List ℕ)) : Type 0 where
   pub bytes : List ℕ
   pub read : ReadsWhole left left' bytes
@@ -139,6 +141,7 @@ pub record RunTraced (carry : Carry) (restarts : Restarts) (left left' held held
   pub keeps : KeepsThroughout says.setup says.jobs (carry_under says carry) (restarts_under says restarts) journal
   pub starts : StartsThroughout says.setup says.jobs (carry_under says carry) (restarts_under says restarts) journal
   pub recovers : RecoversThroughout says.setup says.jobs (carry_under says carry) (restarts_under says restarts) journal
+  pub clean : IsCleanIfClear says.setup journal
   pub count : length journal ≡ says.setup.cycles
   pub written : Appends held held' (trace_of (wishes_of says.setup) (reverse journal) (totals_of (reverse journal)))
 

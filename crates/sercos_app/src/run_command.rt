@@ -15,6 +15,7 @@ use sercos_block::{RingSetup, ring_law};
 use sercos_call::{fault_status, refuse};
 use sercos_config::{Document, read_ring};
 use sercos_io::{Sink, Status};
+use sercos_law_trace::clean_law;
 use sercos_opened::{kept_law, show_opened};
 use sercos_ring::Ring;
 use sercos_script::{BitLink, Both, Scripted};
@@ -109,6 +110,7 @@ pub fn answer_run<L: BitLink, K: Sink>(alloc: Global, bytes: &[u8], link: L, sin
         (changed K.held K.faults K.room sink.old sink.new) (sink.new ≡ sink.old) result }
 {
     kept_law();
+    clean_law();
     match read_ring(alloc, bytes) {
         Ok(document) => {
             show_opened(&document);

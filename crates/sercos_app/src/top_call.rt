@@ -209,6 +209,8 @@ fn respond<S: Source, K: Sink, L: BitLink>(
 /// phase 4 is commanded, or the master is at a stop for its cause. No damage is undetected if the script has no flip and `link` changes
 /// nothing, or is harmless after cuts: it makes no other frame of a frame or of the beginning of one.
 ///
+/// If no damage is undetected in a run, what `run` wrote of it is clean: `check` finds no fault and no violation in it.
+///
 /// If the capture of `replay A` is what `run` writes of its document, over any link, and no cycle of that run is disturbed, `check` finds
 /// the capture clean, and the replay agrees, for the master and for each drive.
 pub fn sercos<S: Source, K: Sink, L: BitLink>(

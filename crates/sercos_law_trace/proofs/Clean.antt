@@ -17,3 +17,4 @@ pub mod OutcomeFits
 pub mod StopFits
 pub mod ChainFits
 pub mod WholeClean
+pub mod Worked

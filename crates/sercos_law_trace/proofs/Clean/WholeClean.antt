@@ -1,9 +1,42 @@
 -- The trace of a run is clean.
-use Rattle.std.proofs.Common.{◌≤◌, length, reverse, arith}
-use Rattle.sercos_law_trace.specs.Clean.Traces.{RunsAreClean, RunsFitOthers, RunsFitReports, TracesAreClean}
+use Rattle.std.proofs.Common.{◌≡◌, ◌≤◌, nat_le, true, List, length, reverse, arith}
+use Rattle.std.proofs.lemmas.Bool.{and_parts}
+use Rattle.std.proofs.lemmas.Bool.Decides.{nat_tests}
+use Rattle.sercos_step.specs.declared.request.Job.{Job}
+use Rattle.sercos_timing.specs.Limits.{most_gap, most_cycle}
+use Rattle.sercos_timing.specs.Valid.{is_rate, is_cycle, is_control}
+use Rattle.sercos_block.specs.Limits.{most_cycles}
+use Rattle.sercos_block.specs.Rings.{is_ring, has_ring_numbers, are_ring_numbers}
+use Rattle.sercos_block.specs.Views.{RingView}
+use Rattle.sercos_script.specs.Links.{Carry, Restarts}
+use Rattle.sercos_law_run.specs.Journal.Runs.{IsRun, run_of}
+use Rattle.sercos_law_run.specs.Held.Opened.{IsOpened}
 use Rattle.sercos_law_run.specs.Totals.Totals.{totals_of}
+use Rattle.sercos_law_run.proofs.Theorems.{length-run_of}
+use Rattle.sercos_law_trace.specs.Clean.Traces.{IsCleanIfClear, RunsAreClean, RunsFitOthers, RunsFitReports, TracesAreClean}
 
 pub runs_are_clean : RunsFitOthers → RunsFitReports → TracesAreClean → RunsAreClean
 runs_are_clean others reports traces r jobs carry restarts j opened few run clear short =
     let counted : length j ≤ 4294967296 = omega (arith, short) in
     traces r jobs carry restarts j (totals_of (reverse j)) opened run clear counted (others r jobs carry restarts j opened run clear short (reports r jobs carry restarts j opened few run clear counted))
+
+-- a ring runs at most 50,000 cycles
+pub few_cycles : (r : RingView) → is_ring r ≡ true → r.cycles ≤ 50000
+unfolding is_ring are_ring_numbers
+few_cycles r valid =
+    let numbers = (and_parts (has_ring_numbers r) _ valid).0 in
+    let a = (and_parts (is_rate r.rate) _ numbers).1 in
+    let b = (and_parts (is_cycle r.cycle) _ a).1 in
+    let c = (and_parts (is_control r.cycle r.control) _ b).1 in
+    let d = (and_parts (nat_le r.control most_cycle) _ c).1 in
+    let e = (and_parts (nat_le r.gap most_gap) _ d).1 in
+    let low = (and_parts (nat_le 1 r.cycles) (nat_le r.cycles most_cycles) e).1 in
+    grind (arith, nat_tests, low)
+
+-- so its whole run has a clean trace, if nothing was unseen
+pub whole_is_clean : RunsAreClean → (r : RingView) (jobs : List Job) (carry : Carry) (restarts : Restarts) → IsOpened r jobs → length jobs ≤ 4096 → IsRun r jobs carry restarts (run_of r jobs carry restarts r.cycles)
+    → IsCleanIfClear r (run_of r jobs carry restarts r.cycles)
+whole_is_clean law r jobs carry restarts opened few run clear =
+    let count = length-run_of r jobs carry restarts r.cycles in
+    let most = few_cycles r opened.valid in
+    law r jobs carry restarts (run_of r jobs carry restarts r.cycles) opened (omega (arith, few)) run clear (omega (arith, count, most))

@@ -40,3 +40,9 @@ RunsFitReports = (r : RingView) (jobs : List Job) (carry : Carry) (restarts : Re
 abbrev pub RunsAreClean : Type 0
 RunsAreClean = (r : RingView) (jobs : List Job) (carry : Carry) (restarts : Restarts) (j : List CycleView) → IsOpened r jobs → length jobs ≤ 65535 → IsRun r jobs carry restarts j → IsClear j → length j ≤ 50000
     → IsCleanTrace (wishes_of r) j (totals_of (reverse j))
+
+-- If nothing was unseen in a journal of a ring, the text that `run` writes of it is clean: `check` finds no fault and no violation in it,
+-- read as its whole input, and as many lines as the text has. This holds of a text of any length; the command `check` takes at most
+-- 1,048,576 bytes.
+abbrev pub IsCleanIfClear : RingView → List CycleView → Type 0
+IsCleanIfClear r j = IsClear j → IsCleanTrace (wishes_of r) j (totals_of (reverse j))
