@@ -12,7 +12,6 @@ use Rattle.sercos_step.specs.declared.request.Job.{Job}
 use Rattle.sercos_block.specs.Views.{DriveView, RingView}
 use Rattle.sercos_block.specs.Rings.{is_ring}
 use Rattle.sercos_block.specs.Stores.{find_block, store_of}
-use Rattle.sercos_law_channel.specs.Handshake.WholeRun.{IsSound}
 use Rattle.sercos_script.specs.Links.{Carry, Restarts}
 use Rattle.sercos_law_run.specs.Journal.Runs.{no_drive, drive_at, run_of}
 use Rattle.sercos_law_run.specs.Typed.Typed.{AreTypedJobs, IsTypedRequest}
@@ -32,7 +31,7 @@ use Rattle.sercos_step.specs.declared.request.Outcome.TheVariants as outcome
 use Rattle.sercos_law_trace.specs.Told.Told.{told_in}
 use Rattle.sercos_law_trace.specs.Told.Reads.{IsReadFrom, ReadsAreExact}
 use Rattle.sercos_law_trace.specs.Told.Writes.{WritesAreKept}
-use Rattle.sercos_opened.proofs.OpenedLemmas.{of_jobs, all_at}
+use Rattle.sercos_law_run.proofs.Theorems.{IsSound, of_jobs, all_at}
 use Rattle.sercos_opened.proofs.KeptLemmas.{AreNext, run_is, run_keeps}
 
 -- A ring may be opened with reads.

@@ -8,7 +8,7 @@ use Rattle.sercos_step.specs.declared.request.Outcome.TheVariants as outcome
 use Rattle.sercos_block.specs.Views.{RingView}
 use Rattle.sercos_script.specs.Links.{Carry, Restarts}
 use Rattle.sercos_trace.specs.Views.{CycleView}
-use Rattle.sercos_law_channel.specs.Handshake.Transfers.{stored as filled}
+use Rattle.sercos_law_trace.specs.Told.Writes.{stored as filled}
 use Rattle.sercos_law_run.specs.Journal.Runs.{IsRun, IsClear, run_of}
 use Rattle.sercos_law_run.specs.Typed.Typed.{AreTypedJobs}
 use Rattle.sercos_config.specs.Views.{DocumentView}

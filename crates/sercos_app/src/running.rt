@@ -20,8 +20,7 @@ ghost use Rattle.sercos_opened.specs.Kept.{KeepsThroughout, RecoversThroughout, 
 
 use sercos_block::ring_law;
 use sercos_io::{Sink, WriteFailed};
-use sercos_law_run::{headline_law, recovery_law, run_law, undisturbed_law};
-use sercos_master::master_law;
+use sercos_law_run::{headline_law, plan_law, recovery_law, run_law, undisturbed_law};
 use sercos_ring::{Ring, count_made, no_totals, standing_law};
 use sercos_script::BitLink;
 use sercos_text::Line;
@@ -74,7 +73,7 @@ fn write_next<L: BitLink, K: Sink>(
     ensures few { IsFew (newest ring.new) }
     ensures written { Writes (seen K.held K.faults K.room sink.old) (seen K.held K.faults K.room sink.new) result (cycle_text w.now (newest ring.new)) }
 {
-    master_law();
+    plan_law();
     let made = ring.cycle();
     count_made(totals, made);
     write_made(w, made, line, sink)

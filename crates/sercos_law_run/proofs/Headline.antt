@@ -5,4 +5,6 @@ pub mod ApartCycles
 pub mod StopReads
 pub mod StopRuns
 pub mod WellRuns
+pub mod OnceRuns
 pub mod HeadlineRuns
+pub mod WorkedRecords

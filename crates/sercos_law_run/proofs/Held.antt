@@ -9,3 +9,4 @@ pub mod Agreed
 pub mod Extended
 pub mod StoreOf
 pub mod Runs
+pub mod OpenedLemmas

@@ -17,8 +17,9 @@ use sercos_service_drive::writes_law;
 /// that isn't what was sent and passes the check sequence anyway: if phase 3 or 4 is commanded, all telegrams lie apart and keep the
 /// times that every drive declares, and what each drive in phase 3 or 4 holds agrees with the MDT. No drive is in a higher phase than
 /// the later one commanded in this cycle or the one before. Each transfer reported complete is exact, and the requests to a drive are
-/// reported once and in order. Both ends of each service channel are in step. The master stops with `NoFit` only if no plan fits the
-/// ring's requirements, and never with `BadConfig` or `Check127`.
+/// reported once and in order: the numbers of the requests that end in a cycle ascend in its record, and none of them ended in an
+/// earlier cycle. Both ends of each service channel are in step. The master stops with `NoFit` only if no plan fits the ring's
+/// requirements, and never with `BadConfig` or `Check127`.
 pub fn headline_law()
     ensures { Headline }
 {

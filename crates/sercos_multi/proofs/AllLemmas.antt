@@ -14,8 +14,6 @@ use Rattle.sercos_multi.specs.Opening.{AreOpened, OpensAll, OpensPart, joined}
 use Rattle.sercos_multi.specs.Parts.{AllAt, IsAt}
 use Rattle.sercos_multi.specs.Said.{IsRefusedIn}
 use Rattle.std.proofs.lemmas.List.Elements.{All-nil, All-push}
-use Rattle.sercos_opened.specs.Kept.{IsScriptRun}
-use Rattle.sercos_opened.proofs.KeptLemmas.{script_clear}
 use Rattle.sercos_multi.specs.RingRuns.{IsRingRun}
 use Rattle.sercos_multi.proofs.ListLemmas.{dropped_all}
 
@@ -84,10 +82,10 @@ text_after parts n rest part after more at cut below = by more (drop_next parts 
 
 -- one more is opened, and one is refused
 pub one_opened : {L : Type 0} (carry_of : L → Carry) (restart_of : L → Restarts) (parts : List (List ℕ)) (n : ℕ) (ps new : List (Part L)) (p : Part L) (part : List ℕ)
-    → AreOpened carry_of restart_of parts n ps → IsPart parts n part → ((d : DocumentView) × (document_of part ≡ Ok d) × IsAt carry_of restart_of p (voice_of (n + 1) d) × IsScriptRun d × (1 ≤ d.setup.cycles)) → new ≡ ps ++ p ∷ [] → AreOpened carry_of restart_of parts (n + 1) new
+    → AreOpened carry_of restart_of parts n ps → IsPart parts n part → ((d : DocumentView) × (document_of part ≡ Ok d) × IsAt carry_of restart_of p (voice_of (n + 1) d) × IsRingRun d) → new ≡ ps ++ p ∷ [] → AreOpened carry_of restart_of parts (n + 1) new
 unfolding documents_from
 one_opened carry_of restart_of parts n ps new p part now is opens pushed =
-    let (d, said, at, run, cycles) = opens in
+    let (d, said, at, run) = opens in
     let count = now.count in
     record {
       documents = now.documents ++ d ∷ [];
@@ -101,7 +99,7 @@ one_opened carry_of restart_of parts n ps new p part now is opens pushed =
           subst (λ l. AllAt carry_of restart_of l (voices_from 1 (now.documents ++ d ∷ []))) (sym pushed)
           (subst (λ vs. AllAt carry_of restart_of (ps ++ p ∷ []) vs) (sym (voices_push 1 now.documents d (n + 1) (omega (arith, count))))
           (all_push (IsAt carry_of restart_of) ps (voices_from 1 now.documents) p (voice_of (n + 1) d) now.all at));
-      runs = All-push IsRingRun now.documents d now.runs (record { some = cycles; kept = run; clear = script_clear d run });
+      runs = All-push IsRingRun now.documents d now.runs run;
     }
   where
     length_push : (documents : List DocumentView) (d : DocumentView) → length (documents ++ d ∷ []) ≡ length documents + 1

@@ -14,10 +14,17 @@ use Rattle.sercos_ring.specs.declared.ring.Ring.{Ring}
 use Rattle.sercos_ring.specs.Kept.{RingStandsFor}
 use Rattle.sercos_law_run.specs.Totals.Totals.{totals_of}
 use Rattle.sercos_law_run.specs.Totals.Counting.{AreFew, none_made}
+use Rattle.sercos_law_run.specs.Held.Opened.{IsOpened}
+use Rattle.sercos_law_trace.specs.Clean.Traces.{RunsAreClean}
+use Rattle.sercos_law_trace.proofs.Theorems.{whole_is_clean}
+use Rattle.sercos_config.specs.Views.{DocumentView}
+use Rattle.sercos_opened.specs.Kept.{OpenedIsKept, script_carry, script_restarts}
 use Rattle.sercos_multi.specs.Merged.{mark_of}
 use Rattle.sercos_multi.specs.Going.{future}
 use Rattle.sercos_multi.specs.Parts.{IsAt}
 use Rattle.sercos_multi.specs.Asking.{voice_under}
+use Rattle.sercos_opened.proofs.KeptLemmas.{script_clear}
+use Rattle.sercos_multi.specs.RingRuns.{IsRingRun}
 use Rattle.sercos_multi.proofs.PartLemmas.{future_length}
 
 -- a run is the cycles so far and those to come
@@ -61,3 +68,9 @@ opened_at carry_of restart_of n r jobs carry restarts ring w totals left mark va
 
 pub mark_is : (n : ℕ) → n < 10 → (48 + n) ∷ 32 ∷ [] ≡ mark_of n
 mark_is n below = sym (ap (λ d. d ++ 32 ∷ []) (decimal_digit n below))
+
+-- what is kept in the run of a document's ring
+pub ring_run : OpenedIsKept → RunsAreClean → (d : DocumentView) → IsOpened d.setup d.jobs → length d.jobs ≤ 4096 → 1 ≤ d.setup.cycles → IsRingRun d
+ring_run keeps clean d opened few some =
+    let kept = keeps d.setup d.jobs (script_carry d) (script_restarts d) d.setup.cycles opened in
+    record { some = some; kept = kept; clear = script_clear d kept; clean = whole_is_clean clean d.setup d.jobs (script_carry d) (script_restarts d) opened few kept.run }

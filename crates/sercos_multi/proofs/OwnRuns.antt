@@ -11,9 +11,8 @@ use Rattle.sercos_trace.specs.Views.{CycleView}
 use Rattle.sercos_trace.specs.declared.record.Totals.{Totals}
 use Rattle.sercos_trace.specs.Marked.{marked, AreLines}
 use Rattle.sercos_trace.specs.Texts.{header_text, cycle_text, end_text, trace_of}
-use Rattle.sercos_law_run.proofs.Theorems.{length-run_of}
+use Rattle.sercos_law_run.proofs.Theorems.{all_at, length-run_of}
 use Rattle.sercos_config.specs.Views.{DocumentView}
-use Rattle.sercos_opened.proofs.OpenedLemmas.{all_at}
 use Rattle.sercos_opened.specs.Kept.{script_carry, script_restarts, script_run}
 use Rattle.sercos_multi.specs.Going.{Each}
 use Rattle.sercos_multi.specs.Merged.{Voice, span, from_moment, begun, is_cycle, first_text, mark_of, head_lines, lines_at, moment_line, moment_text, together, together_line, over_by}

@@ -1,5 +1,5 @@
 -- The result of opening the rings of documents.
-use Rattle.std.specs.Prelude.{◌≡◌, ◌≢◌, ℕ, ◌+◌, ◌≤◌, List, ◌++◌, length, drop, Result, Ok, Err}
+use Rattle.std.specs.Prelude.{◌≡◌, ◌≢◌, ℕ, ◌+◌, List, ◌++◌, length, drop, Result, Ok, Err}
 use Rattle.sercos_script.specs.Links.{Carry, Restarts}
 use Rattle.sercos_document.specs.declared.refusal.BadDocument.{BadDocument}
 use Rattle.sercos_document.specs.declared.refusal.BadDocument.TheVariants as bads
@@ -10,12 +10,11 @@ use Rattle.sercos_multi.specs.declared.opening.Unopened.{Unopened}
 use Rattle.sercos_multi.specs.declared.opening.Unopened.TheVariants as unopened
 use Rattle.sercos_multi.specs.Asking.{documents_from, voice_of, voices_from}
 use Rattle.sercos_multi.specs.Parts.{IsAt, AllAt}
-use Rattle.sercos_opened.specs.Kept.{IsScriptRun}
-use Rattle.sercos_multi.specs.RingRuns.{AreRuns}
+use Rattle.sercos_multi.specs.RingRuns.{AreRuns, IsRingRun}
 
 -- a ring of a part's contents
 abbrev pub OpensPart : {L : Type 0} → (L → Carry) → (L → Restarts) → ℕ → List ℕ → Result (Part L) Unopened → Type 0
-OpensPart carry_of restart_of n bytes (Ok p) = (d : DocumentView) × (document_of bytes ≡ Ok d) × IsAt carry_of restart_of p (voice_of n d) × IsScriptRun d × (1 ≤ d.setup.cycles)
+OpensPart carry_of restart_of n bytes (Ok p) = (d : DocumentView) × (document_of bytes ≡ Ok d) × IsAt carry_of restart_of p (voice_of n d) × IsRingRun d
 OpensPart carry_of restart_of n bytes (Err unopened.Memory) = Unit {0}
 OpensPart carry_of restart_of n bytes (Err (unopened.Refused m bad)) = (m ≡ n) × (document_of bytes ≡ Err bad) × (bad ≢ bads.Memory)
 

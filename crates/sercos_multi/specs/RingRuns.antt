@@ -5,6 +5,7 @@ use Rattle.std.specs.Io.KnownBytes.{Appends}
 use Rattle.sercos_config.specs.Views.{DocumentView}
 use Rattle.sercos_script.specs.Cuts.{has_flip}
 use Rattle.sercos_law_run.specs.Journal.Runs.{IsClear}
+use Rattle.sercos_law_trace.specs.Clean.Traces.{IsCleanIfClear}
 use Rattle.sercos_opened.specs.Kept.{IsScriptRun, script_run}
 use Rattle.sercos_call.specs.TopCall.{ReadsWhole}
 use Rattle.sercos_multi.specs.Merged.{Voice, begun, is_cycle, is_timed, merged}
@@ -13,11 +14,12 @@ use Rattle.sercos_multi.specs.OwnLines.{AreTraces}
 use Rattle.sercos_multi.specs.Asking.{cycles_of, cycle_fault, documents_from, first_cycle, voices_from}
 
 -- The cycles of a document's ring, of which there is one at least, are its run, and keep all that is promised of them. If its script has
--- no flip, no arrival is unseen.
+-- no flip, no arrival is unseen; if none is, its trace is clean.
 pub record IsRingRun (d : DocumentView) : Type 0 where
   pub some : 1 ≤ d.setup.cycles
   pub kept : IsScriptRun d
   pub clear : has_flip d.faults ≡ false → IsClear (script_run d)
+  pub clean : IsCleanIfClear d.setup (script_run d)
 
 abbrev pub AreRuns : List DocumentView → Type 0
 AreRuns documents = All IsRingRun documents
@@ -34,8 +36,8 @@ BeginTogether time voices = (i k : ℕ) (u v : Voice) (moment other : ℕ) → s
 
 -- The source was read to its end as the documents of 2 to 8 rings with one cycle time. What was appended is the merged text of the one
 -- run of each of these rings, for its number of cycles, under its script. The cycles of each keep all that is promised of them, up to
--- its own first arrival that is unseen; its lines, without their number, are the trace of its document alone. Where cycles of two
--- rings that are commanded phase 3 or 4 meet, their MSTs end together.
+-- its own first arrival that is unseen; its lines, without their number, are the trace of its document alone, which `check` finds clean
+-- if nothing was unseen in the run of the ring. Where cycles of two rings that are commanded phase 3 or 4 meet, their MSTs end together.
 pub record RingsMerged (left left' held held' : Option (List ℕ)) : Type 0 where
   pub bytes : List ℕ
   pub read : ReadsWhole left left' bytes

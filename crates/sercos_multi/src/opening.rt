@@ -15,6 +15,7 @@ use crate::part::Part;
 use sercos_block::{RingSetup, ring_law};
 use sercos_config::{BadDocument, Document, read_ring};
 use sercos_law_run::{run_law, totals_law};
+use sercos_law_trace::clean_law;
 use sercos_opened::{kept_law, show_opened};
 use sercos_ring::{Ring, no_totals};
 use sercos_script::{BitLink, Scripted};
@@ -121,6 +122,7 @@ fn open_part(alloc: Global, number: u8, bytes: &[u8]) -> Result<Part<Scripted>, 
     ensures { OpensPart ⟦<Scripted as BitLink>⟧.carry ⟦<Scripted as BitLink>⟧.restart number bytes.now result }
 {
     kept_law();
+    clean_law();
     match read_ring(alloc, bytes) {
         Ok(document) => {
             show_opened(&document);

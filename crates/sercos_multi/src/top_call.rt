@@ -84,8 +84,8 @@ pub fn rings<S: Source, K: Sink>(
         (S.left source.old) (S.left source.new) (K.held sink.old) (K.held sink.new) }
     // What was appended then is the merged text of the runs of the documents' rings, each of which keeps all that is promised, up to its
     // own first arrival that is unseen; if its script has no flip, there is none. The lines of each, without its number, are the trace of
-    // its document alone. Where a moment at which one ring begins a cycle lies in a cycle of another that is commanded phase 3 or 4, that
-    // cycle too begins then: their MSTs end together.
+    // its document alone, which is clean if nothing was unseen in the run. If a moment at which one ring begins a cycle lies in a cycle of
+    // another that is commanded phase 3 or 4, that cycle too begins then: their MSTs end together.
     ensures merged { result ≡ Status.Done → RingsMerged (S.left source.old) (S.left source.new) (K.held sink.old) (K.held sink.new) }
     ensures never_no { result ≢ Status.No }
 

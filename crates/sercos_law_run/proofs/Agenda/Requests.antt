@@ -16,7 +16,7 @@ lower : (i j : ℕ) (tasks : List Task) → i ≤ j → Ascend j tasks → Ascen
 lower i j [] less up = tt
 lower i j (t ∷ tasks) less up = let high = up.2 in (up.0, up.1, omega (arith, less, high), up.3)
 
-ascend_from : (address i : ℕ) (jobs : List Job) → Ascend i (tasks_from address i jobs)
+pub ascend_from : (address i : ℕ) (jobs : List Job) → Ascend i (tasks_from address i jobs)
 ascend_from address i [] = tt
 ascend_from address i (job ∷ jobs) = by (job.drive == address) (ascend_from address (i + 1) jobs)
   where

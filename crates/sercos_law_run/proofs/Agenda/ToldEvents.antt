@@ -51,7 +51,7 @@ module _ (number : ℕ) (o : Outcome) where
   abbrev AtPlaces : (ℕ → List Report) → ℕ → Type 0
   AtPlaces reports n = (k : ℕ) × (k < n) × HasReport (reports k) number o
 
-  all_to : (report : ℕ → Option Report) (n : ℕ) (outcomes : List (ℕ × Outcome)) → HasOutcome (with_reports report n outcomes) number o → HasOutcome outcomes number o ⊎ AtPlaces (λ k. with_told (report k) []) n
+  pub all_to : (report : ℕ → Option Report) (n : ℕ) (outcomes : List (ℕ × Outcome)) → HasOutcome (with_reports report n outcomes) number o → HasOutcome outcomes number o ⊎ AtPlaces (λ k. with_told (report k) []) n
   all_to report zero outcomes has = inl has
   all_to report (suc n) outcomes has = elim (with_to (report n) (with_reports report n outcomes) has) [
     | inr here ↦ inr (n, omega arith, here)

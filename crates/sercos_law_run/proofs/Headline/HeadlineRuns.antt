@@ -1,11 +1,10 @@
 -- The headline, by induction over the cycles of a run.
-use Rattle.std.proofs.Common.{◌≡◌, ◌⊎◌, inl, inr, ℕ, ◌<◌, ◌≤◌, Bool, true, false, List, [], ◌∷◌, ◌++◌, length, Option, Some, None, refl, sym, ap, subst, arith, max, if◌then◌else◌}
-use Rattle.std.specs.Prelude.{slice_index, IfSome}
+use Rattle.std.proofs.Common.{◌≡◌, ◌⊎◌, inl, inr, ℕ, ◌<◌, ◌≤◌, Bool, false, List, [], ◌∷◌, ◌++◌, length, Option, Some, None, refl, sym, ap, subst, arith, max}
+use Rattle.std.specs.Prelude.{IfSome}
 use Rattle.std.proofs.lemmas.List.Elements.{All-nil, All-cons}
 use Rattle.sercos_model.specs.Bits.{AreBytes}
 use Rattle.sercos_model.specs.Frames.{wire_bits, IsFrame}
 use Rattle.sercos_hdlc.specs.Stuffed.{frame_of}
-use Rattle.sercos_telegram.specs.declared.layout.Kind.TheVariants as kinds
 use Rattle.sercos_step.specs.declared.request.Job.{Job}
 use Rattle.sercos_step.specs.declared.request.Outcome.{Outcome}
 use Rattle.sercos_block.specs.Stores.{IsStore, store_of}
@@ -21,7 +20,6 @@ use Rattle.sercos_trace.specs.Views.{SentView, EventsView, CycleView}
 use Rattle.sercos_seat.specs.Ring.{known_of, tasks_for}
 use Rattle.sercos_law_run.specs.Start.Kept.{BlocksKeep}
 use Rattle.sercos_law_run.specs.Start.RingSlots.{RingSendsApart}
-use Rattle.sercos_master.specs.Annals.{Call, Restart}
 use Rattle.sercos_master.specs.Says.{Sent, mst_said, mdt_said}
 use Rattle.sercos_script.specs.Links.{Carry, Restarts}
 use Rattle.sercos_law_channel.specs.Handshake.Views.{Heard, View, standing, stood_in}
@@ -30,11 +28,9 @@ use Rattle.sercos_law_channel.specs.Handshake.Epochs.{begun_in}
 use Rattle.sercos_law_channel.specs.Handshake.InStep.{AreInStep}
 use Rattle.sercos_law_channel.specs.Handshake.RunLaws.{StandsNoLater as NoLaterInViews, StandsAsCommanded, Handshake, phase_commanded}
 use Rattle.sercos_law_channel.specs.Handshake.WholeRun.{all_entries}
-use Rattle.sercos_law_run.specs.Journal.Arrivals.{heard, passage}
-use Rattle.sercos_law_run.specs.Journal.Records.{mst_in, ats_in}
-use Rattle.sercos_law_run.specs.Journal.Runs.{drive_at, station_of, with_at, at_calls, begin_calls, own_mst, given_before, given_mst, master_calls, looks_back, no_events, restart_events, begins, sent_at, sent_mst, sent_mdt, ats_said, said_below, middle, IsNext, IsRun, IsClear}
+use Rattle.sercos_law_run.specs.Journal.Runs.{drive_at, given_before, given_mst, master_calls, looks_back, no_events, restart_events, begins, sent_at, sent_mst, sent_mdt, ats_said, said_below, middle, IsNext, IsRun, IsClear}
 use Rattle.sercos_law_run.specs.Agenda.Events.{HasOutcome, AreTold, AreToldAtRestart}
-use Rattle.sercos_law_run.specs.Agenda.Reported.{IsAtStart, RestartsAtStart, AreRequests, TellsInOrder, TellsOnce, TellsRight}
+use Rattle.sercos_law_run.specs.Agenda.Reported.{AreRequests, TellsInOrder, TellsOnce, TellsRight}
 use Rattle.sercos_law_run.specs.Typed.Keeps.{KeepsAlways, KeepsWithin}
 use Rattle.sercos_law_run.specs.Typed.Spelled.{SpelledNext}
 use Rattle.sercos_law_run.proofs.Typed.Ats.{IsContent, at_content}
@@ -54,6 +50,7 @@ use Rattle.sercos_law_run.specs.Headline.Headline.{KeepsAll}
 use Rattle.sercos_law_run.proofs.Headline.ApartCycles.{AreFramed, apart_in}
 use Rattle.sercos_law_run.proofs.Headline.WellRuns.{StopLaws, AllWell, all_well, stops_in}
 use Rattle.sercos_law_run.proofs.Settings.WellSets.{well_first}
+use Rattle.sercos_law_run.proofs.Headline.OnceRuns.{are_once, restarts_so}
 
 -- and these laws
 pub record MoreLaws : Type 0 where
@@ -76,27 +73,6 @@ pub record MoreLaws : Type 0 where
   pub those : HandedThose
   pub frame : (content : List ℕ) → AreBytes content → 0 < length content → length content ≤ 2048 → IsFrame content (frame_of content)
   pub wire : (content : List ℕ) (bits : List Bool) → IsFrame content bits → length bits ≤ wire_bits (length content)
-
--- the master is restarted at the start of a cycle alone
-starts : (r : RingView) (carry : Carry) (restarts : Restarts) (j : List CycleView) → IsAtStart (master_calls r carry restarts j)
-starts r carry restarts [] = tt
-starts r carry restarts (t ∷ j) = tt
-
-ats_start : (r : RingView) (carry : Carry) (cycle : ℕ) (ats : List (List ℕ)) (h : List Call) → RestartsAtStart h → RestartsAtStart (at_calls r carry cycle ats h)
-ats_start r carry cycle [] h are = are
-ats_start r carry cycle (at ∷ ats) h are = ats_start r carry cycle ats _ (by (heard carry (passage cycle kinds.At (station_of r (slice_index at 0)) 0) at))
-  where
-    by : (o : Option (List ℕ)) → RestartsAtStart (with_at o h)
-    by None = are
-    by (Some content) = are
-
-pub restarts_so : (r : RingView) (carry : Carry) (restarts : Restarts) (j : List CycleView) → RestartsAtStart (master_calls r carry restarts j)
-restarts_so r carry restarts [] = tt
-restarts_so r carry restarts (t ∷ j) = ats_start r carry (length j) (ats_in t.sent) (own_mst carry (length j) (mst_in t.sent) (begin_calls restarts (length j) (master_calls r carry restarts j))) (by (restarts (length j) 0) (restarts_so r carry restarts j) (starts r carry restarts j))
-  where
-    by : (b : Bool) → RestartsAtStart (master_calls r carry restarts j) → IsAtStart (master_calls r carry restarts j) → RestartsAtStart (if b then Restart ∷ master_calls r carry restarts j else master_calls r carry restarts j)
-    by true are at = (are, at)
-    by false are at = are
 
 on_stores : (d : DriveView) (entries : List Entry) → EntriesStored d entries → OnStores entries
 on_stores d [] are = tt
@@ -180,6 +156,7 @@ module _ (laws : Laws) (more : MoreLaws) (r : RingView) (jobs : List Job) (carry
     no_later = no_later_in;
     exact = exact_in;
     told = told_in;
+    once = are_once more.once more.in_order more.requests r jobs carry restarts opened.valid t j (run, next);
     reported = reported_in;
     stops = stops_in laws more.stop_laws r jobs carry restarts opened first_store t j next clear (spelled_in t j next) (stored_in t j) (all_stand j run before) at_end (well (t ∷ j) (run, next) (before, clear));
     in_step = in_step_in;

@@ -49,7 +49,7 @@ use Rattle.sercos_drive.specs.Heard as Heard
 use Rattle.sercos_drive.specs.Says as Says
 
 -- a ring of one drive, which sends S-0-0051 and is sent S-0-0047; S-0-0051 grows by 10 in each cycle
-abbrev ring : RingView
+abbrev pub ring : RingView
 ring = record { rate = 4; cycle = 250; control = 250; gap = 5; cycles = 300; order = 0 ∷ []; drives = drive ∷ [] }
 
 -- What happened in the cycles of a run, the newest first: the cycles in which drives moved, with their addresses and phases; the
@@ -92,14 +92,14 @@ happened (t ∷ j) = with_cycle (happened j)
 abbrev under : List Job → List Fault → ℕ → Happened
 under jobs faults n = happened (run_of ring jobs (carried 1 faults) (restarts_at faults) n)
 
-abbrev fault : ℕ → ℕ → Kind → ℕ → Damage → Fault
+abbrev pub fault : ℕ → ℕ → Kind → ℕ → Damage → Fault
 fault cycle last kind from damage = record { cycle = cycle; last = last; every = 1; kind = kind; from = from; damage = damage }
 
 -- S-0-0047 is written, and read
-abbrev write : Job
+abbrev pub write : Job
 write = record { drive = 1; request = request.Write (record { raw = 47 }) 7 (1 ∷ 0 ∷ 0 ∷ 0 ∷ []) }
 
-abbrev read : Job
+abbrev pub read : Job
 read = record { drive = 1; request = request.Read (record { raw = 47 }) 7 }
 
 -- the moves of the start-up

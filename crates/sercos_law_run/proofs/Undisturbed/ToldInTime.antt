@@ -40,7 +40,8 @@ use Rattle.sercos_law_run.proofs.Agenda.TaskRuns.{all_ended}
 use Rattle.sercos_law_run.specs.Views.RingViews.{behind_mdt}
 use Rattle.sercos_law_run.specs.Held.Opened.{IsOpened}
 use Rattle.sercos_law_run.proofs.Held.Runs.{Laws}
-use Rattle.sercos_law_run.proofs.Headline.HeadlineRuns.{MoreLaws, keeps_all, restarts_so}
+use Rattle.sercos_law_run.proofs.Headline.HeadlineRuns.{MoreLaws, keeps_all}
+use Rattle.sercos_law_run.proofs.Headline.OnceRuns.{restarts_so}
 use Rattle.sercos_law_run.specs.Undisturbed.Ends.{ComesToPhaseFour}
 use Rattle.sercos_law_run.specs.Undisturbed.EpochStarts.{StartsEpoch}
 use Rattle.sercos_law_run.specs.Undisturbed.Reports.{HaveTold, request_cycles, waiting_after}

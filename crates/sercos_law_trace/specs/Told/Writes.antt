@@ -13,7 +13,7 @@ use Rattle.sercos_service_drive.specs.Replies.{data_in}
 use Rattle.sercos_drive.specs.Annals.{store_at}
 use Rattle.sercos_script.specs.Links.{Carry, Restarts}
 use Rattle.sercos_trace.specs.Views.{CycleView}
-use Rattle.sercos_law_channel.specs.Handshake.Transfers.{stored}
+pub use Rattle.sercos_law_channel.specs.Handshake.Transfers.{stored}
 use Rattle.sercos_law_run.specs.Journal.Runs.{IsRun, IsClear, drive_at, given_before}
 use Rattle.sercos_law_run.specs.Held.Opened.{IsOpened}
 use Rattle.sercos_backup.specs.Tracking.{told_of}

@@ -1,6 +1,6 @@
 use Rattle.std.proofs.Common.{subst}
 use Rattle.sercos_law_run.specs.Typed.Typed.{IsTyped}
-use Rattle.sercos_opened.proofs.OpenedLemmas.{all_dropped}
+use Rattle.sercos_law_run.proofs.Theorems.{all_dropped}
 use Rattle.sercos_opened.proofs.opened.show_drives.Goals as goal
 
 pub loop-drive-preserved : goal.loop-drive-preserved

@@ -2,7 +2,7 @@ use Rattle.std.proofs.Common.{rules}
 use Rattle.std.specs.List.{All}
 use Rattle.sercos_law_run.specs.Journal.Runs.{no_drive}
 use Rattle.sercos_law_run.specs.Typed.Typed.{IsTyped, AreTypedJobs}
-use Rattle.sercos_opened.proofs.OpenedLemmas.{opened}
+use Rattle.sercos_law_run.proofs.Theorems.{opened}
 use Rattle.sercos_opened.proofs.opened.show_opened.Goals as goal
 
 pub returns : goal.returns

@@ -1,4 +1,4 @@
--- A ring of a document may be opened with its requests.
+-- A ring may be opened with requests that keep the rules of requests.
 use Rattle.std.proofs.Common.{◌≡◌, ℕ, drop, zero, suc, ◌+◌, ◌<◌, Bool, true, false, ◌&&◌, ◌||◌, List, [], ◌∷◌, length, Option, Some, None, refl, sym, ◌∙◌, ap, subst, arith, if◌then◌else◌}
 use Rattle.std.specs.Prelude.{◌==◌, not, slice_get, slice_index_or, IfSome, option_map}
 use Rattle.std.specs.List.{All, list_any}
@@ -12,9 +12,11 @@ use Rattle.sercos_block.specs.declared.block.Block.{Block}
 use Rattle.sercos_block.specs.Views.{DriveView, RingView}
 use Rattle.sercos_block.specs.Stores.{find_block, store_of}
 use Rattle.sercos_block.specs.Rings.{block_attribute, has_address, has_other_data, is_no_command, is_ring}
-use Rattle.sercos_law_run.proofs.Theorems.{attribute_store_of, ring_drive, member_is}
+use Rattle.sercos_law_run.proofs.Start.BlockFinds.{attribute_store_of}
+use Rattle.sercos_law_run.proofs.Start.CheckPasses.{ring_drive}
+use Rattle.sercos_law_run.proofs.Views.Members.{member_is}
 use Rattle.sercos_seat.specs.Ring.{Task, tasks_from, request_task}
-use Rattle.sercos_law_channel.specs.Handshake.WholeRun.{IsSound}
+pub use Rattle.sercos_law_channel.specs.Handshake.WholeRun.{IsSound}
 use Rattle.sercos_law_run.specs.Journal.Runs.{drive_at, no_drive}
 use Rattle.sercos_law_run.specs.Typed.Typed.{AreTyped, AreTypedJobs, IsTypedRequest}
 use Rattle.sercos_law_run.specs.Held.Opened.{IsOpened}
