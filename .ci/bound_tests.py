@@ -1,4 +1,4 @@
-"""What the tests of the bounds share: rings, the bounds of RULES.md, which are worked out here from a document by themselves, and runs."""
+"""What the tests of the bounds share: rings, the bounds of PROTOCOL.md, which are worked out here from a document by themselves, and runs."""
 import re
 import tomllib
 

@@ -1,4 +1,4 @@
-"""How many bits a telegram has on the ring. docs/RULES.md, section 'Frames', has the rules."""
+"""How many bits a telegram has on the ring. docs/PROTOCOL.md, section 'Frames', has the rules."""
 
 FLAGS = 16
 

@@ -1,6 +1,6 @@
 """The cycles of a trace, and the service channel as the telegrams of a cycle show it.
 
-docs/RULES.md, sections 'Telegrams', 'The service channel' and 'The trace', has the rules.
+docs/PROTOCOL.md has the rules, docs/FORMATS.md the trace.
 """
 import collections
 

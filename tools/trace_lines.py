@@ -1,8 +1,8 @@
 """Reads what the program writes: the lines of a trace and the answer of `plan`.
 
 Each kind of line is a template, in which a name in braces is a field. A line is read as a named tuple of its kind, with
-numbers as integers. A trace is read line by line, so its length doesn't matter. docs/RULES.md, sections 'The trace' and
-'plan', has all kinds.
+numbers as integers. A trace is read line by line, so its length doesn't matter. docs/FORMATS.md, sections 'The
+trace' and 'plan', has all kinds.
 """
 import collections
 import contextlib
