@@ -11,7 +11,7 @@ import time
 
 # A check takes 2 GB for a start, and one more for each of its jobs.
 GB = 1 << 30
-MINUTES = "about 16 minutes on four processors, 31 on two"
+MINUTES = "about 17 minutes on four processors, 31 on two"
 LIBC = ctypes.CDLL(None)
 
 
