@@ -264,16 +264,16 @@ none-plan : (carry : Carry) (restarts : Restarts) (bytes : List ℕ) (left left'
 unfolding command_answer plan_answer
 none-plan carry restarts bytes left left' held held' says at input written =
     let (d, read) = document_read (document_of bytes) (λ e. absurd (cc)) in
-    let (chain, is, text) = (says d read).chain at in
-    record { bytes = bytes; read = input; says = d; document = read; none = (says d read).no at; chain = chain; is_chain = is; written = rw text at written }
+    let (chain, made, is, text) = (says d read).chain at in
+    record { bytes = bytes; read = input; says = d; document = read; none = (says d read).no at; chain = chain; made = made; is_chain = is; written = rw text at written }
 
 least-plan : (carry : Carry) (restarts : Restarts) (bytes : List ℕ) (left left' held held' : Option (List ℕ)) → PlansItsRing bytes → (command_answer carry restarts Plan bytes).status ≡ Done → ReadsWhole left left' bytes
     → Appends held held' (command_answer carry restarts Plan bytes).output → LeastPlanned left left' held held'
 unfolding command_answer plan_answer
 least-plan carry restarts bytes left left' held held' says at input written =
     let (d, read) = document_read (document_of bytes) (λ e. absurd (cc)) in
-    let (plan, least, text) = (says d read).done at in
-    record { bytes = bytes; read = input; says = d; document = read; plan = plan; least = least; written = rw text at written }
+    let (plan, made, least, text) = (says d read).done at in
+    record { bytes = bytes; read = input; says = d; document = read; plan = plan; made = made; least = least; written = rw text at written }
 
 pub at_none_fits : {carry : Carry} {restarts : Restarts} {words : List (List ℕ)} {source : SourceChange} {sink : SinkChange} {Unread Unwritten : Type 0} {status : Status} → Ends carry restarts words source sink Unread Unwritten status → status ≡ No → form_of words ≡ Some Plan → NonePlanned source.left source.left' sink.held sink.held'
 unfolding writes_nothing reads_input

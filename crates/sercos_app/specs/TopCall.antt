@@ -1,6 +1,6 @@
 -- What the answers of the top call promise, command by command. The bytes left in a source and those that a sink holds are known if it
 -- exposes them.
-use Rattle.std.specs.Prelude.{◌≡◌, ℕ, ◌<◌, ◌≤◌, Bool, true, false, List, [], codes, length, reverse, Option, Some, None, Ok}
+use Rattle.std.specs.Prelude.{◌≡◌, ℕ, ◌<◌, ◌≤◌, Bool, true, false, List, [], codes, length, reverse, Option, Some, None, Ok, Err}
 use Rattle.std.specs.Io.KnownBytes.{Appends}
 use Rattle.sercos_call.specs.TopCall.{ReadsWhole}
 use Rattle.sercos_script.specs.Links.{Carry, Restarts}
@@ -14,6 +14,7 @@ use Rattle.sercos_replay.specs.Stations.{Station, station_differs}
 use Rattle.sercos_replay.specs.Replaying.{place_text, number_line}
 use Rattle.sercos_replay.specs.Asking.{Asks, Breaks, cycles_in}
 use Rattle.sercos_timing.specs.Views.{PlanView}
+use Rattle.sercos_plan.specs.ChainOf.{planned}
 use Rattle.sercos_plan.specs.Least.{IsLeast, NoneFits}
 use Rattle.sercos_plan.specs.Views.{ChainView}
 use Rattle.sercos_plan.specs.Chains.{IsChain}
@@ -37,8 +38,8 @@ use Rattle.sercos_config.specs.Document.{document_of}
 use Rattle.sercos_config.specs.Generated.{generated}
 use Rattle.sercos_app.specs.Generating.{gen_line}
 
--- The source was read to its end as the document of a ring for which no plan fits. What was appended is the text of a chain of the ring's
--- requirements, whose sum is above its bound.
+-- The source was read to its end as the document of a ring for which no plan fits. What was appended is the text of the planner's chain of
+-- the ring's requirements, whose sum is above its bound.
 pub record NonePlanned (left left' held held' : Option (List ℕ)) : Type 0 where
   pub bytes : List ℕ
   pub read : ReadsWhole left left' bytes
@@ -46,16 +47,18 @@ pub record NonePlanned (left left' held held' : Option (List ℕ)) : Type 0 wher
   pub document : document_of bytes ≡ Ok says
   pub none : NoneFits (wishes_of says.setup)
   pub chain : ChainView
+  pub made : planned (wishes_of says.setup) ≡ Err chain
   pub is_chain : IsChain (wishes_of says.setup) chain
   pub written : Appends held held' (chain_text chain)
 
--- the source was read to its end as the document of a ring, and the text of its least plan was appended
+-- the source was read to its end as the document of a ring, and the text of the planner's plan was appended, which is the least
 pub record LeastPlanned (left left' held held' : Option (List ℕ)) : Type 0 where
   pub bytes : List ℕ
   pub read : ReadsWhole left left' bytes
   pub says : DocumentView
   pub document : document_of bytes ≡ Ok says
   pub plan : PlanView
+  pub made : planned (wishes_of says.setup) ≡ Ok plan
   pub least : IsLeast (wishes_of says.setup) plan
   pub written : Appends held held' (plan_text (wishes_of says.setup) plan)
 

@@ -20,4 +20,6 @@ pub mod ComesBack
 pub mod EarlyStops
 pub mod EarlyPhases
 pub mod SpareStops
+pub mod Predicts
 pub mod Recovers
+pub mod Worked

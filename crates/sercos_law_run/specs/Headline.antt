@@ -4,3 +4,4 @@ pub mod Transfers
 pub mod Records
 pub mod Headline
 pub mod Stops
+pub mod Once

@@ -7,3 +7,4 @@ pub mod FallsSoon
 pub mod ComesBack
 pub mod AfterFalls
 pub mod Recovers
+pub mod Predicts

@@ -1,5 +1,6 @@
 // The headline, as a law over every run of a ring.
 ghost use Rattle.sercos_law_run.specs.Headline.Headline.{Headline};
+ghost use Rattle.sercos_law_run.specs.Headline.Once.{OnceAlways};
 
 use crate::agenda_laws::{agenda_law, report_law, stop_law};
 use crate::start_laws::{
@@ -43,4 +44,12 @@ pub fn headline_law()
     start_up_law();
     store_of_law();
     typed_law();
+}
+
+/// A law over every run of a ring, whatever arrives: the numbers of the requests that end in a cycle ascend in its record, and none of
+/// them ended in an earlier cycle.
+pub fn once_law()
+    ensures { OnceAlways }
+{
+    report_law();
 }

@@ -15,7 +15,7 @@ mod undisturbed_laws;
 
 pub use agenda_laws::{agenda_law, channel_law, report_law, stop_law};
 pub use bounds_laws::bound_law;
-pub use headline_laws::headline_law;
+pub use headline_laws::{headline_law, once_law};
 pub use journal_laws::run_law;
 pub use recovery_laws::recovery_law;
 pub use settings_laws::settings_law;

@@ -3,6 +3,7 @@ ghost use Rattle.sercos_law_run.specs.Recovery.AfterFalls.{AfterFall};
 ghost use Rattle.sercos_law_run.specs.Recovery.ComesBack.{ComesBack};
 ghost use Rattle.sercos_law_run.specs.Recovery.FallsInTime.{FallsInTime};
 ghost use Rattle.sercos_law_run.specs.Recovery.FallsSoon.{FallsSoon};
+ghost use Rattle.sercos_law_run.specs.Recovery.Predicts.{Predicts};
 ghost use Rattle.sercos_law_run.specs.Recovery.Recovers.{Recovers};
 ghost use Rattle.sercos_law_run.specs.Recovery.UpOrDown.{AgesDown, AgesToLimit, FallsIfDown, StaysDown, UpOrDown};
 
@@ -16,8 +17,10 @@ use crate::undisturbed_laws::undisturbed_law;
 use sercos_block::{ring_law, store_law};
 use sercos_drive::drive_law;
 use sercos_hdlc::framing_law;
+use sercos_idn::attribute_law;
 use sercos_law_channel::{
-    calls_law, cost_law, exact_law, jobs_law, passage_law, run_law, transfer_law, values_law,
+    calls_law, cost_law, exact_law, jobs_law, passage_law, run_law, stretch_law, transfer_law,
+    values_law,
 };
 use sercos_master::master_law;
 use sercos_service_drive::writes_law;
@@ -30,8 +33,10 @@ use sercos_service_drive::writes_law;
 /// most its reads or its writes by then, and 65 cycles more have passed. If none is, the ring falls within the busy time of the slowest
 /// drive and one cycle, or not at all; then phase 4 is commanded, or the master has a stop, once the cycles of a start-up and 41 steps more
 /// of the slowest drive have passed. If a record has a fall, a restart of the master included, and no cycle after it is disturbed, the ring
-/// starts up again as after its opening. And together: from twice the bound of a start-up and 200 cycles after the last disturbed cycle on,
-/// phase 4 is commanded, or the master is at a stop for its cause.
+/// starts up again as after its opening. In each cycle, of a fall too, a plan that is reported is the planner's for the ring's requirements,
+/// and so is the chain of a reported `NoFit`; each stop that is reported has its cause. And together: from twice the bound of a start-up and 200 cycles after the last disturbed cycle on,
+/// phase 4 is commanded, or the master is at a stop for its cause; no fall is reported, nor a request as broken; and in phase 4 the requests
+/// to a drive that were left then are reported one after the other, each further one within the cycles of one request more.
 pub fn recovery_law()
     ensures up_or_down { UpOrDown }
     ensures down { StaysDown }
@@ -42,6 +47,7 @@ pub fn recovery_law()
     ensures soon { FallsSoon }
     ensures comes_back { ComesBack }
     ensures after_fall { AfterFall }
+    ensures predicts { Predicts }
     ensures recovers { Recovers }
 {
     undisturbed_law();
@@ -65,7 +71,9 @@ pub fn recovery_law()
     start_up_law();
     store_of_law();
     typed_law();
+    attribute_law();
     passage_law();
+    stretch_law();
     cost_law();
     calls_law();
     jobs_law();

@@ -9,13 +9,15 @@ use Rattle.sercos_trace.specs.Views.{CycleView}
 use Rattle.sercos_law_run.specs.Held.Opened.{IsOpened}
 use Rattle.sercos_law_run.specs.Typed.Clear.{HarmlessIsClear}
 use Rattle.sercos_law_run.specs.Headline.Headline.{Headline}
+use Rattle.sercos_law_run.specs.Headline.Once.{OnceAlways}
 use Rattle.sercos_law_run.specs.Undisturbed.WholeRuns.{StartsUndisturbed}
+use Rattle.sercos_law_run.specs.Recovery.Predicts.{Predicts}
 use Rattle.sercos_law_run.specs.Recovery.Recovers.{Recovers}
 use Rattle.sercos_law_run.specs.Journal.Harmless.{IsHarmlessAfterCuts}
 use Rattle.sercos_law_run.specs.Journal.Runs.{IsClear, IsNext, IsRun, next_record, run_of}
 use Rattle.sercos_law_run.proofs.Theorems.{both_are_harmless, cuts_are_harmless}
 use Rattle.sercos_config.specs.Views.{DocumentView}
-use Rattle.sercos_opened.specs.Kept.{document_run, script_carry, script_run, IsDocumentRun, IsScriptRun, KeepsThroughout, RecoversThroughout, StartsThroughout, OpenedIsKept}
+use Rattle.sercos_opened.specs.Kept.{document_run, script_carry, script_run, IsDocumentRun, IsScriptRun, KeepsThroughout, OnceThroughout, PredictsThroughout, RecoversThroughout, StartsThroughout, OpenedIsKept}
 
 -- each cycle that the function gives is the next one
 abbrev pub AreNext : Type 0
@@ -31,9 +33,20 @@ run_before : (r : RingView) (jobs : List Job) (carry : Carry) (restarts : Restar
 run_before r jobs carry restarts [] j run = run
 run_before r jobs carry restarts (t ∷ later) j run = run_before r jobs carry restarts later j run.0
 
+-- the requests of a run are reported once
+run_once : AreNext → OnceAlways → (r : RingView) (jobs : List Job) (carry : Carry) (restarts : Restarts) (n : ℕ) → IsOpened r jobs → OnceThroughout (run_of r jobs carry restarts n)
+run_once next law r jobs carry restarts n opened later t j is =
+    law r jobs carry restarts t j opened.valid (run_before r jobs carry restarts later (t ∷ j) (subst (λ (run : List CycleView). IsRun r jobs carry restarts run) is (run_is next r jobs carry restarts n)))
+
 -- a run keeps all that is promised, if the ring may be opened with its requests
 pub run_keeps : AreNext → Headline → (r : RingView) (jobs : List Job) (carry : Carry) (restarts : Restarts) (n : ℕ) → IsOpened r jobs → KeepsThroughout r jobs carry restarts (run_of r jobs carry restarts n)
 run_keeps next law r jobs carry restarts n opened later t j is clear =
+    law r jobs carry restarts t j opened
+    (run_before r jobs carry restarts later (t ∷ j) (subst (λ (run : List CycleView). IsRun r jobs carry restarts run) is (run_is next r jobs carry restarts n))) clear
+
+-- the planner predicts it
+run_predicts : AreNext → Predicts → (r : RingView) (jobs : List Job) (carry : Carry) (restarts : Restarts) (n : ℕ) → IsOpened r jobs → PredictsThroughout r (run_of r jobs carry restarts n)
+run_predicts next law r jobs carry restarts n opened later t j is clear =
     law r jobs carry restarts t j opened
     (run_before r jobs carry restarts later (t ∷ j) (subst (λ (run : List CycleView). IsRun r jobs carry restarts run) is (run_is next r jobs carry restarts n))) clear
 
@@ -49,11 +62,13 @@ run_recovers next law r jobs carry restarts n opened later t j is clear =
     law r jobs carry restarts t j opened
     (run_before r jobs carry restarts later (t ∷ j) (subst (λ (run : List CycleView). IsRun r jobs carry restarts run) is (run_is next r jobs carry restarts n))) clear
 
-pub opened_is_kept : AreNext → HarmlessIsClear → Headline → StartsUndisturbed → Recovers → OpenedIsKept
-opened_is_kept next clear law starts back r jobs carry restarts cycles opened = record {
+pub opened_is_kept : AreNext → HarmlessIsClear → OnceAlways → Headline → Predicts → StartsUndisturbed → Recovers → OpenedIsKept
+opened_is_kept next clear once law predicts starts back r jobs carry restarts cycles opened = record {
   run = run_is next r jobs carry restarts cycles;
   clear = λ harmless. clear r jobs carry restarts (run_of r jobs carry restarts cycles) opened.valid opened.typed opened.jobs_typed harmless (run_is next r jobs carry restarts cycles);
+  once = run_once next once r jobs carry restarts cycles opened;
   keeps = run_keeps next law r jobs carry restarts cycles opened;
+  predicts = run_predicts next predicts r jobs carry restarts cycles opened;
   starts = run_starts next starts r jobs carry restarts cycles opened;
   recovers = run_recovers next back r jobs carry restarts cycles opened;
 }

@@ -8,7 +8,9 @@ use Rattle.sercos_trace.specs.Views.{CycleView}
 use Rattle.sercos_law_run.specs.Journal.Harmless.{IsHarmless}
 use Rattle.sercos_law_run.specs.Journal.Runs.{IsRun, IsClear, run_of}
 use Rattle.sercos_law_run.specs.Headline.Headline.{KeepsAll}
+use Rattle.sercos_law_run.specs.Headline.Records.{AreOnce}
 use Rattle.sercos_law_run.specs.Undisturbed.WholeRuns.{NeverDisturbed, StartsUp}
+use Rattle.sercos_law_run.specs.Recovery.Predicts.{IsPredicted}
 use Rattle.sercos_law_run.specs.Recovery.Recovers.{RecoversIn}
 use Rattle.sercos_law_run.specs.Held.Opened.{IsOpened}
 use Rattle.sercos_config.specs.Views.{DocumentView}
@@ -47,12 +49,23 @@ StartsThroughout r jobs carry restarts run = (later : List CycleView) (t : Cycle
 abbrev pub RecoversThroughout : RingView → List Job → Carry → Restarts → List CycleView → Type 0
 RecoversThroughout r jobs carry restarts run = (later : List CycleView) (t : CycleView) (j : List CycleView) → run ≡ later ++ t ∷ j → IsClear (t ∷ j) → RecoversIn r jobs carry restarts t j
 
+-- And in each such cycle the planner's answer to the ring's requirements predicts the run: the plan or the chain that is reported, how far
+-- the ring may rise, and the cause of a stop.
+abbrev pub PredictsThroughout : RingView → List CycleView → Type 0
+PredictsThroughout r run = (later : List CycleView) (t : CycleView) (j : List CycleView) → run ≡ later ++ t ∷ j → IsClear (t ∷ j) → IsPredicted r t
+
+-- In each cycle, whatever arrived, the requests that end in it are reported in the order of the file, and none a second time.
+abbrev pub OnceThroughout : List CycleView → Type 0
+OnceThroughout run = (later : List CycleView) (t : CycleView) (j : List CycleView) → run ≡ later ++ t ∷ j → AreOnce t j
+
 -- Cycles are a run, in which each is the next one after those before it, and they keep all this. If the link is harmless, no arrival
 -- is unseen.
 pub record IsKept (r : RingView) (jobs : List Job) (carry : Carry) (restarts : Restarts) (journal : List CycleView) : Type 0 where
   pub run : IsRun r jobs carry restarts journal
   pub clear : IsHarmless carry → IsClear journal
+  pub once : OnceThroughout journal
   pub keeps : KeepsThroughout r jobs carry restarts journal
+  pub predicts : PredictsThroughout r journal
   pub starts : StartsThroughout r jobs carry restarts journal
   pub recovers : RecoversThroughout r jobs carry restarts journal
 

@@ -55,12 +55,12 @@ document_answer (Err bad) = record { status = Refused; output = line_of bad }
 unfoldable pub plan_answer : List ℕ → Answer
 plan_answer bytes = document_answer (document_of bytes)
 
--- An answer is right about planner's input: no, only if no plan fits, and with the text of a chain that proves it; done, only
--- with the text of the least plan.
+-- An answer is right about planner's input: no, only if no plan fits, and with the text of the planner's chain, which proves it; done, only
+-- with the text of the planner's plan, which is the least.
 pub record IsPlanned (w : WishesView) (answer : Answer) : Type 0 where
   pub no : answer.status ≡ No → NoneFits w
-  pub chain : answer.status ≡ No → (c : ChainView) × IsChain w c × (answer.output ≡ chain_text c)
-  pub done : answer.status ≡ Done → (p : PlanView) × IsLeast w p × (answer.output ≡ plan_text w p)
+  pub chain : answer.status ≡ No → (c : ChainView) × (planned w ≡ Err c) × IsChain w c × (answer.output ≡ chain_text c)
+  pub done : answer.status ≡ Done → (p : PlanView) × (planned w ≡ Ok p) × IsLeast w p × (answer.output ≡ plan_text w p)
 
 -- the answer to a document is right about its ring's planner's input
 abbrev pub PlansItsRing : List ℕ → Type 0

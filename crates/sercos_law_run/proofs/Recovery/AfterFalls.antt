@@ -18,7 +18,7 @@ use Rattle.sercos_law_run.specs.Undisturbed.Ends.{StaysAtItsEnd}
 use Rattle.sercos_law_run.specs.Undisturbed.EpochStarts.{StartsAtFall, StartsAtRestart, StartsEpoch}
 use Rattle.sercos_law_run.specs.Undisturbed.Fit.{FitsInThree, OwnFitsInFour}
 use Rattle.sercos_law_run.specs.Undisturbed.Reports.{ReportsInTime}
-use Rattle.sercos_law_run.specs.Undisturbed.StartUps.{AnswersUndisturbed, NoneFalls, StaysUpUndisturbed, TellsNoFallUndisturbed}
+use Rattle.sercos_law_run.specs.Undisturbed.StartUps.{AgesUndisturbed, AnswersUndisturbed, NoneFalls, StaysUpUndisturbed, TellsNoFallUndisturbed}
 use Rattle.sercos_law_run.specs.Undisturbed.StopsInTwo.{StopsForTheCycleTime, StopsForThePlan}
 use Rattle.sercos_law_run.specs.Undisturbed.StopsLater.{EndsStartUp, IsRight, RisesIfRight, StopsForTheCheck}
 use Rattle.sercos_law_run.specs.Undisturbed.Undisturbed.{AreUndisturbed}
@@ -34,7 +34,7 @@ fell_so (Some y) b e f x quiet told = inl refl
 fell_so None true e f x quiet told = inr refl
 fell_so None false e f x quiet told = let same : None ≡ Some x = sym quiet ∙ told in absurd (cc)
 
-module _ (at_fall : StartsAtFall) (at_restart : StartsAtRestart) (tells : TellsNoFallUndisturbed) (rises : RisesIfRight) (fit : FitsInThree) (own : OwnFitsInFour) (at_end : StaysAtItsEnd) (outcome : EndsStartUp) (answers : AnswersUndisturbed) (reports : ReportsInTime) (up : StaysUpUndisturbed)
+module _ (at_fall : StartsAtFall) (at_restart : StartsAtRestart) (tells : TellsNoFallUndisturbed) (rises : RisesIfRight) (fit : FitsInThree) (own : OwnFitsInFour) (at_end : StaysAtItsEnd) (outcome : EndsStartUp) (ages : AgesUndisturbed) (answers : AnswersUndisturbed) (reports : ReportsInTime) (up : StaysUpUndisturbed)
     (r : RingView) (jobs : List Job) (carry : Carry) (restarts : Restarts) (opened : IsOpened r jobs) where
   -- then an epoch begins
   epoch_begins : (f : CycleView) (before : List CycleView) (x : Fall) → IsNext r jobs carry restarts f before → f.events.fall ≡ Some x → StartsEpoch r jobs carry restarts (f ∷ before)
@@ -56,6 +56,7 @@ module _ (at_fall : StartsAtFall) (at_restart : StartsAtRestart) (tells : TellsN
         (subst (λ (l : List CycleView). AreUndisturbed r carry restarts (t ∷ l) before) is calm)).0 four;
     ends = λ late. by (outcome r jobs carry restarts t cycles before opened run clear starts calm late);
     once = λ x y told more. once_since r jobs carry restarts t cycles before x y run calm stays told more;
+    ages = λ k below. ages r jobs carry restarts (t ∷ cycles) before opened run clear starts calm k below;
     answers = λ k a below hears fits. answers r jobs carry restarts t cycles before opened run clear starts calm k a below hears fits;
     reports = λ four k i x below got late. reports r jobs carry restarts t cycles before opened run clear starts calm four k i x below got late;
   }
@@ -75,6 +76,6 @@ module _ (at_fall : StartsAtFall) (at_restart : StartsAtRestart) (tells : TellsN
   after_fall_in t f cycles before x run clear calm told =
       starts_again t cycles (f ∷ before) run clear (epoch_begins f before x (rest_runs r jobs carry restarts (t ∷ cycles) (f ∷ before) run).1 told) calm
 
-pub after_fall : StartsAtFall → StartsAtRestart → TellsNoFallUndisturbed → RisesIfRight → FitsInThree → OwnFitsInFour → StaysAtItsEnd → EndsStartUp → AnswersUndisturbed → ReportsInTime → StaysUpUndisturbed → AfterFall
-after_fall at_fall at_restart tells rises fit own at_end outcome answers reports up r jobs carry restarts t f cycles before x opened run clear calm told =
-    after_fall_in at_fall at_restart tells rises fit own at_end outcome answers reports up r jobs carry restarts opened t f cycles before x run clear calm told
+pub after_fall : StartsAtFall → StartsAtRestart → TellsNoFallUndisturbed → RisesIfRight → FitsInThree → OwnFitsInFour → StaysAtItsEnd → EndsStartUp → AgesUndisturbed → AnswersUndisturbed → ReportsInTime → StaysUpUndisturbed → AfterFall
+after_fall at_fall at_restart tells rises fit own at_end outcome ages answers reports up r jobs carry restarts t f cycles before x opened run clear calm told =
+    after_fall_in at_fall at_restart tells rises fit own at_end outcome ages answers reports up r jobs carry restarts opened t f cycles before x run clear calm told

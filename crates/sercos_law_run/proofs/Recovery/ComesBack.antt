@@ -117,7 +117,7 @@ module _ (laws : Laws) (more : MoreLaws) (turn : WorkInTurn) (early : BeginsNone
           let some = (laws.ring r opened.valid).some in
           let least = no_lower_since laws more turn early r jobs carry restarts opened t cycles first before run clear stretch 0 (omega (arith, some)) in omega (arith, late, least)
 
-      on_now : IsOn r jobs carry restarts t (cycles ++ first ∷ before)
+      pub on_now : IsOn r jobs carry restarts t (cycles ++ first ∷ before)
       on_now = record {
         now = phase_is;
         stays = stretch.stays.1;

@@ -85,7 +85,7 @@ module _ (laws : Laws) (more : MoreLaws) (turn : WorkInTurn) (early : BeginsNone
         record {
           phase = phase;
           goes_on = stop_before none;
-          planned = planned_now laws more r jobs carry restarts opened t j run.0 clear.0 stays phase (stop_before none);
+          planned = planned_now laws more r jobs carry restarts opened t j run.0 clear.0 phase (stop_before none);
           unchecked = sym (ap (λ (n : ℕ). is_done_in n (known_of r) (behind_mdt r jobs carry restarts t.sent j)) phase) ∙ not_done (is_done (known_of r) p) p.now.phase phase next;
         }
 

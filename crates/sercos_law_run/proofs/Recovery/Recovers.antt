@@ -1,9 +1,10 @@
 -- So the ring is back in time after the last disturbed cycle.
 use Rattle.std.proofs.Common.{◌≡◌, ◌⊎◌, inl, inr, ℕ, suc, ◌+◌, ◌*◌, ◌<◌, ◌≤◌, true, List, [], ◌∷◌, ◌++◌, length, Option, Some, None, refl, sym, ap, ◌∙◌, subst, arith, length-append}
-use Rattle.std.specs.Prelude.{is_some}
+use Rattle.std.specs.Prelude.{is_some, slice_get}
 use Rattle.std.specs.List.{sum_by}
 use Rattle.std.proofs.lemmas.Bool.{cases_eq, cases_lt, false≢true}
 use Rattle.std.proofs.lemmas.List.Sums.{sum_by-cons}
+use Rattle.std.proofs.lemmas.Option.{slice_get_within}
 use Rattle.sercos_step.specs.declared.request.Job.{Job}
 use Rattle.sercos_block.specs.Startup.{startup_bound}
 use Rattle.sercos_block.specs.Views.{DriveView, RingView}
@@ -11,43 +12,51 @@ use Rattle.sercos_law_run.specs.Bounds.Bounds.{listed, recovery_bound, section_c
 use Rattle.sercos_trace.specs.Views.{CycleView}
 use Rattle.sercos_trace.specs.declared.events.Fall.{Fall}
 use Rattle.sercos_trace.specs.declared.events.Stop.{Stop}
+use Rattle.sercos_seat.proofs.Gets.{get_left}
 use Rattle.sercos_seat.specs.Ring.{known_of, tasks_for}
 use Rattle.sercos_master.specs.Annals.{Past, fall_of}
 use Rattle.sercos_script.specs.Links.{Carry, Restarts}
 use Rattle.sercos_law_channel.specs.Handshake.RunLaws.{ComesUp}
 use Rattle.sercos_law_channel.specs.Handshake.Views.{standing}
-use Rattle.sercos_law_channel.specs.Pace.Ages.{AgesWhereDead}
-use Rattle.sercos_law_channel.specs.Pace.ChannelCalls.{AgesBeforeEnd}
+use Rattle.sercos_law_channel.specs.Pace.Ages.{AgesWhereDead, OpensAlways}
+use Rattle.sercos_law_channel.specs.Pace.ChannelCalls.{AgesBeforeEnd, NoneLate}
 use Rattle.sercos_law_channel.specs.Pace.Costs.{ComesTimed}
 use Rattle.sercos_law_channel.specs.Pace.Jobs.{ListReadCosts, ReadsCost, WritesCost}
-use Rattle.sercos_law_channel.specs.Pace.Passages.{StaysDead}
+use Rattle.sercos_law_channel.specs.Pace.Passages.{HearsThroughout, RecoversInTime, StandsThroughout, StaysDead}
 use Rattle.sercos_law_channel.specs.Pace.StartCosts.{RecoversInCost, RecoversSince}
 use Rattle.sercos_law_run.specs.Journal.Runs.{begins, IsClear, IsRun}
 use Rattle.sercos_law_run.specs.Agenda.Tasks.{BeginsNoneEarly}
-use Rattle.sercos_law_run.specs.Agenda.Turns.{WorkInTurn, WorksInThree, WorksInTwo}
+use Rattle.sercos_law_run.specs.Agenda.Turns.{WorkInTurn, WorksInFour, WorksInThree, WorksInTwo}
 use Rattle.sercos_law_run.proofs.Typed.Mdts.{phase_low}
 use Rattle.sercos_law_run.specs.Views.RingViews.{behind_mdt, views_of}
 use Rattle.sercos_law_run.specs.Held.Opened.{IsOpened}
 use Rattle.sercos_law_run.proofs.Held.Runs.{Laws}
 use Rattle.sercos_law_run.proofs.Headline.HeadlineRuns.{MoreLaws}
+use Rattle.sercos_law_run.specs.Undisturbed.Ends.{ComesToPhaseFour}
 use Rattle.sercos_law_run.specs.Undisturbed.EpochStarts.{StartsAtFall, StartsEpoch}
 use Rattle.sercos_law_run.specs.Undisturbed.Fit.{FitsInThree, OwnFitsInFour}
-use Rattle.sercos_law_run.specs.Undisturbed.StartUps.{NoneFalls, StaysUpUndisturbed}
+use Rattle.sercos_law_run.specs.Undisturbed.Reports.{HaveTold, left_after, request_cycles, waiting_after}
+use Rattle.sercos_law_run.specs.Undisturbed.StartUps.{NoneFalls, StaysUpUndisturbed, TellsNoFall}
 use Rattle.sercos_law_run.specs.Undisturbed.StopsInTwo.{StopsForTheCycleTime, StopsForThePlan, StopsInTwo}
 use Rattle.sercos_law_run.specs.Undisturbed.StopsLater.{EndsStartUp, IsRight, NoStopInFour, StopsForTheCheck, StopsInThree}
 use Rattle.sercos_law_run.specs.Undisturbed.Undisturbed.{AreUndisturbed, IsUndisturbed}
+use Rattle.sercos_law_run.proofs.Undisturbed.Answered.{tells_in}
 use Rattle.sercos_law_run.proofs.Undisturbed.Comes.{calm_in}
+use Rattle.sercos_law_run.proofs.Undisturbed.EpochCycles.{AreOn, IsCut, IsOn, cut, none_along, run_rest}
 use Rattle.sercos_law_run.proofs.Undisturbed.InTime.{within_bound}
 use Rattle.sercos_law_run.proofs.Undisturbed.NeverFalls.{busy_low}
 use Rattle.sercos_law_run.proofs.Undisturbed.PhaseTwo.{section_two}
+use Rattle.sercos_law_run.proofs.Undisturbed.RefusedRuns.{SaysShape}
+use Rattle.sercos_law_run.proofs.Undisturbed.Small.{first_is}
 use Rattle.sercos_law_run.proofs.Undisturbed.StopStays.{stop_after}
+use Rattle.sercos_law_run.proofs.Undisturbed.ToldInTime.{IsTold, beyond, left_first, left_in_epoch, left_in_time, numbers_long, told_since, told_there}
 use Rattle.sercos_law_run.proofs.Undisturbed.WholeRuns.{caused}
 use Rattle.sercos_law_run.specs.Recovery.AfterFalls.{AfterFall}
 use Rattle.sercos_law_run.specs.Recovery.FallsInTime.{IsSpared}
 use Rattle.sercos_law_run.specs.Recovery.Recovers.{IsBack, RecoversIn}
 use Rattle.sercos_law_run.specs.Recovery.Stretches.{IsDown, IsStretch}
-use Rattle.sercos_law_run.proofs.Recovery.ComesBack.{comes_back}
-use Rattle.sercos_law_run.proofs.Recovery.DownSince.{up_all}
+use Rattle.sercos_law_run.proofs.Recovery.ComesBack.{comes_back, on_now}
+use Rattle.sercos_law_run.proofs.Recovery.DownSince.{shorter, up_all}
 use Rattle.sercos_law_run.proofs.Recovery.EarlyPhases.{early_or_entered}
 use Rattle.sercos_law_run.proofs.Recovery.EarlyStops.{stands_at}
 use Rattle.sercos_law_run.proofs.Recovery.EpochStops.{same_start}
@@ -56,6 +65,17 @@ use Rattle.sercos_law_run.proofs.Recovery.FallsSoon.{down_or_up, falls_soon}
 use Rattle.sercos_law_run.proofs.Recovery.LateDown.{no_lower}
 use Rattle.sercos_law_run.proofs.Recovery.SpareStops.{falls_anyway}
 use Rattle.sercos_law_run.proofs.Recovery.Stretches.{rest_clear, rest_runs}
+
+-- WHAT ENDS ALIKE: of two ways to write a list, the longer end goes on from the shorter one.
+record IsSuffix (r : RingView) (carry : Carry) (restarts : Restarts) (base rest : List CycleView) : Type 0 where
+  mid : List CycleView
+  is : rest ≡ mid ++ base
+  calm : AreUndisturbed r carry restarts mid base
+
+suffix : (r : RingView) (carry : Carry) (restarts : Restarts) (xs base ys rest : List CycleView) → xs ++ base ≡ ys ++ rest → length base ≤ length rest → AreUndisturbed r carry restarts xs base → IsSuffix r carry restarts base rest
+suffix r carry restarts xs base [] rest is long calm = record { mid = xs; is = sym is; calm = calm }
+suffix r carry restarts [] base (y ∷ ys) rest is long calm = let all = ap (λ (l : List CycleView). length l) is in let parts = length-append ys rest in absurd (omega (arith, all, parts, long))
+suffix r carry restarts (x ∷ xs) base (y ∷ ys) rest is long calm = suffix r carry restarts xs base ys rest (first_is x y (xs ++ base) (ys ++ rest) is).1 long calm.0
 
 -- THE BOUND has room for phase 1, and for the time that a step needs, beside a whole start-up and a refusal.
 two_share : (b m t : ℕ) → 74 * b + 74 ≤ (b + 1) * (24 + 3 * m) + ((b + 1) * (50 + m) + t)
@@ -98,11 +118,11 @@ module _ (laws : Laws) (more : MoreLaws) (turn : WorkInTurn) (early : BeginsNone
   at_stop : (t : CycleView) (j : List CycleView) (x : Stop) → IsRun r jobs carry restarts (t ∷ j) → IsClear (t ∷ j) → fall_of (known_of r) (behind_mdt r jobs carry restarts t.sent j) ≡ None → 2 ≤ t.phase → (behind_mdt r jobs carry restarts t.sent j).stop ≡ Some x
       → IsBack r t j
   at_stop t j x run clear stays late is = elim (cases_eq t.phase 2) [
-    | inl two ↦ stands t j x run stays is (by (stops_two r jobs carry restarts t j x opened run clear stays two is))
+    | inl two ↦ stands t j x run stays is (by (stops_two r jobs carry restarts t j x opened run clear two is))
     | inr not_two ↦ elim (cases_eq t.phase 3) [
-      | inl three ↦ stands t j x run stays is (inr (inr (stops_three r jobs carry restarts t j x opened run clear stays three is)))
+      | inl three ↦ stands t j x run stays is (inr (inr (stops_three r jobs carry restarts t j x opened run clear three is)))
       | inr not_three ↦
-          let none = none_four r jobs carry restarts t j opened run clear stays (omega (arith, late, low, not_two, not_three)) in
+          let none = none_four r jobs carry restarts t j opened run clear (omega (arith, late, low, not_two, not_three)) in
           let both : None ≡ Some x = sym none ∙ is in absurd (cc)
     ]
   ]
@@ -369,9 +389,246 @@ module _ (laws : Laws) (more : MoreLaws) (turn : WorkInTurn) (early : BeginsNone
         by (inl stays) = none_falls_at cycles run clear calm stays
         by (inr x) = subst BackAt (sym x.is) (fell_at x.newer x.one x.older (subst (λ (l : List CycleView). IsRun r jobs carry restarts l) x.is run) (subst (λ (l : List CycleView). IsClear l) x.is clear) x.calm x.calm_then x.stays x.falls)
 
-  pub recovers_in : AfterFall → (t : CycleView) (j : List CycleView) → IsRun r jobs carry restarts (t ∷ j) → IsClear (t ∷ j) → RecoversIn r jobs carry restarts t j
-  recovers_in again t j run clear = record {
+    -- NO FALL, AND NOTHING BROKEN, from the bound of a recovery on
+    abbrev pub TellsAt : List CycleView → Type 0
+    TellsAt [] = Unit {0}
+    TellsAt (t ∷ j) = length before + recovery_bound r ≤ length j → TellsNoFall t
+
+    pub tells_after : (cycles : List CycleView) → IsRun r jobs carry restarts (cycles ++ lost ∷ before) → IsClear (cycles ++ lost ∷ before) → AreUndisturbed r carry restarts cycles (lost ∷ before) → TellsAt (cycles ++ lost ∷ before)
+    tells_after cycles run clear calm = by (fell_or_not cycles calm)
+      where
+        stays_at : (l : List CycleView) → IsRun r jobs carry restarts (l ++ lost ∷ before) → IsClear (l ++ lost ∷ before) → AreUndisturbed r carry restarts l (lost ∷ before) → NoneFalls r jobs carry restarts l (lost ∷ before) → TellsAt (l ++ lost ∷ before)
+        stays_at [] run clear calm stays = λ long. absurd (let room_is = room started r some_drive in omega (arith, long, room_is))
+        stays_at (t ∷ l) run clear calm stays = λ long. tells_in laws more r jobs carry restarts opened t (l ++ lost ∷ before) run clear calm.1 stays.1
+
+        fell_then : (newer : List CycleView) (one : CycleView) (older : List CycleView) → IsRun r jobs carry restarts (newer ++ one ∷ (older ++ lost ∷ before)) → IsClear (newer ++ one ∷ (older ++ lost ∷ before))
+            → AreUndisturbed r carry restarts newer (one ∷ (older ++ lost ∷ before)) → AreUndisturbed r carry restarts (one ∷ older) (lost ∷ before) → NoneFalls r jobs carry restarts older (lost ∷ before)
+            → is_some (fall_of (known_of r) (behind_mdt r jobs carry restarts one.sent (older ++ lost ∷ before))) ≡ true → TellsAt (newer ++ one ∷ (older ++ lost ∷ before))
+        fell_then [] one older run clear calm calm_then stays falls = λ long. absurd (let soon_is = falls_in one older run clear calm_then stays falls in omega (arith, long, soon_is))
+        fell_then (t ∷ newer) one older run clear calm calm_then stays falls = λ long. tells_in laws more r jobs carry restarts opened t (newer ++ one ∷ (older ++ lost ∷ before)) run clear calm.1
+            (stays_up r jobs carry restarts (t ∷ newer) (one ∷ (older ++ lost ∷ before)) opened run clear (at_fall r jobs carry restarts one (older ++ lost ∷ before) falls).0 calm).stays.1
+
+        by : NoneFalls r jobs carry restarts cycles (lost ∷ before) ⊎ IsFell (cycles ++ lost ∷ before) → TellsAt (cycles ++ lost ∷ before)
+        by (inl stays) = stays_at cycles run clear calm stays
+        by (inr x) = subst TellsAt (sym x.is) (fell_then x.newer x.one x.older (subst (λ (l : List CycleView). IsRun r jobs carry restarts l) x.is run) (subst (λ (l : List CycleView). IsClear l) x.is clear) x.calm x.calm_then x.stays x.falls)
+
+  -- WHAT IS LEFT of the requests to a drive
+  module _ (works_four : WorksInFour) (always : OpensAlways) (said : SaysShape) (ends_in : (busy : ℕ) → RecoversInTime busy) (late_answers : (busy : ℕ) → NoneLate busy) (stand : (busy : ℕ) → StandsThroughout busy) (hear : (busy : ℕ) → HearsThroughout busy)
+      (reaches : ComesToPhaseFour) (k : ℕ) (below : k < length r.drives) (n i : ℕ) where
+    abbrev left_now : List CycleView → ℕ
+    left_now j = length (left_after r jobs carry restarts j k)
+
+    -- no more than before some undisturbed cycles
+    left_fewer : (cycles base : List CycleView) → IsRun r jobs carry restarts (cycles ++ base) → IsClear (cycles ++ base) → AreUndisturbed r carry restarts cycles base → left_now (cycles ++ base) ≤ left_now base
+    left_fewer cycles base run clear calm =
+        let told = told_since laws more r jobs carry restarts opened k below cycles base run clear calm in
+        let all = ap (λ (l : List (Option ℕ)). length l) told.is in
+        let parts = length-append told.numbers (left_after r jobs carry restarts (cycles ++ base) k) in
+        omega (arith, all, parts)
+
+    waiting_few : (j : List CycleView) → StartsEpoch r jobs carry restarts j → left_now j ≤ n + suc i → length (waiting_after r jobs carry restarts j k) ≤ n + suc i
+    waiting_few j starts enough =
+        let first = ap (λ (l : List (Option ℕ)). length l) (left_first laws more r jobs carry restarts opened k below j starts) in
+        let numbers = numbers_long (waiting_after r jobs carry restarts j k) in omega (arith, first, numbers, enough)
+
+    -- WITHOUT A FALL, from a first cycle of phase 2 or later on after which no drive is in phase 0
+    module _ (first : CycleView) (older : List CycleView) (late : 2 ≤ first.phase) (up : (d : ℕ) → d < length r.drives → IsDown r jobs carry restarts d (first ∷ older) → ⊥) where
+      on_since : (newer : List CycleView) → IsRun r jobs carry restarts (newer ++ first ∷ older) → IsClear (newer ++ first ∷ older) → IsStretch r jobs carry restarts newer first older → AreOn r jobs carry restarts newer (first ∷ older)
+      on_since [] run clear stretch = tt
+      on_since (u ∷ newer) run clear stretch = (
+        on_since newer run.0 clear.0 (shorter laws more turn r jobs carry restarts opened u newer first older stretch),
+        on_now laws more turn early works works_three r jobs carry restarts opened dead ages counts recovers since timed sections reads_cost writes_cost list_costs started below_greatest first older late up u newer run clear stretch,
+      )
+
+      stays_since : (cycles rest : List CycleView) → AreOn r jobs carry restarts cycles rest → NoneFalls r jobs carry restarts cycles rest
+      stays_since [] rest on = tt
+      stays_since (u ∷ cycles) rest on = (stays_since cycles rest on.0, on.1.stays)
+
+      module _ (t : CycleView) (newer : List CycleView) (run : IsRun r jobs carry restarts (t ∷ (newer ++ first ∷ older))) (clear : IsClear (t ∷ (newer ++ first ∷ older))) (stretch : IsStretch r jobs carry restarts (t ∷ newer) first older)
+          (four : t.phase ≡ 4) (base : List CycleView) (most : length older ≤ length base + 1 + length r.drives) (long : length base + recovery_bound r + suc i * request_cycles r k ≤ suc (length (newer ++ first ∷ older))) where
+        on : AreOn r jobs carry restarts (t ∷ newer) (first ∷ older)
+        on = on_since (t ∷ newer) run clear stretch
+
+        long_newer : startup_bound r + 41 * (slowest r.drives + 2) + suc i * request_cycles r k ≤ length newer
+        long_newer = let parts = length-append newer (first ∷ older) in let room_is = room started r some_drive in omega (arith, parts, room_is, most, long)
+
+        c : IsCut r jobs carry restarts (suc i * request_cycles r k) newer (first ∷ older)
+        c = cut r jobs carry restarts newer (first ∷ older) (suc i * request_cycles r k) (let enough = long_newer in let some = within_bound started r in omega (arith, enough, some)) on.0 stretch.calm.0
+
+        run_cut : IsRun r jobs carry restarts (t ∷ (c.newer ++ c.one ∷ (c.older ++ first ∷ older)))
+        run_cut = subst (λ (l : List CycleView). IsRun r jobs carry restarts (t ∷ l)) c.is run
+
+        clear_cut : IsClear (t ∷ (c.newer ++ c.one ∷ (c.older ++ first ∷ older)))
+        clear_cut = subst (λ (l : List CycleView). IsClear (t ∷ l)) c.is clear
+
+        on_cut : AreOn r jobs carry restarts (t ∷ c.newer) (c.one ∷ (c.older ++ first ∷ older))
+        on_cut = (c.on, subst (λ (l : List CycleView). IsOn r jobs carry restarts t l) c.is on.1)
+
+        one_run : IsRun r jobs carry restarts (c.one ∷ (c.older ++ first ∷ older)) × IsClear (c.one ∷ (c.older ++ first ∷ older))
+        one_run = run_rest r jobs carry restarts (t ∷ c.newer) (c.one ∷ (c.older ++ first ∷ older)) run_cut clear_cut
+
+        -- phase 4 has come by then: there is no stop, since there is none in the newest cycle
+        none_then : (behind_mdt r jobs carry restarts c.one.sent (c.older ++ first ∷ older)).stop ≡ None
+        none_then = sym (stop_after r jobs carry restarts c.one (c.older ++ first ∷ older) c.on_older.1.stays)
+            ∙ none_along r jobs carry restarts (t ∷ c.newer) (c.one ∷ (c.older ++ first ∷ older)) on_cut
+            (stop_after r jobs carry restarts t (c.newer ++ c.one ∷ (c.older ++ first ∷ older)) on_cut.1.stays ∙ none_four r jobs carry restarts t (c.newer ++ c.one ∷ (c.older ++ first ∷ older)) opened run_cut clear_cut four)
+
+        one_four : c.one.phase ≡ 4
+        one_four = elim (comes_back laws more turn early works works_three r jobs carry restarts opened dead ages counts recovers since timed sections reads_cost writes_cost list_costs started below_greatest first older late up c.one c.older one_run.0 one_run.1
+            (record { calm = c.calm; stays = stays_since (c.one ∷ c.older) (first ∷ older) c.on_older; first_calm = stretch.first_calm; first_stays = stretch.first_stays })
+            (let rest = c.rest in let enough = long_newer in omega (arith, rest, enough))) [
+              | inl is ↦ is
+              | inr stop ↦ absurd (false≢true (sym (ap (λ (o : Option Stop). is_some o) none_then) ∙ stop))
+            ]
+
+        -- the cycles up to it that come after others
+        before_it : (xs : List CycleView) → xs ++ base ≡ t ∷ (newer ++ first ∷ older) → AreUndisturbed r carry restarts xs base → IsSuffix r carry restarts base (c.one ∷ (c.older ++ first ∷ older))
+        before_it xs is calm = suffix r carry restarts xs base (t ∷ c.newer) (c.one ∷ (c.older ++ first ∷ older)) (is ∙ ap (λ (l : List CycleView). t ∷ l) c.is)
+            (let rest = c.rest in let parts = length-append newer (first ∷ older) in let parts_older = length-append c.older (first ∷ older) in let room_is = room started r some_drive in omega (arith, rest, parts, parts_older, room_is, long)) calm
+
+        left_then : (xs : List CycleView) → xs ++ base ≡ t ∷ (newer ++ first ∷ older) → AreUndisturbed r carry restarts xs base → left_now (c.one ∷ (c.older ++ first ∷ older)) ≤ left_now base
+        left_then xs is calm = by (before_it xs is calm)
+          where
+            by : IsSuffix r carry restarts base (c.one ∷ (c.older ++ first ∷ older)) → left_now (c.one ∷ (c.older ++ first ∷ older)) ≤ left_now base
+            by s = subst (λ (l : List CycleView). left_now l ≤ left_now base) (sym s.is)
+                (left_fewer s.mid base (subst (λ (l : List CycleView). IsRun r jobs carry restarts l) s.is one_run.0) (subst (λ (l : List CycleView). IsClear l) s.is one_run.1) s.calm)
+
+        pub left_up : (xs : List CycleView) → xs ++ base ≡ t ∷ (newer ++ first ∷ older) → AreUndisturbed r carry restarts xs base → left_now base ≤ n + suc i → left_now (t ∷ (newer ++ first ∷ older)) ≤ n
+        left_up xs is calm enough = subst (λ (l : List CycleView). left_now (t ∷ l) ≤ n) (sym c.is)
+            (left_in_time laws more comes_up works_four always said timed ends_in since none_four r jobs carry restarts opened k below t c.newer c.one (c.older ++ first ∷ older) run_cut clear_cut on_cut c.calm_newer c.on_older.1 one_four four n i
+            (let count = c.long in omega (arith, count)) (let few = left_then xs is calm in omega (arith, few, enough)))
+
+    -- AFTER THE LAST DISTURBED CYCLE
+    module _ (lost : CycleView) (before : List CycleView) where
+      -- in the newest cycle, if it is commanded phase 4 and that late
+      abbrev LeftAt : List CycleView → Type 0
+      LeftAt [] = Unit {0}
+      LeftAt (t ∷ j) = t.phase ≡ 4 → length before + recovery_bound r + suc i * request_cycles r k ≤ length j → left_now (lost ∷ before) ≤ n + suc i → left_now (t ∷ j) ≤ n
+
+      start_left : (cycles : List CycleView) → IsRun r jobs carry restarts (cycles ++ lost ∷ before) → IsClear (cycles ++ lost ∷ before) → StartsEpoch r jobs carry restarts (lost ∷ before) → AreUndisturbed r carry restarts cycles (lost ∷ before)
+          → LeftAt (cycles ++ lost ∷ before)
+      start_left [] run clear starts calm = λ four long enough. absurd (let room_is = room started r some_drive in omega (arith, long, room_is))
+      start_left (t ∷ cycles) run clear starts calm = λ four long enough.
+          left_in_epoch laws more turn comes_up late_answers stand hear works_four always said timed ends_in since reaches none_four r jobs carry restarts opened t cycles (lost ∷ before) run clear starts calm four k below n i
+          (let parts = length-append cycles (lost ∷ before) in let room_is = room started r some_drive in omega (arith, parts, room_is, long)) (waiting_few (lost ∷ before) starts enough)
+
+      -- with the first undisturbed cycle
+      late_left : (newer : List CycleView) (first : CycleView) → IsRun r jobs carry restarts (newer ++ first ∷ lost ∷ before) → IsClear (newer ++ first ∷ lost ∷ before) → IsStretch r jobs carry restarts newer first (lost ∷ before) → 2 ≤ first.phase
+          → (xs : List CycleView) → xs ++ lost ∷ before ≡ newer ++ first ∷ lost ∷ before → AreUndisturbed r carry restarts xs (lost ∷ before) → LeftAt (newer ++ first ∷ lost ∷ before)
+      late_left [] first run clear stretch late xs is calm = λ four long enough. absurd (let room_is = room started r some_drive in omega (arith, long, room_is))
+      late_left (t ∷ newer) first run clear stretch late xs is calm = λ four long enough.
+          left_up first (lost ∷ before) late (never four long) t newer run clear stretch four (lost ∷ before) (omega arith) (omega (arith, long)) xs is calm enough
+        where
+          never : t.phase ≡ 4 → length before + recovery_bound r + suc i * request_cycles r k ≤ length (newer ++ first ∷ lost ∷ before) → (d : ℕ) → d < length r.drives → IsDown r jobs carry restarts d (first ∷ lost ∷ before) → ⊥
+          never four long d there down =
+              let spared = falls_in_time laws more turn early works r jobs carry restarts opened dead ages counts recovers since timed sections reads_cost writes_cost d there (t ∷ newer) first (lost ∷ before) run clear stretch late
+              (stop_after r jobs carry restarts t (newer ++ first ∷ lost ∷ before) stretch.stays.1 ∙ none_four r jobs carry restarts t (newer ++ first ∷ lost ∷ before) opened run clear four) down in
+              let few = spared.few in
+              let parts = length-append newer (first ∷ lost ∷ before) in
+              let most = later r spared.earlier spared.later spared.one (length before) (length before + 67 + sum_by section_cycles (spared.earlier ++ spared.later))
+              (length before + 67 + sum_by section_cycles (spared.earlier ++ spared.later) + 1 + startup_bound r + 41 * (slowest r.drives + 2)) spared.are slow (omega arith) (omega arith) in
+              omega (arith, few, parts, most, long)
+
+      entered_left : (newer : List CycleView) (two : CycleView) (older : List CycleView) → IsRun r jobs carry restarts (newer ++ two ∷ older) → IsClear (newer ++ two ∷ older) → IsStretch r jobs carry restarts newer two older → two.phase ≡ 2
+          → length older ≤ length before + 2 + length r.drives → ((d : ℕ) → d < length r.drives → IsDown r jobs carry restarts d (two ∷ older) → ⊥)
+          → (xs : List CycleView) → xs ++ lost ∷ before ≡ newer ++ two ∷ older → AreUndisturbed r carry restarts xs (lost ∷ before) → LeftAt (newer ++ two ∷ older)
+      entered_left [] two older run clear stretch is_two most up xs is calm = λ four long enough. absurd (let room_is = room started r some_drive in omega (arith, long, most, room_is))
+      entered_left (t ∷ newer) two older run clear stretch is_two most up xs is calm = λ four long enough.
+          left_up two older (omega (arith, is_two)) up t newer run clear stretch four (lost ∷ before) (omega (arith, most)) (omega (arith, long)) xs is calm enough
+
+      one_left : (newer : List CycleView) (first : CycleView) → IsRun r jobs carry restarts (newer ++ first ∷ lost ∷ before) → IsClear (newer ++ first ∷ lost ∷ before) → IsStretch r jobs carry restarts newer first (lost ∷ before) → first.phase ≡ 1
+          → (xs : List CycleView) → xs ++ lost ∷ before ≡ newer ++ first ∷ lost ∷ before → AreUndisturbed r carry restarts xs (lost ∷ before) → LeftAt (newer ++ first ∷ lost ∷ before)
+      one_left newer first run clear stretch one xs is calm = elim (early_or_entered laws more turn comes_up r jobs carry restarts opened first (lost ∷ before) one newer run clear stretch) [
+        | inl few ↦ short newer few
+        | inr e ↦ subst LeftAt (sym e.is) (entered_left e.newer e.two e.older (subst (λ (l : List CycleView). IsRun r jobs carry restarts l) e.is run) (subst (λ (l : List CycleView). IsClear l) e.is clear) e.stretch e.phase_is
+            (let most = e.few in omega (arith, most)) e.up xs (is ∙ e.is) calm)
+      ]
+        where
+          short : (l : List CycleView) → length l ≤ length r.drives → LeftAt (l ++ first ∷ lost ∷ before)
+          short [] few = λ four long enough. absurd (let room_is = room started r some_drive in omega (arith, long, room_is))
+          short (t ∷ l) few = λ four long enough. absurd (let room_is = room started r some_drive in let length_is = length-append l (first ∷ lost ∷ before) in omega (arith, long, few, room_is, length_is))
+
+      none_falls_left : (cycles : List CycleView) → IsRun r jobs carry restarts (cycles ++ lost ∷ before) → IsClear (cycles ++ lost ∷ before) → AreUndisturbed r carry restarts cycles (lost ∷ before) → NoneFalls r jobs carry restarts cycles (lost ∷ before)
+          → LeftAt (cycles ++ lost ∷ before)
+      none_falls_left [] run clear calm stays = λ four long enough. absurd (let room_is = room started r some_drive in omega (arith, long, room_is))
+      none_falls_left (u ∷ cycles) run clear calm stays = by (first_of lost before u cycles calm stays)
+        where
+          by : IsOpenedBy lost before (u ∷ (cycles ++ lost ∷ before)) → LeftAt (u ∷ (cycles ++ lost ∷ before))
+          by o =
+              let run_is : IsRun r jobs carry restarts (o.newer ++ o.first ∷ lost ∷ before) = subst (λ (l : List CycleView). IsRun r jobs carry restarts l) o.is run in
+              let clear_is : IsClear (o.newer ++ o.first ∷ lost ∷ before) = subst (λ (l : List CycleView). IsClear l) o.is clear in
+              elim (cases_lt 1 o.first.phase) [
+                | inl late ↦ subst LeftAt (sym o.is) (late_left o.newer o.first run_is clear_is o.stretch (omega (arith, late)) (u ∷ cycles) o.is calm)
+                | inr low ↦ elim (cases_eq o.first.phase 1) [
+                  | inl one ↦ subst LeftAt (sym o.is) (one_left o.newer o.first run_is clear_is o.stretch one (u ∷ cycles) o.is calm)
+                  | inr other ↦ start_left (u ∷ cycles) run clear (zero_at_first lost before o.newer o.first run_is o.stretch.first_calm (omega (arith, low, other))) calm
+                ]
+              ]
+
+      -- with a fall
+      fell_left : (newer : List CycleView) (one : CycleView) (older : List CycleView) → IsRun r jobs carry restarts (newer ++ one ∷ (older ++ lost ∷ before)) → IsClear (newer ++ one ∷ (older ++ lost ∷ before))
+          → AreUndisturbed r carry restarts newer (one ∷ (older ++ lost ∷ before)) → AreUndisturbed r carry restarts (one ∷ older) (lost ∷ before) → NoneFalls r jobs carry restarts older (lost ∷ before)
+          → is_some (fall_of (known_of r) (behind_mdt r jobs carry restarts one.sent (older ++ lost ∷ before))) ≡ true → LeftAt (newer ++ one ∷ (older ++ lost ∷ before))
+      fell_left [] one older run clear calm calm_then stays falls = λ four long enough. absurd (let soon_is = falls_in lost before one older run clear calm_then stays falls in omega (arith, long, soon_is))
+      fell_left (t ∷ newer) one older run clear calm calm_then stays falls = λ four long enough.
+          let run_then = rest_runs r jobs carry restarts (t ∷ newer) (one ∷ (older ++ lost ∷ before)) run in
+          let clear_then = rest_clear (t ∷ newer) (one ∷ (older ++ lost ∷ before)) clear in
+          let starts = (at_fall r jobs carry restarts one (older ++ lost ∷ before) falls).0 in
+          let soon_is = falls_in lost before one older run_then clear_then calm_then stays falls in
+          let length_is = length-append newer (one ∷ (older ++ lost ∷ before)) in
+          let few = left_fewer (one ∷ older) (lost ∷ before) run_then clear_then calm_then in
+          left_in_epoch laws more turn comes_up late_answers stand hear works_four always said timed ends_in since reaches none_four r jobs carry restarts opened t newer (one ∷ (older ++ lost ∷ before)) run clear starts calm four k below n i
+          (omega (arith, soon_is, length_is, long)) (waiting_few (one ∷ (older ++ lost ∷ before)) starts (omega (arith, few, enough)))
+
+      pub left_at_last : (cycles : List CycleView) → IsRun r jobs carry restarts (cycles ++ lost ∷ before) → IsClear (cycles ++ lost ∷ before) → AreUndisturbed r carry restarts cycles (lost ∷ before) → LeftAt (cycles ++ lost ∷ before)
+      left_at_last cycles run clear calm = by (fell_or_not lost before cycles calm)
+        where
+          by : NoneFalls r jobs carry restarts cycles (lost ∷ before) ⊎ IsFell lost before (cycles ++ lost ∷ before) → LeftAt (cycles ++ lost ∷ before)
+          by (inl stays) = none_falls_left cycles run clear calm stays
+          by (inr x) = subst LeftAt (sym x.is) (fell_left x.newer x.one x.older (subst (λ (l : List CycleView). IsRun r jobs carry restarts l) x.is run) (subst (λ (l : List CycleView). IsClear l) x.is clear) x.calm x.calm_then x.stays x.falls)
+
+  -- SO THE REQUESTS THAT WERE LEFT ARE REPORTED IN TIME.
+  module _ (works_four : WorksInFour) (always : OpensAlways) (said : SaysShape) (ends_in : (busy : ℕ) → RecoversInTime busy) (late_answers : (busy : ℕ) → NoneLate busy) (stand : (busy : ℕ) → StandsThroughout busy) (hear : (busy : ℕ) → HearsThroughout busy)
+      (reaches : ComesToPhaseFour) (lost : CycleView) (before : List CycleView) where
+    reports_after : (t : CycleView) (cycles : List CycleView) → IsRun r jobs carry restarts (t ∷ (cycles ++ lost ∷ before)) → IsClear (t ∷ (cycles ++ lost ∷ before)) → AreUndisturbed r carry restarts (t ∷ cycles) (lost ∷ before) → t.phase ≡ 4
+        → (k i : ℕ) (x : Option ℕ) → k < length r.drives → slice_get (left_after r jobs carry restarts (lost ∷ before) k) i ≡ Some x → length before + recovery_bound r + (i + 1) * request_cycles r k ≤ length (cycles ++ lost ∷ before)
+        → (number : ℕ) × (x ≡ Some number) × HaveTold (t ∷ cycles) number
+    reports_after t cycles run clear calm four k i x below got long =
+        told_there (t ∷ cycles) told.numbers i x told.all (sym (get_left told.numbers (left_after r jobs carry restarts (t ∷ (cycles ++ lost ∷ before)) k) i early_is) ∙ ap (λ (l : List (Option ℕ)). slice_get l i) told.is ∙ got)
+      where
+        told : IsTold laws more r jobs carry restarts opened k below (t ∷ cycles) (lost ∷ before)
+        told = told_since laws more r jobs carry restarts opened k below (t ∷ cycles) (lost ∷ before) run clear calm
+
+        low : i < length (left_after r jobs carry restarts (lost ∷ before) k)
+        low = slice_get_within (left_after r jobs carry restarts (lost ∷ before) k) i x got
+
+        rest : (n : ℕ) × (length (left_after r jobs carry restarts (lost ∷ before) k) ≡ suc i + n)
+        rest = beyond (suc i) (length (left_after r jobs carry restarts (lost ∷ before) k)) (omega (arith, low))
+
+        few : length (left_after r jobs carry restarts (t ∷ (cycles ++ lost ∷ before)) k) ≤ rest.0
+        few = left_at_last works_four always said ends_in late_answers stand hear reaches k below rest.0 i lost before (t ∷ cycles) run clear calm four
+            (let same : (i + 1) * request_cycles r k ≡ suc i * request_cycles r k = grind arith in omega (arith, same, long)) (let count = rest.1 in omega (arith, count))
+
+        early_is : i < length told.numbers
+        early_is =
+            let all = ap (λ (l : List (Option ℕ)). length l) told.is in
+            let parts = length-append told.numbers (left_after r jobs carry restarts (t ∷ (cycles ++ lost ∷ before)) k) in
+            let count = rest.1 in let least = few in omega (arith, least, count, all, parts)
+
+    pub reports_now : (t : CycleView) (j cycles : List CycleView) → IsRun r jobs carry restarts (t ∷ j) → IsClear (t ∷ j) → j ≡ cycles ++ lost ∷ before → AreUndisturbed r carry restarts (t ∷ cycles) (lost ∷ before) → t.phase ≡ 4
+        → (k i : ℕ) (x : Option ℕ) → k < length r.drives → slice_get (left_after r jobs carry restarts (lost ∷ before) k) i ≡ Some x → length before + recovery_bound r + (i + 1) * request_cycles r k ≤ length j
+        → (number : ℕ) × (x ≡ Some number) × HaveTold (t ∷ cycles) number
+    reports_now t j cycles run clear is calm four k i x below got long =
+        reports_after t cycles (subst (λ (l : List CycleView). IsRun r jobs carry restarts (t ∷ l)) is run) (subst (λ (l : List CycleView). IsClear (t ∷ l)) is clear) calm four k i x below got
+        (subst (λ (l : List CycleView). length before + recovery_bound r + (i + 1) * request_cycles r k ≤ length l) is long)
+
+  pub recovers_in : AfterFall → WorksInFour → OpensAlways → SaysShape → ((busy : ℕ) → RecoversInTime busy) → ((busy : ℕ) → NoneLate busy) → ((busy : ℕ) → StandsThroughout busy) → ((busy : ℕ) → HearsThroughout busy) → ComesToPhaseFour
+      → (t : CycleView) (j : List CycleView) → IsRun r jobs carry restarts (t ∷ j) → IsClear (t ∷ j) → RecoversIn r jobs carry restarts t j
+  recovers_in again works_four always said ends_in late_answers stand hear reaches t j run clear = record {
     after_fall = λ cycles before f x is calm told. again r jobs carry restarts t f cycles before x opened (subst (λ (l : List CycleView). IsRun r jobs carry restarts (t ∷ l)) is run) (subst (λ (l : List CycleView). IsClear (t ∷ l)) is clear) calm told;
     back = λ cycles before lost is calm long. subst (λ (l : List CycleView). IsBack r t l) (sym is)
         (back_after lost before (t ∷ cycles) (subst (λ (l : List CycleView). IsRun r jobs carry restarts (t ∷ l)) is run) (subst (λ (l : List CycleView). IsClear (t ∷ l)) is clear) calm (subst (λ (l : List CycleView). length before + recovery_bound r ≤ length l) is long));
+    tells = λ cycles before lost is calm long. tells_after lost before (t ∷ cycles) (subst (λ (l : List CycleView). IsRun r jobs carry restarts (t ∷ l)) is run) (subst (λ (l : List CycleView). IsClear (t ∷ l)) is clear) calm
+        (subst (λ (l : List CycleView). length before + recovery_bound r ≤ length l) is long);
+    reports = λ cycles before lost is calm four k i x below got long. reports_now works_four always said ends_in late_answers stand hear reaches lost before t j cycles run clear is calm four k i x below got long;
   }

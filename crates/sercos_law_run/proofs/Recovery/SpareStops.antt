@@ -275,8 +275,8 @@ module _ (laws : Laws) (more : MoreLaws) (turn : WorkInTurn) (early : BeginsNone
           by : t.phase ≤ 2 → (o : Option Stop) → (behind_mdt r jobs carry restarts t.sent (cycles ++ first ∷ before)).stop ≡ o → IsSpared r 63 (length cycles)
           by low None none = few_in_two laws more turn early works r jobs carry restarts opened dead ages counts recovers since timed sections reads_cost writes_cost d there t cycles first before run.0 clear.0 earlier late low none down
           by low (Some y) is = absurd (no_rise_with y
-              (stops_two r jobs carry restarts t (cycles ++ first ∷ before) y opened run.0 clear.0 stretch.stays.0.1 phases.0 is) (behind_mdt r jobs carry restarts u.sent (t ∷ (cycles ++ first ∷ before)))
-              (stops_three r jobs carry restarts u (t ∷ (cycles ++ first ∷ before)) y opened run clear stretch.stays.1 phases.1 kept))
+              (stops_two r jobs carry restarts t (cycles ++ first ∷ before) y opened run.0 clear.0 phases.0 is) (behind_mdt r jobs carry restarts u.sent (t ∷ (cycles ++ first ∷ before)))
+              (stops_three r jobs carry restarts u (t ∷ (cycles ++ first ∷ before)) y opened run clear phases.1 kept))
             where
               phases : (t.phase ≡ 2) × (u.phase ≡ 3)
               phases = elim (phase_after laws more turn r jobs carry restarts opened u t (cycles ++ first ∷ before) run clear stretch.stays.0.1 quiet d there) [

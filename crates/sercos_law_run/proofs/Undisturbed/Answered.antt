@@ -40,7 +40,7 @@ use Rattle.sercos_law_run.specs.Held.Opened.{IsOpened}
 use Rattle.sercos_law_run.proofs.Held.Runs.{Laws, small}
 use Rattle.sercos_law_run.specs.Headline.Headline.{KeepsAll}
 use Rattle.sercos_law_run.proofs.Headline.HeadlineRuns.{MoreLaws, all_stand, first_store, keeps_all}
-use Rattle.sercos_law_run.specs.Undisturbed.Undisturbed.{AreUndisturbed}
+use Rattle.sercos_law_run.specs.Undisturbed.Undisturbed.{AreUndisturbed, IsUndisturbed}
 use Rattle.sercos_law_run.specs.Undisturbed.EpochStarts.{StartsEpoch}
 use Rattle.sercos_law_run.specs.Undisturbed.ViewsSince.{views_since}
 use Rattle.sercos_law_run.specs.Undisturbed.StartUps.{TellsNoFall}
@@ -83,6 +83,32 @@ no_fall_told s p e none before = rw (none, before) refl
 quiet_so : (r : RingView) (jobs : List Job) (restarts : Restarts) (cycle : ℕ) (h : List Call) → restarts cycle 0 ≡ false → restart_events r jobs restarts cycle h ≡ no_events
 quiet_so r jobs restarts cycle h stays = rw stays refl
 
+-- AN UNDISTURBED CYCLE AT WHOSE END THE RING DOESN'T FALL: its record has no fall, and no outcome of a broken request.
+module _ (laws : Laws) (more : MoreLaws) (r : RingView) (jobs : List Job) (carry : Carry) (restarts : Restarts) (opened : IsOpened r jobs) where
+  pub tells_in : (t : CycleView) (j : List CycleView) → IsRun r jobs carry restarts (t ∷ j) → IsClear (t ∷ j) → IsUndisturbed r carry restarts t j → fall_of (known_of r) (behind_mdt r jobs carry restarts t.sent j) ≡ None → TellsNoFall t
+  tells_in t j run clear calm none = record {
+    fall = ap (λ (e : EventsView). e.fall) run.1.events ∙ no_fall_told (known_of r) (behind_mdt r jobs carry restarts t.sent j) (restart_events r jobs restarts (length j) (master_calls r carry restarts j)) none (ap (λ (e : EventsView). e.fall) quiet);
+    unbroken = λ number told. unbroken number ((keeps.reported.events number outcome.Broken).0 told);
+  }
+    where
+      quiet : restart_events r jobs restarts (length j) (master_calls r carry restarts j) ≡ no_events
+      quiet = quiet_so r jobs restarts (length j) (master_calls r carry restarts j) (none_below (length r.drives + 1) (restarts (length j)) (both_off _ _ calm).0 0 (omega arith))
+
+      keeps : KeepsAll r jobs carry restarts t j
+      keeps = keeps_all laws more r jobs carry restarts opened t j run clear
+
+      ended_so : (k number : ℕ) (o : Option Report) → k < length r.drives → (behind_mdt r jobs carry restarts t.sent j).now.report k ≡ o → HasReport (with_told o []) number outcome.Broken → ⊥
+      ended_so k number None below is told = told
+      ended_so k number (Some x) below is (inl same) = not_broken x (begun_by ((behind_mdt r jobs carry restarts t.sent j).calls k)) ((behind_mdt r jobs carry restarts t.sent j).tasks k) same.1 (keeps.reported.right k x below is)
+      ended_so k number (Some x) below is (inr more) = more
+
+      unbroken : (number : ℕ) → (HasOutcome (restart_events r jobs restarts (length j) (master_calls r carry restarts j)).outcomes number outcome.Broken
+          ⊎ ((k : ℕ) × (k < length (known_of r).drives) × HasReport (told_at_end (is_some (fall_of (known_of r) (behind_mdt r jobs carry restarts t.sent j))) ((behind_mdt r jobs carry restarts t.sent j).now.report k)
+          (broken (behind_mdt r jobs carry restarts t.sent j) k) []) number outcome.Broken)) → ⊥
+      unbroken number (inl told) = subst (λ (e : EventsView). HasOutcome e.outcomes number outcome.Broken) quiet told
+      unbroken number (inr (k, below, told)) = ended_so k number _ (let count = members_count r in omega (arith, below, count)) refl (subst (λ (o : Option Fall). HasReport (told_at_end (is_some o) ((behind_mdt r jobs carry restarts t.sent j).now.report k)
+          (broken (behind_mdt r jobs carry restarts t.sent j) k) []) number outcome.Broken) none told)
+
 module _ (laws : Laws) (more : MoreLaws) (turn : WorkInTurn) (comes_up : (busy : ℕ) → ComesUp busy) (late : (busy : ℕ) → NoneLate busy) (r : RingView) (jobs : List Job) (carry : Carry) (restarts : Restarts) (opened : IsOpened r jobs) where
   -- No step gets older than busy time and one cycle ..
   clean_so : ((busy : ℕ) → StaysClean busy) → (cycles before : List CycleView) → IsRun r jobs carry restarts (cycles ++ before) → IsClear (cycles ++ before) → StartsEpoch r jobs carry restarts before
@@ -116,34 +142,11 @@ module _ (laws : Laws) (more : MoreLaws) (turn : WorkInTurn) (comes_up : (busy :
       (runs_split laws more r jobs carry restarts opened (t ∷ cycles) before run clear k below) (begins_so laws more r jobs carry restarts opened (t ∷ cycles) before run clear starts k below).1 (clean_so clean cycles before run.0 clear.0 starts calm.0 k below) (all.whole k below).1.master hears
       (subst (λ (l : List View). answers_it (epoch_begun l) a.status ≡ true) split fits)
 
-  -- No record has a fall, or an outcome of a broken request.
+  -- So it is in an undisturbed epoch.
   pub tells_no_fall : (t : CycleView) (cycles before : List CycleView) → IsRun r jobs carry restarts (t ∷ (cycles ++ before)) → IsClear (t ∷ (cycles ++ before)) → StartsEpoch r jobs carry restarts before
       → AreUndisturbed r carry restarts (t ∷ cycles) before → TellsNoFall t
-  tells_no_fall t cycles before run clear starts calm = record {
-    fall = ap (λ (e : EventsView). e.fall) run.1.events ∙ no_fall_told (known_of r) (behind_mdt r jobs carry restarts t.sent (cycles ++ before)) (restart_events r jobs restarts (length (cycles ++ before)) (master_calls r carry restarts (cycles ++ before))) none (ap (λ (e : EventsView). e.fall) quiet);
-    unbroken = λ number told. unbroken number ((keeps.reported.events number outcome.Broken).0 told);
-  }
-    where
-      none : fall_of (known_of r) (behind_mdt r jobs carry restarts t.sent (cycles ++ before)) ≡ None
-      none = (never_falls laws more turn comes_up late r jobs carry restarts opened (t ∷ cycles) before run clear starts calm).stays.1
-
-      quiet : restart_events r jobs restarts (length (cycles ++ before)) (master_calls r carry restarts (cycles ++ before)) ≡ no_events
-      quiet = quiet_so r jobs restarts (length (cycles ++ before)) (master_calls r carry restarts (cycles ++ before)) (none_below (length r.drives + 1) (restarts (length (cycles ++ before))) (both_off _ _ calm.1).0 0 (omega arith))
-
-      keeps : KeepsAll r jobs carry restarts t (cycles ++ before)
-      keeps = keeps_all laws more r jobs carry restarts opened t (cycles ++ before) run clear
-
-      ended_so : (k number : ℕ) (o : Option Report) → k < length r.drives → (behind_mdt r jobs carry restarts t.sent (cycles ++ before)).now.report k ≡ o → HasReport (with_told o []) number outcome.Broken → ⊥
-      ended_so k number None below is told = told
-      ended_so k number (Some x) below is (inl same) = not_broken x (begun_by ((behind_mdt r jobs carry restarts t.sent (cycles ++ before)).calls k)) ((behind_mdt r jobs carry restarts t.sent (cycles ++ before)).tasks k) same.1 (keeps.reported.right k x below is)
-      ended_so k number (Some x) below is (inr more) = more
-
-      unbroken : (number : ℕ) → (HasOutcome (restart_events r jobs restarts (length (cycles ++ before)) (master_calls r carry restarts (cycles ++ before))).outcomes number outcome.Broken
-          ⊎ ((k : ℕ) × (k < length (known_of r).drives) × HasReport (told_at_end (is_some (fall_of (known_of r) (behind_mdt r jobs carry restarts t.sent (cycles ++ before)))) ((behind_mdt r jobs carry restarts t.sent (cycles ++ before)).now.report k)
-          (broken (behind_mdt r jobs carry restarts t.sent (cycles ++ before)) k) []) number outcome.Broken)) → ⊥
-      unbroken number (inl told) = subst (λ (e : EventsView). HasOutcome e.outcomes number outcome.Broken) quiet told
-      unbroken number (inr (k, below, told)) = ended_so k number _ (let count = members_count r in omega (arith, below, count)) refl (subst (λ (o : Option Fall). HasReport (told_at_end (is_some o) ((behind_mdt r jobs carry restarts t.sent (cycles ++ before)).now.report k)
-          (broken (behind_mdt r jobs carry restarts t.sent (cycles ++ before)) k) []) number outcome.Broken) none told)
+  tells_no_fall t cycles before run clear starts calm =
+      tells_in laws more r jobs carry restarts opened t (cycles ++ before) run clear calm.1 (never_falls laws more turn comes_up late r jobs carry restarts opened (t ∷ cycles) before run clear starts calm).stays.1
 
   -- The cycles with an open step are at most the cost of the requests.
   pub costs_undisturbed : ((busy : ℕ) → StartsInCost busy) → ComesTimed → (cycles before : List CycleView) → IsRun r jobs carry restarts (cycles ++ before) → IsClear (cycles ++ before)

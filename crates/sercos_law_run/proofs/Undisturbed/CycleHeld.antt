@@ -18,7 +18,8 @@ use Rattle.sercos_law_channel.specs.Handshake.WholeRun.{all_writes}
 use Rattle.sercos_law_run.specs.Agenda.Writes.{IsConfigured, IsWrittenLast}
 use Rattle.sercos_law_run.proofs.Held.StoreOf.{store_of_so}
 use Rattle.sercos_law_run.specs.Undisturbed.StopsInTwo.{IsWithin}
-use Rattle.sercos_law_run.proofs.Undisturbed.JobsBegun.{begun_now}
+use Rattle.sercos_law_run.proofs.Undisturbed.JobsBegun.{begun_then}
+use Rattle.sercos_law_run.proofs.Settings.NoCheck127.{next_still, stays}
 use Rattle.sercos_timing.specs.Views.{PlanView}
 use Rattle.sercos_block.specs.Blocks.{is_fixed, is_protected}
 use Rattle.sercos_block.specs.BuiltIns.{built_in, built_in_block, row}
@@ -37,7 +38,7 @@ use Rattle.sercos_law_run.proofs.Start.BlockFinds.{find_store_of}
 use Rattle.sercos_law_run.proofs.Start.LimitLemmas.{refuses_cycle}
 use Rattle.sercos_law_run.proofs.Start.CheckPasses.{ring_drive}
 use Rattle.sercos_law_run.specs.Journal.Runs.{drive_at, given_mst, given_before, middle, IsRun, IsClear}
-use Rattle.sercos_law_run.specs.Views.RingViews.{at_start, after_mst, behind_mdt, views_of}
+use Rattle.sercos_law_run.specs.Views.RingViews.{at_start, after_mst, behind_mdt, view_of, views_of}
 use Rattle.sercos_law_run.proofs.Views.Members.{members_count}
 use Rattle.sercos_law_run.specs.Held.Opened.{IsOpened}
 use Rattle.sercos_law_run.proofs.Held.Runs.{Laws, Stands, IsPlannedIn, drive_got, holding, s_known, small}
@@ -165,9 +166,9 @@ module _ (laws : Laws) (more : MoreLaws) (r : RingView) (jobs : List Job) (carry
       (held.0, held.2)
 
   -- A DRIVE WHOSE CHECK FOR PHASE 3 has ended well has taken the cycle time.
-  pub checked_within : (t : CycleView) (j : List CycleView) → IsRun r jobs carry restarts (t ∷ j) → IsClear (t ∷ j) → fall_of (known_of r) (behind_mdt r jobs carry restarts t.sent j) ≡ None → (behind_mdt r jobs carry restarts t.sent j).now.phase ≤ 3
+  pub checked_within : (t : CycleView) (j : List CycleView) → IsRun r jobs carry restarts (t ∷ j) → IsClear (t ∷ j) → (behind_mdt r jobs carry restarts t.sent j).now.phase ≤ 3
       → (k : ℕ) → k < length r.drives → is_checked (member (known_of r) k) (outcomes (behind_mdt r jobs carry restarts t.sent j) k) ≡ true → IsWithin (drive_at r k) r.cycle
-  checked_within t j run clear stays low k below well = let is = limits in ((let a = is.0 in grind (arith, nat_tests, a)), (let b = is.1 in grind (arith, nat_tests, b)))
+  checked_within t j run clear low k below well = let is = limits in ((let a = is.0 in grind (arith, nat_tests, a)), (let b = is.1 in grind (arith, nat_tests, b)))
     where
       p : Past
       p = behind_mdt r jobs carry restarts t.sent j
@@ -191,8 +192,9 @@ module _ (laws : Laws) (more : MoreLaws) (r : RingView) (jobs : List Job) (carry
       found = found_cycle (drive_at r k) rules
 
       newest : newest_to 2 (all_writes (views_of r jobs carry restarts k (t ∷ j))) ≡ Some (stored block (bytes_in (r.cycle ∷ [])))
-      newest = laws.written (drive_at r k).busy (store_of (drive_at r k)) (views_of r jobs carry restarts k (t ∷ j)) last.newer last.older last.one (idn 2) (bytes_in (r.cycle ∷ [])) last.whole block
-          (small laws r jobs carry restarts opened (first_store laws more r jobs carry restarts opened) k below) stands.sees.run stands.sound (sym (begun_now laws more r jobs carry restarts opened t j run clear stays k below) ∙ last.split) last.asks last.complete found last.away
+      newest = laws.written (drive_at r k).busy (store_of (drive_at r k)) (stays (view_of r jobs carry restarts k t j) ∷ views_of r jobs carry restarts k j) last.newer last.older last.one (idn 2) (bytes_in (r.cycle ∷ [])) last.whole block
+          (small laws r jobs carry restarts opened (first_store laws more r jobs carry restarts opened) k below) (stands.sees.run.0, next_still (drive_at r k).busy (view_of r jobs carry restarts k t j) (views_of r jobs carry restarts k j) stands.sees.run.1) stands.sound
+          (sym (begun_then laws more r jobs carry restarts opened t j run clear k below) ∙ last.split) last.asks last.complete found last.away
 
       cycle_small : (1 ≤ r.cycle) × (r.cycle < 65536)
       cycle_small = cycle_some r.cycle (s_known laws r jobs carry restarts opened (first_store laws more r jobs carry restarts opened)).cycles.cycle

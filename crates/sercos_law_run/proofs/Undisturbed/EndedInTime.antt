@@ -1,4 +1,4 @@
--- In phase 4 of an undisturbed epoch the requests to a drive end one after the other, each within the cycles that this profile gives a request.
+-- In phase 4 of undisturbed cycles the requests to a drive end one after the other, each within the cycles that this profile gives a request.
 use Rattle.std.proofs.Common.{◌≡◌, inl, inr, ℕ, zero, suc, ◌+◌, ◌*◌, ◌<◌, ◌≤◌, false, List, [], ◌∷◌, ◌++◌, length, Option, Some, None, refl, sym, ap, ◌∙◌, subst, arith, if◌then◌else◌, length-append}
 use Rattle.std.specs.Prelude.{is_none, is_some}
 use Rattle.std.proofs.lemmas.Bool.{cases_lt, false≢true}
@@ -6,7 +6,6 @@ use Rattle.sercos_step.specs.declared.request.Job.{Job}
 use Rattle.sercos_step.specs.declared.request.Outcome.{Outcome}
 use Rattle.sercos_step.specs.Steps.{next_step, outcome_of}
 use Rattle.sercos_timing.specs.Views.{PlanView}
-use Rattle.sercos_block.specs.Startup.{startup_bound}
 use Rattle.sercos_block.specs.Stores.{store_of}
 use Rattle.sercos_block.specs.Views.{RingView}
 use Rattle.sercos_service_master.specs.Begun.{Begun, open_in, answers_in}
@@ -14,7 +13,6 @@ use Rattle.sercos_trace.specs.Views.{CycleView}
 use Rattle.sercos_seat.specs.Agenda.{reads_count}
 use Rattle.sercos_seat.specs.Channel.{outcomes_in, with_outcome}
 use Rattle.sercos_seat.specs.Ring.{Known, Task, known_of, member}
-use Rattle.sercos_seat.proofs.Queues.{ready_long}
 use Rattle.sercos_master.specs.Annals.{outcomes, is_idle}
 use Rattle.sercos_master.proofs.Followed.{not_longer}
 use Rattle.sercos_script.specs.Links.{Carry, Restarts}
@@ -23,29 +21,26 @@ use Rattle.sercos_law_channel.specs.Handshake.RunLaws.{ComesUp}
 use Rattle.sercos_law_channel.specs.Handshake.Views.{View, standing}
 use Rattle.sercos_law_channel.specs.Handshake.WholeRun.{AreSound}
 use Rattle.sercos_law_channel.specs.Pace.Ages.{OpensAlways}
-use Rattle.sercos_law_channel.specs.Pace.ChannelCalls.{NoneLate}
 use Rattle.sercos_law_channel.specs.Pace.Costs.{AreTimed, ComesTimed}
-use Rattle.sercos_law_channel.specs.Pace.Passages.{StandsThroughout, HearsThroughout, RecoversInTime}
+use Rattle.sercos_law_channel.specs.Pace.Passages.{RecoversInTime}
 use Rattle.sercos_law_channel.specs.Pace.StartCosts.{RecoversSince}
 use Rattle.sercos_law_channel.specs.Pace.Stretches.{open_since}
 use Rattle.sercos_law_run.specs.Journal.Runs.{drive_at, master_calls, looks_back, IsRun, IsClear}
 use Rattle.sercos_law_run.specs.Agenda.Tasks.{AreBegunTasks}
-use Rattle.sercos_law_run.specs.Agenda.Turns.{WorkInTurn, WorksInFour}
+use Rattle.sercos_law_run.specs.Agenda.Turns.{WorksInFour}
 use Rattle.sercos_law_run.specs.Views.RingViews.{behind_mdt, view_of, views_of}
 use Rattle.sercos_law_run.specs.Held.Opened.{IsOpened}
 use Rattle.sercos_law_run.proofs.Held.Runs.{Laws, small}
 use Rattle.sercos_law_run.proofs.Headline.HeadlineRuns.{MoreLaws, all_stand, first_store}
-use Rattle.sercos_law_run.specs.Undisturbed.Ends.{ComesToPhaseFour}
-use Rattle.sercos_law_run.specs.Undisturbed.EpochStarts.{StartsEpoch}
-use Rattle.sercos_law_run.specs.Undisturbed.Reports.{request_cycles, waiting_after}
+use Rattle.sercos_law_run.specs.Undisturbed.Reports.{request_cycles}
 use Rattle.sercos_law_run.specs.Undisturbed.StopsLater.{NoStopInFour}
 use Rattle.sercos_law_run.specs.Undisturbed.Undisturbed.{AreUndisturbed}
 use Rattle.sercos_law_run.specs.Undisturbed.ViewsSince.{views_since}
 use Rattle.sercos_law_run.proofs.Undisturbed.BehindRests.{Follow, follow_since}
 use Rattle.sercos_law_run.proofs.Undisturbed.Carried.{are_carried}
 use Rattle.sercos_law_run.proofs.Undisturbed.CommandRuns.{first_commands}
-use Rattle.sercos_law_run.proofs.Undisturbed.EpochCycles.{IsOn, AreOn, IsCut, cut, run_rest, wholes, none_along, waits_now, waits_along, outcomes_after, more_along, phase_before, four_along, are_on}
-use Rattle.sercos_law_run.proofs.Undisturbed.InFour.{four_since, ready_now, busy_now, at_work}
+use Rattle.sercos_law_run.proofs.Undisturbed.EpochCycles.{IsOn, AreOn, IsCut, cut, run_rest, wholes, none_along, waits_now, waits_along, outcomes_after, more_along, phase_before, four_along}
+use Rattle.sercos_law_run.proofs.Undisturbed.InFour.{busy_now, at_work}
 use Rattle.sercos_law_run.proofs.Undisturbed.JobsBegun.{begun_now, tasks_now}
 use Rattle.sercos_law_run.proofs.Undisturbed.NeverFalls.{runs_split}
 use Rattle.sercos_law_run.proofs.Undisturbed.OneRequest.{room, one_lasts}
@@ -100,7 +95,7 @@ some_cycles : (x : ℕ) → 1 ≤ x → (n : ℕ) × (x ≡ suc n)
 some_cycles zero some = absurd (omega (arith, some))
 some_cycles (suc n) some = (n, refl)
 
-one_time_more : (i c : ℕ) → suc i * c ≡ i * c + c
+pub one_time_more : (i c : ℕ) → suc i * c ≡ i * c + c
 one_time_more i c = grind arith
 
 module _ (laws : Laws) (more : MoreLaws) (comes_up : (busy : ℕ) → ComesUp busy) (works : WorksInFour) (always : OpensAlways) (said : SaysShape) (timed : ComesTimed) (recovers : (busy : ℕ) → RecoversInTime busy) (since : (busy : ℕ) → RecoversSince busy)
@@ -202,62 +197,86 @@ module _ (laws : Laws) (more : MoreLaws) (comes_up : (busy : ℕ) → ComesUp bu
         let count = length_since r jobs carry restarts k (t ∷ newer) (one ∷ old) in
         let less = lasts in omega (arith, all, count, less, long)
 
--- SO THE REQUESTS END IN TIME.
-module _ (laws : Laws) (more : MoreLaws) (turn : WorkInTurn) (comes_up : (busy : ℕ) → ComesUp busy) (late : (busy : ℕ) → NoneLate busy) (stand : (busy : ℕ) → StandsThroughout busy) (hear : (busy : ℕ) → HearsThroughout busy)
-    (works : WorksInFour) (always : OpensAlways) (said : SaysShape) (timed : ComesTimed) (recovers : (busy : ℕ) → RecoversInTime busy) (since : (busy : ℕ) → RecoversSince busy) (reaches : ComesToPhaseFour) (no_stop : NoStopInFour)
-    (r : RingView) (jobs : List Job) (carry : Carry) (restarts : Restarts) (opened : IsOpened r jobs) (before : List CycleView) (starts : StartsEpoch r jobs carry restarts before) (k : ℕ) (below : k < length r.drives) where
-  -- in each cycle that is so late the first i requests have ended
+zero_times : (i c : ℕ) → 1 ≤ c → i * c ≤ 0 → i ≡ 0
+zero_times zero c some none = refl
+zero_times (suc i) c some none = let times = one_time_more i c in absurd (omega (arith, times, some, none))
+
+-- SO THE REQUESTS END IN TIME, from a cycle of phase 4 on, if each later one is as in an undisturbed epoch: of those that waited when the
+-- epoch began, the first m have ended in it.
+module _ (laws : Laws) (more : MoreLaws) (comes_up : (busy : ℕ) → ComesUp busy) (works : WorksInFour) (always : OpensAlways) (said : SaysShape) (timed : ComesTimed) (recovers : (busy : ℕ) → RecoversInTime busy) (since : (busy : ℕ) → RecoversSince busy)
+    (no_stop : NoStopInFour) (r : RingView) (jobs : List Job) (carry : Carry) (restarts : Restarts) (opened : IsOpened r jobs) (k : ℕ) (below : k < length r.drives) (one : CycleView) (old : List CycleView) (first : IsOn r jobs carry restarts one old)
+    (one_four : one.phase ≡ 4) (m : ℕ) (at_one : reads_count (member (known_of r) k) + (13 + m) ≤ length (outcomes (behind_mdt r jobs carry restarts one.sent old) k)) where
+  -- in each cycle that is so late, i more
   abbrev pub HaveEnded : ℕ → Type 0
-  HaveEnded i = (t : CycleView) (cycles : List CycleView) → IsRun r jobs carry restarts (t ∷ (cycles ++ before)) → IsClear (t ∷ (cycles ++ before)) → AreUndisturbed r carry restarts (t ∷ cycles) before → t.phase ≡ 4
-      → startup_bound r + i * request_cycles r k ≤ length cycles → i ≤ length (waiting_after r jobs carry restarts before k) → reads_count (member (known_of r) k) + (13 + i) ≤ length (outcomes (behind_mdt r jobs carry restarts t.sent (cycles ++ before)) k)
+  HaveEnded i = (t : CycleView) (cycles : List CycleView) → IsRun r jobs carry restarts (t ∷ (cycles ++ one ∷ old)) → IsClear (t ∷ (cycles ++ one ∷ old)) → AreOn r jobs carry restarts (t ∷ cycles) (one ∷ old)
+      → AreUndisturbed r carry restarts cycles (one ∷ old) → i * request_cycles r k ≤ suc (length cycles) → (x : ℕ) → x ≤ m + i → x ≤ length ((looks_back r jobs (master_calls r carry restarts old)).waiting k)
+      → reads_count (member (known_of r) k) + (13 + x) ≤ length (outcomes (behind_mdt r jobs carry restarts t.sent (cycles ++ one ∷ old)) k)
+
+  four_after : IsRun r jobs carry restarts (one ∷ old) → (looks_back r jobs (master_calls r carry restarts (one ∷ old))).now.phase ≡ 4
+  four_after run = four_along laws more comes_up r jobs carry restarts opened (one ∷ []) old run (tt, first) (sym (phase_before laws more comes_up r jobs carry restarts opened one old run first) ∙ one_four)
+
+  four_in : (t : CycleView) (cycles : List CycleView) → IsRun r jobs carry restarts (t ∷ (cycles ++ one ∷ old)) → IsRun r jobs carry restarts (one ∷ old) → AreOn r jobs carry restarts (t ∷ cycles) (one ∷ old) → t.phase ≡ 4
+  four_in t cycles run rest on = phase_before laws more comes_up r jobs carry restarts opened t (cycles ++ one ∷ old) run on.1 ∙ four_along laws more comes_up r jobs carry restarts opened cycles (one ∷ old) run.0 on.0 (four_after rest)
 
   one_more : (i : ℕ) → HaveEnded i → HaveEnded (suc i)
-  one_more i earlier t cycles run clear calm four long low = elim (cases_lt (length (outcomes (behind_mdt r jobs carry restarts t.sent (cycles ++ before)) k)) (reads_count (member (known_of r) k) + (13 + suc i))) [
-    | inl less ↦ absurd (never (omega (arith, less)))
-    | inr enough ↦ enough
+  one_more i earlier t cycles run clear on calm long x few low = elim (cases_lt x (suc (m + i))) [
+    | inl less ↦ earlier t cycles run clear on calm (let times = one_time_more i (request_cycles r k) in omega (arith, times, long)) x (omega (arith, less)) low
+    | inr most ↦ elim (cases_lt (length (outcomes (behind_mdt r jobs carry restarts t.sent (cycles ++ one ∷ old)) k)) (reads_count (member (known_of r) k) + (13 + x))) [
+      | inl less ↦ absurd (elim (cases_lt (length cycles) (request_cycles r k)) [
+        | inl short ↦ at_first (omega (arith, less, few)) (omega (arith, low, most)) short
+        | inr enough ↦ never (omega (arith, less, few)) (omega (arith, low, most)) enough
+      ])
+      | inr enough ↦ enough
+    ]
   ]
     where
-      on : AreOn r jobs carry restarts (t ∷ cycles) before
-      on = are_on laws more turn comes_up late r jobs carry restarts opened stand hear (t ∷ cycles) before run clear starts calm
+      old_run : IsRun r jobs carry restarts (one ∷ old) × IsClear (one ∷ old)
+      old_run = run_rest r jobs carry restarts (t ∷ cycles) (one ∷ old) run clear
 
-      some : (n : ℕ) × (request_cycles r k ≡ suc n)
-      some = some_cycles (request_cycles r k) (let all = room (drive_at r k).busy (drive_at r k).command in omega (arith, all))
+      t_four : t.phase ≡ 4
+      t_four = four_in t cycles run old_run.0 on
 
-      c : IsCut r jobs carry restarts some.0 cycles before
-      c = cut r jobs carry restarts cycles before some.0 (let is = some.1 in let times = one_time_more i (request_cycles r k) in omega (arith, is, times, long)) on.0 calm.0
+      -- one request after the first cycle
+      at_first : length (outcomes (behind_mdt r jobs carry restarts t.sent (cycles ++ one ∷ old)) k) ≤ reads_count (member (known_of r) k) + (13 + (m + i)) → m + i < length ((looks_back r jobs (master_calls r carry restarts old)).waiting k)
+          → length cycles < request_cycles r k → ⊥
+      at_first few_ended waits short =
+          let times = one_time_more i (request_cycles r k) in
+          let none = zero_times i (request_cycles r k) (omega (arith, short)) (omega (arith, times, long, short)) in
+          never_so_long laws more comes_up works always said timed recovers since r jobs carry restarts opened k below (m + i) t cycles one old run clear on first one_four t_four
+          (no_stop r jobs carry restarts t (cycles ++ one ∷ old) opened run clear t_four) waits (let ended = at_one in omega (arith, ended, none)) few_ended (omega (arith, times, long, short))
 
-      run_cut : IsRun r jobs carry restarts (t ∷ (c.newer ++ c.one ∷ (c.older ++ before)))
-      run_cut = subst (λ (l : List CycleView). IsRun r jobs carry restarts (t ∷ l)) c.is run
+      -- and after a later one
+      never : length (outcomes (behind_mdt r jobs carry restarts t.sent (cycles ++ one ∷ old)) k) ≤ reads_count (member (known_of r) k) + (13 + (m + i)) → m + i < length ((looks_back r jobs (master_calls r carry restarts old)).waiting k)
+          → request_cycles r k ≤ length cycles → ⊥
+      never few_ended waits enough =
+          never_so_long laws more comes_up works always said timed recovers since r jobs carry restarts opened k below (m + i) t c.newer c.one (c.older ++ one ∷ old) run_cut clear_cut on_cut c.on_older.1
+          (four_in c.one c.older cut_run.0 old_run.0 c.on_older) t_four (no_stop r jobs carry restarts t (c.newer ++ c.one ∷ (c.older ++ one ∷ old)) opened run_cut clear_cut t_four)
+          (subst (λ (l : List Task). m + i < length l) (sym (waits_along r jobs carry restarts c.older (one ∷ old) c.on_older.0 k ∙ waits_along r jobs carry restarts (one ∷ []) old (tt, first) k)) waits)
+          (earlier c.one c.older cut_run.0 cut_run.1 c.on_older c.calm.0 (let is = some.1 in let times = one_time_more i (request_cycles r k) in let rest = c.rest in omega (arith, is, times, rest, long)) (m + i) (omega arith) (omega (arith, waits)))
+          (subst (λ (l : List CycleView). length (outcomes (behind_mdt r jobs carry restarts t.sent l) k) ≤ reads_count (member (known_of r) k) + (13 + (m + i))) c.is few_ended) (let is = some.1 in let count = c.long in omega (arith, is, count))
+        where
+          some : (n : ℕ) × (request_cycles r k ≡ suc n)
+          some = some_cycles (request_cycles r k) (let all = room (drive_at r k).busy (drive_at r k).command in omega (arith, all))
 
-      clear_cut : IsClear (t ∷ (c.newer ++ c.one ∷ (c.older ++ before)))
-      clear_cut = subst (λ (l : List CycleView). IsClear (t ∷ l)) c.is clear
+          c : IsCut r jobs carry restarts some.0 cycles (one ∷ old)
+          c = cut r jobs carry restarts cycles (one ∷ old) some.0 (let is = some.1 in omega (arith, is, enough)) on.0 calm
 
-      on_cut : AreOn r jobs carry restarts (t ∷ c.newer) (c.one ∷ (c.older ++ before))
-      on_cut = (c.on, subst (λ (l : List CycleView). IsOn r jobs carry restarts t l) c.is on.1)
+          run_cut : IsRun r jobs carry restarts (t ∷ (c.newer ++ c.one ∷ (c.older ++ one ∷ old)))
+          run_cut = subst (λ (l : List CycleView). IsRun r jobs carry restarts (t ∷ l)) c.is run
 
-      rest_run : IsRun r jobs carry restarts (c.one ∷ (c.older ++ before)) × IsClear (c.one ∷ (c.older ++ before))
-      rest_run = run_rest r jobs carry restarts (t ∷ c.newer) (c.one ∷ (c.older ++ before)) run_cut clear_cut
+          clear_cut : IsClear (t ∷ (c.newer ++ c.one ∷ (c.older ++ one ∷ old)))
+          clear_cut = subst (λ (l : List CycleView). IsClear (t ∷ l)) c.is clear
 
-      on_rest : AreOn r jobs carry restarts (c.one ∷ c.older) before
-      on_rest = are_on laws more turn comes_up late r jobs carry restarts opened stand hear (c.one ∷ c.older) before rest_run.0 rest_run.1 starts c.calm
+          on_cut : AreOn r jobs carry restarts (t ∷ c.newer) (c.one ∷ (c.older ++ one ∷ old))
+          on_cut = (c.on, subst (λ (l : List CycleView). IsOn r jobs carry restarts t l) c.is on.1)
 
-      late_enough : startup_bound r + i * request_cycles r k ≤ length c.older
-      late_enough = let is = some.1 in let times = one_time_more i (request_cycles r k) in let rest = c.rest in omega (arith, is, times, rest, long)
-
-      one_four : c.one.phase ≡ 4
-      one_four = four_since laws more comes_up reaches no_stop r jobs carry restarts opened t c.newer c.one c.older before run_cut clear_cut on_cut on_rest.1 starts c.calm (let enough = late_enough in omega (arith, enough)) four
-
-      never : length (outcomes (behind_mdt r jobs carry restarts t.sent (cycles ++ before)) k) ≤ reads_count (member (known_of r) k) + (13 + i) → ⊥
-      never few = never_so_long laws more comes_up works always said timed recovers since r jobs carry restarts opened k below i t c.newer c.one (c.older ++ before) run_cut clear_cut on_cut on_rest.1 one_four four
-          (no_stop r jobs carry restarts t (c.newer ++ c.one ∷ (c.older ++ before)) opened run_cut clear_cut on_cut.1.stays four)
-          (subst (λ (l : List Task). i < length l) (sym (waits_along r jobs carry restarts c.older before on_rest.0 k)) (omega (arith, low)))
-          (earlier c.one c.older rest_run.0 rest_run.1 c.calm one_four late_enough (omega (arith, low)))
-          (subst (λ (l : List CycleView). length (outcomes (behind_mdt r jobs carry restarts t.sent l) k) ≤ reads_count (member (known_of r) k) + (13 + i)) c.is few)
-          (let is = some.1 in let count = c.long in omega (arith, is, count))
+          cut_run : IsRun r jobs carry restarts (c.one ∷ (c.older ++ one ∷ old)) × IsClear (c.one ∷ (c.older ++ one ∷ old))
+          cut_run = run_rest r jobs carry restarts (t ∷ c.newer) (c.one ∷ (c.older ++ one ∷ old)) run_cut clear_cut
 
   pub have_ended : (i : ℕ) → HaveEnded i
-  have_ended zero = λ t cycles run clear calm four long low.
-      let on = are_on laws more turn comes_up late r jobs carry restarts opened stand hear (t ∷ cycles) before run clear starts calm in
-      let many = ready_long (member (known_of r) k) (outcomes (behind_mdt r jobs carry restarts t.sent (cycles ++ before)) k) (ready_now laws more comes_up works r jobs carry restarts opened k below t (cycles ++ before) run clear on.1 four) in
-      omega (arith, many)
+  have_ended zero = λ t cycles run clear on calm long x few low.
+      let along = more_along laws more r jobs carry restarts opened (t ∷ cycles) (one ∷ old) run clear on k below in
+      let before = ap (λ (l : List Outcome). length l) (outcomes_after laws more r jobs carry restarts opened one old first k) in
+      let after = ap (λ (l : List Outcome). length l) (outcomes_after laws more r jobs carry restarts opened t (cycles ++ one ∷ old) on.1 k) in
+      let ended = at_one in omega (arith, along, before, after, ended, few)
   have_ended (suc i) = one_more i (have_ended i)

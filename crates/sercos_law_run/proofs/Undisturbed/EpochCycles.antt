@@ -28,7 +28,7 @@ use Rattle.sercos_law_run.specs.Held.Opened.{IsOpened}
 use Rattle.sercos_law_run.proofs.Held.Extended.{Extends, heard_more, begun_same}
 use Rattle.sercos_law_run.proofs.Held.Runs.{Laws}
 use Rattle.sercos_law_run.proofs.Headline.HeadlineRuns.{MoreLaws, all_stand}
-use Rattle.sercos_law_run.specs.Undisturbed.Undisturbed.{AreUndisturbed}
+use Rattle.sercos_law_run.specs.Undisturbed.Undisturbed.{AreUndisturbed, IsUndisturbed}
 use Rattle.sercos_law_run.specs.Undisturbed.EpochStarts.{StartsEpoch}
 use Rattle.sercos_law_run.specs.Undisturbed.StartUps.{StaysUp}
 use Rattle.sercos_law_run.specs.Undisturbed.ViewsSince.{views_since}
@@ -65,12 +65,14 @@ pub record IsCut (r : RingView) (jobs : List Job) (carry : Carry) (restarts : Re
   pub long : length newer ≡ n
   pub rest : length older + suc n ≡ length cycles
   pub on : AreOn r jobs carry restarts newer (one ∷ (older ++ before))
+  pub on_older : AreOn r jobs carry restarts (one ∷ older) before
   pub calm : AreUndisturbed r carry restarts (one ∷ older) before
+  pub calm_newer : AreUndisturbed r carry restarts newer (one ∷ (older ++ before))
 
 pub cut : (r : RingView) (jobs : List Job) (carry : Carry) (restarts : Restarts) (cycles before : List CycleView) (n : ℕ) → n < length cycles → AreOn r jobs carry restarts cycles before → AreUndisturbed r carry restarts cycles before
     → IsCut r jobs carry restarts n cycles before
 cut r jobs carry restarts [] before n low on calm = absurd (omega (arith, low))
-cut r jobs carry restarts (t ∷ cycles) before zero low on calm = record { newer = []; one = t; older = cycles; is = refl; long = refl; rest = omega arith; on = tt; calm = calm }
+cut r jobs carry restarts (t ∷ cycles) before zero low on calm = record { newer = []; one = t; older = cycles; is = refl; long = refl; rest = omega arith; on = tt; on_older = on; calm = calm; calm_newer = tt }
 cut r jobs carry restarts (t ∷ cycles) before (suc n) low on calm =
     let c = cut r jobs carry restarts cycles before n (omega (arith, low)) on.0 calm.0 in
     let counted = c.rest in
@@ -82,7 +84,9 @@ cut r jobs carry restarts (t ∷ cycles) before (suc n) low on calm =
       long = ap suc c.long;
       rest = omega (arith, counted);
       on = (c.on, subst (λ (l : List CycleView). IsOn r jobs carry restarts t l) c.is on.1);
+      on_older = c.on_older;
       calm = c.calm;
+      calm_newer = (c.calm_newer, subst (λ (l : List CycleView). IsUndisturbed r carry restarts t l) c.is calm.1);
     }
 
 pub run_rest : (r : RingView) (jobs : List Job) (carry : Carry) (restarts : Restarts) (cycles rest : List CycleView) → IsRun r jobs carry restarts (cycles ++ rest) → IsClear (cycles ++ rest) → IsRun r jobs carry restarts rest × IsClear rest

@@ -63,7 +63,7 @@ module _ (laws : Laws) (more : MoreLaws) (comes_up : (busy : ℕ) → ComesUp bu
   rest_run = run_rest r jobs carry restarts (t ∷ newer) (one ∷ (older ++ before)) run clear
 
   none_at : t.phase ≡ 4 → (looks_back r jobs (master_calls r carry restarts (t ∷ (newer ++ one ∷ (older ++ before))))).stop ≡ None
-  none_at four = stop_after r jobs carry restarts t (newer ++ one ∷ (older ++ before)) on.1.stays ∙ no_stop r jobs carry restarts t (newer ++ one ∷ (older ++ before)) opened run clear on.1.stays four
+  none_at four = stop_after r jobs carry restarts t (newer ++ one ∷ (older ++ before)) on.1.stays ∙ no_stop r jobs carry restarts t (newer ++ one ∷ (older ++ before)) opened run clear four
 
   none_then : t.phase ≡ 4 → (behind_mdt r jobs carry restarts one.sent (older ++ before)).stop ≡ None
   none_then four = sym (stop_after r jobs carry restarts one (older ++ before) first.stays) ∙ none_along r jobs carry restarts (t ∷ newer) (one ∷ (older ++ before)) on (none_at four)
@@ -110,7 +110,7 @@ module _ (laws : Laws) (more : MoreLaws) (comes_up : (busy : ℕ) → ComesUp bu
         (all_stand laws more r jobs carry restarts opened j run.0 clear.0) (omega (arith, late)) k below in
         ap (λ (o : Option PlanView). is_some o) held.1.now
 
-    numbered : AreNumbered ((behind_mdt r jobs carry restarts t.sent j).waiting k)
+    pub numbered : AreNumbered ((behind_mdt r jobs carry restarts t.sent j).waiting k)
     numbered =
         let left = still_left (known_of r) (tasks_for (known_of r) jobs) (middle r carry restarts t.sent j) k in
         subst AreNumbered (sym left.1) (numbered_drop left.0 (tasks_for (known_of r) jobs k) (more.requests (known_of r) jobs k).1)

@@ -1,5 +1,5 @@
--- In each cycle up to phase 3 in which the ring doesn't fall, the requests that were begun have the places of a start-up's; and if all
--- reads have ended and there is no stop, the master has made the plan.
+-- In each cycle up to phase 3 the requests that were begun have the places of a start-up's; and if all reads have ended and there is no
+-- stop, the master has made the plan.
 use Rattle.std.proofs.Common.{◌≡◌, ℕ, ◌+◌, ◌<◌, ◌≤◌, true, false, List, [], ◌∷◌, ◌++◌, length, Option, Some, None, sym, ap, ◌∙◌, subst, arith, append_assoc, if◌then◌else◌}
 use Rattle.std.specs.Prelude.{◌==◌, nat_le, is_none, is_some, slice_get}
 use Rattle.std.proofs.lemmas.Bool.{le-leb}
@@ -27,6 +27,7 @@ use Rattle.sercos_master.specs.Annals.{Past, outcomes, all_read, first_trouble, 
 use Rattle.sercos_master.proofs.Laws.{jobs_waiting}
 use Rattle.sercos_script.specs.Links.{Carry, Restarts}
 use Rattle.sercos_law_channel.specs.Handshake.Epochs.{epoch_begun, begun_in}
+use Rattle.sercos_law_channel.specs.Handshake.Views.{View}
 use Rattle.sercos_law_channel.specs.Handshake.WholeRun.{all_begun, begun_ago, all_entries, all_writes}
 use Rattle.sercos_law_channel.specs.Handshake.Exact.{AreExact}
 use Rattle.sercos_law_run.specs.Start.Answers.{IsAnswer, AreAnswers}
@@ -48,6 +49,7 @@ use Rattle.sercos_law_run.specs.Undisturbed.Jobs.{jobs_of, AreAt}
 use Rattle.sercos_law_run.proofs.Undisturbed.JobPlaces.{Give3, begun_at, few_in_two, reading}
 use Rattle.sercos_law_run.proofs.Undisturbed.PlanMade.{looked_adds, no_stop_looked, plan_made, read_same}
 use Rattle.sercos_law_run.proofs.Undisturbed.Small.{some_is}
+use Rattle.sercos_law_run.proofs.Settings.NoCheck127.{next_still, stays}
 use Rattle.std.proofs.lemmas.Option.{slice_get_within}
 
 -- what stands in the middle of what was begun
@@ -66,31 +68,49 @@ module _ (laws : Laws) (more : MoreLaws) (r : RingView) (jobs : List Job) (carry
       all_well laws more.stop_laws r jobs carry restarts opened (first_store laws more r jobs carry restarts opened) t j next clear (spelled_in laws more r jobs carry restarts opened t j next) (stored_in laws more r jobs carry restarts opened t j)
       (all_stand laws more r jobs carry restarts opened j run before) (all_stand laws more r jobs carry restarts opened (t ∷ j) (run, next) (before, clear)) (wells j run before)
 
-  gives_3 : (j : List CycleView) → IsRun r jobs carry restarts j → IsClear j → (k : ℕ) → k < length r.drives → Give3 (epoch_begun (views_of r jobs carry restarts k j))
-  gives_3 j run clear k below newer older b bytes split asks whole =
-      let stands = all_stand laws more r jobs carry restarts opened j run clear k below in
-      let set = wells j run clear k below in
-      checks_give_3 more.stop_laws.sets more.stop_laws.ends_with_status (drive_at r k).busy (store_of (drive_at r k)) (views_of r jobs carry restarts k j) stands.sees.run stands.sound set.set.follow set.well set.commands newer older b bytes split asks whole
-
-  module _ (t : CycleView) (j : List CycleView) (run : IsRun r jobs carry restarts (t ∷ j)) (clear : IsClear (t ∷ j)) (stays : fall_of (known_of r) (behind_mdt r jobs carry restarts t.sent j) ≡ None) where
+  module _ (t : CycleView) (j : List CycleView) (run : IsRun r jobs carry restarts (t ∷ j)) (clear : IsClear (t ∷ j)) where
     abbrev now : Past
     now = behind_mdt r jobs carry restarts t.sent j
 
-    -- what was begun by now
-    pub begun_end : (k : ℕ) → epoch_begun (views_of r jobs carry restarts k (t ∷ j)) ≡ begun_in (view_of r jobs carry restarts k t j) (views_of r jobs carry restarts k j)
-    begun_end k = ap (λ (o : Option Fall). if is_some o then [] else begun_in (view_of r jobs carry restarts k t j) (views_of r jobs carry restarts k j)) stays
+    -- what was begun by now, whether the ring falls at the end of the cycle or not
+    abbrev begun_of : ℕ → List Begun
+    begun_of k = begun_in (view_of r jobs carry restarts k t j) (views_of r jobs carry restarts k j)
 
-    pub begun_now : (k : ℕ) → k < length r.drives → begun_by (now.calls k) ≡ epoch_begun (views_of r jobs carry restarts k (t ∷ j))
-    begun_now k below = sym ((keeps_all laws more r jobs carry restarts opened t j run clear).exact k below).begun_now ∙ sym (begun_end k)
+    pub begun_then : (k : ℕ) → k < length r.drives → begun_by (now.calls k) ≡ begun_of k
+    begun_then k below = sym ((keeps_all laws more r jobs carry restarts opened t j run clear).exact k below).begun_now
 
-    pub tasks_now : (k : ℕ) → k < length r.drives → AreBegunTasks (known_of r) k now.plan (now.waiting k) now.now.phase (epoch_begun (views_of r jobs carry restarts k (t ∷ j))) (now.tasks k)
-    tasks_now k below = subst (λ (l : List Begun). AreBegunTasks (known_of r) k now.plan (now.waiting k) now.now.phase l (now.tasks k)) (begun_now k below) (laws.tasks (known_of r) (tasks_for (known_of r) jobs) (middle r carry restarts t.sent j) k (inside k below))
+    gives_3 : (k : ℕ) → k < length r.drives → Give3 (begun_of k)
+    gives_3 k below newer older b bytes split asks whole =
+        let stands = all_stand laws more r jobs carry restarts opened (t ∷ j) run clear k below in
+        let set = wells (t ∷ j) run clear k below in
+        checks_give_3 more.stop_laws.sets more.stop_laws.ends_with_status (drive_at r k).busy (store_of (drive_at r k)) (stays (view_of r jobs carry restarts k t j) ∷ views_of r jobs carry restarts k j)
+        (stands.sees.run.0, next_still (drive_at r k).busy (view_of r jobs carry restarts k t j) (views_of r jobs carry restarts k j) stands.sees.run.1) stands.sound set.set.follow set.well set.commands newer older b bytes split asks whole
 
-    pub places_now : (k : ℕ) → k < length r.drives → now.now.phase ≤ 3 → AreAt (jobs_of (known_of r) now.plan k) (epoch_begun (views_of r jobs carry restarts k (t ∷ j)))
-    places_now k below low = begun_at (known_of r) k now.plan (now.waiting k) now.now.phase (epoch_begun (views_of r jobs carry restarts k (t ∷ j))) (now.tasks k) (jobs_waiting (known_of r) jobs (middle r carry restarts t.sent j) k) low (tasks_now k below) (gives_3 (t ∷ j) run clear k below)
+    pub tasks_then : (k : ℕ) → k < length r.drives → AreBegunTasks (known_of r) k now.plan (now.waiting k) now.now.phase (begun_of k) (now.tasks k)
+    tasks_then k below = subst (λ (l : List Begun). AreBegunTasks (known_of r) k now.plan (now.waiting k) now.now.phase l (now.tasks k)) (begun_then k below) (laws.tasks (known_of r) (tasks_for (known_of r) jobs) (middle r carry restarts t.sent j) k (inside k below))
 
-    pub few_now : (k : ℕ) → k < length r.drives → now.now.phase ≤ 2 → length (epoch_begun (views_of r jobs carry restarts k (t ∷ j))) ≤ reads_count (member (known_of r) k) + 12
-    few_now k below low = few_in_two (known_of r) k now.plan (now.waiting k) now.now.phase (epoch_begun (views_of r jobs carry restarts k (t ∷ j))) (now.tasks k) (jobs_waiting (known_of r) jobs (middle r carry restarts t.sent j) k) low (tasks_now k below) (gives_3 (t ∷ j) run clear k below)
+    pub places_then : (k : ℕ) → k < length r.drives → now.now.phase ≤ 3 → AreAt (jobs_of (known_of r) now.plan k) (begun_of k)
+    places_then k below low = begun_at (known_of r) k now.plan (now.waiting k) now.now.phase (begun_of k) (now.tasks k) (jobs_waiting (known_of r) jobs (middle r carry restarts t.sent j) k) low (tasks_then k below) (gives_3 k below)
+
+    pub few_then : (k : ℕ) → k < length r.drives → now.now.phase ≤ 2 → length (begun_of k) ≤ reads_count (member (known_of r) k) + 12
+    few_then k below low = few_in_two (known_of r) k now.plan (now.waiting k) now.now.phase (begun_of k) (now.tasks k) (jobs_waiting (known_of r) jobs (middle r carry restarts t.sent j) k) low (tasks_then k below) (gives_3 k below)
+
+    -- if it doesn't fall, that is what has been begun at the end
+    module _ (stays : fall_of (known_of r) (behind_mdt r jobs carry restarts t.sent j) ≡ None) where
+      pub begun_end : (k : ℕ) → epoch_begun (views_of r jobs carry restarts k (t ∷ j)) ≡ begun_in (view_of r jobs carry restarts k t j) (views_of r jobs carry restarts k j)
+      begun_end k = ap (λ (o : Option Fall). if is_some o then [] else begun_in (view_of r jobs carry restarts k t j) (views_of r jobs carry restarts k j)) stays
+
+      pub begun_now : (k : ℕ) → k < length r.drives → begun_by (now.calls k) ≡ epoch_begun (views_of r jobs carry restarts k (t ∷ j))
+      begun_now k below = begun_then k below ∙ sym (begun_end k)
+
+      pub tasks_now : (k : ℕ) → k < length r.drives → AreBegunTasks (known_of r) k now.plan (now.waiting k) now.now.phase (epoch_begun (views_of r jobs carry restarts k (t ∷ j))) (now.tasks k)
+      tasks_now k below = subst (λ (l : List Begun). AreBegunTasks (known_of r) k now.plan (now.waiting k) now.now.phase l (now.tasks k)) (sym (begun_end k)) (tasks_then k below)
+
+      pub places_now : (k : ℕ) → k < length r.drives → now.now.phase ≤ 3 → AreAt (jobs_of (known_of r) now.plan k) (epoch_begun (views_of r jobs carry restarts k (t ∷ j)))
+      places_now k below low = subst (AreAt (jobs_of (known_of r) now.plan k)) (sym (begun_end k)) (places_then k below low)
+
+      pub few_now : (k : ℕ) → k < length r.drives → now.now.phase ≤ 2 → length (epoch_begun (views_of r jobs carry restarts k (t ∷ j))) ≤ reads_count (member (known_of r) k) + 12
+      few_now k below low = subst (λ (l : List Begun). length l ≤ reads_count (member (known_of r) k) + 12) (sym (begun_end k)) (few_then k below low)
 
     -- THE ANSWERS TO THE READS: if all are complete, they are the drive's.
     abbrev pub AreComplete : Type 0
@@ -114,11 +134,14 @@ module _ (laws : Laws) (more : MoreLaws) (r : RingView) (jobs : List Job) (carry
             at : HasEndedAt (known_of r) k now.plan (now.waiting k) now.now.phase (begun_by (now.calls k)) n (outcome.Complete bytes)
             at = laws.ends (known_of r) (tasks_for (known_of r) jobs) (middle r carry restarts t.sent j) k n (outcome.Complete bytes) (inside k below) complete_is
 
-            split : epoch_begun (views_of r jobs carry restarts k (t ∷ j)) ≡ at.newer ++ at.one ∷ at.older
-            split = sym (begun_now k below) ∙ at.split
+            views : List View
+            views = stays (view_of r jobs carry restarts k t j) ∷ views_of r jobs carry restarts k j
+
+            split : begun_in (view_of r jobs carry restarts k t j) (views_of r jobs carry restarts k j) ≡ at.newer ++ at.one ∷ at.older
+            split = sym (begun_then k below) ∙ at.split
 
             asked_is : at.one.request ≡ x
-            asked_is = some_is at.one.request x (sym (place_of (jobs_of (known_of r) now.plan k) at.newer at.older at.one (subst (AreAt (jobs_of (known_of r) now.plan k)) split (places_now k below low)))
+            asked_is = some_is at.one.request x (sym (place_of (jobs_of (known_of r) now.plan k) at.newer at.older at.one (subst (AreAt (jobs_of (known_of r) now.plan k)) split (places_then k below low)))
                 ∙ ap (slice_get (jobs_of (known_of r) now.plan k)) at.place ∙ reading (known_of r) k now.plan n early ∙ got)
 
             is : IsRead x
@@ -127,19 +150,19 @@ module _ (laws : Laws) (more : MoreLaws) (r : RingView) (jobs : List Job) (carry
             of : (i : Idn) × (e : ℕ) × (x ≡ request.Read i e) × ((e == 1) ≡ false)
             of = as_read x is
 
-            all : all_begun (views_of r jobs carry restarts k (t ∷ j)) ≡ at.newer ++ at.one ∷ (at.older ++ begun_ago (views_of r jobs carry restarts k (t ∷ j)))
-            all = ap (λ (l : List Begun). l ++ begun_ago (views_of r jobs carry restarts k (t ∷ j))) split ∙ append_assoc at.newer (at.one ∷ at.older) (begun_ago (views_of r jobs carry restarts k (t ∷ j)))
+            all : all_begun views ≡ at.newer ++ at.one ∷ (at.older ++ begun_ago views)
+            all = ap (λ (l : List Begun). l ++ begun_ago views) split ∙ append_assoc at.newer (at.one ∷ at.older) (begun_ago views)
 
             answer : IsAnswer (drive_at r k) (request.Read of.0 of.1) (outcome.Complete bytes)
             answer =
                 let stands = all_stand laws more r jobs carry restarts opened (t ∷ j) run clear k below in
                 let rules = (ring_drive r k (drive_at r k) opened.valid (drive_got r k below)).blocks in
                 read_answers (drive_at r k) x of.0 of.1 bytes rules is of.2
-                (read_of (drive_at r k) (store_of (drive_at r k)) (at.older ++ begun_ago (views_of r jobs carry restarts k (t ∷ j))) at.one of.0 of.1 bytes of.3 (asked_is ∙ of.2) at.ended at.newer
-                (all_entries (views_of r jobs carry restarts k (t ∷ j))) (all_writes (views_of r jobs carry restarts k (t ∷ j)))
-                (subst (λ (l : List Begun). AreExact (store_of (drive_at r k)) l (all_entries (views_of r jobs carry restarts k (t ∷ j))) (all_writes (views_of r jobs carry restarts k (t ∷ j)))) all
-                (laws.exact (drive_at r k).busy (store_of (drive_at r k)) (views_of r jobs carry restarts k (t ∷ j)) (small laws r jobs carry restarts opened (first_store laws more r jobs carry restarts opened) k below) stands.sees.run stands.sound))
-                (entries_stored (drive_at r k) (views_of r jobs carry restarts k (t ∷ j)) stands.stored))
+                (read_of (drive_at r k) (store_of (drive_at r k)) (at.older ++ begun_ago views) at.one of.0 of.1 bytes of.3 (asked_is ∙ of.2) at.ended at.newer
+                (all_entries views) (all_writes views)
+                (subst (λ (l : List Begun). AreExact (store_of (drive_at r k)) l (all_entries views) (all_writes views)) all
+                (laws.exact (drive_at r k).busy (store_of (drive_at r k)) views (small laws r jobs carry restarts opened (first_store laws more r jobs carry restarts opened) k below) (stands.sees.run.0, next_still (drive_at r k).busy (view_of r jobs carry restarts k t j) (views_of r jobs carry restarts k j) stands.sees.run.1) stands.sound))
+                (entries_stored (drive_at r k) views stands.stored))
 
     pub asked_now : now.now.phase ≤ 3 → AreComplete → wishes_given (known_of r) (outcomes now) ≡ wishes_of r
     asked_now low whole = wishes_so laws r jobs carry restarts opened (first_store laws more r jobs carry restarts opened) (outcomes now) (answers_now low whole)

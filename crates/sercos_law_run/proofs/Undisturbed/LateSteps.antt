@@ -30,7 +30,7 @@ use Rattle.sercos_law_run.proofs.Held.Runs.{Laws}
 use Rattle.sercos_law_run.specs.Journal.Runs.{drive_at}
 use Rattle.sercos_law_run.proofs.Headline.HeadlineRuns.{MoreLaws, all_stand}
 use Rattle.sercos_law_run.proofs.Undisturbed.StaysUp.{phase_now}
-use Rattle.sercos_law_run.proofs.Undisturbed.JobsBegun.{begun_end, few_now}
+use Rattle.sercos_law_run.proofs.Undisturbed.JobsBegun.{few_then}
 use Rattle.sercos_law_run.proofs.Undisturbed.Small.{first_is, nothing_there}
 use Rattle.sercos_law_channel.proofs.Theorems.{length-steps_of}
 
@@ -138,18 +138,17 @@ module _ (laws : Laws) (more : MoreLaws) (comes_up : (busy : ℕ) → ComesUp bu
   abbrev pub ChecksLate : List Begun → List Entry → Type 0
   ChecksLate = IsLate (reads_count (member (known_of r) k) + 12) 3
 
-  -- in a cycle at whose end the ring doesn't fall
-  late_in_cycle : (t : CycleView) (j : List CycleView) → IsRun r jobs carry restarts (t ∷ j) → IsClear (t ∷ j) → fall_of (known_of r) (behind_mdt r jobs carry restarts t.sent j) ≡ None
+  -- in a cycle
+  late_in_cycle : (t : CycleView) (j : List CycleView) → IsRun r jobs carry restarts (t ∷ j) → IsClear (t ∷ j)
       → ChecksLate (epoch_begun (views_of r jobs carry restarts k j)) (epoch_log (views_of r jobs carry restarts k j)) → ChecksLate (begun_in (view_of r jobs carry restarts k t j) (views_of r jobs carry restarts k j)) (log_in (view_of r jobs carry restarts k t j) (views_of r jobs carry restarts k j))
-  late_in_cycle t j run clear stays before = cycle_late in_phase (reads_count (member (known_of r) k) + 12) 3 (view_of r jobs carry restarts k t j) (views_of r jobs carry restarts k j)
+  late_in_cycle t j run clear before = cycle_late in_phase (reads_count (member (known_of r) k) + 12) 3 (view_of r jobs carry restarts k t j) (views_of r jobs carry restarts k j)
       (in_step (drive_at r k).busy (views_of r jobs carry restarts k j) (all_stand laws more r jobs carry restarts opened j run.0 clear.0 k below).sees.run) high before
     where
       high : reads_count (member (known_of r) k) + 12 < length (begun_in (view_of r jobs carry restarts k t j) (views_of r jobs carry restarts k j)) → 3 ≤ t.phase
       high many = elim (cases_lt t.phase 3) [
         | inl low ↦
             let same = phase_now laws more comes_up r jobs carry restarts opened t j run.1 in
-            let few = few_now laws more r jobs carry restarts opened t j run clear stays k below (omega (arith, same, low)) in
-            let end = ap (λ (l : List Begun). length l) (begun_end laws more r jobs carry restarts opened t j run clear stays k) in absurd (omega (arith, few, end, many))
+            let few = few_then laws more r jobs carry restarts opened t j run clear k below (omega (arith, same, low)) in absurd (omega (arith, few, many))
         | inr there ↦ omega (arith, there)
       ]
 
@@ -164,9 +163,9 @@ module _ (laws : Laws) (more : MoreLaws) (comes_up : (busy : ℕ) → ComesUp bu
       past = views_of r jobs carry restarts k j
 
       by : (o : Option Fall) → fall_of (known_of r) (behind_mdt r jobs carry restarts t.sent j) ≡ o → ChecksLate (epoch_begun past) (epoch_log past) → ChecksLate (epoch_begun (v ∷ past)) (epoch_log (v ∷ past))
-      by None stays before = subst (λ (fell : Bool). ChecksLate (if fell then [] else begun_in v past) (log_of (if fell then [] else taken_in v past))) (sym (ap (λ (o : Option Fall). is_some o) stays)) (late_in_cycle t j run clear stays before)
+      by None stays before = subst (λ (fell : Bool). ChecksLate (if fell then [] else begun_in v past) (log_of (if fell then [] else taken_in v past))) (sym (ap (λ (o : Option Fall). is_some o) stays)) (late_in_cycle t j run clear before)
       by (Some f) falls before = subst (λ (fell : Bool). ChecksLate (if fell then [] else begun_in v past) (log_of (if fell then [] else taken_in v past))) (sym (ap (λ (o : Option Fall). is_some o) falls)) (λ one older e rest begun many log steps. absurd (nothing_there one older begun))
 
-  pub late_now : (t : CycleView) (j : List CycleView) → IsRun r jobs carry restarts (t ∷ j) → IsClear (t ∷ j) → fall_of (known_of r) (behind_mdt r jobs carry restarts t.sent j) ≡ None
+  pub late_now : (t : CycleView) (j : List CycleView) → IsRun r jobs carry restarts (t ∷ j) → IsClear (t ∷ j)
       → ChecksLate (begun_in (view_of r jobs carry restarts k t j) (views_of r jobs carry restarts k j)) (log_in (view_of r jobs carry restarts k t j) (views_of r jobs carry restarts k j))
-  late_now t j run clear stays = late_in_cycle t j run clear stays (late_at j run.0 clear.0)
+  late_now t j run clear = late_in_cycle t j run clear (late_at j run.0 clear.0)

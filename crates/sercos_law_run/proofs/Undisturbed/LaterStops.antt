@@ -33,7 +33,7 @@ use Rattle.sercos_seat.proofs.Agendas.{ended_there, reads_length}
 use Rattle.sercos_seat.proofs.Seats.{before_end}
 use Rattle.sercos_master.specs.Annals.{Past, outcomes, fall_of}
 use Rattle.sercos_script.specs.Links.{Carry, Restarts}
-use Rattle.sercos_law_channel.specs.Handshake.Epochs.{epoch_begun, begun_in, log_in}
+use Rattle.sercos_law_channel.specs.Handshake.Epochs.{begun_in, log_in}
 use Rattle.sercos_law_channel.specs.Handshake.InStep.{AreInStep}
 use Rattle.sercos_law_channel.specs.Handshake.Parts.{HaveReplies, MakeTransfers}
 use Rattle.sercos_law_channel.specs.Handshake.RunLaws.{ComesUp, ProcessesInPhase, AreInStepInCycle, AreInStepInEpoch}
@@ -56,7 +56,7 @@ use Rattle.sercos_law_run.specs.Undisturbed.Jobs.{jobs_of, AreAt}
 use Rattle.sercos_law_run.specs.Undisturbed.StopsLater.{StopsForTheCheck}
 use Rattle.sercos_law_run.proofs.Undisturbed.CycleHeld.{fits_in}
 use Rattle.sercos_law_run.proofs.Undisturbed.JobPlaces.{at_most, later, some_plan, unnumbered}
-use Rattle.sercos_law_run.proofs.Undisturbed.JobsBegun.{begun_end, begun_now, few_now, place_of, places_now, tasks_now}
+use Rattle.sercos_law_run.proofs.Undisturbed.JobsBegun.{begun_then, few_then, place_of, places_then, tasks_then}
 use Rattle.sercos_master.proofs.Followed.{not_longer}
 use Rattle.sercos_law_run.proofs.Undisturbed.WellGiven.{check_gives_3}
 use Rattle.sercos_law_run.proofs.Undisturbed.ListedRuns.{list_is, own_bytes}
@@ -117,7 +117,7 @@ complete_before s k plan waiting phase x (y ∷ newer) one older (t ∷ tasks) a
 
 module _ (laws : held.Laws) (more : MoreLaws) (comes_up : (busy : ℕ) → ComesUp busy) (replies : HaveReplies) (transfers : MakeTransfers) (in_phase : ProcessesInPhase) (in_step : (busy : ℕ) → AreInStepInEpoch busy) (in_cycle : (busy : ℕ) → AreInStepInCycle busy)
     (cause : RefusedHasCause) (cause128 : Check128HasCause) (r : RingView) (jobs : List Job) (carry : Carry) (restarts : Restarts) (opened : IsOpened r jobs) (t : CycleView) (j : List CycleView) (run : IsRun r jobs carry restarts (t ∷ j))
-    (clear : IsClear (t ∷ j)) (stays : fall_of (known_of r) (behind_mdt r jobs carry restarts t.sent j) ≡ None) where
+    (clear : IsClear (t ∷ j)) where
   abbrev now : Past
   now = behind_mdt r jobs carry restarts t.sent j
 
@@ -127,12 +127,12 @@ module _ (laws : held.Laws) (more : MoreLaws) (comes_up : (busy : ℕ) → Comes
   -- a request of the start-up that was refused, the newest of its channel
   module _ (k : ℕ) (below : k < length r.drives) (there : k < length (known_of r).drives) (one : Begun) (older : List Begun) (code : Code) (begun : begun_by (now.calls k) ≡ one ∷ older) (task : Task) (tasks : List Task) (tasks_are : now.tasks k ≡ task ∷ tasks)
       (startup : task.number ≡ None) (ended : outcome_of one.request one.answers ≡ Some (outcome.Refused code)) where
-    split : epoch_begun (views_of r jobs carry restarts k (t ∷ j)) ≡ one ∷ older
-    split = sym (begun_now laws more r jobs carry restarts opened t j run clear stays k below) ∙ begun
+    split : begun_in (view_of r jobs carry restarts k t j) (views_of r jobs carry restarts k j) ≡ one ∷ older
+    split = sym (begun_then laws more r jobs carry restarts opened t j run clear k below) ∙ begun
 
     are : AreBegunTasks (known_of r) k now.plan (now.waiting k) now.now.phase (one ∷ older) (task ∷ tasks)
     are = subst (λ (l : List Begun). AreBegunTasks (known_of r) k now.plan (now.waiting k) now.now.phase l (task ∷ tasks)) split
-        (subst (AreBegunTasks (known_of r) k now.plan (now.waiting k) now.now.phase (epoch_begun (views_of r jobs carry restarts k (t ∷ j)))) tasks_are (tasks_now laws more r jobs carry restarts opened t j run clear stays k below))
+        (subst (AreBegunTasks (known_of r) k now.plan (now.waiting k) now.now.phase (begun_in (view_of r jobs carry restarts k t j) (views_of r jobs carry restarts k j))) tasks_are (tasks_then laws more r jobs carry restarts opened t j run clear k below))
 
     outs_are : outcomes now k ≡ outcomes_in older ++ outcome.Refused code ∷ []
     outs_are = ap (λ (l : List Begun). outcomes_in l) begun ∙ ap (λ (o : Option Outcome). with_outcome o (outcomes_in older)) ended
@@ -156,7 +156,7 @@ module _ (laws : held.Laws) (more : MoreLaws) (comes_up : (busy : ℕ) → Comes
         past_check = let same = phase_is in passed (reads_count (member (known_of r) k) + 11) (all_checked_in (known_of r) (tasks_for (known_of r) jobs) (middle r carry restarts t.sent j) (omega (arith, same, three)) k there)
 
         places : AreAt (jobs_of (known_of r) (behind_mdt r jobs carry restarts t.sent j).plan k) (one ∷ older)
-        places = subst (AreAt (jobs_of (known_of r) (behind_mdt r jobs carry restarts t.sent j).plan k)) split (places_now laws more r jobs carry restarts opened t j run clear stays k below low_phase)
+        places = subst (AreAt (jobs_of (known_of r) (behind_mdt r jobs carry restarts t.sent j).plan k)) split (places_then laws more r jobs carry restarts opened t j run clear k below low_phase)
 
         made : (p : PlanView) × ((behind_mdt r jobs carry restarts t.sent j).plan ≡ Some p)
         made = some_plan (known_of r) k (behind_mdt r jobs carry restarts t.sent j).plan (one ∷ older) places (let low = past_check in omega (arith, low))
@@ -177,12 +177,9 @@ module _ (laws : held.Laws) (more : MoreLaws) (comes_up : (busy : ℕ) → Comes
         rules : blocks_fault [] (drive_at r k).blocks ≡ None
         rules = (ring_drive r k (drive_at r k) opened.valid (drive_got r k below)).blocks
 
-        begun_is : begun_in (view_of r jobs carry restarts k t j) (views_of r jobs carry restarts k j) ≡ one ∷ older
-        begun_is = sym (begun_end laws more r jobs carry restarts opened t j run clear stays k) ∙ split
-
         refused : (ref : IsRefused (drive_at r k) one.request code t.phase) × (log_in (view_of r jobs carry restarts k t j) (views_of r jobs carry restarts k j) ≡ ref.e ∷ (ref.entries ++ ref.log))
         refused = newest_refused more.stop_laws.lower.transfers replies transfers in_phase (drive_at r k).busy (drive_at r k) (small laws r jobs carry restarts opened (first_store laws more r jobs carry restarts opened) k below)
-            (view_of r jobs carry restarts k t j) (views_of r jobs carry restarts k j) stands.sees.run stands.sound stands.stored (ap (λ (o : Option Fall). is_some o) stays) one older code begun_is ended
+            (view_of r jobs carry restarts k t j) (views_of r jobs carry restarts k j) stands.sees.run stands.sound stands.stored one older code split ended
 
         ref : IsRefused (drive_at r k) one.request code t.phase
         ref = refused.0
@@ -208,7 +205,7 @@ module _ (laws : held.Laws) (more : MoreLaws) (comes_up : (busy : ℕ) → Comes
             asks = some_is one.request (request.Command (idn 128)) (sym placed.1 ∙ later (known_of r) k made.0 (length older) 12 at)
 
             step : AreInStep (one ∷ older) (log_in (view_of r jobs carry restarts k t j) (views_of r jobs carry restarts k j))
-            step = subst (λ (l : List Begun). AreInStep l (log_in (view_of r jobs carry restarts k t j) (views_of r jobs carry restarts k j))) begun_is
+            step = subst (λ (l : List Begun). AreInStep l (log_in (view_of r jobs carry restarts k t j) (views_of r jobs carry restarts k j))) split
                 (in_cycle (drive_at r k).busy (view_of r jobs carry restarts k t j) (views_of r jobs carry restarts k j) stands.sees.run)
 
             no_step : step_at one.request one.answers ≡ None
@@ -222,7 +219,7 @@ module _ (laws : held.Laws) (more : MoreLaws) (comes_up : (busy : ℕ) → Comes
 
             in_three : ref.e.taken.phase ≡ 3
             in_three =
-                let late = late_now laws more comes_up in_phase in_step r jobs carry restarts opened k below t j run clear stays one older ref.e (ref.entries ++ ref.log) begun_is (omega (arith, at)) refused.1 fewer in
+                let late = late_now laws more comes_up in_phase in_step r jobs carry restarts opened k below t j run clear one older ref.e (ref.entries ++ ref.log) split (omega (arith, at)) refused.1 fewer in
                 let most = ref.between.0 in omega (arith, late, most, three)
 
     never_four : t.phase ≡ 4 → ⊥
@@ -275,8 +272,8 @@ module _ (laws : held.Laws) (more : MoreLaws) (comes_up : (busy : ℕ) → Comes
   abbrev EndedAt : ℕ → ℕ → Outcome → Type 0
   EndedAt k i o = HasEndedAt (known_of r) k now.plan (now.waiting k) now.now.phase (begun_by (now.calls k)) (reads_count (member (known_of r) k) + i) o
 
-  split_at : (k : ℕ) → k < length r.drives → (i : ℕ) (o : Outcome) (at : EndedAt k i o) → epoch_begun (views_of r jobs carry restarts k (t ∷ j)) ≡ at.newer ++ at.one ∷ at.older
-  split_at k below i o at = sym (begun_now laws more r jobs carry restarts opened t j run clear stays k below) ∙ at.split
+  split_at : (k : ℕ) → k < length r.drives → (i : ℕ) (o : Outcome) (at : EndedAt k i o) → begun_in (view_of r jobs carry restarts k t j) (views_of r jobs carry restarts k j) ≡ at.newer ++ at.one ∷ at.older
+  split_at k below i o at = sym (begun_then laws more r jobs carry restarts opened t j run clear k below) ∙ at.split
 
   asks_at : t.phase ≡ 3 → (k : ℕ) → k < length r.drives → (i : ℕ) (q : Request) → ((p : PlanView) → slice_get (writes (known_of r) p k ++ request.Command (idn 127) ∷ request.Command (idn 128) ∷ request.Read (idn 22) 7 ∷ []) i ≡ Some q) → (o : Outcome) (at : EndedAt k i o)
       → at.one.request ≡ q
@@ -286,7 +283,7 @@ module _ (laws : held.Laws) (more : MoreLaws) (comes_up : (busy : ℕ) → Comes
     where
       places : AreAt (jobs_of (known_of r) (behind_mdt r jobs carry restarts t.sent j).plan k) (at.newer ++ at.one ∷ at.older)
       places = subst (AreAt (jobs_of (known_of r) (behind_mdt r jobs carry restarts t.sent j).plan k)) (split_at k below i o at)
-          (places_now laws more r jobs carry restarts opened t j run clear stays k below (let same = phase_is in omega (arith, same, three)))
+          (places_then laws more r jobs carry restarts opened t j run clear k below (let same = phase_is in omega (arith, same, three)))
 
       long : reads_count (member (known_of r) k) < length (at.newer ++ at.one ∷ at.older)
       long = let parts = length-append at.newer (at.one ∷ at.older) in let place = at.place in omega (arith, parts, place)
@@ -305,7 +302,7 @@ module _ (laws : held.Laws) (more : MoreLaws) (comes_up : (busy : ℕ) → Comes
       by : (b : Bool) → list_any is_outside (drive_at r failed.place).blocks ≡ b → list_any is_outside (drive_at r failed.place).blocks ≡ true
       by true is = is
       by false none =
-          let gives = check_gives_3 laws more r jobs carry restarts opened failed.place low none (t ∷ j) run clear at.newer at.older at.one failed.status (split_at failed.place low 12 (outcome.Complete failed.status) at) (asks_at three failed.place low 12 (request.Command (idn 128)) (λ p. refl) (outcome.Complete failed.status) at) at.ended in
+          let gives = check_gives_3 laws more r jobs carry restarts opened failed.place low none t j run clear at.newer at.older at.one failed.status (split_at failed.place low 12 (outcome.Complete failed.status) at) (asks_at three failed.place low 12 (request.Command (idn 128)) (λ p. refl) (outcome.Complete failed.status) at) at.ended in
           absurd (false≢true (sym failed.badly ∙ ap ended_well gives))
 
   -- THE LIST that the drive then gave has the numbers of these blocks.
@@ -329,7 +326,7 @@ module _ (laws : held.Laws) (more : MoreLaws) (comes_up : (busy : ℕ) → Comes
           (let a = first.place in let b = second.place in omega (arith, a, b))
 
       bytes_are : failed.bytes ≡ own_bytes (drive_at r failed.place)
-      bytes_are = list_is laws more comes_up r jobs carry restarts opened failed.place low outside (t ∷ j) run clear second.newer first.older second.one first.one failed.bytes failed.status
+      bytes_are = list_is laws more comes_up r jobs carry restarts opened failed.place low outside t j run clear second.newer first.older second.one first.one failed.bytes failed.status
           (split_at failed.place low 13 (outcome.Complete failed.bytes) second ∙ ap (λ (l : List Begun). second.newer ++ second.one ∷ l) behind)
           (asks_at three failed.place low 13 (request.Read (idn 22) 7) (λ p. refl) (outcome.Complete failed.bytes) second) second.ended
           (asks_at three failed.place low 12 (request.Command (idn 128)) (λ p. refl) (outcome.Complete failed.status) first) first.ended
@@ -340,7 +337,7 @@ module _ (laws : held.Laws) (more : MoreLaws) (comes_up : (busy : ℕ) → Comes
     where
       all : AreBegunTasks (known_of r) k (behind_mdt r jobs carry restarts t.sent j).plan ((behind_mdt r jobs carry restarts t.sent j).waiting k) (behind_mdt r jobs carry restarts t.sent j).now.phase (at.newer ++ at.one ∷ at.older) ((behind_mdt r jobs carry restarts t.sent j).tasks k)
       all = subst (λ (l : List Begun). AreBegunTasks (known_of r) k (behind_mdt r jobs carry restarts t.sent j).plan ((behind_mdt r jobs carry restarts t.sent j).waiting k) (behind_mdt r jobs carry restarts t.sent j).now.phase l ((behind_mdt r jobs carry restarts t.sent j).tasks k))
-          (split_at k below 12 (outcome.Refused code) at) (tasks_now laws more r jobs carry restarts opened t j run clear stays k below)
+          (split_at k below 12 (outcome.Refused code) at) (tasks_then laws more r jobs carry restarts opened t j run clear k below)
 
       newest : (tasks : List Task) → (behind_mdt r jobs carry restarts t.sent j).tasks k ≡ tasks → begun_by ((behind_mdt r jobs carry restarts t.sent j).calls k) ≡ at.one ∷ at.older
           → AreBegunTasks (known_of r) k (behind_mdt r jobs carry restarts t.sent j).plan ((behind_mdt r jobs carry restarts t.sent j).waiting k) (behind_mdt r jobs carry restarts t.sent j).now.phase (at.one ∷ at.older) tasks → ⊥
@@ -363,7 +360,7 @@ module _ (laws : held.Laws) (more : MoreLaws) (comes_up : (busy : ℕ) → Comes
     where
       by : (o : Outcome) → EndedAt k 12 o → ended_well (bytes_of o) ≡ true
       by (outcome.Complete bytes) at =
-          ap ended_well (check_gives_3 laws more r jobs carry restarts opened k below none (t ∷ j) run clear at.newer at.older at.one bytes (split_at k below 12 (outcome.Complete bytes) at) (asks_at three k below 12 (request.Command (idn 128)) (λ p. refl) (outcome.Complete bytes) at) at.ended)
+          ap ended_well (check_gives_3 laws more r jobs carry restarts opened k below none t j run clear at.newer at.older at.one bytes (split_at k below 12 (outcome.Complete bytes) at) (asks_at three k below 12 (request.Command (idn 128)) (λ p. refl) (outcome.Complete bytes) at) at.ended)
       by (outcome.Refused code) at = absurd (never_refused three k below there code at)
       by outcome.Broken at = absurd (never_broken at.one.request at.one.answers at.ended)
 
@@ -372,8 +369,8 @@ module _ (laws : held.Laws) (more : MoreLaws) (comes_up : (busy : ℕ) → Comes
   ready_if_ended k below there none ended = elim (cases_lt t.phase 3) [
     | inl early ↦
         let same = phase_is in
-        let few = few_now laws more r jobs carry restarts opened t j run clear stays k below (omega (arith, same, early)) in
-        let begun = ap (λ (l : List Begun). length l) (begun_now laws more r jobs carry restarts opened t j run clear stays k below) in
+        let few = few_then laws more r jobs carry restarts opened t j run clear k below (omega (arith, same, early)) in
+        let begun = ap (λ (l : List Begun). length l) (begun_then laws more r jobs carry restarts opened t j run clear k below) in
         let outs = not_longer (begun_by ((behind_mdt r jobs carry restarts t.sent j).calls k)) in absurd (omega (arith, few, begun, outs, ended))
     | inr late ↦ elim (cases_eq t.phase 3) [
       | inl three ↦

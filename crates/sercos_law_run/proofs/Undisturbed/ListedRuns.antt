@@ -26,7 +26,7 @@ use Rattle.sercos_law_run.specs.Start.StartUp.{IsStoreOf}
 use Rattle.sercos_law_run.proofs.Start.CheckPasses.{ring_drive}
 use Rattle.sercos_law_run.proofs.Start.KeptLemmas.{refuse_alike}
 use Rattle.sercos_law_run.proofs.Start.LimitLemmas.{built_in_is_steady}
-use Rattle.sercos_law_channel.specs.Handshake.Epochs.{epoch_begun}
+use Rattle.sercos_law_channel.specs.Handshake.Epochs.{begun_in}
 use Rattle.sercos_law_channel.specs.Handshake.Views.{View, standing, stood_in, processed_in, kept_in}
 use Rattle.sercos_law_channel.specs.Handshake.Values.{store_in}
 use Rattle.sercos_law_channel.specs.Handshake.WholeRun.{write_of}
@@ -52,6 +52,7 @@ use Rattle.sercos_law_run.proofs.Undisturbed.RefusedCauses.{check_4, found_4, fo
 use Rattle.sercos_law_run.proofs.Undisturbed.SetsFour.{allowed_in, names_in, three_in}
 use Rattle.sercos_law_run.proofs.Undisturbed.SinceSet.{AreKept, StaysFrom, have_since}
 use Rattle.sercos_law_run.proofs.Undisturbed.Small.{none_some, some_is}
+use Rattle.sercos_law_run.proofs.Settings.NoCheck127.{next_still, stays}
 use Rattle.sercos_law_run.proofs.Undisturbed.WellGiven.{have_commands, is_command_128}
 
 -- A WRITE to a block that is never outside its limits leaves which are.
@@ -206,19 +207,22 @@ module _ (laws : Laws) (more : MoreLaws) (comes_up : (busy : ℕ) → ComesUp bu
   kept_so (t ∷ j) run clear = (kept_so j run.0 clear.0, (λ on. let s = set_some (find_set 128 (view_of r jobs carry restarts k t j).commands.set) on in says_list t j run clear s.0 s.1), stays_from t j run clear)
 
   -- THE LIST that is read
-  pub list_is : (j : List CycleView) → IsRun r jobs carry restarts j → IsClear j → (newer older : List Begun) (b c : Begun) (bytes status : List ℕ) → epoch_begun (views_of r jobs carry restarts k j) ≡ newer ++ b ∷ c ∷ older
+  pub list_is : (t : CycleView) (j : List CycleView) → IsRun r jobs carry restarts (t ∷ j) → IsClear (t ∷ j) → (newer older : List Begun) (b c : Begun) (bytes status : List ℕ) → begun_in (view_of r jobs carry restarts k t j) (views_of r jobs carry restarts k j) ≡ newer ++ b ∷ c ∷ older
       → b.request ≡ request.Read (idn 22) 7 → outcome_of b.request b.answers ≡ Some (outcome.Complete bytes) → c.request ≡ request.Command (idn 128) → outcome_of c.request c.answers ≡ Some (outcome.Complete status)
       → bytes ≡ own_bytes (drive_at r k)
-  list_is j run clear newer older b c bytes status split asks complete sets_it ended =
+  list_is t j run clear newer older b c bytes status split asks complete sets_it ended =
       read.gives ∙ data_read read.taken.cycle read.block (built_in_is_steady (drive_at r k) read.taken.blocks 22 read.taken.cycle read.block rules read.stored.1 refl read.found) ∙ read.has read.block read.found
     where
-      stands : Stands r jobs carry restarts j k
-      stands = all_stand laws more r jobs carry restarts opened j run clear k below
+      stands : Stands r jobs carry restarts (t ∷ j) k
+      stands = all_stand laws more r jobs carry restarts opened (t ∷ j) run clear k below
 
       factor : (list_4 (drive_at r k)).attribute.factor < 2 ^ 16
       factor = small laws r jobs carry restarts opened (first_store laws more r jobs carry restarts opened) k below 22 (list_4 (drive_at r k)) (found_list (drive_at r k) rules)
 
+      views : List View
+      views = stays (view_of r jobs carry restarts k t j) ∷ views_of r jobs carry restarts k j
+
       read : IsListRead (drive_at r k) (HasList (own_bytes (drive_at r k))) bytes
-      read = list_read more.stop_laws.sets more.stop_laws.ends_with_status more.stop_laws.lower.transfers.reads (drive_at r k).busy (drive_at r k) (HasList (own_bytes (drive_at r k))) (views_of r jobs carry restarts k j) stands.sees.run stands.sound stands.stored
-          (wells laws more r jobs carry restarts opened j run clear k below).set.follow (have_commands (drive_at r k) (views_of r jobs carry restarts k j) rules stands.stored)
-          (have_since (HasList (own_bytes (drive_at r k))) (views_of r jobs carry restarts k j) (kept_so j run clear)) (list_4 (drive_at r k)) (found_list (drive_at r k) rules) factor newer older b c bytes status split asks complete sets_it ended
+      read = list_read more.stop_laws.sets more.stop_laws.ends_with_status more.stop_laws.lower.transfers.reads (drive_at r k).busy (drive_at r k) (HasList (own_bytes (drive_at r k))) views (stands.sees.run.0, next_still (drive_at r k).busy (view_of r jobs carry restarts k t j) (views_of r jobs carry restarts k j) stands.sees.run.1) stands.sound stands.stored
+          (wells laws more r jobs carry restarts opened (t ∷ j) run clear k below).set.follow (have_commands (drive_at r k) views rules stands.stored)
+          (have_since (HasList (own_bytes (drive_at r k))) views (kept_so (t ∷ j) run clear)) (list_4 (drive_at r k)) (found_list (drive_at r k) rules) factor newer older b c bytes status split asks complete sets_it ended

@@ -106,7 +106,7 @@ module _ (laws : Laws) (more : MoreLaws) (turn : WorkInTurn) (comes_up : (busy :
           let goes : GoesOnInTwo r (behind_mdt r jobs carry restarts t.sent (cycles ++ before)) = record {
             phase = phase;
             goes_on = stop_none;
-            planned = planned_now laws more r jobs carry restarts opened t (cycles ++ before) run clear stays phase stop_none;
+            planned = planned_now laws more r jobs carry restarts opened t (cycles ++ before) run clear phase stop_none;
             unchecked = sym (ap (λ (n : ℕ). is_done_in n (known_of r) (behind_mdt r jobs carry restarts t.sent (cycles ++ before))) phase) ∙ went.0;
           } in
           let works = one_works laws more two r jobs carry restarts opened t cycles before run clear goes in

@@ -31,6 +31,7 @@ use Rattle.sercos_law_channel.proofs.Theorems.{Laws, epoch, cycle_exact, entries
 use Rattle.sercos_law_run.specs.Start.StartUp.{IsStoreOf}
 use Rattle.sercos_law_run.specs.Held.Stored.{AreStored}
 use Rattle.sercos_law_run.proofs.Held.AnsweredRuns.{EntriesStored, entries_stored}
+use Rattle.sercos_law_run.proofs.Settings.NoCheck127.{next_still, stays}
 
 -- THE PHASES in which the steps of an epoch were accepted
 abbrev IsBetween : ℕ → Taken → Type 0
@@ -102,12 +103,9 @@ refused_is r a h code is = by a.error (is_whole r (answer_words h ++ a.word ∷ 
     by false false on is = absurd (cc)
 
 module _ (laws : Laws) (replies : HaveReplies) (transfers : MakeTransfers) (in_phase : ProcessesInPhase) (busy : ℕ) (d : DriveView) (small : AreSmall (store_of d)) (v : View) (past : List View) (run : IsViewRun busy (v ∷ past)) (sound : AreSound (store_of d) (v ∷ past))
-    (stored : AreStored d (v ∷ past)) (stays : v.falls ≡ false) where
-  log_now : epoch_taken (v ∷ past) ≡ taken_in v past
-  log_now = cond-false v.falls [] (taken_in v past) stays
-
+    (stored : AreStored d (v ∷ past)) where
   have : HaveBlocks (store_of d) (log_in v past)
-  have = subst (λ (h : List Taken). HaveBlocks (store_of d) (log_of h)) log_now (epoch (store_of d) busy (v ∷ past) run sound).alike
+  have = (epoch (store_of d) busy (stays v ∷ past) (run.0, next_still busy v past run.1) sound).alike
 
   have_first : (part rest : List Entry) → HaveBlocks (store_of d) (part ++ rest) → HaveBlocks (store_of d) part
   have_first [] rest are = tt
@@ -125,8 +123,8 @@ module _ (laws : Laws) (replies : HaveReplies) (transfers : MakeTransfers) (in_p
           which (Heard e entries of_part row answers) =
               let log_so : log_in v past ≡ (e ∷ entries) ++ rest = of_entries ∙ ap (λ (l : List Entry). l ++ rest) of_part in
               let ends = refused_is one.request e.answer (replies_of entries) code (sym (ap (outcome_of one.request) answers) ∙ refused) in
-              let all : all_entries (v ∷ past) ≡ ((e ∷ entries) ++ rest) ++ entries_ago (v ∷ past) =
-              entries_in_epochs busy (v ∷ past) run ∙ ap (λ (h : List Taken). log_of h ++ entries_ago (v ∷ past)) log_now ∙ ap (λ (l : List Entry). l ++ entries_ago (v ∷ past)) log_so in (
+              let all : all_entries (stays v ∷ past) ≡ ((e ∷ entries) ++ rest) ++ entries_ago (stays v ∷ past) =
+              entries_in_epochs busy (stays v ∷ past) (run.0, next_still busy v past run.1) ∙ ap (λ (l : List Entry). l ++ entries_ago (stays v ∷ past)) log_so in (
                 record {
                   e = e;
                   entries = entries;
@@ -135,7 +133,7 @@ module _ (laws : Laws) (replies : HaveReplies) (transfers : MakeTransfers) (in_p
                   error = ends.0;
                   code_is = ends.1;
                   between = newest_between v.phase (accepted (taken_in v past)) e entries rest log_so (between_accepted v.phase (taken_in v past) (cycle_between in_phase v past run.1.commanded (epoch_between in_phase busy past run.0)));
-                  stored = (subst (EntriesStored d) all (entries_stored d (v ∷ past) stored)).1.1;
+                  stored = (subst (EntriesStored d) all (entries_stored d (stays v ∷ past) stored)).1.1;
                 },
                 log_so,
               )

@@ -19,7 +19,7 @@ use Rattle.sercos_seat.specs.Agenda.{asked_by, idn, reads_count}
 use Rattle.sercos_seat.specs.Ring.{MemberView, known_of, member, tasks_for}
 use Rattle.sercos_master.specs.Annals.{Past, fall_of}
 use Rattle.sercos_script.specs.Links.{Carry, Restarts}
-use Rattle.sercos_law_channel.specs.Handshake.Epochs.{epoch_begun}
+use Rattle.sercos_law_channel.specs.Handshake.Epochs.{begun_in}
 use Rattle.sercos_law_channel.specs.Handshake.Parts.{HaveReplies, MakeTransfers}
 use Rattle.sercos_law_channel.specs.Handshake.RunLaws.{ComesUp, ProcessesInPhase}
 use Rattle.sercos_law_run.proofs.Start.CheckPasses.{KeepsRules, ring_drive}
@@ -36,7 +36,7 @@ use Rattle.sercos_law_run.proofs.Headline.HeadlineRuns.{MoreLaws, all_stand, fir
 use Rattle.sercos_law_run.specs.Undisturbed.Jobs.{jobs_of, AreAt}
 use Rattle.sercos_law_run.specs.Undisturbed.StopsInTwo.{RefusesCycleTime}
 use Rattle.sercos_law_run.proofs.Undisturbed.StaysUp.{phase_now}
-use Rattle.sercos_law_run.proofs.Undisturbed.JobsBegun.{begun_end, begun_now, places_now, few_now}
+use Rattle.sercos_law_run.proofs.Undisturbed.JobsBegun.{begun_then, few_then, places_then}
 use Rattle.sercos_law_run.proofs.Undisturbed.CycleHeld.{cycle_some, checked_within}
 use Rattle.sercos_law_run.proofs.Undisturbed.JobPlaces.{reading, some_plan}
 use Rattle.sercos_law_run.proofs.Undisturbed.InOrder.{in_order}
@@ -45,7 +45,7 @@ use Rattle.sercos_law_run.proofs.Undisturbed.RefusedJobs.{refused_job}
 
 module _ (laws : held.Laws) (more : MoreLaws) (comes_up : (busy : ℕ) → ComesUp busy) (replies : HaveReplies) (transfers : MakeTransfers) (in_phase : ProcessesInPhase) (says : SaysShape) (cause : RefusedHasCause) (early : BeginsNoneEarly)
     (r : RingView) (jobs : List Job) (carry : Carry) (restarts : Restarts) (opened : IsOpened r jobs) (t : CycleView) (j : List CycleView) (run : IsRun r jobs carry restarts (t ∷ j)) (clear : IsClear (t ∷ j))
-    (stays : fall_of (known_of r) (behind_mdt r jobs carry restarts t.sent j) ≡ None) (two : t.phase ≡ 2) where
+    (two : t.phase ≡ 2) where
   abbrev now : Past
   now = behind_mdt r jobs carry restarts t.sent j
 
@@ -53,11 +53,11 @@ module _ (laws : held.Laws) (more : MoreLaws) (comes_up : (busy : ℕ) → Comes
   now_two = phase_now laws more comes_up r jobs carry restarts opened t j run.1 ∙ two
 
   -- THE NEWEST REQUEST of a channel, refused
-  pub refused_here : (k : ℕ) → k < length r.drives → (one : Begun) (older : List Begun) (code : Code) → epoch_begun (views_of r jobs carry restarts k (t ∷ j)) ≡ one ∷ older → (ref : IsRefused (drive_at r k) one.request code 2) → IsCycle (drive_at r k) r.cycle one.request code
+  pub refused_here : (k : ℕ) → k < length r.drives → (one : Begun) (older : List Begun) (code : Code) → begun_in (view_of r jobs carry restarts k t j) (views_of r jobs carry restarts k j) ≡ one ∷ older → (ref : IsRefused (drive_at r k) one.request code 2) → IsCycle (drive_at r k) r.cycle one.request code
   refused_here k below one older code split ref =
       let keeps : KeepsRules (drive_at r k) = ring_drive r k (drive_at r k) opened.valid (drive_got r k below) in
-      let few = few_now laws more r jobs carry restarts opened t j run clear stays k below (let n = now_two in omega (arith, n)) in
-      let place = subst (AreAt (jobs_of (known_of r) now.plan k)) split (places_now laws more r jobs carry restarts opened t j run clear stays k below (let n = now_two in omega (arith, n))) in
+      let few = few_then laws more r jobs carry restarts opened t j run clear k below (let n = now_two in omega (arith, n)) in
+      let place = subst (AreAt (jobs_of (known_of r) now.plan k)) split (places_then laws more r jobs carry restarts opened t j run clear k below (let n = now_two in omega (arith, n))) in
       let long = ap (λ (l : List Begun). length l) split in
       let phases = ref.between in
       refused_job says (drive_at r k) keeps.blocks (small laws r jobs carry restarts opened (first_store laws more r jobs carry restarts opened) k below) keeps.at keeps.mdt (opened.typed k below).at (opened.typed k below).mdt
@@ -73,16 +73,15 @@ module _ (laws : held.Laws) (more : MoreLaws) (comes_up : (busy : ℕ) → Comes
           low : has.ended.place < length r.drives
           low = let count = members_count r in let there = has.ended.there in omega (arith, count, there)
 
-          split : epoch_begun (views_of r jobs carry restarts has.ended.place (t ∷ j)) ≡ has.ended.one ∷ has.ended.older
-          split = sym (begun_now laws more r jobs carry restarts opened t j run clear stays has.ended.place low) ∙ has.ended.begun
+          split : begun_in (view_of r jobs carry restarts has.ended.place t j) (views_of r jobs carry restarts has.ended.place j) ≡ has.ended.one ∷ has.ended.older
+          split = sym (begun_then laws more r jobs carry restarts opened t j run clear has.ended.place low) ∙ has.ended.begun
 
           stands : held.Stands r jobs carry restarts (t ∷ j) has.ended.place
           stands = all_stand laws more r jobs carry restarts opened (t ∷ j) run clear has.ended.place low
 
           ref : IsRefused (drive_at r has.ended.place) has.ended.one.request code t.phase
           ref = (newest_refused more.stop_laws.lower.transfers replies transfers in_phase (drive_at r has.ended.place).busy (drive_at r has.ended.place) (small laws r jobs carry restarts opened (first_store laws more r jobs carry restarts opened) has.ended.place low)
-              (view_of r jobs carry restarts has.ended.place t j) (views_of r jobs carry restarts has.ended.place j) stands.sees.run stands.sound stands.stored (ap (λ (o : Option Fall). is_some o) stays) has.ended.one has.ended.older code
-              (sym (begun_end laws more r jobs carry restarts opened t j run clear stays has.ended.place) ∙ split) has.ended.ended).0
+              (view_of r jobs carry restarts has.ended.place t j) (views_of r jobs carry restarts has.ended.place j) stands.sees.run stands.sound stands.stored has.ended.one has.ended.older code split has.ended.ended).0
 
           cycle : IsCycle (drive_at r has.ended.place) r.cycle has.ended.one.request code
           cycle = refused_here has.ended.place low has.ended.one has.ended.older code split (subst (λ (n : ℕ). IsRefused (drive_at r has.ended.place) has.ended.one.request code n) two ref)
@@ -94,7 +93,7 @@ module _ (laws : held.Laws) (more : MoreLaws) (comes_up : (busy : ℕ) → Comes
           ]
             where
               place : AreAt (jobs_of (known_of r) (behind_mdt r jobs carry restarts t.sent j).plan has.ended.place) (has.ended.one ∷ has.ended.older)
-              place = subst (AreAt (jobs_of (known_of r) (behind_mdt r jobs carry restarts t.sent j).plan has.ended.place)) split (places_now laws more r jobs carry restarts opened t j run clear stays has.ended.place low (let n = now_two in omega (arith, n)))
+              place = subst (AreAt (jobs_of (known_of r) (behind_mdt r jobs carry restarts t.sent j).plan has.ended.place)) split (places_then laws more r jobs carry restarts opened t j run clear has.ended.place low (let n = now_two in omega (arith, n)))
 
               reads_first : length has.ended.older < reads_count (member (known_of r) has.ended.place) → ⊥
               reads_first less = no_write (is_read_request (member (known_of r) has.ended.place) (length has.ended.older) has.ended.one.request
@@ -105,9 +104,9 @@ module _ (laws : held.Laws) (more : MoreLaws) (comes_up : (busy : ℕ) → Comes
                   no_write (Attribute x same) = let wrong : request.Read x 3 ≡ request.Write (idn 2) 7 (bytes_in (r.cycle ∷ [])) = sym same ∙ cycle.asks in cc
 
           made : (plan : PlanView) × ((behind_mdt r jobs carry restarts t.sent j).plan ≡ Some plan)
-          made = some_plan (known_of r) has.ended.place (behind_mdt r jobs carry restarts t.sent j).plan (epoch_begun (views_of r jobs carry restarts has.ended.place (t ∷ j)))
-              (places_now laws more r jobs carry restarts opened t j run clear stays has.ended.place low (let n = now_two in omega (arith, n)))
-              (let same = ap (λ (l : List Begun). length l) (begun_now laws more r jobs carry restarts opened t j run clear stays has.ended.place low) in let many = written in omega (arith, same, many))
+          made = some_plan (known_of r) has.ended.place (behind_mdt r jobs carry restarts t.sent j).plan (begun_in (view_of r jobs carry restarts has.ended.place t j) (views_of r jobs carry restarts has.ended.place j))
+              (places_then laws more r jobs carry restarts opened t j run clear has.ended.place low (let n = now_two in omega (arith, n)))
+              (let same = ap (λ (l : List Begun). length l) (begun_then laws more r jobs carry restarts opened t j run clear has.ended.place low) in let many = written in omega (arith, same, many))
 
           refuses : RefusesCycleTime r address i code
           refuses = record {
@@ -119,5 +118,5 @@ module _ (laws : held.Laws) (more : MoreLaws) (comes_up : (busy : ℕ) → Comes
             first = λ k earlier.
                 let count = members_count r in
                 let well = in_order laws.tasks early (known_of r) (tasks_for (known_of r) jobs) (λ i. (more.requests (known_of r) jobs i).0) (middle r carry restarts t.sent j) now_two has.ended.place has.ended.there written k earlier in
-                checked_within laws more r jobs carry restarts opened t j run clear stays (let n = now_two in omega (arith, n)) k (omega (arith, earlier, low)) well;
+                checked_within laws more r jobs carry restarts opened t j run clear (let n = now_two in omega (arith, n)) k (omega (arith, earlier, low)) well;
           }

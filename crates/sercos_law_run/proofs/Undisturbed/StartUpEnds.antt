@@ -44,7 +44,7 @@ inside r k below = let count = members_count r in omega (arith, count, below)
 -- a check for phase 4 that has ended, of a drive of which no own block was outside its limits, has ended well
 abbrev pub ReadyIfEnded : Type 0
 ReadyIfEnded = (r : RingView) (jobs : List Job) (carry : Carry) (restarts : Restarts) (opened : IsOpened r jobs) (t : CycleView) (j : List CycleView) → IsRun r jobs carry restarts (t ∷ j) → IsClear (t ∷ j) →
-    fall_of (known_of r) (behind_mdt r jobs carry restarts t.sent j) ≡ None → (k : ℕ) → k < length r.drives → list_any is_outside (drive_at r k).blocks ≡ false →
+    (k : ℕ) → k < length r.drives → list_any is_outside (drive_at r k).blocks ≡ false →
     reads_count (member (known_of r) k) + 12 < length (outcomes (behind_mdt r jobs carry restarts t.sent j) k) → is_ready (member (known_of r) k) (outcomes (behind_mdt r jobs carry restarts t.sent j) k) ≡ true
 
 module _ (laws : Laws) (more : MoreLaws) (turn : WorkInTurn) (comes_up : (busy : ℕ) → ComesUp busy) (late : (busy : ℕ) → NoneLate busy) (started : IsStarted) (in_two : StopsInTwo) (in_three : StopsInThree) (in_four : NoStopInFour) (ready : ReadyIfEnded)
@@ -55,13 +55,10 @@ module _ (laws : Laws) (more : MoreLaws) (turn : WorkInTurn) (comes_up : (busy :
       ⊎ ((x : Stop) × ((behind_mdt r jobs carry restarts t.sent (cycles ++ before)).stop ≡ Some x)
       × (StopsForThePlan r x ⊎ (StopsForTheCycleTime r x ⊎ StopsForTheCheck r (behind_mdt r jobs carry restarts t.sent (cycles ++ before)) x)))
 
-  stays : fall_of (known_of r) (behind_mdt r jobs carry restarts t.sent (cycles ++ before)) ≡ None
-  stays = (never_falls laws more turn comes_up late r jobs carry restarts opened (t ∷ cycles) before run clear starts calm).stays.1
-
   in_phase_four : t.phase ≡ 4 → IsEnded
   in_phase_four four = inl (
     four,
-    in_four r jobs carry restarts t (cycles ++ before) opened run clear stays four,
+    in_four r jobs carry restarts t (cycles ++ before) opened run clear four,
     (
       fits_in laws more r jobs carry restarts opened t (cycles ++ before) run clear (omega (arith, four)),
       λ k below. own_fits laws more comes_up r jobs carry restarts opened k below t (cycles ++ before) run clear four,
@@ -84,12 +81,12 @@ module _ (laws : Laws) (more : MoreLaws) (turn : WorkInTurn) (comes_up : (busy :
       with_stop : (o : Option Stop) → (behind_mdt r jobs carry restarts t.sent (cycles ++ before)).stop ≡ o → is_some o ≡ true → IsEnded
       with_stop None is some = absurd (false≢true some)
       with_stop (Some x) is some = elim (cases_eq t.phase 2) [
-        | inl two ↦ elim (in_two r jobs carry restarts t (cycles ++ before) x opened run clear stays two is) [
+        | inl two ↦ elim (in_two r jobs carry restarts t (cycles ++ before) x opened run clear two is) [
           | inl plan ↦ inr (x, is, inl plan)
           | inr cycle ↦ inr (x, is, inr (inl cycle))
         ]
         | inr not_two ↦ elim (cases_eq t.phase 3) [
-          | inl three ↦ inr (x, is, inr (inr (in_three r jobs carry restarts t (cycles ++ before) x opened run clear stays three is)))
+          | inl three ↦ inr (x, is, inr (inr (in_three r jobs carry restarts t (cycles ++ before) x opened run clear three is)))
           | inr not_three ↦ let (low, high) = within long in in_phase_four (omega (arith, low, high, not_two, not_three))
         ]
       ]
@@ -112,7 +109,7 @@ module _ (laws : Laws) (more : MoreLaws) (turn : WorkInTurn) (comes_up : (busy :
       → HasBadCheck r (looks_back r jobs (master_calls r carry restarts (u ∷ (rest ++ before)))) → ⊥
   ready_before right u rest runs clears calms failed =
       false≢true (sym failed.badly ∙ ap (is_ready (member (known_of r) failed.place)) same
-      ∙ ready r jobs carry restarts opened u (rest ++ before) runs clears kept failed.place failed.there (right.1 failed.place failed.there) (subst (λ (l : List Outcome). reads_count (member (known_of r) failed.place) + 12 < length l) same failed.ended))
+      ∙ ready r jobs carry restarts opened u (rest ++ before) runs clears failed.place failed.there (right.1 failed.place failed.there) (subst (λ (l : List Outcome). reads_count (member (known_of r) failed.place) + 12 < length l) same failed.ended))
     where
       kept : fall_of (known_of r) (behind_mdt r jobs carry restarts u.sent (rest ++ before)) ≡ None
       kept = (never_falls laws more turn comes_up late r jobs carry restarts opened (u ∷ rest) before runs clears starts calms).stays.1

@@ -1,7 +1,7 @@
--- In an undisturbed epoch each request that ends is told in the record of its cycle. So the requests to a drive are reported in time.
+-- Each request that ends is told in the record of its cycle. So in an undisturbed epoch the requests to a drive are reported in time.
 use Rattle.std.proofs.Common.{◌≡◌, inl, inr, ℕ, zero, suc, ◌+◌, ◌*◌, ◌<◌, ◌≤◌, Bool, true, false, if◌then◌else◌, List, [], ◌∷◌, ◌++◌, drop, length, Option, Some, None, refl, sym, ap, ◌∙◌, subst, arith, length-append, append_assoc}
 use Rattle.std.specs.Prelude.{is_none, is_some, option_map, slice_get, slice_index}
-use Rattle.std.proofs.lemmas.Bool.{false≢true}
+use Rattle.std.proofs.lemmas.Bool.{cases_lt, false≢true}
 use Rattle.std.proofs.lemmas.Option.{slice_get_within}
 use Rattle.sercos_telegram.specs.declared.layout.Kind.TheVariants as kinds
 use Rattle.sercos_step.specs.declared.request.Job.{Job}
@@ -19,6 +19,7 @@ use Rattle.sercos_seat.specs.Agenda.{reads_count, is_ready}
 use Rattle.sercos_seat.specs.Channel.{Report, broken_number, count_requests, number_in, outcomes_in, with_outcome}
 use Rattle.sercos_seat.specs.Ring.{Known, Task, known_of, member, tasks_for}
 use Rattle.sercos_seat.proofs.Gets.{get_left, get_map}
+use Rattle.sercos_seat.proofs.Queues.{ready_long}
 use Rattle.sercos_master.specs.Annals.{Past, Call, Restart, outcomes, is_idle, fall_of, goes_on, next_phase, new_epoch, still_waiting}
 use Rattle.sercos_master.specs.Reports.{broken}
 use Rattle.sercos_script.specs.Links.{Carry, Restarts}
@@ -30,10 +31,10 @@ use Rattle.sercos_law_channel.specs.Pace.Passages.{StandsThroughout, HearsThroug
 use Rattle.sercos_law_channel.specs.Pace.StartCosts.{RecoversSince}
 use Rattle.sercos_law_run.specs.Journal.Arrivals.{heard, passage}
 use Rattle.sercos_law_run.specs.Journal.Records.{mst_in, ats_in}
-use Rattle.sercos_law_run.specs.Journal.Runs.{station_of, with_at, at_calls, own_mst, begins, master_calls, looks_back, middle, IsRun, IsClear}
+use Rattle.sercos_law_run.specs.Journal.Runs.{drive_at, station_of, with_at, at_calls, own_mst, begins, master_calls, looks_back, middle, IsRun, IsClear}
 use Rattle.sercos_law_run.specs.Agenda.Channels.{Channel, channel_at}
 use Rattle.sercos_law_run.specs.Agenda.Events.{HasOutcome, HasReport}
-use Rattle.sercos_law_run.specs.Agenda.Reported.{told, told_at_end, with_told, with_number, after_told, still_to_tell, task_numbers}
+use Rattle.sercos_law_run.specs.Agenda.Reported.{AreNumbered, told, told_at_end, with_told, with_number, after_told, still_to_tell, task_numbers}
 use Rattle.sercos_law_run.specs.Agenda.Tasks.{IsTask, OfReads, OfWrites, Checks3, Lists3, Checks4, Lists4, OfWaiting, AreBegunTasks}
 use Rattle.sercos_law_run.specs.Agenda.Turns.{WorkInTurn, WorksInFour}
 use Rattle.sercos_law_run.proofs.Agenda.TaskRuns.{all_ended}
@@ -44,12 +45,14 @@ use Rattle.sercos_law_run.proofs.Headline.HeadlineRuns.{MoreLaws, keeps_all}
 use Rattle.sercos_law_run.proofs.Headline.OnceRuns.{restarts_so}
 use Rattle.sercos_law_run.specs.Undisturbed.Ends.{ComesToPhaseFour}
 use Rattle.sercos_law_run.specs.Undisturbed.EpochStarts.{StartsEpoch}
-use Rattle.sercos_law_run.specs.Undisturbed.Reports.{HaveTold, request_cycles, waiting_after}
+use Rattle.sercos_law_run.specs.Undisturbed.Reports.{HaveTold, left_after, request_cycles, waiting_after}
 use Rattle.sercos_law_run.specs.Undisturbed.StopsLater.{NoStopInFour}
 use Rattle.sercos_law_run.specs.Undisturbed.Undisturbed.{AreUndisturbed}
-use Rattle.sercos_law_run.proofs.Undisturbed.EpochCycles.{IsOn, AreOn, waits_now, waits_along, are_on}
-use Rattle.sercos_law_run.proofs.Undisturbed.EndedInTime.{have_ended}
-use Rattle.sercos_law_run.proofs.Undisturbed.InFour.{ready_now, counted}
+use Rattle.sercos_law_run.proofs.Undisturbed.EpochCycles.{AreOn, IsCut, IsOn, are_on, cut, run_rest, waits_along, waits_now}
+use Rattle.sercos_law_run.proofs.Undisturbed.Comes.{calm_in}
+use Rattle.sercos_law_run.proofs.Undisturbed.EndedInTime.{have_ended, one_time_more}
+use Rattle.sercos_law_run.proofs.Undisturbed.InFour.{counted, four_since, numbered, ready_now}
+use Rattle.sercos_law_run.proofs.Undisturbed.OneRequest.{room}
 use Rattle.sercos_law_run.proofs.Undisturbed.PhaseCounts.{end_kept}
 use Rattle.sercos_law_run.proofs.Undisturbed.PhaseZero.{in_zero}
 use Rattle.sercos_law_run.proofs.Undisturbed.RefusedRuns.{SaysShape}
@@ -57,7 +60,7 @@ use Rattle.sercos_law_run.proofs.Undisturbed.Small.{first_is, never_both}
 use Rattle.sercos_law_run.proofs.Undisturbed.StartUpEnds.{inside}
 
 -- NUMBERS that were told
-abbrev AllTold : List CycleView → List (Option ℕ) → Type 0
+abbrev pub AllTold : List CycleView → List (Option ℕ) → Type 0
 AllTold cycles [] = Unit {0}
 AllTold cycles (o ∷ numbers) = ((number : ℕ) × (o ≡ Some number) × HaveTold cycles number) × AllTold cycles numbers
 
@@ -65,19 +68,35 @@ told_later : (t : CycleView) (cycles : List CycleView) (numbers : List (Option �
 told_later t cycles [] all = tt
 told_later t cycles (o ∷ numbers) all = ((all.0.0, all.0.1, inr all.0.2), told_later t cycles numbers all.1)
 
-told_last : (cycles : List CycleView) (numbers : List (Option ℕ)) (number : ℕ) → AllTold cycles numbers → HaveTold cycles number → AllTold cycles (numbers ++ Some number ∷ [])
-told_last cycles [] number all has = ((number, refl, has), tt)
-told_last cycles (o ∷ numbers) number all has = (all.0, told_last cycles numbers number all.1 has)
+told_both : (cycles : List CycleView) (xs ys : List (Option ℕ)) → AllTold cycles xs → AllTold cycles ys → AllTold cycles (xs ++ ys)
+told_both cycles [] ys all more = more
+told_both cycles (o ∷ xs) ys all more = (all.0, told_both cycles xs ys all.1 more)
 
-told_there : (cycles : List CycleView) (numbers : List (Option ℕ)) (i : ℕ) (o : Option ℕ) → AllTold cycles numbers → slice_get numbers i ≡ Some o → (number : ℕ) × (o ≡ Some number) × HaveTold cycles number
+pub told_there : (cycles : List CycleView) (numbers : List (Option ℕ)) (i : ℕ) (o : Option ℕ) → AllTold cycles numbers → slice_get numbers i ≡ Some o → (number : ℕ) × (o ≡ Some number) × HaveTold cycles number
 told_there cycles [] i o all got = absurd (cc)
 told_there cycles (a ∷ numbers) zero o all got = let same : a ≡ o = cc in subst (λ (x : Option ℕ). (number : ℕ) × (x ≡ Some number) × HaveTold cycles number) same all.0
 told_there cycles (a ∷ numbers) (suc i) o all got = told_there cycles numbers i o all.1 got
 
--- a report comes after those before it
-after_with : (o : Option Report) (reports : List Report) (numbers : List (Option ℕ)) → after_told (with_told o reports) numbers ≡ after_told reports (with_number o numbers)
-after_with None reports numbers = refl
-after_with (Some r) reports numbers = refl
+-- the numbers that the end of a cycle tells: of the request that an AT ended in it, and at a fall of the broken one
+abbrev numbers_told : Bool → Option Report → Option Report → List (Option ℕ)
+numbers_told falls ended broken = with_number ended (if falls then with_number broken [] else [])
+
+-- they come after those that were told before
+after_end : (falls : Bool) (ended broken : Option Report) (reports : List Report) (numbers : List (Option ℕ)) → after_told (told_at_end falls ended broken reports) numbers ≡ after_told reports (numbers_told falls ended broken ++ numbers)
+after_end false None broken reports numbers = refl
+after_end false (Some x) broken reports numbers = refl
+after_end true None None reports numbers = refl
+after_end true None (Some y) reports numbers = refl
+after_end true (Some x) None reports numbers = refl
+after_end true (Some x) (Some y) reports numbers = refl
+
+all_told : (cycles : List CycleView) (falls : Bool) (ended broken : Option Report) → ((x : Report) → HasReport (told_at_end falls ended broken []) x.number x.outcome → HaveTold cycles x.number) → AllTold cycles (numbers_told falls ended broken)
+all_told cycles false None broken has = tt
+all_told cycles false (Some x) broken has = ((x.number, refl, has x (inl (refl, refl))), tt)
+all_told cycles true None None has = tt
+all_told cycles true None (Some y) has = ((y.number, refl, has y (inl (refl, refl))), tt)
+all_told cycles true (Some x) None has = ((x.number, refl, has x (inl (refl, refl))), tt)
+all_told cycles true (Some x) (Some y) has = ((x.number, refl, has x (inr (inl (refl, refl)))), ((y.number, refl, has y (inl (refl, refl))), tt))
 
 same_after : (reports : List Report) (xs ys : List (Option ℕ)) → after_told reports xs ≡ after_told reports ys → xs ≡ ys
 same_after [] xs ys same = same
@@ -91,7 +110,12 @@ dropped (x ∷ xs) m zero le few = omega (arith, le)
 dropped (x ∷ xs) zero (suc n) le few = let rest = dropped xs zero n (omega arith) (omega arith) in omega (arith, rest)
 dropped (x ∷ xs) (suc m) (suc n) le few = let rest = dropped xs m n (omega (arith, le)) (omega (arith, few)) in omega (arith, rest)
 
-numbers_long : (tasks : List Task) → length (task_numbers tasks) ≡ length tasks
+kept_most : (n : ℕ) (xs : List Task) → length xs ≤ length (drop n xs) + n
+kept_most zero xs = omega arith
+kept_most (suc n) [] = omega arith
+kept_most (suc n) (x ∷ xs) = let rest = kept_most n xs in omega (arith, rest)
+
+pub numbers_long : (tasks : List Task) → length (task_numbers tasks) ≡ length tasks
 numbers_long [] = refl
 numbers_long (t ∷ tasks) = ap suc (numbers_long tasks)
 
@@ -104,16 +128,16 @@ none_of s k plan waiting phase (b ∷ older) (t ∷ tasks) none are = absurd (cc
 all_left : (c : Channel) → c.report ≡ None → open_in c.begun ≡ None → c.tasks ≡ [] → still_to_tell c ≡ task_numbers c.waiting
 all_left c quiet idle none = rw (quiet, idle, none) refl
 
--- The request at work after the start-up is one of those that wait.
-newest_waits : (s : Known) (k : ℕ) (plan : Option PlanView) (waiting : List Task) (phase : ℕ) (begun : List Begun) (tasks : List Task) → AreBegunTasks s k plan waiting phase begun tasks → is_none (open_in begun) ≡ false → is_ready (member s k) (outcomes_in begun) ≡ true
-    → reads_count (member s k) + 13 ≤ length (outcomes_in begun) → (length begun ≡ suc (length (outcomes_in begun))) × ((j : ℕ) × (length (outcomes_in begun) ≡ reads_count (member s k) + (13 + j)) × (j < length waiting))
-newest_waits s k plan waiting phase [] tasks are works ready many = absurd (false≢true (sym works))
-newest_waits s k plan waiting phase (b ∷ older) [] are works ready many = absurd are
-newest_waits s k plan waiting phase (b ∷ older) (t ∷ tasks) are works ready many = by (outcome_of b.request b.answers) works ready many are.1.task
+-- The request at work after the start-up is one of those that wait, so it has a number.
+newest_waits : (s : Known) (k : ℕ) (plan : Option PlanView) (waiting : List Task) → AreNumbered waiting → (phase : ℕ) (begun : List Begun) (tasks : List Task) → AreBegunTasks s k plan waiting phase begun tasks → is_none (open_in begun) ≡ false → is_ready (member s k) (outcomes_in begun) ≡ true
+    → reads_count (member s k) + 13 ≤ length (outcomes_in begun) → (length begun ≡ suc (length (outcomes_in begun))) × ((j : ℕ) × (length (outcomes_in begun) ≡ reads_count (member s k) + (13 + j)) × (j < length waiting)) × (is_some (number_in tasks) ≡ true)
+newest_waits s k plan waiting numbered phase [] tasks are works ready many = absurd (false≢true (sym works))
+newest_waits s k plan waiting numbered phase (b ∷ older) [] are works ready many = absurd are
+newest_waits s k plan waiting numbered phase (b ∷ older) (t ∷ tasks) are works ready many = by (outcome_of b.request b.answers) works ready many are.1.task
   where
     by : (o : Option Outcome) → is_none (if is_some o then None else next_step b.request b.answers) ≡ false → is_ready (member s k) (with_outcome o (outcomes_in older)) ≡ true → reads_count (member s k) + 13 ≤ length (with_outcome o (outcomes_in older))
         → IsTask s k are.1.by_then waiting (outcomes_in older) t
-        → (suc (length older) ≡ suc (length (with_outcome o (outcomes_in older)))) × ((j : ℕ) × (length (with_outcome o (outcomes_in older)) ≡ reads_count (member s k) + (13 + j)) × (j < length waiting))
+        → (suc (length older) ≡ suc (length (with_outcome o (outcomes_in older)))) × ((j : ℕ) × (length (with_outcome o (outcomes_in older)) ≡ reads_count (member s k) + (13 + j)) × (j < length waiting)) × (is_some t.number ≡ true)
     by (Some o) off ready many task = absurd (false≢true (sym off))
     by None on ready many (OfReads r less got is) = absurd (omega (arith, less, many))
     by None on ready many (OfWrites p i r has less at got is) = absurd (omega (arith, less, at, many))
@@ -121,15 +145,15 @@ newest_waits s k plan waiting phase (b ∷ older) (t ∷ tasks) are works ready 
     by None on ready many (Lists3 at failed is) = absurd (omega (arith, at, many))
     by None on ready many (Checks4 at well is) = absurd (omega (arith, at, many))
     by None on ready many (Lists4 at failed is) = absurd (never_both (is_ready (member s k) (outcomes_in older)) ready failed)
-    by None on ready many (OfWaiting j at is got) = (ap suc (sym are.1.ended), (j, at, slice_get_within waiting j t got))
+    by None on ready many (OfWaiting j at is got) = (ap suc (sym are.1.ended), (j, at, slice_get_within waiting j t got), numbered j t got)
 
 module _ (laws : Laws) (more : MoreLaws) (r : RingView) (jobs : List Job) (carry : Carry) (restarts : Restarts) (opened : IsOpened r jobs) (k : ℕ) (below : k < length r.drives) where
   abbrev told_by : List CycleView → List Report
   told_by j = told (known_of r) (tasks_for (known_of r) jobs) k (master_calls r carry restarts j)
 
   -- the numbers of the requests that aren't told yet
-  abbrev left : List CycleView → List (Option ℕ)
-  left j = still_to_tell (channel_at (looks_back r jobs (master_calls r carry restarts j)) k)
+  abbrev pub left : List CycleView → List (Option ℕ)
+  left j = left_after r jobs carry restarts j k
 
   -- A CYCLE tells what an AT ended in it.
   told_ats : (cycle : ℕ) (ats : List (List ℕ)) (h : List Call) → told (known_of r) (tasks_for (known_of r) jobs) k (at_calls r carry cycle ats h) ≡ told (known_of r) (tasks_for (known_of r) jobs) k h
@@ -140,27 +164,27 @@ module _ (laws : Laws) (more : MoreLaws) (r : RingView) (jobs : List Job) (carry
       by None = refl
       by (Some content) = refl
 
-  told_next : (t : CycleView) (j : List CycleView) → IsOn r jobs carry restarts t j → told_by (t ∷ j) ≡ with_told ((behind_mdt r jobs carry restarts t.sent j).now.report k) (told_by j)
-  told_next t j on =
-      ap (λ (o : Option Fall). told_at_end (is_some o) ((behind_mdt r jobs carry restarts t.sent j).now.report k) (broken (behind_mdt r jobs carry restarts t.sent j) k) (told (known_of r) (tasks_for (known_of r) jobs) k (middle r carry restarts t.sent j))) on.stays
-      ∙ ap (λ (l : List Report). with_told ((behind_mdt r jobs carry restarts t.sent j).now.report k) l) (told_ats (length j) (ats_in t.sent) (own_mst carry (length j) (mst_in t.sent) (begins r carry restarts j))
-      ∙ ap (λ (b : Bool). told (known_of r) (tasks_for (known_of r) jobs) k (if b then Restart ∷ master_calls r carry restarts j else master_calls r carry restarts j)) on.quiet)
+  abbrev now_in : CycleView → List CycleView → Past
+  now_in t j = behind_mdt r jobs carry restarts t.sent j
+
+  abbrev falls_in : CycleView → List CycleView → Bool
+  falls_in t j = is_some (fall_of (known_of r) (now_in t j))
+
+  told_next : (t : CycleView) (j : List CycleView) → restarts (length j) 0 ≡ false → told_by (t ∷ j) ≡ told_at_end (falls_in t j) ((now_in t j).now.report k) (broken (now_in t j) k) (told_by j)
+  told_next t j quiet =
+      ap (λ (l : List Report). told_at_end (falls_in t j) ((now_in t j).now.report k) (broken (now_in t j) k) l) (told_ats (length j) (ats_in t.sent) (own_mst carry (length j) (mst_in t.sent) (begins r carry restarts j))
+      ∙ ap (λ (b : Bool). told (known_of r) (tasks_for (known_of r) jobs) k (if b then Restart ∷ master_calls r carry restarts j else master_calls r carry restarts j)) quiet)
 
   in_order : (j : List CycleView) → after_told (told_by j) (left j) ≡ task_numbers (tasks_for (known_of r) jobs k)
   in_order j = more.in_order (known_of r) (tasks_for (known_of r) jobs) (master_calls r carry restarts j) k (more.requests (known_of r) jobs k).1 (inside r k below) (restarts_so r carry restarts j)
 
-  left_next : (t : CycleView) (j : List CycleView) → IsOn r jobs carry restarts t j → with_number ((behind_mdt r jobs carry restarts t.sent j).now.report k) (left (t ∷ j)) ≡ left j
-  left_next t j on = same_after (told_by j) _ _
-      (sym (after_with ((behind_mdt r jobs carry restarts t.sent j).now.report k) (told_by j) (left (t ∷ j))) ∙ ap (λ (l : List Report). after_told l (left (t ∷ j))) (sym (told_next t j on)) ∙ in_order (t ∷ j) ∙ sym (in_order j))
+  left_next : (t : CycleView) (j : List CycleView) → restarts (length j) 0 ≡ false → numbers_told (falls_in t j) ((now_in t j).now.report k) (broken (now_in t j) k) ++ left (t ∷ j) ≡ left j
+  left_next t j quiet = same_after (told_by j) _ _
+      (sym (after_end (falls_in t j) ((now_in t j).now.report k) (broken (now_in t j) k) (told_by j) (left (t ∷ j))) ∙ ap (λ (l : List Report). after_told l (left (t ∷ j))) (sym (told_next t j quiet)) ∙ in_order (t ∷ j) ∙ sym (in_order j))
 
-  told_in : (t : CycleView) (j : List CycleView) → IsRun r jobs carry restarts (t ∷ j) → IsClear (t ∷ j) → IsOn r jobs carry restarts t j → (x : Report) → (behind_mdt r jobs carry restarts t.sent j).now.report k ≡ Some x
+  told_in : (t : CycleView) (j : List CycleView) → IsRun r jobs carry restarts (t ∷ j) → IsClear (t ∷ j) → (x : Report) → HasReport (told_at_end (falls_in t j) ((now_in t j).now.report k) (broken (now_in t j) k) []) x.number x.outcome
       → HasOutcome t.events.outcomes x.number x.outcome
-  told_in t j run clear on x is = ((keeps_all laws more r jobs carry restarts opened t j run clear).reported.events x.number x.outcome).1 (inr (
-    k,
-    inside r k below,
-    subst (λ (o : Option Report). HasReport (told_at_end (is_some (fall_of (known_of r) (behind_mdt r jobs carry restarts t.sent j))) o (broken (behind_mdt r jobs carry restarts t.sent j) k) []) x.number x.outcome) (sym is)
-        (subst (λ (f : Option Fall). HasReport (told_at_end (is_some f) (Some x) (broken (behind_mdt r jobs carry restarts t.sent j) k) []) x.number x.outcome) (sym on.stays) (inl (refl, refl))),
-  ))
+  told_in t j run clear x has = ((keeps_all laws more r jobs carry restarts opened t j run clear).reported.events x.number x.outcome).1 (inr (k, inside r k below, has))
 
   -- in phase 0 of an epoch all that wait are left
   none_reported : (before : List CycleView) → (looks_back r jobs (master_calls r carry restarts before)).now.report k ≡ None
@@ -172,7 +196,7 @@ module _ (laws : Laws) (more : MoreLaws) (r : RingView) (jobs : List Job) (carry
       by true = refl
       by false = refl
 
-  left_first : (before : List CycleView) → StartsEpoch r jobs carry restarts before → left before ≡ task_numbers (waiting_after r jobs carry restarts before k)
+  pub left_first : (before : List CycleView) → StartsEpoch r jobs carry restarts before → left before ≡ task_numbers (waiting_after r jobs carry restarts before k)
   left_first before starts =
       let tasks : (looks_back r jobs (master_calls r carry restarts before)).tasks k ≡ [] = (in_zero r jobs carry restarts before starts).tasks k in
       let begun : begun_by ((looks_back r jobs (master_calls r carry restarts before)).calls k) ≡ [] =
@@ -180,66 +204,142 @@ module _ (laws : Laws) (more : MoreLaws) (r : RingView) (jobs : List Job) (carry
       (laws.tasks (known_of r) (tasks_for (known_of r) jobs) (master_calls r carry restarts before) k (inside r k below)) in
       all_left (channel_at (looks_back r jobs (master_calls r carry restarts before)) k) (none_reported before) (ap open_in begun) tasks
 
-  -- THE REQUESTS THAT WAITED: those that were told in these cycles, and then those that are left.
-  record IsTold (cycles before : List CycleView) : Type 0 where
-    numbers : List (Option ℕ)
-    all : AllTold cycles numbers
-    is : numbers ++ left (cycles ++ before) ≡ task_numbers (waiting_after r jobs carry restarts before k)
+  -- THE REQUESTS THAT WERE LEFT: those that were told in these cycles, and then those that are left still; regardless of falls, if the
+  -- master doesn't restart.
+  pub record IsTold (cycles before : List CycleView) : Type 0 where
+    pub numbers : List (Option ℕ)
+    pub all : AllTold cycles numbers
+    pub is : numbers ++ left (cycles ++ before) ≡ left before
 
-  told_since : (cycles before : List CycleView) → IsRun r jobs carry restarts (cycles ++ before) → IsClear (cycles ++ before) → AreOn r jobs carry restarts cycles before → StartsEpoch r jobs carry restarts before → IsTold cycles before
-  told_since [] before run clear on starts = record { numbers = []; all = tt; is = left_first before starts }
-  told_since (t ∷ cycles) before run clear on starts = by (told_since cycles before run.0 clear.0 on.0 starts) ((behind_mdt r jobs carry restarts t.sent (cycles ++ before)).now.report k) refl (left_next t (cycles ++ before) on.1)
-    where
-      by : IsTold cycles before → (o : Option Report) → (behind_mdt r jobs carry restarts t.sent (cycles ++ before)).now.report k ≡ o
-          → with_number ((behind_mdt r jobs carry restarts t.sent (cycles ++ before)).now.report k) (left (t ∷ (cycles ++ before))) ≡ left (cycles ++ before) → IsTold (t ∷ cycles) before
-      by earlier None is next = record {
-        numbers = earlier.numbers;
-        all = told_later t cycles earlier.numbers earlier.all;
-        is = ap (λ (l : List (Option ℕ)). earlier.numbers ++ l) (sym (ap (λ (o : Option Report). with_number o (left (t ∷ (cycles ++ before)))) is) ∙ next) ∙ earlier.is;
-      }
-      by earlier (Some x) is next = record {
-        numbers = earlier.numbers ++ Some x.number ∷ [];
-        all = told_last (t ∷ cycles) earlier.numbers x.number (told_later t cycles earlier.numbers earlier.all) (inl (x.outcome, told_in t (cycles ++ before) run clear on.1 x is));
-        is = append_assoc earlier.numbers (Some x.number ∷ []) (left (t ∷ (cycles ++ before)))
-            ∙ ap (λ (l : List (Option ℕ)). earlier.numbers ++ l) (sym (ap (λ (o : Option Report). with_number o (left (t ∷ (cycles ++ before)))) is) ∙ next) ∙ earlier.is;
+  pub told_since : (cycles before : List CycleView) → IsRun r jobs carry restarts (cycles ++ before) → IsClear (cycles ++ before) → AreUndisturbed r carry restarts cycles before → IsTold cycles before
+  told_since [] before run clear calm = record { numbers = []; all = tt; is = refl }
+  told_since (t ∷ cycles) before run clear calm =
+      let earlier = told_since cycles before run.0 clear.0 calm.0 in
+      let now = numbers_told (falls_in t (cycles ++ before)) ((now_in t (cycles ++ before)).now.report k) (broken (now_in t (cycles ++ before)) k) in
+      record {
+        numbers = earlier.numbers ++ now;
+        all = told_both (t ∷ cycles) earlier.numbers now (told_later t cycles earlier.numbers earlier.all)
+            (all_told (t ∷ cycles) (falls_in t (cycles ++ before)) ((now_in t (cycles ++ before)).now.report k) (broken (now_in t (cycles ++ before)) k) (λ x has. inl (x.outcome, told_in t (cycles ++ before) run clear x has)));
+        is = append_assoc earlier.numbers now (left (t ∷ (cycles ++ before)))
+            ∙ ap (λ (l : List (Option ℕ)). earlier.numbers ++ l) (left_next t (cycles ++ before) ((calm_in r carry restarts t (cycles ++ before) calm.1).stays 0 (omega arith))) ∙ earlier.is;
       }
 
-  -- HOW MANY ARE LEFT after a cycle of phase 4 in which the first i + 1 requests have ended
-  module _ (comes_up : (busy : ℕ) → ComesUp busy) (works : WorksInFour) (t : CycleView) (j : List CycleView) (run : IsRun r jobs carry restarts (t ∷ j)) (clear : IsClear (t ∷ j)) (on : IsOn r jobs carry restarts t j) (four : t.phase ≡ 4)
-      (i : ℕ) (ended : reads_count (member (known_of r) k) + (13 + suc i) ≤ length (outcomes (behind_mdt r jobs carry restarts t.sent j) k)) (low : suc i ≤ length ((behind_mdt r jobs carry restarts t.sent j).waiting k)) where
+  -- HOW MANY ARE LEFT after a cycle of phase 4
+  module _ (comes_up : (busy : ℕ) → ComesUp busy) (works : WorksInFour) (t : CycleView) (j : List CycleView) (run : IsRun r jobs carry restarts (t ∷ j)) (clear : IsClear (t ∷ j)) (on : IsOn r jobs carry restarts t j) (four : t.phase ≡ 4) where
     abbrev now : Past
     now = behind_mdt r jobs carry restarts t.sent j
 
     begun_tasks : AreBegunTasks (known_of r) k now.plan (now.waiting k) now.now.phase (begun_by (now.calls k)) (now.tasks k)
     begun_tasks = laws.tasks (known_of r) (tasks_for (known_of r) jobs) (middle r carry restarts t.sent j) k (inside r k below)
 
+    waits_numbered : AreNumbered (now.waiting k)
+    waits_numbered = numbered laws more comes_up works r jobs carry restarts opened k below t j run clear on four
+
     with_few : (o : Option Report) (numbers : List (Option ℕ)) → length (with_number o numbers) ≤ suc (length numbers)
     with_few None numbers = omega arith
     with_few (Some x) numbers = omega arith
 
-    few_left : length (with_number (if is_idle now k then None else broken_number (number_in (now.tasks k))) (task_numbers (drop (count_requests (now.tasks k)) (now.waiting k)))) + suc i ≤ length (now.waiting k)
-    few_left = by (is_idle (behind_mdt r jobs carry restarts t.sent j) k) refl
+    -- at most those that wait but the first n, if these have ended
+    few_left : (n : ℕ) → reads_count (member (known_of r) k) + (13 + n) ≤ length (outcomes now k) → n ≤ length (now.waiting k)
+        → length (with_number (if is_idle now k then None else broken_number (number_in (now.tasks k))) (task_numbers (drop (count_requests (now.tasks k)) (now.waiting k)))) + n ≤ length (now.waiting k)
+    few_left n ended low = by (is_idle (behind_mdt r jobs carry restarts t.sent j) k) refl
       where
         by : (idle : Bool) → is_idle (behind_mdt r jobs carry restarts t.sent j) k ≡ idle
-            → length (with_number (if idle then None else broken_number (number_in (now.tasks k))) (task_numbers (drop (count_requests (now.tasks k)) (now.waiting k)))) + suc i ≤ length (now.waiting k)
+            → length (with_number (if idle then None else broken_number (number_in (now.tasks k))) (task_numbers (drop (count_requests (now.tasks k)) (now.waiting k)))) + n ≤ length (now.waiting k)
         by true is =
             let same = all_ended (known_of r) k has_next now.plan (now.waiting k) now.now.phase (begun_by (now.calls k)) (now.tasks k) begun_tasks is in
             let count = counted laws more comes_up works r jobs carry restarts opened k below t j run clear on four in
-            let rest = dropped (now.waiting k) (suc i) (count_requests (now.tasks k)) (omega (arith, same, count, ended)) low in
+            let rest = dropped (now.waiting k) n (count_requests (now.tasks k)) (omega (arith, same, count, ended)) low in
             let long = numbers_long (drop (count_requests (now.tasks k)) (now.waiting k)) in
             omega (arith, rest, long)
         by false is =
-            let newest = newest_waits (known_of r) k now.plan (now.waiting k) now.now.phase (begun_by (now.calls k)) (now.tasks k) begun_tasks is
+            let newest = newest_waits (known_of r) k now.plan (now.waiting k) waits_numbered now.now.phase (begun_by (now.calls k)) (now.tasks k) begun_tasks is
             (ready_now laws more comes_up works r jobs carry restarts opened k below t j run clear on four) (omega (arith, ended)) in
             let one = newest.0 in let at = newest.1.1 in let there = newest.1.2 in
             let count = counted laws more comes_up works r jobs carry restarts opened k below t j run clear on four in
-            let rest = dropped (now.waiting k) (suc (suc i)) (count_requests (now.tasks k)) (omega (arith, one, at, count, ended)) (omega (arith, at, there, ended)) in
+            let rest = dropped (now.waiting k) (suc n) (count_requests (now.tasks k)) (omega (arith, one, at, count, ended)) (omega (arith, at, there, ended)) in
             let long = numbers_long (drop (count_requests (now.tasks k)) (now.waiting k)) in
             let most = with_few (broken_number (number_in (now.tasks k))) (task_numbers (drop (count_requests (now.tasks k)) (now.waiting k))) in
             omega (arith, rest, long, most)
 
-    left_few : length (left (t ∷ j)) + suc i ≤ length (now.waiting k)
-    left_few = subst (λ (p : Past). length (still_to_tell (channel_at p k)) + suc i ≤ length (now.waiting k)) (sym (end_kept (known_of r) now on.stays)) few_left
+    pub ended_now : reads_count (member (known_of r) k) + 13 ≤ length (outcomes now k)
+    ended_now = let many = ready_long (member (known_of r) k) (outcomes now k) (ready_now laws more comes_up works r jobs carry restarts opened k below t j run clear on four) in omega (arith, many)
+
+    pub left_few : (n : ℕ) → reads_count (member (known_of r) k) + (13 + n) ≤ length (outcomes now k) → n ≤ length (now.waiting k) → length (left (t ∷ j)) + n ≤ length (now.waiting k)
+    left_few n ended low = subst (λ (p : Past). length (still_to_tell (channel_at p k)) + n ≤ length (now.waiting k)) (sym (end_kept (known_of r) now on.stays)) (few_left n ended low)
+
+    -- and at least those that haven't ended
+    with_one : (o : Option ℕ) (numbers : List (Option ℕ)) → is_some o ≡ true → length (with_number (broken_number o) numbers) ≡ suc (length numbers)
+    with_one None numbers on = absurd (false≢true on)
+    with_one (Some n) numbers on = refl
+
+    many_left : length (now.waiting k) + (reads_count (member (known_of r) k) + 13)
+        ≤ length (with_number (if is_idle now k then None else broken_number (number_in (now.tasks k))) (task_numbers (drop (count_requests (now.tasks k)) (now.waiting k)))) + length (outcomes now k)
+    many_left = by (is_idle (behind_mdt r jobs carry restarts t.sent j) k) refl
+      where
+        by : (idle : Bool) → is_idle (behind_mdt r jobs carry restarts t.sent j) k ≡ idle
+            → length (now.waiting k) + (reads_count (member (known_of r) k) + 13)
+            ≤ length (with_number (if idle then None else broken_number (number_in (now.tasks k))) (task_numbers (drop (count_requests (now.tasks k)) (now.waiting k)))) + length (outcomes now k)
+        by true is =
+            let same = all_ended (known_of r) k has_next now.plan (now.waiting k) now.now.phase (begun_by (now.calls k)) (now.tasks k) begun_tasks is in
+            let count = counted laws more comes_up works r jobs carry restarts opened k below t j run clear on four in
+            let rest = kept_most (count_requests (now.tasks k)) (now.waiting k) in
+            let long = numbers_long (drop (count_requests (now.tasks k)) (now.waiting k)) in
+            omega (arith, same, count, rest, long)
+        by false is =
+            let newest = newest_waits (known_of r) k now.plan (now.waiting k) waits_numbered now.now.phase (begun_by (now.calls k)) (now.tasks k) begun_tasks is
+            (ready_now laws more comes_up works r jobs carry restarts opened k below t j run clear on four) ended_now in
+            let one = newest.0 in
+            let count = counted laws more comes_up works r jobs carry restarts opened k below t j run clear on four in
+            let rest = kept_most (count_requests (now.tasks k)) (now.waiting k) in
+            let long = numbers_long (drop (count_requests (now.tasks k)) (now.waiting k)) in
+            let all = with_one (number_in (now.tasks k)) (task_numbers (drop (count_requests (now.tasks k)) (now.waiting k))) newest.2 in
+            omega (arith, one, count, rest, long, all)
+
+    pub left_many : length (now.waiting k) + (reads_count (member (known_of r) k) + 13) ≤ length (left (t ∷ j)) + length (outcomes now k)
+    left_many = subst (λ (p : Past). length (now.waiting k) + (reads_count (member (known_of r) k) + 13) ≤ length (still_to_tell (channel_at p k)) + length (outcomes now k)) (sym (end_kept (known_of r) now on.stays)) many_left
+
+pub beyond : (a b : ℕ) → a ≤ b → (d : ℕ) × (b ≡ a + d)
+beyond zero b le = (b, omega arith)
+beyond (suc a) zero le = absurd (omega (arith, le))
+beyond (suc a) (suc b) le = let d = beyond a b (omega (arith, le)) in (d.0, let is = d.1 in omega (arith, is))
+
+-- HOW MANY ARE LEFT so late: i + 1 fewer than after a cycle of phase 4, or none, if each later one is as in an undisturbed epoch.
+module _ (laws : Laws) (more : MoreLaws) (comes_up : (busy : ℕ) → ComesUp busy) (works : WorksInFour) (always : OpensAlways) (said : SaysShape) (timed : ComesTimed) (recovers : (busy : ℕ) → RecoversInTime busy) (since : (busy : ℕ) → RecoversSince busy)
+    (no_stop : NoStopInFour) (r : RingView) (jobs : List Job) (carry : Carry) (restarts : Restarts) (opened : IsOpened r jobs) (k : ℕ) (below : k < length r.drives) (t : CycleView) (cycles : List CycleView) (one : CycleView) (old : List CycleView)
+    (run : IsRun r jobs carry restarts (t ∷ (cycles ++ one ∷ old))) (clear : IsClear (t ∷ (cycles ++ one ∷ old))) (on : AreOn r jobs carry restarts (t ∷ cycles) (one ∷ old)) (calm : AreUndisturbed r carry restarts cycles (one ∷ old))
+    (first : IsOn r jobs carry restarts one old) (one_four : one.phase ≡ 4) (four : t.phase ≡ 4) (n i : ℕ) (long : suc i * request_cycles r k ≤ suc (length cycles)) where
+  rest_run : IsRun r jobs carry restarts (one ∷ old) × IsClear (one ∷ old)
+  rest_run = run_rest r jobs carry restarts (t ∷ cycles) (one ∷ old) run clear
+
+  -- what has ended in the first cycle
+  m : (d : ℕ) × (length (outcomes (behind_mdt r jobs carry restarts one.sent old) k) ≡ reads_count (member (known_of r) k) + 13 + d)
+  m = beyond (reads_count (member (known_of r) k) + 13) (length (outcomes (behind_mdt r jobs carry restarts one.sent old) k)) (ended_now laws more r jobs carry restarts opened k below comes_up works one old rest_run.0 rest_run.1 first one_four)
+
+  abbrev waits : ℕ
+  waits = length ((looks_back r jobs (master_calls r carry restarts old)).waiting k)
+
+  waits_one : length ((behind_mdt r jobs carry restarts one.sent old).waiting k) ≡ length ((looks_back r jobs (master_calls r carry restarts old)).waiting k)
+  waits_one = ap (λ (l : List Task). length l) (waits_now r jobs carry restarts one old first k)
+
+  waits_t : length ((behind_mdt r jobs carry restarts t.sent (cycles ++ one ∷ old)).waiting k) ≡ length ((looks_back r jobs (master_calls r carry restarts old)).waiting k)
+  waits_t = ap (λ (l : List Task). length l) (waits_now r jobs carry restarts t (cycles ++ one ∷ old) on.1 k ∙ waits_along r jobs carry restarts cycles (one ∷ old) on.0 k ∙ waits_along r jobs carry restarts (one ∷ []) old (tt, first) k)
+
+  many : waits ≤ length (left_after r jobs carry restarts (one ∷ old) k) + m.0
+  many = let least = left_many laws more r jobs carry restarts opened k below comes_up works one old rest_run.0 rest_run.1 first one_four in let same = waits_one in let is = m.1 in omega (arith, least, same, is)
+
+  few : (x : ℕ) → x ≤ m.0 + suc i → x ≤ waits → length (left_after r jobs carry restarts (t ∷ (cycles ++ one ∷ old)) k) + x ≤ waits
+  few x most low =
+      let ended = have_ended laws more comes_up works always said timed recovers since no_stop r jobs carry restarts opened k below one old first one_four m.0 (let is = m.1 in omega (arith, is)) (suc i) t cycles run clear on calm long x most low in
+      let same = waits_t in
+      let left_is = left_few laws more r jobs carry restarts opened k below comes_up works t (cycles ++ one ∷ old) run clear on.1 four x ended (omega (arith, same, low)) in
+      omega (arith, left_is, same)
+
+  pub left_in_time : length (left_after r jobs carry restarts (one ∷ old) k) ≤ n + suc i → length (left_after r jobs carry restarts (t ∷ (cycles ++ one ∷ old)) k) ≤ n
+  left_in_time enough = elim (cases_lt waits (m.0 + suc i)) [
+    | inl less ↦ let none = few waits (omega (arith, less)) (omega arith) in omega (arith, none)
+    | inr more_wait ↦ let some = few (m.0 + suc i) (omega arith) (omega (arith, more_wait)) in let least = many in omega (arith, some, least, enough)
+  ]
 
 -- THE REQUESTS ARE REPORTED IN TIME.
 module _ (laws : Laws) (more : MoreLaws) (turn : WorkInTurn) (comes_up : (busy : ℕ) → ComesUp busy) (late : (busy : ℕ) → NoneLate busy) (stand : (busy : ℕ) → StandsThroughout busy) (hear : (busy : ℕ) → HearsThroughout busy)
@@ -248,36 +348,86 @@ module _ (laws : Laws) (more : MoreLaws) (turn : WorkInTurn) (comes_up : (busy :
   one_more_time : (i c : ℕ) → (i + 1) * c ≡ suc i * c
   one_more_time i c = grind arith
 
+  -- HOW MANY ARE LEFT in phase 4 of an undisturbed epoch: i + 1 fewer than waited when it began, or none, from that long after the bound of
+  -- a start-up on.
+  module _ (t : CycleView) (cycles before : List CycleView) (run : IsRun r jobs carry restarts (t ∷ (cycles ++ before))) (clear : IsClear (t ∷ (cycles ++ before))) (starts : StartsEpoch r jobs carry restarts before)
+      (calm : AreUndisturbed r carry restarts (t ∷ cycles) before) (four : t.phase ≡ 4) (k : ℕ) (below : k < length r.drives) (n i : ℕ) (long : startup_bound r + suc i * request_cycles r k ≤ length cycles) where
+    on_epoch : AreOn r jobs carry restarts (t ∷ cycles) before
+    on_epoch = are_on laws more turn comes_up late r jobs carry restarts opened stand hear (t ∷ cycles) before run clear starts calm
+
+    waits_same : length ((behind_mdt r jobs carry restarts t.sent (cycles ++ before)).waiting k) ≡ length (waiting_after r jobs carry restarts before k)
+    waits_same = ap (λ (l : List Task). length l) (waits_now r jobs carry restarts t (cycles ++ before) on_epoch.1 k ∙ waits_along r jobs carry restarts cycles before on_epoch.0 k)
+
+    some : 1 ≤ suc i * request_cycles r k
+    some = let all = room (drive_at r k).busy (drive_at r k).command in let parts = one_time_more i (request_cycles r k) in omega (arith, all, parts)
+
+    -- the cycle at the bound of a start-up is commanded phase 4
+    later : (d : ℕ) × (length cycles ≡ suc (startup_bound r) + d)
+    later = beyond (suc (startup_bound r)) (length cycles) (let one = some in omega (arith, one, long))
+
+    c : IsCut r jobs carry restarts later.0 cycles before
+    c = cut r jobs carry restarts cycles before later.0 (let is = later.1 in omega (arith, is)) on_epoch.0 calm.0
+
+    run_cut : IsRun r jobs carry restarts (t ∷ (c.newer ++ c.one ∷ (c.older ++ before)))
+    run_cut = subst (λ (l : List CycleView). IsRun r jobs carry restarts (t ∷ l)) c.is run
+
+    clear_cut : IsClear (t ∷ (c.newer ++ c.one ∷ (c.older ++ before)))
+    clear_cut = subst (λ (l : List CycleView). IsClear (t ∷ l)) c.is clear
+
+    on_cut : AreOn r jobs carry restarts (t ∷ c.newer) (c.one ∷ (c.older ++ before))
+    on_cut = (c.on, subst (λ (l : List CycleView). IsOn r jobs carry restarts t l) c.is on_epoch.1)
+
+    cut_run : IsRun r jobs carry restarts (c.one ∷ (c.older ++ before)) × IsClear (c.one ∷ (c.older ++ before))
+    cut_run = run_rest r jobs carry restarts (t ∷ c.newer) (c.one ∷ (c.older ++ before)) run_cut clear_cut
+
+    one_four : c.one.phase ≡ 4
+    one_four = four_since laws more comes_up reaches no_stop r jobs carry restarts opened t c.newer c.one c.older before run_cut clear_cut on_cut c.on_older.1 starts c.calm (let is = later.1 in let rest = c.rest in omega (arith, is, rest)) four
+
+    ended : (x : ℕ) → x ≤ suc i → x ≤ length (waiting_after r jobs carry restarts before k) → reads_count (member (known_of r) k) + (13 + x) ≤ length (outcomes (behind_mdt r jobs carry restarts t.sent (cycles ++ before)) k)
+    ended x few low = subst (λ (l : List CycleView). reads_count (member (known_of r) k) + (13 + x) ≤ length (outcomes (behind_mdt r jobs carry restarts t.sent l) k)) (sym c.is)
+        (have_ended laws more comes_up works always said timed recovers since no_stop r jobs carry restarts opened k below c.one (c.older ++ before) c.on_older.1 one_four 0
+        (let many = ended_now laws more r jobs carry restarts opened k below comes_up works c.one (c.older ++ before) cut_run.0 cut_run.1 c.on_older.1 one_four in omega (arith, many))
+        (suc i) t c.newer run_cut clear_cut on_cut c.calm_newer (let is = later.1 in let count = c.long in omega (arith, is, count, long)) x (omega (arith, few))
+        (subst (λ (l : List Task). x ≤ length l) (sym (waits_along r jobs carry restarts c.older before c.on_older.0 k)) low))
+
+    left_now : (x : ℕ) → x ≤ suc i → x ≤ length (waiting_after r jobs carry restarts before k) → length (left_after r jobs carry restarts (t ∷ (cycles ++ before)) k) + x ≤ length (waiting_after r jobs carry restarts before k)
+    left_now x few low =
+        let same = waits_same in
+        let is = left_few laws more r jobs carry restarts opened k below comes_up works t (cycles ++ before) run clear on_epoch.1 four x (ended x few low) (omega (arith, same, low)) in omega (arith, same, is)
+
+    pub left_in_epoch : length (waiting_after r jobs carry restarts before k) ≤ n + suc i → length (left_after r jobs carry restarts (t ∷ (cycles ++ before)) k) ≤ n
+    left_in_epoch enough = elim (cases_lt (length (waiting_after r jobs carry restarts before k)) (suc i)) [
+      | inl less ↦ let none = left_now (length (waiting_after r jobs carry restarts before k)) (omega (arith, less)) (omega arith) in omega (arith, none)
+      | inr most ↦ let few = left_now (suc i) (omega arith) (omega (arith, most)) in omega (arith, few, enough)
+    ]
+
   pub reports_in_time : (t : CycleView) (cycles before : List CycleView) → IsRun r jobs carry restarts (t ∷ (cycles ++ before)) → IsClear (t ∷ (cycles ++ before)) → StartsEpoch r jobs carry restarts before → AreUndisturbed r carry restarts (t ∷ cycles) before
       → t.phase ≡ 4 → (k i : ℕ) (x : Task) → k < length r.drives → slice_get (waiting_after r jobs carry restarts before k) i ≡ Some x → startup_bound r + (i + 1) * request_cycles r k ≤ length cycles
       → (number : ℕ) × (x.number ≡ Some number) × HaveTold (t ∷ cycles) number
-  reports_in_time t cycles before run clear starts calm four k i x below got long = told_there (t ∷ cycles) is_told.numbers i x.number is_told.all there
+  reports_in_time t cycles before run clear starts calm four k i x below got long = told_there (t ∷ cycles) is_told.numbers i x.number is_told.all (sym (get_left is_told.numbers (left_after r jobs carry restarts (t ∷ (cycles ++ before)) k) i early) ∙ ap (λ (l : List (Option ℕ)). slice_get l i) is ∙ there)
     where
-      on : AreOn r jobs carry restarts (t ∷ cycles) before
-      on = are_on laws more turn comes_up late r jobs carry restarts opened stand hear (t ∷ cycles) before run clear starts calm
-
       low : i < length (waiting_after r jobs carry restarts before k)
       low = slice_get_within (waiting_after r jobs carry restarts before k) i x got
 
-      waits : (behind_mdt r jobs carry restarts t.sent (cycles ++ before)).waiting k ≡ waiting_after r jobs carry restarts before k
-      waits = waits_now r jobs carry restarts t (cycles ++ before) on.1 k ∙ waits_along r jobs carry restarts cycles before on.0 k
-
-      ended : reads_count (member (known_of r) k) + (13 + suc i) ≤ length (outcomes (behind_mdt r jobs carry restarts t.sent (cycles ++ before)) k)
-      ended = have_ended laws more turn comes_up late stand hear works always said timed recovers since reaches no_stop r jobs carry restarts opened before starts k below (suc i) t cycles run clear calm four
-          (let times = one_more_time i (request_cycles r k) in omega (arith, times, long)) (omega (arith, low))
+      rest : (n : ℕ) × (length (waiting_after r jobs carry restarts before k) ≡ suc i + n)
+      rest = beyond (suc i) (length (waiting_after r jobs carry restarts before k)) (omega (arith, low))
 
       is_told : IsTold laws more r jobs carry restarts opened k below (t ∷ cycles) before
-      is_told = told_since laws more r jobs carry restarts opened k below (t ∷ cycles) before run clear on starts
+      is_told = told_since laws more r jobs carry restarts opened k below (t ∷ cycles) before run clear calm
+
+      is : is_told.numbers ++ left_after r jobs carry restarts (t ∷ (cycles ++ before)) k ≡ task_numbers (waiting_after r jobs carry restarts before k)
+      is = is_told.is ∙ left_first laws more r jobs carry restarts opened k below before starts
+
+      there : slice_get (task_numbers (waiting_after r jobs carry restarts before k)) i ≡ Some x.number
+      there = get_map (λ (y : Task). y.number) (waiting_after r jobs carry restarts before k) i ∙ ap (option_map (λ (y : Task). y.number)) got
+
+      few : length (left_after r jobs carry restarts (t ∷ (cycles ++ before)) k) ≤ rest.0
+      few = left_in_epoch t cycles before run clear starts calm four k below rest.0 i (let same = one_more_time i (request_cycles r k) in omega (arith, same, long)) (let count = rest.1 in omega (arith, count))
 
       early : i < length is_told.numbers
       early =
-          let few = left_few laws more r jobs carry restarts opened k below comes_up works t (cycles ++ before) run clear on.1 four i ended (subst (λ (l : List Task). suc i ≤ length l) (sym waits) (omega (arith, low))) in
-          let same = ap (λ (l : List Task). length l) waits in
-          let all = ap (λ (l : List (Option ℕ)). length l) is_told.is in
-          let parts = length-append is_told.numbers (still_to_tell (channel_at (looks_back r jobs (master_calls r carry restarts (t ∷ (cycles ++ before)))) k)) in
+          let all = ap (λ (l : List (Option ℕ)). length l) is in
+          let parts = length-append is_told.numbers (left_after r jobs carry restarts (t ∷ (cycles ++ before)) k) in
           let numbers = numbers_long (waiting_after r jobs carry restarts before k) in
-          omega (arith, few, same, all, parts, numbers)
-
-      there : slice_get is_told.numbers i ≡ Some x.number
-      there = sym (get_left is_told.numbers (still_to_tell (channel_at (looks_back r jobs (master_calls r carry restarts (t ∷ (cycles ++ before)))) k)) i early) ∙ ap (λ (l : List (Option ℕ)). slice_get l i) is_told.is
-          ∙ get_map (λ (y : Task). y.number) (waiting_after r jobs carry restarts before k) i ∙ ap (option_map (λ (y : Task). y.number)) got
+          let count = rest.1 in
+          let least = few in omega (arith, least, count, all, parts, numbers)

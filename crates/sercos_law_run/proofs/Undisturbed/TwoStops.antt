@@ -28,12 +28,12 @@ use Rattle.sercos_law_run.proofs.Held.Runs.{Laws, plan_is}
 use Rattle.sercos_law_run.proofs.Headline.HeadlineRuns.{MoreLaws, first_store}
 use Rattle.sercos_law_run.specs.Undisturbed.StopsInTwo.{RefusesCycleTime, StopsForThePlan, StopsForTheCycleTime}
 use Rattle.sercos_law_run.proofs.Undisturbed.StaysUp.{phase_now}
-use Rattle.sercos_law_run.proofs.Undisturbed.JobsBegun.{begun_now, few_now, asked_now}
+use Rattle.sercos_law_run.proofs.Undisturbed.JobsBegun.{begun_then, few_then, asked_now}
 use Rattle.sercos_master.proofs.Followed.{not_longer}
 use Rattle.sercos_law_run.proofs.Undisturbed.StopsTold.{stops_right}
 
 module _ (laws : Laws) (more : MoreLaws) (comes_up : (busy : ℕ) → ComesUp busy) (cause128 : Check128HasCause) (r : RingView) (jobs : List Job) (carry : Carry) (restarts : Restarts) (opened : IsOpened r jobs) (t : CycleView) (j : List CycleView)
-    (run : IsRun r jobs carry restarts (t ∷ j)) (clear : IsClear (t ∷ j)) (stays : fall_of (known_of r) (behind_mdt r jobs carry restarts t.sent j) ≡ None) (two : t.phase ≡ 2)
+    (run : IsRun r jobs carry restarts (t ∷ j)) (clear : IsClear (t ∷ j)) (two : t.phase ≡ 2)
     (refused : (address : ℕ) (i : Idn) (code : Code) → (behind_mdt r jobs carry restarts t.sent j).stop ≡ Some (stop.Refused address i code) → RefusesCycleTime r address i code × (plan : PlanView) × ((behind_mdt r jobs carry restarts t.sent j).plan ≡ Some plan)) where
   abbrev now : Past
   now = behind_mdt r jobs carry restarts t.sent j
@@ -44,7 +44,7 @@ module _ (laws : Laws) (more : MoreLaws) (comes_up : (busy : ℕ) → ComesUp bu
   -- a plan that there is fits what the ring asks
   fits : (plan : PlanView) → (behind_mdt r jobs carry restarts t.sent j).plan ≡ Some plan → Fits (wishes_of r) plan
   fits plan has =
-      let asks = asked_now laws more r jobs carry restarts opened t j run clear stays (let n = now_two in omega (arith, n)) (laws.reads (known_of r) (tasks_for (known_of r) jobs) (middle r carry restarts t.sent j) plan has) in
+      let asks = asked_now laws more r jobs carry restarts opened t j run clear (let n = now_two in omega (arith, n)) (laws.reads (known_of r) (tasks_for (known_of r) jobs) (middle r carry restarts t.sent j) plan has) in
       (plan_is laws r jobs carry restarts opened (first_store laws more r jobs carry restarts opened) (behind_mdt r jobs carry restarts t.sent j) plan (laws.planned (known_of r) (tasks_for (known_of r) jobs) (middle r carry restarts t.sent j)) has asks).least.fits
 
   -- no check for phase 4 has ended
@@ -54,8 +54,8 @@ module _ (laws : Laws) (more : MoreLaws) (comes_up : (busy : ℕ) → ComesUp bu
       let count = members_count r in
       let there = failed.there in
       let low : failed.place < length r.drives = omega (arith, count, there) in
-      let few = few_now laws more r jobs carry restarts opened t j run clear stays failed.place low (omega (arith, n)) in
-      let begun = ap (λ (l : List Begun). length l) (begun_now laws more r jobs carry restarts opened t j run clear stays failed.place low) in
+      let few = few_then laws more r jobs carry restarts opened t j run clear failed.place low (omega (arith, n)) in
+      let begun = ap (λ (l : List Begun). length l) (begun_then laws more r jobs carry restarts opened t j run clear failed.place low) in
       let outs = not_longer (begun_by ((behind_mdt r jobs carry restarts t.sent j).calls failed.place)) in
       let ended = slice_get_within (outcomes (behind_mdt r jobs carry restarts t.sent j) failed.place) (reads_count (member (known_of r) failed.place) + 12) (outcome.Complete failed.status) failed.complete in
       omega (arith, few, begun, outs, ended)

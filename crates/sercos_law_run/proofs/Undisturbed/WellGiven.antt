@@ -26,7 +26,7 @@ use Rattle.sercos_script.specs.Links.{Carry, Restarts}
 use Rattle.sercos_law_run.specs.Start.StartUp.{IsStoreOf}
 use Rattle.sercos_law_run.proofs.Start.CheckPasses.{ring_drive}
 use Rattle.sercos_law_channel.specs.Handshake.CommandTransfers.{SetsAndCancels, EndsWithStatus, GivesStatus}
-use Rattle.sercos_law_channel.specs.Handshake.Epochs.{command, epoch_begun, epoch_taken, epoch_log}
+use Rattle.sercos_law_channel.specs.Handshake.Epochs.{begun_in, command, epoch_begun, epoch_taken, epoch_log}
 use Rattle.sercos_law_channel.specs.Handshake.InStep.{replies_of}
 use Rattle.sercos_law_channel.specs.Handshake.Parts.{IsRow, IsPart, Unsent, Heard, Unheard, AreParts}
 use Rattle.sercos_law_channel.specs.Handshake.Runs.{IsRun as IsViewRun}
@@ -54,6 +54,7 @@ use Rattle.sercos_law_run.proofs.Undisturbed.OwnSet.{Say, say_written}
 use Rattle.sercos_law_run.proofs.Undisturbed.RefusedCauses.{check_4, found_4}
 use Rattle.sercos_law_run.proofs.Undisturbed.SetsFour.{sets_well}
 use Rattle.sercos_law_run.proofs.Undisturbed.Small.{first_is}
+use Rattle.sercos_law_run.proofs.Settings.NoCheck127.{next_still, stays}
 
 abbrev pub IsWell : SetCommand → Type 0
 IsWell s = s.well ≡ true
@@ -171,10 +172,12 @@ module _ (laws : Laws) (more : MoreLaws) (r : RingView) (jobs : List Job) (carry
   views_say [] run clear = tt
   views_say (t ∷ j) run clear = (views_say j run.0 clear.0, says_at t j run clear)
 
-  pub check_gives_3 : (j : List CycleView) → IsRun r jobs carry restarts j → IsClear j → (newer older : List Begun) (b : Begun) (bytes : List ℕ) → epoch_begun (views_of r jobs carry restarts k j) ≡ newer ++ b ∷ older → b.request ≡ request.Command (idn 128)
+  pub check_gives_3 : (t : CycleView) (j : List CycleView) → IsRun r jobs carry restarts (t ∷ j) → IsClear (t ∷ j) → (newer older : List Begun) (b : Begun) (bytes : List ℕ)
+      → begun_in (view_of r jobs carry restarts k t j) (views_of r jobs carry restarts k j) ≡ newer ++ b ∷ older → b.request ≡ request.Command (idn 128)
       → outcome_of b.request b.answers ≡ Some (outcome.Complete bytes) → bytes ≡ 3 ∷ 0 ∷ []
-  check_gives_3 j run clear =
-      let stands = all_stand laws more r jobs carry restarts opened j run clear k below in
+  check_gives_3 t j run clear =
+      let stands = all_stand laws more r jobs carry restarts opened (t ∷ j) run clear k below in
       let rules = (ring_drive r k (drive_at r k) opened.valid (drive_got r k below)).blocks in
-      checks_give_3 more.stop_laws.sets more.stop_laws.ends_with_status (drive_at r k).busy (store_of (drive_at r k)) (views_of r jobs carry restarts k j) stands.sees.run stands.sound (wells laws more r jobs carry restarts opened j run clear k below).set.follow
-      (entries_say (Say IsWell) (views_of r jobs carry restarts k j) (views_say j run clear)) (have_commands (drive_at r k) (views_of r jobs carry restarts k j) rules stands.stored)
+      checks_give_3 more.stop_laws.sets more.stop_laws.ends_with_status (drive_at r k).busy (store_of (drive_at r k)) (stays (view_of r jobs carry restarts k t j) ∷ views_of r jobs carry restarts k j)
+      (stands.sees.run.0, next_still (drive_at r k).busy (view_of r jobs carry restarts k t j) (views_of r jobs carry restarts k j) stands.sees.run.1) stands.sound (wells laws more r jobs carry restarts opened (t ∷ j) run clear k below).set.follow
+      (entries_say (Say IsWell) (stays (view_of r jobs carry restarts k t j) ∷ views_of r jobs carry restarts k j) (views_say (t ∷ j) run clear)) (have_commands (drive_at r k) (views_of r jobs carry restarts k (t ∷ j)) rules stands.stored)

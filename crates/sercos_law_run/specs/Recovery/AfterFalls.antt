@@ -27,9 +27,10 @@ use Rattle.sercos_law_run.specs.Undisturbed.WholeRuns.{HasTold, StopsForCause}
 -- is reported, and no broken request. From the cycle of the epoch that is the bound of a start-up on, phase 4 is commanded if the ring is
 -- right; it is commanded only if it is; and once commanded, it stays. Phase 3 is commanded only if a plan fits, and the cycle time lies
 -- within each drive's limits. From 41 steps of the slowest drive after that bound on, phase 4 is commanded, or the master has reported a
--- stop since for its cause; and after a stop no other is reported. A step is answered busy time and one cycle after the cycle in which it
--- was begun, and first sent. If phase 4 is commanded, the request to a drive at place i of those that waited when the epoch began, counted
--- from 0, has been reported since: at the latest i + 1 times the cycles of one request after the bound of a start-up.
+-- stop since for its cause; and after a stop no other is reported. No step is open for longer than the busy time of its drive and one
+-- cycle, and its answer arrives exactly that long after the cycle in which it was begun, and first sent. If phase 4 is commanded, the
+-- request to a drive at place i of those that waited when the epoch began, counted from 0, has been reported since: at the latest i + 1
+-- times the cycles of one request after the bound of a start-up.
 pub record StartsAgain (r : RingView) (jobs : List Job) (carry : Carry) (restarts : Restarts) (t : CycleView) (cycles before : List CycleView) : Type 0 where
   pub tells : TellsNoFall t
   pub rises : startup_bound r ≤ length cycles → IsRight r → t.phase ≡ 4
@@ -38,6 +39,7 @@ pub record StartsAgain (r : RingView) (jobs : List Job) (carry : Carry) (restart
   pub stays : (u : CycleView) (older : List CycleView) → cycles ≡ u ∷ older → u.phase ≡ 4 → t.phase ≡ 4
   pub ends : startup_bound r + 41 * (slowest r.drives + 2) ≤ length cycles → ((t.phase ≡ 4) × IsRight r) ⊎ ((x : Stop) × HasTold x (t ∷ cycles) × StopsForCause r x)
   pub once : (x y : Stop) → HasTold x cycles → t.events.stop ≡ Some y → ⊥
+  pub ages : (k : ℕ) → k < length r.drives → age_in (views_of r jobs carry restarts k (t ∷ (cycles ++ before))) ≤ (drive_at r k).busy + 1
   pub answers : (k : ℕ) (a : Heard) → k < length r.drives → (view_of r jobs carry restarts k t (cycles ++ before)).heard ≡ Some a → answers_it (epoch_begun (views_of r jobs carry restarts k (cycles ++ before))) a.status ≡ true →
       age_in (views_of r jobs carry restarts k (cycles ++ before)) ≡ (drive_at r k).busy + 1
   pub reports : t.phase ≡ 4 → (k i : ℕ) (x : Task) → k < length r.drives → slice_get (waiting_after r jobs carry restarts before k) i ≡ Some x → startup_bound r + (i + 1) * request_cycles r k ≤ length cycles →

@@ -1,5 +1,5 @@
 -- What becomes of a run after its last fault. The newest cycle of a journal comes first.
-use Rattle.std.specs.Prelude.{◌≡◌, ◌⊎◌, ◌+◌, ◌≤◌, List, [], ◌∷◌, ◌++◌, length, Some, None}
+use Rattle.std.specs.Prelude.{◌≡◌, ◌⊎◌, ℕ, ◌+◌, ◌*◌, ◌<◌, ◌≤◌, List, [], ◌∷◌, ◌++◌, length, Option, Some, None, slice_get}
 use Rattle.sercos_step.specs.declared.request.Job.{Job}
 use Rattle.sercos_block.specs.Views.{RingView}
 use Rattle.sercos_law_run.specs.Bounds.Bounds.{recovery_bound}
@@ -9,6 +9,8 @@ use Rattle.sercos_trace.specs.declared.events.Stop.{Stop}
 use Rattle.sercos_script.specs.Links.{Carry, Restarts}
 use Rattle.sercos_law_run.specs.Journal.Runs.{IsClear, IsRun}
 use Rattle.sercos_law_run.specs.Held.Opened.{IsOpened}
+use Rattle.sercos_law_run.specs.Undisturbed.Reports.{HaveTold, left_after, request_cycles}
+use Rattle.sercos_law_run.specs.Undisturbed.StartUps.{TellsNoFall}
 use Rattle.sercos_law_run.specs.Undisturbed.StopsLater.{IsRight}
 use Rattle.sercos_law_run.specs.Undisturbed.Undisturbed.{AreUndisturbed}
 use Rattle.sercos_law_run.specs.Undisturbed.WholeRuns.{StopsForCause}
@@ -24,11 +26,16 @@ abbrev pub IsBack : RingView → CycleView → List CycleView → Type 0
 IsBack r t j = ((t.phase ≡ 4) × IsRight r) ⊎ ((x : Stop) × StandsAt x (t ∷ j) × StopsForCause r x)
 
 -- What holds of the newest cycle. If no cycle is disturbed after one whose record has a fall, the ring has started up again since. If none
--- is disturbed after the cycle `lost`, the ring is back from the bound of a recovery after `lost` on.
+-- is disturbed after the cycle `lost`, then from the bound of a recovery after `lost` on the ring is back, and no fall is reported, nor a
+-- request as broken. And if phase 4 is commanded, the request to a drive at place i of those that weren't reported after `lost`, counted from
+-- 0, has been reported since: at the latest i + 1 times the cycles of one request after that bound.
 pub record RecoversIn (r : RingView) (jobs : List Job) (carry : Carry) (restarts : Restarts) (t : CycleView) (j : List CycleView) : Type 0 where
   pub after_fall : (cycles before : List CycleView) (f : CycleView) (x : Fall) → j ≡ cycles ++ f ∷ before → AreUndisturbed r carry restarts (t ∷ cycles) (f ∷ before) → f.events.fall ≡ Some x →
       StartsAgain r jobs carry restarts t cycles (f ∷ before)
   pub back : (cycles before : List CycleView) (lost : CycleView) → j ≡ cycles ++ lost ∷ before → AreUndisturbed r carry restarts (t ∷ cycles) (lost ∷ before) → length before + recovery_bound r ≤ length j → IsBack r t j
+  pub tells : (cycles before : List CycleView) (lost : CycleView) → j ≡ cycles ++ lost ∷ before → AreUndisturbed r carry restarts (t ∷ cycles) (lost ∷ before) → length before + recovery_bound r ≤ length j → TellsNoFall t
+  pub reports : (cycles before : List CycleView) (lost : CycleView) → j ≡ cycles ++ lost ∷ before → AreUndisturbed r carry restarts (t ∷ cycles) (lost ∷ before) → t.phase ≡ 4 → (k i : ℕ) (x : Option ℕ) → k < length r.drives
+      → slice_get (left_after r jobs carry restarts (lost ∷ before) k) i ≡ Some x → length before + recovery_bound r + (i + 1) * request_cycles r k ≤ length j → (number : ℕ) × (x ≡ Some number) × HaveTold (t ∷ cycles) number
 
 -- RECOVERY. This holds in each cycle of a run, as long as nothing is undetected, regardless of losses and restarts.
 abbrev pub Recovers : Type 0

@@ -1,5 +1,5 @@
 -- Within how many cycles of an undisturbed epoch the requests to a drive are reported. The newest cycle of a journal comes first.
-use Rattle.std.specs.Prelude.{◌≡◌, ◌⊎◌, ℕ, ◌+◌, ◌*◌, ◌<◌, ◌≤◌, List, [], ◌∷◌, ◌++◌, length, Some, slice_get}
+use Rattle.std.specs.Prelude.{◌≡◌, ◌⊎◌, ℕ, ◌+◌, ◌*◌, ◌<◌, ◌≤◌, List, [], ◌∷◌, ◌++◌, length, Option, Some, slice_get}
 use Rattle.sercos_step.specs.declared.request.Job.{Job}
 use Rattle.sercos_step.specs.declared.request.Outcome.{Outcome}
 use Rattle.sercos_block.specs.Startup.{startup_bound}
@@ -8,7 +8,9 @@ use Rattle.sercos_trace.specs.Views.{CycleView}
 use Rattle.sercos_seat.specs.Ring.{Task}
 use Rattle.sercos_script.specs.Links.{Carry, Restarts}
 use Rattle.sercos_law_run.specs.Journal.Runs.{drive_at, master_calls, looks_back, IsRun, IsClear}
+use Rattle.sercos_law_run.specs.Agenda.Channels.{channel_at}
 use Rattle.sercos_law_run.specs.Agenda.Events.{HasOutcome}
+use Rattle.sercos_law_run.specs.Agenda.Reported.{still_to_tell}
 use Rattle.sercos_law_run.specs.Held.Opened.{IsOpened}
 use Rattle.sercos_law_run.specs.Undisturbed.Undisturbed.{AreUndisturbed}
 use Rattle.sercos_law_run.specs.Undisturbed.EpochStarts.{StartsEpoch}
@@ -17,6 +19,11 @@ use Rattle.sercos_law_run.specs.Undisturbed.EpochStarts.{StartsEpoch}
 -- order. At the opening these are all requests to the drive.
 abbrev pub waiting_after : RingView → List Job → Carry → Restarts → List CycleView → ℕ → List Task
 waiting_after r jobs carry restarts before k = (looks_back r jobs (master_calls r carry restarts before)).waiting k
+
+-- The numbers of the requests to the drive at place k that aren't reported after these cycles, in their order: that of the request at work,
+-- and those of the ones that wait.
+abbrev pub left_after : RingView → List Job → Carry → Restarts → List CycleView → ℕ → List (Option ℕ)
+left_after r jobs carry restarts j k = still_to_tell (channel_at (looks_back r jobs (master_calls r carry restarts j)) k)
 
 -- the record of one of these cycles has an outcome of the request with this number
 abbrev pub HaveTold : List CycleView → ℕ → Type 0

@@ -12,8 +12,6 @@ use Rattle.sercos_block.specs.Views.{RingView, DriveView}
 use Rattle.sercos_trace.specs.Views.{CycleView}
 use Rattle.sercos_trace.specs.declared.events.Stop.{Stop}
 use Rattle.sercos_trace.specs.declared.events.Stop.TheVariants as stop
-use Rattle.sercos_seat.specs.Ring.{known_of}
-use Rattle.sercos_master.specs.Annals.{fall_of}
 use Rattle.sercos_script.specs.Links.{Carry, Restarts}
 use Rattle.sercos_law_run.specs.Journal.Runs.{drive_at, IsRun, IsClear}
 use Rattle.sercos_law_run.specs.Views.RingViews.{behind_mdt}
@@ -53,8 +51,6 @@ pub record StopsForTheCycleTime (r : RingView) (x : Stop) : Type 0 where
   pub plan : PlanView
   pub fits : Fits (wishes_of r) plan
 
--- So it is wherever the master has stopped in phase 2, in every run in which nothing was unseen, if the ring doesn't fall at the end of the
--- cycle.
+-- So it is wherever the master has stopped in phase 2, in every run in which nothing was unseen.
 abbrev pub StopsInTwo : Type 0
-StopsInTwo = (r : RingView) (jobs : List Job) (carry : Carry) (restarts : Restarts) (t : CycleView) (j : List CycleView) (x : Stop) → IsOpened r jobs → IsRun r jobs carry restarts (t ∷ j) → IsClear (t ∷ j) →
-    fall_of (known_of r) (behind_mdt r jobs carry restarts t.sent j) ≡ None → t.phase ≡ 2 → (behind_mdt r jobs carry restarts t.sent j).stop ≡ Some x → StopsForThePlan r x ⊎ StopsForTheCycleTime r x
+StopsInTwo = (r : RingView) (jobs : List Job) (carry : Carry) (restarts : Restarts) (t : CycleView) (j : List CycleView) (x : Stop) → IsOpened r jobs → IsRun r jobs carry restarts (t ∷ j) → IsClear (t ∷ j) → t.phase ≡ 2 → (behind_mdt r jobs carry restarts t.sent j).stop ≡ Some x → StopsForThePlan r x ⊎ StopsForTheCycleTime r x

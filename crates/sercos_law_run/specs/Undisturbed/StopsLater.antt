@@ -13,7 +13,7 @@ use Rattle.sercos_trace.specs.Views.{CycleView}
 use Rattle.sercos_trace.specs.declared.events.Stop.{Stop}
 use Rattle.sercos_trace.specs.declared.events.Stop.TheVariants as stop
 use Rattle.sercos_seat.specs.Ring.{known_of}
-use Rattle.sercos_master.specs.Annals.{Past, fall_of}
+use Rattle.sercos_master.specs.Annals.{Past}
 use Rattle.sercos_script.specs.Links.{Carry, Restarts}
 use Rattle.sercos_law_run.specs.Journal.Runs.{drive_at, IsRun, IsClear}
 use Rattle.sercos_law_run.specs.Agenda.Stops.{HasFailedCheck}
@@ -37,15 +37,14 @@ pub record StopsForTheCheck (r : RingView) (p : Past) (x : Stop) : Type 0 where
   pub lists : list ≡ map (λ (b : Block). b.idn) (filter is_outside (with_own [] (drive_at r failed.place).blocks))
   pub fits : IsFit r
 
--- So each stop in phase 3 is, in every run in which nothing was unseen, if the ring doesn't fall at the end of the cycle.
+-- So each stop in phase 3 is, in every run in which nothing was unseen.
 abbrev pub StopsInThree : Type 0
 StopsInThree = (r : RingView) (jobs : List Job) (carry : Carry) (restarts : Restarts) (t : CycleView) (j : List CycleView) (x : Stop) → IsOpened r jobs → IsRun r jobs carry restarts (t ∷ j) → IsClear (t ∷ j) →
-    fall_of (known_of r) (behind_mdt r jobs carry restarts t.sent j) ≡ None → t.phase ≡ 3 → (behind_mdt r jobs carry restarts t.sent j).stop ≡ Some x → StopsForTheCheck r (behind_mdt r jobs carry restarts t.sent j) x
+    t.phase ≡ 3 → (behind_mdt r jobs carry restarts t.sent j).stop ≡ Some x → StopsForTheCheck r (behind_mdt r jobs carry restarts t.sent j) x
 
 -- And in phase 4 there is no stop.
 abbrev pub NoStopInFour : Type 0
-NoStopInFour = (r : RingView) (jobs : List Job) (carry : Carry) (restarts : Restarts) (t : CycleView) (j : List CycleView) → IsOpened r jobs → IsRun r jobs carry restarts (t ∷ j) → IsClear (t ∷ j) →
-    fall_of (known_of r) (behind_mdt r jobs carry restarts t.sent j) ≡ None → t.phase ≡ 4 → (behind_mdt r jobs carry restarts t.sent j).stop ≡ None
+NoStopInFour = (r : RingView) (jobs : List Job) (carry : Carry) (restarts : Restarts) (t : CycleView) (j : List CycleView) → IsOpened r jobs → IsRun r jobs carry restarts (t ∷ j) → IsClear (t ∷ j) → t.phase ≡ 4 → (behind_mdt r jobs carry restarts t.sent j).stop ≡ None
 
 -- a plan fits, the cycle time lies within each drive's limits, and no own block of a drive was outside its limits at opening
 abbrev pub IsRight : RingView → Type 0

@@ -100,25 +100,25 @@ returns c =
     } in
     let law = c.attribute_law.ensures in
     let said : SaysShape = λ b fits. shape-attribute b.attribute (law.small b.attribute fits) (law.sound b.attribute fits) (law.back b.attribute fits) in
-    let in_two : StopsInTwo = λ r jobs carry restarts t j x opened run clear stays two is.
-    stop_in_two laws more c.run_law.ensures.up c.stop_law.ensures.check128 r jobs carry restarts opened t j run clear stays two
+    let in_two : StopsInTwo = λ r jobs carry restarts t j x opened run clear two is.
+    stop_in_two laws more c.run_law.ensures.up c.stop_law.ensures.check128 r jobs carry restarts opened t j run clear two
     (refused_stop laws more c.run_law.ensures.up c.parts_law.ensures.replies c.parts_law.ensures.transfers c.run_law.ensures.in_phase said
-    c.stop_law.ensures.refused c.agenda_law.ensures.none r jobs carry restarts opened t j run clear stays two) x is in
-    let in_three : StopsInThree = λ r jobs carry restarts t j x opened run clear stays three is.
+    c.stop_law.ensures.refused c.agenda_law.ensures.none r jobs carry restarts opened t j run clear two) x is in
+    let in_three : StopsInThree = λ r jobs carry restarts t j x opened run clear three is.
     stop_in_three laws more c.run_law.ensures.up c.parts_law.ensures.replies c.parts_law.ensures.transfers c.run_law.ensures.in_phase c.run_law.ensures.epoch c.run_law.ensures.cycle c.stop_law.ensures.refused c.stop_law.ensures.check128
-    r jobs carry restarts opened t j run clear stays three x is in
-    let none_four : NoStopInFour = λ r jobs carry restarts t j opened run clear stays four.
+    r jobs carry restarts opened t j run clear three x is in
+    let none_four : NoStopInFour = λ r jobs carry restarts t j opened run clear four.
     no_stop_in_four laws more c.run_law.ensures.up c.parts_law.ensures.replies c.parts_law.ensures.transfers c.run_law.ensures.in_phase c.run_law.ensures.epoch c.run_law.ensures.cycle c.stop_law.ensures.refused c.stop_law.ensures.check128
-    r jobs carry restarts opened t j run clear stays four in
+    r jobs carry restarts opened t j run clear four in
     let ends : ComesToAnEnd = λ r jobs carry restarts t cycles before opened run clear starts calm long.
     comes_to_end laws more c.agenda_law.ensures.turn c.run_law.ensures.up c.calls_law.ensures.late c.agenda_law.ensures.two c.agenda_law.ensures.three c.bound_law.ensures.started c.bound_law.ensures.greatest r jobs carry restarts opened
     c.passage_law.ensures.throughout c.passage_law.ensures.hears c.cost_law.ensures.starts c.cost_law.ensures.timed c.jobs_law.ensures.reads c.jobs_law.ensures.writes c.jobs_law.ensures.list_read c.cost_law.ensures.since t cycles before run clear starts calm long in
     let four : ComesToPhaseFour = λ r jobs carry restarts t cycles before opened run clear starts calm long.
     comes_to_four laws more c.agenda_law.ensures.turn c.run_law.ensures.up c.calls_law.ensures.late c.agenda_law.ensures.two c.agenda_law.ensures.three c.bound_law.ensures.started c.bound_law.ensures.greatest r jobs carry restarts opened
     c.passage_law.ensures.throughout c.passage_law.ensures.hears c.cost_law.ensures.starts c.cost_law.ensures.timed c.jobs_law.ensures.reads c.jobs_law.ensures.writes c.jobs_law.ensures.list_read c.cost_law.ensures.since t cycles before run clear starts calm long in
-    let ready : ReadyIfEnded = λ r jobs carry restarts opened t j run clear stays k below none ended.
+    let ready : ReadyIfEnded = λ r jobs carry restarts opened t j run clear k below none ended.
     ready_if_ended laws more c.run_law.ensures.up c.parts_law.ensures.replies c.parts_law.ensures.transfers c.run_law.ensures.in_phase c.run_law.ensures.epoch c.run_law.ensures.cycle c.stop_law.ensures.refused c.stop_law.ensures.check128
-    r jobs carry restarts opened t j run clear stays k below (inside r k below) none ended in
+    r jobs carry restarts opened t j run clear k below (inside r k below) none ended in
     let clear : StaysClear = λ r jobs carry restarts cycles before run clear calm. stays_clear r jobs carry restarts cycles before run clear calm in
     let tells : TellsNoFallUndisturbed = λ r jobs carry restarts t cycles before opened run clear starts calm. tells_no_fall laws more c.agenda_law.ensures.turn c.run_law.ensures.up c.calls_law.ensures.late r jobs carry restarts opened t cycles before run clear starts calm in
     let ages : AgesUndisturbed = λ r jobs carry restarts cycles before opened run clear starts calm k below.
