@@ -5,6 +5,8 @@ pub mod RunLemmas
 pub mod OwnRuns
 pub mod TrackingLemmas
 pub mod SavingLemmas
+pub mod EndsWellLemmas
 pub mod SavedRuns
 pub mod SavedTold
 mod WorkedSummary
+mod WorkedAnswered

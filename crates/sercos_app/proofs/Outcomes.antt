@@ -384,11 +384,8 @@ traced-run carry restarts bytes left left' held held' says at input written =
       says = d;
       document = read;
       journal = document_run carry restarts d;
-      run = (says d read).kept.run;
+      kept = (says d read).kept;
       clear = document_clear carry restarts d (says d read).kept;
-      keeps = (says d read).kept.keeps;
-      starts = (says d read).kept.starts;
-      recovers = (says d read).kept.recovers;
       clean = (says d read).clean;
       count = length-run_of d.setup d.jobs (carry_under d carry) (restarts_under d restarts) d.setup.cycles;
       written = rw text at written;
@@ -417,11 +414,8 @@ unfolding command_answer gen_answer
 summed-run carry restarts n bytes held held' says written =
     record {
       journal = document_run carry restarts (generated n);
-      run = says.run;
+      kept = says;
       clear = document_clear carry restarts (generated n) says (none_flipped n);
-      keeps = says.keeps;
-      starts = says.starts;
-      recovers = says.recovers;
       count = length-run_of (generated n).setup (generated n).jobs (carry_under (generated n) carry) (restarts_under (generated n) restarts) (generated n).setup.cycles;
       written = written;
     }

@@ -9,21 +9,24 @@ use Rattle.std.proofs.lemmas.List.Elements.{All-map}
 use Rattle.sercos_step.specs.declared.request.Request.{Request}
 use Rattle.sercos_step.specs.declared.request.Request.TheVariants as request
 use Rattle.sercos_step.specs.declared.request.Job.{Job}
+use Rattle.sercos_step.specs.Jobs.{AreJobs}
 use Rattle.sercos_block.specs.Views.{DriveView, RingView}
-use Rattle.sercos_block.specs.Rings.{is_ring}
+use Rattle.sercos_block.specs.Rings.{has_address, is_ring}
 use Rattle.sercos_block.specs.Stores.{find_block, store_of}
 use Rattle.sercos_script.specs.Links.{Carry, Restarts}
-use Rattle.sercos_law_run.specs.Journal.Runs.{no_drive, drive_at, run_of}
+use Rattle.sercos_script.specs.Cuts.{has_flip}
+use Rattle.sercos_script.proofs.CutLemmas.{unflipped_only_cuts}
+use Rattle.sercos_law_run.specs.Journal.Harmless.{IsHarmless}
+use Rattle.sercos_law_run.specs.Journal.Runs.{IsClear, IsRun, no_drive, drive_at, run_of}
 use Rattle.sercos_law_run.specs.Typed.Typed.{AreTypedJobs, IsTypedRequest}
 use Rattle.sercos_law_run.proofs.Theorems.{same_drive}
 use Rattle.sercos_law_run.specs.Held.Opened.{IsOpened}
-use Rattle.sercos_law_run.specs.Headline.Headline.{Headline}
 use Rattle.sercos_config.specs.Views.{DocumentView}
 use Rattle.sercos_backup.specs.Jobs.{list_number, reads_data, list_jobs}
 use Rattle.sercos_backup.proofs.ListLemmas.{IsRead, list_reads, data_reads}
-use Rattle.sercos_opened.specs.Kept.{script_carry, script_restarts}
+use Rattle.sercos_opened.specs.Kept.{OpenedIsKept, script_carry, script_restarts, script_run}
 use Rattle.sercos_app.specs.Saving.{blocks_at, place_of, data_of}
-use Rattle.sercos_app.specs.Saved.{IsRingRun, IsReadRun, AreReadFrom, AreWritesKept, IsRestoredRun, IsSaved, ReadsTyped, second_jobs}
+use Rattle.sercos_app.specs.Saved.{IsReadRun, AreClear, AreReadFrom, AreWritesKept, IsRestoredRun, IsSaved, ReadsTyped, second_jobs}
 use Rattle.sercos_backup.specs.declared.tracked.Tracked.{Tracked}
 use Rattle.sercos_backup.specs.Tracking.{told_of, idn_in}
 use Rattle.sercos_backup.proofs.TrackLemmas.{tracked_at}
@@ -31,8 +34,8 @@ use Rattle.sercos_step.specs.declared.request.Outcome.TheVariants as outcome
 use Rattle.sercos_law_trace.specs.Told.Told.{told_in}
 use Rattle.sercos_law_trace.specs.Told.Reads.{IsReadFrom, ReadsAreExact}
 use Rattle.sercos_law_trace.specs.Told.Writes.{WritesAreKept}
-use Rattle.sercos_law_run.proofs.Theorems.{IsSound, of_jobs, all_at}
-use Rattle.sercos_opened.proofs.KeptLemmas.{AreNext, run_is, run_keeps}
+use Rattle.sercos_law_run.proofs.Theorems.{IsSound, all_at, cuts_are_harmless, of_jobs}
+use Rattle.sercos_app.proofs.EndsWellLemmas.{AreToDrives, ends_well, jobs_drives, list_drives, second_drives}
 
 -- A ring may be opened with reads.
 sound_read : (r : RingView) (k : ℕ) (request : Request) → IsRead request → IsSound (store_of (drive_at r k)) request
@@ -53,14 +56,9 @@ opened_reads r jobs reads opened typed are = record {
 typed_lists : (r : RingView) → AreTypedJobs (list_jobs r)
 typed_lists r = All-map (λ (job : Job). IsTypedRequest job.request) (λ (d : DriveView). reads_data d.address list_number) r.drives (λ k d within. (omega arith, (omega arith, omega arith)))
 
-ring_run : AreNext → Headline → (r : RingView) (jobs : List Job) (carry : Carry) (restarts : Restarts) → IsOpened r jobs → IsRingRun r jobs carry restarts
-ring_run next law r jobs carry restarts opened = record {
-  run = run_is next r jobs carry restarts r.cycles;
-  keeps = run_keeps next law r jobs carry restarts r.cycles opened;
-}
-
 -- what is read is exact
-read_from : ReadsAreExact → (r : RingView) (jobs : List Job) (carry : Carry) (restarts : Restarts) → IsOpened r jobs → IsRingRun r jobs carry restarts → All (λ (job : Job). IsRead job.request) jobs → AreReadFrom r jobs carry restarts
+read_from : ReadsAreExact → (r : RingView) (jobs : List Job) (carry : Carry) (restarts : Restarts) → IsOpened r jobs → IsRun r jobs carry restarts (run_of r jobs carry restarts r.cycles) → All (λ (job : Job). IsRead job.request) jobs
+    → AreReadFrom r jobs carry restarts
 read_from law r jobs carry restarts opened run reads clear n t bytes there told =
     let at = tracked_at 1 (told_in (run_of r jobs carry restarts r.cycles)) jobs n t there in
     let number : 1 + n ≡ n + 1 = omega arith in
@@ -72,21 +70,31 @@ read_from law r jobs carry restarts opened run reads clear n t bytes there told 
     by : {job : Job} (q : Request) → job.request ≡ q → IsRead q → slice_get jobs n ≡ Some job → told_of (told_in (run_of r jobs carry restarts r.cycles)) (n + 1) ≡ Some (outcome.Complete bytes)
         → IsReadFrom r jobs carry restarts (run_of r jobs carry restarts r.cycles) n job.drive (idn_in q) bytes
     by {job = job} (request.Read idn e) is seven there_so told_so =
-        law r jobs carry restarts (run_of r jobs carry restarts r.cycles) n job idn bytes opened run.run clear there_so (is ∙ ap (request.Read idn) seven) told_so
+        law r jobs carry restarts (run_of r jobs carry restarts r.cycles) n job idn bytes opened run clear there_so (is ∙ ap (request.Read idn) seven) told_so
     by (request.Write idn e bytes_given) is never there_so told_so = absurd never
     by (request.Command idn) is never there_so told_so = absurd never
 
-read_run : AreNext → Headline → ReadsAreExact → (r : RingView) (jobs : List Job) (carry : Carry) (restarts : Restarts) → IsOpened r jobs → All (λ (job : Job). IsRead job.request) jobs → IsReadRun r jobs carry restarts
-read_run next law exact r jobs carry restarts opened reads =
-    let run = ring_run next law r jobs carry restarts opened in record { run = run; exact = read_from exact r jobs carry restarts opened run reads }
+read_run : OpenedIsKept → ReadsAreExact → (r : RingView) (jobs : List Job) (carry : Carry) (restarts : Restarts) → IsOpened r jobs → All (λ (job : Job). IsRead job.request) jobs → AreToDrives r jobs → IsReadRun r jobs carry restarts
+read_run law exact r jobs carry restarts opened reads to =
+    let kept = law r jobs carry restarts r.cycles opened in
+    record { kept = kept; exact = read_from exact r jobs carry restarts opened kept.run reads; ends = ends_well r jobs carry restarts kept.starts to }
 
-pub is_saved : AreNext → Headline → ReadsAreExact → (d : DocumentView) → IsOpened d.setup d.jobs → ReadsTyped d.setup (script_carry d) (script_restarts d)
-    → IsSaved d.setup (script_carry d) (script_restarts d)
-is_saved next law exact d opened typed = record {
-  lists = read_run next law exact d.setup (list_jobs d.setup) (script_carry d) (script_restarts d) (opened_reads d.setup d.jobs (list_jobs d.setup) opened (typed_lists d.setup) (list_reads d.setup.drives)) (list_reads d.setup.drives);
-  blocks = λ well few. read_run next law exact d.setup (second_jobs d.setup (script_carry d) (script_restarts d)) (script_carry d) (script_restarts d)
-      (opened_reads d.setup d.jobs (second_jobs d.setup (script_carry d) (script_restarts d)) opened (typed well few) (data_reads _)) (data_reads _);
+pub is_saved : OpenedIsKept → ReadsAreExact → (d : DocumentView) → IsOpened d.setup d.jobs → ReadsTyped d.setup (script_carry d) (script_restarts d) → IsSaved d.setup (script_carry d) (script_restarts d)
+is_saved law exact d opened typed = record {
+  lists = read_run law exact d.setup (list_jobs d.setup) (script_carry d) (script_restarts d) (opened_reads d.setup d.jobs (list_jobs d.setup) opened (typed_lists d.setup) (list_reads d.setup.drives)) (list_reads d.setup.drives) (list_drives d.setup);
+  blocks = λ well few. read_run law exact d.setup (second_jobs d.setup (script_carry d) (script_restarts d)) (script_carry d) (script_restarts d)
+      (opened_reads d.setup d.jobs (second_jobs d.setup (script_carry d) (script_restarts d)) opened (typed well few) (data_reads _)) (data_reads _) (second_drives d.setup (script_carry d) (script_restarts d));
 }
+
+-- Nothing is unseen in the runs of a backup if the script has no flip; nor in the run of a restore.
+harmless : (d : DocumentView) → has_flip d.faults ≡ false → IsHarmless (script_carry d)
+harmless d plain = (cuts_are_harmless (script_carry d) (unflipped_only_cuts (length d.setup.drives) d.faults plain)).0
+
+pub saved_clear : (d : DocumentView) → IsSaved d.setup (script_carry d) (script_restarts d) → has_flip d.faults ≡ false → AreClear d.setup (script_carry d) (script_restarts d)
+saved_clear d saved plain = record { lists = saved.lists.kept.clear (harmless d plain); blocks = λ well few. (saved.blocks well few).kept.clear (harmless d plain) }
+
+pub restored_clear : (d : DocumentView) → IsRestoredRun d.setup d.jobs (script_carry d) (script_restarts d) → has_flip d.faults ≡ false → IsClear (script_run d)
+restored_clear d restored plain = restored.kept.clear (harmless d plain)
 
 -- the place of a drive by its address
 place_so : (r : RingView) (k : ℕ) → is_ring r ≡ true → k < length r.drives → place_of r (drive_at r k).address ≡ Some k
@@ -106,13 +114,13 @@ place_so r k valid below =
             absurd (omega (arith, one, less))
 
 -- what is written is kept
-writes_kept : WritesAreKept → (r : RingView) (jobs : List Job) (carry : Carry) (restarts : Restarts) → IsOpened r jobs → IsRingRun r jobs carry restarts → AreWritesKept r jobs carry restarts
+writes_kept : WritesAreKept → (r : RingView) (jobs : List Job) (carry : Carry) (restarts : Restarts) → IsOpened r jobs → IsRun r jobs carry restarts (run_of r jobs carry restarts r.cycles) → AreWritesKept r jobs carry restarts
 writes_kept law r jobs carry restarts opened run clear n job t idn bytes whole there writes told complete last =
     let at = tracked_at 1 (told_in (run_of r jobs carry restarts r.cycles)) jobs n t told in
     let number : 1 + n ≡ n + 1 = omega arith in
     let outcome_is : told_of (told_in (run_of r jobs carry restarts r.cycles)) (n + 1) ≡ Some (outcome.Complete whole) =
     sym (ap (told_of (told_in (run_of r jobs carry restarts r.cycles))) number) ∙ ap (λ (x : Tracked). x.outcome) at.is ∙ complete in
-    let kept = law r jobs carry restarts (run_of r jobs carry restarts r.cycles) n job idn bytes whole opened run.run clear there writes outcome_is last in
+    let kept = law r jobs carry restarts (run_of r jobs carry restarts r.cycles) n job idn bytes whole opened run clear there writes outcome_is last in
     record {
       stored = kept;
       printed =
@@ -121,7 +129,12 @@ writes_kept law r jobs carry restarts opened run clear n job t idn bytes whole t
           ∙ ap (data_of (r.cycles - 1)) kept.holds ∙ kept.written (r.cycles - 1);
     }
 
-pub is_restored : AreNext → Headline → WritesAreKept → (d : DocumentView) → IsOpened d.setup d.jobs → Unit {0} → IsRestoredRun d.setup d.jobs (script_carry d) (script_restarts d)
-is_restored next law kept d opened none =
-    let run = ring_run next law d.setup d.jobs (script_carry d) (script_restarts d) opened in
-    record { run = run; kept = writes_kept kept d.setup d.jobs (script_carry d) (script_restarts d) opened run }
+pub is_restored : OpenedIsKept → WritesAreKept → (d : DocumentView) (is_other : ℕ → ℕ → Bool) → AreJobs (λ address. has_address address d.setup.drives) is_other d.jobs → IsOpened d.setup d.jobs → Unit {0}
+    → IsRestoredRun d.setup d.jobs (script_carry d) (script_restarts d)
+is_restored law writes d is_other good opened none =
+    let kept = law d.setup d.jobs (script_carry d) (script_restarts d) d.setup.cycles opened in
+    record {
+      kept = kept;
+      writes = writes_kept writes d.setup d.jobs (script_carry d) (script_restarts d) opened kept.run;
+      ends = ends_well d.setup d.jobs (script_carry d) (script_restarts d) kept.starts (jobs_drives d.setup is_other d.jobs good);
+    }

@@ -15,6 +15,7 @@ use Rattle.sercos_document.specs.declared.refusal.BadDocument.{BadDocument}
 use Rattle.sercos_config.specs.Views.{DocumentView}
 use Rattle.sercos_config.specs.Document.{document_of}
 use Rattle.sercos_law_run.specs.Journal.Runs.{run_of}
+use Rattle.sercos_law_run.specs.Undisturbed.StopsLater.{IsRight}
 use Rattle.sercos_answer.specs.Answer.{Answer}
 use Rattle.sercos_backup.specs.declared.tracked.Tracked.{Tracked}
 use Rattle.sercos_backup.specs.Jobs.{list_jobs, place_of_other}
@@ -23,13 +24,15 @@ use Rattle.sercos_backup.specs.Texts.{saved_lines, saved_answer, failed_answer, 
 use Rattle.sercos_app.specs.Answer.{command_answer}
 use Rattle.sercos_opened.specs.Kept.{script_carry, script_restarts}
 use Rattle.sercos_app.specs.Saving.{run_tracked, data_answer, lists_answer, ring_saved, last_data, writes_answer, ring_restored, answer_by, backup_answer, restore_answer}
-use Rattle.sercos_app.specs.Saved.{SavesItsRing, RestoresItsRing, second_jobs}
+use Rattle.sercos_app.specs.Saved.{GoWell, IsSaved, SavesItsRing, RestoresItsRing, second_jobs}
 use Rattle.sercos_call.specs.TopCall.{writes_nothing, ReadsWhole}
-use Rattle.sercos_app.specs.TopCall.{IsUnsaved, BackupSaved, BackupFailed, RestoreTold}
+use Rattle.sercos_app.specs.TopCall.{IsRefused, IsUnsaved, BackupSaved, BackupFailed, RestoreTold}
 use Rattle.sercos_app.specs.TopCall.IsUnsaved.{lists_failed, too_many, blocks_failed}
+use Rattle.sercos_app.specs.TopCall.IsRefused.{lists_refused, many_listed, blocks_refused}
 use Rattle.sercos_call.specs.Outcome.{SourceChange, SinkChange}
 use Rattle.sercos_app.specs.Outcome.{Ends}
 use Rattle.sercos_app.proofs.Outcomes.{answered_by, done_whole, no_whole}
+use Rattle.sercos_app.proofs.SavedRuns.{restored_clear, saved_clear}
 
 -- what a document says that isn't refused
 record IsAnswerOf (answer : RingView → List Job → Carry → Restarts → Answer) (document : Result DocumentView BadDocument) : Type 0 where
@@ -118,6 +121,17 @@ unsaved r jobs carry restarts says_no =
       | inr failed ↦ subst (λ (x : Answer). IsUnsaved r carry restarts x.output) (sym failed.1) (lists_failed failed.0)
     ]
 
+-- the reason, if each request was answered
+refused_told : (r : RingView) (carry : Carry) (restarts : Restarts) (text : List ℕ) → IsSaved r carry restarts → IsUnsaved r carry restarts text → IsRight r → GoWell r carry restarts → IsRefused r carry restarts text
+refused_told r carry restarts text saved (lists_failed failed) right well =
+    let answered = saved.lists.ends right well.lists.long well.lists.calm in
+    subst (IsRefused r carry restarts) (sym (answered.failed true)) (lists_refused (answered.refused true failed))
+refused_told r carry restarts text saved (too_many lists many) right well = many_listed many
+refused_told r carry restarts text saved (blocks_failed lists few failed) right well =
+    let run = well.blocks lists few in
+    let answered = (saved.blocks lists few).ends right run.long run.calm in
+    subst (IsRefused r carry restarts) (sym (answered.failed false)) (blocks_refused (answered.refused false failed))
+
 saved_told : (carry : Carry) (restarts : Restarts) (bytes : List ℕ) (left left' held held' : Option (List ℕ)) → SavesItsRing bytes
     → (command_answer carry restarts Backup bytes).status ≡ Done → ReadsWhole left left' bytes → Appends held held' (command_answer carry restarts Backup bytes).output
     → BackupSaved left left' held held'
@@ -135,14 +149,15 @@ saved_told carry restarts bytes left left' held held' says at input written =
       few = all.all.few;
       blocks = all.all.blocks;
       runs = says d of.read;
+      clear = saved_clear d (says d of.read);
       written = subst (Appends held held') (ap (λ (x : Answer). x.output) of.is ∙ all.text) written;
     }
 
-unsaved_told : (carry : Carry) (restarts : Restarts) (bytes : List ℕ) (left left' held held' : Option (List ℕ))
+unsaved_told : (carry : Carry) (restarts : Restarts) (bytes : List ℕ) (left left' held held' : Option (List ℕ)) → SavesItsRing bytes
     → (command_answer carry restarts Backup bytes).status ≡ No → ReadsWhole left left' bytes → Appends held held' (command_answer carry restarts Backup bytes).output
     → BackupFailed left left' held held'
 unfolding command_answer backup_answer
-unsaved_told carry restarts bytes left left' held held' at input written =
+unsaved_told carry restarts bytes left left' held held' says at input written =
     let of = not_refused ring_saved (document_of bytes) (λ e. absurd (cc)) in
     let d = of.says in
     record {
@@ -152,6 +167,9 @@ unsaved_told carry restarts bytes left left' held held' at input written =
       document = of.read;
       text = (ring_saved d.setup d.jobs (script_carry d) (script_restarts d)).output;
       why = unsaved d.setup d.jobs (script_carry d) (script_restarts d) (sym (ap (λ (x : Answer). x.status) of.is) ∙ at);
+      refused = refused_told d.setup (script_carry d) (script_restarts d) _ (says d of.read) (unsaved d.setup d.jobs (script_carry d) (script_restarts d) (sym (ap (λ (x : Answer). x.status) of.is) ∙ at));
+      runs = says d of.read;
+      clear = saved_clear d (says d of.read);
       written = subst (Appends held held') (ap (λ (x : Answer). x.output) of.is) written;
     }
 
@@ -169,7 +187,7 @@ unfolding writes_nothing reads_input
 at_unsaved out e f =
     let a = answered_by out Backup f (ap writes_nothing e) in
     let whole = no_whole _ _ Backup a.bytes _ _ a.ends e in
-    unsaved_told _ _ a.bytes _ _ _ _ whole.0 a.input whole.1
+    unsaved_told _ _ a.bytes _ _ _ _ a.says whole.0 a.input whole.1
 
 -- RESTORE.
 record TellsAll (r : RingView) (jobs : List Job) (carry : Carry) (restarts : Restarts) (other : Option ℕ) (all : Bool) : Type 0 where
@@ -207,6 +225,7 @@ restored_told carry restarts all bytes left left' held held' says at input writt
       document = of.read;
       writes = tells.writes;
       run = says d of.read;
+      clear = restored_clear d (says d of.read);
       whole = tells.whole;
       written = subst (Appends held held') (ap (λ (x : Answer). x.output) of.is ∙ tells.text) written;
     }

@@ -4,6 +4,7 @@ pub mod Running
 pub mod Generating
 pub mod Saving
 pub mod Tracking
+pub mod EndsWell
 pub mod Saved
 pub mod OwnRun
 pub mod Answer

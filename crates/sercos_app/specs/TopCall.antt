@@ -24,15 +24,17 @@ use Rattle.sercos_trace.specs.Texts.{trace_of}
 use Rattle.std.specs.List.{flat_map}
 use Rattle.sercos_block.specs.Views.{RingView}
 use Rattle.sercos_law_run.specs.Journal.Harmless.{IsHarmlessAfterCuts}
-use Rattle.sercos_law_run.specs.Journal.Runs.{IsClear, IsRun, run_of}
+use Rattle.sercos_law_run.specs.Journal.Runs.{IsClear, run_of}
+use Rattle.sercos_law_run.specs.Undisturbed.StopsLater.{IsRight}
 use Rattle.sercos_backup.specs.Jobs.{list_jobs, place_of_other}
 use Rattle.sercos_backup.specs.Tracking.{are_well}
 use Rattle.sercos_backup.specs.Texts.{failed_lines, many_answer, restored_line, saved_lines}
 use Rattle.sercos_app.specs.Saving.{last_data, run_tracked}
-use Rattle.sercos_app.specs.Saved.{IsRestoredRun, IsSaved, second_jobs}
+use Rattle.sercos_app.specs.EndsWell.{HasRefusal, refused_line}
+use Rattle.sercos_app.specs.Saved.{AreClear, GoWell, IsRestoredRun, IsSaved, second_jobs}
 use Rattle.sercos_law_run.specs.Totals.Totals.{totals_of}
 use Rattle.sercos_law_trace.specs.Clean.Traces.{IsCleanIfClear}
-use Rattle.sercos_opened.specs.Kept.{carry_under, restarts_under, script_carry, script_restarts, KeepsThroughout, RecoversThroughout, StartsThroughout}
+use Rattle.sercos_opened.specs.Kept.{carry_under, restarts_under, script_carry, script_restarts, script_run, IsKept}
 use Rattle.sercos_config.specs.Views.{DocumentView}
 use Rattle.sercos_config.specs.Document.{document_of}
 use Rattle.sercos_config.specs.Generated.{generated}
@@ -139,11 +141,8 @@ pub record RunTraced (carry : Carry) (restarts : Restarts) (left left' held held
   pub says : DocumentView
   pub document : document_of bytes ≡ Ok says
   pub journal : List CycleView
-  pub run : IsRun says.setup says.jobs (carry_under says carry) (restarts_under says restarts) journal
+  pub kept : IsKept says.setup says.jobs (carry_under says carry) (restarts_under says restarts) journal
   pub clear : has_flip says.faults ≡ false → IsHarmlessAfterCuts carry → IsClear journal
-  pub keeps : KeepsThroughout says.setup says.jobs (carry_under says carry) (restarts_under says restarts) journal
-  pub starts : StartsThroughout says.setup says.jobs (carry_under says carry) (restarts_under says restarts) journal
-  pub recovers : RecoversThroughout says.setup says.jobs (carry_under says carry) (restarts_under says restarts) journal
   pub clean : IsCleanIfClear says.setup journal
   pub count : length journal ≡ says.setup.cycles
   pub written : Appends held held' (trace_of (wishes_of says.setup) (reverse journal) (totals_of (reverse journal)))
@@ -153,11 +152,8 @@ pub record RunTraced (carry : Carry) (restarts : Restarts) (left left' held held
 -- cycle of the journal comes first.
 pub record RunSummed (carry : Carry) (restarts : Restarts) (n : ℕ) (held held' : Option (List ℕ)) : Type 0 where
   pub journal : List CycleView
-  pub run : IsRun (generated n).setup (generated n).jobs (carry_under (generated n) carry) (restarts_under (generated n) restarts) journal
+  pub kept : IsKept (generated n).setup (generated n).jobs (carry_under (generated n) carry) (restarts_under (generated n) restarts) journal
   pub clear : IsHarmlessAfterCuts carry → IsClear journal
-  pub keeps : KeepsThroughout (generated n).setup (generated n).jobs (carry_under (generated n) carry) (restarts_under (generated n) restarts) journal
-  pub starts : StartsThroughout (generated n).setup (generated n).jobs (carry_under (generated n) carry) (restarts_under (generated n) restarts) journal
-  pub recovers : RecoversThroughout (generated n).setup (generated n).jobs (carry_under (generated n) carry) (restarts_under (generated n) restarts) journal
   pub count : length journal ≡ (generated n).setup.cycles
   pub written : Appends held held' (gen_line n (totals_of (reverse journal)))
 
@@ -169,8 +165,15 @@ pub data IsUnsaved (r : RingView) (carry : Carry) (restarts : Restarts) : List �
   blocks_failed : are_well true (run_tracked r (list_jobs r) carry restarts) ≡ true → length (second_jobs r carry restarts) ≤ 4096 → are_well false (run_tracked r (second_jobs r carry restarts) carry restarts) ≡ false
       → IsUnsaved r carry restarts (failed_lines false (run_tracked r (second_jobs r carry restarts) carry restarts))
 
+-- The same, if each request was answered: drives refused their lists, or some of the blocks on them; or these are too many.
+pub data IsRefused (r : RingView) (carry : Carry) (restarts : Restarts) : List ℕ → Type 0 where
+  lists_refused : HasRefusal true (run_tracked r (list_jobs r) carry restarts) → IsRefused r carry restarts (flat_map (refused_line true) (run_tracked r (list_jobs r) carry restarts))
+  many_listed : 4096 < length (second_jobs r carry restarts) → IsRefused r carry restarts (many_answer (length (second_jobs r carry restarts))).output
+  blocks_refused : HasRefusal false (run_tracked r (second_jobs r carry restarts) carry restarts) → IsRefused r carry restarts (flat_map (refused_line false) (run_tracked r (second_jobs r carry restarts) carry restarts))
+
 -- The source was read to its end as the document of a ring. The lists of backup operation data of its drives were read in one run of the
--- ring, and all blocks on them in a second one, both over its script. What was appended is the saved data of these blocks, in the order of the lists.
+-- ring, and all blocks on them in a second one, both over its script. What was appended is the saved data of these blocks, in the order of
+-- the lists. If the script has no flip, no arrival of these runs is unseen.
 pub record BackupSaved (left left' held held' : Option (List ℕ)) : Type 0 where
   pub bytes : List ℕ
   pub read : ReadsWhole left left' bytes
@@ -180,9 +183,11 @@ pub record BackupSaved (left left' held held' : Option (List ℕ)) : Type 0 wher
   pub few : length (second_jobs says.setup (script_carry says) (script_restarts says)) ≤ 4096
   pub blocks : are_well false (run_tracked says.setup (second_jobs says.setup (script_carry says) (script_restarts says)) (script_carry says) (script_restarts says)) ≡ true
   pub runs : IsSaved says.setup (script_carry says) (script_restarts says)
+  pub clear : has_flip says.faults ≡ false → AreClear says.setup (script_carry says) (script_restarts says)
   pub written : Appends held held' (saved_lines (run_tracked says.setup (second_jobs says.setup (script_carry says) (script_restarts says)) (script_carry says) (script_restarts says)))
 
--- The same input, but nothing is saved, and what was appended has the reason.
+-- The same input, but nothing is saved, and what was appended has the reason. If the ring is right, its cycles suffice for the requests of
+-- each run that is made, and nothing is disturbed in it, no line says that a request is open or broken.
 pub record BackupFailed (left left' held held' : Option (List ℕ)) : Type 0 where
   pub bytes : List ℕ
   pub read : ReadsWhole left left' bytes
@@ -190,11 +195,14 @@ pub record BackupFailed (left left' held held' : Option (List ℕ)) : Type 0 whe
   pub document : document_of bytes ≡ Ok says
   pub text : List ℕ
   pub why : IsUnsaved says.setup (script_carry says) (script_restarts says) text
+  pub refused : IsRight says.setup → GoWell says.setup (script_carry says) (script_restarts says) → IsRefused says.setup (script_carry says) (script_restarts says) text
+  pub runs : IsSaved says.setup (script_carry says) (script_restarts says)
+  pub clear : has_flip says.faults ≡ false → AreClear says.setup (script_carry says) (script_restarts says)
   pub written : Appends held held' text
 
 -- The source was read to its end as the document of a ring whose requests all write operation data. What was appended has a line for each
 -- of them, from the one run of the ring over its script: what the drive has after its last cycle, or how the request failed. `all` is
--- whether none did.
+-- whether none did. If the script has no flip, no arrival of the run is unseen.
 pub record RestoreTold (all : Bool) (left left' held held' : Option (List ℕ)) : Type 0 where
   pub bytes : List ℕ
   pub read : ReadsWhole left left' bytes
@@ -202,6 +210,7 @@ pub record RestoreTold (all : Bool) (left left' held held' : Option (List ℕ)) 
   pub document : document_of bytes ≡ Ok says
   pub writes : place_of_other says.jobs ≡ None
   pub run : IsRestoredRun says.setup says.jobs (script_carry says) (script_restarts says)
+  pub clear : has_flip says.faults ≡ false → IsClear (script_run says)
   pub whole : are_well false (run_tracked says.setup says.jobs (script_carry says) (script_restarts says)) ≡ all
   pub written : Appends held held' (flat_map (restored_line (last_data says.setup (script_carry says) (script_restarts says) (run_of says.setup says.jobs (script_carry says) (script_restarts says) says.setup.cycles)))
       (run_tracked says.setup says.jobs (script_carry says) (script_restarts says)))

@@ -20,9 +20,8 @@ use sercos_block::{RingSetup, ring_law};
 use sercos_call::{give_if_made, refuse};
 use sercos_config::{Document, read_ring};
 use sercos_io::{Sink, Status};
-use sercos_law_run::{headline_law, run_law};
 use sercos_law_trace::told_law;
-use sercos_opened::{show_jobs, show_opened};
+use sercos_opened::{kept_law, show_jobs, show_opened};
 use sercos_script::{BitLink, Scripted};
 use std::alloc::{AllocError, Global};
 
@@ -87,8 +86,7 @@ pub fn answer_backup<K: Sink>(alloc: Global, bytes: &[u8], sink: &mut K) -> Stat
     ensures { Replies (backup_answer bytes.now) (SavesItsRing bytes.now)
         (changed K.held K.faults K.room sink.old sink.new) (sink.new ≡ sink.old) result }
 {
-    run_law();
-    headline_law();
+    kept_law();
     told_law();
     match read_ring(alloc, bytes) {
         Ok(document) => {

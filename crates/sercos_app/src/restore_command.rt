@@ -29,9 +29,8 @@ use sercos_call::{give_if_made, refuse};
 use sercos_config::{Document, read_ring};
 use sercos_idn::{Idn, element};
 use sercos_io::{Sink, Status};
-use sercos_law_run::{headline_law, run_law};
 use sercos_law_trace::kept_law;
-use sercos_opened::show_opened;
+use sercos_opened::{kept_law as opened_law, show_opened};
 use sercos_ring::Ring;
 use sercos_script::{BitLink, Scripted};
 use sercos_service_drive::push_data;
@@ -190,8 +189,7 @@ pub fn answer_restore<K: Sink>(alloc: Global, bytes: &[u8], sink: &mut K) -> Sta
     ensures { Replies (restore_answer bytes.now) (RestoresItsRing bytes.now)
         (changed K.held K.faults K.room sink.old sink.new) (sink.new ≡ sink.old) result }
 {
-    run_law();
-    headline_law();
+    opened_law();
     kept_law();
     match read_ring(alloc, bytes) {
         Ok(document) => {

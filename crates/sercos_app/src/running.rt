@@ -16,11 +16,12 @@ ghost use Rattle.sercos_law_run.specs.Totals.Counting.{HasRoom, IsFew, with_cycl
 ghost use Rattle.sercos_app.specs.Journals.{HasMade, IsRingOf, OfRun, WritesCycles, journal_text};
 ghost use Rattle.sercos_law_run.specs.Totals.Totals.{totals_of};
 ghost use Rattle.sercos_app.specs.RunWriting.{WritesRun};
-ghost use Rattle.sercos_opened.specs.Kept.{KeepsThroughout, RecoversThroughout, StartsThroughout};
+ghost use Rattle.sercos_opened.specs.Kept.{IsKept};
 
 use sercos_block::ring_law;
 use sercos_io::{Sink, WriteFailed};
-use sercos_law_run::{headline_law, plan_law, recovery_law, run_law, undisturbed_law};
+use sercos_law_run::{plan_law, run_law};
+use sercos_opened::kept_law;
 use sercos_ring::{Ring, count_made, no_totals, standing_law};
 use sercos_script::BitLink;
 use sercos_text::Line;
@@ -127,9 +128,8 @@ fn write_whole<L: BitLink, K: Sink>(
 ///
 /// The ring has made no cycle, and the planner's input is that of the setup with which it was opened; 1 to 50,000 cycles. After an
 /// error the sink has accepted a prefix of the text, short of the whole, and its count of faults has risen. In both cases the ring
-/// stands for the cycles that it has made. If the arguments of its opening keep their types' ranges, each cycle up to the first
-/// undetected damage has the properties of `headline_law`, and those of `recovery_law` after faults; and each up to the first that is
-/// disturbed has those of `undisturbed_law` for a start-up.
+/// stands for the cycles that it has made. If the arguments of its opening keep their types' ranges, the run has the properties of
+/// `kept_law`.
 pub fn write_run<L: BitLink, K: Sink>(
     ring: &mut Ring<L>,
     w: &Wishes,
@@ -145,19 +145,12 @@ pub fn write_run<L: BitLink, K: Sink>(
     ensures err { OnErr result (OfRun (RingStandsFor L.carry L.restart) ring.old cycles (λ run. (count : ℕ) × (count < length (journal_text w.now run))
         × Appends (K.held sink.old) (K.held sink.new) (take count (journal_text w.now run)))) }
     ensures cause { HasCause (K.faults sink.old) (K.faults sink.new) result }
-    ensures keeps { (r : RingView) (jobs : List Job) (carry : Carry) (restarts : Restarts) → RingStandsFor L.carry L.restart ring.old r jobs carry restarts []
-        → IsOpened r jobs → KeepsThroughout r jobs carry restarts (run_of r jobs carry restarts cycles) }
-    ensures starts { (r : RingView) (jobs : List Job) (carry : Carry) (restarts : Restarts) → RingStandsFor L.carry L.restart ring.old r jobs carry restarts []
-        → IsOpened r jobs → StartsThroughout r jobs carry restarts (run_of r jobs carry restarts cycles) }
-    ensures recovers { (r : RingView) (jobs : List Job) (carry : Carry) (restarts : Restarts) → RingStandsFor L.carry L.restart ring.old r jobs carry restarts []
-        → IsOpened r jobs → RecoversThroughout r jobs carry restarts (run_of r jobs carry restarts cycles) }
+    ensures kept { (r : RingView) (jobs : List Job) (carry : Carry) (restarts : Restarts) → RingStandsFor L.carry L.restart ring.old r jobs carry restarts []
+        → IsOpened r jobs → IsKept r jobs carry restarts (run_of r jobs carry restarts cycles) }
     ensures room { OfRun (RingStandsFor L.carry L.restart) ring.old cycles (λ run. length (journal_text w.now run) ≤ K.room sink.old → IsOk result) }
 {
     ring_law();
-    run_law();
-    headline_law();
-    undisturbed_law();
-    recovery_law();
+    kept_law();
     standing_law::<L>();
     write_whole(ring, w, cycles, sink)
 }

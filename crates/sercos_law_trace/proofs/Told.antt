@@ -1,4 +1,5 @@
 pub mod ToldLemmas
+pub mod AnsweredLemmas
 pub mod EntryLemmas
 pub mod ReadLemmas
 pub mod LastWrites

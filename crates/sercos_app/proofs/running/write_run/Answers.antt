@@ -1,6 +1,5 @@
 use Rattle.sercos_ring.specs.Kept.{RingStandsFor}
 use Rattle.sercos_app.proofs.JournalLemmas.{run_totals, run_ok, run_err, run_cause, run_room, order_within}
-use Rattle.sercos_opened.proofs.KeptLemmas.{run_keeps, run_recovers, run_starts}
 use Rattle.sercos_app.proofs.running.write_run.Goals as goal
 
 pub write_whole-requires-clause-made : goal.write_whole-requires-clause-made
@@ -28,14 +27,8 @@ returns-clause-err g c = run_err (RingStandsFor g.L.BitLink.carry g.L.BitLink.re
 pub returns-clause-cause : goal.returns-clause-cause
 returns-clause-cause g c = run_cause (RingStandsFor g.L.BitLink.carry g.L.BitLink.restart) _ _ _ _ _ _ c.write_whole.result c.write_whole.ensures c.requires.ring
 
-pub returns-clause-keeps : goal.returns-clause-keeps
-returns-clause-keeps g c = λ r jobs carry restarts stands opened. run_keeps c.run_law.ensures.is_next c.headline_law.ensures r jobs carry restarts _ opened
-
-pub returns-clause-starts : goal.returns-clause-starts
-returns-clause-starts g c = λ r jobs carry restarts stands opened. run_starts c.run_law.ensures.is_next c.undisturbed_law.ensures.starts r jobs carry restarts _ opened
-
-pub returns-clause-recovers : goal.returns-clause-recovers
-returns-clause-recovers g c = λ r jobs carry restarts stands opened. run_recovers c.run_law.ensures.is_next c.recovery_law.ensures.recovers r jobs carry restarts _ opened
+pub returns-clause-kept : goal.returns-clause-kept
+returns-clause-kept g c = λ r jobs carry restarts stands opened. c.kept_law.ensures.kept r jobs carry restarts _ opened
 
 pub returns-clause-room : goal.returns-clause-room
 returns-clause-room g c = run_room (RingStandsFor g.L.BitLink.carry g.L.BitLink.restart) _ _ _ _ _ _ c.write_whole.result c.write_whole.ensures
