@@ -88,6 +88,7 @@ module _ (r : RingView) (carry : Carry) (restarts : Restarts) where
       by : (b : Bool) → calm_cycles j ≤ length j → (if b then length j + 1 else calm_cycles j) ≤ length (t ∷ j)
       by true low = omega arith
       by false low = omega (arith, low)
+
   all_calm : (j : List CycleView) → calm_cycles j ≡ length j → NeverDisturbed r carry restarts j
   all_calm [] is = tt
   all_calm (t ∷ j) is = by (calm_cycles j == length j) refl (is_disturbed_in r carry restarts (length j) t.sent) refl is (most j) (all_calm j)
