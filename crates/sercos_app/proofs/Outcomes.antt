@@ -264,8 +264,8 @@ none-plan : (carry : Carry) (restarts : Restarts) (bytes : List ℕ) (left left'
 unfolding command_answer plan_answer
 none-plan carry restarts bytes left left' held held' says at input written =
     let (d, read) = document_read (document_of bytes) (λ e. absurd (cc)) in
-    let (chain, made, is, text) = (says d read).chain at in
-    record { bytes = bytes; read = input; says = d; document = read; none = (says d read).no at; chain = chain; made = made; is_chain = is; written = rw text at written }
+    let (chain, made, is, least, text) = (says d read).chain at in
+    record { bytes = bytes; read = input; says = d; document = read; none = (says d read).no at; chain = chain; made = made; is_chain = is; is_least = least; written = rw text at written }
 
 least-plan : (carry : Carry) (restarts : Restarts) (bytes : List ℕ) (left left' held held' : Option (List ℕ)) → PlansItsRing bytes → (command_answer carry restarts Plan bytes).status ≡ Done → ReadsWhole left left' bytes
     → Appends held held' (command_answer carry restarts Plan bytes).output → LeastPlanned left left' held held'

@@ -1,5 +1,5 @@
 -- The replay of the trace that `run` writes.
-use Rattle.std.proofs.Common.{◌≡◌, ◌⊎◌, inl, inr, ℕ, ◌≤◌, true, List, [], ◌∷◌, length, reverse, Some, None, Result, Ok, Err, IfOk, sym, ap, ◌∙◌, subst, arith}
+use Rattle.std.proofs.Common.{◌≡◌, ◌⊎◌, inl, inr, ℕ, ◌≤◌, true, List, [], ◌∷◌, length, reverse, Option, Some, None, Result, Ok, Err, IfOk, refl, sym, ap, ◌∙◌, subst, arith}
 use Rattle.std.specs.Prelude.{MatchResult, option_map}
 use Rattle.sercos_step.specs.declared.request.Job.{Job}
 use Rattle.sercos_block.specs.Rings.{wishes_of}
@@ -16,16 +16,20 @@ use Rattle.sercos_document.specs.declared.refusal.BadDocument.{BadDocument}
 use Rattle.sercos_document.specs.declared.refusal.BadDocument.TheVariants.{Memory}
 use Rattle.sercos_law_run.proofs.Theorems.{stays_clear}
 use Rattle.sercos_replay.specs.Captured.{NeverDisturbed}
-use Rattle.sercos_replay.specs.Replaying.{late_start, place_answer, replay_answer}
+use Rattle.sercos_replay.specs.Replaying.{late_start, place_answer}
 use Rattle.sercos_replay.specs.Asking.{Asks, Replays, cycles_in}
 use Rattle.sercos_replay.specs.Divided.{capture_part, capture_place, divided, document_part}
-use Rattle.sercos_replay.specs.Traced.{TracesAgree}
+use Rattle.sercos_replay.specs.Places.{PlaceView}
+use Rattle.sercos_replay.specs.Stations.{station_differs}
+use Rattle.sercos_replay.specs.Traced.{TracesDiffer}
+use Rattle.sercos_replay.specs.Undisturbed.{IsNoEarlier}
 use Rattle.sercos_law_run.specs.Totals.Totals.{totals_of}
 use Rattle.sercos_law_trace.specs.Clean.Ruled.{RunsFitLines}
 use Rattle.sercos_law_trace.specs.Clean.Traces.{IsCleanTrace, RunsAreClean}
 use Rattle.sercos_law_trace.proofs.Theorems.{few_cycles, whole_is_clean}
 use Rattle.sercos_opened.specs.Kept.{carry_under, restarts_under, document_run}
-use Rattle.sercos_app.specs.OwnRun.{MayBeOpened, OpensIfRead, OpensItsRing, OwnRunsAgree, ReplaysItsRing}
+use Rattle.sercos_config.specs.Views.{DocumentView}
+use Rattle.sercos_app.specs.OwnRun.{AgreesThroughout, IsCalm, IsOwnRun, MayBeOpened, OpensIfRead, OpensItsRing, OwnRunsHold, ReplaysItsRing}
 use Rattle.sercos_app.proofs.RunLemmas.{run_answer_of}
 
 abbrev pub AreMade : Type 0
@@ -39,20 +43,16 @@ clear_so : (r : RingView) (jobs : List Job) (carry : Carry) (restarts : Restarts
 clear_so r jobs carry restarts [] run calm = tt
 clear_so r jobs carry restarts (t ∷ j) run calm = stays_clear r jobs carry restarts (t ∷ []) j run (clear_so r jobs carry restarts j run.0 calm.0) (tt, calm.1)
 
-pub own_runs : AreMade → AreCounted → TracesAgree → RunsFitLines → RunsAreClean → OwnRunsAgree
-own_runs made count law fit_law clean_law address input opens carry restarts d own calm = record { clean = clean; starts = starts; replays = replays }
-  where
+module _ (made : AreMade) (count : AreCounted) (asking : (a : ℕ) (bytes : List ℕ) → Replays a bytes) (law : TracesDiffer) (fit_law : RunsFitLines) (clean_law : RunsAreClean) where
+  module _ (address : ℕ) (input : List ℕ) (opens : OpensItsRing input) (carry : Carry) (restarts : Restarts) (d : DocumentView) (own : IsOwnRun carry restarts address input d) where
     may : MayBeOpened d
     may = opens own.document own.capture own.divides d own.says
 
-    j : List CycleView
+    abbrev j : List CycleView
     j = document_run carry restarts d
 
     run : IsRun d.setup d.jobs (carry_under d carry) (restarts_under d restarts) j
     run = made d.setup d.jobs (carry_under d carry) (restarts_under d restarts) d.setup.cycles
-
-    clear : IsClear j
-    clear = clear_so d.setup d.jobs (carry_under d carry) (restarts_under d restarts) j run calm
 
     few : length j ≤ 50000
     few = let number = count d.setup d.jobs (carry_under d carry) (restarts_under d restarts) d.setup.cycles in let low = few_cycles d.setup may.opened.valid in omega (arith, number, low)
@@ -63,38 +63,67 @@ own_runs made count law fit_law clean_law address input opens carry restarts d o
     text_is : own.capture ≡ trace_of (wishes_of d.setup) (reverse j) (totals_of (reverse j))
     text_is = own.written ∙ ap (λ (a : Answer). a.output) (run_answer_of carry restarts own.document d own.says)
 
-    trace : IsCleanTrace (wishes_of d.setup) j (totals_of (reverse j))
-    trace = whole_is_clean clean_law d.setup d.jobs (carry_under d carry) (restarts_under d restarts) may.opened may.few run clear
+    trace : IsClear j → IsCleanTrace (wishes_of d.setup) j (totals_of (reverse j))
+    trace clear = whole_is_clean clean_law d.setup d.jobs (carry_under d carry) (restarts_under d restarts) may.opened may.few run clear
 
-    clean : verdict_of own.capture ≡ Clean (length (lines_of own.capture))
-    clean = subst (λ (text : List ℕ). verdict_of text ≡ Clean (length (lines_of text))) (sym text_is) trace.clean
+    clean : IsClear j → verdict_of own.capture ≡ Clean (length (lines_of own.capture))
+    clean clear = subst (λ (text : List ℕ). verdict_of text ≡ Clean (length (lines_of text))) (sym text_is) (trace clear).clean
 
-    starts : late_start own.capture ≡ None
-    starts = subst (λ (text : List ℕ). late_start text ≡ None) (sym text_is) trace.starts
+    starts : IsClear j → late_start own.capture ≡ None
+    starts clear = subst (λ (text : List ℕ). late_start text ≡ None) (sym text_is) (trace clear).starts
 
-    asks : Asks address input own.station own.capture
-    asks = record {
-      document = own.document;
-      divides = own.divides;
-      d = d;
-      says = own.says;
-      has_station = own.has_station;
-      count = length (lines_of own.capture);
-      clean = clean;
-      starts = starts;
-    }
-
-    replays : replay_answer address input ≡ place_answer None (length (cycles_in own.capture))
-    replays = law address input own.capture own.station asks (carry_under d carry) (restarts_under d restarts) j (totals_of (reverse j))
+    no_earlier : (place : PlaceView) → station_differs own.station (cycles_in own.capture) ≡ Some place → IsNoEarlier d.setup (carry_under d carry) (restarts_under d restarts) j place
+    no_earlier place differs =
+        law address d own.station (carry_under d carry) (restarts_under d restarts) j (totals_of (reverse j)) place own.has_station
         (record {
           ring = may.opened.valid;
           typed = may.opened.typed;
           jobs = may.opened.jobs_typed;
           run = run;
-          calm = calm;
-          fit = fit_law d.setup d.jobs (carry_under d carry) (restarts_under d restarts) j may.opened run clear counted;
+          fit = fit_law d.setup d.jobs (carry_under d carry) (restarts_under d restarts) j may.opened run counted;
         })
-        text_is
+        (subst (λ (text : List ℕ). station_differs own.station (cycles_in text) ≡ Some place) text_is differs)
+
+    -- a place that differs would be after the last cycle
+    none : IsCalm carry restarts d → station_differs own.station (cycles_in own.capture) ≡ None
+    none calm = by (station_differs own.station (cycles_in own.capture)) refl
+      where
+        by : (o : Option PlaceView) → station_differs own.station (cycles_in own.capture) ≡ o → o ≡ None
+        by None is = refl
+        by (Some place) is =
+            let first = no_earlier place is in
+            let low = first.within in
+            let high = first.late [] j refl calm in
+            absurd (omega (arith, low, high))
+
+    agrees : IsCalm carry restarts d → AgreesThroughout address input own.capture
+    agrees calm = record {
+      clean = clean clear;
+      starts = starts clear;
+      replays = (asking address input).tells own.station own.capture asks ∙ ap (λ (o : Option PlaceView). place_answer o (length (cycles_in own.capture))) (none calm);
+    }
+      where
+        clear : IsClear j
+        clear = clear_so d.setup d.jobs (carry_under d carry) (restarts_under d restarts) j run calm
+
+        asks : Asks address input own.station own.capture
+        asks = record {
+          document = own.document;
+          divides = own.divides;
+          d = d;
+          says = own.says;
+          has_station = own.has_station;
+          count = length (lines_of own.capture);
+          clean = clean clear;
+          starts = starts clear;
+        }
+
+  pub own_runs : OwnRunsHold
+  own_runs address input opens = record {
+    agrees = agrees address input opens;
+    differs = no_earlier address input opens;
+    clean = clean address input opens;
+  }
 
 -- the document of an input that a line divides
 opens_parts : (input : List ℕ) (place : ℕ) → capture_place true input ≡ Some place → OpensIfRead (document_part input place) → OpensItsRing input
@@ -112,7 +141,7 @@ parts_open (Err bad) input document place at part (inl memory) = inl memory
 parts_open (Err bad) input document place at part (inr opens) = inr (opens_parts input place at (subst OpensIfRead part opens))
 
 -- what the reply says beside its text
-pub replays_ring : {A E : Type 0} (made : Result A E) (address : ℕ) (input : List ℕ) → ((a : ℕ) (bytes : List ℕ) → Replays a bytes) → OwnRunsAgree
+pub replays_ring : {A E : Type 0} (made : Result A E) (address : ℕ) (input : List ℕ) → ((a : ℕ) (bytes : List ℕ) → Replays a bytes) → OwnRunsHold
     → IfOk made (λ _. OpensItsRing input) → IfOk made (λ _. ReplaysItsRing address input)
 replays_ring (Ok given) address input asking law opens = record { replays = asking address input; own = law address input opens }
 replays_ring (Err error) address input asking law opens = tt

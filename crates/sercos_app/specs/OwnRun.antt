@@ -1,7 +1,9 @@
 -- The replay of the trace that `run` writes.
-use Rattle.std.specs.Prelude.{◌≡◌, ℕ, ◌≤◌, List, length, Some, None, Ok}
+use Rattle.std.specs.Prelude.{◌≡◌, ℕ, ◌≤◌, List, length, Option, Some, None, Ok}
+use Rattle.std.specs.Io.KnownBytes.{Appends}
 use Rattle.sercos_script.specs.Links.{Carry, Restarts}
 use Rattle.sercos_law_run.specs.Held.Opened.{IsOpened}
+use Rattle.sercos_law_run.specs.Journal.Runs.{IsClear}
 use Rattle.sercos_config.specs.Views.{DocumentView}
 use Rattle.sercos_config.specs.Document.{document_of}
 use Rattle.sercos_checking.specs.declared.verdict.Verdict.TheVariants.{Clean}
@@ -9,9 +11,11 @@ use Rattle.sercos_checking.specs.Checking.{verdict_of}
 use Rattle.sercos_answer.specs.Lines.{lines_of}
 use Rattle.sercos_replay.specs.Captured.{NeverDisturbed}
 use Rattle.sercos_replay.specs.Divided.{divided}
-use Rattle.sercos_replay.specs.Stations.{Station, station_of}
+use Rattle.sercos_replay.specs.Places.{PlaceView}
+use Rattle.sercos_replay.specs.Stations.{Station, station_of, station_differs}
 use Rattle.sercos_replay.specs.Asking.{Replays, cycles_in}
-use Rattle.sercos_replay.specs.Replaying.{late_start, place_answer, replay_answer}
+use Rattle.sercos_replay.specs.Replaying.{late_start, place_answer, place_text, replay_answer}
+use Rattle.sercos_replay.specs.Undisturbed.{IsNoEarlier}
 use Rattle.sercos_opened.specs.Kept.{carry_under, restarts_under, document_run}
 use Rattle.sercos_app.specs.Running.{run_answer}
 
@@ -39,6 +43,28 @@ pub record AgreesThroughout (address : ℕ) (input capture : List ℕ) : Type 0 
 abbrev pub OwnRunAgrees : ℕ → List ℕ → Type 0
 OwnRunAgrees address input = (carry : Carry) (restarts : Restarts) (d : DocumentView) (own : IsOwnRun carry restarts address input d) → IsCalm carry restarts d → AgreesThroughout address input own.capture
 
+-- And whatever is disturbed or undetected in that run, the first place that differs is in none of its cycles before the first disturbed
+-- one.
+abbrev pub OwnRunDiffers : ℕ → List ℕ → Type 0
+OwnRunDiffers address input = (carry : Carry) (restarts : Restarts) (d : DocumentView) (own : IsOwnRun carry restarts address input d) (place : PlaceView) → station_differs own.station (cycles_in own.capture) ≡ Some place →
+    IsNoEarlier d.setup (carry_under d carry) (restarts_under d restarts) (document_run carry restarts d) place
+
+-- If nothing is undetected in it, `check` finds it clean.
+abbrev pub OwnRunIsClean : ℕ → List ℕ → Type 0
+OwnRunIsClean address input = (carry : Carry) (restarts : Restarts) (d : DocumentView) (own : IsOwnRun carry restarts address input d) → IsClear (document_run carry restarts d) → verdict_of own.capture ≡ Clean (length (lines_of own.capture))
+
+pub record OwnRunHolds (address : ℕ) (input : List ℕ) : Type 0 where
+  pub agrees : OwnRunAgrees address input
+  pub differs : OwnRunDiffers address input
+  pub clean : OwnRunIsClean address input
+
+-- What was appended is the first place that differs in an own run. It is in no cycle before the first disturbed one.
+pub record DiffersNoEarlier {carry : Carry} {restarts : Restarts} {address : ℕ} {input : List ℕ} {d : DocumentView} (own : IsOwnRun carry restarts address input d) (held held' : Option (List ℕ)) : Type 0 where
+  pub place : PlaceView
+  pub first : station_differs own.station (cycles_in own.capture) ≡ Some place
+  pub no_earlier : IsNoEarlier d.setup (carry_under d carry) (restarts_under d restarts) (document_run carry restarts d) place
+  pub written : Appends held held' (place_text place)
+
 -- A document may be opened with its requests, which are at most 4,096. Each document that is read may.
 pub record MayBeOpened (d : DocumentView) : Type 0 where
   pub opened : IsOpened d.setup d.jobs
@@ -51,11 +77,11 @@ OpensIfRead document = (d : DocumentView) → document_of document ≡ Ok d → 
 abbrev pub OpensItsRing : List ℕ → Type 0
 OpensItsRing input = (document capture : List ℕ) → divided input ≡ Some (document, capture) → OpensIfRead document
 
--- The law: if the document of an input may be opened, its own run agrees.
-abbrev pub OwnRunsAgree : Type 0
-OwnRunsAgree = (address : ℕ) (input : List ℕ) → OpensItsRing input → OwnRunAgrees address input
+-- The law: if the document of an input may be opened, all this holds of its own run.
+abbrev pub OwnRunsHold : Type 0
+OwnRunsHold = (address : ℕ) (input : List ℕ) → OpensItsRing input → OwnRunHolds address input
 
--- What the answer of `replay` promises beside its text: when each status is returned, and that its own run agrees.
+-- What the answer of `replay` promises beside its text: when each status is returned, and what holds of an own run.
 pub record ReplaysItsRing (address : ℕ) (input : List ℕ) : Type 0 where
   pub replays : Replays address input
-  pub own : OwnRunAgrees address input
+  pub own : OwnRunHolds address input

@@ -6,6 +6,7 @@ use Rattle.sercos_call.specs.TopCall.{ReadsWhole}
 use Rattle.sercos_script.specs.Links.{Carry, Restarts}
 use Rattle.sercos_script.specs.Cuts.{has_flip}
 use Rattle.sercos_answer.specs.Lines.{lines_of}
+use Rattle.sercos_planning.specs.LeastTimes.{IsLeastChain}
 use Rattle.sercos_planning.specs.Planning.{plan_text, chain_text}
 use Rattle.sercos_planning.specs.Margins.{TellsMargins, TellsChain}
 use Rattle.sercos_checking.specs.Checking.{capture_fault, first_violation, violation_text, clean_text}
@@ -41,7 +42,7 @@ use Rattle.sercos_config.specs.Generated.{generated}
 use Rattle.sercos_app.specs.Generating.{gen_line}
 
 -- The source was read to its end as the document of a ring for which no plan fits. What was appended is the text of the planner's chain of
--- the ring's requirements, whose sum is above its bound.
+-- the ring's requirements, along the least times that these leave, whose sum is above its bound.
 pub record NonePlanned (left left' held held' : Option (List ℕ)) : Type 0 where
   pub bytes : List ℕ
   pub read : ReadsWhole left left' bytes
@@ -51,6 +52,7 @@ pub record NonePlanned (left left' held held' : Option (List ℕ)) : Type 0 wher
   pub chain : ChainView
   pub made : planned (wishes_of says.setup) ≡ Err chain
   pub is_chain : IsChain (wishes_of says.setup) chain
+  pub is_least : IsLeastChain (wishes_of says.setup) chain
   pub written : Appends held held' (chain_text chain)
 
 -- the source was read to its end as the document of a ring, and the text of the planner's plan was appended, which is the least

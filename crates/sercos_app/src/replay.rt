@@ -1,17 +1,19 @@
 // A law and no code.
-ghost use Rattle.sercos_app.specs.OwnRun.{OwnRunsAgree};
+ghost use Rattle.sercos_app.specs.OwnRun.{OwnRunsHold};
 
 use sercos_law_run::run_law;
 use sercos_law_trace::clean_law;
-use sercos_replay::undisturbed_law;
+use sercos_replay::{asking_law, undisturbed_law};
 
-/// A law, without code. If an input has a document that may be opened with its requests, and what `run` writes of it over any link,
-/// and nothing is disturbed in that run, `check` finds what is written clean, and the answer of `replay` is the number of its
-/// cycles, for the master and for each drive.
+/// A law, without code. If an input has a document that may be opened with its requests, and what `run` writes of it over any link, the
+/// first place at which `replay` finds a difference is in no cycle before the first disturbed one, for the master and for each drive. If
+/// nothing is undetected in that run, `check` finds what is written clean. So if nothing is disturbed, the answer is the number of its
+/// cycles.
 pub fn replay_law()
-    ensures { OwnRunsAgree }
+    ensures { OwnRunsHold }
 {
     run_law();
+    asking_law();
     undisturbed_law();
     clean_law();
 }

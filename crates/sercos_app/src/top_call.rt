@@ -15,8 +15,10 @@ ghost use Rattle.sercos_replay.specs.Replaying.{place_answer, replay_answer};
 ghost use Rattle.sercos_replay.specs.Stations.{Station, station_differs};
 ghost use Rattle.sercos_script.specs.Links.{Carry, Restarts};
 ghost use Rattle.sercos_config.specs.Views.{DocumentView};
+ghost use Rattle.sercos_law_run.specs.Journal.Runs.{IsClear};
+ghost use Rattle.sercos_opened.specs.Kept.{document_run};
 ghost use Rattle.sercos_call.specs.TopCall.{writes_nothing, HasInput, TakesAtMost, TakesTooMany, IsAnswered, IsCutShort, IsAnswer};
-ghost use Rattle.sercos_app.specs.OwnRun.{AgreesThroughout, IsCalm, IsOwnRun, OpensItsRing, ReplaysItsRing};
+ghost use Rattle.sercos_app.specs.OwnRun.{AgreesThroughout, DiffersNoEarlier, IsCalm, IsOwnRun, OpensItsRing, ReplaysItsRing};
 ghost use Rattle.sercos_app.specs.TopCall.{NonePlanned, LeastPlanned, MarginsTold, ChainTold, ViolationTold, CleanTold, PlaceTold, AgreementTold, BreachTold, RunTraced, RunSummed, BackupSaved, BackupFailed, RestoreTold};
 
 use crate::backup_command::answer_backup;
@@ -211,8 +213,9 @@ fn respond<S: Source, K: Sink, L: BitLink>(
 ///
 /// If no damage is undetected in a run, what `run` wrote of it is clean: `check` finds no fault and no violation in it.
 ///
-/// If the capture of `replay A` is what `run` writes of its document, over any link, and no cycle of that run is disturbed, `check` finds
-/// the capture clean, and the replay agrees, for the master and for each drive.
+/// If the capture of `replay A` is what `run` writes of its document, over any link, the replay differs in no cycle before the first
+/// disturbed one, for the master and for each drive. If no cycle of that run is disturbed, `check` finds the capture clean, and the replay
+/// agrees.
 pub fn sercos<S: Source, K: Sink, L: BitLink>(
     alloc: Global,
     words: &Words,
@@ -295,6 +298,13 @@ pub fn sercos<S: Source, K: Sink, L: BitLink>(
         → (Rose (K.faults sink.old) (K.faults sink.new) → ⊥)
         → (result ≡ Status.Memory)
         ⊎ (AgreesThroughout address bytes own.capture × IsAnswer (place_answer None (length (cycles_in own.capture))) result (K.held sink.old) (K.held sink.new)) }
+
+    // Whatever is disturbed or undetected in that run: No is returned only with a first place that is in no cycle before the first disturbed
+    // one; or, if the capture breaks a rule, with the answer of `check`, and then some damage in the run was undetected.
+    ensures no_earlier { (address : ℕ) (bytes : List ℕ) (carry : Carry) (restarts : Restarts) (d : DocumentView) (own : IsOwnRun carry restarts address bytes d)
+        → result ≡ Status.No → form_of words.now ≡ Some (Form.Replay address) → S.left source.old ≡ Some bytes →
+        DiffersNoEarlier own (K.held sink.old) (K.held sink.new)
+        ⊎ (BreachTold address (S.left source.old) (S.left source.new) (K.held sink.old) (K.held sink.new) × (IsClear (document_run carry restarts d) → ⊥)) }
 
     // Done is returned by `run` only with the trace of the one run of the ring that was read, and by `gen` only with the summary of the one
     // run of the ring that it generates.

@@ -1,1 +1,3 @@
+pub mod LeastTimesLemmas
 pub mod MarginLemmas
+mod Worked

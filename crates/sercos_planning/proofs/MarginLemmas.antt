@@ -15,6 +15,7 @@ use Rattle.sercos_margin.specs.declared.changes.Time.TheVariants.{T1min, Tatmt, 
 use Rattle.sercos_block.specs.Views.{DriveView, RingView}
 use Rattle.sercos_block.specs.Rings.{is_ring, wish_of, wishes_of}
 use Rattle.sercos_block.specs.ValidRings.{AreWithinLimits, IsRing}
+use Rattle.sercos_planning.specs.LeastTimes.{IsLeastChain}
 use Rattle.sercos_planning.specs.Margins.{wishes_margins, AreLimited, AreMargins}
 
 within : (ts : Times) (t : Time) → AreWithinLimits ts → time_in t ts ≤ greatest t
@@ -43,9 +44,9 @@ limited_wishes r w is law ring = subst AreLimited (sym is) (are_limited r (law r
 -- what the answer says
 pub are_margins : (w : WishesView) (cycle : Option ℕ) (made : Result PlanView ChainView) → IsLeastCycle w cycle → cycle ≡ least_cycle_of w
     → ((k : ℕ) (t : Time) → IsValid w → declared w k t ≤ greatest t → HasPlan w → IsMargin w k t (margin_of w k t)) → IsValid w → AreLimited w
-    → IfOk made (IsLeast w) → OnErr made (NoneFits w) → IfErr made (IsChain w) → AreMargins w (wishes_margins w made)
+    → IfOk made (IsLeast w) → OnErr made (NoneFits w) → IfErr made (IsChain w) → IfErr made (IsLeastChain w) → AreMargins w (wishes_margins w made)
 unfolding wishes_margins
-are_margins w cycle (Ok p) least is margins valid limits fits none chain = record {
+are_margins w cycle (Ok p) least is margins valid limits fits none chain at = record {
   no = λ e. absurd (cc);
   done = λ e. record {
     plan = (p, fits.fits);
@@ -56,7 +57,7 @@ are_margins w cycle (Ok p) least is margins valid limits fits none chain = recor
     text_is = rw is refl;
   };
 }
-are_margins w cycle (Err c) least is margins valid limits fits none chain = record {
-  no = λ e. record { none = none; cycle = cycle; least = least; chain = c; is_chain = chain; text_is = rw is refl };
+are_margins w cycle (Err c) least is margins valid limits fits none chain at = record {
+  no = λ e. record { none = none; cycle = cycle; least = least; chain = c; is_chain = chain; is_least = at; text_is = rw is refl };
   done = λ e. absurd (cc);
 }

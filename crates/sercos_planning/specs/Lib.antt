@@ -1,2 +1,3 @@
+pub mod LeastTimes
 pub mod Planning
 pub mod Margins

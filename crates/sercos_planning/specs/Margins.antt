@@ -16,6 +16,7 @@ use Rattle.sercos_document.specs.Lines.{line_of}
 use Rattle.sercos_config.specs.Views.{DocumentView}
 use Rattle.sercos_config.specs.Document.{document_of}
 use Rattle.sercos_answer.specs.Answer.{Answer, line_feed, two_numbers}
+use Rattle.sercos_planning.specs.LeastTimes.{IsLeastChain}
 use Rattle.sercos_planning.specs.Planning.{chain_text}
 
 -- the least cycle time with which a plan fits
@@ -62,13 +63,15 @@ pub record TellsMargins (w : WishesView) (text : List ℕ) : Type 0 where
   pub margins : (k : ℕ) (t : Time) → k < length w.drives → IsMargin w k t (values k t)
   pub text_is : text ≡ cycle_line cycle ++ margin_lines w values (length w.drives)
 
--- A text about a ring for which none fits: its least cycle time, and a chain that proves that none fits with its own.
+-- A text about a ring for which none fits: its least cycle time, and a chain that proves that none fits with its own, along the least
+-- times.
 pub record TellsChain (w : WishesView) (text : List ℕ) : Type 0 where
   pub none : NoneFits w
   pub cycle : Option ℕ
   pub least : IsLeastCycle w cycle
   pub chain : ChainView
   pub is_chain : IsChain w chain
+  pub is_least : IsLeastChain w chain
   pub text_is : text ≡ cycle_line cycle ++ chain_text chain
 
 -- an answer is right about planner's input

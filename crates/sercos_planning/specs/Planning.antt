@@ -15,6 +15,7 @@ use Rattle.sercos_document.specs.Lines.{line_of}
 use Rattle.sercos_config.specs.Views.{DocumentView}
 use Rattle.sercos_config.specs.Document.{document_of}
 use Rattle.sercos_answer.specs.Answer.{Answer, line_feed, two_numbers}
+use Rattle.sercos_planning.specs.LeastTimes.{IsLeastChain}
 
 -- the times of all drives, and the length of the MDT
 unfoldable pub plan_line : PlanView → List ℕ
@@ -55,11 +56,11 @@ document_answer (Err bad) = record { status = Refused; output = line_of bad }
 unfoldable pub plan_answer : List ℕ → Answer
 plan_answer bytes = document_answer (document_of bytes)
 
--- An answer is right about planner's input: no, only if no plan fits, and with the text of the planner's chain, which proves it; done, only
--- with the text of the planner's plan, which is the least.
+-- An answer is right about planner's input: no, only if no plan fits, and with the text of the planner's chain, which proves it, along the
+-- least times; done, only with the text of the planner's plan, which is the least.
 pub record IsPlanned (w : WishesView) (answer : Answer) : Type 0 where
   pub no : answer.status ≡ No → NoneFits w
-  pub chain : answer.status ≡ No → (c : ChainView) × (planned w ≡ Err c) × IsChain w c × (answer.output ≡ chain_text c)
+  pub chain : answer.status ≡ No → (c : ChainView) × (planned w ≡ Err c) × IsChain w c × IsLeastChain w c × (answer.output ≡ chain_text c)
   pub done : answer.status ≡ Done → (p : PlanView) × (planned w ≡ Ok p) × IsLeast w p × (answer.output ≡ plan_text w p)
 
 -- the answer to a document is right about its ring's planner's input

@@ -69,6 +69,19 @@ cycle_with : (rate cycle : ℕ) (mst : List ℕ) (ats : List Said) (mdt : Option
     → cycles_of (lines_with cycle (sent_mst mst ∷ ats_said rate ats ++ sent_mdt rate mdt) lines) ≡ cycle_of rate cycle mst ats mdt ∷ cycles_of lines
 cycle_with rate cycle mst ats mdt lines = ats_with rate cycle (sent_mst mst) [] ats mdt _ (cycles_of lines) refl
 
+-- the cycle of a run's next record
+abbrev pub cycle_next : RingView → List Job → Carry → Restarts → CycleView → List CycleView → Cycle
+cycle_next r jobs carry restarts t j =
+    cycle_of r.rate t.cycle (mst_said (journal.looks_back r jobs (begins r carry restarts j))) (said_below (length r.drives) (drive_at r) r.rate (given_mst carry restarts t.sent j))
+    (mdt_said (known_of r) (journal.looks_back r jobs (middle r carry restarts t.sent j)))
+
+pub cycles_next : (r : RingView) (jobs : List Job) (carry : Carry) (restarts : Restarts) (t : CycleView) (j : List CycleView) → IsNext r jobs carry restarts t j
+    → cycles_of (lines_of (t ∷ j)) ≡ cycle_next r jobs carry restarts t j ∷ cycles_of (lines_of j)
+cycles_next r jobs carry restarts t j next =
+    ap (λ sent. cycles_of (lines_with t.cycle sent (lines_of j))) next.sent
+    ∙ cycle_with r.rate t.cycle (mst_said (journal.looks_back r jobs (begins r carry restarts j))) (said_below (length r.drives) (drive_at r) r.rate (given_mst carry restarts t.sent j))
+    (mdt_said (known_of r) (journal.looks_back r jobs (middle r carry restarts t.sent j))) (lines_of j)
+
 -- THE AT of a drive among those of a cycle, by its address.
 abbrev first_with : ℕ → ℕ → List Said → Option SentView
 first_with rate a ats = find (is_of a) (ats_said rate ats)
@@ -329,7 +342,7 @@ all_agree law r jobs carry restarts [] valid typed jobs_typed run calm = record 
   master_agrees = refl;
 }
 all_agree law r jobs carry restarts (t ∷ j) valid typed jobs_typed run calm =
-    subst (Agree r jobs carry restarts (t ∷ j)) (sym (ap (λ sent. cycles_of (lines_with t.cycle sent (lines_of j))) run.1.sent ∙ cycle_with r.rate t.cycle m0 ats mdt (lines_of j)))
+    subst (Agree r jobs carry restarts (t ∷ j)) (sym (cycles_next r jobs carry restarts t j run.1))
     (step r jobs carry restarts t j (cycles_of (lines_of j)) m0 ats mdt valid run.1.cycle
     (ap mst_in run.1.sent) (ap ats_in run.1.sent ∙ ats_in-said r.rate ats mdt) (ap mdt_in run.1.sent ∙ mdt_in-said r.rate ats mdt)
     refl refl refl (calm_in r carry restarts (length j) t.sent calm.1) (framed law r jobs carry restarts t j valid typed jobs_typed run.1)

@@ -137,7 +137,7 @@ breaks_tells : (address : ℕ) (bytes : List ℕ) (b : Breaks address bytes) →
 unfolding replay_answer parts_answer document_answer found_answer capture_answer judged_answer started_answer ruled_answer
 breaks_tells address bytes b = rw (b.divides, b.says, b.has_station, b.violation, b.starts) refl
 
-pub asked : (address : ℕ) (bytes : List ℕ) (s : Station) (capture : List ℕ) → Asks address bytes s capture → replay_answer address bytes ≡ place_answer (station_differs s (cycles_in capture)) (length (cycles_in capture))
+asked : (address : ℕ) (bytes : List ℕ) (s : Station) (capture : List ℕ) → Asks address bytes s capture → replay_answer address bytes ≡ place_answer (station_differs s (cycles_in capture)) (length (cycles_in capture))
 unfolding replay_answer parts_answer document_answer found_answer capture_answer judged_answer started_answer ruled_answer station_answer
 asked address bytes s capture asks = rw (asks.divides, asks.says, asks.has_station, asks.clean, asks.starts) refl
 

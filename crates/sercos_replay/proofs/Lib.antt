@@ -16,3 +16,4 @@ pub mod FeedLemmas
 pub mod SilentLemmas
 pub mod TracedLemmas
 mod WorkedAnswers
+mod WorkedRuns

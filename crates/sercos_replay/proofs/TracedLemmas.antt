@@ -26,13 +26,13 @@ use Rattle.sercos_trace.specs.declared.events.Fall.TheVariants as fall
 use Rattle.sercos_trace.specs.Kinds.{template_of, tail_for, line_of, line_with}
 use Rattle.sercos_trace.specs.Views.{SentView, EventsView, CycleView}
 use Rattle.sercos_trace.specs.Lines.{line_by, line_in, ReadsBack}
-use Rattle.sercos_trace.specs.Texts.{drive_text, sent_kind, sent_text, move_text, ended_text, outcome_text, plan_line, slot_text, slots_text, plan_text, link_text, bound_text, chain_text, stopped_text, stop_text, fell_text, fall_text, events_text, moves_text, cycle_text, ring_text, order_text, header_text, end_text}
+use Rattle.sercos_trace.specs.Texts.{drive_text, sent_kind, sent_text, move_text, ended_text, outcome_text, plan_line, slot_text, slots_text, plan_text, link_text, bound_text, chain_text, stopped_text, stop_text, fell_text, fall_text, events_text, moves_text, cycle_text, ring_text, order_text, header_text, end_text, trace_of}
 use Rattle.sercos_answer.specs.Lines as answer
 use Rattle.sercos_checking.specs.Checking.{read_as}
 use Rattle.sercos_replay.specs.Captured.{lines_with, lines_of, telegrams}
 use Rattle.sercos_replay.specs.Stations.{lines_after, lines_read}
-use Rattle.sercos_replay.specs.Traced.{FitsLine, FitLines, ReadsTraces, TracesAgree}
-use Rattle.sercos_replay.specs.Undisturbed.{UndisturbedAgree}
+use Rattle.sercos_replay.specs.Traced.{FitsLine, FitLines, ReadsTraces, TracesDiffer}
+use Rattle.sercos_replay.specs.Undisturbed.{CapturesDiffer}
 use Rattle.sercos_block.specs.Rings.{wishes_of}
 use Rattle.sercos_replay.proofs.FeedLemmas.{NoFeed, NoFeed-append, lines_of-line, line_no_feed, tail_no_feed}
 use Rattle.sercos_replay.proofs.SilentLemmas.{is_telegram, template_no_feed, silent_kind}
@@ -250,15 +250,8 @@ reads_traces law w j t all =
     let lines : lines_after [] (answer.lines_of (header ++ (cycles ++ end))) ≡ after.lines = ap (λ text. lines_after [] (answer.lines_of text)) (sym (append-nil (header ++ (cycles ++ end)))) ∙ after.reads in
     ap telegrams lines ∙ after.adds ∙ append-nil (told ++ []) ∙ append-nil told
 
--- so the capture that is the trace of an undisturbed run agrees
-pub traces : ReadsTraces → UndisturbedAgree → TracesAgree
-traces reads agree address input capture s asks carry restarts j t is same =
-    agree address input capture s asks carry restarts j
-    (record {
-      ring = is.ring;
-      typed = is.typed;
-      jobs = is.jobs;
-      run = is.run;
-      calm = is.calm;
-      same = subst (λ text. telegrams (lines_read text) ≡ telegrams (lines_of j)) (sym same) (reads (wishes_of asks.d.setup) j t is.fit);
-    })
+-- so a station differs in the trace of a run as it does in its telegrams
+pub traces : ReadsTraces → CapturesDiffer → TracesDiffer
+traces reads captured address d s carry restarts j t place has is differs =
+    captured address d s (trace_of (wishes_of d.setup) (reverse j) t) carry restarts j place has
+    (record { ring = is.ring; typed = is.typed; jobs = is.jobs; run = is.run; same = reads (wishes_of d.setup) j t is.fit }) differs

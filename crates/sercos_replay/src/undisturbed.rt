@@ -1,17 +1,17 @@
 // A law and no code.
-ghost use Rattle.sercos_replay.specs.Traced.{ReadsTraces, TracesAgree};
-ghost use Rattle.sercos_replay.specs.Undisturbed.{UndisturbedAgree};
+ghost use Rattle.sercos_replay.specs.Traced.{ReadsTraces, TracesDiffer};
+ghost use Rattle.sercos_replay.specs.Undisturbed.{CapturesDiffer};
 
 use crate::law::{agreement_law, capture_law};
 use sercos_trace::reading_law;
 
-/// A law, without code. If an input is that of a replay, and the telegrams of its capture are those of a run of its document in
-/// which nothing is disturbed, the answer is the number of cycles, for the master and for each drive. The trace of a run whose
-/// numbers fit their fields is read back as its telegrams; so the same holds if the capture is the trace of such a run.
+/// A law, without code. If the telegrams of a capture are those of a run of a document, over any link, the first place at which a station
+/// differs is in no cycle before the first disturbed one. So nothing differs if nothing is disturbed. The trace of a run whose numbers fit
+/// their fields is read back as its telegrams; so the same holds if the capture is the trace of such a run.
 pub fn undisturbed_law()
-    ensures agree { UndisturbedAgree }
+    ensures captured { CapturesDiffer }
     ensures reads { ReadsTraces }
-    ensures traces { TracesAgree }
+    ensures traces { TracesDiffer }
 {
     agreement_law();
     capture_law();

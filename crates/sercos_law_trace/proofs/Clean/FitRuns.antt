@@ -1,22 +1,39 @@
--- The numbers of the telegrams of a run fit the fields of their lines.
-use Rattle.std.proofs.Common.{◌≡◌, ℕ, pos, zero, suc, ◌*◌, ◌≤◌, List, [], ◌∷◌, ◌++◌, length, Option, Some, None, refl, sym, subst, arith}
+-- The numbers of the telegrams of a run fit the fields of their lines, whatever arrives.
+use Rattle.std.proofs.Common.{◌≡◌, ◌⊎◌, inl, inr, ℕ, pos, zero, suc, ◌+◌, ◌*◌, ◌<◌, ◌≤◌, ◌==◌, Bool, true, false, List, [], ◌∷◌, ◌++◌, length, Option, Some, None, option_map, unwrap_or, refl, sym, subst, arith, if◌then◌else◌}
+use Rattle.std.specs.Prelude.{nat_le, slice_index}
 use Rattle.std.specs.List.{All}
 use Rattle.std.proofs.lemmas.List.Elements.{All-nil, All-cons}
+use Rattle.sercos_model.specs.Bits.{AreBytes}
 use Rattle.sercos_model.specs.Frames.{wire_bits}
 use Rattle.sercos_hdlc.specs.Stuffed.{frame_of}
 use Rattle.sercos_telegram.specs.declared.layout.Kind.{Kind}
 use Rattle.sercos_telegram.specs.Spells.{mst_content}
+use Rattle.sercos_timing.specs.Views.{PlanView}
 use Rattle.sercos_text.specs.Templates.{IsSmall}
-use Rattle.sercos_drive.specs.Says.{Said}
+use Rattle.sercos_step.specs.declared.request.Job.{Job}
+use Rattle.sercos_block.specs.declared.block.Block.{Block}
+use Rattle.sercos_block.specs.Stores.{find_block, IsStore}
+use Rattle.sercos_block.specs.Views.{RingView}
+use Rattle.sercos_block.proofs.TypeLemmas.{types}
+use Rattle.sercos_command.specs.Checks.{number_at}
+use Rattle.sercos_drive.specs.Moments.{phase_in, blocks_in}
+use Rattle.sercos_drive.specs.Says.{Said, start_in}
+use Rattle.sercos_service_master.specs.Begun.{Said as Told}
 use Rattle.sercos_trace.specs.Views.{CycleView}
-use Rattle.sercos_master.specs.Says.{Sent}
-use Rattle.sercos_law_run.specs.Journal.Runs.{start_before, sent_at, sent_mst, sent_mdt, ats_said}
-use Rattle.sercos_law_run.proofs.Theorems.{IsContent, mst_whole, Laws, MoreLaws}
+use Rattle.sercos_seat.specs.Ring.{Known, IsKnown, known_of, tasks_for}
+use Rattle.sercos_master.specs.Annals.{Past, IsPlanned, outcomes}
+use Rattle.sercos_master.specs.Says.{Sent, said_to, idle, single, joint, mdt_said}
+use Rattle.sercos_script.specs.Links.{Carry, Restarts}
+use Rattle.sercos_law_run.specs.Held.Opened.{IsOpened}
+use Rattle.sercos_law_run.specs.Journal.Runs.{drive_at, given_mst, begins, middle, said_below, start_before, sent_at, sent_mst, sent_mdt, ats_said, IsRun}
+use Rattle.sercos_law_run.specs.Views.RingViews.{at_start, behind_mdt, after_mst}
+use Rattle.sercos_law_run.proofs.Theorems.{IsContent, address_of, at_content, mdt_whole, mst_whole, phase_low, plan_words, s_known, first_store, Laws, MoreLaws}
 use Rattle.sercos_replay.specs.Traced.{FitsLine}
 use Rattle.sercos_law_trace.specs.Clean.Ruled.{RunsFitLines}
 use Rattle.sercos_law_trace.proofs.Clean.RuleLemmas.{mdt_at}
+use Rattle.sercos_law_trace.proofs.Clean.SaidLemmas.{each_said}
 use Rattle.sercos_law_trace.proofs.Clean.SeenLemmas.{Each}
-use Rattle.sercos_law_trace.proofs.Clean.RunRules.{IsLowIf, ats, mdt, phase, sent, sent_is, starts_low, low, ats_are, mdt_is_whole}
+use Rattle.sercos_law_trace.proofs.Clean.SenderLemmas.{sent_by}
 
 small_start : (n : ℕ) → n ≤ 2147483647 → IsSmall (pos n)
 unfolding IsSmall
@@ -31,6 +48,63 @@ before_small (suc n) low = omega (arith, low)
 few_bits : (n : ℕ) → n ≤ 2048 → wire_bits n ≤ 19699
 few_bits n low = omega (arith, low)
 
+-- A START is a word, in microseconds.
+start_low : (rate start : ℕ) → (rate ≡ 2) ⊎ (rate ≡ 4) ⊎ (rate ≡ 8) ⊎ (rate ≡ 16) → start < 65536 → rate * start ≤ 1048560
+start_low rate start (inl is) low = rw is (omega (arith, low))
+start_low rate start (inr (inl is)) low = rw is (omega (arith, low))
+start_low rate start (inr (inr (inl is))) low = rw is (omega (arith, low))
+start_low rate start (inr (inr (inr is))) low = rw is (omega (arith, low))
+
+word_low : (bytes : List ℕ) → AreBytes bytes → slice_index bytes 0 + 256 * slice_index bytes 1 < 65536
+unfolding AreBytes
+word_low [] are = omega arith
+word_low (low ∷ []) are = let first = are.0 in omega (arith, first)
+word_low (low ∷ high ∷ bytes) are = let first = are.0 in let second = are.1.0 in omega (arith, first, second)
+
+number_low : (blocks : List Block) (raw : ℕ) → IsStore blocks → number_at blocks raw < 65536
+unfolding number_at
+number_low blocks raw store = by (find_block raw blocks) refl
+  where
+    by : (o : Option Block) → find_block raw blocks ≡ o → slice_index (unwrap_or (option_map (λ (b : Block). b.value) o) []) 0 + 256 * slice_index (unwrap_or (option_map (λ (b : Block). b.value) o) []) 1 < 65536
+    by None is = omega arith
+    by (Some b) is = word_low b.value (types blocks raw b store is).1
+
+at_low : (phase : ℕ) (blocks : List Block) → IsStore blocks → start_in phase blocks < 65536
+at_low phase blocks store = by (nat_le 3 phase)
+  where
+    by : (late : Bool) → (if late then number_at blocks 6 else 300) < 65536
+    by true = number_low blocks 6 store
+    by false = omega arith
+
+mdt_low : (s : Known) (p : Past) (m : Sent) → IsKnown s → IsPlanned s p → mdt_said s p ≡ Some m → m.start < 65536
+mdt_low s p m known planned said = first (p.now.phase == 1) said
+  where
+    same_start : (x : Sent) → Some x ≡ Some m → x.start < 65536 → m.start < 65536
+    same_start x e low = let same : x ≡ m = cc in subst (λ (y : Sent). y.start < 65536) same low
+
+    to_one : (word : ℕ → Told) (o : Option ℕ) → option_map (λ i. single s (word i) i) o ≡ Some m → m.start < 65536
+    to_one word None e = cc
+    to_one word (Some i) e = same_start (single s (word i) i) e (omega arith)
+
+    to_all : (o : Option PlanView) → p.plan ≡ o → option_map (joint s p) o ≡ Some m → m.start < 65536
+    to_all None has e = cc
+    to_all (Some plan) has e =
+        let is = planned plan has in
+        same_start (joint s p plan) e (plan_words s (outcomes p) plan 0 known is.fits is.planned_is).t2
+
+    third : (b : Bool) → (if b then option_map (joint s p) p.plan else None) ≡ Some m → m.start < 65536
+    third true e = to_all p.plan refl e
+    third false e = cc
+
+    second : (b : Bool) → (if b then option_map (λ i. single s (said_to p i) i) p.now.addressed else (if nat_le 3 p.now.phase then option_map (joint s p) p.plan else None)) ≡ Some m → m.start < 65536
+    second true e = to_one (said_to p) p.now.addressed e
+    second false e = third (nat_le 3 p.now.phase) e
+
+    first : (b : Bool) → (if b then option_map (single s idle) p.now.addressed else (if p.now.phase == 2 then option_map (λ i. single s (said_to p i) i) p.now.addressed
+        else (if nat_le 3 p.now.phase then option_map (joint s p) p.plan else None))) ≡ Some m → m.start < 65536
+    first true e = to_one (λ i. idle) p.now.addressed e
+    first false e = second (p.now.phase == 2) e
+
 module _ (laws : Laws) (more : MoreLaws) where
   bits_low : (content : List ℕ) → IsContent content → length (frame_of content) ≤ 19699
   bits_low content is =
@@ -43,30 +117,61 @@ module _ (laws : Laws) (more : MoreLaws) where
       let bits = bits_low content is in
       record { number = low; start = before_small (length (frame_of content)) (omega (arith, bits)); bits = omega (arith, bits); bytes = is.bytes; few = is.most }
 
-  other_fits : (cycle start : ℕ) (kind : Kind) (content : List ℕ) → cycle ≤ 4294967295 → start ≤ 1024000 → IsContent content
+  other_fits : (cycle start : ℕ) (kind : Kind) (content : List ℕ) → cycle ≤ 4294967295 → start ≤ 1048560 → IsContent content
       → FitsLine cycle (record { kind = kind; start = pos start; bits = length (frame_of content); content = content })
   other_fits cycle start kind content low early is =
       let bits = bits_low content is in
       record { number = low; start = small_start start (omega (arith, early)); bits = omega (arith, bits); bytes = is.bytes; few = is.most }
 
-  mdt_fits : (cycle rate : ℕ) (o : Option Sent) → cycle ≤ 4294967295 → IsLowIf rate o → ((m : Sent) → o ≡ Some m → IsContent m.content) → All (FitsLine cycle) (sent_mdt rate o)
-  mdt_fits cycle rate None number early is = All-nil (FitsLine cycle)
-  mdt_fits cycle rate (Some m) low early is = All-cons (FitsLine cycle) (mdt_at rate m) [] (other_fits cycle (rate * m.start) _ m.content low early (is m refl)) (All-nil (FitsLine cycle))
+  mdt_fits : (cycle rate : ℕ) (o : Option Sent) → cycle ≤ 4294967295 → ((m : Sent) → o ≡ Some m → (rate * m.start ≤ 1048560) × IsContent m.content) → All (FitsLine cycle) (sent_mdt rate o)
+  mdt_fits cycle rate None low is = All-nil (FitsLine cycle)
+  mdt_fits cycle rate (Some m) low is = let (early, content) = is m refl in All-cons (FitsLine cycle) (mdt_at rate m) [] (other_fits cycle (rate * m.start) _ m.content low early content) (All-nil (FitsLine cycle))
 
-  ats_fit : (cycle rate : ℕ) (l : List Said) (o : Option Sent) → cycle ≤ 4294967295 → Each (λ (s : Said). rate * s.start ≤ 1024000) l → Each (λ (s : Said). IsContent s.content) l → All (FitsLine cycle) (sent_mdt rate o)
+  ats_fit : (cycle rate : ℕ) (l : List Said) (o : Option Sent) → cycle ≤ 4294967295 → Each (λ (s : Said). (rate * s.start ≤ 1048560) × IsContent s.content) l → All (FitsLine cycle) (sent_mdt rate o)
       → All (FitsLine cycle) (ats_said rate l ++ sent_mdt rate o)
-  ats_fit cycle rate [] o number early are rest = rest
-  ats_fit cycle rate (s ∷ l) o low early are rest =
-      All-cons (FitsLine cycle) (sent_at rate s.start s.content) (ats_said rate l ++ sent_mdt rate o) (other_fits cycle (rate * s.start) _ s.content low early.0 are.0) (ats_fit cycle rate l o low early.1 are.1 rest)
+  ats_fit cycle rate [] o low are rest = rest
+  ats_fit cycle rate (s ∷ l) o low are rest =
+      All-cons (FitsLine cycle) (sent_at rate s.start s.content) (ats_said rate l ++ sent_mdt rate o) (other_fits cycle (rate * s.start) _ s.content low are.0.0 are.0.1) (ats_fit cycle rate l o low are.1 rest)
+
+  module _ (r : RingView) (jobs : List Job) (carry : Carry) (restarts : Restarts) (opened : IsOpened r jobs) where
+    known : IsKnown (known_of r)
+    known = s_known laws r jobs carry restarts opened (first_store laws more r jobs carry restarts opened)
+
+    cycle_fits : (t : CycleView) (j : List CycleView) → IsRun r jobs carry restarts (t ∷ j) → t.cycle ≤ 4294967295 → All (FitsLine t.cycle) t.sent
+    cycle_fits t j run low =
+        subst (All (FitsLine t.cycle)) (sym run.1.sent)
+        (All-cons (FitsLine t.cycle) (sent_mst (mst_content (at_start r jobs carry restarts j).now.phase)) (ats_said r.rate ats ++ sent_mdt r.rate mdt)
+        (mst_fits t.cycle (mst_content (at_start r jobs carry restarts j).now.phase) low (mst_whole (at_start r jobs carry restarts j).now.phase (phase_low (known_of r) (tasks_for (known_of r) jobs) (begins r carry restarts j))))
+        (ats_fit t.cycle r.rate ats mdt low ats_are (mdt_fits t.cycle r.rate mdt low mdt_is)))
+      where
+        ats : List Said
+        ats = said_below (length r.drives) (drive_at r) r.rate (given_mst carry restarts t.sent j)
+
+        mdt : Option Sent
+        mdt = mdt_said (known_of r) (behind_mdt r jobs carry restarts t.sent j)
+
+        planned : IsPlanned (known_of r) (behind_mdt r jobs carry restarts t.sent j)
+        planned = laws.planned (known_of r) (tasks_for (known_of r) jobs) (middle r carry restarts t.sent j)
+
+        ats_are : Each (λ (s : Said). (r.rate * s.start ≤ 1048560) × IsContent s.content) ats
+        ats_are = each_said (λ (s : Said). (r.rate * s.start ≤ 1048560) × IsContent s.content) (length r.drives) (drive_at r) r.rate (given_mst carry restarts t.sent j) (λ k below s says.
+            let high = (address_of r k opened.valid below).1 in
+            let keeps = more.within r carry restarts t.sent j k opened.valid opened.typed below in
+            let start = (sent_by (drive_at r k) r.rate (after_mst r carry restarts t.sent j k) s says).start in
+            let low = at_low (phase_in (after_mst r carry restarts t.sent j k)) (blocks_in (drive_at r k) (after_mst r carry restarts t.sent j k)) keeps.store in (
+              start_low r.rate s.start known.cycles.rate (subst (λ (n : ℕ). n < 65536) (sym start) low),
+              at_content (drive_at r k) r.rate (given_mst carry restarts t.sent j k) s (omega (arith, high)) keeps says,
+            ))
+
+        mdt_is : (m : Sent) → mdt ≡ Some m → (r.rate * m.start ≤ 1048560) × IsContent m.content
+        mdt_is m is = (
+          start_low r.rate m.start known.cycles.rate (mdt_low (known_of r) (behind_mdt r jobs carry restarts t.sent j) m known planned is),
+          mdt_whole (known_of r) (behind_mdt r jobs carry restarts t.sent j) m known planned is,
+        )
 
   pub runs_fit_lines : RunsFitLines
-  runs_fit_lines r jobs carry restarts [] opened run clear few = All-nil (λ (t : CycleView). All (FitsLine t.cycle) t.sent)
-  runs_fit_lines r jobs carry restarts (t ∷ j) opened run clear few =
+  runs_fit_lines r jobs carry restarts [] opened run few = All-nil (λ (t : CycleView). All (FitsLine t.cycle) t.sent)
+  runs_fit_lines r jobs carry restarts (t ∷ j) opened run few =
       let number : t.cycle ≤ 4294967295 = let is = run.1.cycle in omega (arith, is, few) in
-      let starts = starts_low laws more r jobs carry restarts opened t j run clear in
-      let first = mst_fits t.cycle (mst_content (phase laws more r jobs carry restarts opened t j run clear)) number (mst_whole (phase laws more r jobs carry restarts opened t j run clear) (low laws more r jobs carry restarts opened t j run clear)) in
-      let last = mdt_fits t.cycle r.rate (mdt laws more r jobs carry restarts opened t j run clear) number starts.1 (mdt_is_whole laws more r jobs carry restarts opened t j run clear) in
-      let rest = ats_fit t.cycle r.rate (ats laws more r jobs carry restarts opened t j run clear) (mdt laws more r jobs carry restarts opened t j run clear) number starts.0 (ats_are laws more r jobs carry restarts opened t j run clear) last in
-      let here : All (FitsLine t.cycle) (sent laws more r jobs carry restarts opened t j run clear) = All-cons (FitsLine t.cycle) (sent_mst (mst_content (phase laws more r jobs carry restarts opened t j run clear))) _ first rest in
-      All-cons (λ (u : CycleView). All (FitsLine u.cycle) u.sent) t j (subst (All (FitsLine t.cycle)) (sym (sent_is laws more r jobs carry restarts opened t j run clear)) here)
-      (runs_fit_lines r jobs carry restarts j opened run.0 clear.0 (omega (arith, few)))
+      All-cons (λ (u : CycleView). All (FitsLine u.cycle) u.sent) t j (cycle_fits r jobs carry restarts opened t j run number)
+      (runs_fit_lines r jobs carry restarts j opened run.0 (omega (arith, few)))

@@ -1,10 +1,10 @@
 -- The telegrams of a run keep the rules, by induction over its cycles.
-use Rattle.std.proofs.Common.{◌≡◌, ◌⊎◌, inl, inr, ℕ, zero, suc, ◌+◌, ◌*◌, ◌<◌, ◌≤◌, ◌==◌, nat_le, Bool, true, false, ◌||◌, if◌then◌else◌, List, [], ◌∷◌, ◌++◌, length, Option, Some, None, is_some, refl, sym, ◌∙◌, ap, subst, arith}
+use Rattle.std.proofs.Common.{◌≡◌, ◌⊎◌, inl, inr, ℕ, zero, suc, ◌+◌, ◌<◌, ◌≤◌, ◌==◌, nat_le, Bool, true, false, ◌||◌, if◌then◌else◌, List, [], ◌∷◌, ◌++◌, length, Option, Some, None, is_some, refl, sym, ◌∙◌, ap, subst, arith}
 use Rattle.std.specs.Prelude.{slice_index}
 use Rattle.std.proofs.lemmas.Bool.{eq-eqb}
 use Rattle.std.proofs.lemmas.Bool.Decides.{nat_tests}
 use Rattle.sercos_telegram.specs.Spells.{mst_content}
-use Rattle.sercos_timing.specs.Valid.{IsValid, AreCycles, IsCycle}
+use Rattle.sercos_timing.specs.Valid.{IsValid, IsCycle}
 use Rattle.sercos_timing.specs.Views.{WishesView, PlanView}
 use Rattle.sercos_timing.specs.declared.wishes.Wish.{Wish}
 use Rattle.sercos_step.specs.declared.request.Job.{Job}
@@ -14,7 +14,7 @@ use Rattle.sercos_command.specs.Checks.{carried_len}
 use Rattle.sercos_drive.specs.Moments.{Moment, phase_in, cycle_in, blocks_in}
 use Rattle.sercos_drive.specs.Says.{Said, drive_says, values_in}
 use Rattle.sercos_trace.specs.Views.{SentView, CycleView}
-use Rattle.sercos_seat.specs.Ring.{Known, known_of, numbers, tasks_for}
+use Rattle.sercos_seat.specs.Ring.{Known, known_of, tasks_for}
 use Rattle.sercos_seat.proofs.Sends.{fields_length}
 use Rattle.sercos_law_run.specs.Start.RingSlots.{held_by}
 use Rattle.sercos_law_run.specs.Start.StartUp.{Holds, start_up}
@@ -37,7 +37,7 @@ use Rattle.sercos_law_trace.proofs.Clean.RuleLemmas.{AreRuled, command_at, cycle
 use Rattle.sercos_law_trace.proofs.Clean.SeenLemmas.{Each, EachPair, each_map, each_both, all_after, IsFramed}
 use Rattle.sercos_law_trace.proofs.Clean.SaidLemmas.{each_said, IsOther, pairs_said, drive_there, wish_is_for}
 use Rattle.sercos_law_trace.proofs.Clean.EarlyRules.{IsEarlyAt, IsEarlyIf, early_ruled}
-use Rattle.sercos_law_trace.proofs.Clean.LateRules.{IsBefore, IsBeforeMdt, IsLateAt, late_ruled}
+use Rattle.sercos_law_trace.proofs.Clean.LateRules.{IsBefore, IsLateAt, late_ruled}
 use Rattle.sercos_law_trace.proofs.Clean.SlotRules.{before, early_enough, before_last, last_late, sends_one}
 use Rattle.sercos_law_trace.proofs.Clean.MstRules.{mst_ruled}
 use Rattle.sercos_law_trace.proofs.Clean.SenderLemmas.{Sends, sent_by, own_address, early_said, addressed_inside, early_mdt_said, none_in_zero}
@@ -52,29 +52,9 @@ rate_is : (r : RingView) → (wishes_of r).rate ≡ r.rate
 unfolding wishes_of
 rate_is r = refl
 
--- A START is no later than the end of the longest cycle at the highest rate, in bit times.
-abbrev pub IsLowIf : ℕ → Option Sent → Type 0
-IsLowIf rate None = Unit {0}
-IsLowIf rate (Some m) = rate * m.start ≤ 1024000
-
-early_low : (rate start early : ℕ) → (rate ≡ 2) ⊎ (rate ≡ 4) ⊎ (rate ≡ 8) ⊎ (rate ≡ 16) → start ≡ early → early ≤ 650 → rate * start ≤ 1024000
-early_low rate start early (inl is) same low = rw is (omega (arith, same, low))
-early_low rate start early (inr (inl is)) same low = rw is (omega (arith, same, low))
-early_low rate start early (inr (inr (inl is))) same low = rw is (omega (arith, same, low))
-early_low rate start early (inr (inr (inr is))) same low = rw is (omega (arith, same, low))
-
 pub cycle_low : (cycle : ℕ) → IsCycle cycle → cycle ≤ 64000
 cycle_low cycle (inl is) = omega (arith, is)
 cycle_low cycle (inr is) = is.1
-
-late_low_start : (rate cycle start : ℕ) → (rate ≡ 2) ⊎ (rate ≡ 4) ⊎ (rate ≡ 8) ⊎ (rate ≡ 16) → IsCycle cycle → start ≤ rate * cycle → start ≤ 1024000
-late_low_start rate cycle start one is low = by one (cycle_low cycle is)
-  where
-    by : (rate ≡ 2) ⊎ (rate ≡ 4) ⊎ (rate ≡ 8) ⊎ (rate ≡ 16) → cycle ≤ 64000 → start ≤ 1024000
-    by (inl e) most = let here : start ≤ 2 * cycle = subst (λ (n : ℕ). start ≤ n * cycle) e low in omega (arith, here, most)
-    by (inr (inl e)) most = let here : start ≤ 4 * cycle = subst (λ (n : ℕ). start ≤ n * cycle) e low in omega (arith, here, most)
-    by (inr (inr (inl e))) most = let here : start ≤ 8 * cycle = subst (λ (n : ℕ). start ≤ n * cycle) e low in omega (arith, here, most)
-    by (inr (inr (inr e))) most = let here : start ≤ 16 * cycle = subst (λ (n : ℕ). start ≤ n * cycle) e low in omega (arith, here, most)
 
 -- a cycle without ATs and MDT
 nothing_ruled : (w : WishesView) (rate : ℕ) (c : Command) (mst : SentView) (ats : List Said) (o : Option Sent) → Each (λ (s : Said). ⊥) ats → o ≡ None → AreRuled w rate c mst [] ats o
@@ -143,19 +123,19 @@ module _ (laws : Laws) (more : MoreLaws) (r : RingView) (jobs : List Job) (carry
     all : AllStand r jobs carry restarts j
     all = all_stand laws more r jobs carry restarts opened j run.0 clear.0
 
-    abbrev pub ats : List Said
+    abbrev ats : List Said
     ats = said_below (length r.drives) (drive_at r) r.rate (given_mst carry restarts t.sent j)
 
-    abbrev pub mdt : Option Sent
+    abbrev mdt : Option Sent
     mdt = mdt_said (known_of r) (behind_mdt r jobs carry restarts t.sent j)
 
     abbrev pub phase : ℕ
     phase = (at_start r jobs carry restarts j).now.phase
 
-    abbrev pub sent : List SentView
+    abbrev sent : List SentView
     sent = sent_mst (mst_content phase) ∷ ats_said r.rate ats ++ sent_mdt r.rate mdt
 
-    pub sent_is : t.sent ≡ sent
+    sent_is : t.sent ≡ sent
     sent_is = next.sent
 
     -- the drive at a place sends this
@@ -253,60 +233,12 @@ module _ (laws : Laws) (more : MoreLaws) (r : RingView) (jobs : List Job) (carry
           (last_late (wishes_of r) r.rate (held_by (takes_part r carry restarts t j) (store_in_cycle r carry restarts t j)) records (mst_content phase) ats m here valid (framed m.content whole))
           (before_last (wishes_of r) r.rate (held_by (takes_part r carry restarts t j) (store_in_cycle r carry restarts t j)) records (mst_content phase) ats m here valid))
 
-      low_with : (records : List (List ℕ)) → IsApart (wishes_of r) (held_by (takes_part r carry restarts t j) (store_in_cycle r carry restarts t j)) records sent
-          → (m : Sent) → mdt ≡ Some m → Each (λ (s : Said). r.rate * s.start ≤ 1024000) ats × IsLowIf r.rate mdt
-      low_with records apart m is =
-          let here : IsApart (wishes_of r) (held_by (takes_part r carry restarts t j) (store_in_cycle r carry restarts t j)) records (sent_mst (mst_content phase) ∷ ats_said r.rate ats ++ sent_mdt r.rate (Some m)) =
-          subst (λ (o : Option Sent). IsApart (wishes_of r) (held_by (takes_part r carry restarts t j) (store_in_cycle r carry restarts t j)) records (sent_mst (mst_content phase) ∷ ats_said r.rate ats ++ sent_mdt r.rate o)) is apart in
-          let whole = mdt_whole (known_of r) (behind_mdt r jobs carry restarts t.sent j) m (s_known laws r jobs carry restarts opened (first_store laws more r jobs carry restarts opened)) (laws.planned (known_of r) (tasks_for (known_of r) jobs) (middle r carry restarts t.sent j)) is in
-          let room = (last_late (wishes_of r) r.rate (held_by (takes_part r carry restarts t j) (store_in_cycle r carry restarts t j)) records (mst_content phase) ats m here valid (framed m.content whole)).room in
-          let low : r.rate * m.start ≤ 1024000 = late_low_start (wishes_of r).rate (wishes_of r).cycle (r.rate * m.start) valid.cycles.rate valid.cycles.cycle (omega (arith, room)) in (
-            each_map (IsBeforeMdt (wishes_of r) r.rate (r.rate * m.start)) (λ (s : Said). r.rate * s.start ≤ 1024000) (λ s of. let gap = of.gap in omega (arith, gap, low)) ats
-                (before_last (wishes_of r) r.rate (held_by (takes_part r carry restarts t j) (store_in_cycle r carry restarts t j)) records (mst_content phase) ats m here valid),
-            subst (λ (o : Option Sent). IsLowIf r.rate o) (sym is) low,
-          )
-
-      late_low : Each (λ (s : Said). r.rate * s.start ≤ 1024000) ats × IsLowIf r.rate mdt
-      late_low =
-          let (records, apart) = (keeps_all laws more r jobs carry restarts opened t j run clear).apart late in
-          let here = subst (λ (l : List SentView). IsApart (wishes_of r) (held_by (takes_part r carry restarts t j) (store_in_cycle r carry restarts t j)) records l) sent_is apart in
-          let (m, is) = sends_one (wishes_of r) r.rate (held_by (takes_part r carry restarts t j) (store_in_cycle r carry restarts t j)) records (mst_content phase) ats mdt here in
-          low_with records here m is
-
       late_ruled_in : AreRuled (wishes_of r) r.rate (command_at t.cycle (mst_content phase)) (sent_mst (mst_content phase)) [] ats mdt
       late_ruled_in =
           let (records, apart) = (keeps_all laws more r jobs carry restarts opened t j run clear).apart late in
           let here = subst (λ (l : List SentView). IsApart (wishes_of r) (held_by (takes_part r carry restarts t j) (store_in_cycle r carry restarts t j)) records l) sent_is apart in
           let (m, is) = sends_one (wishes_of r) r.rate (held_by (takes_part r carry restarts t j) (store_in_cycle r carry restarts t j)) records (mst_content phase) ats mdt here in
           late_with records here m is
-
-    -- STARTS
-    pub starts_low : Each (λ (s : Said). r.rate * s.start ≤ 1024000) ats × IsLowIf r.rate mdt
-    starts_low = by t.phase refl
-      where
-        cycles : AreCycles (numbers (known_of r))
-        cycles = (s_known laws r jobs carry restarts opened (first_store laws more r jobs carry restarts opened)).cycles
-
-        early_if_low : (o : Option Sent) → IsEarlyIf (wishes_of r) o → IsLowIf r.rate o
-        early_if_low None is = tt
-        early_if_low (Some m) is = early_low r.rate m.start 650 cycles.rate is.start (omega arith)
-
-        early_both : 1 ≤ t.phase → t.phase < 3 → Each (λ (s : Said). r.rate * s.start ≤ 1024000) ats × IsLowIf r.rate mdt
-        early_both some low = (
-          each_said (λ (s : Said). r.rate * s.start ≤ 1024000) (length r.drives) (drive_at r) r.rate (given_mst carry restarts t.sent j) (λ k below s says.
-              let sending = sends_at k s says in early_low r.rate s.start 300 cycles.rate (early_said r k (after_mst r carry restarts t.sent j k) s below sending (subst (λ (n : ℕ). n < 3) (sym (sender_phase k below s sending)) low)).start (omega arith)),
-          early_if_low mdt (early_mdt_in some low),
-        )
-
-        by : (n : ℕ) → t.phase ≡ n → Each (λ (s : Said). r.rate * s.start ≤ 1024000) ats × IsLowIf r.rate mdt
-        by zero is = (
-          each_said (λ (s : Said). r.rate * s.start ≤ 1024000) (length r.drives) (drive_at r) r.rate (given_mst carry restarts t.sent j) (λ k below s says.
-              let sending = sends_at k s says in let same = sender_phase k below s sending in let up = sending.stands in absurd (omega (arith, same, up, is))),
-          subst (λ (o : Option Sent). IsLowIf r.rate o) (sym (none_in_zero (known_of r) (behind_mdt r jobs carry restarts t.sent j) (mdt_phase ∙ is))) tt,
-        )
-        by (suc zero) is = early_both (omega (arith, is)) (omega (arith, is))
-        by (suc (suc zero)) is = early_both (omega (arith, is)) (omega (arith, is))
-        by (suc (suc (suc n))) is = late_low (omega (arith, is))
 
     ruled : AreRuled (wishes_of r) r.rate (command_at t.cycle (mst_content phase)) (sent_mst (mst_content phase)) [] ats mdt
     ruled = by t.phase refl
@@ -316,14 +248,6 @@ module _ (laws : Laws) (more : MoreLaws) (r : RingView) (jobs : List Job) (carry
         by (suc zero) is = early (omega (arith, is)) (omega (arith, is))
         by (suc (suc zero)) is = early (omega (arith, is)) (omega (arith, is))
         by (suc (suc (suc n))) is = late_ruled_in (omega (arith, is))
-
-    -- THE CONTENTS
-    pub ats_are : Each (λ (s : Said). IsContent s.content) ats
-    ats_are = each_said (λ (s : Said). IsContent s.content) (length r.drives) (drive_at r) r.rate (given_mst carry restarts t.sent j) (λ k below s says.
-        let high = (address_of r k opened.valid below).1 in at_content (drive_at r k) r.rate (given_mst carry restarts t.sent j k) s (omega (arith, high)) (more.within r carry restarts t.sent j k opened.valid opened.typed below) says)
-
-    pub mdt_is_whole : (m : Sent) → mdt ≡ Some m → IsContent m.content
-    mdt_is_whole m is = mdt_whole (known_of r) (behind_mdt r jobs carry restarts t.sent j) m (s_known laws r jobs carry restarts opened (first_store laws more r jobs carry restarts opened)) (laws.planned (known_of r) (tasks_for (known_of r) jobs) (middle r carry restarts t.sent j)) is
 
     -- THE MST
     pub low : phase ≤ 4

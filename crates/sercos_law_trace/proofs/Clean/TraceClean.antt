@@ -196,7 +196,7 @@ module _ (laws : Laws) (more : MoreLaws) (r : RingView) (jobs : List Job) (opene
 
 pub traces_are_clean : Laws → MoreLaws → TellsFollowing → ReadsBack → TracesAreClean
 traces_are_clean laws more tells law r jobs carry restarts j t opened run clear few others =
-    let fit = runs_fit_lines laws more r jobs carry restarts j opened run clear few in
+    let fit = runs_fit_lines laws more r jobs carry restarts j opened run few in
     record {
       clean = clean_text tells law (wishes_of r) j t (valid laws more r jobs opened) (head_fits laws more r jobs opened) fit others (runs_keep_rules laws more r jobs carry restarts j opened run clear);
       starts = starts_so r jobs carry restarts (reads_traces law) (wishes_of r) j t run fit;

@@ -1,6 +1,6 @@
 use Rattle.sercos_call.proofs.Outcomes as outcomes
 use Rattle.sercos_app.proofs.Outcomes.{at_chain, at_clean, at_least_plan, at_margins, at_no_of, at_none_fits, at_summed, at_traced, at_violation, law_of}
-use Rattle.sercos_app.proofs.Replayed.{at_differs, at_agrees, at_replays, at_calm}
+use Rattle.sercos_app.proofs.Replayed.{at_differs, at_agrees, at_replays, at_calm, at_no_earlier}
 use Rattle.sercos_app.proofs.SavedTold.{at_saved, at_unsaved, at_restored, at_unrestored}
 use Rattle.sercos_app.proofs.top_call.sercos.Goals as goal
 
@@ -24,6 +24,9 @@ returns-clause-replays g c = at_replays c.respond.ensures
 
 pub returns-clause-calm : goal.returns-clause-calm
 returns-clause-calm g c = at_calm c.respond.ensures
+
+pub returns-clause-no_earlier : goal.returns-clause-no_earlier
+returns-clause-no_earlier g c = at_no_earlier c.respond.ensures
 
 pub returns-clause-saved : goal.returns-clause-saved
 returns-clause-saved g c = at_saved c.respond.ensures
