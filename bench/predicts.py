@@ -8,7 +8,8 @@ the trace of `run` ends with `unseen 0`, then
 - `check` finds the trace clean; one that is longer than `check` reads is divided into captures that share a cycle;
 - each plan that the trace reports, and each chain of a stop at which no plan fits, is what `plan` prints.
 
-Prints the seed of each document of which this isn't so, and at the end how many documents had what. Ends with 0 if it is so of all.
+Prints each document of which this isn't so, with its seed, and at the end how many documents had what. Ends with 0 if it is so of
+all.
 """
 import argparse
 import collections
@@ -107,11 +108,11 @@ def occurred_in(document: str, trace: str, plan: str) -> set[str]:
 
 
 def checked(program: str, seed: int) -> tuple[int, list[str], set[str]]:
-    """What is wrong of the document of a seed, and what occurred."""
+    """A seed, what is wrong of its document, and what occurred."""
     document = document_of(seed)
     trace, plan = output_of(program, "run", document), output_of(program, "plan", document)
-    if not trace.startswith("sercos 1\n"):
-        return seed, [f"run writes {trace!r}"], set()
+    if not re.search(r"\nend .* unseen \d+\n\Z", trace):
+        return seed, [f"run ends with {trace[-200:]!r}"], set()
     occurred = occurred_in(document, trace, plan)
     wrong = [] if "run: something unseen" in occurred else list(wrong_in(program, trace, plan))
     return seed, wrong, occurred
@@ -130,9 +131,9 @@ def main() -> int:
         seeds = range(words.seed, words.seed + words.count)
         for seed, faults, occurred in pool.map(lambda seed: checked(words.program, seed), seeds):
             counts.update(occurred)
-            wrong += bool(faults)
-            for fault in faults:
-                print(f"seed {seed}: {fault}", flush=True)
+            if faults:
+                wrong += 1
+                print(*(f"seed {seed}: {fault}" for fault in faults), document_of(seed), sep="\n", flush=True)
     for name in sorted(counts):
         print(f"{counts[name]:6} {name}")
     print(f"{words.count} rings in {time.monotonic() - start:.0f} s, {wrong} wrong")
