@@ -1,6 +1,6 @@
 // `backup` and `restore`: the data of the drives, saved as requests.
-use crate::rows::{Base, PLAIN, Row, check, check_over};
-use crate::texts::READ;
+use crate::rows::{PLAIN, Row, check, check_over};
+use crate::texts::{ONE_DRIVE, READ};
 use sercos_app::Clean;
 use sercos_io::Status;
 use sercos_script::{Damage, Fault, Scripted};
@@ -9,7 +9,7 @@ use std::alloc::{AllocError, Global};
 use std::test::Fail;
 
 const OF_ONE_DRIVE: Row = Row {
-    base: Base::OneDrive,
+    texts: ONE_DRIVE,
     ..PLAIN
 };
 
@@ -106,8 +106,8 @@ fn losing(alloc: Global) -> Result<Scripted, AllocError> {
 #[test]
 fn backups(rt: HostRuntime) -> Result<(), Fail> {
     for row in BACKUP_ROWS {
-        check_over(&rt, rt.alloc(), row, "", Clean)?;
-        check_over(&rt, rt.alloc(), row, "", losing(rt.alloc())?)?;
+        check_over(rt.alloc(), row, "", Clean)?;
+        check_over(rt.alloc(), row, "", losing(rt.alloc())?)?;
     }
     Ok(())
 }
@@ -127,5 +127,5 @@ fn too_many_blocks(rt: HostRuntime) -> Result<(), Fail> {
             "[[drive.block]]\nidn = 'S-0-0192'\nattribute = 0x00550001\nmax_len = 1024\ndata = '{list}'\n"
         )?;
     }
-    check(&rt, alloc, &[TOO_MANY], text.as_str())
+    check(alloc, &[TOO_MANY], text.as_str())
 }

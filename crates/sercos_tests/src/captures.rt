@@ -1,12 +1,13 @@
 // `check` and `replay`: captures, and the trace of a run read again.
-use crate::rows::{Base, PLAIN, Row, check, output};
-use crate::texts::{ONE_DRIVE, READ};
+use crate::rows::{PLAIN, Row, check, output};
+use crate::texts::{CAPTURE, FIRST, READ, REST};
+use sercos_app::Clean;
 use sercos_io::Status;
 use std::test::Fail;
 
 const CHECK: Row = Row {
     words: "sercos check",
-    base: Base::Capture,
+    texts: &[CAPTURE],
     ..PLAIN
 };
 
@@ -52,37 +53,50 @@ const CAPTURE_ROWS: &[Row] = &[
     },
     Row {
         shows: "text that is empty",
-        base: Base::Given,
+        texts: &[],
         status: Status::Refused,
         lines: "refused line 1 column 1",
         ..CHECK
     },
 ];
 
-// The trace of a run: 4 lines of its head, 300 MSTs, 4 moves of the drive, 288 ATs and as many MDTs, the two lines of the plan, that
-// of the request and the last one.
-const TRACE: Row = Row {
-    shows: "trace of a run",
-    base: Base::Given,
-    lines: "clean 888",
-    ..CHECK
+// A run.
+const TRACED: Row = Row {
+    shows: "run that is read again",
+    words: "sercos run",
+    texts: &[FIRST, REST, READ],
+    ..PLAIN
 };
 
-const REPLAY_ROWS: &[Row] = &[
+// What a replay has before the trace.
+const REPLAYED: &[&str] = &[FIRST, REST, READ, "capture\n"];
+
+// Over its trace: 4 lines of its head, 300 MSTs, 4 moves of the drive, 288 ATs and as many MDTs, the two lines of the plan, that of the
+// request and the last one.
+const TRACE_ROWS: &[Row] = &[
+    Row {
+        shows: "trace of a run",
+        texts: &[],
+        lines: "clean 888",
+        ..CHECK
+    },
     Row {
         shows: "drive in its own run",
+        texts: REPLAYED,
         words: "sercos replay 1",
         lines: "agrees 300",
         ..PLAIN
     },
     Row {
         shows: "master in its own run",
+        texts: REPLAYED,
         words: "sercos replay 0",
         lines: "agrees 300",
         ..PLAIN
     },
     Row {
         shows: "drive, with an AT changed",
+        texts: REPLAYED,
         words: "sercos replay 1",
         edits: "a 13 1200 72 0101000000 => a 13 1200 72 0100000000",
         status: Status::No,
@@ -93,6 +107,7 @@ found 1200 0100000000",
     },
     Row {
         shows: "master, with an AT changed",
+        texts: REPLAYED,
         words: "sercos replay 0",
         edits: "a 13 1200 72 0101000000 => a 13 1200 72 0100000000",
         status: Status::No,
@@ -103,6 +118,7 @@ found 2600 0118000000",
     },
     Row {
         shows: "drive that isn't there",
+        texts: REPLAYED,
         words: "sercos replay 2",
         status: Status::Refused,
         lines: "refused 10 drive 2",
@@ -112,15 +128,8 @@ found 2600 0118000000",
 
 #[test]
 fn captures(rt: HostRuntime) -> Result<(), Fail> {
-    check(&rt, rt.alloc(), CAPTURE_ROWS, "")
-}
-
-#[test]
-fn trace_read_again(rt: HostRuntime) -> Result<(), Fail> {
     let alloc = rt.alloc();
-    let document = format!(in alloc; "{ONE_DRIVE}{READ}")?;
-    let trace = output(&rt, alloc, "sercos run", document.as_str())?;
-    check(&rt, alloc, &[TRACE], trace.as_str())?;
-    let text = format!(in alloc; "{document}capture\n{trace}")?;
-    check(&rt, alloc, REPLAY_ROWS, text.as_str())
+    check(alloc, CAPTURE_ROWS, "")?;
+    let trace = output(alloc, &TRACED, "", Clean)?;
+    check(alloc, TRACE_ROWS, trace.as_str())
 }

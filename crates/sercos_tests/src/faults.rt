@@ -1,239 +1,257 @@
 // What a program answers if its source or its sink fails, and if memory does.
-use crate::rows::{Base, SOUND_READS, SOUND_WRITES, answer_by, output, text_of, words_of};
-use crate::texts::{ONE_DRIVE, READ};
+use crate::rows::{PLAIN, Row, SOUND_READS, SOUND_WRITES, answer_by, failed, input_of, words_of};
+use crate::texts::{CAPTURE, FIRST, ONE_DRIVE, READ, REST, TWO_DRIVES};
 use sercos_app::{Clean, answer_in_memory};
 use sercos_io::{MemorySink, PlainSource, Status};
-use std::alloc::{AllocError, Global};
-use std::process::Abort;
+use std::alloc::Global;
 use std::test::Fail;
 
 const LINE: &str = "raw 49 7edf010ee1fd00\n";
 
-// A command whose source or sink fails.
+// A row whose source or sink fails.
 #[derive(Clone, Copy)]
 struct Faulty {
-    words: &'static str,
-    base: Base,
-    // what is appended to it
-    more: &'static str,
+    row: Row,
     // the most bytes of a read and of a write
     piece: u32,
-    // how many reads or writes fail, one in each run
-    calls: u32,
+    // whether it is reads that fail, and not writes
+    reads: bool,
+    // the first call that fails, and the last; one fails in each run, and the call 0 is never made
+    first: u32,
+    last: u32,
     // the room of the sink
     room: usize,
-    status: Status,
 }
 
-// The answer of a command of which a read, a write or neither fails, into a sink with some room.
-fn answered(
-    alloc: Global,
-    row: &Faulty,
-    read: u32,
-    write: u32,
-    room: usize,
-) -> Result<(Status, MemorySink), AllocError> {
-    let piece = row.piece.max(1);
-    let mut input = String::from_str(alloc, text_of(row.base, ""))?;
-    input.push_str(row.more)?;
-    answer_by(
-        alloc,
-        row.words,
-        input.as_str().as_bytes(),
-        (piece, read),
-        (piece, write, room),
-        Clean,
-    )
-}
+const READ_RUN: Row = Row {
+    words: "sercos run",
+    texts: &[FIRST, REST, READ],
+    ..PLAIN
+};
 
-// Runs a command of which a read or a write fails: at most `most` bytes are held, a prefix of the answer.
-fn check(
-    rt: &impl Abort,
-    alloc: Global,
-    row: &Faulty,
-    read: u32,
-    write: u32,
-    most: usize,
-) -> Result<(), Fail> {
-    let words = row.words;
-    let (_sound, whole) = answered(alloc, row, 0, 0, 65536)?;
-    let (status, sink) = answered(alloc, row, read, write, row.room)?;
-    assert_eq!(rt; status, row.status, "{words}");
-    assert!(rt; whole.as_slice().starts_with(sink.as_slice()), "{words}");
-    assert!(rt; sink.as_slice().len() <= most, "{words}");
-    Ok(())
-}
+const FAULTY: Faulty = Faulty {
+    row: PLAIN,
+    piece: 1,
+    reads: false,
+    first: 0,
+    last: 0,
+    room: 65536,
+};
 
-const READ_ROWS: &[Faulty] = &[
+const ROWS: &[Faulty] = &[
+    // Each of the four reads of an input in three pieces fails in turn: nothing is written.
     Faulty {
-        words: "sercos show",
-        base: Base::Given,
-        more: LINE,
+        row: Row {
+            shows: "failing reads of `show`",
+            words: "sercos show",
+            texts: &[LINE],
+            status: Status::ReadFault,
+            ..PLAIN
+        },
         piece: 8,
-        calls: 4,
-        room: 65536,
-        status: Status::ReadFault,
+        reads: true,
+        first: 1,
+        last: 4,
+        ..FAULTY
     },
     Faulty {
-        words: "sercos plan",
-        base: Base::TwoDrives,
-        more: "",
+        row: Row {
+            shows: "failing reads of `plan`",
+            words: "sercos plan",
+            texts: TWO_DRIVES,
+            status: Status::ReadFault,
+            ..PLAIN
+        },
         piece: 200,
-        calls: 4,
-        room: 65536,
-        status: Status::ReadFault,
+        reads: true,
+        first: 1,
+        last: 4,
+        ..FAULTY
     },
     Faulty {
-        words: "sercos check",
-        base: Base::Capture,
-        more: "",
+        row: Row {
+            shows: "failing reads of `check`",
+            words: "sercos check",
+            texts: &[CAPTURE],
+            status: Status::ReadFault,
+            ..PLAIN
+        },
         piece: 60,
-        calls: 4,
-        room: 65536,
-        status: Status::ReadFault,
+        reads: true,
+        first: 1,
+        last: 4,
+        ..FAULTY
     },
     Faulty {
-        words: "sercos run",
-        base: Base::OneDrive,
-        more: READ,
+        row: Row {
+            shows: "failing reads of `run`",
+            status: Status::ReadFault,
+            ..READ_RUN
+        },
         piece: 150,
-        calls: 4,
-        room: 65536,
-        status: Status::ReadFault,
+        reads: true,
+        first: 1,
+        last: 4,
+        ..FAULTY
     },
-];
-
-// Each of the four reads of an input in three pieces fails in turn: nothing is written.
-fn check_reads(rt: &impl Abort, alloc: Global, rows: &[Faulty]) -> Result<(), Fail> {
-    for row in rows {
-        for call in 0..row.calls {
-            check(rt, alloc, row, call + 1, 0, 0)?;
-        }
-    }
-    Ok(())
-}
-
-#[test]
-fn reads_that_fail(rt: HostRuntime) -> Result<(), Fail> {
-    check_reads(&rt, rt.alloc(), READ_ROWS)
-}
-
-// All writes of a plan and of a verdict, and the first two hundred of a run, which writes each line by one call.
-const WRITE_ROWS: &[Faulty] = &[
+    // All writes of a plan and of a verdict fail in turn, and the first two hundred of a run, which writes each line by one call: no
+    // more is held than the writes before took.
     Faulty {
-        words: "sercos plan",
-        base: Base::TwoDrives,
-        more: "",
+        row: Row {
+            shows: "failing writes of `plan`",
+            words: "sercos plan",
+            texts: TWO_DRIVES,
+            status: Status::WriteFault,
+            ..PLAIN
+        },
         piece: 8,
-        calls: 10,
-        room: 65536,
-        status: Status::WriteFault,
+        first: 1,
+        last: 10,
+        ..FAULTY
     },
     Faulty {
-        words: "sercos check",
-        base: Base::Capture,
-        more: "",
+        row: Row {
+            shows: "failing writes of `check`",
+            words: "sercos check",
+            texts: &[CAPTURE],
+            status: Status::WriteFault,
+            ..PLAIN
+        },
         piece: 3,
-        calls: 3,
-        room: 65536,
-        status: Status::WriteFault,
+        first: 1,
+        last: 3,
+        ..FAULTY
     },
     Faulty {
-        words: "sercos run",
-        base: Base::OneDrive,
-        more: READ,
+        row: Row {
+            shows: "failing writes of `run`",
+            status: Status::WriteFault,
+            ..READ_RUN
+        },
         piece: 1000,
-        calls: 200,
-        room: 65536,
-        status: Status::WriteFault,
+        first: 1,
+        last: 200,
+        ..FAULTY
     },
-];
-
-// Each of the first writes fails in turn: no more is held than the writes before took.
-fn check_writes(rt: &impl Abort, alloc: Global, rows: &[Faulty]) -> Result<(), Fail> {
-    for row in rows {
-        for call in 0..row.calls {
-            check(
-                rt,
-                alloc,
-                row,
-                0,
-                call + 1,
-                row.piece.saturating_mul(call) as usize,
-            )?;
-        }
-    }
-    Ok(())
-}
-
-#[test]
-fn writes_that_fail(rt: HostRuntime) -> Result<(), Fail> {
-    check_writes(&rt, rt.alloc(), WRITE_ROWS)
-}
-
-// A run over a source that returns a byte a call, and a sink that accepts one.
-#[test]
-fn single_bytes(rt: HostRuntime) -> Result<(), Fail> {
-    let input = format!(in rt.alloc(); "{ONE_DRIVE}{READ}")?;
-    let whole = output(&rt, rt.alloc(), "sercos run", input.as_str())?;
-    let input = input.as_str().as_bytes();
-    let write = (1, 0, 65536);
-    let (status, sink) = answer_by(rt.alloc(), "sercos run", input, (1, 0), write, Clean)?;
-    assert_eq!(rt; status, Status::Done);
-    assert_eq!(rt; sink.as_slice(), whole.as_str().as_bytes());
-    Ok(())
-}
-
-// Sinks without room, and a first write that fails; a refusal stays one if its line can't be written.
-const SINK_ROWS: &[Faulty] = &[
+    // A source that returns a byte a call, and a sink that accepts one: the answer is written whole.
     Faulty {
-        words: "sercos show",
-        base: Base::Given,
-        more: LINE,
+        row: Row {
+            shows: "single bytes",
+            ..READ_RUN
+        },
+        ..FAULTY
+    },
+    // Sinks without room, and a first write that fails; a refusal stays one if its line can't be written.
+    Faulty {
+        row: Row {
+            shows: "`show` into seven bytes",
+            words: "sercos show",
+            texts: &[LINE],
+            status: Status::WriteFault,
+            ..PLAIN
+        },
         piece: 5,
-        calls: 0,
         room: 7,
-        status: Status::WriteFault,
+        ..FAULTY
     },
     Faulty {
-        words: "sercos show",
-        base: Base::Given,
-        more: "raw x\n",
+        row: Row {
+            shows: "refusal into seven bytes",
+            words: "sercos show",
+            texts: &["raw x\n"],
+            status: Status::Refused,
+            ..PLAIN
+        },
         piece: 5,
-        calls: 0,
         room: 7,
-        status: Status::Refused,
+        ..FAULTY
     },
     Faulty {
-        words: "sercos plan",
-        base: Base::Given,
-        more: "drive = [{}]\n[ring]\nspeed = 3\n",
+        row: Row {
+            shows: "refusal into no byte",
+            words: "sercos plan",
+            texts: &["drive = [{}]\n[ring]\nspeed = 3\n"],
+            status: Status::Refused,
+            ..PLAIN
+        },
         piece: 9,
-        calls: 1,
+        first: 1,
+        last: 1,
         room: 0,
-        status: Status::Refused,
+        ..FAULTY
     },
     Faulty {
-        words: "sercos run",
-        base: Base::OneDrive,
-        more: "",
+        row: Row {
+            shows: "`run` into forty bytes",
+            words: "sercos run",
+            texts: ONE_DRIVE,
+            status: Status::WriteFault,
+            ..PLAIN
+        },
         piece: 100,
-        calls: 0,
         room: 40,
-        status: Status::WriteFault,
+        ..FAULTY
     },
 ];
 
-fn check_sinks(rt: &impl Abort, alloc: Global, rows: &[Faulty]) -> Result<(), Fail> {
-    for row in rows {
-        check(rt, alloc, row, 0, row.calls, row.room)?;
+// The most bytes that the sink may hold if a call fails.
+fn most_held(faulty: &Faulty, call: u32) -> usize {
+    if faulty.reads {
+        0
+    } else if call == 0 {
+        faulty.room
+    } else {
+        faulty.piece.saturating_mul(call - 1) as usize
+    }
+}
+
+// Runs a row of which a call fails: a prefix of the whole answer is held, and all of it if the status is Done.
+fn check_call(
+    alloc: Global,
+    faulty: &Faulty,
+    input: &[u8],
+    whole: &[u8],
+    call: u32,
+) -> Result<(), Fail> {
+    let (read, write) = if faulty.reads { (call, 0) } else { (0, call) };
+    let piece = faulty.piece.max(1);
+    let (status, sink) = answer_by(
+        alloc,
+        faulty.row.words,
+        input,
+        (piece, read),
+        (piece, write, faulty.room),
+        Clean,
+    )?;
+    let held = sink.as_slice();
+    let is_held = held.len() <= most_held(faulty, call) && whole.starts_with(held);
+    if status == faulty.row.status
+        && is_held
+        && (status != Status::Done || held.len() == whole.len())
+    {
+        Ok(())
+    } else {
+        Err(failed(&faulty.row, status.name()))
+    }
+}
+
+fn check_calls(alloc: Global, faulty: &Faulty) -> Result<(), Fail> {
+    let input = input_of(alloc, &faulty.row, "")?;
+    let input = input.as_str().as_bytes();
+    let words = faulty.row.words;
+    let (_sound, whole) = answer_by(alloc, words, input, SOUND_READS, SOUND_WRITES, Clean)?;
+    for call in faulty.first..faulty.last.saturating_add(1) {
+        check_call(alloc, faulty, input, whole.as_slice(), call)?;
     }
     Ok(())
 }
 
 #[test]
-fn sinks_without_room(rt: HostRuntime) -> Result<(), Fail> {
-    check_sinks(&rt, rt.alloc(), SINK_ROWS)
+fn faults(rt: HostRuntime) -> Result<(), Fail> {
+    for faulty in ROWS {
+        check_calls(rt.alloc(), faulty)?;
+    }
+    Ok(())
 }
 
 // Over a source that never fails and a sink with room, with ample memory, the answer is written whole.
@@ -244,9 +262,11 @@ fn answered_in_memory(rt: HostRuntime) -> Result<(), Fail> {
     let room = Vec::with_capacity(rt.alloc(), 128)?;
     let mut sink = MemorySink::new(room, 128, Vec::new(rt.alloc()));
     let status = answer_in_memory(rt.alloc(), &words, &mut source, &mut sink, Clean);
-    assert_eq!(rt; status, Status::Done);
-    assert_eq!(rt; sink.as_slice(), b"ok ff00\n".as_slice());
-    Ok(())
+    if status == Status::Done && sink.as_slice() == b"ok ff00\n".as_slice() {
+        Ok(())
+    } else {
+        Err(Fail::new(status.name()))
+    }
 }
 
 // If the words and the input are there and an allocation then fails, the status is Memory and nothing is written.
@@ -264,8 +284,10 @@ fn memory(rt: HostRuntime) -> Result<(), Fail> {
     );
     if let Ok((status, sink)) = answered {
         let is_done = status == Status::Done;
-        assert!(rt; is_done || status == Status::Memory);
-        assert_eq!(rt; is_done, !sink.as_slice().is_empty());
+        let is_memory = status == Status::Memory;
+        if !is_done && !is_memory || is_done == sink.as_slice().is_empty() {
+            return Err(Fail::new(status.name()));
+        }
     }
     Ok(())
 }

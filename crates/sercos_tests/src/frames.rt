@@ -8,7 +8,7 @@ const SHOW: Row = Row {
     ..PLAIN
 };
 
-const FRAME_ROWS: &[Row] = &[
+const ROWS: &[Row] = &[
     Row {
         shows: "MST of phase 0",
         more: "raw 49 7edf010ee1fd00\n",
@@ -106,24 +106,18 @@ mst phase 0",
         lines: "refused line 1 column 1",
         ..SHOW
     },
+    Row {
+        shows: "byte too many between the flags",
+        texts: &["raw 16424 7e"],
+        fill: "00",
+        room: 4114,
+        more: "7e\n",
+        lines: "error 8 long 2051",
+        ..SHOW
+    },
 ];
 
 #[test]
 fn frames(rt: HostRuntime) -> Result<(), Fail> {
-    check(&rt, rt.alloc(), FRAME_ROWS, "")
-}
-
-// A flag, zeros of a number of bytes, and a flag.
-const TOO_LONG: Row = Row {
-    shows: "a byte too many between the flags",
-    more: "7e\n",
-    lines: "error 8 long 2051",
-    ..SHOW
-};
-
-#[test]
-fn too_long_a_frame(rt: HostRuntime) -> Result<(), Fail> {
-    let zeros = "00".repeat(rt.alloc(), 2051)?;
-    let line = format!(in rt.alloc(); "raw 16424 7e{zeros}")?;
-    check(&rt, rt.alloc(), &[TOO_LONG], line.as_str())
+    check(rt.alloc(), ROWS, "")
 }

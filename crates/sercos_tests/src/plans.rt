@@ -1,15 +1,16 @@
 // Plans: `plan` and `margin`.
-use crate::rows::{Base, PLAIN, Row, check};
+use crate::rows::{PLAIN, Row, check};
+use crate::texts::{ONE_DRIVE, THREE_DRIVES, TWO_DRIVES};
 use sercos_io::Status;
 use std::test::Fail;
 
 const PLAN: Row = Row {
     words: "sercos plan",
-    base: Base::TwoDrives,
+    texts: TWO_DRIVES,
     ..PLAIN
 };
 
-const PLAN_ROWS: &[Row] = &[
+const ROWS: &[Row] = &[
     Row {
         shows: "two drives",
         lines: "plan t2 83 t3 153 t4 230 mdt 16
@@ -80,7 +81,7 @@ rule 9 drive 1 sum 950 bound 946",
     },
     Row {
         shows: "three drives",
-        base: Base::ThreeDrives,
+        texts: THREE_DRIVES,
         lines: "plan t2 175 t3 323 t4 900 mdt 36
 slot 1 t1 20 position 1
 slot 2 t1 70 position 13
@@ -105,7 +106,7 @@ slot 2 t1 43 position 9",
     },
     Row {
         shows: "gap that is longer than the first drive's time",
-        base: Base::OneDrive,
+        texts: ONE_DRIVE,
         edits: "gap = 5 => gap = 20",
         lines: "plan t2 71 t3 122 t4 230 mdt 8
 slot 1 t1 20 position 1",
@@ -113,7 +114,7 @@ slot 1 t1 20 position 1",
     },
     Row {
         shows: "longest time from an AT to the MDT",
-        base: Base::OneDrive,
+        texts: ONE_DRIVE,
         edits: "tatmt = 6 => tatmt = 155",
         lines: "plan t2 196 t3 247 t4 230 mdt 8
 slot 1 t1 10 position 1",
@@ -121,7 +122,7 @@ slot 1 t1 10 position 1",
     },
     Row {
         shows: "a microsecond more",
-        base: Base::OneDrive,
+        texts: ONE_DRIVE,
         edits: "tatmt = 6 => tatmt = 156",
         status: Status::No,
         lines: "no plan
@@ -130,13 +131,10 @@ rule 6 drive 1 at 788
 rule 9 drive 1 sum 949 bound 946",
         ..PLAN
     },
-];
-
-const MARGIN_ROWS: &[Row] = &[
     Row {
         shows: "one drive",
         words: "sercos margin",
-        base: Base::OneDrive,
+        texts: ONE_DRIVE,
         lines: "cycle 125
 margin 1 t1min 159 tatmt 155 t4min 250 tatat 64000 tmtsy 159 tmtsg 172",
         ..PLAN
@@ -157,7 +155,7 @@ rule 9 drive 1 sum 570 bound 446",
     Row {
         shows: "only the longest cycle is long enough",
         words: "sercos margin",
-        base: Base::OneDrive,
+        texts: ONE_DRIVE,
         edits: "cycle = 250 => cycle = 64000\ncontrol = 64000 & t4min = 20 => t4min = 64000",
         lines: "cycle 64000
 margin 1 t1min 300 tatmt 300 t4min 64000 tatat 64000 tmtsy 250 tmtsg 63922",
@@ -167,10 +165,5 @@ margin 1 t1min 300 tatmt 300 t4min 64000 tatat 64000 tmtsy 250 tmtsg 63922",
 
 #[test]
 fn plans(rt: HostRuntime) -> Result<(), Fail> {
-    check(&rt, rt.alloc(), PLAN_ROWS, "")
-}
-
-#[test]
-fn margins(rt: HostRuntime) -> Result<(), Fail> {
-    check(&rt, rt.alloc(), MARGIN_ROWS, "")
+    check(rt.alloc(), ROWS, "")
 }

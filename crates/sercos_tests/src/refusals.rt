@@ -1,11 +1,12 @@
 // Documents, words and texts that are refused.
-use crate::rows::{Base, PLAIN, Row, check};
+use crate::rows::{PLAIN, Row, check};
+use crate::texts::{ONE_DRIVE, TWO_DRIVES};
 use sercos_io::Status;
 use std::test::Fail;
 
 const REFUSED: Row = Row {
     words: "sercos plan",
-    base: Base::OneDrive,
+    texts: ONE_DRIVE,
     status: Status::Refused,
     ..PLAIN
 };
@@ -13,7 +14,7 @@ const REFUSED: Row = Row {
 const REFUSED_ROWS: &[Row] = &[
     Row {
         shows: "no text",
-        base: Base::Given,
+        texts: &[],
         lines: "refused 2 missing ring",
         ..REFUSED
     },
@@ -37,14 +38,14 @@ const REFUSED_ROWS: &[Row] = &[
     },
     Row {
         shows: "two drives of one address",
-        base: Base::TwoDrives,
+        texts: TWO_DRIVES,
         edits: "address = 2 => address = 1",
         lines: "refused 5 twice drive[1].address",
         ..REFUSED
     },
     Row {
         shows: "no TOML",
-        base: Base::Given,
+        texts: &[],
         more: "ring =",
         lines: "refused 1 toml",
         ..REFUSED
@@ -57,56 +58,56 @@ const REFUSED_ROWS: &[Row] = &[
     },
     Row {
         shows: "document cut after its cycle time",
-        base: Base::Given,
+        texts: &[],
         more: "[ring]\nrate = 4\ncycle = 250\n",
         lines: "refused 2 missing drive",
         ..REFUSED
     },
     Row {
         shows: "document cut after an address",
-        base: Base::Given,
+        texts: &[],
         more: "[ring]\nrate = 4\ncycle = 250\ngap = 5\ncycles = 300\n\n[[drive]]\naddress = 1\n",
         lines: "refused 2 missing drive[0].t1min",
         ..REFUSED
     },
     Row {
         shows: "document cut within the head of a table",
-        base: Base::Given,
+        texts: &[],
         more: "[ring]\nrate = 4\ncycle = 250\ngap = 5\ncycles = 300\n\n[[d",
         lines: "refused 1 toml",
         ..REFUSED
     },
     Row {
         shows: "document cut within the head of a table",
-        base: Base::Given,
+        texts: &[],
         more: "[ring]\nrate = 4\ncycle = 250\ngap = 5\ncycles = 300\n\n[[dr",
         lines: "refused 1 toml",
         ..REFUSED
     },
     Row {
         shows: "document cut within the head of a table",
-        base: Base::Given,
+        texts: &[],
         more: "[ring]\nrate = 4\ncycle = 250\ngap = 5\ncycles = 300\n\n[[dri",
         lines: "refused 1 toml",
         ..REFUSED
     },
     Row {
         shows: "document cut within the head of a table",
-        base: Base::Given,
+        texts: &[],
         more: "[ring]\nrate = 4\ncycle = 250\ngap = 5\ncycles = 300\n\n[[driv",
         lines: "refused 1 toml",
         ..REFUSED
     },
     Row {
         shows: "document cut within the head of a table",
-        base: Base::Given,
+        texts: &[],
         more: "[ring]\nrate = 4\ncycle = 250\ngap = 5\ncycles = 300\n\n[[drive",
         lines: "refused 1 toml",
         ..REFUSED
     },
     Row {
         shows: "document cut within the head of a table",
-        base: Base::Given,
+        texts: &[],
         more: "[ring]\nrate = 4\ncycle = 250\ngap = 5\ncycles = 300\n\n[[drive]",
         lines: "refused 1 toml",
         ..REFUSED
@@ -172,11 +173,7 @@ const WORD_ROWS: &[Row] = &[
 ];
 
 #[test]
-fn refused_documents(rt: HostRuntime) -> Result<(), Fail> {
-    check(&rt, rt.alloc(), REFUSED_ROWS, "")
-}
-
-#[test]
-fn bad_words(rt: HostRuntime) -> Result<(), Fail> {
-    check(&rt, rt.alloc(), WORD_ROWS, "")
+fn refusals(rt: HostRuntime) -> Result<(), Fail> {
+    check(rt.alloc(), REFUSED_ROWS, "")?;
+    check(rt.alloc(), WORD_ROWS, "")
 }

@@ -1,6 +1,6 @@
 // `sercos_rings`: several rings on one cycle clock.
-use crate::rows::{Base, PLAIN, Row, check};
-use crate::texts::{ONE_DRIVE, THREE_DRIVES};
+use crate::rows::{PLAIN, Row, check};
+use crate::texts::{FIRST, ONE_DRIVE, REST, THREE_DRIVES};
 use sercos_io::Status;
 use std::test::Fail;
 
@@ -9,10 +9,20 @@ const RINGS: Row = Row {
     ..PLAIN
 };
 
-// Over two rings of one drive.
-const SAME_ROWS: &[Row] = &[
+const NEXT: &str = "next\n";
+
+// Two and eight rings of one drive.
+const TWO_RINGS: &[&str] = &[FIRST, REST, NEXT, FIRST, REST];
+
+const EIGHT_RINGS: &[&str] = &[
+    FIRST, REST, NEXT, FIRST, REST, NEXT, FIRST, REST, NEXT, FIRST, REST, NEXT, FIRST, REST, NEXT,
+    FIRST, REST, NEXT, FIRST, REST, NEXT, FIRST, REST,
+];
+
+const ROWS: &[Row] = &[
     Row {
         shows: "one cycle each, whole",
+        texts: TWO_RINGS,
         edits: "cycles = 300 => cycles = 1 & cycles = 300 => cycles = 1",
         lines: "1 sercos 1
 1 ring 4 250 250 5 1
@@ -32,6 +42,7 @@ together 0",
     },
     Row {
         shows: "one start-up each",
+        texts: TWO_RINGS,
         lines: "1 sercos 1
 1 ring 4 250 250 5 1
 1 drive 1 1 10 6 20 5 10 20 8 8
@@ -60,17 +71,43 @@ together 205",
     },
     Row {
         shows: "one that starts up sooner than the other",
+        texts: TWO_RINGS,
         edits: "cycles = 300 => cycles = 7000 & cycles = 300\n\n[[drive]] => cycles = 2000\n\n[[drive]]\nbusy = 20",
         lines: "together 265",
         only: "together *",
         ..RINGS
     },
+    Row {
+        shows: "most rings, one cycle each",
+        texts: EIGHT_RINGS,
+        edits: "cycles = 300 => cycles = 1 & cycles = 300 => cycles = 1 & cycles = 300 => cycles = 1 & cycles = 300 => cycles = 1 & cycles = 300 => cycles = 1 & cycles = 300 => cycles = 1 & cycles = 300 => cycles = 1 & cycles = 300 => cycles = 1",
+        lines: "1 sercos 1
+8 sercos 1
+8 ring 4 250 250 5 1
+8 drive 1 1 10 6 20 5 10 20 8 8
+8 order 1
+t 0
+1 m 0 -49 49 ff00
+8 m 0 -49 49 ff00
+8 end 1 phase 0 complete 0 refused 0 broken 0 falls 0 unseen 0
+together 0",
+        only: "t *|together *",
+        ..RINGS
+    },
+    Row {
+        shows: "one document",
+        texts: ONE_DRIVE,
+        status: Status::Refused,
+        lines: "refused 11 documents 1",
+        ..RINGS
+    },
 ];
 
-// Over a ring of one drive and one of three.
+// Over a ring of one drive and the three drives that are given.
 const OTHER_ROWS: &[Row] = &[
     Row {
         shows: "cycle of a millisecond",
+        texts: &[FIRST, REST, NEXT],
         edits: "cycle = 250 => cycle = 1000 & cycles = 300 => cycles = 900",
         lines: "1 sercos 1
 2 sercos 1
@@ -82,46 +119,16 @@ together 75",
     },
     Row {
         shows: "two cycle times",
+        texts: &[FIRST, REST, NEXT],
         status: Status::Refused,
         lines: "document 2 refused 12 cycle 1000",
         ..RINGS
     },
 ];
 
-// Over eight rings of one drive.
-const MOST_ROW: Row = Row {
-    shows: "most rings, one cycle each",
-    edits: "cycles = 300 => cycles = 1 & cycles = 300 => cycles = 1 & cycles = 300 => cycles = 1 & cycles = 300 => cycles = 1 & cycles = 300 => cycles = 1 & cycles = 300 => cycles = 1 & cycles = 300 => cycles = 1 & cycles = 300 => cycles = 1",
-    lines: "1 sercos 1
-8 sercos 1
-8 ring 4 250 250 5 1
-8 drive 1 1 10 6 20 5 10 20 8 8
-8 order 1
-t 0
-1 m 0 -49 49 ff00
-8 m 0 -49 49 ff00
-8 end 1 phase 0 complete 0 refused 0 broken 0 falls 0 unseen 0
-together 0",
-    only: "t *|together *",
-    ..RINGS
-};
-
-const ALONE: Row = Row {
-    shows: "one document",
-    base: Base::OneDrive,
-    status: Status::Refused,
-    lines: "refused 11 documents 1",
-    ..RINGS
-};
-
 #[test]
 fn several_rings(rt: HostRuntime) -> Result<(), Fail> {
-    let alloc = rt.alloc();
-    let same = format!(in alloc; "{ONE_DRIVE}next\n{ONE_DRIVE}")?;
-    check(&rt, alloc, SAME_ROWS, same.as_str())?;
-    let other = format!(in alloc; "{ONE_DRIVE}next\n{THREE_DRIVES}")?;
-    check(&rt, alloc, OTHER_ROWS, other.as_str())?;
-    let most = format!(in alloc; "{same}next\n{same}next\n{same}next\n{same}")?;
-    check(&rt, alloc, &[MOST_ROW], most.as_str())?;
-    check(&rt, alloc, &[ALONE], "")
+    check(rt.alloc(), ROWS, "")?;
+    let three = THREE_DRIVES.concat(rt.alloc())?;
+    check(rt.alloc(), OTHER_ROWS, three.as_str())
 }

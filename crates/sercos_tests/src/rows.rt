@@ -1,40 +1,16 @@
 // A row: the words and the input of a program, and what it must answer.
 ghost use Rattle.std.specs.Prelude.{◌≤◌};
 
-use crate::texts::{CAPTURE, ONE_DRIVE, THREE_DRIVES, TWO_DRIVES};
 use sercos_app::{Clean, sercos};
 use sercos_io::{MemorySink, MemorySource, Status, Words};
 use sercos_multi::rings;
 use sercos_script::BitLink;
 use std::alloc::{AllocError, Global};
-use std::process::Abort;
 use std::str::from_utf8;
 use std::test::Fail;
 
-// What an input is made from.
-#[derive(Clone, Copy)]
-pub enum Base {
-    // The text that a test makes.
-    Given,
-    // A ring document of one drive.
-    OneDrive,
-    // One of two drives.
-    TwoDrives,
-    // One of three drives.
-    ThreeDrives,
-    // A capture of two drives.
-    Capture,
-}
-
-pub fn text_of(base: Base, given: &str) -> &str {
-    match base {
-        Base::Given => given,
-        Base::OneDrive => ONE_DRIVE,
-        Base::TwoDrives => TWO_DRIVES,
-        Base::ThreeDrives => THREE_DRIVES,
-        Base::Capture => CAPTURE,
-    }
-}
+// The most bytes of an input.
+const MOST: usize = 1_048_576;
 
 // Reads and writes of which none fails, with room for any output of these tests.
 pub const SOUND_READS: (u32, u32) = (4096, 0);
@@ -48,18 +24,43 @@ pub struct Row {
     pub shows: &'static str,
     // The program, and its words.
     pub words: &'static str,
-    // What its input is made from.
-    pub base: Base,
-    // The edits of that text, each `OLD => NEW` for the first OLD, with ` & ` between them.
+    // The texts that its input is made from, one after the other. After them is what the test makes.
+    pub texts: &'static [&'static str],
+    // The edits of that, each `OLD => NEW` for the first OLD, with ` & ` between them.
     pub edits: &'static str,
-    // What is appended to the text.
+    // What is appended, as often as it fits into this number of bytes.
+    pub fill: &'static str,
+    pub room: usize,
+    // What is appended then.
     pub more: &'static str,
     // The status with which it ends.
     pub status: Status,
-    // Lines of its output, in this order. A `?` stands for any byte, and a `*` at the end for any rest.
+    // Lines of its output, in this order, and how often they come. A `?` stands for any byte, and a `*` at the end for any rest.
     pub lines: &'static str,
+    pub times: usize,
     // Forms of lines, with `|` between them. The output has no line of such a form but those above.
     pub only: &'static str,
+}
+
+// The defaults of a row: an empty input, and an output of the named lines alone.
+pub const PLAIN: Row = Row {
+    shows: "",
+    words: "",
+    texts: &[],
+    edits: "",
+    fill: "",
+    room: MOST,
+    more: "",
+    status: Status::Done,
+    lines: "",
+    times: 1,
+    only: "*",
+};
+
+// A row that fails, and why.
+pub fn failed(row: &Row, why: &str) -> Fail {
+    let shows = row.shows;
+    Fail::new(format_args!("{shows}: {why}"))
 }
 
 // The words of a line.
@@ -70,18 +71,6 @@ pub fn words_of(alloc: Global, line: &str) -> Result<Words, AllocError> {
     }
     Ok(words)
 }
-
-// The defaults of a row: an empty input, and an output of the named lines alone.
-pub const PLAIN: Row = Row {
-    shows: "",
-    words: "",
-    base: Base::Given,
-    edits: "",
-    more: "",
-    status: Status::Done,
-    lines: "",
-    only: "*",
-};
 
 // The status of a program, `sercos_rings` or `sercos`.
 fn status_of(
@@ -120,53 +109,49 @@ pub fn answer_by(
     Ok((status, sink))
 }
 
-// What a program answers over a source and a sink that don't fail: its status, and its output.
-fn answer(
-    alloc: Global,
-    words: &str,
-    input: &str,
-    link: impl BitLink,
-) -> Result<(Status, String), Fail> {
-    let (status, sink) = answer_by(
-        alloc,
-        words,
-        input.as_bytes(),
-        SOUND_READS,
-        SOUND_WRITES,
-        link,
-    )?;
-    Ok((
-        status,
-        String::from_str(alloc, from_utf8(sink.as_slice())?)?,
-    ))
-}
-
-// The output of a program that ends with `Done`, with a link handed in.
-pub fn output_over(
-    rt: &impl Abort,
-    alloc: Global,
-    words: &str,
-    input: &str,
-    link: impl BitLink,
-) -> Result<String, Fail> {
-    let (status, output) = answer(alloc, words, input, link)?;
-    assert_eq!(rt; status, Status::Done, "{words}");
-    Ok(output)
-}
-
-pub fn output(rt: &impl Abort, alloc: Global, words: &str, input: &str) -> Result<String, Fail> {
-    output_over(rt, alloc, words, input, Clean)
-}
-
 // A text after edits.
-pub fn edited(rt: &impl Abort, alloc: Global, text: &str, edits: &str) -> Result<String, Fail> {
-    let mut text = String::from_str(alloc, text)?;
+fn edited(alloc: Global, text: String, edits: &str) -> Result<String, Fail> {
+    let mut text = text;
     for edit in edits.split_terminator(" & ") {
-        let (old, new) = edit.split_once(" => ").expect(rt, "an edit");
-        assert!(rt; text.as_str().contains(old), "{edit}");
+        let Some((old, new)) = edit.split_once(" => ") else {
+            return Err(Fail::new("an edit without its arrow"));
+        };
+        if !text.as_str().contains(old) {
+            return Err(Fail::new(format_args!("nothing to edit: {old}")));
+        }
         text = text.as_str().replacen(alloc, old, new, 1)?;
     }
     Ok(text)
+}
+
+// Appends a text as often as it fits into a number of bytes.
+fn fill(alloc: Global, text: &mut String, with: &str, room: usize) -> Result<(), AllocError> {
+    if !with.is_empty() {
+        let count = room.saturating_sub(text.as_str().len()) / with.len();
+        text.push_str(with.repeat(alloc, count)?.as_str())?;
+    }
+    Ok(())
+}
+
+// The input of a row.
+pub fn input_of(alloc: Global, row: &Row, given: &str) -> Result<String, Fail> {
+    let mut text = row.texts.concat(alloc)?;
+    text.push_str(given)?;
+    let mut text = edited(alloc, text, row.edits)?;
+    fill(alloc, &mut text, row.fill, row.room)?;
+    text.push_str(row.more)?;
+    Ok(text)
+}
+
+// The output of a row's program, with what a test makes and a link, over a source and a sink that don't fail.
+pub fn output(alloc: Global, row: &Row, given: &str, link: impl BitLink) -> Result<String, Fail> {
+    let input = input_of(alloc, row, given)?;
+    let input = input.as_str().as_bytes();
+    let (status, sink) = answer_by(alloc, row.words, input, SOUND_READS, SOUND_WRITES, link)?;
+    if status != row.status {
+        return Err(failed(row, status.name()));
+    }
+    Ok(String::from_str(alloc, from_utf8(sink.as_slice())?)?)
 }
 
 // Returns whether a line has a form.
@@ -207,30 +192,24 @@ fn fault_in<'a>(output: &'a str, wanted: &'a str, only: &str) -> Option<&'a str>
     next
 }
 
-// Runs a row, with the text that a test makes and a link.
-pub fn check_over(
-    rt: &impl Abort,
-    alloc: Global,
-    row: &Row,
-    given: &str,
-    link: impl BitLink,
-) -> Result<(), Fail> {
-    let shows = row.shows;
-    let mut input = edited(rt, alloc, text_of(row.base, given), row.edits)?;
-    input.push_str(row.more)?;
-    let (status, output) = answer(alloc, row.words, input.as_str(), link)?;
-    assert_eq!(rt; status, row.status, "{shows}");
+// Runs a row, with what a test makes and a link. Every line of the output must end, and the lines must be the wanted ones.
+pub fn check_over(alloc: Global, row: &Row, given: &str, link: impl BitLink) -> Result<(), Fail> {
+    let output = output(alloc, row, given, link)?;
     let output = output.as_str();
-    assert!(rt; output.is_empty() || output.ends_with("\n"), "{shows}");
-    let fault = fault_in(output, row.lines, row.only);
-    assert!(rt; fault.is_none(), "{shows}: {fault:?}");
-    Ok(())
+    if !output.is_empty() && !output.ends_with("\n") {
+        return Err(failed(row, "no line feed at the end"));
+    }
+    let wanted = row.lines.repeat(alloc, row.times)?;
+    match fault_in(output, wanted.as_str(), row.only) {
+        None => Ok(()),
+        Some(line) => Err(failed(row, line)),
+    }
 }
 
-// Runs the rows of a table, with the text that a test makes.
-pub fn check(rt: &impl Abort, alloc: Global, rows: &[Row], given: &str) -> Result<(), Fail> {
+// Runs the rows of a table, with what a test makes.
+pub fn check(alloc: Global, rows: &[Row], given: &str) -> Result<(), Fail> {
     for row in rows {
-        check_over(rt, alloc, row, given, Clean)?;
+        check_over(alloc, row, given, Clean)?;
     }
     Ok(())
 }

@@ -1,12 +1,65 @@
 // `run` and `gen`: whole runs of a ring.
-use crate::rows::{Base, PLAIN, Row, check, check_over, output, output_over};
-use crate::texts::{LOST_TO_THE_LIMIT, ONE_DRIVE, READ, SHORT};
+use crate::rows::{PLAIN, Row, check, failed, output};
+use crate::texts::{LOST_TO_THE_LIMIT, ONE_DRIVE, READ, SHORT, THREE_DRIVES};
+use sercos_app::Clean;
 use sercos_script::{Damage, Fault, Scripted};
 use sercos_telegram::Kind;
+use std::alloc::Global;
 use std::test::Fail;
 
-// What shows that an MST of phase 1 arrived in cycle 5, though the master sent one of phase 0.
-const FLIPPED: &str = "m 5 -49 49 ff00
+const RUN: Row = Row {
+    words: "sercos run",
+    texts: ONE_DRIVE,
+    ..PLAIN
+};
+
+// Two rows whose scripts are handed in too. Here an MST of phase 1 arrives in cycle 5, though the master sent one of phase 0.
+const FLIPPED_ROW: Row = Row {
+    shows: "six flips that make the MST of phase 1",
+    more: "
+[[fault]]
+kind = 'flip'
+cycle = 5
+telegram = 'mst'
+link = 0
+bit = 17
+
+[[fault]]
+kind = 'flip'
+cycle = 5
+telegram = 'mst'
+link = 0
+bit = 25
+
+[[fault]]
+kind = 'flip'
+cycle = 5
+telegram = 'mst'
+link = 0
+bit = 28
+
+[[fault]]
+kind = 'flip'
+cycle = 5
+telegram = 'mst'
+link = 0
+bit = 32
+
+[[fault]]
+kind = 'flip'
+cycle = 5
+telegram = 'mst'
+link = 0
+bit = 33
+
+[[fault]]
+kind = 'flip'
+cycle = 5
+telegram = 'mst'
+link = 0
+bit = 37
+",
+    lines: "m 5 -49 49 ff00
 p 5 1 1
 p 6 1 0
 m 15 -49 49 ff00
@@ -15,12 +68,23 @@ p 16 1 1
 m 105 -50 50 ff03
 m 106 -49 49 ff04
 p 106 1 4
-end 300 phase 4 complete 0 refused 0 broken 0 falls 0 unseen 2";
+end 300 phase 4 complete 0 refused 0 broken 0 falls 0 unseen 2",
+    only: "p 5 *|p 6 *|p 106 *|stop *|fall *|end *",
+    ..RUN
+};
 
-const RUN: Row = Row {
-    words: "sercos run",
-    base: Base::OneDrive,
-    ..PLAIN
+// Here the AT is lost in one cycle less than ends a step.
+const LOST_ROW: Row = Row {
+    shows: "step that is answered in the last cycle",
+    more: LOST_TO_THE_LIMIT,
+    lines: "p 10 1 1
+p 12 1 2
+m 162 -50 50 ff03
+m 163 -49 49 ff04
+p 163 1 4
+end 300 phase 4 complete 0 refused 0 broken 0 falls 0 unseen 0",
+    only: "p 163 *|stop *|fall *|end *",
+    ..RUN
 };
 
 const START_UP_ROWS: &[Row] = &[
@@ -64,7 +128,7 @@ end 300 phase 4 complete 1 refused 0 broken 0 falls 0 unseen 0",
     },
     Row {
         shows: "three drives that answer late",
-        base: Base::ThreeDrives,
+        texts: THREE_DRIVES,
         lines: "m 9 -49 49 ff00
 m 10 -49 49 ff01
 p 10 1 1
@@ -146,11 +210,6 @@ p 100 1 4",
         ..RUN
     },
 ];
-
-#[test]
-fn start_ups(rt: HostRuntime) -> Result<(), Fail> {
-    check(&rt, rt.alloc(), START_UP_ROWS, "")
-}
 
 const REQUEST_ROWS: &[Row] = &[
     Row {
@@ -276,11 +335,6 @@ end 300 phase 4 complete 0 refused 2 broken 0 falls 0 unseen 0",
     },
 ];
 
-#[test]
-fn requests(rt: HostRuntime) -> Result<(), Fail> {
-    check(&rt, rt.alloc(), REQUEST_ROWS, "")
-}
-
 const DAMAGED_ROWS: &[Row] = &[
     Row {
         shows: "name of sixty letters, with each second AT lost",
@@ -398,75 +452,11 @@ end 300 phase 4 complete 0 refused 0 broken 0 falls 1 unseen 0",
         only: "p *|stop *|fall *|end *",
         ..RUN
     },
-    Row {
-        shows: "six flips that make the MST of phase 1",
-        more: "
-[[fault]]
-kind = 'flip'
-cycle = 5
-telegram = 'mst'
-link = 0
-bit = 17
-
-[[fault]]
-kind = 'flip'
-cycle = 5
-telegram = 'mst'
-link = 0
-bit = 25
-
-[[fault]]
-kind = 'flip'
-cycle = 5
-telegram = 'mst'
-link = 0
-bit = 28
-
-[[fault]]
-kind = 'flip'
-cycle = 5
-telegram = 'mst'
-link = 0
-bit = 32
-
-[[fault]]
-kind = 'flip'
-cycle = 5
-telegram = 'mst'
-link = 0
-bit = 33
-
-[[fault]]
-kind = 'flip'
-cycle = 5
-telegram = 'mst'
-link = 0
-bit = 37
-",
-        lines: FLIPPED,
-        only: "p 5 *|p 6 *|p 106 *|stop *|fall *|end *",
-        ..RUN
-    },
+    FLIPPED_ROW,
 ];
 
-#[test]
-fn damaged_runs(rt: HostRuntime) -> Result<(), Fail> {
-    check(&rt, rt.alloc(), DAMAGED_ROWS, "")
-}
-
 const RECOVERY_ROWS: &[Row] = &[
-    Row {
-        shows: "step that is answered in the last cycle",
-        more: LOST_TO_THE_LIMIT,
-        lines: "p 10 1 1
-p 12 1 2
-m 162 -50 50 ff03
-m 163 -49 49 ff04
-p 163 1 4
-end 300 phase 4 complete 0 refused 0 broken 0 falls 0 unseen 0",
-        only: "p 163 *|stop *|fall *|end *",
-        ..RUN
-    },
+    LOST_ROW,
     Row {
         shows: "step that isn't",
         more: "
@@ -627,11 +617,6 @@ end 300 phase 4 complete 1 refused 0 broken 1 falls 1 unseen 0",
     },
 ];
 
-#[test]
-fn recoveries(rt: HostRuntime) -> Result<(), Fail> {
-    check(&rt, rt.alloc(), RECOVERY_ROWS, "")
-}
-
 const GENERATED_ROWS: &[Row] = &[
     Row {
         shows: "one drive",
@@ -648,43 +633,44 @@ const GENERATED_ROWS: &[Row] = &[
 ];
 
 #[test]
-fn generated(rt: HostRuntime) -> Result<(), Fail> {
-    check(&rt, rt.alloc(), GENERATED_ROWS, "")
+fn runs(rt: HostRuntime) -> Result<(), Fail> {
+    check(rt.alloc(), START_UP_ROWS, "")?;
+    check(rt.alloc(), REQUEST_ROWS, "")?;
+    check(rt.alloc(), DAMAGED_ROWS, "")?;
+    check(rt.alloc(), RECOVERY_ROWS, "")?;
+    check(rt.alloc(), GENERATED_ROWS, "")
 }
 
-// A script handed in as the link does what the same script in the document does.
-#[test]
-fn script_handed_in(rt: HostRuntime) -> Result<(), Fail> {
-    let alloc = rt.alloc();
-    let fault = Fault {
-        cycle: 13,
-        last: 75,
-        every: 1,
-        kind: Kind::At,
-        from: 1,
-        damage: Damage::Lose { link: 1 },
+// Compares the run of a row, over the script of its document, with the run over the same script handed in as the link.
+fn check_handed(alloc: Global, written: &Row, faults: &[Fault]) -> Result<(), Fail> {
+    let script = Scripted::new(Vec::from_slice(alloc, faults)?, 1);
+    let handed = Row {
+        more: "",
+        ..*written
     };
-    let script = Scripted::new(Vec::from_slice(alloc, &[fault])?, 1);
-    let handed = output_over(&rt, alloc, "sercos run", ONE_DRIVE, script)?;
-    let document = format!(in alloc; "{ONE_DRIVE}{LOST_TO_THE_LIMIT}")?;
-    let written = output(&rt, alloc, "sercos run", document.as_str())?;
-    assert_eq!(rt; handed.as_str(), written.as_str());
-    Ok(())
+    let by_link = output(alloc, &handed, "", script)?;
+    let by_document = output(alloc, written, "", Clean)?;
+    if by_link.as_str() == by_document.as_str() {
+        Ok(())
+    } else {
+        Err(failed(written, "another run if the script is handed in"))
+    }
 }
 
-const FLIPPED_ROW: Row = Row {
-    shows: "six flips handed in",
-    lines: FLIPPED,
-    only: "p 5 *|p 6 *|p 106 *|stop *|fall *|end *",
-    ..RUN
+const LOST: Fault = Fault {
+    cycle: 13,
+    last: 75,
+    every: 1,
+    kind: Kind::At,
+    from: 1,
+    damage: Damage::Lose { link: 1 },
 };
 
 #[test]
-fn flips_handed_in(rt: HostRuntime) -> Result<(), Fail> {
-    let alloc = rt.alloc();
-    let mut faults = Vec::new(alloc);
+fn scripts_handed_in(rt: HostRuntime) -> Result<(), Fail> {
+    let mut flips = Vec::new(rt.alloc());
     for bit in [17u32, 25, 28, 32, 33, 37] {
-        faults.push(Fault {
+        flips.push(Fault {
             cycle: 5,
             last: 5,
             every: 1,
@@ -693,11 +679,6 @@ fn flips_handed_in(rt: HostRuntime) -> Result<(), Fail> {
             damage: Damage::Flip { link: 0, bit },
         })?;
     }
-    check_over(
-        &rt,
-        alloc,
-        &FLIPPED_ROW,
-        ONE_DRIVE,
-        Scripted::new(faults, 1),
-    )
+    check_handed(rt.alloc(), &FLIPPED_ROW, flips.as_slice())?;
+    check_handed(rt.alloc(), &LOST_ROW, &[LOST])
 }

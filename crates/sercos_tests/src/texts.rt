@@ -1,8 +1,7 @@
 // The texts that the rows are made from.
 
-// A ring of one drive. Its AT has the feedback value S-0-0051, which grows by 10 in each cycle, and its data record the command
-// value S-0-0047.
-pub const ONE_DRIVE: &str = r#"[ring]
+// The ring, and its first drive up to its T1min.
+pub const FIRST: &str = "[ring]
 rate = 4
 cycle = 250
 gap = 5
@@ -11,57 +10,18 @@ cycles = 300
 [[drive]]
 address = 1
 t1min = 10
-tatmt = 6
-t4min = 20
-tatat = 5
-tmtsy = 10
-tmtsg = 20
-at = ["S-0-0051"]
-mdt = ["S-0-0047"]
+";
 
-[[drive.block]]
-idn = "S-0-0047"
-attribute = 0x00220001
-
-[[drive.block]]
-idn = "S-0-0051"
-attribute = 0x00220001
-data = 64500
-step = 10
-"#;
-
-// A second drive like the first, with a slave of its own and a later AT.
-pub const TWO_DRIVES: &str = r#"[ring]
-rate = 4
-cycle = 250
-gap = 5
-cycles = 300
-
-[[drive]]
-address = 1
-t1min = 10
-tatmt = 6
-t4min = 20
-tatat = 5
-tmtsy = 10
-tmtsg = 20
-at = ["S-0-0051"]
-mdt = ["S-0-0047"]
-
-[[drive.block]]
-idn = "S-0-0047"
-attribute = 0x00220001
-
-[[drive.block]]
-idn = "S-0-0051"
-attribute = 0x00220001
-data = 64500
-step = 10
-
+// Another drive, with a slave of its own and a later AT.
+pub const SECOND: &str = "
 [[drive]]
 address = 2
 t1min = 12
-tatmt = 6
+";
+
+// What follows in each drive. Its AT has the feedback value S-0-0051, which grows by 10 in each cycle, and its data record the command
+// value S-0-0047.
+pub const REST: &str = r#"tatmt = 6
 t4min = 20
 tatat = 5
 tmtsy = 10
@@ -80,75 +40,21 @@ data = 64500
 step = 10
 "#;
 
-// Three drives with two values in each AT and in each data record. A step of the service channel is answered two cycles later
-// than it could be, and a procedure command takes three cycles.
-pub const THREE_DRIVES: &str = r#"[ring]
+// A ring of one drive, and of two.
+pub const ONE_DRIVE: &[&str] = &[FIRST, REST];
+
+pub const TWO_DRIVES: &[&str] = &[FIRST, REST, SECOND, REST];
+
+const RING_OF_THREE: &str = "[ring]
 rate = 4
 cycle = 1000
 gap = 10
 cycles = 900
+";
 
-[[drive]]
-address = 1
-busy = 2
-command = 3
-t1min = 20
-tatmt = 15
-t4min = 100
-tatat = 20
-tmtsy = 20
-tmtsg = 50
-at = ["S-0-0051", "S-0-0040"]
-mdt = ["S-0-0047", "S-0-0036"]
-
-[[drive.block]]
-idn = "S-0-0036"
-attribute = 0x00220001
-
-[[drive.block]]
-idn = "S-0-0040"
-attribute = 0x00220001
-
-[[drive.block]]
-idn = "S-0-0047"
-attribute = 0x00220001
-
-[[drive.block]]
-idn = "S-0-0051"
-attribute = 0x00220001
-
-[[drive]]
-address = 2
-busy = 2
-command = 3
-t1min = 20
-tatmt = 15
-t4min = 100
-tatat = 20
-tmtsy = 20
-tmtsg = 50
-at = ["S-0-0051", "S-0-0040"]
-mdt = ["S-0-0047", "S-0-0036"]
-
-[[drive.block]]
-idn = "S-0-0036"
-attribute = 0x00220001
-
-[[drive.block]]
-idn = "S-0-0040"
-attribute = 0x00220001
-
-[[drive.block]]
-idn = "S-0-0047"
-attribute = 0x00220001
-
-[[drive.block]]
-idn = "S-0-0051"
-attribute = 0x00220001
-
-[[drive]]
-address = 3
-busy = 2
+// What follows the address of each drive of three: two values in each AT and in each data record. A step of the service channel is
+// answered two cycles later than it could be, and a procedure command takes three cycles.
+const ONE_OF_THREE: &str = r#"busy = 2
 command = 3
 t1min = 20
 tatmt = 15
@@ -176,20 +82,22 @@ idn = "S-0-0051"
 attribute = 0x00220001
 "#;
 
-// Requests and faults of a ring of one drive.
+pub const THREE_DRIVES: &[&str] = &[
+    RING_OF_THREE,
+    "\n[[drive]]\naddress = 1\n",
+    ONE_OF_THREE,
+    "\n[[drive]]\naddress = 2\n",
+    ONE_OF_THREE,
+    "\n[[drive]]\naddress = 3\n",
+    ONE_OF_THREE,
+];
+
+// A request and a fault of a ring of one drive.
 pub const READ: &str = r#"
 [[request]]
 drive = 1
 kind = "read"
 idn = "S-0-0051"
-"#;
-
-pub const WRITE: &str = r#"
-[[request]]
-drive = 1
-kind = "write"
-idn = "S-0-0047"
-data = "01000000"
 "#;
 
 // The AT is lost in one cycle less than ends a step.
