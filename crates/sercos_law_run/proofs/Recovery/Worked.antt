@@ -1,9 +1,7 @@
 -- What a worked run reports of the plan, and of the requests that are left; and altered cycles that are rejected, computed from the
 -- definitions.
-use Rattle.std.proofs.Common.{◌≡◌, inl, inr, ℕ, ◌+◌, Bool, true, false, List, [], ◌∷◌, Option, Some, None, Result, Ok, Err, refl, sym, ap, ◌∙◌, arith}
+use Rattle.std.proofs.Common.{◌≡◌, inl, inr, ℕ, List, [], ◌∷◌, Option, Some, None, Result, Ok, Err, refl, sym, ap, ◌∙◌, arith}
 use Rattle.std.specs.Option.{option_or}
-use Rattle.std.specs.Prelude.{is_some}
-use Rattle.std.proofs.lemmas.Bool.{false≢true}
 use Rattle.sercos_telegram.specs.declared.layout.Kind.TheVariants as kinds
 use Rattle.sercos_step.specs.declared.request.Outcome.TheVariants as outcome
 use Rattle.sercos_timing.specs.Views.{PlanView}
@@ -56,21 +54,20 @@ abbrev plan_told : List CycleView → Option PlanView
 plan_told [] = None
 plan_told (t ∷ j) = option_or t.events.plan (plan_told j)
 
-abbrev plan_in : Result PlanView ChainView → Option PlanView
-plan_in (Ok p) = Some p
-plan_in (Err c) = None
-
 abbrev t2_in : Result PlanView ChainView → ℕ
 t2_in (Ok p) = p.t2
 t2_in (Err c) = 0
 
-told_is : plan_told (run 96) ≡ plan_in (planned (wishes_of ring))
+abbrev the_plan : PlanView
+the_plan = record { t1 = 10 ∷ []; t2 = 47; t3 = 98; t4 = 230; position = 1 ∷ []; mdt_len = 8 }
+
+told_is : plan_told (run 96) ≡ Some the_plan
 unfolding carried restarts_at acts Bits.bits_of Bits.low_bits Bits.is_odd Bits.number_of Bits.bytes_of CheckSequence.fcs_of CheckSequence.divided CheckSequence.added CheckSequence.sum_of Arrivals.content_in Arrivals.is_unseen Reason.begins_with_six Reason.is_five Reason.ends_in_five Reason.six_place Reason.unstuffed Reason.given Reason.unclosed Reason.unreadable Reason.reason_of Stuffed.stuffed Stuffed.frame_of Faults.mst_fault Faults.head_fault Spells.word_bytes Spells.word_at Spells.fields Words.control_of Words.status_of Codes.attribute_fault Attributes.attribute_of Blocks.element_of BuiltIns.built_in Rings.attribute_in Valid.is_cycle Stores.inserted Stores.with_own Stores.store_of Checks.number_at Checks.idns_at Checks.carried_len Checks.breaks_1 Checks.breaks_2 Checks.breaks_6 Checks.breaks_7 Checks.breaks_8 Checks.breaks_9 Checks.breaks_10 Checks.breaks_15 Checks.breaks_list Checks.breaks_89 Checks.unfit_for_phase_3 Checks.unfit_for_phase_4 Settings.with_write Settings.with_lists Replies.data_in Replies.element_words Replies.bytes_written Replies.write_cause ChainOf.chain_of LeastTimes.least_plan LeastTimes.least_t2 LeastTimes.least_t3 Heard.mst_in Heard.single_in Heard.joint_in Says.value_in
 told_is = refl
 
-some_told : is_some (plan_told (run 96)) ≡ true
-unfolding carried restarts_at acts Bits.bits_of Bits.low_bits Bits.is_odd Bits.number_of Bits.bytes_of CheckSequence.fcs_of CheckSequence.divided CheckSequence.added CheckSequence.sum_of Arrivals.content_in Arrivals.is_unseen Reason.begins_with_six Reason.is_five Reason.ends_in_five Reason.six_place Reason.unstuffed Reason.given Reason.unclosed Reason.unreadable Reason.reason_of Stuffed.stuffed Stuffed.frame_of Faults.mst_fault Faults.head_fault Spells.word_bytes Spells.word_at Spells.fields Words.control_of Words.status_of Codes.attribute_fault Attributes.attribute_of Blocks.element_of BuiltIns.built_in Rings.attribute_in Valid.is_cycle Stores.inserted Stores.with_own Stores.store_of Checks.number_at Checks.idns_at Checks.carried_len Checks.breaks_1 Checks.breaks_2 Checks.breaks_6 Checks.breaks_7 Checks.breaks_8 Checks.breaks_9 Checks.breaks_10 Checks.breaks_15 Checks.breaks_list Checks.breaks_89 Checks.unfit_for_phase_3 Checks.unfit_for_phase_4 Settings.with_write Settings.with_lists Replies.data_in Replies.element_words Replies.bytes_written Replies.write_cause ChainOf.chain_of LeastTimes.least_plan LeastTimes.least_t2 LeastTimes.least_t3 Heard.mst_in Heard.single_in Heard.joint_in Says.value_in
-some_told = refl
+made_is : planned (wishes_of ring) ≡ Ok the_plan
+unfolding Rings.wishes_of Rings.listed_len Rings.cyclic_len Rings.block_attribute Rings.built_in_attribute Rings.own_attribute Rings.row_in Rings.attribute_in Codes.attribute_fault Attributes.attribute_of LeastTimes.least_plan LeastTimes.least_t2 LeastTimes.least_t3
+made_is = refl
 
 -- a cycle that reports the planner's plan with a later T2, or that there is none, is rejected
 abbrev with_plan : CycleView → PlanView → CycleView
@@ -79,12 +76,11 @@ with_plan t p = record t { events = record t.events { plan = Some p } }
 abbrev none_fits : CycleView → ChainView → CycleView
 none_fits t c = record t { events = record t.events { stop = Some (stop.NoFit c) } }
 
-later_plan_is_rejected : (t : CycleView) (p : PlanView) → planned (wishes_of ring) ≡ Ok p → IsPredicted ring (with_plan t (record p { t2 = p.t2 + 1 })) → ⊥
-later_plan_is_rejected t p made is =
-    let same : p.t2 ≡ p.t2 + 1 = ap t2_in (sym made ∙ is.plan (record p { t2 = p.t2 + 1 }) refl) in omega (arith, same)
+other_plan_is_rejected : (t : CycleView) → IsPredicted ring (with_plan t (record the_plan { t2 = 48 })) → ⊥
+other_plan_is_rejected t is = let same : 47 ≡ 48 = ap t2_in (sym made_is ∙ is.plan (record the_plan { t2 = 48 }) refl) in omega (arith, same)
 
 stop_is_rejected : (t : CycleView) (c : ChainView) → IsPredicted ring (none_fits t c) → ⊥
-stop_is_rejected t c is = false≢true (sym (ap (λ (o : Result PlanView ChainView). is_some (plan_in o)) (is.chain c refl)) ∙ sym (ap (λ (o : Option PlanView). is_some o) told_is) ∙ some_told)
+stop_is_rejected t c is = let same : 47 ≡ 0 = ap t2_in (sym made_is ∙ is.chain c refl) in omega (arith, same)
 
 -- WHAT IS LEFT after cycle 105, in which request 1 is at work; after 106, in which it ends; and after 111, in which request 2 does
 left_at_work : left_after ring (write ∷ read ∷ []) (carried 1 lost) (restarts_at lost) (run 106) 0 ≡ Some 1 ∷ Some 2 ∷ []
