@@ -1,5 +1,5 @@
 // `backup` and `restore`: the data of the drives, saved as requests.
-use crate::rows::{PLAIN, Row, check, check_over};
+use crate::rows::{PLAIN, Row, check, check_over, push_number};
 use crate::texts::{ONE_DRIVE, READ};
 use sercos_app::Clean;
 use sercos_io::Status;
@@ -117,15 +117,14 @@ fn too_many_blocks(rt: HostRuntime) -> Result<(), Fail> {
     let alloc = rt.alloc();
     let list = "2f00".repeat(alloc, 512)?;
     let mut text = String::from_str(alloc, "[ring]\nrate = 4\ncycle = 1000\ncycles = 2500\n")?;
-    for address in 1..10u8 {
-        write!(
-            text,
-            "[[drive]]\naddress = {address}\nt1min = 10\ntatmt = 6\nt4min = 20\ntatat = 5\ntmtsy = 10\ntmtsg = 20\n"
-        )?;
-        write!(
-            text,
-            "[[drive.block]]\nidn = 'S-0-0192'\nattribute = 0x00550001\nmax_len = 1024\ndata = '{list}'\n"
-        )?;
+    for address in 1..10 {
+        text.push_str("[[drive]]\n")?;
+        push_number(&mut text, "address", address)?;
+        text.push_str("t1min = 10\ntatmt = 6\nt4min = 20\ntatat = 5\ntmtsy = 10\ntmtsg = 20\n")?;
+        text.push_str("[[drive.block]]\nidn = 'S-0-0192'\nattribute = 0x00550001\n")?;
+        text.push_str("max_len = 1024\ndata = '")?;
+        text.push_str(list.as_str())?;
+        text.push_str("'\n")?;
     }
     check(alloc, &[TOO_MANY], text.as_str())
 }

@@ -1,5 +1,5 @@
 // The document that is generated for 64 drives, written out as a text.
-use crate::rows::{PLAIN, Row, check, output};
+use crate::rows::{PLAIN, Row, check, output, push_number};
 use sercos_app::Clean;
 use sercos_config::{generate, read_ring};
 use std::alloc::{AllocError, Global};
@@ -38,10 +38,6 @@ kind = 'lose'
 telegram = 'at'
 link = 64
 ";
-
-fn push_number(text: &mut String, key: &str, number: u32) -> Result<(), AllocError> {
-    write!(text, "{key} = {number}\n")
-}
 
 // Drive k, with its request and its fault.
 fn push_drive(text: &mut String, k: u8) -> Result<(), AllocError> {

@@ -1,6 +1,7 @@
 // A row: the words and the input of a program, and what it must answer.
 ghost use Rattle.std.specs.Prelude.{◌≤◌};
 
+use itoa::Buffer;
 use sercos_app::{Clean, sercos};
 use sercos_io::{MemorySink, MemorySource, Status, Words};
 use sercos_multi::rings;
@@ -212,4 +213,13 @@ pub fn check(alloc: Global, rows: &[Row], given: &str) -> Result<(), Fail> {
         check_over(alloc, row, given, Clean)?;
     }
     Ok(())
+}
+
+/// Appends a key of a document with a number, as a line. `write!` would cost the proof half a minute.
+pub fn push_number(text: &mut String, key: &str, number: u32) -> Result<(), AllocError> {
+    let mut digits = Buffer::new();
+    text.push_str(key)?;
+    text.push_str(" = ")?;
+    text.push_str(digits.format(number))?;
+    text.push_str("\n")
 }
