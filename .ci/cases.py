@@ -1,15 +1,20 @@
 #!/usr/bin/env python3
 """Runs programs on each case of a folder: cases.py PROGRAM FOLDER [OTHER..]
 
-A case is a folder with the files `words` (one a line, of any bytes; none: no words), `stdin` (none: empty), `stdout` (none:
-nothing) and `status` (none: 0). On standard error the program names a status other than 0. Where there is a file `call`,
-it is a line for bash that starts the program and its words, "$@", with other streams or limits. Where there is a file
-`program`, it names the one of the other programs that is run, by the name of its file.
+A case has the files `words` (one a line, of any bytes; none: no words), `stdin` (none: empty), `stdout` (none: nothing) and
+`status` (none: 0). On standard error the program names a status other than 0. Where there is a file `call`, it is a line for
+bash that starts the program and its words, "$@", with other streams or limits. Where there is a file `program`, it names the
+one of the other programs that is run, by the name of its file.
 
 Where only some lines of the output are known, `lines` stands in place of `stdout`. It has patterns of lines, with *, ?
 and [..], that are among the output in this order. Of the words r, plan, stop, fall and end, each that begins a pattern
 begins no other line of the output; nor does a word of the file `only`. No line of the output has a pattern of the file
 `none`.
+
+A case with a large input is a folder of these files. The others are in sheets, the files of the folder: a case begins with a
+line `== NAME`, and each of its files with a line `= FILE`, or `= FILE, no last line feed`, after which its lines follow. A file
+of one line may be written `= FILE: LINE`, with spaces between the words of `words` and `only`. The files before the first case
+of a sheet are those of each case that has none of that name. A sheet may have bytes that aren't UTF-8.
 
 The folder `refusals` has sheets of ring documents that are refused, by each command that reads one: a part begins with
 a line `== NAME`, its refusal follows, and then the document. The folder `captures` has sheets of captures for `check` in
@@ -35,14 +40,10 @@ LONGEST = 1048576
 # The names of the programs: the first one, and that of several rings.
 FIRST, RINGS = "sercos", "sercos_rings"
 LINE = re.compile(rb"[^\n]*\n|[^\n]+")
-
-
-def read(path, default):
-    return path.read_bytes() if path.exists() else default
-
-
-def patterns(path):
-    return read(path, b"").decode().splitlines()
+# The files of a case, and the lines of a sheet that begin a case and a file.
+FILES = {"words", "stdin", "stdout", "status", "call", "program", "lines", "only", "none"}
+PART = re.compile(rb"(?m)^== (.*)\n")
+FILE = re.compile(rb"(?m)^= (\w+)(: .*|, no last line feed|)\n")
 
 
 def has_pattern(line, several):
@@ -73,15 +74,45 @@ def other_lines(wanted, only, none):
     return faults
 
 
-def folder_case(case):
-    words = read(case / "words", b"").splitlines()
-    if (case / "lines").exists():
-        test = other_lines(patterns(case / "lines"), patterns(case / "only"), patterns(case / "none"))
+def case_of(name, files):
+    words = files.get("words", b"").splitlines()
+    if "lines" in files:
+        test = other_lines(*(files.get(file, b"").decode().splitlines() for file in ("lines", "only", "none")))
     else:
-        test = other_output(read(case / "stdout", b""))
-    call = read(case / "call", b"").strip()
-    program = read(case / "program", FIRST.encode()).decode().strip()
-    return case.name, program, call, words, read(case / "stdin", b""), test, int(read(case / "status", b"0"))
+        test = other_output(files.get("stdout", b""))
+    call = files.get("call", b"").strip()
+    program = files.get("program", FIRST.encode()).decode().strip()
+    return name, program, call, words, files.get("stdin", b""), test, int(files.get("status", b"0"))
+
+
+def files_of(part):
+    """The files of a case of a sheet, or those before its first case, by their names."""
+    others, *pieces = FILE.split(part)
+    files = {}
+    for name, form, text in zip(pieces[0::3], pieces[1::3], pieces[2::3]):
+        if form.startswith(b": "):
+            others += text
+            text = form[2:].replace(b" ", b"\n" if name in (b"words", b"only") else b" ") + b"\n"
+        files[name.decode()] = text[:-1] if form.startswith(b", ") else text
+    if others or not files.keys() <= FILES:
+        raise ValueError(f"a sheet has lines that are no file of a case: {part[:300]!r}")
+    return files
+
+
+def sheet_files(sheet):
+    """The name and the files of each case of a sheet."""
+    common, *pieces = PART.split(sheet.read_bytes())
+    for name, part in zip(pieces[0::2], pieces[1::2]):
+        yield name.decode(), files_of(common) | files_of(part)
+
+
+def case_files(folder):
+    """The name and the files of each case of a folder that has files."""
+    for path in sorted(folder.iterdir()):
+        if path.is_file():
+            yield from sheet_files(path)
+        elif path.name not in SHEETS:
+            yield path.name, {file.name: file.read_bytes() for file in path.iterdir()}
 
 
 def parts(sheet):
@@ -135,9 +166,8 @@ SHEETS = {"refusals": refusal_cases, "captures": capture_cases, "frames": frame_
 
 
 def cases(folder):
-    for path in sorted(folder.iterdir()):
-        if path.name not in SHEETS:
-            yield folder_case(path)
+    for name, files in case_files(folder):
+        yield case_of(name, files)
     for name, cases_of in SHEETS.items():
         for sheet in sorted((folder / name).iterdir()):
             yield from cases_of(sheet)

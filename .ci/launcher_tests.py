@@ -9,7 +9,8 @@ import sys
 
 from tool_tests import TOP
 
-SHARED = ["sercos", "sercos_rings", "try", "VERSION", "tools/start", "tools/build", "tools/crates.py", "tools/proving.py"]
+SHARED = ["sercos", "sercos_rings", "try", "VERSION", "tools/start", "tools/build", "tools/library",
+          *(f"tools/shared/{name}.py" for name in ("__init__", "building", "crates", "proving")), "library/heap.c", "library/exports.map", "include/sercos.h"]
 NO_RT = "{}: the program is missing or older than a source, and there is no rt to build it\n"
 # All that the launcher may use beside rt.
 COMMANDS = ["bash", "cat", "cp", "dirname", "env", "find", "grep", "readlink", "rm", "sleep"]
@@ -20,6 +21,7 @@ sercos_text: sercos_model
 sercos_app: sercos_bits sercos_text
 sercos: sercos_app
 sercos_rings: sercos_bits
+sercos_c: sercos_bits
 sercos_tests: sercos_bits
 """
 BELOW = {"sercos": ["sercos_model", "sercos_bits", "sercos_text", "sercos_app", "sercos"],
@@ -47,7 +49,7 @@ class Repository:
             shutil.copy(TOP / file, self.top / file)
         (self.top / "crates.txt").write_text(CRATES)
         for line in CRATES.splitlines()[1:]:
-            name = line.partition(":")[0]
+            name = line.partition(":")[0].split()[0]
             for part in ("src", "specs", "proofs"):
                 (self.top / "crates" / name / part).mkdir(parents=True)
             (self.top / "crates" / name / "src/main.rt").write_text(f"//! {name}\n" * 100)

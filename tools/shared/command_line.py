@@ -1,0 +1,83 @@
+"""What the tools of this folder share on the command line: the input, the messages, the program."""
+from __future__ import annotations
+
+import argparse
+import contextlib
+import io
+import os
+import pathlib
+import subprocess
+import sys
+from collections.abc import Callable, Iterator
+from typing import TextIO, TypeVar
+
+from .trace_lines import BadInput
+
+PROGRAM = pathlib.Path(__file__).resolve().parents[2] / "crates" / "sercos" / "out" / "sercos"
+Made = TypeVar("Made")
+
+
+def parser_of(text: str, input_name: str, input_help: str) -> argparse.ArgumentParser:
+    """A parser for a tool that reads one text: from a file, or from standard input if there is none."""
+    parser = argparse.ArgumentParser(description=text, formatter_class=argparse.RawDescriptionHelpFormatter)
+    parser.add_argument("input", metavar=input_name, nargs="?", default="-",
+                        help=f"{input_help}; standard input if absent or -")
+    return parser
+
+
+@contextlib.contextmanager
+def opened(name: str) -> Iterator[TextIO]:
+    """The input as a text. Bytes that aren't UTF-8 are kept as marks that no line takes."""
+    if name == "-":
+        assert isinstance(sys.stdin, io.TextIOWrapper)
+        sys.stdin.reconfigure(encoding="utf-8", errors="backslashreplace", newline="\n")
+        yield sys.stdin
+    else:
+        with open(name, encoding="utf-8", errors="backslashreplace", newline="\n") as stream:
+            yield stream
+
+
+def read_bytes(name: str) -> bytes:
+    return sys.stdin.buffer.read() if name == "-" else pathlib.Path(name).read_bytes()
+
+
+def started(program: str | pathlib.Path, word: str) -> subprocess.Popen[bytes]:
+    try:
+        return subprocess.Popen([program, word], stdin=subprocess.PIPE, stdout=subprocess.PIPE,
+                                stderr=subprocess.DEVNULL)
+    except OSError as fault:
+        raise BadInput(f"the program {program} can't be started ({fault.strerror}); build it with ./sercos, "
+                       "or name it with --program")
+
+
+def answer_of(program: str | pathlib.Path, word: str, source: bytes) -> tuple[int, str]:
+    """The status and the whole output of the program."""
+    with started(program, word) as process:
+        output, _ = process.communicate(source)
+    return process.returncode, output.decode(errors="backslashreplace")
+
+
+def first_lines_of(program: str | pathlib.Path, word: str, source: bytes, reader: Callable[[Iterator[str]], Made]) -> Made:
+    """What the reader makes of the beginning of the program's output. The program then ends, as its output is closed."""
+    with started(program, word) as process:
+        assert process.stdin and process.stdout
+        # The program reads all of its input before it writes.
+        with contextlib.suppress(BrokenPipeError):
+            process.stdin.write(source)
+        with contextlib.suppress(BrokenPipeError):
+            process.stdin.close()
+        output = (line.decode(errors="backslashreplace") for line in process.stdout)
+        return reader(output)
+
+
+def run_tool(name: str, main: Callable[[], None]) -> None:
+    """Runs a tool to its end. Status 0: all was written; 1: the input was refused, or the output was closed."""
+    try:
+        main()
+        sys.stdout.flush()
+    except BrokenPipeError:
+        os.dup2(os.open(os.devnull, os.O_WRONLY), sys.stdout.fileno())
+        sys.exit(1)
+    except (BadInput, OSError) as fault:
+        print(f"{name}: {fault}", file=sys.stderr)
+        sys.exit(1)

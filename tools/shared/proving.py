@@ -1,0 +1,215 @@
+"""Proves the crates of a program or a library side by side, those first that most work waits for, and shows how far it is."""
+from __future__ import annotations
+
+import contextlib
+import ctypes
+import os
+import pathlib
+import re
+import shutil
+import signal
+import subprocess
+import sys
+import time
+from collections.abc import Callable, Iterator
+from typing import TYPE_CHECKING, BinaryIO
+
+from .crates import Crates
+
+if TYPE_CHECKING:
+    from .building import Product
+
+# A check takes 2 GB for a start, and one more for each of its jobs.
+GB = 1 << 30
+MINUTES = "about 17 minutes on four processors, 31 on two"
+LIBC = ctypes.CDLL(None)
+
+
+class Failed(Exception):
+    """A crate that rt did not build, with the end of its log."""
+
+
+def number_in(path: str, pattern: str) -> int | None:
+    """The number that the pattern finds in a file of the system, or None."""
+    with contextlib.suppress(OSError):
+        with open(path, encoding="ascii") as text:
+            found = re.search(pattern, text.read())
+            return int(found[1]) if found else None
+    return None
+
+
+def processors() -> int:
+    """How many processors this process may use: by its mask, and by the quota of its control group."""
+    found = len(os.sched_getaffinity(0))
+    quota, period = number_in("/sys/fs/cgroup/cpu.max", r"^(\d+)"), number_in("/sys/fs/cgroup/cpu.max", r" (\d+)")
+    return min(found, max(quota // period, 1)) if quota and period else found
+
+
+def free_memory() -> int:
+    """The free memory in bytes: of the machine, and of the control group."""
+    found = 1024 * (number_in("/proc/meminfo", r"MemAvailable:\s+(\d+)") or 4 << 20)
+    limit, used = number_in("/sys/fs/cgroup/memory.max", r"^(\d+)"), number_in("/sys/fs/cgroup/memory.current", r"^(\d+)")
+    return min(found, limit - used) if limit and used is not None else found
+
+
+def end_with_parent() -> None:
+    """Has the kernel end a child when this process is killed (PR_SET_PDEATHSIG)."""
+    LIBC.prctl(1, signal.SIGTERM)
+
+
+def link(one: str, other: str) -> None:
+    """Gives a file a second name, or copies it where that can't be."""
+    try:
+        os.link(one, other)
+    except OSError:
+        shutil.copy2(one, other)
+
+
+def link_checked(one: str, other: str) -> None:
+    """The same for kept work, of which rt replaces what was checked, and writes into other files."""
+    if one.endswith(".oantt"):
+        link(one, other)
+    else:
+        shutil.copy2(one, other)
+
+
+class Proving:
+    """The proof and the build of a product, in lanes that have copies of its sources."""
+
+    def __init__(self, crates: Crates, product: Product, top: pathlib.Path, log: BinaryIO) -> None:
+        self.crates, self.product, self.top, self.log = crates, product, top, log
+        self.left, self.number = crates.order(product.name), len(crates.order(product.name))
+        self.weights = {name: crates.weight(name) for name in self.left}
+        # The time that a crate takes with the longest chain of those that wait for it.
+        self.behind: dict[str, int] = {}
+        for name in reversed(self.left):
+            above = [self.behind[other] for other in self.behind if name in crates.libraries(other)]
+            self.behind[name] = self.weights[name] + max(above, default=0)
+        self.processors, self.memory = processors(), free_memory()
+        self.built: set[str] = set()
+        # The child of each crate that is proved, with its lane, its number of jobs and its log.
+        self.running: dict[str, tuple[subprocess.Popen[bytes], int, int, BinaryIO]] = {}
+        self.lanes, self.free = 1, [0]
+        self.began, self.new, self.shown = time.monotonic(), 0, ""
+
+    def __enter__(self) -> Proving:
+        return self
+
+    def __exit__(self, *fault: object) -> None:
+        """Ends what still runs, and keeps what it has proved so far."""
+        if sys.stderr.isatty():
+            print(file=sys.stderr)
+        for child, _, _, _ in self.running.values():
+            child.terminate()
+        for child, _, _, _ in self.running.values():
+            child.wait()
+        # What rt has started is ended after it.
+        time.sleep(0.5 if self.running else 0)
+        for name, (_, lane, _, _) in self.running.items():
+            self.keep(name, lane, "incremental")
+
+    def run(self, make_lane: Callable[[int], None]) -> pathlib.Path:
+        """Builds every crate once its libraries are built, and returns the product. A lane beyond the first is made when it is needed."""
+        print(f"{self.product.name}: proving and building {self.number} crates, {MINUTES}; until then ./try runs each command unproved",
+              file=sys.stderr, flush=True)
+        while self.left or self.running:
+            for name, jobs in self.next_crates():
+                if not self.free:
+                    make_lane(self.lanes)
+                    self.free, self.lanes = [self.lanes], self.lanes + 1
+                self.start(name, jobs, self.free.pop())
+            ended = {name: lane for name, (child, lane, *_) in self.running.items() if child.poll() is not None}
+            for name, lane in ended.items():
+                self.end(name)
+                self.show_line(name)
+            if not ended:
+                self.show_line()
+                time.sleep(0.05)
+        return self.out(self.product.name, lane) / self.product.file.name
+
+    def next_crates(self) -> Iterator[tuple[str, int]]:
+        """The crates to start now, each with its number of jobs: one, or more where fewer crates than processors can start."""
+        ready = [name for name in self.left if self.built.issuperset(self.crates.libraries(name))]
+        for place, name in enumerate(sorted(ready, key=self.behind.__getitem__, reverse=True)):
+            jobs_running = [jobs for _, _, jobs, _ in self.running.values()]
+            spare = self.processors - sum(jobs_running)
+            room = (self.memory - sum((2 + jobs) * GB for jobs in jobs_running)) // GB - 2
+            if spare < 1 or jobs_running and room < 1:
+                return
+            jobs = min(max(spare // (len(ready) - place), 1), 4, max(room, 1))
+            self.left.remove(name)
+            yield name, jobs
+
+    def out(self, name: str, lane: int | None = None) -> pathlib.Path:
+        top = self.top if lane is None else self.crates.top.parent / str(lane)
+        return top / "crates" / name / "out"
+
+    def start(self, name: str, jobs: int, lane: int) -> None:
+        """Starts rt in a lane, over the libraries and the kept work that there are by now."""
+        for library in self.crates.order(name):
+            if self.out(library).joinpath("rlib").is_dir() and not self.out(library, lane).joinpath("rlib").exists():
+                shutil.copytree(self.out(library) / "rlib", self.out(library, lane) / "rlib", copy_function=link)
+        if self.out(name).joinpath("incremental").is_dir():
+            shutil.copytree(self.out(name) / "incremental", self.out(name, lane) / "incremental", copy_function=link_checked)
+        words = ["lib", "--jobs", str(jobs)]
+        source: BinaryIO | int = subprocess.DEVNULL
+        if name == self.product.name and self.product.kind == "program":
+            # The program is run once, as its crate's files say.
+            folder = self.out(name, lane).parent
+            words = ["run", "--jobs", str(jobs), "--", *(folder / "args").read_text().split()]
+            source = open(folder / "stdin", "rb")
+        log = open(self.out(name, lane).parent / "log", "w+b")
+        child = subprocess.Popen(["rt", *words], cwd=self.out(name, lane).parent, stdin=source, stdout=log, stderr=log,
+                                 preexec_fn=end_with_parent)
+        self.running[name] = child, lane, jobs, log
+
+    def end(self, name: str) -> None:
+        """Takes what a lane has built to the crate, or tells of its failure."""
+        child, lane, _, log = self.running[name]
+        with log:
+            log.seek(0)
+            text = log.read()
+        self.log.write(f"== {name}\n".encode() + text)
+        self.log.flush()
+        if child.returncode:
+            end = text.decode(errors="replace").splitlines()[-12:]
+            raise Failed("\n".join([f"{name} failed with status {child.returncode}:", *end]))
+        made = self.out(name, lane) / "rlib" / "stamp"
+        kept = self.out(name) / "rlib" / "stamp"
+        if name == self.product.name:
+            self.keep(name, lane, "incremental", f"{name}.stamp")
+        elif not (made.exists() and kept.exists() and made.samefile(kept)):
+            self.new += self.weights[name]
+            self.keep(name, lane, "incremental", "rlib")
+        else:
+            # It was there, and says nothing of how long the others take.
+            self.weights[name] = 0
+        del self.running[name]
+        self.built.add(name)
+        self.free.append(lane)
+
+    def keep(self, name: str, lane: int, *parts: str) -> None:
+        """Moves parts of a crate's out/ from a lane to the crate."""
+        for part in parts:
+            made, kept = self.out(name, lane) / part, self.out(name) / part
+            if made.is_dir():
+                kept.parent.mkdir(exist_ok=True)
+                shutil.rmtree(kept, ignore_errors=True)
+            if made.exists():
+                os.replace(made, kept)
+
+    def show_line(self, ended: str | None = None) -> None:
+        """Prints how far the build is: at a terminal in one line that is written anew, and else in a line for each crate."""
+        spent = (time.monotonic() - self.began) / 60
+        left = sum(self.weights[name] for name in [*self.left, *self.running])
+        so_far = f"crate {len(self.built)} of {self.number}, {spent:.0f} minutes so far"
+        if self.new and left:
+            so_far += f", about {spent * left / self.new:.0f} left"
+        if sys.stderr.isatty():
+            text = f"{so_far}: {', '.join(self.running)}"
+            if not ended and text != self.shown:
+                width = os.get_terminal_size(sys.stderr.fileno()).columns or 80
+                print(f"\r\x1b[K{text[:width - 1]}", end="", file=sys.stderr, flush=True)
+                self.shown = text
+        elif ended:
+            print(f"{ended}: {so_far}", file=sys.stderr, flush=True)
