@@ -8,7 +8,7 @@ use sercos_bits::Content;
 use sercos_io::{MemorySink, Sink, WriteFailed};
 use sercos_telegram::Kind;
 use sercos_timing::Wishes;
-use sercos_trace::{CycleRecord, Events, push_sent, read_line, write_cycle};
+use sercos_trace::{CycleRecord, put_sent, read_line, write_cycle};
 use std::alloc::{AllocError, Global};
 use std::env;
 use std::process::ExitCode;
@@ -41,19 +41,9 @@ fn content(address: u8, len: u16) -> Content {
 
 // A cycle with 64 ATs of 73 bytes and an MDT of 512.
 fn cycle() -> CycleRecord {
-    let mut made = CycleRecord {
-        cycle: 12345,
-        phase: 4,
-        sent: ArrayVec::new(),
-        moves: ArrayVec::new(),
-        events: Events {
-            outcomes: ArrayVec::new(),
-            plan: None,
-            stop: None,
-            fall: None,
-        },
-        unseen: 0,
-    };
+    let mut made = CycleRecord::new();
+    made.reuse(12345);
+    made.phase = 4;
     push(&mut made, Kind::Mst, -49, 49, &content(255, 1));
     for k in 0..64u8 {
         push(&mut made, Kind::At, 1000, 620, &content(k, 72));
@@ -63,8 +53,9 @@ fn cycle() -> CycleRecord {
 }
 
 fn push(made: &mut CycleRecord, kind: Kind, start: i32, bits: u32, content: &Content) {
-    if made.sent.len() < 66 {
-        push_sent(&mut made.sent, kind, start, bits, content);
+    let mut count = made.sent.len();
+    if count < 66 {
+        put_sent(&mut made.sent, &mut count, kind, start, bits, content);
     }
 }
 

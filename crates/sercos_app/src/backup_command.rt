@@ -9,14 +9,13 @@ ghost use Rattle.sercos_call.specs.Giving.{IsReply};
 ghost use Rattle.sercos_app.specs.Saving.{backup_answer, data_answer, ring_saved};
 ghost use Rattle.sercos_app.specs.Saved.{AreTypedIfFew, ReadsTyped, SavesItsRing};
 
-use crate::run_command::drives_of;
 use crate::tracking::{Run, run_tracked};
 use sercos_answer::Reply;
 use sercos_backup::{
     DataJobs, all_well, data_jobs, failed_reply, list_jobs, lists_told, many_reply, saved_reply,
 };
 use sercos_bits::Bytes;
-use sercos_block::{RingSetup, ring_law};
+use sercos_block::{RingSetup, drives_of, ring_law};
 use sercos_call::{give_if_made, refuse};
 use sercos_config::{Document, read_ring};
 use sercos_io::{Sink, Status};

@@ -8,8 +8,7 @@ ghost use Rattle.sercos_opened.specs.Kept.{carry_under, restarts_under};
 ghost use Rattle.sercos_app.specs.Generating.{RunsGenerated, counts_text, first_text, gen_answer, gen_line, head_text, run_summed};
 
 use crate::counting::count_cycles;
-use crate::run_command::{cycles_of, drives_of};
-use sercos_block::RingSetup;
+use sercos_block::{RingSetup, cycles_of, drives_of};
 use sercos_call::fault_status;
 use sercos_config::{Document, generate};
 use sercos_io::{Sink, Status, write_all};

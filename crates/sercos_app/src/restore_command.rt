@@ -19,12 +19,11 @@ ghost use Rattle.sercos_call.specs.Giving.{IsReply};
 ghost use Rattle.sercos_app.specs.Saving.{blocks_at, data_of, last_data, place_of, restore_answer, ring_restored, writes_answer};
 ghost use Rattle.sercos_app.specs.Saved.{RestoresItsRing};
 
-use crate::run_command::{cycles_of, drives_of};
 use crate::tracking::{Run, run_tracked};
 use sercos_answer::Reply;
 use sercos_backup::{Tracked, all_well, other_reply, place_of_other, push_restored};
 use sercos_bits::Bytes;
-use sercos_block::{RingSetup, Store};
+use sercos_block::{RingSetup, Store, cycles_of, drives_of};
 use sercos_call::{give_if_made, refuse};
 use sercos_config::{Document, read_ring};
 use sercos_idn::{Idn, element};

@@ -11,7 +11,7 @@ ghost use Rattle.sercos_opened.specs.Kept.{carry_under, restarts_under};
 ghost use Rattle.sercos_app.specs.Running.{RunsItsRing, run_answer, run_traced};
 
 use crate::running::write_run;
-use sercos_block::{RingSetup, ring_law};
+use sercos_block::{RingSetup, cycles_of, drives_of};
 use sercos_call::{fault_status, refuse};
 use sercos_config::{Document, read_ring};
 use sercos_io::{Sink, Status};
@@ -22,26 +22,6 @@ use sercos_script::{BitLink, Both, Scripted};
 use sercos_step::Job;
 use sercos_timing::Wishes;
 use std::alloc::Global;
-
-/// Returns how many cycles a ring runs: 1 to 50,000.
-#[tactic(auto, unfolding(sercos_block::specs::Rings::is_ring, sercos_block::specs::Rings::are_ring_numbers))]
-pub fn cycles_of(setup: &RingSetup) -> u32
-    requires { is_ring setup.now ≡ true }
-    ensures value { result ≡ setup.now.cycles }
-    ensures some { 1 ≤ result }
-    ensures few { result ≤ 50000 }
-{
-    setup.cycles
-}
-
-/// Returns how many drives a ring has: at most 64.
-pub fn drives_of(setup: &RingSetup) -> u8
-    requires { is_ring setup.now ≡ true }
-    ensures { result ≡ length setup.now.drives }
-{
-    ring_law();
-    setup.drives.len() as u8
-}
 
 // Writes the trace of a ring's run.
 fn give_run<L: BitLink, K: Sink>(

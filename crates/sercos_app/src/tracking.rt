@@ -14,9 +14,8 @@ ghost use Rattle.sercos_app.specs.Journals.{HasMade, IsRingOf, OfRun};
 ghost use Rattle.sercos_law_trace.specs.Told.Told.{told_in};
 ghost use Rattle.sercos_app.specs.Saving.{run_tracked};
 
-use crate::run_command::cycles_of;
 use sercos_backup::{Tracked, note, track};
-use sercos_block::RingSetup;
+use sercos_block::{RingSetup, cycles_of};
 use sercos_law_run::run_law;
 use sercos_ring::{Ring, standing_law};
 use sercos_script::BitLink;

@@ -23,7 +23,7 @@ pub use built_in::is_built_in;
 pub use carried::{attribute_in, cyclic_len, mdt_len, number_len};
 pub use check::{BadBlock, Field, check_blocks, has_block, is_text};
 pub use law::{ring_law, store_law};
-pub use ring::{has_address, has_other_data};
+pub use ring::{cycles_of, drives_of, has_address, has_other_data};
 pub use setup::{DriveSetup, RingSetup};
 pub use store::Store;
 pub use value::{bits_in, bytes_for, is_number, number_end};

@@ -1,10 +1,11 @@
 // The rules that a ring keeps.
-ghost use Rattle.std.specs.Prelude.{◌≡◌, ◌==◌, []};
+ghost use Rattle.std.specs.Prelude.{◌≡◌, ◌==◌, ◌≤◌, [], length, true};
 ghost use Rattle.std.specs.List.{list_any};
 ghost use Rattle.sercos_block.specs.Rings.{has_ring_numbers, are_times, has_drive_numbers, has_blocks, has_address, is_no_command, has_other_data, is_drive, are_drives, is_turn, are_turns, is_order, has_drives, is_ring};
 
 use crate::carried::{are_cyclic, block_attribute, mdt_len};
 use crate::check::check_blocks;
+use crate::law::ring_law;
 use crate::limits::{MOST_BLOCKS, MOST_BUSY, MOST_COMMAND, MOST_CYCLES};
 use crate::setup::{DriveSetup, RingSetup};
 use sercos_idn::{Attribute, Idn};
@@ -178,4 +179,24 @@ impl RingSetup {
             && self.has_drives()
             && is_order(self.drives.len(), self.order.as_slice())
     }
+}
+
+/// Returns how many cycles a ring runs: 1 to 50,000.
+#[tactic(auto, unfolding(crate::specs::Rings::is_ring, crate::specs::Rings::are_ring_numbers))]
+pub fn cycles_of(setup: &RingSetup) -> u32
+    requires { is_ring setup.now ≡ true }
+    ensures value { result ≡ setup.now.cycles }
+    ensures some { 1 ≤ result }
+    ensures few { result ≤ 50000 }
+{
+    setup.cycles
+}
+
+/// Returns how many drives a ring has: at most 64.
+pub fn drives_of(setup: &RingSetup) -> u8
+    requires { is_ring setup.now ≡ true }
+    ensures { result ≡ length setup.now.drives }
+{
+    ring_law();
+    setup.drives.len() as u8
 }

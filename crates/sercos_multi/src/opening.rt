@@ -12,7 +12,7 @@ ghost use Rattle.sercos_multi.specs.Parts.{IsAt};
 
 use crate::divided::cut_part;
 use crate::part::Part;
-use sercos_block::{RingSetup, ring_law};
+use sercos_block::{RingSetup, cycles_of, drives_of};
 use sercos_config::{BadDocument, Document, read_ring};
 use sercos_law_run::{run_law, totals_law};
 use sercos_law_trace::clean_law;
@@ -31,32 +31,12 @@ pub enum Unopened {
     Refused(u8, BadDocument),
 }
 
-// Returns how many cycles a ring runs: 1 to 50,000.
-#[tactic(auto, unfolding(sercos_block::specs::Rings::is_ring, sercos_block::specs::Rings::are_ring_numbers))]
-fn cycles_of(setup: &RingSetup) -> u32
-    requires { is_ring setup.now ≡ true }
-    ensures value { result ≡ setup.now.cycles }
-    ensures some { 1 ≤ result }
-    ensures few { result ≤ 50000 }
-{
-    setup.cycles
-}
-
 // A ring has a cycle: the function hands this on to the proof, and does nothing.
 fn show_cycles(setup: &RingSetup)
     requires { is_ring setup.now ≡ true }
     ensures { 1 ≤ setup.now.cycles }
 {
     let _cycles = cycles_of(setup);
-}
-
-// Returns how many drives a ring has: at most 64.
-fn drives_of(setup: &RingSetup) -> u8
-    requires { is_ring setup.now ≡ true }
-    ensures { result ≡ length setup.now.drives }
-{
-    ring_law();
-    setup.drives.len() as u8
 }
 
 // The number of a ring and a space.

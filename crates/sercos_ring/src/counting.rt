@@ -75,8 +75,9 @@ pub fn no_totals() -> Totals
     }
 }
 
-// Counts a cycle.
-fn count_cycle(totals: &mut Totals, made: &CycleRecord)
+/// Counts a cycle with at most 195 undetected arrivals, if there is room for it in the counts. [`count_made`] does the same for one that
+/// a ring has made.
+pub fn count_cycle(totals: &mut Totals, made: &CycleRecord)
     requires room { HasRoom totals.old }
     requires unseen { made.now.unseen ≤ 195 }
     ensures counted { totals.new ≡ with_cycle totals.old made.now }

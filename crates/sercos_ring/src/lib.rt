@@ -11,6 +11,6 @@ mod sending;
 mod stations;
 mod turns;
 
-pub use counting::{count_made, no_totals};
+pub use counting::{count_cycle, count_made, no_totals};
 pub use law::standing_law;
 pub use ring::Ring;

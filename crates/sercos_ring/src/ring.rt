@@ -227,22 +227,7 @@ impl<L: BitLink> Ring<L> {
     {
         let drives = open_drives(alloc, setup)?;
         let master = AnyMaster::open(alloc, setup, jobs)?;
-        let made = Box::new(
-            alloc,
-            CycleRecord {
-                cycle: 0,
-                phase: 0,
-                sent: ArrayVec::new(),
-                moves: ArrayVec::new(),
-                events: Events {
-                    outcomes: ArrayVec::new(),
-                    plan: None,
-                    stop: None,
-                    fall: None,
-                },
-                unseen: 0,
-            },
-        )?;
+        let made = Box::new(alloc, CycleRecord::new())?;
         let desk = Box::new(alloc, Desk::new())?;
         Ok(Ring {
             link,
@@ -325,6 +310,13 @@ impl<L: BitLink> Ring<L> {
         undisturbed_law();
         recovery_law();
         self.go();
+        &self.made
+    }
+
+    /// Returns the record of the newest cycle, which [`cycle`](Ring::cycle) lent. Before the first it is an empty one.
+    pub fn newest(&self) -> &CycleRecord
+        ensures { result.now ≡ newest self.now }
+    {
         &self.made
     }
 

@@ -127,6 +127,25 @@ pub fn put_sent(
 }
 
 impl CycleRecord {
+    /// Returns the record of cycle 0 in which nothing has happened yet.
+    pub fn new() -> CycleRecord
+        ensures { result ≡ record { cycle = 0; phase = 0; sent = []; moves = []; events = record { outcomes = []; plan = None; stop = None; fall = None }; unseen = 0 } }
+    {
+        CycleRecord {
+            cycle: 0,
+            phase: 0,
+            sent: ArrayVec::new(),
+            moves: ArrayVec::new(),
+            events: Events {
+                outcomes: ArrayVec::new(),
+                plan: None,
+                stop: None,
+                fall: None,
+            },
+            unseen: 0,
+        }
+    }
+
     /// Makes it the record of a cycle in which nothing has happened yet, but for the telegrams, which stay as they are, to be
     /// replaced by [`put_sent`].
     pub fn reuse(&mut self, cycle: u32)

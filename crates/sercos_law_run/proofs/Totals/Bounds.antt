@@ -102,11 +102,11 @@ told_each r p (Some plan) planned is =
     both : (w : WishesView) (plan : PlanView) → length w.drives ≡ length r.drives → Counts w plan → (length plan.t1 ≡ length r.drives) × (length plan.position ≡ length r.drives)
     both w plan drives counts = (counts.0 ∙ drives, counts.1 ∙ drives)
 
-due_each : (r : RingView) (p : Past) (b : Bool) → IsPlanned (known_of r) p → HasEach r (if b then p.plan else None)
+pub due_each : (r : RingView) (p : Past) (b : Bool) → IsPlanned (known_of r) p → HasEach r (if b then p.plan else None)
 due_each r p true planned = told_each r p p.plan planned refl
 due_each r p false planned = tt
 
-or_each : (r : RingView) (plan other : Option PlanView) → HasEach r plan → other ≡ None → HasEach r (option_or plan other)
+pub or_each : (r : RingView) (plan other : Option PlanView) → HasEach r plan → other ≡ None → HasEach r (option_or plan other)
 or_each r None other each none = subst (HasEach r) (sym none) tt
 or_each r (Some plan) other each none = each
 
@@ -127,15 +127,15 @@ plan_each r jobs carry restarts t j law next =
     let each : HasEach r (option_or (plan_told p) e.plan) = or_each r (plan_told p) e.plan (due_each r p p.now.plans (law (known_of r) (tasks_for (known_of r) jobs) calls)) (restart_plan r jobs restarts (length j) (master_calls r carry restarts j)) in
     subst (HasEach r) (sym (ap (λ v. v.plan) next.events)) each
 
-starts_of : (n : ℕ) (r : RingView) (plan : Option PlanView) → n ≡ length r.drives → HasEach r plan → IfSome plan (λ p. length p.t1 ≡ n)
+pub starts_of : (n : ℕ) (r : RingView) (plan : Option PlanView) → n ≡ length r.drives → HasEach r plan → IfSome plan (λ p. length p.t1 ≡ n)
 starts_of n r None is each = tt
 starts_of n r (Some p) is each = each.0 ∙ sym is
 
-positions_of : (n : ℕ) (r : RingView) (plan : Option PlanView) → n ≡ length r.drives → HasEach r plan → IfSome plan (λ p. length p.position ≡ n)
+pub positions_of : (n : ℕ) (r : RingView) (plan : Option PlanView) → n ≡ length r.drives → HasEach r plan → IfSome plan (λ p. length p.position ≡ n)
 positions_of n r None is each = tt
 positions_of n r (Some p) is each = each.1 ∙ sym is
 
-wished : (w : WishesView) (r : RingView) → w ≡ wishes_of r → length w.drives ≡ length r.drives
+pub wished : (w : WishesView) (r : RingView) → w ≡ wishes_of r → length w.drives ≡ length r.drives
 unfolding wishes_of
 wished w r is = ap (λ v. length v.drives) is ∙ length-map r.drives wish_of
 
