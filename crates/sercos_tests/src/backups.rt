@@ -1,11 +1,9 @@
 // `backup` and `restore`: the data of the drives, saved as requests.
-use crate::rows::{PLAIN, Row, check, check_over, push_number};
 use crate::texts::{ONE_DRIVE, READ};
-use sercos_app::Clean;
 use sercos_io::Status;
-use sercos_script::{Damage, Fault, Scripted};
+use sercos_rows::{PLAIN, Row, check, check_over, push_number};
+use sercos_script::{Damage, Fault};
 use sercos_telegram::Kind;
-use std::alloc::{AllocError, Global};
 use std::test::Fail;
 
 const OF_ONE_DRIVE: Row = Row {
@@ -89,25 +87,22 @@ const TOO_MANY: Row = Row {
     ..PLAIN
 };
 
-// A link that loses every AT.
-fn losing(alloc: Global) -> Result<Scripted, AllocError> {
-    let fault = Fault {
-        cycle: 0,
-        last: 49999,
-        every: 1,
-        kind: Kind::At,
-        from: 1,
-        damage: Damage::Lose { link: 1 },
-    };
-    Ok(Scripted::new(Vec::from_slice(alloc, &[fault])?, 1))
-}
+// Every AT is lost.
+const LOSING: Fault = Fault {
+    cycle: 0,
+    last: 49999,
+    every: 1,
+    kind: Kind::At,
+    from: 1,
+    damage: Damage::Lose { link: 1 },
+};
 
 // Both commands leave the link that is handed in alone.
 #[test]
 fn backups(rt: HostRuntime) -> Result<(), Fail> {
     for row in BACKUP_ROWS {
-        check_over(rt.alloc(), row, "", Clean)?;
-        check_over(rt.alloc(), row, "", losing(rt.alloc())?)?;
+        check_over(rt.alloc(), row, "", None)?;
+        check_over(rt.alloc(), row, "", Some(&[LOSING]))?;
     }
     Ok(())
 }

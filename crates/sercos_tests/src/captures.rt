@@ -1,8 +1,7 @@
 // `check` and `replay`: captures, and the trace of a run read again.
-use crate::rows::{PLAIN, Row, check, output};
 use crate::texts::{CAPTURE, FIRST, READ, REST};
-use sercos_app::Clean;
 use sercos_io::Status;
+use sercos_rows::{PLAIN, Row, check, output};
 use std::test::Fail;
 
 const CHECK: Row = Row {
@@ -130,6 +129,6 @@ found 2600 0118000000",
 fn captures(rt: HostRuntime) -> Result<(), Fail> {
     let alloc = rt.alloc();
     check(alloc, CAPTURE_ROWS, "")?;
-    let trace = output(alloc, &TRACED, "", Clean)?;
+    let trace = output(alloc, &TRACED, "", None)?;
     check(alloc, TRACE_ROWS, trace.as_str())
 }

@@ -1,8 +1,9 @@
 // What a program answers if its source or its sink fails, and if memory does.
-use crate::rows::{PLAIN, Row, SOUND_READS, SOUND_WRITES, answer_by, failed, input_of, words_of};
 use crate::texts::{CAPTURE, FIRST, ONE_DRIVE, READ, REST, TWO_DRIVES};
-use sercos_app::{Clean, answer_in_memory};
-use sercos_io::{MemorySink, PlainSource, Status};
+use sercos_io::Status;
+use sercos_rows::{
+    PLAIN, Row, SOUND_READS, SOUND_WRITES, answer_by, answer_in_memory, failed, input_of,
+};
 use std::alloc::Global;
 use std::test::Fail;
 
@@ -221,7 +222,7 @@ fn check_call(
         input,
         (piece, read),
         (piece, write, faulty.room),
-        Clean,
+        None,
     )?;
     let held = sink.as_slice();
     let is_held = held.len() <= most_held(faulty, call) && whole.starts_with(held);
@@ -239,7 +240,7 @@ fn check_calls(alloc: Global, faulty: &Faulty) -> Result<(), Fail> {
     let input = input_of(alloc, &faulty.row, "")?;
     let input = input.as_str().as_bytes();
     let words = faulty.row.words;
-    let (_sound, whole) = answer_by(alloc, words, input, SOUND_READS, SOUND_WRITES, Clean)?;
+    let (_sound, whole) = answer_by(alloc, words, input, SOUND_READS, SOUND_WRITES, None)?;
     for call in faulty.first..faulty.last.saturating_add(1) {
         check_call(alloc, faulty, input, whole.as_slice(), call)?;
     }
@@ -257,11 +258,7 @@ fn faults(rt: HostRuntime) -> Result<(), Fail> {
 // Over a source that never fails and a sink with room, with ample memory, the answer is written whole.
 #[test]
 fn answered_in_memory(rt: HostRuntime) -> Result<(), Fail> {
-    let words = words_of(rt.alloc(), "show")?;
-    let mut source = PlainSource::new(Vec::from_slice(rt.alloc(), LINE.as_bytes())?);
-    let room = Vec::with_capacity(rt.alloc(), 128)?;
-    let mut sink = MemorySink::new(room, 128, Vec::new(rt.alloc()));
-    let status = answer_in_memory(rt.alloc(), &words, &mut source, &mut sink, Clean);
+    let (status, sink) = answer_in_memory(rt.alloc(), "show", LINE.as_bytes(), 128)?;
     if status == Status::Done && sink.as_slice() == b"ok ff00\n".as_slice() {
         Ok(())
     } else {
@@ -274,14 +271,7 @@ fn answered_in_memory(rt: HostRuntime) -> Result<(), Fail> {
 #[test]
 fn memory(rt: HostRuntime) -> Result<(), Fail> {
     let input = LINE.as_bytes();
-    let answered = answer_by(
-        rt.alloc(),
-        "sercos show",
-        input,
-        (7, 0),
-        (5, 0, 4096),
-        Clean,
-    );
+    let answered = answer_by(rt.alloc(), "sercos show", input, (7, 0), (5, 0, 4096), None);
     if let Ok((status, sink)) = answered {
         let is_done = status == Status::Done;
         let is_memory = status == Status::Memory;

@@ -1,6 +1,6 @@
 // `show`: the frames and telegrams of single lines.
-use crate::rows::{PLAIN, Row, check};
 use sercos_io::Status;
+use sercos_rows::{PLAIN, Row, check};
 use std::test::Fail;
 
 const SHOW: Row = Row {

@@ -21,8 +21,6 @@ mod refusals;
 #[cfg(test)]
 mod rings;
 #[cfg(test)]
-mod rows;
-#[cfg(test)]
 mod runs;
 #[cfg(test)]
 mod texts;

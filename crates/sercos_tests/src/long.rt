@@ -1,7 +1,7 @@
 // Inputs of the most bytes that a command reads, and of one more.
-use crate::rows::{PLAIN, Row, check};
 use crate::texts::{CAPTURE, FIRST, ONE_DRIVE, REST, SECOND, SHORT};
 use sercos_io::Status;
+use sercos_rows::{PLAIN, Row, check};
 use std::test::Fail;
 
 // A ring document of one drive, with blanks after it.

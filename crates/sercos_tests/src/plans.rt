@@ -1,7 +1,7 @@
 // Plans: `plan` and `margin`.
-use crate::rows::{PLAIN, Row, check};
 use crate::texts::{ONE_DRIVE, THREE_DRIVES, TWO_DRIVES};
 use sercos_io::Status;
+use sercos_rows::{PLAIN, Row, check};
 use std::test::Fail;
 
 const PLAN: Row = Row {

@@ -1,7 +1,7 @@
 // Documents, words and texts that are refused.
-use crate::rows::{PLAIN, Row, check};
 use crate::texts::{ONE_DRIVE, TWO_DRIVES};
 use sercos_io::Status;
+use sercos_rows::{PLAIN, Row, check};
 use std::test::Fail;
 
 const REFUSED: Row = Row {

@@ -1,7 +1,7 @@
 // `sercos_rings`: several rings on one cycle clock.
-use crate::rows::{PLAIN, Row, check};
 use crate::texts::{FIRST, ONE_DRIVE, REST, THREE_DRIVES};
 use sercos_io::Status;
+use sercos_rows::{PLAIN, Row, check};
 use std::test::Fail;
 
 const RINGS: Row = Row {

@@ -1,8 +1,7 @@
 // `run` and `gen`: whole runs of a ring.
-use crate::rows::{PLAIN, Row, check, failed, output};
 use crate::texts::{LOST_TO_THE_LIMIT, ONE_DRIVE, READ, SHORT, THREE_DRIVES};
-use sercos_app::Clean;
-use sercos_script::{Damage, Fault, Scripted};
+use sercos_rows::{PLAIN, Row, check, failed, output};
+use sercos_script::{Damage, Fault};
 use sercos_telegram::Kind;
 use std::alloc::Global;
 use std::test::Fail;
@@ -643,13 +642,12 @@ fn runs(rt: HostRuntime) -> Result<(), Fail> {
 
 // Compares the run of a row, over the script of its document, with the run over the same script handed in as the link.
 fn check_handed(alloc: Global, written: &Row, faults: &[Fault]) -> Result<(), Fail> {
-    let script = Scripted::new(Vec::from_slice(alloc, faults)?, 1);
     let handed = Row {
         more: "",
         ..*written
     };
-    let by_link = output(alloc, &handed, "", script)?;
-    let by_document = output(alloc, written, "", Clean)?;
+    let by_link = output(alloc, &handed, "", Some(faults))?;
+    let by_document = output(alloc, written, "", None)?;
     if by_link.as_str() == by_document.as_str() {
         Ok(())
     } else {

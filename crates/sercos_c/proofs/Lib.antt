@@ -1,0 +1,9 @@
+pub mod AnswerLemmas
+pub mod FrameLemmas
+pub mod HeldValues
+pub mod IdnLemmas
+pub mod MasterLemmas
+pub mod RingLemmas
+pub mod SlotLemmas
+pub mod StationPointers
+pub mod WordLemmas

@@ -1,0 +1,15 @@
+use Rattle.std.proofs.Common.{List, refl, subst}
+use Rattle.sercos_block.specs.declared.block.Block.{Block}
+use Rattle.sercos_block.specs.Stores.{find_block}
+use Rattle.sercos_c.specs.Drives.{IsElement, an_element, no_element}
+use Rattle.sercos_c.proofs.drive.element_of.Goals as goal
+
+pub returns-in-Ok-clause-read : goal.returns-in-Ok-clause-read
+returns-in-Ok-clause-read c = λ d rate h stands.
+    subst (λ (blocks : List Block). IsElement (find_block c.args.idn blocks) c.args.element c.args.out.now c.put.new.out c.put.new.written 0 c.put.result) (c.store.ensures d rate h stands)
+    (an_element c.in-Ok.ensures.ok c.in-Ok.ensures.fault c.put.ensures refl)
+
+pub returns-in-Err-clause-read : goal.returns-in-Err-clause-read
+returns-in-Err-clause-read c = λ d rate h stands.
+    subst (λ (blocks : List Block). IsElement (find_block c.args.idn blocks) c.args.element c.args.out.now c.args.out.now 0 c.in-Err.why.raw 1) (c.store.ensures d rate h stands)
+    (no_element c.in-Err.ensures.fault (record { status = refl; written = refl; out = refl }) refl)

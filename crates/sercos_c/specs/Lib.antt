@@ -1,0 +1,16 @@
+pub mod Answers
+pub mod Deframers
+pub mod Documents
+pub mod Drives
+pub mod Frames
+pub mod Holding
+pub mod Idns
+pub mod Masters
+pub mod Records
+pub mod Rings
+pub mod Room
+pub mod Slots
+pub mod Stations
+pub mod Statuses
+pub mod Telegrams
+pub mod Texts

@@ -1,0 +1,56 @@
+//! Why bits are not a frame, as it is handed over.
+ghost use Rattle.std.specs.Prelude.{◌≡◌};
+ghost use Rattle.sercos_c.specs.Frames.{bad_frame_of, no_bad_frame};
+
+use sercos_hdlc::BadFrame;
+
+/// Why bits are not a frame: the number of the rule, 1 to 8, and what it names; all 0 if they are one.
+#[repr(C)]
+#[derive(Clone, Copy)]
+pub struct SercosBadFrame {
+    /// 1: no opening flag; 2: no closing flag; 3: six ones where no flag may be; 4: no whole bytes; 5: too few bytes; 6: too
+    /// many; 7: another check sequence; 8: bits after the closing flag.
+    pub kind: u8,
+    /// The place, number or check sequence that was found.
+    pub found: u32,
+    /// The check sequence that was wanted.
+    pub wanted: u32,
+}
+
+// The struct of a rule that names one number.
+fn of_number(kind: u8, found: u32) -> SercosBadFrame
+    ensures { result ≡ record { kind = kind; found = found; wanted = 0 } }
+{
+    SercosBadFrame {
+        kind,
+        found,
+        wanted: 0,
+    }
+}
+
+/// Returns the struct of bits that are a frame.
+pub(crate) fn no_bad_frame() -> SercosBadFrame
+    ensures { result ≡ no_bad_frame }
+{
+    of_number(0, 0)
+}
+
+/// Returns the struct of a reason.
+pub(crate) fn bad_frame_of(reason: BadFrame) -> SercosBadFrame
+    ensures { result ≡ bad_frame_of reason }
+{
+    match reason {
+        BadFrame::NoOpen => of_number(1, 0),
+        BadFrame::NoClose(bits) => of_number(2, bits),
+        BadFrame::Abort(place) => of_number(3, place),
+        BadFrame::Ragged(bits) => of_number(4, bits),
+        BadFrame::Short(bytes) => of_number(5, bytes),
+        BadFrame::Long(bytes) => of_number(6, bytes),
+        BadFrame::Check(found, wanted) => SercosBadFrame {
+            kind: 7,
+            found: u32::from(found),
+            wanted: u32::from(wanted),
+        },
+        BadFrame::After(place) => of_number(8, place),
+    }
+}

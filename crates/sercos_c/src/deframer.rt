@@ -1,0 +1,158 @@
+//! A frame whose bits arrive in pieces.
+ghost use Rattle.std.specs.Prelude.{◌≡◌, ◌≢◌, ◌⊎◌, ◌==◌, ◌<◌, ◌≤◌, not, Bool, true, List, [], ◌++◌, length, take, Some, None};
+ghost use Rattle.sercos_model.specs.Bits.{bits_of};
+ghost use Rattle.sercos_hdlc.specs.Fed.{taken_of, IsFed};
+ghost use Rattle.sercos_c.specs.Statuses.{done, write_fault, no_memory, closed};
+ghost use Rattle.sercos_c.specs.Room.{IsNothing};
+ghost use Rattle.sercos_c.specs.Frames.{no_bad_frame, IsUnframed};
+ghost use Rattle.sercos_c.specs.Deframers.{is_deframer, feed_status, HoldsFed};
+
+use crate::bad_frame::{SercosBadFrame, no_bad_frame};
+use crate::frames::{MOST_BITS, feed_bits, read_frame};
+use crate::handle::{Handle, close, open, put_back, take_out};
+use crate::station::Station;
+use crate::status::{CLOSED, DONE, REFUSED, TOO_LONG, WRITE_FAULT};
+use sercos_bits::MAX_CONTENT;
+use sercos_hdlc::Deframer;
+use std::alloc::Global;
+
+// Takes the first bits of bytes, `count` of them, if there are as many, and a deframer can take them.
+fn feed(deframer: &mut Deframer, bits: &[u8], count: usize) -> u8
+    ensures status { result ≡ feed_status (taken_of deframer.old) (length bits.now) count }
+    ensures fed { result ≡ done → (before : List Bool) → IsFed before deframer.old → IsFed (before ++ take count (bits_of bits.now)) deframer.new }
+    ensures same { result ≢ done → deframer.new ≡ deframer.old }
+{
+    if count.div_ceil(8) > bits.len() {
+        return REFUSED;
+    }
+    if count > MOST_BITS || deframer.taken() as usize > MOST_BITS - count {
+        return TOO_LONG;
+    }
+    feed_bits(deframer, bits, count);
+    DONE
+}
+
+// The same for a station.
+fn feed_station(station: &mut Station, bits: &[u8], count: usize) -> u8
+    ensures closed { (result == closed) ≡ not (is_deframer (Some station.old)) }
+    ensures status { (before : List Bool) → HoldsFed before (Some station.old) → result ≡ feed_status (length before) (length bits.now) count }
+    ensures fed { (before : List Bool) → HoldsFed before (Some station.old) → result ≡ done → HoldsFed (before ++ take count (bits_of bits.now)) (Some station.new) }
+    ensures same { result ≢ done → station.new ≡ station.old }
+{
+    match station {
+        Station::Deframer(deframer) => feed(deframer, bits, count),
+        _ => CLOSED,
+    }
+}
+
+// Reads all bits so far as a frame, and begins anew, if a content has room.
+fn finish(
+    deframer: &mut Deframer,
+    out: &mut [u8],
+    written: &mut usize,
+    why: &mut SercosBadFrame,
+) -> u8
+    ensures fault { length out.old < 2048 → IsNothing write_fault out.old out.new written.new result × (why.new ≡ no_bad_frame) }
+    ensures read { (bits : List Bool) → IsFed bits deframer.old → 2048 ≤ length out.old
+        → IsUnframed bits out.old out.new written.new why.new result }
+    ensures anew { 2048 ≤ length out.old → IsFed [] deframer.new }
+    ensures same { length out.old < 2048 → deframer.new ≡ deframer.old }
+    ensures open { result ≢ closed }
+{
+    if out.len() < MAX_CONTENT {
+        *written = 0;
+        *why = no_bad_frame();
+        return WRITE_FAULT;
+    }
+    read_frame(deframer, out, written, why)
+}
+
+// The same for a station.
+fn finish_station(
+    station: &mut Station,
+    out: &mut [u8],
+    written: &mut usize,
+    why: &mut SercosBadFrame,
+) -> u8
+    ensures closed { (result == closed) ≡ not (is_deframer (Some station.old)) }
+    ensures fault { is_deframer (Some station.old) ≡ true → length out.old < 2048 → IsNothing write_fault out.old out.new written.new result × (why.new ≡ no_bad_frame) }
+    ensures read { (bits : List Bool) → HoldsFed bits (Some station.old) → 2048 ≤ length out.old
+        → IsUnframed bits out.old out.new written.new why.new result }
+    ensures anew { is_deframer (Some station.old) ≡ true → 2048 ≤ length out.old → HoldsFed [] (Some station.new) }
+    ensures same { (length out.old < 2048) ⊎ (result ≡ closed) → station.new ≡ station.old }
+    ensures nothing { result ≡ closed → (out.new ≡ out.old) × ((written.new ≡ written.old) × (why.new ≡ why.old)) }
+{
+    match station {
+        Station::Deframer(deframer) => finish(deframer, out, written, why),
+        _ => CLOSED,
+    }
+}
+
+/// Begins a frame: no bit of it has been taken. What was held before is given back. Returns `MEMORY` if no memory was found;
+/// then nothing is held.
+#[unsafe(no_mangle)]
+pub extern "C" fn sercos_deframer_open(alloc: Global, deframer: &mut Handle) -> u8
+    ensures status { (result ≡ done) ⊎ (result ≡ no_memory) }
+    ensures opened { result ≡ done → HoldsFed [] deframer.new.held.value }
+    ensures none { result ≢ done → deframer.new.held.value ≡ None }
+{
+    open(alloc, Station::Deframer(Deframer::new()), deframer)
+}
+
+/// Takes the first `count` bits. A frame may be cut anywhere. Returns `CLOSED` if no deframer is held; otherwise `REFUSED` if
+/// there are fewer bits; otherwise `TOO_LONG` if more than 2^31 bits would have been taken since it began. Then none are taken.
+#[unsafe(no_mangle)]
+pub extern "C" fn sercos_deframer_feed(
+    alloc: Global,
+    deframer: &mut Handle,
+    bits: &[u8],
+    count: usize,
+) -> u8
+    ensures closed { (result == closed) ≡ not (is_deframer deframer.old.held.value) }
+    ensures status { (before : List Bool) → HoldsFed before deframer.old.held.value → result ≡ feed_status (length before) (length bits.now) count }
+    ensures fed { (before : List Bool) → HoldsFed before deframer.old.held.value → result ≡ done
+        → HoldsFed (before ++ take count (bits_of bits.now)) deframer.new.held.value }
+    ensures same { result ≢ done → deframer.new.held.value ≡ deframer.old.held.value }
+{
+    let Some(mut station) = take_out(alloc, deframer) else {
+        return CLOSED;
+    };
+    let status = feed_station(&mut station, bits, count);
+    put_back(station, deframer);
+    status
+}
+
+/// Writes the content of the frame that all bits so far are to the front of `out`, and begins anew. Returns `CLOSED` if no
+/// deframer is held, and then nothing changes; otherwise `WRITE_FAULT` if `out` has fewer than 2,048 bytes, and then it doesn't
+/// begin anew; otherwise `NO`, with the reason in `why`, if the bits are not a frame.
+#[unsafe(no_mangle)]
+pub extern "C" fn sercos_deframer_finish(
+    alloc: Global,
+    deframer: &mut Handle,
+    out: &mut [u8],
+    written: &mut usize,
+    why: &mut SercosBadFrame,
+) -> u8
+    ensures closed { (result == closed) ≡ not (is_deframer deframer.old.held.value) }
+    ensures fault { is_deframer deframer.old.held.value ≡ true → length out.old < 2048 → IsNothing write_fault out.old out.new written.new result × (why.new ≡ no_bad_frame) }
+    ensures read { (bits : List Bool) → HoldsFed bits deframer.old.held.value → 2048 ≤ length out.old
+        → IsUnframed bits out.old out.new written.new why.new result }
+    ensures anew { is_deframer deframer.old.held.value ≡ true → 2048 ≤ length out.old → HoldsFed [] deframer.new.held.value }
+    ensures same { (length out.old < 2048) ⊎ (result ≡ closed) → deframer.new.held.value ≡ deframer.old.held.value }
+    ensures nothing { result ≡ closed → (out.new ≡ out.old) × ((written.new ≡ written.old) × (why.new ≡ why.old)) }
+{
+    let Some(mut station) = take_out(alloc, deframer) else {
+        return CLOSED;
+    };
+    let status = finish_station(&mut station, out, written, why);
+    put_back(station, deframer);
+    status
+}
+
+/// Gives back what is held.
+#[unsafe(no_mangle)]
+pub extern "C" fn sercos_deframer_close(alloc: Global, deframer: &mut Handle)
+    ensures { deframer.new.held.value ≡ None }
+{
+    close(alloc, deframer);
+}

@@ -1,0 +1,335 @@
+//! A drive of its own, whose calls a program in another language makes.
+ghost use Rattle.std.specs.Prelude.{◌≡◌, ◌≢◌, ℕ, ◌≤◌, ◌<◌, ◌⊎◌, ◌==◌, not, List, ◌∷◌, Option, Some, None, true};
+ghost use Rattle.std.specs.Option.{option_copied};
+ghost use Rattle.sercos_block.specs.Views.{DriveView};
+ghost use Rattle.sercos_block.specs.Stores.{find_block};
+ghost use Rattle.sercos_drive.specs.Heard.{DriveCall, Mst, Mdt, Restart};
+ghost use Rattle.sercos_drive.specs.Annals.{cycle_at, phase_at, store_at};
+ghost use Rattle.sercos_drive.specs.Says.{drive_says};
+ghost use Rattle.sercos_drive.specs.Kept.{DriveStandsFor};
+ghost use Rattle.sercos_c.specs.Statuses.{refused, closed};
+ghost use Rattle.sercos_c.specs.Room.{IsNothing};
+ghost use Rattle.sercos_c.specs.Drives.{is_drive, drive_status, arrival, HoldsDrive, IsSaid, IsElement};
+
+use crate::handle::{Handle, close, put_back, take_out};
+use crate::room::put;
+use crate::station::Station;
+use crate::status::{CLOSED, DONE, NO, REFUSED};
+use sercos_bits::Content;
+use sercos_drive::Drive;
+use sercos_idn::Idn;
+use sercos_idn::element::{DATA, NAME};
+use std::alloc::Global;
+
+/// What arrived at a place of a cycle.
+pub(crate) fn arrival(arrived: bool, content: &[u8]) -> Option<&[u8]>
+    ensures { option_copied result ≡ arrival arrived content.now }
+{
+    if arrived { Some(content) } else { None }
+}
+
+// Takes what arrived at the MST's place of a cycle.
+fn hear_mst(station: &mut Station, cycle: u32, content: Option<&[u8]>) -> u8
+    ensures status { result ≡ drive_status (Some station.old) }
+    ensures same { result ≡ closed → station.new ≡ station.old }
+    ensures stands { (d : DriveView) (rate : ℕ) (h : List DriveCall) → HoldsDrive (Some station.old) d rate h → cycle_at d rate h ≤ cycle
+        → HoldsDrive (Some station.new) d rate (Mst cycle (option_copied content.entry) ∷ h) }
+{
+    match station {
+        Station::Drive(drive) => {
+            drive.hear_mst(cycle, content);
+            DONE
+        }
+        _ => CLOSED,
+    }
+}
+
+// Takes what arrived at the MDT's place.
+fn hear_mdt(station: &mut Station, content: Option<&[u8]>) -> u8
+    ensures status { result ≡ drive_status (Some station.old) }
+    ensures same { result ≡ closed → station.new ≡ station.old }
+    ensures stands { (d : DriveView) (rate : ℕ) (h : List DriveCall) → HoldsDrive (Some station.old) d rate h
+        → HoldsDrive (Some station.new) d rate (Mdt (option_copied content.entry) ∷ h) }
+{
+    match station {
+        Station::Drive(drive) => {
+            drive.hear_mdt(content);
+            DONE
+        }
+        _ => CLOSED,
+    }
+}
+
+// Restarts the drive.
+fn restart(station: &mut Station) -> u8
+    ensures status { result ≡ drive_status (Some station.old) }
+    ensures same { result ≡ closed → station.new ≡ station.old }
+    ensures stands { (d : DriveView) (rate : ℕ) (h : List DriveCall) → HoldsDrive (Some station.old) d rate h
+        → HoldsDrive (Some station.new) d rate (Restart ∷ h) }
+{
+    match station {
+        Station::Drive(drive) => {
+            drive.restart();
+            DONE
+        }
+        _ => CLOSED,
+    }
+}
+
+// Writes the phase of the drive.
+fn phase(station: &Station, phase: &mut u8) -> u8
+    ensures status { result ≡ drive_status (Some station.now) }
+    ensures phase { (d : DriveView) (rate : ℕ) (h : List DriveCall) → HoldsDrive (Some station.now) d rate h → phase.new ≡ phase_at d rate h }
+    ensures nothing { result ≡ closed → phase.new ≡ phase.old }
+{
+    match station {
+        Station::Drive(drive) => {
+            *phase = drive.phase();
+            DONE
+        }
+        _ => CLOSED,
+    }
+}
+
+// Writes this cycle's AT, and its start.
+fn at_of(drive: &Drive, out: &mut [u8], written: &mut usize, start: &mut u16) -> u8
+    ensures open { result ≢ closed }
+    ensures said { (d : DriveView) (rate : ℕ) (h : List DriveCall) → DriveStandsFor drive.now d rate h
+        → IsSaid (drive_says d rate h) out.old out.new written.new start.old start.new result }
+{
+    let mut said = Content::new();
+    match drive.at(&mut said) {
+        Some(at) => {
+            *start = at;
+            put(said.as_slice(), out, written)
+        }
+        None => {
+            *written = 0;
+            NO
+        }
+    }
+}
+
+// The same for a station.
+fn at(station: &Station, out: &mut [u8], written: &mut usize, start: &mut u16) -> u8
+    ensures closed { (result == closed) ≡ not (is_drive (Some station.now)) }
+    ensures said { (d : DriveView) (rate : ℕ) (h : List DriveCall) → HoldsDrive (Some station.now) d rate h
+        → IsSaid (drive_says d rate h) out.old out.new written.new start.old start.new result }
+    ensures nothing { result ≡ closed → (out.new ≡ out.old) × ((written.new ≡ written.old) × (start.new ≡ start.old)) }
+{
+    match station {
+        Station::Drive(drive) => at_of(drive, out, written, start),
+        _ => CLOSED,
+    }
+}
+
+// Writes the bytes of an element, 2 to 7, of a data block, or why there are none.
+fn element_of(
+    drive: &Drive,
+    idn: u16,
+    element: u8,
+    out: &mut [u8],
+    written: &mut usize,
+    code: &mut u16,
+) -> u8
+    requires { (2 ≤ element) × (element ≤ 7) }
+    ensures open { result ≢ closed }
+    ensures read { (d : DriveView) (rate : ℕ) (h : List DriveCall) → DriveStandsFor drive.now d rate h
+        → IsElement (find_block idn (store_at d rate h)) element out.old out.new written.new code.new result }
+{
+    match drive.store().element(Idn { raw: idn }, element) {
+        Ok(bytes) => {
+            *code = 0;
+            put(bytes, out, written)
+        }
+        Err(why) => {
+            *code = why.raw;
+            *written = 0;
+            NO
+        }
+    }
+}
+
+// The same, for an element that may be another one.
+fn element_if(
+    drive: &Drive,
+    idn: u16,
+    element: u8,
+    out: &mut [u8],
+    written: &mut usize,
+    code: &mut u16,
+) -> u8
+    ensures open { result ≢ closed }
+    ensures refused { (element < 2) ⊎ (7 < element) → IsNothing refused out.old out.new written.new result × (code.new ≡ 0) }
+    ensures read { (d : DriveView) (rate : ℕ) (h : List DriveCall) → DriveStandsFor drive.now d rate h → 2 ≤ element → element ≤ 7
+        → IsElement (find_block idn (store_at d rate h)) element out.old out.new written.new code.new result }
+{
+    if element < NAME || element > DATA {
+        *code = 0;
+        *written = 0;
+        return REFUSED;
+    }
+    element_of(drive, idn, element, out, written, code)
+}
+
+// The same for a station.
+fn element(
+    station: &Station,
+    idn: u16,
+    element: u8,
+    out: &mut [u8],
+    written: &mut usize,
+    code: &mut u16,
+) -> u8
+    ensures closed { (result == closed) ≡ not (is_drive (Some station.now)) }
+    ensures refused { is_drive (Some station.now) ≡ true → (element < 2) ⊎ (7 < element)
+        → IsNothing refused out.old out.new written.new result × (code.new ≡ 0) }
+    ensures read { (d : DriveView) (rate : ℕ) (h : List DriveCall) → HoldsDrive (Some station.now) d rate h → 2 ≤ element → element ≤ 7
+        → IsElement (find_block idn (store_at d rate h)) element out.old out.new written.new code.new result }
+    ensures nothing { result ≡ closed → (out.new ≡ out.old) × ((written.new ≡ written.old) × (code.new ≡ code.old)) }
+{
+    match station {
+        Station::Drive(drive) => element_if(drive, idn, element, out, written, code),
+        _ => CLOSED,
+    }
+}
+
+/// Gives back what is held.
+#[unsafe(no_mangle)]
+pub extern "C" fn sercos_drive_close(alloc: Global, drive: &mut Handle)
+    ensures { drive.new.held.value ≡ None }
+{
+    close(alloc, drive);
+}
+
+/// Takes what arrived at the MST's place of a cycle: the content of a frame, if one arrived. The cycle isn't below an earlier
+/// one. Returns `CLOSED` if no drive is held.
+#[unsafe(no_mangle)]
+pub extern "C" fn sercos_drive_hear_mst(
+    alloc: Global,
+    drive: &mut Handle,
+    cycle: u32,
+    arrived: bool,
+    content: &[u8],
+) -> u8
+    ensures status { result ≡ drive_status drive.old.held.value }
+    ensures same { result ≡ closed → drive.new.held.value ≡ drive.old.held.value }
+    ensures stands { (d : DriveView) (rate : ℕ) (h : List DriveCall) → HoldsDrive drive.old.held.value d rate h → cycle_at d rate h ≤ cycle
+        → HoldsDrive drive.new.held.value d rate (Mst cycle (arrival arrived content.now) ∷ h) }
+{
+    let Some(mut station) = take_out(alloc, drive) else {
+        return CLOSED;
+    };
+    let status = hear_mst(&mut station, cycle, arrival(arrived, content));
+    put_back(station, drive);
+    status
+}
+
+/// Takes what arrived at the MDT's place of this cycle: the content of a frame, if one arrived. Returns `CLOSED` if no drive is
+/// held.
+#[unsafe(no_mangle)]
+pub extern "C" fn sercos_drive_hear_mdt(
+    alloc: Global,
+    drive: &mut Handle,
+    arrived: bool,
+    content: &[u8],
+) -> u8
+    ensures status { result ≡ drive_status drive.old.held.value }
+    ensures same { result ≡ closed → drive.new.held.value ≡ drive.old.held.value }
+    ensures stands { (d : DriveView) (rate : ℕ) (h : List DriveCall) → HoldsDrive drive.old.held.value d rate h
+        → HoldsDrive drive.new.held.value d rate (Mdt (arrival arrived content.now) ∷ h) }
+{
+    let Some(mut station) = take_out(alloc, drive) else {
+        return CLOSED;
+    };
+    let status = hear_mdt(&mut station, arrival(arrived, content));
+    put_back(station, drive);
+    status
+}
+
+/// Restarts a drive between two cycles: it is in phase 0, and its data blocks stay. Returns `CLOSED` if no drive is held.
+#[unsafe(no_mangle)]
+pub extern "C" fn sercos_drive_restart(alloc: Global, drive: &mut Handle) -> u8
+    ensures status { result ≡ drive_status drive.old.held.value }
+    ensures same { result ≡ closed → drive.new.held.value ≡ drive.old.held.value }
+    ensures stands { (d : DriveView) (rate : ℕ) (h : List DriveCall) → HoldsDrive drive.old.held.value d rate h
+        → HoldsDrive drive.new.held.value d rate (Restart ∷ h) }
+{
+    let Some(mut station) = take_out(alloc, drive) else {
+        return CLOSED;
+    };
+    let status = restart(&mut station);
+    put_back(station, drive);
+    status
+}
+
+/// Writes the phase of a drive, 0 to 4. Returns `CLOSED` if no drive is held.
+#[unsafe(no_mangle)]
+pub extern "C" fn sercos_drive_phase(alloc: Global, drive: &mut Handle, phase: &mut u8) -> u8
+    ensures status { result ≡ drive_status drive.old.held.value }
+    ensures same { drive.new.held.value ≡ drive.old.held.value }
+    ensures phase { (d : DriveView) (rate : ℕ) (h : List DriveCall) → HoldsDrive drive.old.held.value d rate h → phase.new ≡ phase_at d rate h }
+    ensures nothing { result ≡ closed → phase.new ≡ phase.old }
+{
+    let Some(station) = take_out(alloc, drive) else {
+        return CLOSED;
+    };
+    let status = self::phase(&station, phase);
+    put_back(station, drive);
+    status
+}
+
+/// Writes the content of this cycle's AT to the front of `out`, and its start in microseconds after the MST's end. Returns
+/// `CLOSED` if no drive is held; otherwise `NO` if it sends none, and then the start stays as it was; otherwise `WRITE_FAULT`
+/// if there is too little room, and then `written` is 0.
+#[unsafe(no_mangle)]
+pub extern "C" fn sercos_drive_at(
+    alloc: Global,
+    drive: &mut Handle,
+    out: &mut [u8],
+    written: &mut usize,
+    start: &mut u16,
+) -> u8
+    ensures closed { (result == closed) ≡ not (is_drive drive.old.held.value) }
+    ensures same { drive.new.held.value ≡ drive.old.held.value }
+    ensures said { (d : DriveView) (rate : ℕ) (h : List DriveCall) → HoldsDrive drive.old.held.value d rate h
+        → IsSaid (drive_says d rate h) out.old out.new written.new start.old start.new result }
+    ensures nothing { result ≡ closed → (out.new ≡ out.old) × ((written.new ≡ written.old) × (start.new ≡ start.old)) }
+{
+    let Some(station) = take_out(alloc, drive) else {
+        return CLOSED;
+    };
+    let status = at(&station, out, written, start);
+    put_back(station, drive);
+    status
+}
+
+/// Writes the bytes of an element of a data block, 2 to 7, at most 1,024, to the front of `out`. A number has its low byte
+/// first. Returns `CLOSED` if no drive is held; otherwise `REFUSED` if the element isn't 2 to 7; otherwise `NO` if there is
+/// none, and then `code` is the error that a service transfer gets; otherwise `WRITE_FAULT` if there is too little room. Then
+/// `written` is 0.
+#[unsafe(no_mangle)]
+pub extern "C" fn sercos_drive_element(
+    alloc: Global,
+    drive: &mut Handle,
+    idn: u16,
+    element: u8,
+    out: &mut [u8],
+    written: &mut usize,
+    code: &mut u16,
+) -> u8
+    ensures closed { (result == closed) ≡ not (is_drive drive.old.held.value) }
+    ensures same { drive.new.held.value ≡ drive.old.held.value }
+    ensures refused { is_drive drive.old.held.value ≡ true → (element < 2) ⊎ (7 < element)
+        → IsNothing refused out.old out.new written.new result × (code.new ≡ 0) }
+    ensures read { (d : DriveView) (rate : ℕ) (h : List DriveCall) → HoldsDrive drive.old.held.value d rate h → 2 ≤ element → element ≤ 7
+        → IsElement (find_block idn (store_at d rate h)) element out.old out.new written.new code.new result }
+    ensures nothing { result ≡ closed → (out.new ≡ out.old) × ((written.new ≡ written.old) × (code.new ≡ code.old)) }
+{
+    let Some(station) = take_out(alloc, drive) else {
+        return CLOSED;
+    };
+    let status = self::element(&station, idn, element, out, written, code);
+    put_back(station, drive);
+    status
+}

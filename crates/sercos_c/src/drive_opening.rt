@@ -1,0 +1,62 @@
+//! The opening of a drive of a ring document.
+ghost use Rattle.std.specs.Prelude.{◌≡◌, ◌≢◌, ◌<◌, ◌⊎◌, [], length, IfOk, None, true};
+ghost use Rattle.sercos_block.specs.Rings.{is_ring};
+ghost use Rattle.sercos_drive.specs.Kept.{DriveStandsFor};
+ghost use Rattle.sercos_law_run.specs.Journal.Runs.{drive_at};
+ghost use Rattle.sercos_config.specs.Document.{document_of};
+ghost use Rattle.sercos_c.specs.Statuses.{done, no_memory};
+ghost use Rattle.sercos_c.specs.Drives.{place_status, OpensAt, IsOpening};
+
+use crate::handle::{Handle, close, open};
+use crate::station::Station;
+use crate::status::{MEMORY, NO, REFUSED};
+use sercos_block::RingSetup;
+use sercos_config::{BadDocument, Document, read_ring};
+use sercos_drive::Drive;
+use std::alloc::{AllocError, Global};
+
+// Opens the drive at a place of a ring, which it has.
+fn drive_in(alloc: Global, setup: &RingSetup, place: usize) -> Result<Drive, AllocError>
+    requires ring { is_ring setup.now ≡ true }
+    requires within { place < length setup.now.drives }
+    ensures { IfOk result (λ drive. DriveStandsFor drive (drive_at setup.now place) setup.now.rate []) }
+{
+    Drive::open(alloc, &setup.drives[place], setup.rate)
+}
+
+// Opens the drive at a place of a document. `None` if there is none.
+fn drive_at(alloc: Global, document: &[u8], place: usize) -> Result<Option<Drive>, BadDocument>
+    ensures { IsOpening document.now place result }
+{
+    let Document { setup, .. } = read_ring(alloc, document)?;
+    if place >= setup.drives.len() {
+        return Ok(None);
+    }
+    match drive_in(alloc, &setup, place) {
+        Ok(drive) => Ok(Some(drive)),
+        Err(_) => Err(BadDocument::Memory),
+    }
+}
+
+/// Opens the drive at a place of a ring document, the first at 0, in phase 0. What was held before is given back. Returns
+/// `REFUSED` if the document is refused; otherwise `NO` if there is no such drive; or `MEMORY` if no memory was found. Then
+/// nothing is held.
+#[unsafe(no_mangle)]
+pub extern "C" fn sercos_drive_open(
+    alloc: Global,
+    document: &[u8],
+    place: usize,
+    drive: &mut Handle,
+) -> u8
+    ensures status { (result ≡ no_memory) ⊎ (result ≡ place_status (document_of document.now) place) }
+    ensures opened { result ≡ done → OpensAt document.now place drive.new.held.value }
+    ensures none { result ≢ done → drive.new.held.value ≡ None }
+{
+    close(alloc, drive);
+    match drive_at(alloc, document, place) {
+        Ok(Some(made)) => open(alloc, Station::Drive(made), drive),
+        Ok(None) => NO,
+        Err(BadDocument::Memory) => MEMORY,
+        Err(_) => REFUSED,
+    }
+}

@@ -1,0 +1,68 @@
+//! What C holds: a station, or nothing.
+ghost use Rattle.std.specs.Prelude.{◌≡◌, ◌≢◌, ◌⊎◌, Option, Some, None, is_some, option_map};
+
+use crate::held::Held;
+use crate::pointer::{StationPointer, to_held, to_pointer};
+use crate::station::Station;
+use crate::status::{DONE, MEMORY};
+use std::alloc::Global;
+use std::mem;
+
+/// A station that a program holds, or none. All zeros are none.
+#[repr(C)]
+#[derive(Drop)]
+pub struct Handle {
+    is_open: bool,
+    held: StationPointer,
+    ghost agrees: { is_open ≡ is_some held.value },
+}
+
+/// Takes the station out, if there is one.
+pub(crate) fn take_out(alloc: Global, handle: &mut Handle) -> Option<Box<Station>>
+    ensures value { option_map (λ b. b.value) result ≡ handle.old.held.value }
+    ensures none { handle.new.held.value ≡ None }
+{
+    let closed = Handle {
+        is_open: false,
+        held: to_pointer(Held::none(alloc)),
+    };
+    let Handle { is_open, held } = mem::replace(handle, closed);
+    if is_open {
+        Some(to_held(held, alloc).into_box())
+    } else {
+        None
+    }
+}
+
+/// Puts a station back.
+pub(crate) fn put_back(station: Box<Station>, handle: &mut Handle)
+    ensures { handle.new.held.value ≡ Some station.value }
+{
+    *handle = Handle {
+        is_open: true,
+        held: to_pointer(Held::of(station)),
+    };
+}
+
+/// Gives back what is held.
+pub(crate) fn close(alloc: Global, handle: &mut Handle)
+    ensures { handle.new.held.value ≡ None }
+{
+    let _before = take_out(alloc, handle);
+}
+
+/// Closes the handle, and then holds a station with it. Returns `MEMORY` if there is none for it; then nothing is held.
+pub(crate) fn open(alloc: Global, station: Station, handle: &mut Handle) -> u8
+    ensures done { result ≡ 0 → handle.new.held.value ≡ Some station }
+    ensures none { result ≢ 0 → handle.new.held.value ≡ None }
+    ensures memory { (result ≡ 0) ⊎ (result ≡ 6) }
+{
+    close(alloc, handle);
+    match Box::new(alloc, station) {
+        Ok(made) => {
+            put_back(made, handle);
+            DONE
+        }
+        Err(_) => MEMORY,
+    }
+}

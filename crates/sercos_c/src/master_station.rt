@@ -1,0 +1,177 @@
+//! A master whose cycles a program makes, with what it reported.
+ghost use Rattle.std.specs.Prelude.{◌≡◌, ◌==◌, ◌⊎◌, ◌∷◌, ◌≤◌, ◌<◌, not, true, false, List, length, Option, Some, None, option_map};
+ghost use Rattle.sercos_trace.specs.Texts.{cycle_text};
+ghost use Rattle.sercos_block.specs.Rings.{wishes_of};
+ghost use Rattle.sercos_config.specs.Views.{DocumentView};
+ghost use Rattle.sercos_master.specs.Annals.{Call, HearMst, HearAt, Mdt, End, Restart, past};
+ghost use Rattle.sercos_master.specs.Says.{mst_said, mdt_said};
+ghost use Rattle.sercos_seat.specs.Ring.{Known, known_of, tasks_for};
+ghost use Rattle.sercos_step.specs.declared.request.Job.{Job};
+ghost use Rattle.sercos_master.specs.Any.{AnyStandsFor};
+ghost use Rattle.sercos_master.specs.Reports.{restart_told};
+ghost use Rattle.sercos_c.specs.Records.{no_events, of_nothing, record_of};
+ghost use Rattle.sercos_c.specs.Statuses.{done, closed, write_fault};
+ghost use Rattle.sercos_c.specs.Room.{IsNothing, IsPut};
+ghost use Rattle.sercos_c.specs.Texts.{IsText};
+
+use crate::room::put;
+use crate::status::{CLOSED, DONE, NO, WRITE_FAULT};
+use crate::texts::{has_slots, put_cycle};
+use sercos_bits::{Content, MAX_CONTENT};
+use sercos_master::{AnyMaster, master_law};
+use sercos_timing::Wishes;
+use sercos_trace::CycleRecord;
+
+/// A master, and what it reported in the cycle that ended last. Between calls the master is there.
+#[derive(Drop)]
+pub(crate) struct MasterStation {
+    pub(crate) master: Option<AnyMaster>,
+    pub(crate) wishes: Wishes,
+    pub(crate) record: Box<CycleRecord>,
+    pub(crate) ended: u32,
+}
+
+// Restarts a master, and makes the record one of what it reports.
+#[tactic(auto, using(crate::proofs::MasterLemmas::none_few))]
+fn restart_in(master: AnyMaster, cycle: u32, kept: &mut CycleRecord) -> AnyMaster
+    ensures stands { (s : Known) (jobs : List Job) (h : List Call) → AnyStandsFor master s jobs h → AnyStandsFor result s jobs (Restart ∷ h) }
+    ensures told { (s : Known) (jobs : List Job) (h : List Call) → AnyStandsFor master s jobs h →
+        kept.new ≡ record (of_nothing cycle kept.old.sent) { events = restart_told s (past s (tasks_for s jobs) h) no_events } }
+{
+    kept.reuse(cycle);
+    master.restart(&mut kept.events)
+}
+
+impl MasterStation {
+    ghost use Rattle.sercos_c.specs.Masters.{has_master, past_of, reported, reported_in, IsSent, MasterStandsFor};
+
+    /// Writes the content of the MST.
+    pub(crate) fn mst(&self, out: &mut [u8], written: &mut usize) -> u8
+        ensures closed { (result == closed) ≡ not (has_master self.now.master) }
+        ensures said { (d : DocumentView) (h : List Call) → MasterStandsFor self.now d h → IsPut (mst_said (past_of d h)) out.old out.new written.new result }
+        ensures nothing { result ≡ closed → (out.new ≡ out.old) × (written.new ≡ written.old) }
+    {
+        let Some(master) = &self.master else {
+            return CLOSED;
+        };
+        let mut said = Content::new();
+        master.mst(&mut said);
+        put(said.as_slice(), out, written)
+    }
+
+    /// Takes the own MST as it came back, or that it didn't.
+    pub(crate) fn hear_mst(&mut self, content: Option<&[u8]>) -> u8
+        ensures closed { (result == closed) ≡ not (has_master self.old.master) }
+        ensures status { (result ≡ done) ⊎ (result ≡ closed) }
+        ensures heard { (d : DocumentView) (h : List Call) → MasterStandsFor self.old d h → MasterStandsFor self.new d (HearMst (option_map (λ c. c.now) content.entry) ∷ h) }
+        ensures same { result ≡ closed → self.new ≡ self.old }
+    {
+        let Some(master) = &mut self.master else {
+            return CLOSED;
+        };
+        master.hear_mst(content);
+        DONE
+    }
+
+    /// Takes the content of a frame at a place of ATs.
+    pub(crate) fn hear_at(&mut self, content: &[u8]) -> u8
+        ensures closed { (result == closed) ≡ not (has_master self.old.master) }
+        ensures status { (result ≡ done) ⊎ (result ≡ closed) }
+        ensures heard { (d : DocumentView) (h : List Call) → MasterStandsFor self.old d h → MasterStandsFor self.new d (HearAt content.now ∷ h) }
+        ensures same { result ≡ closed → self.new ≡ self.old }
+    {
+        let Some(master) = &mut self.master else {
+            return CLOSED;
+        };
+        master.hear_at(content);
+        DONE
+    }
+
+    /// Writes the content of the MDT, and its start, if `out` has 2,048 bytes.
+    pub(crate) fn mdt(&mut self, out: &mut [u8], written: &mut usize, start: &mut u16) -> u8
+        ensures closed { (result == closed) ≡ not (has_master self.old.master) }
+        ensures fault { has_master self.old.master ≡ true → length out.old < 2048 →
+            IsNothing write_fault out.old out.new written.new result × ((start.new ≡ start.old) × (self.new ≡ self.old)) }
+        ensures said { (d : DocumentView) (h : List Call) → MasterStandsFor self.old d h → 2048 ≤ length out.old →
+            IsSent (mdt_said (known_of d.setup) (past_of d (Mdt ∷ h))) out.old out.new written.new start.old start.new result × MasterStandsFor self.new d (Mdt ∷ h) }
+        ensures nothing { result ≡ closed → (out.new ≡ out.old) × ((written.new ≡ written.old) × ((start.new ≡ start.old) × (self.new ≡ self.old))) }
+    {
+        let Some(master) = &mut self.master else {
+            return CLOSED;
+        };
+        *written = 0;
+        if out.len() < MAX_CONTENT {
+            return WRITE_FAULT;
+        }
+        let mut said = Content::new();
+        match master.mdt(&mut said) {
+            Some(at) => {
+                *start = at;
+                put(said.as_slice(), out, written)
+            }
+            None => NO,
+        }
+    }
+
+    /// Ends the cycle, and keeps what the master reports in it.
+    pub(crate) fn end_cycle(&mut self) -> u8
+        ensures closed { (result == closed) ≡ not (has_master self.old.master) }
+        ensures status { (result ≡ done) ⊎ (result ≡ closed) }
+        ensures ended { (d : DocumentView) (h : List Call) → MasterStandsFor self.old d h → MasterStandsFor self.new d (End ∷ h) }
+        ensures same { result ≡ closed → self.new ≡ self.old }
+    {
+        let Some(master) = self.master.take() else {
+            return CLOSED;
+        };
+        self.record.reuse(self.ended);
+        self.master = Some(master.end_cycle(&mut self.record.events));
+        self.ended = self.ended.saturating_add(1);
+        DONE
+    }
+
+    /// Restarts the master, and keeps what it reports of that.
+    pub(crate) fn restart(&mut self) -> u8
+        ensures closed { (result == closed) ≡ not (has_master self.old.master) }
+        ensures status { (result ≡ done) ⊎ (result ≡ closed) }
+        ensures restarted { (d : DocumentView) (h : List Call) → MasterStandsFor self.old d h → MasterStandsFor self.new d (Restart ∷ h) }
+        ensures same { result ≡ closed → self.new ≡ self.old }
+    {
+        let Some(master) = self.master.take() else {
+            return CLOSED;
+        };
+        self.master = Some(restart_in(master, self.ended, &mut self.record));
+        DONE
+    }
+
+    /// Returns the phase that is commanded.
+    pub(crate) fn command(&self, phase: &mut u8) -> u8
+        ensures closed { (result == closed) ≡ not (has_master self.now.master) }
+        ensures status { (result ≡ done) ⊎ (result ≡ closed) }
+        ensures phase { (d : DocumentView) (h : List Call) → MasterStandsFor self.now d h → phase.new ≡ (past_of d h).now.phase }
+        ensures bound { result ≡ done → phase.new ≤ 4 }
+        ensures nothing { result ≡ closed → phase.new ≡ phase.old }
+    {
+        let Some(master) = &self.master else {
+            return CLOSED;
+        };
+        *phase = master.command();
+        DONE
+    }
+
+    /// Writes the lines of what the master reported in the cycle that ended last, or in a restart since.
+    pub(crate) fn events(&self, out: &mut [u8], written: &mut usize) -> u8
+        ensures closed { has_master self.now.master ≡ false → result ≡ closed }
+        ensures written { (d : DocumentView) (h : List Call) → MasterStandsFor self.now d h →
+            IsText (cycle_text (wishes_of d.setup) (record_of (reported_in h) (reported d h))) out.old out.new written.new result }
+        ensures nothing { result ≡ closed → (out.new ≡ out.old) × (written.new ≡ written.old) }
+    {
+        master_law();
+        if self.master.is_none() {
+            return CLOSED;
+        }
+        if !has_slots(&self.wishes, &self.record) {
+            return CLOSED;
+        }
+        put_cycle(&self.wishes, &self.record, out, written)
+    }
+}

@@ -1,0 +1,158 @@
+//! A ring whose cycles a program in another language makes.
+ghost use Rattle.std.specs.Prelude.{◌≡◌, ◌≢◌, ◌==◌, ◌∷◌, not, nat_lt, if◌then◌else◌, false, List, length, reverse, Some, None};
+ghost use Rattle.sercos_block.specs.Rings.{wishes_of};
+ghost use Rattle.sercos_trace.specs.Views.{CycleView};
+ghost use Rattle.sercos_trace.specs.Texts.{header_text, end_text};
+ghost use Rattle.sercos_config.specs.Views.{DocumentView};
+ghost use Rattle.sercos_law_run.specs.Totals.Totals.{totals_of};
+ghost use Rattle.sercos_opened.specs.Kept.{script_carry, script_restarts, IsKept};
+ghost use Rattle.sercos_c.specs.Statuses.{done, answer_no, closed};
+ghost use Rattle.sercos_c.specs.Texts.{IsText};
+ghost use Rattle.sercos_c.specs.Rings.{is_ring, lines_of_newest, HoldsRing};
+
+use crate::handle::{Handle, close, put_back, take_out};
+use crate::station::Station;
+use crate::status::CLOSED;
+use std::alloc::Global;
+
+// The same for a station.
+fn head(station: &Station, out: &mut [u8], written: &mut usize) -> u8
+    ensures closed { (result == closed) ≡ not (is_ring (Some station.now)) }
+    ensures written { (d : DocumentView) (j : List CycleView) → HoldsRing (Some station.now) d j → IsText (header_text (wishes_of d.setup)) out.old out.new written.new result }
+    ensures nothing { result ≡ closed → (out.new ≡ out.old) × (written.new ≡ written.old) }
+{
+    match station {
+        Station::Ring(ring) => ring.head(out, written),
+        _ => CLOSED,
+    }
+}
+
+// The same for a station.
+fn cycle(station: &mut Station) -> u8
+    ensures closed { (result == closed) ≡ not (is_ring (Some station.old)) }
+    ensures status { (d : DocumentView) (j : List CycleView) → HoldsRing (Some station.old) d j → result ≡ (if nat_lt (length j) d.setup.cycles then done else answer_no) }
+    ensures goes { (d : DocumentView) (j : List CycleView) → HoldsRing (Some station.old) d j → result ≡ done → (v : CycleView) × HoldsRing (Some station.new) d (v ∷ j) }
+    ensures same { result ≢ done → (Some station.new) ≡ (Some station.old) }
+    ensures kept { (d : DocumentView) (j : List CycleView) → HoldsRing (Some station.new) d j → IsKept d.setup d.jobs (script_carry d) (script_restarts d) j }
+{
+    match station {
+        Station::Ring(ring) => ring.cycle(),
+        _ => CLOSED,
+    }
+}
+
+// The same for a station.
+fn lines(station: &Station, out: &mut [u8], written: &mut usize) -> u8
+    ensures closed { is_ring (Some station.now) ≡ false → result ≡ closed }
+    ensures written { (d : DocumentView) (j : List CycleView) → HoldsRing (Some station.now) d j → IsText (lines_of_newest (wishes_of d.setup) j) out.old out.new written.new result }
+    ensures nothing { result ≡ closed → (out.new ≡ out.old) × (written.new ≡ written.old) }
+{
+    match station {
+        Station::Ring(ring) => ring.lines(out, written),
+        _ => CLOSED,
+    }
+}
+
+// The same for a station.
+fn end(station: &Station, out: &mut [u8], written: &mut usize) -> u8
+    ensures closed { (result == closed) ≡ not (is_ring (Some station.now)) }
+    ensures written { (d : DocumentView) (j : List CycleView) → HoldsRing (Some station.now) d j → IsText (end_text (totals_of (reverse j))) out.old out.new written.new result }
+    ensures nothing { result ≡ closed → (out.new ≡ out.old) × (written.new ≡ written.old) }
+{
+    match station {
+        Station::Ring(ring) => ring.end(out, written),
+        _ => CLOSED,
+    }
+}
+
+/// Writes the first lines of the trace to the front of `out`: the version, the ring, the drives, the order. The status is that of a write fault if it has too little
+/// room.
+#[unsafe(no_mangle)]
+pub extern "C" fn sercos_ring_head(
+    alloc: Global,
+    ring: &mut Handle,
+    out: &mut [u8],
+    written: &mut usize,
+) -> u8
+    ensures kept { ring.new.held.value ≡ ring.old.held.value }
+    ensures closed { (result == closed) ≡ not (is_ring ring.old.held.value) }
+    ensures written { (d : DocumentView) (j : List CycleView) → HoldsRing ring.old.held.value d j → IsText (header_text (wishes_of d.setup)) out.old out.new written.new result }
+    ensures nothing { result ≡ closed → (out.new ≡ out.old) × (written.new ≡ written.old) }
+{
+    let Some(station) = take_out(alloc, ring) else {
+        return CLOSED;
+    };
+    let status = head(&station, out, written);
+    put_back(station, ring);
+    status
+}
+
+/// Makes the next cycle. The status is no if all cycles of the document have been made. Its cycles so far have all properties that are
+/// promised of a run.
+#[unsafe(no_mangle)]
+pub extern "C" fn sercos_ring_cycle(alloc: Global, ring: &mut Handle) -> u8
+    ensures closed { (result == closed) ≡ not (is_ring ring.old.held.value) }
+    ensures status { (d : DocumentView) (j : List CycleView) → HoldsRing ring.old.held.value d j → result ≡ (if nat_lt (length j) d.setup.cycles then done else answer_no) }
+    ensures goes { (d : DocumentView) (j : List CycleView) → HoldsRing ring.old.held.value d j → result ≡ done → (v : CycleView) × HoldsRing ring.new.held.value d (v ∷ j) }
+    ensures same { result ≢ done → ring.new.held.value ≡ ring.old.held.value }
+    ensures kept { (d : DocumentView) (j : List CycleView) → HoldsRing ring.new.held.value d j → IsKept d.setup d.jobs (script_carry d) (script_restarts d) j }
+{
+    let Some(mut station) = take_out(alloc, ring) else {
+        return CLOSED;
+    };
+    let status = cycle(&mut station);
+    put_back(station, ring);
+    status
+}
+
+/// Writes the lines of the cycle that was made last to the front of `out`; none before the first. The status is that of a write fault if it has too little
+/// room.
+#[unsafe(no_mangle)]
+pub extern "C" fn sercos_ring_lines(
+    alloc: Global,
+    ring: &mut Handle,
+    out: &mut [u8],
+    written: &mut usize,
+) -> u8
+    ensures kept { ring.new.held.value ≡ ring.old.held.value }
+    ensures closed { is_ring ring.old.held.value ≡ false → result ≡ closed }
+    ensures written { (d : DocumentView) (j : List CycleView) → HoldsRing ring.old.held.value d j → IsText (lines_of_newest (wishes_of d.setup) j) out.old out.new written.new result }
+    ensures nothing { result ≡ closed → (out.new ≡ out.old) × (written.new ≡ written.old) }
+{
+    let Some(station) = take_out(alloc, ring) else {
+        return CLOSED;
+    };
+    let status = lines(&station, out, written);
+    put_back(station, ring);
+    status
+}
+
+/// Writes the last line of the trace to the front of `out`: the totals of the cycles made so far. The status is that of a write fault if it has too little
+/// room.
+#[unsafe(no_mangle)]
+pub extern "C" fn sercos_ring_end(
+    alloc: Global,
+    ring: &mut Handle,
+    out: &mut [u8],
+    written: &mut usize,
+) -> u8
+    ensures kept { ring.new.held.value ≡ ring.old.held.value }
+    ensures closed { (result == closed) ≡ not (is_ring ring.old.held.value) }
+    ensures written { (d : DocumentView) (j : List CycleView) → HoldsRing ring.old.held.value d j → IsText (end_text (totals_of (reverse j))) out.old out.new written.new result }
+    ensures nothing { result ≡ closed → (out.new ≡ out.old) × (written.new ≡ written.old) }
+{
+    let Some(station) = take_out(alloc, ring) else {
+        return CLOSED;
+    };
+    let status = end(&station, out, written);
+    put_back(station, ring);
+    status
+}
+
+/// Gives back what is held.
+#[unsafe(no_mangle)]
+pub extern "C" fn sercos_ring_close(alloc: Global, ring: &mut Handle)
+    ensures { ring.new.held.value ≡ None }
+{
+    close(alloc, ring);
+}

@@ -1,0 +1,129 @@
+//! A ring whose cycles a program makes, one by one.
+ghost use Rattle.std.specs.Prelude.{◌≡◌, ◌≢◌, ◌==◌, ◌∷◌, ◌≤◌, ◌<◌, ◌+◌, ◌^◌, nat_lt, true, if◌then◌else◌, List, length, reverse};
+ghost use Rattle.std.specs.List.{All};
+ghost use Rattle.sercos_ring.specs.Kept.{AfterCycle, IsNextOf, cycles_made, newest};
+ghost use Rattle.sercos_law_run.specs.Totals.Counting.{HasRoom, IsFew, with_cycle};
+ghost use Rattle.sercos_trace.specs.Views.{CycleView};
+ghost use Rattle.sercos_trace.specs.Texts.{header_text, end_text};
+ghost use Rattle.sercos_block.specs.Rings.{wishes_of};
+ghost use Rattle.sercos_config.specs.Views.{DocumentView};
+ghost use Rattle.sercos_law_run.specs.Totals.Totals.{totals_of};
+ghost use Rattle.sercos_opened.specs.Kept.{script_carry, script_restarts, IsKept};
+ghost use Rattle.sercos_c.specs.Statuses.{done, answer_no, closed};
+ghost use Rattle.sercos_c.specs.Texts.{IsText};
+
+use crate::status::{CLOSED, DONE, NO};
+use crate::texts::{has_slots, put_cycle, put_end, put_head};
+use sercos_block::ring_law;
+use sercos_law_run::{plan_law, run_law, totals_law};
+use sercos_opened::kept_law;
+use sercos_ring::{Ring, count_cycle};
+use sercos_script::{BitLink, Scripted};
+use sercos_timing::Wishes;
+use sercos_trace::{CycleRecord, Totals};
+
+/// A ring under its document's script: the cycles that it has made, how many it makes, and their totals.
+#[derive(Drop)]
+pub(crate) struct RingStation {
+    pub(crate) ring: Ring<Scripted>,
+    pub(crate) wishes: Wishes,
+    pub(crate) totals: Totals,
+    pub(crate) cycles: u32,
+    pub(crate) made: u32,
+    ghost order: { All (λ place. place < length wishes.drives) wishes.order },
+    ghost count: { cycles_made ring ≤ made },
+    ghost few: { cycles ≤ 50000 },
+}
+
+// Returns whether there is room in the counts for a cycle more.
+fn has_room(totals: &Totals) -> bool
+    ensures yes { result ≡ true → HasRoom totals.now }
+    ensures room { HasRoom totals.now → result ≡ true }
+{
+    totals.cycles < u32::MAX
+        && totals.complete < u32::MAX - 127
+        && totals.refused < u32::MAX - 127
+        && totals.broken < u32::MAX - 127
+        && totals.falls < u32::MAX
+        && totals.unseen < u32::MAX - 194
+}
+
+// Counts a cycle, if there is room for it.
+fn count(totals: &mut Totals, made: &CycleRecord)
+    ensures counted { HasRoom totals.old → made.now.unseen ≤ 195 → totals.new ≡ with_cycle totals.old made.now }
+    ensures few { HasRoom totals.old → made.now.unseen ≤ 195 → IsFew made.now }
+{
+    if has_room(totals) && made.unseen <= 195 {
+        count_cycle(totals, made);
+    }
+}
+
+// Makes the next cycle, and counts it.
+fn make(ring: &mut Ring<Scripted>, totals: &mut Totals)
+    requires { cycles_made ring.old < 2 ^ 31 }
+    ensures after { AfterCycle ⟦<Scripted as BitLink>⟧.carry ⟦<Scripted as BitLink>⟧.restart ring.old ring.new }
+    ensures next { IsNextOf ⟦<Scripted as BitLink>⟧.carry ⟦<Scripted as BitLink>⟧.restart ring.old (newest ring.new) }
+    ensures counted { HasRoom totals.old → (newest ring.new).unseen ≤ 195 → totals.new ≡ with_cycle totals.old (newest ring.new) }
+    ensures few { HasRoom totals.old → (newest ring.new).unseen ≤ 195 → IsFew (newest ring.new) }
+    ensures sent { length (newest ring.new).sent ≤ 66 }
+{
+    let made = ring.cycle();
+    let _sent = made.sent.len();
+    count(totals, made);
+}
+
+impl RingStation {
+    ghost use Rattle.sercos_c.specs.Rings.{lines_of_newest, RingGoes};
+
+    /// Makes the next cycle. Returns `NO` if all cycles have been made.
+    pub(crate) fn cycle(&mut self) -> u8
+        ensures status { result ≡ (if nat_lt self.old.made self.old.cycles then done else answer_no) }
+        ensures goes { (d : DocumentView) (j : List CycleView) → RingGoes self.old d j → result ≡ done → (v : CycleView) × RingGoes self.new d (v ∷ j) }
+        ensures same { result ≢ done → self.new ≡ self.old }
+        ensures kept { (d : DocumentView) (j : List CycleView) → RingGoes self.new d j → IsKept d.setup d.jobs (script_carry d) (script_restarts d) j }
+    {
+        kept_law();
+        run_law();
+        ring_law();
+        totals_law();
+        if self.made >= self.cycles {
+            return NO;
+        }
+        make(&mut self.ring, &mut self.totals);
+        self.made += 1;
+        DONE
+    }
+
+    /// Writes the head of the trace.
+    pub(crate) fn head(&self, out: &mut [u8], written: &mut usize) -> u8
+        ensures written { (d : DocumentView) (j : List CycleView) → RingGoes self.now d j → IsText (header_text (wishes_of d.setup)) out.old out.new written.new result }
+        ensures open { result ≢ closed }
+    {
+        put_head(&self.wishes, out, written)
+    }
+
+    /// Writes the lines of the cycle that was made last; none before the first.
+    pub(crate) fn lines(&self, out: &mut [u8], written: &mut usize) -> u8
+        ensures written { (d : DocumentView) (j : List CycleView) → RingGoes self.now d j →
+            IsText (lines_of_newest (wishes_of d.setup) j) out.old out.new written.new result }
+        ensures nothing { result ≡ closed → (out.new ≡ out.old) × (written.new ≡ written.old) }
+    {
+        plan_law();
+        if self.made == 0 {
+            *written = 0;
+            return DONE;
+        }
+        if !has_slots(&self.wishes, self.ring.newest()) {
+            return CLOSED;
+        }
+        put_cycle(&self.wishes, self.ring.newest(), out, written)
+    }
+
+    /// Writes the last line of the trace, with the totals of the cycles made so far.
+    pub(crate) fn end(&self, out: &mut [u8], written: &mut usize) -> u8
+        ensures written { (d : DocumentView) (j : List CycleView) → RingGoes self.now d j → IsText (end_text (totals_of (reverse j))) out.old out.new written.new result }
+        ensures open { result ≢ closed }
+    {
+        put_end(&self.totals, out, written)
+    }
+}
