@@ -1,1 +1,0 @@
-/work/main/examples/embed/../../build/rust/debug/examples/drive: /work/main/examples/embed/rust/../../../build/libsercos.a /work/main/examples/embed/rust/build.rs /work/main/examples/embed/rust/examples/drive.rs /work/main/examples/embed/rust/src/lib.rs
