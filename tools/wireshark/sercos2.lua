@@ -521,8 +521,8 @@ local function learn_configuration()
     end
 end
 
--- Why the ring falls, as far as the telegrams show it.
-local function cause_of_fall(cycle)
+-- What the telegrams show before a fall. The reason may be another one, such as the master's own MST, whose loss no telegram shows.
+local function seen_before_fall(cycle)
     local causes = {}
     for address, channel in pairs(ring.channels) do
         local last = ring.answered[address]
@@ -533,12 +533,12 @@ local function cause_of_fall(cycle)
         end
     end
     table.sort(causes)
-    return #causes > 0 and ": " .. table.concat(causes, ", ") or ""
+    return #causes > 0 and "; seen before it: " .. table.concat(causes, ", ") or ""
 end
 
 local function note_fall(note, cycle)
     table.insert(note.experts, { experts.fall,
-        string.format("the ring falls from phase %d to phase 0", ring.phase) .. cause_of_fall(cycle) })
+        string.format("the ring falls from phase %d to phase 0", ring.phase) .. seen_before_fall(cycle) })
     local broken = {}
     for address, channel in pairs(ring.channels) do
         if channel.sent == cycle - 1 and channel.transfer.open then
