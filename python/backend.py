@@ -61,5 +61,5 @@ def build_wheel(wheel_directory: str, config_settings: object = None, metadata_d
 
 
 def build_sdist(sdist_directory: str, config_settings: object = None) -> str:
-    """There is none: the library is made in the repository."""
+    """Refuses: the library is made in the repository."""
     raise SystemExit("install lokbrez from its repository: tools/library, and then pip install ./python")

@@ -155,7 +155,7 @@ class Held:
         return whole(lambda out: self._call(name, out.room, out.size, out.len), f"{self.kind}.{name}")
 
     def _content(self, name: str, *words: Any) -> Optional[bytes]:
-        """The content that a call writes, or None if it says that there is none."""
+        """The content that a call writes, or None if nothing is sent."""
         out = Out()
         status = self._call(name, out.room, out.size, out.len, *words)
         if status == Status.NO:

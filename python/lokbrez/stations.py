@@ -80,7 +80,7 @@ class Drive(Station):
         return self._phase("phase")
 
     def element(self, idn: int, element: int = 7) -> Union[bytes, NoElement]:
-        """Returns the bytes of an element of a data block, 2 to 7, a number with its low byte first; or the code if there is none."""
+        """Returns the bytes of an element of a data block, 2 to 7, a number with its low byte first; or the code of the refusal."""
         in_range("drive.element", {"idn": idn, "element": element}, {"idn": 0xffff, "element": 255})
         out, code = Out(), c_uint16()
         status = self._call("element", idn, element, out.room, out.size, out.len, code)

@@ -81,7 +81,7 @@ function recordRows(run, drive, cycle, bytes, from) {
     return [
         {bytes: hex(bytes.subarray(0, 2)), name: `control word of drive ${drive.address}`, value: word(control), words: ""},
         bitRow(0, "MHS, the master's handshake bit", control & 1, "another value than before is a new step"),
-        bitRow(1, "write", control >> 1 & 1, control >> 1 & 1 ? "the step writes" : "the step reads, or there is none"),
+        bitRow(1, "write", control >> 1 & 1, control >> 1 & 1 ? "the step writes" : "the step reads, or there is no step"),
         bitRow(2, "last", control >> 2 & 1, control >> 2 & 1 ? "the last word of the element" : "not the last word of an element"),
         bitRow("3 to 5", "element of the data block", element, ELEMENTS[element]),
         bitRow("6 to 15", "cyclic", word(control & 0xffc0), "operating bits"),

@@ -241,7 +241,7 @@ class Page {
     }
 }
 
-/** The text of an identifier number from what was typed, such as 47 or s-0-47; nothing if it is none. */
+/** The text of an identifier number from what was typed, such as 47 or s-0-47; nothing if that is no identifier number. */
 function idnFrom(text) {
     const found = /^\s*(?:([SP])-([0-7])-)?(\d{1,4})\s*$/i.exec(text);
     if (!found || Number(found[3]) > 4095) return "";

@@ -225,7 +225,7 @@ pub fn frame(content: &[u8]) -> Result<(Vec<u8>, usize)> {
     Ok((out, bits as usize))
 }
 
-/// The content of the frame that the first `count` bits are, or why they are none. `Error::Refused`: there are fewer bits.
+/// The content of the frame that the first `count` bits are, or why they are not a frame. `Error::Refused`: there are fewer bits.
 pub fn unframe(bits: &[u8], count: usize) -> Result<std::result::Result<Vec<u8>, BadFrame>> {
     let mut why = BadFrame::default();
     // SAFETY: slices borrowed for the call, the room and `why` alone.
