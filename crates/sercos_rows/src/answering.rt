@@ -5,7 +5,7 @@ use sercos_app::{Clean, sercos};
 use sercos_config::{generate, read_ring};
 use sercos_io::{MemorySink, MemorySource, PlainSource, Status, Words};
 use sercos_multi::rings;
-use sercos_script::{Fault, Scripted};
+use sercos_script::Scripted;
 use std::alloc::{AllocError, Global};
 
 /// Reads of which none fails: the most bytes of a read, and the read that fails. The read 0 is never made.
@@ -23,35 +23,57 @@ fn words_of(alloc: Global, line: &str) -> Result<Words, AllocError> {
     Ok(words)
 }
 
-// Runs `sercos_rings`, or `sercos` with a link handed in: one without faults, or that of a ring of one drive with these.
+/// Why a program isn't run.
+#[derive(Clone, Copy, Debug)]
+pub enum NotRun {
+    Memory,
+    /// The document of the script is none of a ring.
+    Script,
+}
+
+impl From<AllocError> for NotRun {
+    fn from(_error: AllocError) -> NotRun {
+        NotRun::Memory
+    }
+}
+
+// The links of a ring of one drive under the script of a document.
+fn links_of(alloc: Global, document: &str) -> Result<Scripted, NotRun> {
+    match read_ring(alloc, document.as_bytes()) {
+        Ok(read) => Ok(Scripted::new(read.faults, 1)),
+        Err(_) => Err(NotRun::Script),
+    }
+}
+
+// Runs `sercos_rings`, or `sercos` with links handed in: those without faults, or those under the script of a document.
 fn status_of(
     alloc: Global,
     program: &str,
     words: &Words,
     source: &mut MemorySource,
     sink: &mut MemorySink,
-    faults: Option<&[Fault]>,
-) -> Result<Status, AllocError> {
+    script: Option<&str>,
+) -> Result<Status, NotRun> {
     if program == "sercos_rings" {
         return Ok(rings(alloc, words, source, sink));
     }
-    let Some(faults) = faults else {
+    let Some(document) = script else {
         return Ok(sercos(alloc, words, source, sink, Clean));
     };
-    let script = Scripted::new(Vec::from_slice(alloc, faults)?, 1);
-    Ok(sercos(alloc, words, source, sink, script))
+    let links = links_of(alloc, document)?;
+    Ok(sercos(alloc, words, source, sink, links))
 }
 
-/// Runs a program, whose name is the first of the words, over an input; `sercos` with the faults of its link, if they are handed in.
-/// Returns its status and what it wrote.
+/// Runs a program, whose name is the first of the words, over an input; `sercos` over links under the script of a document, if one is
+/// handed in. Returns its status and what it wrote.
 pub fn answer_by(
     alloc: Global,
     words: &str,
     input: &[u8],
     read: (u32, u32),
     write: (u32, u32, usize),
-    faults: Option<&[Fault]>,
-) -> Result<(Status, MemorySink), AllocError>
+    script: Option<&str>,
+) -> Result<(Status, MemorySink), NotRun>
     requires { (1 ≤ read.0) × (1 ≤ write.0) }
 {
     let (program, line) = words.split_once(" ").unwrap_or((words, ""));
@@ -60,7 +82,7 @@ pub fn answer_by(
     let mut source = MemorySource::new(Vec::from_slice(alloc, input)?, read.0, failing);
     let failing = Vec::from_slice(alloc, &[write.1])?;
     let mut sink = MemorySink::new(Vec::with_capacity(alloc, write.2)?, write.0, failing);
-    let status = status_of(alloc, program, &words, &mut source, &mut sink, faults)?;
+    let status = status_of(alloc, program, &words, &mut source, &mut sink, script)?;
     Ok((status, sink))
 }
 

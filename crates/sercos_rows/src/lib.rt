@@ -6,6 +6,6 @@ mod answering;
 mod inputs;
 mod row;
 
-pub use answering::{SOUND_READS, SOUND_WRITES, answer_by, answer_in_memory, is_generated};
+pub use answering::{NotRun, SOUND_READS, SOUND_WRITES, answer_by, answer_in_memory, is_generated};
 pub use inputs::push_number;
-pub use row::{PLAIN, Row, check, check_over, failed, input_of, output};
+pub use row::{PLAIN, Row, check, check_over, failed, fault_of, input_of, output};

@@ -1,8 +1,7 @@
 // A row: the words and the input of a program, and what it must answer.
-use crate::answering::{SOUND_READS, SOUND_WRITES, answer_by};
+use crate::answering::{NotRun, SOUND_READS, SOUND_WRITES, answer_by};
 use crate::inputs::{edited, fill};
 use sercos_io::Status;
-use sercos_script::Fault;
 use std::alloc::Global;
 use std::str::from_utf8;
 use std::test::Fail;
@@ -66,16 +65,16 @@ pub fn input_of(alloc: Global, row: &Row, given: &str) -> Result<String, Fail> {
     Ok(text)
 }
 
-/// The output of a row's program, with what a test makes and the faults of a link, over a source and a sink that don't fail.
+/// The output of a row's program, with what a test makes, over links under the script of a document, if one is handed in.
 pub fn output(
     alloc: Global,
     row: &Row,
     given: &str,
-    faults: Option<&[Fault]>,
+    script: Option<&str>,
 ) -> Result<String, Fail> {
     let input = input_of(alloc, row, given)?;
     let input = input.as_str().as_bytes();
-    let (status, sink) = answer_by(alloc, row.words, input, SOUND_READS, SOUND_WRITES, faults)?;
+    let (status, sink) = answer_by(alloc, row.words, input, SOUND_READS, SOUND_WRITES, script)?;
     if status != row.status {
         return Err(failed(row, status.name()));
     }
@@ -120,26 +119,48 @@ fn fault_in<'a>(output: &'a str, wanted: &'a str, only: &str) -> Option<&'a str>
     next
 }
 
-/// Runs a row, with what a test makes and the faults of a link. Every line of the output must end, and the lines must be the wanted ones.
+/// What is wrong with the answer to a row's input, over links under the script of a document, if one is handed in: another status, an end
+/// without a line feed, or the line that mustn't be there or isn't.
+pub fn fault_of(
+    alloc: Global,
+    row: &Row,
+    input: &str,
+    script: Option<&str>,
+) -> Result<Option<String>, NotRun> {
+    let input = input.as_bytes();
+    let (status, sink) = answer_by(alloc, row.words, input, SOUND_READS, SOUND_WRITES, script)?;
+    if status != row.status {
+        return Ok(Some(String::from_str(alloc, status.name())?));
+    }
+    let Ok(output) = from_utf8(sink.as_slice()) else {
+        return Ok(Some(String::from_str(alloc, "no text")?));
+    };
+    if !output.is_empty() && !output.ends_with("\n") {
+        return Ok(Some(String::from_str(alloc, "no line feed at the end")?));
+    }
+    let wanted = row.lines.repeat(alloc, row.times)?;
+    match fault_in(output, wanted.as_str(), row.only) {
+        None => Ok(None),
+        Some(line) => Ok(Some(String::from_str(alloc, line)?)),
+    }
+}
+
+/// Fails if something is wrong with the answer to a row, with what a test makes, over links under the script of a document, if one is
+/// handed in.
 pub fn check_over(
     alloc: Global,
     row: &Row,
     given: &str,
-    faults: Option<&[Fault]>,
+    script: Option<&str>,
 ) -> Result<(), Fail> {
-    let output = output(alloc, row, given, faults)?;
-    let output = output.as_str();
-    if !output.is_empty() && !output.ends_with("\n") {
-        return Err(failed(row, "no line feed at the end"));
-    }
-    let wanted = row.lines.repeat(alloc, row.times)?;
-    match fault_in(output, wanted.as_str(), row.only) {
+    let input = input_of(alloc, row, given)?;
+    match fault_of(alloc, row, input.as_str(), script)? {
         None => Ok(()),
-        Some(line) => Err(failed(row, line)),
+        Some(fault) => Err(failed(row, fault.as_str())),
     }
 }
 
-/// Runs the rows of a table, with what a test makes.
+/// Fails if something is wrong with the answer to a row of a table, with what a test makes.
 pub fn check(alloc: Global, rows: &[Row], given: &str) -> Result<(), Fail> {
     for row in rows {
         check_over(alloc, row, given, None)?;

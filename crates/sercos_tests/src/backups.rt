@@ -1,9 +1,7 @@
 // `backup` and `restore`: the data of the drives, saved as requests.
 use crate::texts::{ONE_DRIVE, READ};
 use sercos_io::Status;
-use sercos_rows::{PLAIN, Row, check, check_over, push_number};
-use sercos_script::{Damage, Fault};
-use sercos_telegram::Kind;
+use sercos_rows::{PLAIN, Row, check, check_over, input_of, push_number};
 use std::test::Fail;
 
 const OF_ONE_DRIVE: Row = Row {
@@ -87,22 +85,27 @@ const TOO_MANY: Row = Row {
     ..PLAIN
 };
 
-// Every AT is lost.
-const LOSING: Fault = Fault {
-    cycle: 0,
-    last: 49999,
-    every: 1,
-    kind: Kind::At,
-    from: 1,
-    damage: Damage::Lose { link: 1 },
+// A ring whose ATs are all lost.
+const LOSING: Row = Row {
+    more: "
+[[fault]]
+kind = 'lose'
+cycle = 0
+last = 49999
+telegram = 'at'
+from = 1
+link = 1
+",
+    ..OF_ONE_DRIVE
 };
 
-// Both commands leave the link that is handed in alone.
+// Both commands leave the links that are handed in alone.
 #[test]
 fn backups(rt: HostRuntime) -> Result<(), Fail> {
+    let losing = input_of(rt.alloc(), &LOSING, "")?;
     for row in BACKUP_ROWS {
         check_over(rt.alloc(), row, "", None)?;
-        check_over(rt.alloc(), row, "", Some(&[LOSING]))?;
+        check_over(rt.alloc(), row, "", Some(losing.as_str()))?;
     }
     Ok(())
 }

@@ -1,5 +1,5 @@
-//! Tests of the programs on worked examples, as tables of rows: words, input, status and output; and of failing reads and writes, and of
-//! links handed in.
+//! Tests of the programs on worked examples, as tables of rows: words, input, status and output; of failing reads and writes, of links
+//! handed in, and of the tables themselves.
 #![tactic(auto)]
 
 #[cfg(test)]
@@ -24,3 +24,5 @@ mod rings;
 mod runs;
 #[cfg(test)]
 mod texts;
+#[cfg(test)]
+mod wrong;

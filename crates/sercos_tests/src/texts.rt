@@ -100,17 +100,6 @@ kind = "read"
 idn = "S-0-0051"
 "#;
 
-// The AT is lost in one cycle less than ends a step.
-pub const LOST_TO_THE_LIMIT: &str = r#"
-[[fault]]
-kind = "lose"
-cycle = 13
-last = 75
-telegram = "at"
-from = 1
-link = 1
-"#;
-
 // A cycle of phase 3 of two drives, up to their ATs.
 pub const CAPTURE: &str = "sercos 1
 ring 4 250 250 5 2
