@@ -26,7 +26,7 @@ kept_written raw bytes b changes = by (b.idn.raw == raw)
     by true = rw changes refl
     by false = refl
 
-above_none : (low raw : ℕ) (blocks : List Block) → raw ≤ low → list_all (λ c. nat_lt low c.idn.raw) blocks ≡ true → find_block raw blocks ≡ None
+pub above_none : (low raw : ℕ) (blocks : List Block) → raw ≤ low → list_all (λ c. nat_lt low c.idn.raw) blocks ≡ true → find_block raw blocks ≡ None
 above_none low raw [] under above = refl
 above_none low raw (c ∷ blocks) under above =
     let (here, rest) = and_parts (nat_lt low c.idn.raw) (list_all (λ c. nat_lt low c.idn.raw) blocks) above in

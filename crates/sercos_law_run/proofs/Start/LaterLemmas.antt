@@ -223,7 +223,7 @@ unfolding are_ascending
 kept_ascending [] = refl
 kept_ascending (b ∷ blocks) = rw (kept_idn b, kept_above b.idn.raw blocks, kept_ascending blocks) refl
 
-still_ascending : (blocks after : List Block) → map kept after ≡ map kept blocks → are_ascending blocks ≡ true → are_ascending after ≡ true
+pub still_ascending : (blocks after : List Block) → map kept after ≡ map kept blocks → are_ascending blocks ≡ true → are_ascending after ≡ true
 still_ascending blocks after same up = sym (kept_ascending after) ∙ ap are_ascending same ∙ kept_ascending blocks ∙ up
 
 pub blocks_keep : BlocksKeep

@@ -1,0 +1,6 @@
+pub mod KeepsFit
+pub mod FitInThree
+pub mod FitInFour
+pub mod Times
+pub mod Phases
+pub mod Cycles

@@ -1,0 +1,129 @@
+-- In phase 4 no block of a drive has operation data outside its limits.
+use Rattle.std.proofs.Common.{◌≡◌, ℕ, ◌+◌, ◌≤◌, ◌==◌, nat_lt, Bool, true, false, cond, not, ◌&&◌, ◌||◌, List, [], ◌∷◌, map, length, Option, Some, None, IfSome, refl, sym, ◌∙◌, ap, ap₂, subst, arith, if◌then◌else◌}
+use Rattle.std.specs.Prelude.{option_map}
+use Rattle.std.specs.Bool.{then_some}
+use Rattle.std.specs.List.{list_all, filter}
+use Rattle.std.specs.Option.{option_or}
+use Rattle.std.proofs.lemmas.Bool.{and_parts, false≢true}
+use Rattle.std.proofs.lemmas.Bool.Decides.{nat_tests}
+use Rattle.sercos_model.proofs.FaultLemmas.{none_of-or, none_of-then}
+use Rattle.sercos_idn.specs.declared.idn.Idn.{Idn}
+use Rattle.sercos_idn.specs.declared.attribute.Attribute.{Attribute}
+use Rattle.sercos_idn.specs.Attributes.{attribute_of}
+use Rattle.sercos_idn.specs.Codes.{attribute_fault, is_list}
+use Rattle.sercos_block.specs.declared.block.Block.{Block}
+use Rattle.sercos_block.specs.Blocks.{is_number}
+use Rattle.sercos_block.specs.Rules.{blocks_fault}
+use Rattle.sercos_block.specs.Rings.{attribute_in, row_in, built_in_attribute, block_attribute}
+use Rattle.sercos_block.specs.Stores.{find_block, with_value, with_data, write_fault, data_fault, put_fault, is_short, is_long, is_invalid, is_below, is_above, are_ascending, store_of, IsStore}
+use Rattle.sercos_block.specs.Views.{DriveView}
+use Rattle.sercos_block.proofs.PutLemmas.{with_data-nowhere}
+use Rattle.sercos_command.specs.Checks.{is_outside, unfit_for_phase_4}
+use Rattle.sercos_command.specs.Settings.{is_command, ends_well}
+use Rattle.sercos_drive.specs.Heard.{DriveCall}
+use Rattle.sercos_drive.specs.Annals.{has_passed}
+use Rattle.sercos_drive.specs.Laws.{HandedThose}
+use Rattle.sercos_law_run.specs.Start.StartUp.{IsStoreOf}
+use Rattle.sercos_law_run.specs.Stations.Fit.{FitInFour}
+use Rattle.sercos_law_run.proofs.Start.BlockFinds.{same_attribute}
+use Rattle.sercos_law_run.proofs.Start.KeptLemmas.{above_none}
+use Rattle.sercos_law_run.proofs.Held.StoreOf.{IsOf}
+use Rattle.sercos_law_run.proofs.Stations.KeepsFit.{IsFound, holds_at}
+
+abbrev AreInside : List Block → Type 0
+AreInside blocks = list_all (λ b. not (is_outside b)) blocks ≡ true
+
+-- the check finds nothing iff all are inside
+inside_so : (blocks : List Block) → (length (unfit_for_phase_4 blocks) == 0) ≡ true → AreInside blocks
+unfolding unfit_for_phase_4
+inside_so [] none = refl
+inside_so (b ∷ blocks) none = by (is_outside b) none (inside_so blocks)
+  where
+    by : (out : Bool) → (length (map (λ (b : Block). b.idn) (if out then b ∷ filter is_outside blocks else filter is_outside blocks)) == 0) ≡ true
+        → ((length (map (λ (b : Block). b.idn) (filter is_outside blocks)) == 0) ≡ true → AreInside blocks) → (not out && list_all (λ b. not (is_outside b)) blocks) ≡ true
+    by true none more = absurd (grind (arith, nat_tests, none))
+    by false none more = more none
+
+none_so : (blocks : List Block) → AreInside blocks → unfit_for_phase_4 blocks ≡ []
+unfolding unfit_for_phase_4
+none_so [] inside = refl
+none_so (b ∷ blocks) inside = by (is_outside b) inside (none_so blocks)
+  where
+    by : (out : Bool) → (not out && list_all (λ b. not (is_outside b)) blocks) ≡ true → (AreInside blocks → map (λ (b : Block). b.idn) (filter is_outside blocks) ≡ [])
+        → map (λ (b : Block). b.idn) (if out then b ∷ filter is_outside blocks else filter is_outside blocks) ≡ []
+    by true inside more = absurd (false≢true inside)
+    by false inside more = more inside
+
+-- a write that leaves the block inside its limits leaves all of them so
+inside_written : (raw : ℕ) (bytes : List ℕ) (blocks : List Block) → are_ascending blocks ≡ true → IfSome (find_block raw blocks) (λ (b : Block). is_outside (record b { value = bytes }) ≡ false)
+    → AreInside blocks → AreInside (with_data raw bytes blocks)
+unfolding are_ascending
+inside_written raw bytes [] up fine inside = refl
+inside_written raw bytes (b ∷ blocks) up fine inside =
+    let (above, rest) = and_parts (list_all (λ c. nat_lt b.idn.raw c.idn.raw) blocks) (are_ascending blocks) up in
+    let (here, others) = and_parts (not (is_outside b)) (list_all (λ b. not (is_outside b)) blocks) inside in
+    by (b.idn.raw == raw) refl above here others fine (inside_written raw bytes blocks rest)
+  where
+    by : (same : Bool) → (b.idn.raw == raw) ≡ same → list_all (λ c. nat_lt b.idn.raw c.idn.raw) blocks ≡ true → not (is_outside b) ≡ true → AreInside blocks
+        → IfSome (cond same (Some b) (find_block raw blocks)) (λ (b : Block). is_outside (record b { value = bytes }) ≡ false)
+        → (IfSome (find_block raw blocks) (λ (b : Block). is_outside (record b { value = bytes }) ≡ false) → AreInside blocks → AreInside (with_data raw bytes blocks))
+        → (not (is_outside (cond same (record b { value = bytes }) b)) && list_all (λ b. not (is_outside b)) (with_data raw bytes blocks)) ≡ true
+    by true e above here others fine more =
+        let under : raw ≤ b.idn.raw = grind (arith, nat_tests, e) in
+        rw (with_data-nowhere blocks raw bytes (above_none b.idn.raw raw blocks under above), fine) others
+    by false e above here others fine more = rw here (more fine others)
+
+below_same : (b : Block) (bytes : List ℕ) (limit : Option ℕ) → is_below (record b { value = bytes }) bytes limit ≡ is_below b bytes limit
+below_same b bytes None = refl
+below_same b bytes (Some limit) = refl
+
+above_same : (b : Block) (bytes : List ℕ) (limit : Option ℕ) → is_above (record b { value = bytes }) bytes limit ≡ is_above b bytes limit
+above_same b bytes None = refl
+above_same b bytes (Some limit) = refl
+
+-- An accepted write is inside the limits.
+accepted : (o : Option Block) (phase : ℕ) (bytes : List ℕ) → put_fault o phase bytes ≡ None → IfSome o (λ (b : Block). is_outside (record b { value = bytes }) ≡ false)
+unfolding data_fault
+accepted None phase bytes fine = tt
+accepted (Some b) phase bytes fine =
+    let (_, value) = none_of-or (write_fault (Some b) phase) (data_fault b bytes) fine in
+    let (_, long) = none_of-or (then_some (is_short b bytes) 0x7002) (option_or (then_some (is_long b bytes) 0x7003) (option_or (then_some (is_invalid b bytes) 0x7008) (option_or (then_some (is_below b bytes b.min) 0x7006) (then_some (is_above b bytes b.max) 0x7007)))) value in
+    let (_, invalid) = none_of-or (then_some (is_long b bytes) 0x7003) (option_or (then_some (is_invalid b bytes) 0x7008) (option_or (then_some (is_below b bytes b.min) 0x7006) (then_some (is_above b bytes b.max) 0x7007))) long in
+    let (_, limits) = none_of-or (then_some (is_invalid b bytes) 0x7008) (option_or (then_some (is_below b bytes b.min) 0x7006) (then_some (is_above b bytes b.max) 0x7007)) invalid in
+    let (below, above) = none_of-or (then_some (is_below b bytes b.min) 0x7006) (then_some (is_above b bytes b.max) 0x7007) limits in
+    ap₂ (λ (x y : Bool). x || y) (below_same b bytes b.min ∙ none_of-then (is_below b bytes b.min) 0x7006 below) (above_same b bytes b.max ∙ none_of-then (is_above b bytes b.max) 0x7007 above)
+
+-- So is a list, which has none.
+list_inside : (b : Block) (bytes : List ℕ) → is_number b.attribute ≡ false → is_outside (record b { value = bytes }) ≡ false
+list_inside b bytes list = ap₂ (λ (x y : Bool). x || y) (below b.min) (above b.max)
+  where
+    below : (o : Option ℕ) → is_below (record b { value = bytes }) bytes o ≡ false
+    below None = refl
+    below (Some limit) = rw list refl
+
+    above : (o : Option ℕ) → is_above (record b { value = bytes }) bytes o ≡ false
+    above None = refl
+    above (Some limit) = rw list refl
+
+module _ (d : DriveView) (rate : ℕ) (none : blocks_fault [] d.blocks ≡ None) where
+  listed_at : (raw : ℕ) (blocks : List Block) (bytes : List ℕ) (a : Attribute) → block_attribute d.blocks raw ≡ Some a → is_number a ≡ false → IsOf d blocks → AreInside blocks → AreInside (with_data raw bytes blocks)
+  listed_at raw blocks bytes a has list is inside =
+      inside_written raw bytes blocks is.1 (by (find_block raw blocks) (same_attribute raw d blocks none is.0 ∙ has)) inside
+    where
+      by : (o : Option Block) → option_map (λ (b : Block). b.attribute) o ≡ Some a → IfSome o (λ (b : Block). is_outside (record b { value = bytes }) ≡ false)
+      by None e = tt
+      by (Some b) e = let same : b.attribute ≡ a = cc in list_inside b bytes (ap is_number same ∙ list)
+
+  found_in_4 : IsFound d rate 128 4 AreInside
+  unfolding block_attribute built_in_attribute row_in attribute_in attribute_fault attribute_of
+  found_in_4 = record {
+    above = omega arith;
+    set = λ blocks well. inside_so blocks well;
+    listed = λ blocks bytes is inside. (listed_at 21 blocks bytes _ refl refl is inside, listed_at 22 blocks bytes _ refl refl is inside);
+    command = λ blocks raw phase bytes is fine command inside. inside_written raw bytes blocks is.1 (accepted (find_block raw blocks) phase bytes fine) inside;
+    later = λ blocks raw phase bytes is fine late below inside. inside_written raw bytes blocks is.1 (accepted (find_block raw blocks) phase bytes fine) inside;
+    rise = λ cycle phase past high low has. let is : phase ≡ 4 = omega (arith, high, low) in subst (λ (p : ℕ). has_passed d rate cycle p past ≡ true) is has;
+  }
+
+pub fit_in_four : HandedThose → FitInFour
+fit_in_four those d rate h none store high = none_so _ ((holds_at those d rate 128 4 AreInside (found_in_4 d rate none) h store.ascending).stands high)

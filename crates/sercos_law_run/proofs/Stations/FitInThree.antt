@@ -1,0 +1,170 @@
+-- In phases 3 and 4 the check for phase 3 finds nothing in a drive's store.
+use Rattle.std.proofs.Common.{◌≡◌, ℕ, ◌+◌, ◌*◌, ◌%◌, ◌≤◌, ◌==◌, nat_lt, Bool, true, false, cond, not, ◌&&◌, ◌||◌, List, [], ◌∷◌, length, Option, Some, None, refl, sym, ◌∙◌, ap, ap₂, subst, arith, if◌then◌else◌}
+use Rattle.std.specs.Prelude.{is_some, option_map, option_and_then, unwrap_or, slice_index}
+use Rattle.std.specs.Bool.{then_some}
+use Rattle.std.specs.List.{list_all, sum_by}
+use Rattle.std.specs.Option.{option_or}
+use Rattle.std.proofs.lemmas.Bool.{and_parts, false≢true}
+use Rattle.std.proofs.lemmas.Bool.Decides.{nat_tests}
+use Rattle.std.proofs.lemmas.List.Sums.{sum_by-cons}
+use Rattle.sercos_model.proofs.FaultLemmas.{none_of-or, none_of-then}
+use Rattle.sercos_model.specs.Frames.{wire_bits}
+use Rattle.sercos_idn.specs.declared.idn.Idn.{Idn}
+use Rattle.sercos_idn.specs.declared.attribute.Attribute.{Attribute}
+use Rattle.sercos_idn.specs.Attributes.{attribute_of}
+use Rattle.sercos_idn.specs.Codes.{attribute_fault}
+use Rattle.sercos_block.specs.declared.block.Block.{Block}
+use Rattle.sercos_block.specs.Blocks.{is_fixed, is_protected}
+use Rattle.sercos_block.specs.Rules.{blocks_fault}
+use Rattle.sercos_block.specs.Rings.{attribute_in, row_in, built_in_attribute, block_attribute}
+use Rattle.sercos_block.specs.Rings as rings
+use Rattle.sercos_block.specs.Stores.{find_block, with_data, write_fault, data_fault, put_fault, store_of, IsStore}
+use Rattle.sercos_block.specs.Views.{DriveView}
+use Rattle.sercos_command.specs.Checks.{data_at, number_at, idns_at, cyclic_len, is_cyclic, carried_len, breaks_1, breaks_2, breaks_6, breaks_7, breaks_8, breaks_9, breaks_10, breaks_15, breaks_list, breaks_89, named, unfit_for_phase_3}
+use Rattle.sercos_command.specs.Settings.{is_command, ends_well}
+use Rattle.sercos_drive.specs.Heard.{DriveCall}
+use Rattle.sercos_drive.specs.Annals.{has_passed}
+use Rattle.sercos_drive.specs.Laws.{HandedThose}
+use Rattle.sercos_law_run.specs.Start.StartUp.{IsStoreOf}
+use Rattle.sercos_law_run.specs.Stations.Fit.{FitInThree}
+use Rattle.sercos_law_run.proofs.Start.BlockFinds.{carry_alike, same_attribute}
+use Rattle.sercos_law_run.proofs.Start.KeptLemmas.{stays, writes_keep}
+use Rattle.sercos_law_run.proofs.Held.StoreOf.{IsOf}
+use Rattle.sercos_law_run.proofs.Stations.KeepsFit.{IsFound, holds_at}
+
+-- The block with a number is no procedure command, and protected in phases 3 and 4.
+pub record IsLater (d : DriveView) (raw : ℕ) : Type 0 where
+  pub attribute : Attribute
+  pub has : block_attribute d.blocks raw ≡ Some attribute
+  pub plain : attribute.command ≡ false
+  pub three : attribute.protect3 ≡ true
+  pub four : attribute.protect4 ≡ true
+
+of_attribute : (o : Option Block) (a : Attribute) (f : Attribute → Bool) → option_map (λ (b : Block). b.attribute) o ≡ Some a → unwrap_or (option_map (λ (b : Block). f b.attribute) o) false ≡ f a
+of_attribute None a f e = cc
+of_attribute (Some b) a f e = let same : b.attribute ≡ a = cc in ap f same
+
+locked : (o : Option Block) (a : Attribute) (phase : ℕ) (bytes : List ℕ) → option_map (λ (b : Block). b.attribute) o ≡ Some a → a.protect3 ≡ true → a.protect4 ≡ true → 3 ≤ phase → put_fault o phase bytes ≡ None → ⊥
+locked None a phase bytes e three four late none = cc
+locked (Some b) a phase bytes e three four late none =
+    let same : b.attribute ≡ a = cc in
+    let (write, _) = none_of-or (write_fault (Some b) phase) (data_fault b bytes) none in
+    let (_, free) = none_of-or (then_some (is_fixed b) 0x7004) (then_some (is_protected b.attribute phase) 0x7005) write in
+    let free_in : is_protected b.attribute phase ≡ false = none_of-then (is_protected b.attribute phase) 0x7005 free in
+    false≢true (sym free_in ∙ ap (λ (x : Attribute). is_protected x phase) same ∙ by (phase == 2) (phase == 3) refl)
+  where
+    by : (two three_is : Bool) → (phase == 2) ≡ two → (if two then a.protect2 else (if three_is then a.protect3 else a.protect4)) ≡ true
+    by true three_is is = absurd (grind (arith, nat_tests, is, late))
+    by false true is = three
+    by false false is = four
+
+-- so a write that is accepted there, and one to a procedure command, is to another block
+other_by : (n raw : ℕ) → (n ≡ raw → ⊥) → (n == raw) ≡ false
+other_by n raw never = by (n == raw) refl
+  where
+    by : (b : Bool) → (n == raw) ≡ b → b ≡ false
+    by true is = absurd (never (grind (arith, nat_tests, is)))
+    by false is = refl
+
+pub other_later : (d : DriveView) (n : ℕ) (blocks : List Block) (raw phase : ℕ) (bytes : List ℕ) → blocks_fault [] d.blocks ≡ None → IsStoreOf d blocks → IsLater d n → 3 ≤ phase
+    → put_fault (find_block raw blocks) phase bytes ≡ None → (n == raw) ≡ false
+other_later d n blocks raw phase bytes none is later late fine =
+    other_by n raw (λ same. locked (find_block n blocks) later.attribute phase bytes (same_attribute n d blocks none is ∙ later.has) later.three later.four late
+      (subst (λ (m : ℕ). put_fault (find_block m blocks) phase bytes ≡ None) (sym same) fine))
+
+pub other_command : (d : DriveView) (n : ℕ) (blocks : List Block) (raw : ℕ) → blocks_fault [] d.blocks ≡ None → IsStoreOf d blocks → IsLater d n → is_command blocks raw ≡ true → (n == raw) ≡ false
+other_command d n blocks raw none is later command =
+    other_by n raw (λ same. false≢true (sym (of_attribute (find_block n blocks) later.attribute (λ (a : Attribute). a.command) (same_attribute n d blocks none is ∙ later.has) ∙ later.plain)
+      ∙ subst (λ (m : ℕ). is_command blocks m ≡ true) (sym same) command))
+
+-- WHAT THE CHECK LOOKS AT: the operation data of these blocks, and of each block whether it is a number.
+abbrev looks_at : List ℕ
+looks_at = 1 ∷ 2 ∷ 3 ∷ 4 ∷ 5 ∷ 6 ∷ 7 ∷ 8 ∷ 9 ∷ 10 ∷ 15 ∷ 16 ∷ 24 ∷ 89 ∷ []
+
+abbrev AreEach : (ℕ → Type 0) → List ℕ → Type 0
+AreEach such [] = Unit {0}
+AreEach such (n ∷ numbers) = such n × AreEach such numbers
+
+mapped : (such so : ℕ → Type 0) (numbers : List ℕ) → ((n : ℕ) → such n → so n) → AreEach such numbers → AreEach so numbers
+mapped such so [] give are = tt
+mapped such so (n ∷ numbers) give are = (give n are.0, mapped such so numbers give are.1)
+
+later_by : (d : DriveView) (raw : ℕ) (a : Attribute) → block_attribute d.blocks raw ≡ Some a → a.command ≡ false → a.protect3 ≡ true → a.protect4 ≡ true → IsLater d raw
+later_by d raw a has plain three four = record { attribute = a; has = has; plain = plain; three = three; four = four }
+
+all_later : (d : DriveView) → AreEach (IsLater d) looks_at
+unfolding block_attribute built_in_attribute row_in attribute_in attribute_fault attribute_of
+all_later d = (
+  later_by d 1 _ refl refl refl refl, (later_by d 2 _ refl refl refl refl, (later_by d 3 _ refl refl refl refl, (later_by d 4 _ refl refl refl refl, (
+  later_by d 5 _ refl refl refl refl, (later_by d 6 _ refl refl refl refl, (later_by d 7 _ refl refl refl refl, (later_by d 8 _ refl refl refl refl, (
+  later_by d 9 _ refl refl refl refl, (later_by d 10 _ refl refl refl refl, (later_by d 15 _ refl refl refl refl, (later_by d 16 _ refl refl refl refl, (
+  later_by d 24 _ refl refl refl refl, (later_by d 89 _ refl refl refl refl, tt))))))))))))))
+
+sum_same : (f g : Idn → ℕ) (idns : List Idn) → ((i : Idn) → f i ≡ g i) → sum_by f idns ≡ sum_by g idns
+sum_same f g [] same = refl
+sum_same f g (i ∷ idns) same = sum_by-cons f i idns ∙ ap₂ (λ (m n : ℕ). m + n) (same i) (sum_same f g idns same) ∙ sym (sum_by-cons g i idns)
+
+all_same : (f g : Idn → Bool) (idns : List Idn) → ((i : Idn) → f i ≡ g i) → list_all f idns ≡ list_all g idns
+all_same f g [] same = refl
+all_same f g (i ∷ idns) same = ap₂ (λ (m n : Bool). m && n) (same i) (all_same f g idns same)
+
+-- Two stores in which these blocks have the same operation data, and each block is a number in both or in none.
+record LookAlike (blocks others : List Block) : Type 0 where
+  values : AreEach (λ n. data_at others n ≡ data_at blocks n) looks_at
+  carry : (raw : ℕ) → cyclic_len others raw ≡ cyclic_len blocks raw
+
+unfit_alike : (rate : ℕ) (blocks others : List Block) → LookAlike blocks others → unfit_for_phase_3 rate others ≡ unfit_for_phase_3 rate blocks
+unfolding unfit_for_phase_3 breaks_1 breaks_2 breaks_6 breaks_7 breaks_8 breaks_9 breaks_10 breaks_15 breaks_list breaks_89 number_at idns_at carried_len
+unfit_alike rate blocks others alike =
+    let (e1, (e2, (e3, (e4, (e5, (e6, (e7, (e8, (e9, (e10, (e15, (e16, (e24, (e89, _)))))))))))))) = alike.values in
+    let cyclic16 = all_same (is_cyclic others) (is_cyclic blocks) (idns_at blocks 16) (λ i. ap is_some (alike.carry i.raw)) in
+    let cyclic24 = all_same (is_cyclic others) (is_cyclic blocks) (idns_at blocks 24) (λ i. ap is_some (alike.carry i.raw)) in
+    let long16 = sum_same (λ i. unwrap_or (cyclic_len others i.raw) 0) (λ i. unwrap_or (cyclic_len blocks i.raw) 0) (idns_at blocks 16) (λ i. ap (λ (o : Option ℕ). unwrap_or o 0) (alike.carry i.raw)) in
+    let long24 = sum_same (λ i. unwrap_or (cyclic_len others i.raw) 0) (λ i. unwrap_or (cyclic_len blocks i.raw) 0) (idns_at blocks 24) (λ i. ap (λ (o : Option ℕ). unwrap_or o 0) (alike.carry i.raw)) in
+    rw (e1, e2, e3, e4, e5, e6, e7, e8, e9, e10, e15, e16, e24, e89, cyclic16, cyclic24, long16, long24) refl
+
+-- a write to another block, which leaves the store that of the drive
+alike_by : (d : DriveView) (blocks : List Block) (raw : ℕ) (bytes : List ℕ) → blocks_fault [] d.blocks ≡ None → IsStoreOf d blocks → IsStoreOf d (with_data raw bytes blocks) → AreEach (λ n. (n == raw) ≡ false) looks_at
+    → LookAlike blocks (with_data raw bytes blocks)
+alike_by d blocks raw bytes none is after others = record {
+  values = mapped (λ n. (n == raw) ≡ false) (λ n. data_at (with_data raw bytes blocks) n ≡ data_at blocks n) looks_at (λ n other. stays blocks raw n bytes other) others;
+  carry = λ i. carry_alike d (with_data raw bytes blocks) none after i ∙ sym (carry_alike d blocks none is i);
+}
+
+module _ (d : DriveView) (rate : ℕ) (none : blocks_fault [] d.blocks ≡ None) where
+  abbrev IsFit : List Block → Type 0
+  IsFit blocks = unfit_for_phase_3 rate blocks ≡ []
+
+  written : (blocks : List Block) (raw : ℕ) (bytes : List ℕ) → IsStoreOf d blocks → IsStoreOf d (with_data raw bytes blocks) → AreEach (λ n. (n == raw) ≡ false) looks_at → IsFit blocks → IsFit (with_data raw bytes blocks)
+  written blocks raw bytes is after others fit = unfit_alike rate blocks (with_data raw bytes blocks) (alike_by d blocks raw bytes none is after others) ∙ fit
+
+  each_other : (raw : ℕ) → ((n : ℕ) → IsLater d n → (n == raw) ≡ false) → AreEach (λ n. (n == raw) ≡ false) looks_at
+  each_other raw other = mapped (IsLater d) (λ n. (n == raw) ≡ false) looks_at other (all_later d)
+
+  none_there : (xs : List Idn) → (length xs == 0) ≡ true → xs ≡ []
+  none_there [] e = refl
+  none_there (x ∷ xs) e = absurd (grind (arith, nat_tests, e))
+
+  -- the lists of the checks are none of these blocks
+  beside_21 : AreEach (λ n. (n == 21) ≡ false) looks_at
+  beside_21 = (refl, (refl, (refl, (refl, (refl, (refl, (refl, (refl, (refl, (refl, (refl, (refl, (refl, (refl, tt))))))))))))))
+
+  beside_22 : AreEach (λ n. (n == 22) ≡ false) looks_at
+  beside_22 = (refl, (refl, (refl, (refl, (refl, (refl, (refl, (refl, (refl, (refl, (refl, (refl, (refl, (refl, tt))))))))))))))
+
+  pub found_in_3 : IsFound d rate 127 3 IsFit
+  found_in_3 = record {
+    above = omega arith;
+    set = λ blocks well. none_there (unfit_for_phase_3 rate blocks) well;
+    listed = λ blocks bytes is fit. (
+      written blocks 21 bytes is.0 ((writes_keep d blocks 21 0 bytes is.1 is.0).1 refl) beside_21 fit,
+      written blocks 22 bytes is.0 ((writes_keep d blocks 22 0 bytes is.1 is.0).1 refl) beside_22 fit);
+    command = λ blocks raw phase bytes is fine command fit.
+      written blocks raw bytes is.0 ((writes_keep d blocks raw phase bytes is.1 is.0).0 fine) (each_other raw (λ n such. other_command d n blocks raw none is.0 such command)) fit;
+    later = λ blocks raw phase bytes is fine late below fit.
+      written blocks raw bytes is.0 ((writes_keep d blocks raw phase bytes is.1 is.0).0 fine) (each_other raw (λ n such. other_later d n blocks raw phase bytes none is.0 such late fine)) fit;
+    rise = λ cycle phase past high low has. let is : phase ≡ 3 = omega (arith, high, low) in subst (λ (p : ℕ). has_passed d rate cycle p past ≡ true) is has;
+  }
+
+pub fit_in_three : HandedThose → FitInThree
+fit_in_three those d rate h none store high = (holds_at those d rate 127 3 (IsFit d rate none) (found_in_3 d rate none) h store.ascending).stands high

@@ -1,0 +1,171 @@
+-- What a check found of a drive's store stays true in the phases that need the check, whatever the drive is handed.
+use Rattle.std.proofs.Common.{◌≡◌, inl, inr, ℕ, ◌+◌, ◌≤◌, ◌==◌, Bool, true, false, cond, not, ◌&&◌, ◌||◌, List, [], ◌∷◌, Option, Some, None, IfSome, refl, sym, ◌∙◌, ap, subst, arith, if◌then◌else◌}
+use Rattle.std.specs.Prelude.{nat_le, is_none, is_some, min, option_map, unwrap_or}
+use Rattle.std.proofs.lemmas.Bool.{and_parts, false≢true}
+use Rattle.std.proofs.lemmas.Bool.Decides.{nat_tests}
+use Rattle.sercos_idn.specs.declared.attribute.Attribute.{Attribute}
+use Rattle.sercos_idn.specs.Commands.{to_cancel}
+use Rattle.sercos_block.specs.declared.block.Block.{Block}
+use Rattle.sercos_block.specs.Rules.{blocks_fault}
+use Rattle.sercos_block.specs.Rings.{block_attribute}
+use Rattle.sercos_block.specs.Stores.{find_block, with_data, put_fault, are_ascending, store_of}
+use Rattle.sercos_block.specs.Views.{DriveView}
+use Rattle.sercos_command.specs.Settings.{CommandsView, find_set, is_command, with_lists, ends_well}
+use Rattle.sercos_command.specs.Calls.{Call, Wrote, Other, Reset, is_passed, settings}
+use Rattle.sercos_service_drive.specs.Log.{Taken, record_of}
+use Rattle.sercos_service_drive.specs.Writes.{Write, AreThose, added_on, setting_in, blocks_with, calls_with}
+use Rattle.sercos_service_drive.proofs.AllowedWrites.{allowed}
+use Rattle.sercos_drive.specs.declared.hearing.Told.{Told}
+use Rattle.sercos_drive.specs.Heard.{DriveCall, Mst, Mdt, Restart, mst_got, mdt_got}
+use Rattle.sercos_drive.specs.Moments.{Moment, phase_in, cycle_in, has_mst, has_missed, taken_in, blocks_in, blocks_after, commands_in, calls_in, calls_after, with_reset}
+use Rattle.sercos_drive.specs.Annals.{annals, has_passed, processed_in, stands_in, ends_in, takes}
+use Rattle.sercos_drive.specs.Laws.{HandedThose}
+use Rattle.sercos_drive.proofs.RecordLemmas.{phase_below}
+use Rattle.sercos_law_run.specs.Start.StartUp.{IsStoreOf}
+use Rattle.sercos_law_run.proofs.Start.LaterLemmas.{after_check, blocks_keep, still_ascending}
+use Rattle.sercos_law_run.proofs.Start.KeptLemmas.{writes_keep}
+use Rattle.sercos_law_run.proofs.Held.StoreOf.{IsOf, store_of_so}
+
+-- This is what a check found: it is so where the check finds nothing when it is set; the lists of the checks and writes to procedure
+-- commands leave it so, and in the phases from `top` on each accepted write does.
+pub record IsFound (d : DriveView) (rate check top : ℕ) (P : List Block → Type 0) : Type 0 where
+  pub above : 3 ≤ top
+  pub set : (blocks : List Block) → ends_well rate check blocks ≡ true → P blocks
+  pub listed : (blocks : List Block) (bytes : List ℕ) → IsOf d blocks → P blocks → P (with_data 21 bytes blocks) × P (with_data 22 bytes blocks)
+  pub command : (blocks : List Block) (raw phase : ℕ) (bytes : List ℕ) → IsOf d blocks → put_fault (find_block raw blocks) phase bytes ≡ None → is_command blocks raw ≡ true → P blocks → P (with_data raw bytes blocks)
+  pub later : (blocks : List Block) (raw phase : ℕ) (bytes : List ℕ) → IsOf d blocks → put_fault (find_block raw blocks) phase bytes ≡ None → top ≤ phase → phase ≤ 4 → P blocks → P (with_data raw bytes blocks)
+  pub rise : (cycle phase : ℕ) (past : List Moment) → top ≤ phase → phase ≤ top → has_passed d rate cycle phase past ≡ true → is_passed rate d.command check (calls_in past) cycle ≡ true
+
+-- It holds where the check counts as passed, and where the drive is in such a phase.
+pub record Holds (d : DriveView) (rate check top : ℕ) (P : List Block → Type 0) (calls : List Call) (phase : ℕ) (blocks : List Block) : Type 0 where
+  pub passed : (cycle : ℕ) → is_passed rate d.command check calls cycle ≡ true → P blocks
+  pub stands : top ≤ phase → P blocks
+
+module _ (those : HandedThose) (d : DriveView) (rate check top : ℕ) (P : List Block → Type 0) (found : IsFound d rate check top P) where
+  -- phase 0 forgets what was passed
+  left : (phase after : ℕ) (calls : List Call) (blocks : List Block) → after ≤ phase → Holds d rate check top P calls phase blocks → Holds d rate check top P (with_reset after calls) after blocks
+  left phase after calls blocks down holds = record { passed = by (after == 0); stands = λ high. holds.stands (omega (arith, down, high)) }
+    where
+      by : (zero : Bool) (cycle : ℕ) → is_passed rate d.command check (if zero then Reset ∷ calls else calls) cycle ≡ true → P blocks
+      by true cycle is = absurd (false≢true is)
+      by false cycle is = holds.passed cycle is
+
+  -- a write to a procedure command
+  commanded : (blocks : List Block) (calls : List Call) (phase : ℕ) (w : Write) (c : CommandsView) → IsOf d blocks → put_fault (find_block w.raw blocks) phase w.bytes ≡ None → is_command blocks w.raw ≡ true
+      → Holds d rate check top P calls phase blocks → Holds d rate check top P (Wrote w.raw (setting_in w) w.cycle (with_data w.raw w.bytes blocks) ∷ calls) phase (with_lists c w.raw (setting_in w) (with_data w.raw w.bytes blocks))
+  commanded blocks calls phase w c is fine command holds = record {
+    passed = λ cycle so. lists (passed_by cycle (w.raw == check) (setting_in w == to_cancel) so);
+    stands = λ high. lists (written (holds.stands high));
+  }
+    where
+      after : List Block
+      after = with_data w.raw w.bytes blocks
+
+      written : P blocks → P after
+      written so = found.command blocks w.raw phase w.bytes is fine command so
+
+      after_is : IsOf d after
+      after_is = let stored = (writes_keep d blocks w.raw phase w.bytes is.1 is.0).0 fine in (stored, still_ascending blocks after (stored ∙ sym is.0) is.1)
+
+      lists : P after → P (with_lists c w.raw (setting_in w) after)
+      lists so = after_check c after w.raw (setting_in w) P so (found.listed after _ after_is so).0 (found.listed after _ after_is so).1
+
+      passed_by : (cycle : ℕ) (same cancels : Bool) → (if same then (if cancels then is_passed rate d.command check calls (min cycle w.cycle)
+          else ((is_none (find_set check (settings rate calls)) && (ends_well rate check after && nat_le (w.cycle + d.command) cycle)) || is_passed rate d.command check calls cycle))
+          else is_passed rate d.command check calls cycle) ≡ true → P after
+      passed_by cycle false cancels so = written (holds.passed cycle so)
+      passed_by cycle true true so = written (holds.passed (min cycle w.cycle) so)
+      passed_by cycle true false so =
+          either (is_none (find_set check (settings rate calls)) && (ends_well rate check after && nat_le (w.cycle + d.command) cycle)) refl so
+        where
+          either : (now : Bool) → (is_none (find_set check (settings rate calls)) && (ends_well rate check after && nat_le (w.cycle + d.command) cycle)) ≡ now → (now || is_passed rate d.command check calls cycle) ≡ true → P after
+          either true now so =
+              let well = (and_parts (is_none (find_set check (settings rate calls))) (ends_well rate check after && nat_le (w.cycle + d.command) cycle) now).1 in
+              found.set after (and_parts (ends_well rate check after) (nat_le (w.cycle + d.command) cycle) well).0
+          either false now so = written (holds.passed cycle so)
+
+  -- what a record makes of it
+  recorded : (blocks : List Block) (calls : List Call) (phase : ℕ) (o : Option Write) (c : CommandsView) → IsOf d blocks → phase ≤ 4 → IfSome o (λ (w : Write). put_fault (find_block w.raw blocks) phase w.bytes ≡ None)
+      → Holds d rate check top P calls phase blocks → Holds d rate check top P (calls_with o blocks calls) phase (blocks_with o c blocks)
+  recorded blocks calls phase None c is below fine holds = holds
+  recorded blocks calls phase (Some w) c is below fine holds = by (is_command blocks w.raw) refl
+    where
+      by : (command : Bool) → is_command blocks w.raw ≡ command → Holds d rate check top P ((if command then Wrote w.raw (setting_in w) w.cycle (with_data w.raw w.bytes blocks) else Other w.cycle) ∷ calls) phase
+          (if command then with_lists c w.raw (setting_in w) (with_data w.raw w.bytes blocks) else with_data w.raw w.bytes blocks)
+      by true command = commanded blocks calls phase w c is fine command holds
+      by false command = record {
+        passed = λ cycle so. absurd (false≢true so);
+        stands = λ high. found.later blocks w.raw phase w.bytes is fine high below (holds.stands high);
+      }
+
+  -- what the MST's place makes of it
+  at_mst : (past : List Moment) (cycle : ℕ) (o : Option ℕ) → Holds d rate check top P (calls_in past) (phase_in past) (blocks_in d past)
+      → Holds d rate check top P (with_reset (stands_in d rate cycle o past) (calls_in past)) (stands_in d rate cycle o past) (blocks_in d past)
+  at_mst past cycle o before = got o
+    where
+      same : (after : ℕ) → (top ≤ after → P (blocks_in d past)) → Holds d rate check top P (with_reset after (calls_in past)) after (blocks_in d past)
+      same after stands = record { passed = by (after == 0); stands = stands }
+        where
+          by : (zero : Bool) (cycle : ℕ) → is_passed rate d.command check (if zero then Reset ∷ calls_in past else calls_in past) cycle ≡ true → P (blocks_in d past)
+          by true cycle is = absurd (false≢true is)
+          by false cycle is = before.passed cycle is
+
+      zero : Holds d rate check top P (with_reset 0 (calls_in past)) 0 (blocks_in d past)
+      zero = same 0 (λ low. let high = found.above in absurd (omega (arith, low, high)))
+
+      got : (o : Option ℕ) → Holds d rate check top P (with_reset (stands_in d rate cycle o past) (calls_in past)) (stands_in d rate cycle o past) (blocks_in d past)
+      got None = by (has_mst past)
+        where
+          by : (b : Bool) → Holds d rate check top P (with_reset (if b then phase_in past else 0) (calls_in past)) (if b then phase_in past else 0) (blocks_in d past)
+          by true = same (phase_in past) before.stands
+          by false = zero
+      got (Some phase) = by (phase == phase_in past) ((phase == phase_in past + 1) && has_passed d rate cycle phase past) refl refl
+        where
+          by : (stays rises : Bool) → (phase == phase_in past) ≡ stays → ((phase == phase_in past + 1) && has_passed d rate cycle phase past) ≡ rises
+              → Holds d rate check top P (with_reset (if stays then phase else (if rises then phase else 0)) (calls_in past)) (if stays then phase else (if rises then phase else 0)) (blocks_in d past)
+          by true rises stays rise = same phase (λ high. before.stands (grind (arith, nat_tests, stays, high)))
+          by false false stays rise = zero
+          by false true stays rise = same phase up
+            where
+              up : top ≤ phase → P (blocks_in d past)
+              up high = which (nat_le top (phase_in past)) refl
+                where
+                  which : (b : Bool) → nat_le top (phase_in past) ≡ b → P (blocks_in d past)
+                  which true there = before.stands (grind (arith, nat_tests, there))
+                  which false there =
+                      let (one, has) = and_parts (phase == phase_in past + 1) (has_passed d rate cycle phase past) rise in
+                      before.passed cycle (found.rise cycle phase past high (grind (arith, nat_tests, there, one)) has)
+
+  -- and what the MDT's place does
+  at_mdt : (past : List Moment) (told : Option Told) → phase_in past ≤ 4 → IsOf d (blocks_in d past) → AreThose (blocks_in d past) (taken_in past)
+      → Holds d rate check top P (calls_in past) (phase_in past) (blocks_in d past)
+      → Holds d rate check top P (with_reset (ends_in told past) (calls_after (processed_in d rate told past) (taken_in past) (calls_in past))) (ends_in told past)
+          (blocks_after (processed_in d rate told past) (taken_in past) (blocks_in d past))
+  at_mdt past told below is are before = by told
+    where
+      ends_low : (told : Option Told) → ends_in told past ≤ phase_in past
+      ends_low told = low (nat_le 3 (phase_in past) && (not (takes told past) && has_missed past))
+        where
+          low : (b : Bool) → (if b then 0 else phase_in past) ≤ phase_in past
+          low true = omega arith
+          low false = omega arith
+
+      by : (told : Option Told) → Holds d rate check top P (with_reset (ends_in told past) (calls_after (processed_in d rate told past) (taken_in past) (calls_in past))) (ends_in told past)
+          (blocks_after (processed_in d rate told past) (taken_in past) (blocks_in d past))
+      by None = left (phase_in past) (ends_in None past) (calls_in past) (blocks_in d past) (ends_low None) before
+      by (Some t) = left (phase_in past) (ends_in (Some t) past) _ _ (ends_low (Some t)) (which (has_mst past && nat_le 2 (phase_in past)))
+        where
+          one : Taken
+          one = record_of (cycle_in past) (phase_in past) t.control t.info (blocks_in d past) (commands_in d rate past)
+
+          which : (b : Bool) → Holds d rate check top P (calls_after (if b then Some one else None) (taken_in past) (calls_in past)) (phase_in past) (blocks_after (if b then Some one else None) (taken_in past) (blocks_in d past))
+          which true = recorded (blocks_in d past) (calls_in past) (phase_in past) (added_on one (taken_in past)) (commands_in d rate past) is below (allowed one (taken_in past) are) before
+          which false = before
+
+  -- SO IT IS whatever the drive is given.
+  pub holds_at : (h : List DriveCall) → are_ascending (store_of d) ≡ true → Holds d rate check top P (calls_in (annals d rate h)) (phase_in (annals d rate h)) (blocks_in d (annals d rate h))
+  holds_at [] ascending = let high = found.above in record { passed = λ cycle so. absurd (false≢true so); stands = λ low. absurd (omega (arith, low, high)) }
+  holds_at (Restart ∷ h) ascending = let high = found.above in record { passed = λ cycle so. absurd (false≢true so); stands = λ low. absurd (omega (arith, low, high)) }
+  holds_at (Mst cycle content ∷ h) ascending = at_mst (annals d rate h) cycle (mst_got content) (holds_at h ascending)
+  holds_at (Mdt content ∷ h) ascending =
+      at_mdt (annals d rate h) (mdt_got d.address (phase_in (annals d rate h)) (blocks_in d (annals d rate h)) content) (phase_below d rate h) (store_of_so blocks_keep allowed those d rate h ascending) (those d rate h) (holds_at h ascending)

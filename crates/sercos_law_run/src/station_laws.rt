@@ -1,0 +1,38 @@
+// Laws on what a drive is and does, by what arrived at it.
+ghost use Rattle.sercos_law_run.specs.Stations.Fit.{EmptyKeepsTimes, FitInThree, FitInFour};
+ghost use Rattle.sercos_law_run.specs.Stations.Phases.{StandsByMst, RisesByOne, DropsByCause};
+ghost use Rattle.sercos_law_run.specs.Stations.Cycles.{AlwaysPlain};
+
+use crate::typed_laws::typed_law;
+use sercos_drive::drive_law;
+
+/// A law and no code: in phases 3 and 4 the check for phase 3 finds nothing in the drive's store, whatever the drive was handed and
+/// whatever was written to it, and in phase 4 no block has operation data outside its limits. A store in which the check finds nothing
+/// keeps these times: T1 is at least T1min; from the end of the drive's AT, as long as it can be, to T2 there is TATMT; T3 lies in the
+/// cycle, and T4 with T4min; the data record lies within the MDT.
+pub fn fit_law()
+    ensures times { EmptyKeepsTimes }
+    ensures three { FitInThree }
+    ensures four { FitInFour }
+{
+    drive_law();
+}
+
+/// A law and no code, on the phase of a drive, whatever the drive was handed. If it isn't 0, it is that of the MST that the drive got in
+/// this cycle, or of the one in the cycle before if it got none in this one. It rises by one at a time, by an MST of the next phase, and
+/// into 3 and 4 only if the check for that phase counts as passed. It goes to 0 exactly for these causes: an MST of a phase that the drive
+/// can't take; no MST for the second time in a row; in phases 3 and 4 no MDT for the second time in a row; a restart.
+pub fn phase_law()
+    ensures stands { StandsByMst }
+    ensures rises { RisesByOne }
+    ensures drops { DropsByCause }
+{}
+
+/// A law and no code: all this holds of each drive of a ring in each cycle, after the MST's place and after the MDT's, over every link and
+/// whatever arrives, undetected damage too.
+pub fn station_law()
+    ensures plain { AlwaysPlain }
+{
+    drive_law();
+    typed_law();
+}
