@@ -13,6 +13,7 @@ use Rattle.sercos_law_run.specs.Headline.Once.{OnceAlways}
 use Rattle.sercos_law_run.specs.Undisturbed.WholeRuns.{StartsUndisturbed}
 use Rattle.sercos_law_run.specs.Recovery.Predicts.{Predicts}
 use Rattle.sercos_law_run.specs.Recovery.Recovers.{Recovers}
+use Rattle.sercos_law_run.specs.Stations.Cycles.{AlwaysPlain}
 use Rattle.sercos_law_run.specs.Journal.Harmless.{IsHarmlessAfterCuts}
 use Rattle.sercos_law_run.specs.Journal.Runs.{IsClear, IsNext, IsRun, next_record, run_of}
 use Rattle.sercos_law_run.proofs.Theorems.{both_are_harmless, cuts_are_harmless}
@@ -62,8 +63,8 @@ run_recovers next law r jobs carry restarts n opened later t j is clear =
     law r jobs carry restarts t j opened
     (run_before r jobs carry restarts later (t ∷ j) (subst (λ (run : List CycleView). IsRun r jobs carry restarts run) is (run_is next r jobs carry restarts n))) clear
 
-pub opened_is_kept : AreNext → HarmlessIsClear → OnceAlways → Headline → Predicts → StartsUndisturbed → Recovers → OpenedIsKept
-opened_is_kept next clear once law predicts starts back r jobs carry restarts cycles opened = record {
+pub opened_is_kept : AreNext → HarmlessIsClear → OnceAlways → Headline → Predicts → StartsUndisturbed → Recovers → AlwaysPlain → OpenedIsKept
+opened_is_kept next clear once law predicts starts back plain r jobs carry restarts cycles opened = record {
   run = run_is next r jobs carry restarts cycles;
   clear = λ harmless. clear r jobs carry restarts (run_of r jobs carry restarts cycles) opened.valid opened.typed opened.jobs_typed harmless (run_is next r jobs carry restarts cycles);
   once = run_once next once r jobs carry restarts cycles opened;
@@ -71,6 +72,7 @@ opened_is_kept next clear once law predicts starts back r jobs carry restarts cy
   predicts = run_predicts next predicts r jobs carry restarts cycles opened;
   starts = run_starts next starts r jobs carry restarts cycles opened;
   recovers = run_recovers next back r jobs carry restarts cycles opened;
+  drives = λ later t j is. plain r jobs carry restarts t j opened;
 }
 
 -- Nothing is unseen in the run of a document whose script has no flip, if the link handed in is harmless after cuts; nor in its run over

@@ -12,6 +12,7 @@ use Rattle.sercos_law_run.specs.Headline.Records.{AreOnce}
 use Rattle.sercos_law_run.specs.Undisturbed.WholeRuns.{NeverDisturbed, StartsUp}
 use Rattle.sercos_law_run.specs.Recovery.Predicts.{IsPredicted}
 use Rattle.sercos_law_run.specs.Recovery.Recovers.{RecoversIn}
+use Rattle.sercos_law_run.specs.Stations.Cycles.{DrivesArePlain}
 use Rattle.sercos_law_run.specs.Held.Opened.{IsOpened}
 use Rattle.sercos_config.specs.Views.{DocumentView}
 
@@ -58,6 +59,10 @@ PredictsThroughout r run = (later : List CycleView) (t : CycleView) (j : List Cy
 abbrev pub OnceThroughout : List CycleView → Type 0
 OnceThroughout run = (later : List CycleView) (t : CycleView) (j : List CycleView) → run ≡ later ++ t ∷ j → AreOnce t j
 
+-- In each cycle, whatever arrived, each drive's data are fit for its phase, and it rises and goes to phase 0 for its causes alone.
+abbrev pub DrivesThroughout : RingView → Carry → Restarts → List CycleView → Type 0
+DrivesThroughout r carry restarts run = (later : List CycleView) (t : CycleView) (j : List CycleView) → run ≡ later ++ t ∷ j → DrivesArePlain r carry restarts t j
+
 -- Cycles are a run, in which each is the next one after those before it, and they keep all this. If the link is harmless, no arrival
 -- is unseen.
 pub record IsKept (r : RingView) (jobs : List Job) (carry : Carry) (restarts : Restarts) (journal : List CycleView) : Type 0 where
@@ -68,6 +73,7 @@ pub record IsKept (r : RingView) (jobs : List Job) (carry : Carry) (restarts : R
   pub predicts : PredictsThroughout r journal
   pub starts : StartsThroughout r jobs carry restarts journal
   pub recovers : RecoversThroughout r jobs carry restarts journal
+  pub drives : DrivesThroughout r carry restarts journal
 
 -- The cycles of a document are such a run: over a link handed in too, and over its script alone.
 abbrev pub IsDocumentRun : Carry → Restarts → DocumentView → Type 0

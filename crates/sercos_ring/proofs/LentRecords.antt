@@ -5,7 +5,8 @@ use Rattle.sercos_script.specs.Links.{Carry, Restarts}
 use Rattle.sercos_law_run.specs.Headline.Headline.{Headline}
 use Rattle.sercos_law_run.specs.Undisturbed.WholeRuns.{StartsUndisturbed}
 use Rattle.sercos_law_run.specs.Recovery.Recovers.{Recovers}
-use Rattle.sercos_ring.specs.Kept.{IsNextOf, KeepsAllOf, RecoversOf, StartsUpOf}
+use Rattle.sercos_law_run.specs.Stations.Cycles.{AlwaysPlain}
+use Rattle.sercos_ring.specs.Kept.{DrivesOf, IsNextOf, KeepsAllOf, RecoversOf, StartsUpOf}
 use Rattle.sercos_ring.specs.declared.ring.Ring.{Ring}
 
 -- what is lent is what the ring keeps
@@ -26,3 +27,6 @@ pub recovers_lent : {L : Type 0} (carry_of : L → Carry) (restart_of : L → Re
 recovers_lent carry_of restart_of ring lent law next = record {
   recovers = λ r jobs carry restarts j stands opened clear. law r jobs carry restarts lent j opened (stands.run, next.next r jobs carry restarts j stands) clear;
 }
+
+pub drives_lent : {L : Type 0} (carry_of : L → Carry) (restart_of : L → Restarts) (ring : Ring L) (lent : CycleView) → AlwaysPlain → DrivesOf carry_of restart_of ring lent
+drives_lent carry_of restart_of ring lent law = record { drives = λ r jobs carry restarts j stands opened. law r jobs carry restarts lent j opened }

@@ -28,7 +28,7 @@ use arrayvec::ArrayVec;
 use sercos_bits::Content;
 use sercos_block::RingSetup;
 use sercos_drive::Drive;
-use sercos_law_run::{headline_law, recovery_law, undisturbed_law};
+use sercos_law_run::{headline_law, recovery_law, station_law, undisturbed_law};
 use sercos_master::AnyMaster;
 use sercos_script::BitLink;
 use sercos_step::Job;
@@ -207,7 +207,7 @@ impl<L: BitLink> Ring<L> {
     ghost use Rattle.std.specs.Borrow.{follows_so};
     ghost use mathlib.Core.Option.{none};
     ghost use Rattle.sercos_ring.specs.contracts.ring.Ring.{the_row};
-    ghost use Rattle.sercos_ring.specs.Kept.{AfterCycle, AfterTurn, IsNextOf, KeepsAllOf, RecoversOf, RingStandsFor, StartsUpOf, cycles_made, drives_in, newest};
+    ghost use Rattle.sercos_ring.specs.Kept.{AfterCycle, AfterTurn, DrivesOf, IsNextOf, KeepsAllOf, RecoversOf, RingStandsFor, StartsUpOf, cycles_made, drives_in, newest};
 
     /// Opens a ring of a valid setup that has made no cycle, over a link, with at most 4,096 requests, each of an element that a
     /// transfer takes. A request to an address that no drive of the setup has is never begun. `AllocError` is returned if memory
@@ -298,6 +298,9 @@ impl<L: BitLink> Ring<L> {
     /// Regardless of earlier losses and damage, as long as nothing was undetected: after a fall, a restart of the master included,
     /// after which no cycle is disturbed, the ring starts up again as it does from its opening. From `recovery_bound` cycles after the
     /// last disturbed one on, twice the bound of a start-up and 200, phase 4 is commanded, or the master is at a stop for its cause.
+    ///
+    /// Whatever arrives, undetected damage too: in phases 3 and 4 each drive's data keep its times, so that its data record lies within
+    /// the MDT, and in phase 4 their limits too; and each drive rises, and goes to phase 0, for its causes alone.
     pub fn cycle(&mut self) -> &CycleRecord
         requires room { cycles_made self.old < 2 ^ 31 }
         ensures* after { sem 𝓛 (follows_so (the_row L.row) (the_row L.row) self.entry.ghost_name none (λ _ _. ⊤) (λ new. AfterCycle L.carry L.restart self.old new × (result.now ≡ newest new))) }
@@ -305,10 +308,12 @@ impl<L: BitLink> Ring<L> {
         ensures headline { KeepsAllOf L.carry L.restart self.old result.now }
         ensures undisturbed { StartsUpOf L.carry L.restart self.old result.now }
         ensures recovers { RecoversOf L.carry L.restart self.old result.now }
+        ensures drives { DrivesOf L.carry L.restart self.old result.now }
     {
         headline_law();
         undisturbed_law();
         recovery_law();
+        station_law();
         self.go();
         &self.made
     }
