@@ -4,3 +4,4 @@ pub mod FitInFour
 pub mod Times
 pub mod Phases
 pub mod Cycles
+pub mod Lists

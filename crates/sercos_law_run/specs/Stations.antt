@@ -1,3 +1,4 @@
 pub mod Fit
 pub mod Phases
 pub mod Cycles
+pub mod Lists

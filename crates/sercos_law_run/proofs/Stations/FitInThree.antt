@@ -89,7 +89,7 @@ mapped : (such so : ℕ → Type 0) (numbers : List ℕ) → ((n : ℕ) → such
 mapped such so [] give are = tt
 mapped such so (n ∷ numbers) give are = (give n are.0, mapped such so numbers give are.1)
 
-later_by : (d : DriveView) (raw : ℕ) (a : Attribute) → block_attribute d.blocks raw ≡ Some a → a.command ≡ false → a.protect3 ≡ true → a.protect4 ≡ true → IsLater d raw
+abbrev pub later_by : (d : DriveView) (raw : ℕ) (a : Attribute) → block_attribute d.blocks raw ≡ Some a → a.command ≡ false → a.protect3 ≡ true → a.protect4 ≡ true → IsLater d raw
 later_by d raw a has plain three four = record { attribute = a; has = has; plain = plain; three = three; four = four }
 
 all_later : (d : DriveView) → AreEach (IsLater d) looks_at

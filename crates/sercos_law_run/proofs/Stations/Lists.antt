@@ -1,0 +1,211 @@
+-- What a drive's lists of invalid operation data contain.
+use Rattle.std.proofs.Common.{◌≡◌, ℕ, ◌==◌, Bool, true, false, cond, not, ◌&&◌, List, [], ◌∷◌, Option, Some, None, IfSome, refl, sym, ◌∙◌, ap, subst, arith, if◌then◌else◌}
+use Rattle.std.specs.Prelude.{nat_le, is_none, is_some, option_map, unwrap_or}
+use Rattle.std.specs.Bool.{then_some}
+use Rattle.std.proofs.lemmas.Bool.{and_parts, false≢true}
+use Rattle.std.proofs.lemmas.Bool.Decides.{nat_tests}
+use Rattle.sercos_model.proofs.FaultLemmas.{none_of-or, none_of-then}
+use Rattle.sercos_idn.specs.declared.idn.Idn.{Idn}
+use Rattle.sercos_idn.specs.Attributes.{attribute_of}
+use Rattle.sercos_idn.specs.Codes.{attribute_fault}
+use Rattle.sercos_idn.specs.Commands.{to_cancel}
+use Rattle.sercos_block.specs.declared.block.Block.{Block}
+use Rattle.sercos_block.specs.Blocks.{is_fixed, is_protected}
+use Rattle.std.specs.Option.{option_or}
+use Rattle.sercos_block.specs.BuiltIns.{built_in_block, built_ins}
+use Rattle.sercos_block.specs.Rules.{blocks_fault, has_block}
+use Rattle.sercos_block.specs.Rings.{attribute_in, row_in, built_in_attribute, block_attribute}
+use Rattle.sercos_block.specs.Stores.{find_block, with_data, write_fault, data_fault, put_fault, are_ascending, store_of, IsStore}
+use Rattle.sercos_block.specs.Views.{DriveView}
+use Rattle.sercos_command.specs.Checks.{data_at, list_bytes, unfit_for_phase_3, unfit_for_phase_4}
+use Rattle.sercos_command.specs.Settings.{CommandsView, find_set, is_command, with_write, with_lists, with_set, without, ends_well}
+use Rattle.sercos_command.specs.Calls.{Call, Wrote, Other, Reset, settings}
+use Rattle.sercos_service_drive.specs.Log.{Taken, record_of}
+use Rattle.sercos_service_drive.specs.Writes.{Write, AreThose, added_on, setting_in, blocks_with, commands_with, calls_with}
+use Rattle.sercos_service_drive.proofs.AllowedWrites.{allowed}
+use Rattle.sercos_drive.specs.declared.hearing.Told.{Told}
+use Rattle.sercos_drive.specs.Heard.{DriveCall, Mst, Mdt, Restart, mst_got, mdt_got}
+use Rattle.sercos_drive.specs.Laws.{HandedThose}
+use Rattle.sercos_drive.specs.Moments.{Moment, phase_in, cycle_in, has_mst, taken_in, blocks_in, blocks_after, commands_in, commands_after, calls_in, calls_after, with_reset, reset_in}
+use Rattle.sercos_drive.specs.Annals.{annals, processed_in, stands_in, ends_in}
+use Rattle.sercos_law_run.specs.Start.StartUp.{kept, IsStoreOf}
+use Rattle.sercos_law_run.specs.Stations.Lists.{found_for_3, found_for_4, ListsAreFound}
+use Rattle.sercos_law_run.proofs.Start.BlockFinds.{find_built_in, find_store_of, same_attribute, same_kept}
+use Rattle.sercos_law_run.proofs.Start.LaterLemmas.{blocks_keep, has_of}
+use Rattle.sercos_law_run.proofs.Start.KeptLemmas.{stays, writes_hold, writes_keep}
+use Rattle.sercos_law_run.proofs.Settings.RateStays.{rate_stays}
+use Rattle.sercos_law_run.proofs.Held.StoreOf.{IsOf, store_of_so}
+use Rattle.sercos_law_run.proofs.Stations.FitInThree.{IsLater, other_command, other_later, later_by}
+
+-- What is kept of the settings is what the calls made of them.
+abbrev AreSet : ℕ → CommandsView → List Call → Type 0
+AreSet rate c calls = (c.rate ≡ rate) × (c.set ≡ settings rate calls)
+
+set_reset : (rate phase : ℕ) (c : CommandsView) (calls : List Call) → AreSet rate c calls → AreSet rate (reset_in phase c) (with_reset phase calls)
+set_reset rate phase c calls are = by (phase == 0)
+  where
+    by : (zero : Bool) → AreSet rate (if zero then record { rate = c.rate; time = c.time; set = []; passed_127 = None; passed_128 = None } else c) (if zero then Reset ∷ calls else calls)
+    by true = (are.0, refl)
+    by false = are
+
+set_write : (rate : ℕ) (o : Option Write) (blocks : List Block) (c : CommandsView) (calls : List Call) → AreSet rate c calls → AreSet rate (commands_with o blocks c) (calls_with o blocks calls)
+unfolding with_write
+set_write rate None blocks c calls are = are
+set_write rate (Some w) blocks c calls are = by (is_command blocks w.raw)
+  where
+    after : List Block
+    after = with_data w.raw w.bytes blocks
+
+    by : (command : Bool) → AreSet rate (if command then with_write w.raw (setting_in w) w.cycle after c else record c { passed_127 = None; passed_128 = None })
+        ((if command then Wrote w.raw (setting_in w) w.cycle after else Other w.cycle) ∷ calls)
+    by true = (are.0, rw (are.0, are.1) refl)
+    by false = are
+
+pub are_set : (d : DriveView) (rate : ℕ) (h : List DriveCall) → AreSet rate (commands_in d rate (annals d rate h)) (calls_in (annals d rate h))
+are_set d rate [] = (refl, refl)
+are_set d rate (Restart ∷ h) = ((are_set d rate h).0, refl)
+are_set d rate (Mst cycle content ∷ h) = set_reset rate (stands_in d rate cycle (mst_got content) (annals d rate h)) _ _ (are_set d rate h)
+are_set d rate (Mdt content ∷ h) = set_reset rate (ends_in told past) _ _ (by told (are_set d rate h))
+  where
+    past : List Moment
+    past = annals d rate h
+
+    told : Option Told
+    told = mdt_got d.address (phase_in past) (blocks_in d past) content
+
+    by : (told : Option Told) → AreSet rate (commands_in d rate past) (calls_in past)
+        → AreSet rate (commands_after (processed_in d rate told past) (taken_in past) (commands_in d rate past)) (calls_after (processed_in d rate told past) (taken_in past) (calls_in past))
+    by None are = are
+    by (Some t) are = which (has_mst past && nat_le 2 (phase_in past))
+      where
+        one : Taken
+        one = record_of (cycle_in past) (phase_in past) t.control t.info (blocks_in d past) (commands_in d rate past)
+
+        which : (b : Bool) → AreSet rate (commands_after (if b then Some one else None) (taken_in past) (commands_in d rate past)) (calls_after (if b then Some one else None) (taken_in past) (calls_in past))
+        which true = set_write rate (added_on one (taken_in past)) (blocks_in d past) (commands_in d rate past) (calls_in past) are
+        which false = are
+
+-- A block that is protected in each phase is never written.
+record IsLocked (d : DriveView) (raw : ℕ) : Type 0 where
+  later : IsLater d raw
+  two : later.attribute.protect2 ≡ true
+
+locked : (o : Option Block) (d : DriveView) (raw phase : ℕ) (bytes : List ℕ) (locks : IsLocked d raw) → option_map (λ (b : Block). b.attribute) o ≡ Some locks.later.attribute → put_fault o phase bytes ≡ None → ⊥
+locked None d raw phase bytes locks e none = cc
+locked (Some b) d raw phase bytes locks e none =
+    let same : b.attribute ≡ locks.later.attribute = cc in
+    let (write, _) = none_of-or (write_fault (Some b) phase) (data_fault b bytes) none in
+    let (_, free) = none_of-or (then_some (is_fixed b) 0x7004) (then_some (is_protected b.attribute phase) 0x7005) write in
+    let may : is_protected b.attribute phase ≡ false = none_of-then (is_protected b.attribute phase) 0x7005 free in
+    false≢true (sym may ∙ rw same (by (phase == 2) (phase == 3)))
+  where
+    by : (two three : Bool) → (if two then locks.later.attribute.protect2 else (if three then locks.later.attribute.protect3 else locks.later.attribute.protect4)) ≡ true
+    by true three = locks.two
+    by false true = locks.later.three
+    by false false = locks.later.four
+
+module _ (those : HandedThose) (d : DriveView) (rate : ℕ) (none : blocks_fault [] d.blocks ≡ None) where
+  locks_21 : IsLocked d 21
+  unfolding block_attribute built_in_attribute row_in attribute_in attribute_fault attribute_of
+  locks_21 = record { later = later_by d 21 _ refl refl refl refl; two = refl }
+
+  locks_22 : IsLocked d 22
+  unfolding block_attribute built_in_attribute row_in attribute_in attribute_fault attribute_of
+  locks_22 = record { later = later_by d 22 _ refl refl refl refl; two = refl }
+
+  other : (n : ℕ) → IsLocked d n → (blocks : List Block) (raw phase : ℕ) (bytes : List ℕ) → IsStoreOf d blocks → put_fault (find_block raw blocks) phase bytes ≡ None → (n == raw) ≡ false
+  other n locks blocks raw phase bytes is fine = by (n == raw) refl
+    where
+      by : (b : Bool) → (n == raw) ≡ b → b ≡ false
+      by false e = refl
+      by true e =
+          let same : raw ≡ n = grind (arith, nat_tests, e) in
+          absurd (locked (find_block n blocks) d n phase bytes locks (same_attribute n d blocks none is ∙ locks.later.has) (subst (λ (m : ℕ). put_fault (find_block m blocks) phase bytes ≡ None) same fine))
+
+  abbrev Contain : List Call → List Block → Type 0
+  Contain calls blocks = (data_at blocks 21 ≡ list_bytes (found_for_3 rate calls)) × (data_at blocks 22 ≡ list_bytes (found_for_4 rate calls))
+
+  -- a check that is set writes its list
+  listed : (c : CommandsView) (raw value cycle : ℕ) (blocks : List Block) (calls : List Call) → IsStoreOf d blocks → AreSet rate c calls → Contain calls blocks
+      → Contain (Wrote raw value cycle blocks ∷ calls) (with_lists c raw value blocks)
+  unfolding with_lists
+  listed c raw value cycle blocks calls is are has = rw (are.0, are.1) (by (not (value == to_cancel) && is_none (find_set raw (settings rate calls))) (raw == 127) (raw == 128) refl refl)
+    where
+      has_21 : has_block 21 blocks ≡ true
+      has_21 = has_of 21 d blocks is refl
+
+      has_22 : has_block 22 blocks ≡ true
+      has_22 = has_of 22 d blocks is refl
+
+      by : (sets one two : Bool) → (raw == 127) ≡ one → (raw == 128) ≡ two →
+          (data_at (if sets then (if one then with_data 21 (list_bytes (unfit_for_phase_3 rate blocks)) blocks else (if two then with_data 22 (list_bytes (unfit_for_phase_4 blocks)) blocks else blocks)) else blocks) 21
+            ≡ list_bytes (if one && sets then unfit_for_phase_3 rate blocks else found_for_3 rate calls))
+          × (data_at (if sets then (if one then with_data 21 (list_bytes (unfit_for_phase_3 rate blocks)) blocks else (if two then with_data 22 (list_bytes (unfit_for_phase_4 blocks)) blocks else blocks)) else blocks) 22
+            ≡ list_bytes (if two && sets then unfit_for_phase_4 blocks else found_for_4 rate calls))
+      by false false false e f = has
+      by false false true e f = has
+      by false true false e f = has
+      by false true true e f = has
+      by true true true e f = absurd (grind (arith, nat_tests, e, f))
+      by true true false e f = (writes_hold blocks 21 21 _ has_21, writes_hold blocks 21 22 _ has_21 ∙ has.1)
+      by true false true e f = (writes_hold blocks 22 21 _ has_22 ∙ has.0, writes_hold blocks 22 22 _ has_22)
+      by true false false e f = has
+
+  recorded : (blocks : List Block) (calls : List Call) (phase : ℕ) (o : Option Write) (c : CommandsView) → IsOf d blocks → IfSome o (λ (w : Write). put_fault (find_block w.raw blocks) phase w.bytes ≡ None)
+      → AreSet rate c calls → Contain calls blocks → Contain (calls_with o blocks calls) (blocks_with o c blocks)
+  recorded blocks calls phase None c is fine are has = has
+  recorded blocks calls phase (Some w) c is fine are has = by (is_command blocks w.raw)
+    where
+      after : List Block
+      after = with_data w.raw w.bytes blocks
+
+      written : Contain calls after
+      written = (
+        stays blocks w.raw 21 w.bytes (other 21 locks_21 blocks w.raw phase w.bytes is.0 fine) ∙ has.0,
+        stays blocks w.raw 22 w.bytes (other 22 locks_22 blocks w.raw phase w.bytes is.0 fine) ∙ has.1,
+      )
+
+      by : (command : Bool) → Contain ((if command then Wrote w.raw (setting_in w) w.cycle after else Other w.cycle) ∷ calls) (if command then with_lists c w.raw (setting_in w) after else after)
+      by true = listed c w.raw (setting_in w) w.cycle after calls ((writes_keep d blocks w.raw phase w.bytes is.1 is.0).0 fine) are written
+      by false = written
+
+  kept_by : (phase : ℕ) (calls : List Call) (blocks : List Block) → Contain calls blocks → Contain (with_reset phase calls) blocks
+  kept_by phase calls blocks has = by (phase == 0)
+    where
+      by : (zero : Bool) → Contain (if zero then Reset ∷ calls else calls) blocks
+      by true = has
+      by false = has
+
+  opened : (raw : ℕ) → data_at (store_of d) raw ≡ unwrap_or (option_map (λ (b : Block). b.value) (option_or (option_map (built_in_block d) (row_in built_ins raw)) (find_block raw d.blocks))) []
+  opened raw = rw (find_store_of raw d none, find_built_in d raw) refl
+
+  opening : Contain [] (store_of d)
+  unfolding row_in
+  opening = (opened 21, opened 22)
+
+  pub contain_at : (h : List DriveCall) → are_ascending (store_of d) ≡ true → Contain (calls_in (annals d rate h)) (blocks_in d (annals d rate h))
+  contain_at [] up = opening
+  contain_at (Restart ∷ h) up = contain_at h up
+  contain_at (Mst cycle content ∷ h) up = kept_by (stands_in d rate cycle (mst_got content) (annals d rate h)) (calls_in (annals d rate h)) (blocks_in d (annals d rate h)) (contain_at h up)
+  contain_at (Mdt content ∷ h) up = kept_by (ends_in told past) (calls_after (processed_in d rate told past) (taken_in past) (calls_in past)) (blocks_after (processed_in d rate told past) (taken_in past) (blocks_in d past)) (by told (those d rate h) (store_of_so blocks_keep allowed those d rate h up) (contain_at h up))
+    where
+      past : List Moment
+      past = annals d rate h
+
+      told : Option Told
+      told = mdt_got d.address (phase_in past) (blocks_in d past) content
+
+      by : (told : Option Told) → AreThose (blocks_in d past) (taken_in past) → IsOf d (blocks_in d past) → Contain (calls_in past) (blocks_in d past)
+          → Contain (calls_after (processed_in d rate told past) (taken_in past) (calls_in past)) (blocks_after (processed_in d rate told past) (taken_in past) (blocks_in d past))
+      by None are is has = has
+      by (Some t) are is has = which (has_mst past && nat_le 2 (phase_in past))
+        where
+          one : Taken
+          one = record_of (cycle_in past) (phase_in past) t.control t.info (blocks_in d past) (commands_in d rate past)
+
+          which : (b : Bool) → Contain (calls_after (if b then Some one else None) (taken_in past) (calls_in past)) (blocks_after (if b then Some one else None) (taken_in past) (blocks_in d past))
+          which true = recorded (blocks_in d past) (calls_in past) (phase_in past) (added_on one (taken_in past)) (commands_in d rate past) is (allowed one (taken_in past) are) (are_set d rate h) has
+          which false = has
+
+pub lists_are_found : HandedThose → ListsAreFound
+lists_are_found those d rate h none store = contain_at those d rate none h store.ascending
