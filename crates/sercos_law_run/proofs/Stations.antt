@@ -5,3 +5,4 @@ pub mod Times
 pub mod Phases
 pub mod Cycles
 pub mod Lists
+pub mod Senders

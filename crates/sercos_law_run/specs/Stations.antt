@@ -2,3 +2,4 @@ pub mod Fit
 pub mod Phases
 pub mod Cycles
 pub mod Lists
+pub mod Senders

@@ -81,7 +81,7 @@ command_below busy (v ∷ past) (run, next) =
     by false false is low = low
 
 -- a sum that is 0 has no part that isn't
-none_below : (n : ℕ) (f : ℕ → ℕ) → sum_below n f ≡ 0 → (i : ℕ) → i < n → f i ≡ 0
+pub none_below : (n : ℕ) (f : ℕ → ℕ) → sum_below n f ≡ 0 → (i : ℕ) → i < n → f i ≡ 0
 none_below zero f none i below = absurd (omega (arith, below))
 none_below (suc n) f none i below = elim (cases_eq i n) [
   | inl same ↦ let sum : sum_below n f + f n ≡ 0 = none in rw same (omega (arith, sum))
