@@ -3,6 +3,7 @@ ghost use Rattle.sercos_law_run.specs.Stations.Fit.{EmptyKeepsTimes, FitInThree,
 ghost use Rattle.sercos_law_run.specs.Stations.Lists.{ListsAreFound};
 ghost use Rattle.sercos_law_run.specs.Stations.Phases.{StandsByMst, RisesByOne, DropsByCause};
 ghost use Rattle.sercos_law_run.specs.Stations.Cycles.{AlwaysPlain};
+ghost use Rattle.sercos_law_run.specs.Stations.Senders.{SendsAlone};
 
 use crate::typed_laws::typed_law;
 use sercos_drive::drive_law;
@@ -32,9 +33,11 @@ pub fn phase_law()
 {}
 
 /// A law and no code: all this holds of each drive of a ring in each cycle, after the MST's place and after the MDT's, over every link and
-/// whatever arrives, undetected damage too.
+/// whatever arrives, undetected damage too. As long as nothing was undetected, in a cycle commanded 0, 1 or 2 at most one AT is sent: by
+/// the drive that the MDT of the cycle before was addressed to, and none with phase 0.
 pub fn station_law()
     ensures plain { AlwaysPlain }
+    ensures alone { SendsAlone }
 {
     drive_law();
     typed_law();

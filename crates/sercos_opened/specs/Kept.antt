@@ -13,6 +13,7 @@ use Rattle.sercos_law_run.specs.Undisturbed.WholeRuns.{NeverDisturbed, StartsUp}
 use Rattle.sercos_law_run.specs.Recovery.Predicts.{IsPredicted}
 use Rattle.sercos_law_run.specs.Recovery.Recovers.{RecoversIn}
 use Rattle.sercos_law_run.specs.Stations.Cycles.{DrivesArePlain}
+use Rattle.sercos_law_run.specs.Stations.Senders.{IsAlone}
 use Rattle.sercos_law_run.specs.Held.Opened.{IsOpened}
 use Rattle.sercos_config.specs.Views.{DocumentView}
 
@@ -63,6 +64,10 @@ OnceThroughout run = (later : List CycleView) (t : CycleView) (j : List CycleVie
 abbrev pub DrivesThroughout : RingView → Carry → Restarts → List CycleView → Type 0
 DrivesThroughout r carry restarts run = (later : List CycleView) (t : CycleView) (j : List CycleView) → run ≡ later ++ t ∷ j → DrivesArePlain r carry restarts t j
 
+-- And in each cycle up to the first undetected damage, at most one drive sends with phase 0, 1 or 2 commanded.
+abbrev pub AloneThroughout : List CycleView → Type 0
+AloneThroughout run = (later : List CycleView) (t : CycleView) (j : List CycleView) → run ≡ later ++ t ∷ j → IsClear (t ∷ j) → IsAlone t j
+
 -- Cycles are a run, in which each is the next one after those before it, and they keep all this. If the link is harmless, no arrival
 -- is unseen.
 pub record IsKept (r : RingView) (jobs : List Job) (carry : Carry) (restarts : Restarts) (journal : List CycleView) : Type 0 where
@@ -74,6 +79,7 @@ pub record IsKept (r : RingView) (jobs : List Job) (carry : Carry) (restarts : R
   pub starts : StartsThroughout r jobs carry restarts journal
   pub recovers : RecoversThroughout r jobs carry restarts journal
   pub drives : DrivesThroughout r carry restarts journal
+  pub alone : AloneThroughout journal
 
 -- The cycles of a document are such a run: over a link handed in too, and over its script alone.
 abbrev pub IsDocumentRun : Carry → Restarts → DocumentView → Type 0

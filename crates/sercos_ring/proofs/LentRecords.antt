@@ -6,6 +6,7 @@ use Rattle.sercos_law_run.specs.Headline.Headline.{Headline}
 use Rattle.sercos_law_run.specs.Undisturbed.WholeRuns.{StartsUndisturbed}
 use Rattle.sercos_law_run.specs.Recovery.Recovers.{Recovers}
 use Rattle.sercos_law_run.specs.Stations.Cycles.{AlwaysPlain}
+use Rattle.sercos_law_run.specs.Stations.Senders.{SendsAlone}
 use Rattle.sercos_ring.specs.Kept.{DrivesOf, IsNextOf, KeepsAllOf, RecoversOf, StartsUpOf}
 use Rattle.sercos_ring.specs.declared.ring.Ring.{Ring}
 
@@ -28,5 +29,8 @@ recovers_lent carry_of restart_of ring lent law next = record {
   recovers = λ r jobs carry restarts j stands opened clear. law r jobs carry restarts lent j opened (stands.run, next.next r jobs carry restarts j stands) clear;
 }
 
-pub drives_lent : {L : Type 0} (carry_of : L → Carry) (restart_of : L → Restarts) (ring : Ring L) (lent : CycleView) → AlwaysPlain → DrivesOf carry_of restart_of ring lent
-drives_lent carry_of restart_of ring lent law = record { drives = λ r jobs carry restarts j stands opened. law r jobs carry restarts lent j opened }
+pub drives_lent : {L : Type 0} (carry_of : L → Carry) (restart_of : L → Restarts) (ring : Ring L) (lent : CycleView) → AlwaysPlain → SendsAlone → IsNextOf carry_of restart_of ring lent → DrivesOf carry_of restart_of ring lent
+drives_lent carry_of restart_of ring lent law alone next = record {
+  drives = λ r jobs carry restarts j stands opened. law r jobs carry restarts lent j opened;
+  alone = λ r jobs carry restarts j stands opened clear. alone r jobs carry restarts lent j opened (stands.run, next.next r jobs carry restarts j stands) clear;
+}

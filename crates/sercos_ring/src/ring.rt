@@ -300,7 +300,8 @@ impl<L: BitLink> Ring<L> {
     /// last disturbed one on, twice the bound of a start-up and 200, phase 4 is commanded, or the master is at a stop for its cause.
     ///
     /// Whatever arrives, undetected damage too: in phases 3 and 4 each drive's data keep its times, so that its data record lies within
-    /// the MDT, and in phase 4 their limits too; and each drive rises, and goes to phase 0, for its causes alone.
+    /// the MDT, and in phase 4 their limits too; and each drive rises, and goes to phase 0, for its causes alone. As long as nothing was
+    /// undetected, at most one AT is sent with phase 0, 1 or 2 commanded, by the drive that the MDT before was addressed to.
     pub fn cycle(&mut self) -> &CycleRecord
         requires room { cycles_made self.old < 2 ^ 31 }
         ensures* after { sem 𝓛 (follows_so (the_row L.row) (the_row L.row) self.entry.ghost_name none (λ _ _. ⊤) (λ new. AfterCycle L.carry L.restart self.old new × (result.now ≡ newest new))) }

@@ -20,7 +20,10 @@ pub record IsAnswer (t : CycleView) (j : List CycleView) : Type 0 where
   pub told : mdt_in before.sent ≡ Some mdt
   pub same : slice_index mdt 0 ≡ slice_index at 0
 
--- In a cycle commanded 0, 1 or 2 no AT is sent, or such a one, as long as nothing was undetected.
+-- With phase 0, 1 or 2 commanded no AT is sent, or such a one.
+abbrev pub IsAlone : CycleView → List CycleView → Type 0
+IsAlone t j = t.phase ≤ 2 → (ats_in t.sent ≡ []) ⊎ IsAnswer t j
+
+-- So it is in each cycle of a run, as long as nothing was undetected.
 abbrev pub SendsAlone : Type 0
-SendsAlone = (r : RingView) (jobs : List Job) (carry : Carry) (restarts : Restarts) (t : CycleView) (j : List CycleView) → IsOpened r jobs → IsRun r jobs carry restarts (t ∷ j) → IsClear (t ∷ j) →
-    t.phase ≤ 2 → (ats_in t.sent ≡ []) ⊎ IsAnswer t j
+SendsAlone = (r : RingView) (jobs : List Job) (carry : Carry) (restarts : Restarts) (t : CycleView) (j : List CycleView) → IsOpened r jobs → IsRun r jobs carry restarts (t ∷ j) → IsClear (t ∷ j) → IsAlone t j

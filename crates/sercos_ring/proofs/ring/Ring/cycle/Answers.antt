@@ -14,6 +14,6 @@ returns g c =
         headline = keeps_lent g.L.BitLink.carry g.L.BitLink.restart c.args.self.now c.deref.result.now c.headline_law.ensures next;
         undisturbed = starts_lent g.L.BitLink.carry g.L.BitLink.restart c.args.self.now c.deref.result.now c.undisturbed_law.ensures.starts next;
         recovers = recovers_lent g.L.BitLink.carry g.L.BitLink.restart c.args.self.now c.deref.result.now c.recovery_law.ensures.recovers next;
-        drives = drives_lent g.L.BitLink.carry g.L.BitLink.restart c.args.self.now c.deref.result.now c.station_law.ensures.plain;
+        drives = drives_lent g.L.BitLink.carry g.L.BitLink.restart c.args.self.now c.deref.result.now c.station_law.ensures.plain c.station_law.ensures.alone next;
       },
     )
