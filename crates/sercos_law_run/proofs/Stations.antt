@@ -6,3 +6,4 @@ pub mod Phases
 pub mod Cycles
 pub mod Lists
 pub mod Senders
+pub mod Falls

@@ -3,3 +3,4 @@ pub mod Phases
 pub mod Cycles
 pub mod Lists
 pub mod Senders
+pub mod Falls

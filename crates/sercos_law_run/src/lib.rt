@@ -25,7 +25,7 @@ pub use start_laws::{
     answer_law, cause_law, held_values_law, own_block_law, ring_slot_law, start_up_law,
     store_of_law,
 };
-pub use station_laws::{fit_law, phase_law, station_law};
+pub use station_laws::{fall_law, fit_law, phase_law, station_law};
 pub use totals_laws::{plan_law, totals_law};
 pub use typed_laws::{harmless_law, typed_law};
 pub use undisturbed_laws::undisturbed_law;

@@ -1,4 +1,5 @@
 // Laws on what a drive is and does, by what arrived at it.
+ghost use Rattle.sercos_law_run.specs.Stations.Falls.{FallsHaveCause};
 ghost use Rattle.sercos_law_run.specs.Stations.Fit.{EmptyKeepsTimes, FitInThree, FitInFour};
 ghost use Rattle.sercos_law_run.specs.Stations.Lists.{ListsAreFound};
 ghost use Rattle.sercos_law_run.specs.Stations.Phases.{StandsByMst, RisesByOne, DropsByCause};
@@ -42,3 +43,11 @@ pub fn station_law()
     drive_law();
     typed_law();
 }
+
+/// A law and no code: a fall that a ring reports has its cause, over every link and whatever arrives. `MstLost`: the own MST didn't come back
+/// as it was sent in this cycle, nor in the one before, of phase 1 to 4. `AtLost`: in this cycle and in the one before, of phase 3 or 4, no
+/// AT that arrived reads as that drive's. `StepLimit`: in phase 1 the MDT is to that drive since 64 cycles; later a step to it was sent 64
+/// cycles ago or more, and no answer has been taken since. `Restart`: the master restarts in this cycle.
+pub fn fall_law()
+    ensures causes { FallsHaveCause }
+{}

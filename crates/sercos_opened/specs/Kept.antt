@@ -14,6 +14,7 @@ use Rattle.sercos_law_run.specs.Recovery.Predicts.{IsPredicted}
 use Rattle.sercos_law_run.specs.Recovery.Recovers.{RecoversIn}
 use Rattle.sercos_law_run.specs.Stations.Cycles.{DrivesArePlain}
 use Rattle.sercos_law_run.specs.Stations.Senders.{IsAlone}
+use Rattle.sercos_law_run.specs.Stations.Falls.{FallsForCause}
 use Rattle.sercos_law_run.specs.Held.Opened.{IsOpened}
 use Rattle.sercos_config.specs.Views.{DocumentView}
 
@@ -64,6 +65,10 @@ OnceThroughout run = (later : List CycleView) (t : CycleView) (j : List CycleVie
 abbrev pub DrivesThroughout : RingView → Carry → Restarts → List CycleView → Type 0
 DrivesThroughout r carry restarts run = (later : List CycleView) (t : CycleView) (j : List CycleView) → run ≡ later ++ t ∷ j → DrivesArePlain r carry restarts t j
 
+-- In each cycle, whatever arrived, a fall that is reported has its cause in what arrived at the master.
+abbrev pub FallsThroughout : RingView → List Job → Carry → Restarts → List CycleView → Type 0
+FallsThroughout r jobs carry restarts run = (later : List CycleView) (t : CycleView) (j : List CycleView) → run ≡ later ++ t ∷ j → FallsForCause r jobs carry restarts t j
+
 -- And in each cycle up to the first undetected damage, at most one drive sends with phase 0, 1 or 2 commanded.
 abbrev pub AloneThroughout : List CycleView → Type 0
 AloneThroughout run = (later : List CycleView) (t : CycleView) (j : List CycleView) → run ≡ later ++ t ∷ j → IsClear (t ∷ j) → IsAlone t j
@@ -79,6 +84,7 @@ pub record IsKept (r : RingView) (jobs : List Job) (carry : Carry) (restarts : R
   pub starts : StartsThroughout r jobs carry restarts journal
   pub recovers : RecoversThroughout r jobs carry restarts journal
   pub drives : DrivesThroughout r carry restarts journal
+  pub falls : FallsThroughout r jobs carry restarts journal
   pub alone : AloneThroughout journal
 
 -- The cycles of a document are such a run: over a link handed in too, and over its script alone.

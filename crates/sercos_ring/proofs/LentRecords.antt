@@ -7,7 +7,8 @@ use Rattle.sercos_law_run.specs.Undisturbed.WholeRuns.{StartsUndisturbed}
 use Rattle.sercos_law_run.specs.Recovery.Recovers.{Recovers}
 use Rattle.sercos_law_run.specs.Stations.Cycles.{AlwaysPlain}
 use Rattle.sercos_law_run.specs.Stations.Senders.{SendsAlone}
-use Rattle.sercos_ring.specs.Kept.{DrivesOf, IsNextOf, KeepsAllOf, RecoversOf, StartsUpOf}
+use Rattle.sercos_law_run.specs.Stations.Falls.{FallsHaveCause}
+use Rattle.sercos_ring.specs.Kept.{IsNextOf, KeepsAllOf, RecoversOf, StartsUpOf, StationsOf}
 use Rattle.sercos_ring.specs.declared.ring.Ring.{Ring}
 
 -- what is lent is what the ring keeps
@@ -29,8 +30,10 @@ recovers_lent carry_of restart_of ring lent law next = record {
   recovers = λ r jobs carry restarts j stands opened clear. law r jobs carry restarts lent j opened (stands.run, next.next r jobs carry restarts j stands) clear;
 }
 
-pub drives_lent : {L : Type 0} (carry_of : L → Carry) (restart_of : L → Restarts) (ring : Ring L) (lent : CycleView) → AlwaysPlain → SendsAlone → IsNextOf carry_of restart_of ring lent → DrivesOf carry_of restart_of ring lent
-drives_lent carry_of restart_of ring lent law alone next = record {
+pub stations_lent : {L : Type 0} (carry_of : L → Carry) (restart_of : L → Restarts) (ring : Ring L) (lent : CycleView) → AlwaysPlain → FallsHaveCause → SendsAlone → IsNextOf carry_of restart_of ring lent
+    → StationsOf carry_of restart_of ring lent
+stations_lent carry_of restart_of ring lent law causes alone next = record {
   drives = λ r jobs carry restarts j stands opened. law r jobs carry restarts lent j opened;
+  falls = λ r jobs carry restarts j stands opened. causes r jobs carry restarts lent j opened (stands.run, next.next r jobs carry restarts j stands);
   alone = λ r jobs carry restarts j stands opened clear. alone r jobs carry restarts lent j opened (stands.run, next.next r jobs carry restarts j stands) clear;
 }

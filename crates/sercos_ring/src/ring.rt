@@ -28,7 +28,7 @@ use arrayvec::ArrayVec;
 use sercos_bits::Content;
 use sercos_block::RingSetup;
 use sercos_drive::Drive;
-use sercos_law_run::{headline_law, recovery_law, station_law, undisturbed_law};
+use sercos_law_run::{fall_law, headline_law, recovery_law, station_law, undisturbed_law};
 use sercos_master::AnyMaster;
 use sercos_script::BitLink;
 use sercos_step::Job;
@@ -207,7 +207,7 @@ impl<L: BitLink> Ring<L> {
     ghost use Rattle.std.specs.Borrow.{follows_so};
     ghost use mathlib.Core.Option.{none};
     ghost use Rattle.sercos_ring.specs.contracts.ring.Ring.{the_row};
-    ghost use Rattle.sercos_ring.specs.Kept.{AfterCycle, AfterTurn, DrivesOf, IsNextOf, KeepsAllOf, RecoversOf, RingStandsFor, StartsUpOf, cycles_made, drives_in, newest};
+    ghost use Rattle.sercos_ring.specs.Kept.{AfterCycle, AfterTurn, IsNextOf, KeepsAllOf, RecoversOf, RingStandsFor, StartsUpOf, StationsOf, cycles_made, drives_in, newest};
 
     /// Opens a ring of a valid setup that has made no cycle, over a link, with at most 4,096 requests, each of an element that a
     /// transfer takes. A request to an address that no drive of the setup has is never begun. `AllocError` is returned if memory
@@ -300,8 +300,9 @@ impl<L: BitLink> Ring<L> {
     /// last disturbed one on, twice the bound of a start-up and 200, phase 4 is commanded, or the master is at a stop for its cause.
     ///
     /// Whatever arrives, undetected damage too: in phases 3 and 4 each drive's data keep its times, so that its data record lies within
-    /// the MDT, and in phase 4 their limits too; and each drive rises, and goes to phase 0, for its causes alone. As long as nothing was
-    /// undetected, at most one AT is sent with phase 0, 1 or 2 commanded, by the drive that the MDT before was addressed to.
+    /// the MDT, and in phase 4 their limits too; each drive rises, and goes to phase 0, for its causes alone; and a fall that is reported
+    /// has its cause. As long as nothing was undetected, at most one AT is sent with phase 0, 1 or 2 commanded, by the drive that the MDT
+    /// before was addressed to.
     pub fn cycle(&mut self) -> &CycleRecord
         requires room { cycles_made self.old < 2 ^ 31 }
         ensures* after { sem 𝓛 (follows_so (the_row L.row) (the_row L.row) self.entry.ghost_name none (λ _ _. ⊤) (λ new. AfterCycle L.carry L.restart self.old new × (result.now ≡ newest new))) }
@@ -309,12 +310,13 @@ impl<L: BitLink> Ring<L> {
         ensures headline { KeepsAllOf L.carry L.restart self.old result.now }
         ensures undisturbed { StartsUpOf L.carry L.restart self.old result.now }
         ensures recovers { RecoversOf L.carry L.restart self.old result.now }
-        ensures drives { DrivesOf L.carry L.restart self.old result.now }
+        ensures stations { StationsOf L.carry L.restart self.old result.now }
     {
         headline_law();
         undisturbed_law();
         recovery_law();
         station_law();
+        fall_law();
         self.go();
         &self.made
     }

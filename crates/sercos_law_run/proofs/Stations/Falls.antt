@@ -1,0 +1,399 @@
+-- Why a ring falls, by what arrived at the master in its last cycles.
+use Rattle.std.proofs.Common.{◌≡◌, ◌⊎◌, inl, inr, ℕ, zero, suc, ◌+◌, ◌<◌, ◌≤◌, ◌==◌, Bool, true, false, not, ◌&&◌, ◌||◌, List, [], ◌∷◌, ◌++◌, length, Option, Some, None, refl, sym, ◌∙◌, ap, subst, arith, if◌then◌else◌}
+use Rattle.std.specs.Prelude.{nat_le, min, is_some, is_none, option_map, slice_index, unwrap_or}
+use Rattle.std.specs.Bool.{then_some}
+use Rattle.std.specs.Option.{option_or}
+use Rattle.std.proofs.lemmas.Bool.{and_parts, false≢true}
+use Rattle.std.proofs.lemmas.Bool.Decides.{nat_tests}
+use Rattle.sercos_telegram.specs.Faults.{at_fault, head_fault}
+use Rattle.sercos_telegram.specs.declared.layout.Layout.{Layout}
+use Rattle.sercos_telegram.specs.declared.layout.Layout.TheVariants.{Address, Length}
+use Rattle.sercos_step.specs.declared.request.Outcome.{Outcome}
+use Rattle.sercos_telegram.specs.declared.layout.Kind.TheVariants as kinds
+use Rattle.sercos_step.specs.declared.request.Job.{Job}
+use Rattle.sercos_block.specs.Views.{RingView}
+use Rattle.sercos_service_master.specs.Begun.{answers_it, open_in}
+use Rattle.sercos_service_master.specs.Calls.{Begin, Send, Hear, EndCycle, age_of, begun_by, cycles_open}
+use Rattle.sercos_service_master.specs.Calls as channel
+use Rattle.sercos_seat.specs.Agenda.{at_len}
+use Rattle.sercos_seat.specs.Channel.{is_place, outcomes_in}
+use Rattle.sercos_seat.specs.Ring.{Known, MemberView, known_of, member}
+use Rattle.sercos_master.specs.Annals.{Past, Turn, Call, after_at, after_at_of, after_end, after_taken, count_addressed, fall_at, fall_of, first_from, first_place, goes_on, has_lost_at, has_lost_mst, is_at_limit, is_done, is_awaited, is_mst, is_taken, new_epoch, next_phase, outcomes, place_of, still_waiting, wanted_len}
+use Rattle.sercos_master.specs.Reports.{restart_told}
+use Rattle.sercos_trace.specs.Views.{CycleView, EventsView}
+use Rattle.sercos_trace.specs.declared.events.Fall.{Fall}
+use Rattle.sercos_trace.specs.declared.events.Fall.TheVariants.{MstLost, AtLost, StepLimit, Restart}
+use Rattle.sercos_script.specs.Links.{Carry, Restarts}
+use Rattle.sercos_law_run.specs.Journal.Arrivals.{heard, passage}
+use Rattle.sercos_law_run.specs.Journal.Records.{mst_in, ats_in}
+use Rattle.sercos_law_run.specs.Journal.Runs.{IsRun, IsNext, at_calls, begins, drive_at, looks_back, master_calls, no_events, own_mst, station_of, with_at}
+use Rattle.sercos_law_run.specs.Views.RingViews.{at_start, behind_ats, behind_mdt, behind_mst}
+use Rattle.sercos_law_run.specs.Held.Opened.{IsOpened}
+use Rattle.sercos_law_run.specs.Stations.Falls.{AreTo, FallsHaveCause, HasCause, HasNoAnswer, Identification, IsLate, IsOpenFor, MissesAt, MissesMst, NoneReads, NoneReadsIn, Step, comes_back, cycles_in}
+use Rattle.sercos_law_run.proofs.Undisturbed.Addressed.{place_found}
+use Rattle.sercos_law_run.proofs.Undisturbed.NoFalls.{heard_mdt}
+use Rattle.sercos_law_run.proofs.Undisturbed.StaysUp.{found_passes}
+use Rattle.sercos_law_run.proofs.Views.MasterSame.{SameTurn, begun_cycle, turn_mdt}
+use Rattle.sercos_law_run.proofs.Views.Members.{member_is, members_count}
+use Rattle.sercos_law_run.proofs.Views.ViewRuns.{started}
+
+-- A STEP is open for as many cycles as its age has.
+abbrev IsOpenAt : List channel.Call → Type 0
+IsOpenAt h = (n : ℕ) → age_of h ≡ Some n → IsOpenFor h n
+
+open_for : (h : List channel.Call) → IsOpenAt h
+open_for [] n e = cc
+open_for (Begin r ∷ h) n e = cc
+open_for (EndCycle ∷ h) n e = by (age_of h) refl e (open_for h)
+  where
+    by : (o : Option ℕ) → age_of h ≡ o → option_map (λ age. age + 1) o ≡ Some n → IsOpenAt h → IsOpenFor (EndCycle ∷ h) n
+    by None is e more = cc
+    by (Some m) is e more =
+        let since = more m is in
+        let next : m + 1 ≡ n = cc in
+        record { newer = EndCycle ∷ since.newer; older = since.older; split = ap (λ (c : List channel.Call). EndCycle ∷ c) since.split; waits = since.waits; same = since.same; count = ap (λ (m : ℕ). m + 1) since.count ∙ next }
+open_for (Hear status word ∷ h) n e = by (answers_it (begun_by h) status) refl e (open_for h)
+  where
+    by : (answers : Bool) → answers_it (begun_by h) status ≡ answers → (if answers then None else age_of h) ≡ Some n → IsOpenAt h → IsOpenFor (Hear status word ∷ h) n
+    by true is e more = cc
+    by false is e more =
+        let since = more n e in
+        record { newer = Hear status word ∷ since.newer; older = since.older; split = ap (λ (c : List channel.Call). Hear status word ∷ c) since.split; waits = since.waits; same = rw is since.same; count = since.count }
+open_for (Send ∷ h) n e = by (is_some (open_in (begun_by h))) refl (age_of h) refl e (open_for h)
+  where
+    by : (waits : Bool) → is_some (open_in (begun_by h)) ≡ waits → (o : Option ℕ) → age_of h ≡ o → (if waits then Some (unwrap_or o 0) else None) ≡ Some n → IsOpenAt h → IsOpenFor (Send ∷ h) n
+    by false is o age e more = cc
+    by true is None age e more = let zero : 0 ≡ n = cc in record { newer = []; older = h; split = refl; waits = is; same = refl; count = zero }
+    by true is (Some m) age e more =
+        let since = more m age in
+        let same : m ≡ n = cc in
+        record { newer = Send ∷ since.newer; older = since.older; split = ap (λ (c : List channel.Call). Send ∷ c) since.split; waits = since.waits; same = since.same; count = since.count ∙ same }
+
+late_step : (h : List channel.Call) → nat_le 64 (cycles_open h) ≡ true → (n : ℕ) × (64 ≤ n) × IsOpenFor h n
+late_step h late = by (age_of h) refl late
+  where
+    by : (o : Option ℕ) → age_of h ≡ o → nat_le 64 (min (unwrap_or o 0) 64) ≡ true → (n : ℕ) × (64 ≤ n) × IsOpenFor h n
+    by None is late = absurd (false≢true late)
+    by (Some n) is late = (n, grind (arith, nat_tests, late), open_for h n is)
+
+-- AN IDENTIFICATION goes to one drive.
+place_is_so : (k : ℕ) (o : Option ℕ) → is_place k o ≡ true → o ≡ Some k
+place_is_so k None e = absurd (false≢true e)
+place_is_so k (Some i) e = let same : i ≡ k = grind (arith, nat_tests, e) in ap Some same
+
+are_to : (k n : ℕ) (turns : List Turn) → n ≤ count_addressed k turns → AreTo k n turns
+are_to k zero turns many = tt
+are_to k (suc n) [] many = absurd (omega (arith, many))
+are_to k (suc n) (t ∷ turns) many = by ((t.phase == 1) && is_place k t.addressed) refl many (are_to k n turns)
+  where
+    by : (b : Bool) → ((t.phase == 1) && is_place k t.addressed) ≡ b → suc n ≤ (if b then count_addressed k turns + 1 else 0) → (n ≤ count_addressed k turns → AreTo k n turns) → AreTo k (suc n) (t ∷ turns)
+    by true is many more = let (one, to) = and_parts (t.phase == 1) (is_place k t.addressed) is in (grind (arith, nat_tests, one), place_is_so k t.addressed to, more (omega (arith, many)))
+    by false is many more = absurd (omega (arith, many))
+
+late_so : (p : Past) (k : ℕ) → is_at_limit p k ≡ true → IsLate p k
+late_so p k limit = by (p.now.phase == 1) refl limit
+  where
+    by : (b : Bool) → (p.now.phase == 1) ≡ b → (if b then is_place k p.now.addressed && nat_le 64 (count_addressed k p.turns) else nat_le 64 (cycles_open (p.calls k))) ≡ true → IsLate p k
+    by true one limit =
+        let (to, many) = and_parts (is_place k p.now.addressed) (nat_le 64 (count_addressed k p.turns)) limit in
+        let is : p.now.phase ≡ 1 = grind (arith, nat_tests, one) in
+        Identification is (is, place_is_so k p.now.addressed to, are_to k 64 p.turns (grind (arith, nat_tests, many)))
+    by false one limit = let (n, most, since) = late_step (p.calls k) limit in Step n most since
+
+-- THE ATS of a cycle, as the master takes them. A place from which none was taken has its channel as before.
+record AtsLeave (k : ℕ) (q p : Past) : Type 0 where
+  phase_is : p.now.phase ≡ q.now.phase
+  whole_is : p.now.whole ≡ q.now.whole
+  turns_are : p.turns ≡ q.turns
+  quiet : p.now.heard k ≡ false → (q.now.heard k ≡ false) × (p.calls k ≡ q.calls k)
+
+leaves_same : (k : ℕ) (q : Past) → AtsLeave k q q
+leaves_same k q = record { phase_is = refl; whole_is = refl; turns_are = refl; quiet = λ none. (none, refl) }
+
+leaves_then : (k : ℕ) (q p o : Past) → AtsLeave k q p → AtsLeave k p o → AtsLeave k q o
+leaves_then k q p o one two = record {
+  phase_is = two.phase_is ∙ one.phase_is;
+  whole_is = two.whole_is ∙ one.whole_is;
+  turns_are = two.turns_are ∙ one.turns_are;
+  quiet = λ none. let (first, calls) = two.quiet none in let (before, same) = one.quiet first in (before, calls ∙ same);
+}
+
+at_leaves : (s : Known) (k : ℕ) (content : List ℕ) (q : Past) → AtsLeave k q (after_at s content q)
+at_leaves s k content q = by (place_of s (slice_index content 0))
+  where
+    taken : (i : ℕ) → AtsLeave k q (after_taken i content q)
+    taken i = record { phase_is = refl; whole_is = refl; turns_are = refl; quiet = which (k == i) _ }
+      where
+        which : (same : Bool) (calls : List channel.Call) → (if same then true else q.now.heard k) ≡ false → (q.now.heard k ≡ false) × ((if same then calls else q.calls k) ≡ q.calls k)
+        which true calls none = absurd (false≢true (sym none))
+        which false calls none = (none, refl)
+
+    by : (o : Option ℕ) → AtsLeave k q (after_at_of s o content q)
+    by None = leaves_same k q
+    by (Some i) = which (is_taken s q i content)
+      where
+        which : (b : Bool) → AtsLeave k q (if b then after_taken i content q else q)
+        which true = taken i
+        which false = leaves_same k q
+
+-- a place from which none is taken in phases 3 and 4 gets none that reads
+unread : (s : Known) (k : ℕ) (content : List ℕ) (q : Past) → place_of s (slice_index content 0) ≡ Some k → 3 ≤ q.now.phase → (after_at s content q).now.heard k ≡ false
+    → is_none (at_fault (member s k).address (at_len (member s k) (outcomes q k)) content) ≡ false
+unread s k content q found late none =
+    by (is_taken s q k content) refl (subst (λ (o : Option ℕ). (after_at_of s o content q).now.heard k ≡ false) found none)
+  where
+    reads : Bool
+    reads = is_none (at_fault (member s k).address (at_len (member s k) (outcomes q k)) content)
+
+    high : nat_le 3 q.now.phase ≡ true
+    high = grind (arith, nat_tests, late)
+
+    not_so : (b : Bool) → (b ≡ true → ⊥) → b ≡ false
+    not_so true never = absurd (never refl)
+    not_so false never = refl
+
+    same_place : (k == k) ≡ true
+    same_place = grind (arith, nat_tests)
+
+    by : (b : Bool) → is_taken s q k content ≡ b → (if b then after_taken k content q else q).now.heard k ≡ false → reads ≡ false
+    by true is none = absurd (false≢true (sym none ∙ rw same_place refl))
+    by false is none = not_so reads (λ good. false≢true (sym is ∙ taken good))
+      where
+        taken : reads ≡ true → is_taken s q k content ≡ true
+        taken good = rw (high, none) good
+
+-- So none of the ATs of a cycle reads as that of a drive from which none is taken.
+-- one that has another address doesn't
+other_address : (address len : ℕ) (content : List ℕ) → (slice_index content 0 == address) ≡ false → is_some (at_fault address len content) ≡ true
+unfolding head_fault
+other_address address len content other = rw other (by (length content == 1 + len))
+  where
+    by : (b : Bool) → is_some (option_or (then_some (not b) (Length (length content) (1 + len))) (Some (Address (slice_index content 0) address))) ≡ true
+    by true = refl
+    by false = refl
+
+some_so : (o : Option Layout) → is_none o ≡ false → is_some o ≡ true
+some_so None e = absurd (false≢true (sym e))
+some_so (Some x) e = refl
+
+record AtsAre (r : RingView) (jobs : List Job) (carry : Carry) (cycle k : ℕ) (ats : List (List ℕ)) (q p : Past) : Type 0 where
+  leaves : AtsLeave k q p
+  none : p.now.heard k ≡ false → 3 ≤ q.now.phase → NoneReads r carry cycle (drive_at r k).address (at_len (member (known_of r) k) (outcomes p k)) ats
+
+module _ (r : RingView) (jobs : List Job) (carry : Carry) (restarts : Restarts) (opened : IsOpened r jobs) where
+  ats_are : (cycle k : ℕ) → k < length r.drives → (ats : List (List ℕ)) (h : List Call) → AtsAre r jobs carry cycle k ats (looks_back r jobs h) (looks_back r jobs (at_calls r carry cycle ats h))
+  ats_are cycle k below [] h = record { leaves = leaves_same k (looks_back r jobs h); none = λ none late. tt }
+  ats_are cycle k below (at ∷ ats) h = by (heard carry (passage cycle kinds.At (station_of r (slice_index at 0)) 0) at) refl (λ (o : Option (List ℕ)). ats_are cycle k below ats (with_at o h))
+    where
+      by : (o : Option (List ℕ)) → heard carry (passage cycle kinds.At (station_of r (slice_index at 0)) 0) at ≡ o
+          → ((o : Option (List ℕ)) → AtsAre r jobs carry cycle k ats (looks_back r jobs (with_at o h)) (looks_back r jobs (at_calls r carry cycle ats (with_at o h))))
+          → AtsAre r jobs carry cycle k (at ∷ ats) (looks_back r jobs h) (looks_back r jobs (at_calls r carry cycle ats (with_at o h)))
+      by None is more = let rest = more None in record { leaves = rest.leaves; none = λ quiet late. ((λ content came. let no : None ≡ Some content = sym is ∙ came in absurd (cc)), rest.none quiet late) }
+      by (Some got) is more = record {
+        leaves = leaves_then k (looks_back r jobs h) (after_at (known_of r) got (looks_back r jobs h)) _ first rest.leaves;
+        none = λ quiet late.
+            let (before, calls) = rest.leaves.quiet quiet in
+            let phase = first.phase_is in (
+              (λ content came. let same : got ≡ content = cc in subst (λ (c : List ℕ). is_some (at_fault (drive_at r k).address (at_len (member (known_of r) k) (outcomes last k)) c) ≡ true) same
+                (reads before calls (first.quiet before).1 late)),
+              rest.none quiet (omega (arith, late, phase)),
+            );
+      }
+        where
+          rest : AtsAre r jobs carry cycle k ats (after_at (known_of r) got (looks_back r jobs h)) (looks_back r jobs (at_calls r carry cycle ats (with_at (Some got) h)))
+          rest = more (Some got)
+
+          last : Past
+          last = looks_back r jobs (at_calls r carry cycle ats (with_at (Some got) h))
+
+          first : AtsLeave k (looks_back r jobs h) (after_at (known_of r) got (looks_back r jobs h))
+          first = at_leaves (known_of r) k got (looks_back r jobs h)
+
+          reads : (after_at (known_of r) got (looks_back r jobs h)).now.heard k ≡ false → last.calls k ≡ (after_at (known_of r) got (looks_back r jobs h)).calls k
+              → (after_at (known_of r) got (looks_back r jobs h)).calls k ≡ (looks_back r jobs h).calls k → 3 ≤ (looks_back r jobs h).now.phase
+              → is_some (at_fault (drive_at r k).address (at_len (member (known_of r) k) (outcomes last k)) got) ≡ true
+          reads before calls same late = which (slice_index got 0 == (drive_at r k).address) refl
+            where
+              outs : outcomes (looks_back r jobs h) k ≡ outcomes last k
+              outs = ap (λ (c : List channel.Call). outcomes_in (begun_by c)) (sym same ∙ sym calls)
+
+              which : (b : Bool) → (slice_index got 0 == (drive_at r k).address) ≡ b → is_some (at_fault (drive_at r k).address (at_len (member (known_of r) k) (outcomes last k)) got) ≡ true
+              which false other = other_address (drive_at r k).address (at_len (member (known_of r) k) (outcomes last k)) got other
+              which true own =
+                  let mine : slice_index got 0 ≡ (drive_at r k).address = grind (arith, nat_tests, own) in
+                  let found : place_of (known_of r) (slice_index got 0) ≡ Some k = ap (place_of (known_of r)) mine ∙ place_found r k opened.valid below in
+                  let address : (member (known_of r) k).address ≡ (drive_at r k).address = ap (λ (m : MemberView). m.address) (member_is r k) in
+                  some_so _ (ap (λ (l : List Outcome). is_none (at_fault (drive_at r k).address (at_len (member (known_of r) k) l) got)) (sym outs)
+                    ∙ ap (λ (a : ℕ). is_none (at_fault a (at_len (member (known_of r) k) (outcomes (looks_back r jobs h) k)) got)) (sym address)
+                    ∙ unread (known_of r) k got (looks_back r jobs h) found late before)
+
+  -- THE TURN of a cycle.
+  leaves_at : (t : CycleView) (j : List CycleView) (k : ℕ) → k < length r.drives → AtsLeave k (behind_mst r jobs carry restarts t.sent j) (behind_ats r jobs carry restarts t.sent j)
+  leaves_at t j k below = (ats_are (length j) k below (ats_in t.sent) (own_mst carry (length j) (mst_in t.sent) (begins r carry restarts j))).leaves
+
+  -- it is there whether or not the ring has drives
+  ats_turn : (cycle : ℕ) (ats : List (List ℕ)) (h : List Call) → SameTurn (looks_back r jobs (at_calls r carry cycle ats h)) (looks_back r jobs h)
+  ats_turn cycle [] h = record { phase_is = refl; whole_is = refl; turns_are = refl }
+  ats_turn cycle (at ∷ ats) h = by (heard carry (passage cycle kinds.At (station_of r (slice_index at 0)) 0) at) (λ (o : Option (List ℕ)). ats_turn cycle ats (with_at o h))
+    where
+      by : (o : Option (List ℕ)) → ((o : Option (List ℕ)) → SameTurn (looks_back r jobs (at_calls r carry cycle ats (with_at o h))) (looks_back r jobs (with_at o h)))
+          → SameTurn (looks_back r jobs (at_calls r carry cycle ats (with_at o h))) (looks_back r jobs h)
+      by None more = more None
+      by (Some got) more =
+          let rest = more (Some got) in
+          let first = at_leaves (known_of r) 0 got (looks_back r jobs h) in
+          record { phase_is = rest.phase_is ∙ first.phase_is; whole_is = rest.whole_is ∙ first.whole_is; turns_are = rest.turns_are ∙ first.turns_are }
+
+  turn_at : (t : CycleView) (j : List CycleView) → SameTurn (behind_mdt r jobs carry restarts t.sent j) (behind_mst r jobs carry restarts t.sent j)
+  turn_at t j =
+      let a = turn_mdt (known_of r) (behind_ats r jobs carry restarts t.sent j) in
+      let b = ats_turn (length j) (ats_in t.sent) (own_mst carry (length j) (mst_in t.sent) (begins r carry restarts j)) in
+      record { phase_is = a.phase_is ∙ b.phase_is; whole_is = a.whole_is ∙ b.whole_is; turns_are = a.turns_are ∙ b.turns_are }
+
+  phase_at : (t : CycleView) (j : List CycleView) → IsNext r jobs carry restarts t j → (behind_mdt r jobs carry restarts t.sent j).now.phase ≡ t.phase
+  phase_at t j next = (turn_at t j).phase_is ∙ sym next.phase
+
+  whole_at : (t : CycleView) (j : List CycleView) → IsNext r jobs carry restarts t j → (behind_mdt r jobs carry restarts t.sent j).now.whole ≡ comes_back carry t j
+  whole_at t j next = (turn_at t j).whole_is ∙ ap (λ (n : ℕ). is_mst n (heard carry (passage (length j) kinds.Mst 0 0) (mst_in t.sent))) (sym next.phase)
+
+  none_at : (t : CycleView) (j : List CycleView) (k : ℕ) → k < length r.drives → IsNext r jobs carry restarts t j → 3 ≤ t.phase → (behind_mdt r jobs carry restarts t.sent j).now.heard k ≡ false → NoneReadsIn r jobs carry restarts t j k
+  none_at t j k below next late quiet =
+      let same = next.phase in
+      (ats_are (length j) k below (ats_in t.sent) (own_mst carry (length j) (mst_in t.sent) (begins r carry restarts j))).none
+      (ap (λ (f : ℕ → Bool). f k) (sym (heard_mdt (known_of r) (behind_ats r jobs carry restarts t.sent j))) ∙ quiet) (omega (arith, late, same))
+
+  -- the turn before it is that of the cycle before, from which the phase hasn't gone down
+  record IsBefore (t : CycleView) (j : List CycleView) (b : Turn) : Type 0 where
+    before : CycleView
+    older : List CycleView
+    follows : j ≡ before ∷ older
+    turn : b ≡ (behind_mdt r jobs carry restarts before.sent older).now
+    phase : b.phase ≤ (at_start r jobs carry restarts j).now.phase
+
+  turn_before : (t : CycleView) (j : List CycleView) (b : Turn) (rest : List Turn) → (behind_mdt r jobs carry restarts t.sent j).turns ≡ b ∷ rest → IsBefore t j b
+  turn_before t j b rest is = by (restarts (length j) 0) j (started r jobs (restarts (length j) 0) (master_calls r carry restarts j)) (sym (turn_at t j).turns_are ∙ is) refl
+    where
+      up : (s : Known) (p : Past) → p.now.phase ≤ next_phase s p
+      up s p = which (is_done s p)
+        where
+          which : (b : Bool) → p.now.phase ≤ (if b then p.now.phase + 1 else p.now.phase)
+          which true = omega arith
+          which false = omega arith
+
+      last : (u : CycleView) (older : List CycleView) → (b' : Bool) → (p : Past) → p ≡ (behind_mdt r jobs carry restarts u.sent older)
+          → (if b' then new_epoch (p.cycle + 1) (still_waiting p) else goes_on (next_phase (known_of r) p) p).turns ≡ b ∷ rest
+          → (b ≡ p.now) × (b.phase ≤ (if b' then new_epoch (p.cycle + 1) (still_waiting p) else goes_on (next_phase (known_of r) p) p).now.phase)
+      last u older true p e is = cc
+      last u older false p e is =
+          let same : p.now ≡ b = cc in
+          let low = up (known_of r) p in
+          (sym same, subst (λ (x : Turn). x.phase ≤ next_phase (known_of r) p) same low)
+
+      by : (restarted : Bool) (i : List CycleView) → at_start r jobs carry restarts j ≡ begun_cycle restarted (looks_back r jobs (master_calls r carry restarts j)) → (at_start r jobs carry restarts j).turns ≡ b ∷ rest → j ≡ i → IsBefore t j b
+      by true i start is same = let none : [] ≡ b ∷ rest = sym (ap (λ (p : Past). p.turns) start) ∙ is in absurd (cc)
+      by false [] start is same =
+          let none : [] ≡ b ∷ rest = sym (ap (λ (i : List CycleView). (looks_back r jobs (master_calls r carry restarts i)).turns) same) ∙ sym (ap (λ (p : Past). p.turns) start) ∙ is in absurd (cc)
+      by false (u ∷ older) start is same =
+          let (turn, low) = last u older (is_some (fall_of (known_of r) (behind_mdt r jobs carry restarts u.sent older))) (behind_mdt r jobs carry restarts u.sent older) refl
+            (sym (ap (λ (i : List CycleView). (looks_back r jobs (master_calls r carry restarts i)).turns) same) ∙ sym (ap (λ (p : Past). p.turns) start) ∙ is) in
+          record {
+            before = u;
+            older = older;
+            follows = same;
+            turn = turn;
+            phase = subst (λ (n : ℕ). b.phase ≤ n) (sym (ap (λ (p : Past). p.now.phase) start ∙ ap (λ (i : List CycleView). (looks_back r jobs (master_calls r carry restarts i)).now.phase) same)) low;
+          }
+
+  -- THE CAUSES.
+  mst_lost : (t : CycleView) (j : List CycleView) → IsRun r jobs carry restarts (t ∷ j) → has_lost_mst ((behind_mdt r jobs carry restarts t.sent j).now ∷ (behind_mdt r jobs carry restarts t.sent j).turns) ≡ true → MissesMst carry t j
+  mst_lost t j run lost = by (behind_mdt r jobs carry restarts t.sent j).turns refl lost
+    where
+      not_so : (b : Bool) → not b ≡ true → b ≡ false
+      not_so true e = absurd (false≢true e)
+      not_so false e = refl
+
+      by : (turns : List Turn) → (behind_mdt r jobs carry restarts t.sent j).turns ≡ turns → has_lost_mst ((behind_mdt r jobs carry restarts t.sent j).now ∷ turns) ≡ true → MissesMst carry t j
+      by [] is lost = absurd (false≢true lost)
+      by (b ∷ rest) is lost =
+          let (up, both) = and_parts (nat_le 1 b.phase) (not (behind_mdt r jobs carry restarts t.sent j).now.whole && not b.whole) lost in
+          let (now, then_) = and_parts (not (behind_mdt r jobs carry restarts t.sent j).now.whole) (not b.whole) both in
+          let before = turn_before t j b rest is in
+          let older_next : IsNext r jobs carry restarts before.before before.older = (subst (λ (i : List CycleView). IsRun r jobs carry restarts i) before.follows run.0).1 in
+          record {
+            now = sym (whole_at t j run.1) ∙ not_so (behind_mdt r jobs carry restarts t.sent j).now.whole now;
+            before = before.before;
+            older = before.older;
+            follows = before.follows;
+            lost = sym (whole_at before.before before.older older_next) ∙ ap (λ (x : Turn). x.whole) (sym before.turn) ∙ not_so b.whole then_;
+            phase = let same = ap (λ (x : Turn). x.phase) before.turn ∙ phase_at before.before before.older older_next in grind (arith, nat_tests, up, same);
+          }
+
+  at_lost : (t : CycleView) (j : List CycleView) (k : ℕ) → k < length r.drives → IsRun r jobs carry restarts (t ∷ j)
+      → has_lost_at k ((behind_mdt r jobs carry restarts t.sent j).now ∷ (behind_mdt r jobs carry restarts t.sent j).turns) ≡ true → MissesAt r jobs carry restarts t j (member (known_of r) k).address
+  at_lost t j k below run lost = by (behind_mdt r jobs carry restarts t.sent j).turns refl lost
+    where
+      not_so : (b : Bool) → not b ≡ true → b ≡ false
+      not_so true e = absurd (false≢true e)
+      not_so false e = refl
+
+      by : (turns : List Turn) → (behind_mdt r jobs carry restarts t.sent j).turns ≡ turns → has_lost_at k ((behind_mdt r jobs carry restarts t.sent j).now ∷ turns) ≡ true → MissesAt r jobs carry restarts t j (member (known_of r) k).address
+      by [] is lost = absurd (false≢true lost)
+      by (b ∷ rest) is lost =
+          let (up, both) = and_parts (nat_le 3 b.phase) (not ((behind_mdt r jobs carry restarts t.sent j).now.heard k) && not (b.heard k)) lost in
+          let (now, then_) = and_parts (not ((behind_mdt r jobs carry restarts t.sent j).now.heard k)) (not (b.heard k)) both in
+          let before = turn_before t j b rest is in
+          let older_next : IsNext r jobs carry restarts before.before before.older = (subst (λ (i : List CycleView). IsRun r jobs carry restarts i) before.follows run.0).1 in
+          let phase_then = ap (λ (x : Turn). x.phase) before.turn ∙ phase_at before.before before.older older_next in
+          let phase_now = run.1.phase in
+          let no_lower = before.phase in
+          record {
+            place = k;
+            inside = below;
+            address_is = ap (λ (m : MemberView). m.address) (sym (member_is r k));
+            now = none_at t j k below run.1 (grind (arith, nat_tests, up, no_lower, phase_now)) (not_so ((behind_mdt r jobs carry restarts t.sent j).now.heard k) now);
+            before = before.before;
+            older = before.older;
+            follows = before.follows;
+            lost = none_at before.before before.older k below older_next (grind (arith, nat_tests, up, phase_then)) (ap (λ (x : Turn). x.heard k) (sym before.turn) ∙ not_so (b.heard k) then_);
+            phase = grind (arith, nat_tests, up, phase_then);
+          }
+
+  inside : (k n i : ℕ) (test : ℕ → Bool) → first_from k n test ≡ Some i → i < k + n
+  inside k zero i test e = cc
+  inside k (suc n) i test e = by (test k) e (inside (k + 1) n i test)
+    where
+      by : (b : Bool) → (if b then Some k else first_from (k + 1) n test) ≡ Some i → (first_from (k + 1) n test ≡ Some i → i < k + 1 + n) → i < k + suc n
+      by true e more = let same : k ≡ i = cc in omega (arith, same)
+      by false e more = let low = more e in omega (arith, low)
+
+  placed : (k : ℕ) (test : ℕ → Bool) → first_place (known_of r) test ≡ Some k → (k < length r.drives) × (test k ≡ true)
+  placed k test is = let low = inside 0 (length (known_of r).drives) k test is in let count = members_count r in (omega (arith, low, count), found_passes 0 (length (known_of r).drives) k test is)
+
+  caused : (t : CycleView) (j : List CycleView) → IsRun r jobs carry restarts (t ∷ j) → (f : Fall) → fall_of (known_of r) (behind_mdt r jobs carry restarts t.sent j) ≡ Some f → HasCause r jobs carry restarts t j f
+  caused t j run f is = by (has_lost_mst (p.now ∷ p.turns)) refl (first_place (known_of r) (λ k. has_lost_at k (p.now ∷ p.turns))) refl (first_place (known_of r) (is_at_limit p)) refl is
+    where
+      p : Past
+      p = behind_mdt r jobs carry restarts t.sent j
+
+      by : (m : Bool) → has_lost_mst (p.now ∷ p.turns) ≡ m → (a : Option ℕ) → first_place (known_of r) (λ k. has_lost_at k (p.now ∷ p.turns)) ≡ a → (l : Option ℕ) → first_place (known_of r) (is_at_limit p) ≡ l
+          → option_or (if m then Some MstLost else None) (option_or (fall_at AtLost (known_of r) a) (fall_at StepLimit (known_of r) l)) ≡ Some f → HasCause r jobs carry restarts t j f
+      by true lost a at l late is = let same : MstLost ≡ f = cc in subst (HasCause r jobs carry restarts t j) same (mst_lost t j run lost)
+      by false lost (Some k) at l late is =
+          let same : AtLost (member (known_of r) k).address ≡ f = cc in
+          let (below, passes) = placed k (λ k. has_lost_at k (p.now ∷ p.turns)) at in
+          subst (HasCause r jobs carry restarts t j) same (at_lost t j k below run passes)
+      by false lost None at (Some k) late is =
+          let same : StepLimit (member (known_of r) k).address ≡ f = cc in
+          let (below, passes) = placed k (is_at_limit p) late in
+          subst (HasCause r jobs carry restarts t j) same (record { place = k; inside = below; address_is = ap (λ (m : MemberView). m.address) (sym (member_is r k)); late = late_so p k passes })
+      by false lost None at None late is = cc
+
+pub falls_have_cause : FallsHaveCause
+falls_have_cause r jobs carry restarts t j opened run f is =
+    by (fall_of (known_of r) (behind_mdt r jobs carry restarts t.sent j)) refl (restarts (length j) 0) refl (sym (ap (λ (e : EventsView). e.fall) run.1.events) ∙ is)
+  where
+    by : (o : Option Fall) → fall_of (known_of r) (behind_mdt r jobs carry restarts t.sent j) ≡ o → (b : Bool) → restarts (length j) 0 ≡ b
+        → option_or o (if b then restart_told (known_of r) (looks_back r jobs (master_calls r carry restarts j)) no_events else no_events).fall ≡ Some f → HasCause r jobs carry restarts t j f
+    by (Some x) falls b restarted is = let same : x ≡ f = cc in subst (HasCause r jobs carry restarts t j) same (caused r jobs carry restarts opened t j run x falls)
+    by None falls true restarted is = let same : Restart ≡ f = cc in subst (HasCause r jobs carry restarts t j) same restarted
+    by None falls false restarted is = cc
