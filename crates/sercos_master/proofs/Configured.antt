@@ -39,9 +39,10 @@ stays d all (Some o) e = elim (cases_eq (reads_count d + 11) (length all)) [
 pub record Leaves (q p : Past) : Type 0 where
   pub calls : q.calls ≡ p.calls
   pub phase : q.now.phase ≡ p.now.phase
+  pub turns : q.turns ≡ p.turns
 
 same : (p : Past) → Leaves p p
-same p = record { calls = refl; phase = refl }
+same p = record { calls = refl; phase = refl; turns = refl }
 
 leaves_stop : (x : Option Stop) (p : Past) → Leaves (with_stop x p) p
 leaves_stop None p = same p
@@ -49,10 +50,10 @@ leaves_stop (Some x) p = by (is_some p.stop)
   where
     by : (t : Bool) → Leaves (if t then p else record p { now = record p.now { stops = true }; stop = Some x }) p
     by true = same p
-    by false = record { calls = refl; phase = refl }
+    by false = record { calls = refl; phase = refl; turns = refl }
 
 leaves_plan : (r : Result PlanView ChainView) (p : Past) → Leaves (with_plan r p) p
-leaves_plan (Ok plan) p = record { calls = refl; phase = refl }
+leaves_plan (Ok plan) p = record { calls = refl; phase = refl; turns = refl }
 leaves_plan (Err chain) p = leaves_stop (Some (stop.NoFit chain)) p
 
 leaves_planned : (s : Known) (p : Past) → Leaves (planned_by s p) p
@@ -73,7 +74,7 @@ pub leaves : (s : Known) (p : Past) → Leaves (settled s p) p
 leaves s p =
     let a : Leaves (settled s p) (with_stop (first_trouble s p) p) = leaves_due s (with_stop (first_trouble s p) p) in
     let b : Leaves (with_stop (first_trouble s p) p) p = leaves_stop (first_trouble s p) p in
-    record { calls = a.calls ∙ b.calls; phase = a.phase ∙ b.phase }
+    record { calls = a.calls ∙ b.calls; phase = a.phase ∙ b.phase; turns = a.turns ∙ b.turns }
 
 -- the MDT's turn adds no outcome
 begin_adds : (t : Option Task) (calls : List channel.Call) → outcomes_in (begun_by (with_begin t calls)) ≡ outcomes_in (begun_by calls)
