@@ -135,9 +135,9 @@ chosen : (b : Bool) → (b ≡ true) ⊎ (b ≡ false)
 chosen true = inl refl
 chosen false = inr refl
 
-pub none_from : (n k : ℕ) (test : ℕ → Bool) → ((j : ℕ) → k ≤ j → test j ≡ false) → first_from k n test ≡ None
+pub none_from : (n k : ℕ) (test : ℕ → Bool) → ((j : ℕ) → k ≤ j → j < k + n → test j ≡ false) → first_from k n test ≡ None
 none_from zero k test none = refl
-none_from (suc n) k test none = rw (none k (omega arith)) (none_from n (k + 1) test (λ j h. none j (omega (arith, h))))
+none_from (suc n) k test none = rw (none k (omega arith) (omega arith)) (none_from n (k + 1) test (λ j low high. none j (omega (arith, low)) (omega (arith, high))))
 
 only_false : (test : ℕ → Bool) (i j : ℕ) → (test j ≡ true → j ≡ i) → (j ≡ i → ⊥) → test j ≡ false
 only_false test i j only n = elim (chosen (test j)) [ inl e ↦ absurd (n (only e)) | inr e ↦ e ]
@@ -147,7 +147,7 @@ first_only zero k i test only low high = absurd (omega (arith, low, high))
 first_only (suc n) k i test only low high = elim (cases_eq k i) [
   | inl same ↦ elim (chosen (test i)) [
     | inl e ↦ let h : test k ≡ true = rw same e in rw (h, e, same) refl
-    | inr e ↦ let h : test k ≡ false = rw same e in rw (h, e) (none_from n (k + 1) test (λ j later. only_false test i j (only j) (λ f. omega (arith, same, later, f))))
+    | inr e ↦ let h : test k ≡ false = rw same e in rw (h, e) (none_from n (k + 1) test (λ j later high. only_false test i j (only j) (λ f. omega (arith, same, later, f))))
   ]
   | inr differ ↦ rw (only_false test i k (only k) differ) (first_only n (k + 1) i test only (omega (arith, low, differ)) (omega (arith, high)))
 ]
@@ -179,15 +179,11 @@ waited s p i one to within =
 
 -- and none where it is to none
 pub waits_for_none : (s : Known) (p : Past) → p.now.phase ≡ 1 → p.now.addressed ≡ None → first_place s (is_at_limit p) ≡ None
-waits_for_none s p one to = none_from (length s.drives) 0 (is_at_limit p) (λ j h. rw (one, to) refl)
-
-none_below : (n k : ℕ) (test : ℕ → Bool) → ((j : ℕ) → j < k + n → test j ≡ false) → first_from k n test ≡ None
-none_below zero k test none = refl
-none_below (suc n) k test none = rw (none k (omega arith)) (none_below n (k + 1) test (λ j h. none j (omega (arith, h))))
+waits_for_none s p one to = none_from (length s.drives) 0 (is_at_limit p) (λ j low high. rw (one, to) refl)
 
 -- nor where it is to a place that the ring hasn't
 pub waits_beyond : (s : Known) (p : Past) (i : ℕ) → p.now.phase ≡ 1 → p.now.addressed ≡ Some i → length s.drives ≤ i → first_place s (is_at_limit p) ≡ None
-waits_beyond s p i one to beyond = none_below (length s.drives) 0 (is_at_limit p) (λ j h. only_false (is_at_limit p) i j
+waits_beyond s p i one to beyond = none_from (length s.drives) 0 (is_at_limit p) (λ j low h. only_false (is_at_limit p) i j
     (λ e. is_that j i (true_first (j == i) (nat_le 64 (count_addressed j p.turns)) (rw (one, to) at e))) (λ f. omega (arith, h, f, beyond)))
 
 -- the count for a drive is the one that is kept, where it was the last one

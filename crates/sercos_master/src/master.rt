@@ -6,9 +6,9 @@ ghost use Rattle.sercos_step.specs.Steps.{IsRequest};
 ghost use Rattle.sercos_block.specs.Rings.{is_ring};
 ghost use Rattle.sercos_trace.specs.declared.events.Fall.TheVariants as fall;
 ghost use Rattle.sercos_seat.specs.Ring.{Known, Task, IsKnown, known_of, tasks_for};
-ghost use Rattle.sercos_master.specs.Annals.{Call, HearMst, HearAt, Mdt, End, Restart, Past, past, fall_of, goes_on, new_epoch, still_waiting, is_closed, all_identified, all_checked, all_ready};
+ghost use Rattle.sercos_master.specs.Annals.{Call, HearMst, HearAt, Mdt, End, Restart, Past, past, fall_of, new_epoch, still_waiting, is_closed, is_done_in, all_identified, all_checked, all_ready};
 ghost use Rattle.sercos_master.specs.Says.{mst_said, mdt_said, sent_as};
-ghost use Rattle.sercos_master.specs.Reports.{AreOpen, closing_told, events_told, restart_told, with_broken};
+ghost use Rattle.sercos_master.specs.Reports.{AreOpen, events_told, restart_told, with_broken};
 ghost use Rattle.sercos_master.specs.Kept.{CoreStandsFor, IsIn};
 ghost use Rattle.sercos_master.specs.Written.{HoldsPlan};
 
@@ -68,6 +68,26 @@ fn in_state<P>(ring: Box<Ring>) -> Master<P>
 }
 
 impl<P> Master<P> {
+    ghost use Rattle.sercos_master.specs.Any.{Closes};
+
+    // Returns whether all that belongs to the phase is done.
+    fn is_done(&self) -> bool
+        ensures { (n : ℕ) (s : Known) (p : Past) → IsIn n self.now s p → result ≡ is_done_in n s p }
+    {
+        self.ring.is_done()
+    }
+
+    // Looks at the answers of the cycle, begins the next jobs, and sends the MDT.
+    fn mdt(&mut self, out: &mut Content) -> Option<u16>
+        ensures stands { (n : ℕ) (s : Known) (jobs : List Job) (h : List Call) → IsIn n self.old s (past s (tasks_for s jobs) h) →
+            IsIn n self.new s (past s (tasks_for s jobs) (Mdt ∷ h)) }
+        ensures said { (n : ℕ) (s : Known) (jobs : List Job) (h : List Call) → IsIn n self.old s (past s (tasks_for s jobs) h) →
+            sent_as result out.new ≡ mdt_said s (past s (tasks_for s jobs) (Mdt ∷ h)) }
+        ensures some { is_some result ≡ true → 0 < length out.new }
+    {
+        self.ring.mdt(out)
+    }
+
     // The fall that the cycle ends with, if there is one.
     fn fall_due(&self) -> Option<Fall>
         ensures { (s : Known) (p : Past) → CoreStandsFor self.now s p → result ≡ fall_of s p }
@@ -77,10 +97,7 @@ impl<P> Master<P> {
 
     // Closes the cycle, which was of this phase, and adds what it brought to the events. The next one is of this state's phase.
     fn close(mut self, phase: u8, events: &mut Events) -> Master<P>
-        ensures stands { (s : Known) (p : Past) → CoreStandsFor (record self { phase = phase }) s p →
-            CoreStandsFor result s (goes_on self.phase p) }
-        ensures told { (s : Known) (p : Past) → CoreStandsFor (record self { phase = phase }) s p →
-            length events.old.outcomes + length s.drives ≤ 128 → events.new ≡ closing_told s p events.old }
+        ensures { Closes self phase events.old result events.new }
     {
         self.ring.tell_plan(&mut events.plan);
         self.ring
@@ -96,7 +113,7 @@ impl Master<Cp0> {
         ensures up { IfOk result (λ m. m ≡ record self { phase = 1 }) }
         ensures same { IfErr result (λ m. m ≡ self) }
     {
-        if self.ring.is_done() {
+        if self.is_done() {
             self.ring.set_phase(1);
             Ok(in_state(self.ring))
         } else {
@@ -112,7 +129,7 @@ impl Master<Cp1> {
         ensures up { IfOk result (λ m. m ≡ record self { phase = 2 }) }
         ensures same { IfErr result (λ m. m ≡ self) }
     {
-        if self.ring.is_done() {
+        if self.is_done() {
             self.ring.set_phase(2);
             Ok(in_state(self.ring))
         } else {
@@ -131,7 +148,7 @@ impl Master<Cp2> {
         ensures plan { IfOk result (λ m. (s : Known) (requests : ℕ → List Task) (h : List Call) → IsIn 2 self s (past s requests h) → HoldsPlan m s (past s requests h)) }
         ensures same { IfErr result (λ m. m ≡ self) }
     {
-        if self.ring.is_done() {
+        if self.is_done() {
             self.ring.set_phase(3);
             Ok(in_state(self.ring))
         } else {
@@ -150,7 +167,7 @@ impl Master<Cp3> {
         ensures plan { IfOk result (λ m. (s : Known) (requests : ℕ → List Task) (h : List Call) → IsIn 3 self s (past s requests h) → HoldsPlan m s (past s requests h)) }
         ensures same { IfErr result (λ m. m ≡ self) }
     {
-        if self.ring.is_done() {
+        if self.is_done() {
             self.ring.set_phase(4);
             Ok(in_state(self.ring))
         } else {
@@ -317,11 +334,11 @@ impl AnyMaster {
         ensures some { is_some result ≡ true → 0 < length out.new }
     {
         match self {
-            AnyMaster::P0(m) => m.ring.mdt(out),
-            AnyMaster::P1(m) => m.ring.mdt(out),
-            AnyMaster::P2(m) => m.ring.mdt(out),
-            AnyMaster::P3(m) => m.ring.mdt(out),
-            AnyMaster::P4(m) => m.ring.mdt(out),
+            AnyMaster::P0(m) => m.mdt(out),
+            AnyMaster::P1(m) => m.mdt(out),
+            AnyMaster::P2(m) => m.mdt(out),
+            AnyMaster::P3(m) => m.mdt(out),
+            AnyMaster::P4(m) => m.mdt(out),
         }
     }
 
