@@ -3,7 +3,7 @@
 use Rattle.std.proofs.Common.{◌≡◌, ◌⊎◌, inl, inr, ℕ, zero, suc, ◌+◌, ◌<◌, ◌≤◌, Bool, true, false, List, [], ◌∷◌, ◌++◌, length, refl, sym, ap, ◌∙◌, subst, arith, if◌then◌else◌, length-append}
 use Rattle.std.specs.Prelude.{◌==◌, ◌&&◌, not, nat_le, Option, Some, None, Result, Ok, Err, is_some, is_none, map, slice_get, slice_index}
 use Rattle.std.specs.Option.{option_or}
-use Rattle.std.proofs.lemmas.Bool.{and_parts, cases_eq, false≢true}
+use Rattle.std.proofs.lemmas.Bool.{cases_eq, false≢true}
 use Rattle.std.proofs.lemmas.Bool.Decides.{nat_tests}
 use Rattle.sercos_telegram.specs.declared.words.Status.{Status}
 use Rattle.sercos_telegram.specs.Words.{status_of}
@@ -29,10 +29,10 @@ use Rattle.sercos_seat.specs.Agenda.{agenda, reads, reads_count, writes, is_chec
 use Rattle.sercos_seat.specs.Channel.{with_outcome, outcomes_in, last_outcome, trouble_by, of_phase}
 use Rattle.sercos_seat.proofs.Gets.{get_map, get_left, get_right, get_none, length_map, length_append}
 use Rattle.sercos_seat.proofs.Agendas.{reads_length, ended_there}
-use Rattle.sercos_master.specs.Annals.{Call, HearMst, HearAt, Mdt, End, Restart, Past, past, outcomes, all_checked, with_at, is_idle, is_taken, after_taken, after_at_of, place_of, trouble, first_trouble, first_trouble_from, with_stop, is_plan_due, all_read, with_plan, planned_by, with_due_plan, settled, has_turn, next_task, with_task, with_begin, begun, ready_to_send, is_sent_to, addressed_in, after_mdt, fall_of, next_phase, goes_on, new_epoch, still_waiting}
+use Rattle.sercos_master.specs.Annals.{Call, HearMst, HearAt, Mdt, End, Restart, Past, past, outcomes, all_checked, with_at, is_idle, is_taken, after_taken, after_at_of, place_of, trouble, first_trouble, first_trouble_from, with_stop, is_plan_due, with_plan, planned_by, with_due_plan, settled, has_turn, next_task, with_task, with_begin, begun, ready_to_send, is_sent_to, addressed_in, after_mdt, fall_of, next_phase, goes_on, new_epoch, still_waiting}
 use Rattle.sercos_master.specs.Kept.{CoreView, IsIn}
 use Rattle.sercos_master.specs.Written.{IsWritten, AreWritten, HoldsPlan}
-use Rattle.sercos_master.proofs.Configured.{each_passes}
+use Rattle.sercos_master.proofs.Configured.{Leaves, each_passes, leaves}
 
 -- a transfer without an outcome has a next step
 abbrev pub HasNext : Type 0
@@ -111,56 +111,12 @@ at_follows s (Some i) content p k all = by (is_taken s p i content)
     by false = all
 
 -- THE ANSWERS ARE LOOKED AT.
-pub record Settles (q p : Past) : Type 0 where
-  pub calls : q.calls ≡ p.calls
-  pub tasks : q.tasks ≡ p.tasks
-  pub waiting : q.waiting ≡ p.waiting
-  pub plan : (p.plan ≡ None) ⊎ (q.plan ≡ p.plan)
-
-settles_stop : (x : Option Stop) (p : Past) → Settles (with_stop x p) p
-settles_stop None p = record { calls = refl; tasks = refl; waiting = refl; plan = inr refl }
-settles_stop (Some x) p = by (is_some p.stop)
-  where
-    by : (t : Bool) → Settles (if t then p else record p { now = record p.now { stops = true }; stop = Some x }) p
-    by true = record { calls = refl; tasks = refl; waiting = refl; plan = inr refl }
-    by false = record { calls = refl; tasks = refl; waiting = refl; plan = inr refl }
-
-settles_due : (s : Known) (p : Past) → Settles (with_due_plan s p) p
-settles_due s p = by (is_plan_due s p) refl
-  where
-    none_is : {A : Type 0} (o : Option A) → is_none o ≡ true → o ≡ None
-    none_is None e = refl
-    none_is (Some x) e = absurd (false≢true e)
-
-    plan : (r : Result PlanView ChainView) → p.plan ≡ None → Settles (with_plan r p) p
-    plan (Ok q) none = record { calls = refl; tasks = refl; waiting = refl; plan = inl none }
-    plan (Err chain) none = settles_stop (Some (stop.NoFit chain)) p
-
-    made : p.plan ≡ None → (fits : Bool) → Settles (if fits then with_plan (planned (wishes_given s (outcomes p))) p else with_stop (last_long_stop s.drives 0 (outcomes p)) p) p
-    made none true = plan (planned (wishes_given s (outcomes p))) none
-    made none false = settles_stop (last_long_stop s.drives 0 (outcomes p)) p
-
-    by : (t : Bool) → is_plan_due s p ≡ t → Settles (if t then planned_by s p else p) p
-    by false e = record { calls = refl; tasks = refl; waiting = refl; plan = inr refl }
-    by true e =
-        let more = (and_parts (p.now.phase == 2) _ e).1 in
-        let two = (and_parts (is_none p.stop) _ more).1 in
-        made (none_is p.plan (and_parts (is_none p.plan) (all_read s p) two).0) (nat_le (record_bytes (wishes_given s (outcomes p)).drives) 2047)
-
-pub settles : (s : Known) (p : Past) → Settles (settled s p) p
-settles s p = join (settles_due s (with_stop (first_trouble s p) p)) (settles_stop (first_trouble s p) p)
-  where
-    join : {a b c : Past} → Settles a b → Settles b c → Settles a c
-    join {a} {b} {c} x y = record { calls = x.calls ∙ y.calls; tasks = x.tasks ∙ y.tasks; waiting = x.waiting ∙ y.waiting; plan = which x.plan y.plan }
-      where
-        which : (b.plan ≡ None) ⊎ (a.plan ≡ b.plan) → (c.plan ≡ None) ⊎ (b.plan ≡ c.plan) → (c.plan ≡ None) ⊎ (a.plan ≡ c.plan)
-        which e (inl none) = inl none
-        which (inl none) (inr same) = inl (sym same ∙ none)
-        which (inr e) (inr same) = inr (e ∙ same)
+pub settles : (s : Known) (p : Past) → Leaves (settled s p) p
+settles = leaves
 
 pub settled_follows : (s : Known) (p : Past) (k : ℕ) → Followed s p k → Followed s (settled s p) k
 settled_follows s p k all =
-    let q = settles s p in
+    let q = leaves s p in
     rw (q.calls, q.tasks, q.waiting) (new_plan s k p.plan (settled s p).plan (p.waiting k) (begun_by (p.calls k)) (p.tasks k) q.plan all)
 
 -- where there is no stop then, no channel's newest outcome is a trouble
@@ -306,14 +262,11 @@ begun_follows has s p k quiet all = by (is_none p.stop) (is_idle p k) (has_turn 
 mdt_follows : HasNext → (s : Known) (p : Past) (k : ℕ) → k < length s.drives → Followed s p k → Followed s (after_mdt s p) k
 mdt_follows has s p k within all = by (is_sent_to (ready_to_send s p) (addressed_in s (ready_to_send s p)) k)
   where
-    q : Settles (settled s p) p
-    q = settles s p
-
     quiet : (settled s p).stop ≡ None → trouble s (settled s p) k ≡ None
     quiet none =
         let z : 0 + length s.drives ≡ length s.drives = omega arith in
         let before : trouble s p k ≡ None = none_troubled s p 0 (length s.drives) k (no_stop_before s p none) (omega arith) (omega (arith, z, within)) in
-        rw ((settles s p).calls, (settles s p).tasks) before
+        rw ((leaves s p).calls, (leaves s p).tasks) before
 
     ready : Followed s (ready_to_send s p) k
     ready = begun_follows has s (settled s p) k quiet (settled_follows s p k all)

@@ -20,7 +20,8 @@ use Rattle.sercos_seat.proofs.Agendas.{reads_length}
 use Rattle.sercos_seat.proofs.Queues.{ready_long, ready_stays, next_request, none_4}
 use Rattle.sercos_master.specs.Annals.{Call, HearMst, HearAt, Mdt, End, Restart, Past, past, outcomes, is_idle, has_turn, next_task, begins, settled, still_waiting, after_end, fall_of, next_phase, goes_on, new_epoch}
 use Rattle.sercos_master.proofs.Laws.{waiting_at, waiting_settled}
-use Rattle.sercos_master.proofs.Followed.{HasNext, AllFollow, Followed, Follows, followed, settled_follows, settles, all_ended}
+use Rattle.sercos_master.proofs.Followed.{HasNext, AllFollow, Followed, Follows, followed, settled_follows, all_ended}
+use Rattle.sercos_master.proofs.Configured.{leaves}
 
 none≢some : {A : Type 0} {x : A} → None ≡ Some x → ⊥
 none≢some e = cc
@@ -260,7 +261,7 @@ first_waiting has s jobs h k t within begin number = by (is_none q.stop) (is_idl
         slice_get (still_waiting (past s (tasks_for s jobs) h) k) 0 ≡ Some t
     by true true true free idle e =
         let is = one idle (of_its q.now.phase (next_task s q k) e) in
-        let keeps = settles s (past s (tasks_for s jobs) h) in
+        let keeps = leaves s (past s (tasks_for s jobs) h) in
         get_dropped (count_requests (p.tasks k)) (p.waiting k) ∙ (sym (ap (λ w. slice_get (w k) (count_requests (p.tasks k))) (waiting_settled s p)) ∙ (sym (ap (λ ts. slice_get (q.waiting k) (count_requests (ts k))) keeps.tasks) ∙ is))
     by true true false free idle e = absurd (none≢some e)
     by true false turn free idle e = absurd (none≢some e)

@@ -1,18 +1,12 @@
 -- Laws on what the master looks back on, after any calls.
-use Rattle.std.proofs.Common.{◌≡◌, ℕ, zero, suc, ◌+◌, ◌==◌, Bool, true, false, List, [], ◌∷◌, Option, Some, None, Result, Ok, Err, ap, subst, refl, sym, ◌∙◌, arith, if◌then◌else◌}
-use Rattle.std.specs.Prelude.{is_some, nat_le, slice_get, slice_index, drop}
+use Rattle.std.proofs.Common.{◌≡◌, ℕ, zero, suc, ◌+◌, ◌==◌, Bool, true, false, List, [], ◌∷◌, Option, Some, None, ap, subst, refl, sym, ◌∙◌, arith, if◌then◌else◌}
+use Rattle.std.specs.Prelude.{is_some, slice_get, slice_index, drop}
 use Rattle.sercos_step.specs.declared.request.Job.{Job}
-use Rattle.sercos_timing.specs.Views.{PlanView}
-use Rattle.sercos_timing.specs.Order.{record_bytes}
-use Rattle.sercos_plan.specs.Views.{ChainView}
-use Rattle.sercos_plan.specs.ChainOf.{planned}
-use Rattle.sercos_trace.specs.declared.events.Stop.{Stop}
-use Rattle.sercos_trace.specs.declared.events.Stop.TheVariants as stop
 use Rattle.sercos_seat.specs.Ring.{Known, Task, tasks_from, tasks_for, member}
-use Rattle.sercos_seat.specs.Agenda.{wishes_given, last_long_stop}
-use Rattle.sercos_master.specs.Annals.{Past, Call, HearMst, HearAt, Mdt, End, Restart, past, after_at_of, is_taken, after_taken, place_of, settled, with_stop, with_plan, with_due_plan, planned_by, is_plan_due, first_trouble, after_end, fall_of, still_waiting, new_epoch, goes_on, next_phase, outcomes}
+use Rattle.sercos_master.specs.Annals.{Past, Call, HearMst, HearAt, Mdt, End, Restart, past, after_at_of, is_taken, after_taken, place_of, settled, after_end, fall_of, still_waiting, new_epoch, goes_on, next_phase}
 use Rattle.sercos_seat.specs.Channel.{count_requests}
 use Rattle.sercos_seat.specs.Seats.{AreWaiting}
+use Rattle.sercos_master.proofs.Configured.{leaves}
 
 -- what waits for the next epoch changes with an epoch alone
 pub waiting_at : (s : Known) (place : Option ℕ) (content : List ℕ) (p : Past) → (after_at_of s place content p).waiting ≡ p.waiting
@@ -23,34 +17,8 @@ waiting_at s (Some k) content p = by (is_taken s p k content)
     by true = refl
     by false = refl
 
-waiting_stop : (x : Option Stop) (p : Past) → (with_stop x p).waiting ≡ p.waiting
-waiting_stop None p = refl
-waiting_stop (Some x) p = by (is_some p.stop)
-  where
-    by : (t : Bool) → (if t then p else record p { now = record p.now { stops = true }; stop = Some x }).waiting ≡ p.waiting
-    by true = refl
-    by false = refl
-
-waiting_plan : (r : Result PlanView ChainView) (p : Past) → (with_plan r p).waiting ≡ p.waiting
-waiting_plan (Ok plan) p = refl
-waiting_plan (Err chain) p = waiting_stop (Some (stop.NoFit chain)) p
-
-waiting_planned : (s : Known) (p : Past) → (planned_by s p).waiting ≡ p.waiting
-waiting_planned s p = by (nat_le (record_bytes (wishes_given s (outcomes p)).drives) 2047)
-  where
-    by : (t : Bool) → (if t then with_plan (planned (wishes_given s (outcomes p))) p else with_stop (last_long_stop s.drives 0 (outcomes p)) p).waiting ≡ p.waiting
-    by true = waiting_plan (planned (wishes_given s (outcomes p))) p
-    by false = waiting_stop (last_long_stop s.drives 0 (outcomes p)) p
-
-waiting_due : (s : Known) (p : Past) → (with_due_plan s p).waiting ≡ p.waiting
-waiting_due s p = by (is_plan_due s p)
-  where
-    by : (t : Bool) → (if t then planned_by s p else p).waiting ≡ p.waiting
-    by true = waiting_planned s p
-    by false = refl
-
 pub waiting_settled : (s : Known) (p : Past) → (settled s p).waiting ≡ p.waiting
-waiting_settled s p = waiting_due s (with_stop (first_trouble s p) p) ∙ waiting_stop (first_trouble s p) p
+waiting_settled s p = (leaves s p).waiting
 
 pub get_dropped : {A : Type 0} (n : ℕ) (xs : List A) (i : ℕ) → slice_get (drop n xs) i ≡ slice_get xs (n + i)
 get_dropped zero xs i = ap (slice_get xs) (omega arith)

@@ -8,6 +8,7 @@ pub mod Told
 pub mod Openings
 pub mod Laws
 pub mod Configured
+pub mod Closing
 pub mod Planned
 pub mod Followed
 pub mod InOrder

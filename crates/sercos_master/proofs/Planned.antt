@@ -1,12 +1,9 @@
 -- Where there is a plan, it is the plan of what was read in this epoch.
-use Rattle.std.proofs.Common.{◌≡◌, inl, inr, ℕ, zero, suc, ◌+◌, ◌<◌, ◌≤◌, ◌⊎◌, Bool, true, false, not, List, [], ◌∷◌, ◌++◌, length, take, drop, refl, sym, ap, ap₂, ◌∙◌, subst, arith, if◌then◌else◌, length-append}
+use Rattle.std.proofs.Common.{◌≡◌, ℕ, zero, suc, ◌+◌, ◌<◌, ◌≤◌, Bool, true, false, not, List, [], ◌∷◌, ◌++◌, length, take, drop, refl, sym, ap, ap₂, ◌∙◌, subst, arith, if◌then◌else◌, length-append}
 use Rattle.std.specs.Prelude.{◌==◌, nat_le, Option, Some, None, Result, Ok, Err, is_some, is_none, slice_get, slice_index}
-use Rattle.std.proofs.lemmas.Bool.{and_parts, leb-true, le-leb, cases_eq}
-use Rattle.std.proofs.lemmas.Bool.Decides.{nat_tests}
+use Rattle.std.proofs.lemmas.Bool.{and_parts, leb-true, le-leb}
 use Rattle.std.proofs.lemmas.Option.{get_or_from_slice_get}
 use Rattle.std.proofs.lemmas.List.{take-append-le, drop-append-le, length-drop}
-use Rattle.sercos_telegram.specs.Words.{status_of}
-use Rattle.sercos_telegram.specs.Spells.{word_at}
 use Rattle.sercos_step.specs.declared.request.Outcome.{Outcome}
 use Rattle.sercos_timing.specs.Order.{record_bytes}
 use Rattle.sercos_timing.specs.Views.{PlanView, WishesView}
@@ -14,16 +11,16 @@ use Rattle.sercos_timing.specs.declared.wishes.Wish.{Wish}
 use Rattle.sercos_timing.specs.declared.wishes.Times.{Times}
 use Rattle.sercos_plan.specs.Views.{ChainView}
 use Rattle.sercos_plan.specs.ChainOf.{planned}
-use Rattle.sercos_service_master.specs.Calls.{Hear, begun_by, outcome_at}
+use Rattle.sercos_service_master.specs.Calls.{begun_by}
 use Rattle.sercos_trace.specs.declared.events.Stop.{Stop}
 use Rattle.sercos_trace.specs.declared.events.Stop.TheVariants as stop
 use Rattle.sercos_seat.specs.Ring.{Known, Task, MemberView, member, no_member}
 use Rattle.sercos_seat.specs.Agenda.{bytes_of, long_in, short_in, given, reads_count, is_read, words_given, at_attributes, mdt_attributes, times_given, wish_given, wishes_from, wishes_given, last_long_stop}
 use Rattle.sercos_seat.specs.Channel.{outcomes_in, with_outcome}
-use Rattle.sercos_seat.proofs.Channels.{Heard, heard}
 use Rattle.sercos_seat.proofs.Seats.{before_end}
-use Rattle.sercos_master.specs.Annals.{Call, HearMst, HearAt, Mdt, End, Restart, Past, IsPlanned, first_from, with_at, outcomes, is_taken, after_taken, after_at_of, after_at, place_of, all_read, first_trouble, with_stop, is_plan_due, with_plan, planned_by, with_due_plan, settled, ready_to_send, after_mdt, fall_of, next_phase, goes_on, new_epoch, still_waiting, after_end, past}
+use Rattle.sercos_master.specs.Annals.{Call, HearMst, HearAt, Mdt, End, Restart, Past, IsPlanned, first_from, outcomes, is_taken, after_taken, after_at_of, after_at, place_of, all_read, first_trouble, with_stop, is_plan_due, with_plan, planned_by, with_due_plan, settled, ready_to_send, after_mdt, fall_of, next_phase, goes_on, new_epoch, still_waiting, after_end, past}
 use Rattle.sercos_master.proofs.Configured.{leaves, begun_adds, mdt_adds, each_passes}
+pub use Rattle.sercos_master.proofs.Configured.{Adds, at_adds}
 
 -- AN OUTCOME AFTER THE READS changes nothing of what they gave.
 given_before : (all : List Outcome) (o : Outcome) (i : ℕ) → i < length all → given (all ++ o ∷ []) i ≡ given all i
@@ -103,10 +100,6 @@ got_below [] i x got = absurd (cc)
 got_below (y ∷ xs) zero x got = omega arith
 got_below (y ∷ xs) (suc i) x got = let less = got_below xs i x got in omega arith
 
--- OUTCOMES COME AT THE END of each channel's list, or none does.
-abbrev pub Adds : Past → Past → Type 0
-Adds p q = (j : ℕ) → (o : Option Outcome) × (outcomes q j ≡ with_outcome o (outcomes p j))
-
 -- where outcomes come after the reads alone, these stay, and what the ring asks
 pub asks_same : (s : Known) (p q : Past) → Adds p q → all_read s p ≡ true → (all_read s q ≡ true) × (wishes_given s (outcomes q) ≡ wishes_given s (outcomes p))
 asks_same s p q adds all = (
@@ -134,22 +127,6 @@ stays_planned s p q adds same is plan has =
       fits = subst (λ (w : WishesView). nat_le (record_bytes w.drives) 2047 ≡ true) (sym after.1) before.fits;
       planned_is = ap planned after.1 ∙ before.planned_is;
     }
-
--- an AT adds one outcome at most to each channel
-pub at_adds : (i : ℕ) (content : List ℕ) (p : Past) → Adds p (after_taken i content p)
-at_adds i content p j = by (cases_eq j i)
-  where
-    one : (identifies : Bool) → (o : Option Outcome) × (outcomes_in (begun_by (if identifies then p.calls j else Hear (status_of (word_at content 1)) (word_at content 3) ∷ p.calls j)) ≡ with_outcome o (outcomes p j))
-    one true = (None, refl)
-    one false =
-        let h : Heard (p.calls j) (status_of (word_at content 1)) (word_at content 3) (outcome_at (p.calls j) (status_of (word_at content 1)) (word_at content 3)) = heard (p.calls j) (status_of (word_at content 1)) (word_at content 3) _ refl in
-        (outcome_at (p.calls j) (status_of (word_at content 1)) (word_at content 3), h.outcomes)
-
-    by : (j ≡ i) ⊎ (j ≡ i → ⊥) → (o : Option Outcome) × (outcomes (after_taken i content p) j ≡ with_outcome o (outcomes p j))
-    by (inl is) =
-        subst (λ n. (o : Option Outcome) × (outcomes_in (begun_by (with_at n (if p.now.phase == 1 then p.calls n else Hear (status_of (word_at content 1)) (word_at content 3) ∷ p.calls n) p.calls j)) ≡ with_outcome o (outcomes p j))) is
-        (let t : (j == j) ≡ true = grind (arith, nat_tests) in rw t (one (p.now.phase == 1)))
-    by (inr n) = (None, let f : (j == i) ≡ false = grind (arith, nat_tests, n) in rw f refl)
 
 at_planned : (s : Known) (content : List ℕ) (p : Past) → IsPlanned s p → IsPlanned s (after_at s content p)
 at_planned s content p is = by (place_of s (slice_index content 0))

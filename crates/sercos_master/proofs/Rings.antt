@@ -135,9 +135,9 @@ chosen : (b : Bool) → (b ≡ true) ⊎ (b ≡ false)
 chosen true = inl refl
 chosen false = inr refl
 
-none_from : (n k : ℕ) (test : ℕ → Bool) → ((j : ℕ) → k ≤ j → test j ≡ false) → first_from k n test ≡ None
+pub none_from : (n k : ℕ) (test : ℕ → Bool) → ((j : ℕ) → k ≤ j → j < k + n → test j ≡ false) → first_from k n test ≡ None
 none_from zero k test none = refl
-none_from (suc n) k test none = rw (none k (omega arith)) (none_from n (k + 1) test (λ j h. none j (omega (arith, h))))
+none_from (suc n) k test none = rw (none k (omega arith) (omega arith)) (none_from n (k + 1) test (λ j low high. none j (omega (arith, low)) (omega (arith, high))))
 
 only_false : (test : ℕ → Bool) (i j : ℕ) → (test j ≡ true → j ≡ i) → (j ≡ i → ⊥) → test j ≡ false
 only_false test i j only n = elim (chosen (test j)) [ inl e ↦ absurd (n (only e)) | inr e ↦ e ]
@@ -147,7 +147,7 @@ first_only zero k i test only low high = absurd (omega (arith, low, high))
 first_only (suc n) k i test only low high = elim (cases_eq k i) [
   | inl same ↦ elim (chosen (test i)) [
     | inl e ↦ let h : test k ≡ true = rw same e in rw (h, e, same) refl
-    | inr e ↦ let h : test k ≡ false = rw same e in rw (h, e) (none_from n (k + 1) test (λ j later. only_false test i j (only j) (λ f. omega (arith, same, later, f))))
+    | inr e ↦ let h : test k ≡ false = rw same e in rw (h, e) (none_from n (k + 1) test (λ j later high. only_false test i j (only j) (λ f. omega (arith, same, later, f))))
   ]
   | inr differ ↦ rw (only_false test i k (only k) differ) (first_only n (k + 1) i test only (omega (arith, low, differ)) (omega (arith, high)))
 ]
@@ -179,15 +179,11 @@ waited s p i one to within =
 
 -- and none where it is to none
 pub waits_for_none : (s : Known) (p : Past) → p.now.phase ≡ 1 → p.now.addressed ≡ None → first_place s (is_at_limit p) ≡ None
-waits_for_none s p one to = none_from (length s.drives) 0 (is_at_limit p) (λ j h. rw (one, to) refl)
-
-none_below : (n k : ℕ) (test : ℕ → Bool) → ((j : ℕ) → j < k + n → test j ≡ false) → first_from k n test ≡ None
-none_below zero k test none = refl
-none_below (suc n) k test none = rw (none k (omega arith)) (none_below n (k + 1) test (λ j h. none j (omega (arith, h))))
+waits_for_none s p one to = none_from (length s.drives) 0 (is_at_limit p) (λ j low high. rw (one, to) refl)
 
 -- nor where it is to a place that the ring hasn't
 pub waits_beyond : (s : Known) (p : Past) (i : ℕ) → p.now.phase ≡ 1 → p.now.addressed ≡ Some i → length s.drives ≤ i → first_place s (is_at_limit p) ≡ None
-waits_beyond s p i one to beyond = none_below (length s.drives) 0 (is_at_limit p) (λ j h. only_false (is_at_limit p) i j
+waits_beyond s p i one to beyond = none_from (length s.drives) 0 (is_at_limit p) (λ j low h. only_false (is_at_limit p) i j
     (λ e. is_that j i (true_first (j == i) (nat_le 64 (count_addressed j p.turns)) (rw (one, to) at e))) (λ f. omega (arith, h, f, beyond)))
 
 -- the count for a drive is the one that is kept, where it was the last one
@@ -388,31 +384,6 @@ epoch_begun v seats s p c count all = record {
   stop_is = refl;
 }
 
-pub one_later : (v : CoreView) (s : Known) (cycle : ℕ) (waiting : ℕ → List Task) → CoreStandsFor v s (new_epoch cycle waiting) →
-    CoreStandsFor (record v { count = (v.count + 1) % 2 ^ 32 }) s (new_epoch (cycle + 1) waiting)
-one_later v s cycle waiting c = record {
-  rate_is = c.rate_is;
-  cycle_is = c.cycle_is;
-  control_is = c.control_is;
-  gap_is = c.gap_is;
-  order_is = c.order_is;
-  places_are = c.places_are;
-  seats_count = c.seats_count;
-  seats = λ k w below. c.seats k w below;
-  count_is = rw c.count_is (omega arith);
-  phase_is = c.phase_is;
-  whole_is = c.whole_is;
-  row_is = c.row_is;
-  lost_is = c.lost_is;
-  addressed_is = c.addressed_is;
-  before_is = c.before_is;
-  waited_is = c.waited_is;
-  plan_is = c.plan_is;
-  plans_is = c.plans_is;
-  stopped_is = c.stopped_is;
-  stop_is = c.stop_is;
-}
-
 pub ends_falling : (s : Known) (p : Past) → is_some (fall_of s p) ≡ true → after_end s p ≡ new_epoch (p.cycle + 1) (still_waiting p)
 ends_falling s p e = rw e refl
 
@@ -556,19 +527,19 @@ begun_stopped v s p c e = begun_none v s p c (λ k. none k)
         by None f = absurd (false≢true f)
         by (Some x) f = refl
 
-pub begun_early : (v : CoreView) (s : Known) (p : Past) → CoreStandsFor v s p → p.now.phase ≤ 1 → CoreStandsFor v s (begun s p)
-begun_early v s p c low = begun_none v s p c (λ k. none k)
+pub begins_late : (s : Known) (p : Past) (k : ℕ) → p.now.phase ≤ 1 → begins s p k ≡ None
+begins_late s p k low =
+    let a : nat_le 3 p.now.phase ≡ false = grind (arith, nat_tests, low) in
+    let b : (p.now.phase == 2) ≡ false = grind (arith, nat_tests, low) in
+    rw (a, b) (by (is_none p.stop) (is_idle p k))
   where
-    none : (k : ℕ) → begins s p k ≡ None
-    none k =
-        let a : nat_le 3 p.now.phase ≡ false = grind (arith, nat_tests, low) in
-        let b : (p.now.phase == 2) ≡ false = grind (arith, nat_tests, low) in
-        rw (a, b) (by (is_none p.stop) (is_idle p k))
-      where
-        by : (x y : Bool) → (if x && (y && false) then of_phase p.now.phase (next_task s p k) else None) ≡ None
-        by true true = refl
-        by true false = refl
-        by false y = refl
+    by : (x y : Bool) → (if x && (y && false) then of_phase p.now.phase (next_task s p k) else None) ≡ None
+    by true true = refl
+    by true false = refl
+    by false y = refl
+
+pub begun_early : (v : CoreView) (s : Known) (p : Past) → CoreStandsFor v s p → p.now.phase ≤ 1 → CoreStandsFor v s (begun s p)
+begun_early v s p c low = begun_none v s p c (λ k. begins_late s p k low)
 
 no_stop_is : (o : Option Stop) → is_some o ≡ false → o ≡ None
 no_stop_is None e = refl

@@ -196,9 +196,6 @@ said_0 s p e = rw e refl
 pub said_1 : (v : CoreView) (s : Known) (p : Past) → CoreStandsFor v s p → p.now.phase ≡ 1 → mdt_said s (sent_now s p) ≡ option_map (single s idle) (position (λ seat. not seat.identified) v.seats)
 said_1 v s p c e = subst (λ to. mdt_said s (sent_to to p) ≡ option_map (single s idle) (position (λ seat. not seat.identified) v.seats)) (sym (to_1 v s p c e)) (rw e refl)
 
-none_not_not : {A : Type 0} (o : Option A) → not (is_none o) ≡ not (is_none o)
-none_not_not o = refl
-
 pub working : (v : CoreView) (s : Known) (p : Past) → CoreStandsFor v s p → position (λ seat. not (is_none seat.channel.transfer)) v.seats ≡ first_place s (λ k. not (is_idle p k))
 working v s p c = found v s p (λ seat. not (is_none seat.channel.transfer)) (λ k. not (is_idle p k)) c (λ i seat t. ap not (idle_same seat (member s i) (seen_at p i) t))
 

@@ -42,6 +42,14 @@ outcomes_told s p reports =
     if is_some (fall_of s p) then with_broken s p (with_reports p.now.report (length s.drives) reports)
     else with_reports p.now.report (length s.drives) reports
 
+-- what the cycle brought, without a fall
+abbrev pub closing_told : Known → Past → EventsView → EventsView
+closing_told s p e = record e {
+  outcomes = with_reports p.now.report (length s.drives) e.outcomes;
+  plan = option_or (plan_told p) e.plan;
+  stop = option_or (stop_told p) e.stop;
+}
+
 -- what the end of a cycle adds to these events
 abbrev pub events_told : Known → Past → EventsView → EventsView
 events_told s p e = record {

@@ -2,9 +2,9 @@
 ghost use Rattle.std.specs.Prelude.{◌≡◌, ◌+◌, ◌<◌, ◌≤◌, ◌==◌, ◌&&◌, false, ◌∷◌, length, Option, Some, None, IfSome, if◌then◌else◌};
 ghost use Rattle.std.specs.List.{position};
 ghost use Rattle.std.specs.Option.{option_or};
-ghost use Rattle.sercos_master.specs.Reports.{with_reports, with_broken, outcomes_told, stop_told, plan_told};
+ghost use Rattle.sercos_master.specs.Reports.{with_reports, with_broken};
 ghost use Rattle.sercos_seat.specs.Ring.{Known, member};
-ghost use Rattle.sercos_master.specs.Annals.{Past, is_done, has_lost_mst, fall_of, first_place, is_at_limit, goes_on, new_epoch, still_waiting, after_end, next_phase};
+ghost use Rattle.sercos_master.specs.Annals.{Past, is_done, has_lost_mst, fall_of, first_place, is_at_limit, goes_on, new_epoch, still_waiting};
 ghost use Rattle.sercos_seat.specs.Channel.{is_place};
 ghost use Rattle.sercos_master.specs.Kept.{waited_with, CoreStandsFor};
 
@@ -32,24 +32,29 @@ impl Ring {
         }
     }
 
-    // Ends the cycle; the next one is of this phase. A stop of the cycle is reported.
-    fn go_on(&mut self, next: u8, reports: &mut ArrayVec<Reported, 128>, told: &mut Option<Stop>)
+    // Closes the cycle, which was of this phase; the next one is of the phase that is commanded now. A stop of the cycle is reported.
+    pub fn close(
+        &mut self,
+        phase: u8,
+        reports: &mut ArrayVec<Reported, 128>,
+        told: &mut Option<Stop>,
+    )
         ensures stop { told.new ≡ option_or self.old.stop told.old }
-        ensures told { (s : Known) (p : Past) → CoreStandsFor self.old s p → length reports.old.items + length s.drives ≤ 128 →
+        ensures told { (s : Known) (p : Past) → CoreStandsFor (record self.old { phase = phase }) s p →
+            length reports.old.items + length s.drives ≤ 128 →
             reports.new.items ≡ with_reports p.now.report (length s.drives) reports.old.items }
-        ensures stands { (s : Known) (p : Past) → CoreStandsFor self.old s p → CoreStandsFor self.new s (goes_on next p) }
-        ensures phase { self.new.phase ≡ next }
+        ensures stands { (s : Known) (p : Past) → CoreStandsFor (record self.old { phase = phase }) s p →
+            CoreStandsFor self.new s (goes_on self.old.phase p) }
     {
-        end_seats(self.phase, &mut self.seats, reports);
+        end_seats(phase, &mut self.seats, reports);
         self.row = row_with(self.whole, self.row);
-        self.lost = lost_with(self.phase, self.whole);
-        self.waited = waited_with(self.phase, self.addressed, self.before, self.waited);
+        self.lost = lost_with(phase, self.whole);
+        self.waited = waited_with(phase, self.addressed, self.before, self.waited);
         self.before = self.addressed;
         self.addressed = None;
         self.whole = false;
         self.plans = false;
         self.count = self.count.wrapping_add(1);
-        self.phase = next;
         tell_stop(&mut self.stop, told);
     }
 
@@ -57,7 +62,6 @@ impl Ring {
     pub fn begin_epoch(&mut self, reports: &mut ArrayVec<Reported, 128>)
         ensures told { (s : Known) (p : Past) → CoreStandsFor self.old s p → length reports.old.items + length s.drives ≤ 128 →
             reports.new.items ≡ with_broken s p reports.old.items }
-        ensures phase { self.new.phase ≡ 0 }
         ensures stands { (s : Known) (p : Past) → CoreStandsFor self.old s p → CoreStandsFor self.new s (new_epoch p.cycle (still_waiting p)) }
     {
         reset_seats(&mut self.seats, reports);
@@ -76,7 +80,7 @@ impl Ring {
 
     // Reports the plan of the cycle, if there is one.
     pub fn tell_plan(&self, told: &mut Option<Plan>)
-        ensures { (s : Known) (p : Past) → CoreStandsFor self.now s p → told.new ≡ option_or (plan_told p) told.old }
+        ensures { told.new ≡ option_or (if self.now.plans then self.now.plan else None) told.old }
     {
         if !self.plans {
             return;
@@ -86,45 +90,8 @@ impl Ring {
         }
     }
 
-    // Ends the cycle: the ring falls, or goes on, in the next phase if everything of this one is done. A stop of the cycle is
-    // reported.
-    pub fn end_cycle(
-        &mut self,
-        reports: &mut ArrayVec<Reported, 128>,
-        told: &mut Option<Stop>,
-    ) -> Option<Fall>
-        ensures stands { (s : Known) (p : Past) → CoreStandsFor self.old s p → CoreStandsFor self.new s (after_end s p) }
-        ensures fall { (s : Known) (p : Past) → CoreStandsFor self.old s p → result ≡ fall_of s p }
-        ensures stop { (s : Known) (p : Past) → CoreStandsFor self.old s p → told.new ≡ option_or (stop_told p) told.old }
-        ensures told { (s : Known) (p : Past) → CoreStandsFor self.old s p → length reports.old.items + length s.drives ≤ 128 →
-            length (with_reports p.now.report (length s.drives) reports.old.items) + length s.drives ≤ 128 →
-            reports.new.items ≡ outcomes_told s p reports.old.items }
-        ensures phase { self.old.phase ≤ 4 → self.new.phase ≤ 4 }
-    {
-        let fall = self.fall();
-        let next = self.next_phase();
-        self.go_on(next, reports, told);
-        if fall.is_some() {
-            self.begin_epoch(reports);
-            return fall;
-        }
-        fall
-    }
-
-    // Returns the phase of the next cycle if there is no fall.
-    fn next_phase(&self) -> u8
-        ensures value { (s : Known) (p : Past) → CoreStandsFor self.now s p → result ≡ next_phase s p }
-        ensures bound { self.now.phase ≤ 4 → result ≤ 4 }
-    {
-        if self.phase < 4 && self.is_done() {
-            self.phase + 1
-        } else {
-            self.phase
-        }
-    }
-
     // The fall at the end of a cycle, if there is one.
-    fn fall(&self) -> Option<Fall>
+    pub fn fall(&self) -> Option<Fall>
         ensures { (s : Known) (p : Past) → CoreStandsFor self.now s p → result ≡ fall_of s p }
     {
         if self.is_mst_lost() {

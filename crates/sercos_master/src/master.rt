@@ -1,13 +1,12 @@
 // The master in its states.
 ghost use Rattle.std.specs.Prelude.{◌≡◌, ◌≤◌, ◌<◌, ◌+◌, ℕ, true, List, [], ◌∷◌, length, Some, option_map, is_ok, is_some, IfOk, IfErr};
 ghost use Rattle.std.specs.List.{All};
-ghost use Rattle.std.specs.Option.{option_or};
 ghost use Rattle.sercos_step.specs.declared.request.Job.{Job};
 ghost use Rattle.sercos_step.specs.Steps.{IsRequest};
 ghost use Rattle.sercos_block.specs.Rings.{is_ring};
 ghost use Rattle.sercos_trace.specs.declared.events.Fall.TheVariants as fall;
 ghost use Rattle.sercos_seat.specs.Ring.{Known, Task, IsKnown, known_of, tasks_for};
-ghost use Rattle.sercos_master.specs.Annals.{Call, HearMst, HearAt, Mdt, End, Restart, Past, past, new_epoch, still_waiting, is_closed, all_identified, all_checked, all_ready};
+ghost use Rattle.sercos_master.specs.Annals.{Call, HearMst, HearAt, Mdt, End, Restart, Past, past, fall_of, new_epoch, still_waiting, is_closed, is_done_in, all_identified, all_checked, all_ready};
 ghost use Rattle.sercos_master.specs.Says.{mst_said, mdt_said, sent_as};
 ghost use Rattle.sercos_master.specs.Reports.{AreOpen, events_told, restart_told, with_broken};
 ghost use Rattle.sercos_master.specs.Kept.{CoreStandsFor, IsIn};
@@ -68,6 +67,45 @@ fn in_state<P>(ring: Box<Ring>) -> Master<P>
     }
 }
 
+impl<P> Master<P> {
+    ghost use Rattle.sercos_master.specs.Any.{Closes};
+
+    // Returns whether all that belongs to the phase is done.
+    fn is_done(&self) -> bool
+        ensures { (n : ℕ) (s : Known) (p : Past) → IsIn n self.now s p → result ≡ is_done_in n s p }
+    {
+        self.ring.is_done()
+    }
+
+    // Looks at the answers of the cycle, begins the next jobs, and sends the MDT.
+    fn mdt(&mut self, out: &mut Content) -> Option<u16>
+        ensures stands { (n : ℕ) (s : Known) (jobs : List Job) (h : List Call) → IsIn n self.old s (past s (tasks_for s jobs) h) →
+            IsIn n self.new s (past s (tasks_for s jobs) (Mdt ∷ h)) }
+        ensures said { (n : ℕ) (s : Known) (jobs : List Job) (h : List Call) → IsIn n self.old s (past s (tasks_for s jobs) h) →
+            sent_as result out.new ≡ mdt_said s (past s (tasks_for s jobs) (Mdt ∷ h)) }
+        ensures some { is_some result ≡ true → 0 < length out.new }
+    {
+        self.ring.mdt(out)
+    }
+
+    // The fall that the cycle ends with, if there is one.
+    fn fall_due(&self) -> Option<Fall>
+        ensures { (s : Known) (p : Past) → CoreStandsFor self.now s p → result ≡ fall_of s p }
+    {
+        self.ring.fall()
+    }
+
+    // Closes the cycle, which was of this phase, and adds what it brought to the events. The next one is of this state's phase.
+    fn close(mut self, phase: u8, events: &mut Events) -> Master<P>
+        ensures { Closes self phase events.old result events.new }
+    {
+        self.ring.tell_plan(&mut events.plan);
+        self.ring
+            .close(phase, &mut events.outcomes, &mut events.stop);
+        in_state(self.ring)
+    }
+}
+
 impl Master<Cp0> {
     /// Commands phase 1. The error is the old state, unchanged, iff fewer than ten MSTs in a row came back whole.
     pub fn rise(mut self) -> Result<Master<Cp1>, Master<Cp0>>
@@ -75,7 +113,7 @@ impl Master<Cp0> {
         ensures up { IfOk result (λ m. m ≡ record self { phase = 1 }) }
         ensures same { IfErr result (λ m. m ≡ self) }
     {
-        if self.ring.is_done() {
+        if self.is_done() {
             self.ring.set_phase(1);
             Ok(in_state(self.ring))
         } else {
@@ -91,7 +129,7 @@ impl Master<Cp1> {
         ensures up { IfOk result (λ m. m ≡ record self { phase = 2 }) }
         ensures same { IfErr result (λ m. m ≡ self) }
     {
-        if self.ring.is_done() {
+        if self.is_done() {
             self.ring.set_phase(2);
             Ok(in_state(self.ring))
         } else {
@@ -110,7 +148,7 @@ impl Master<Cp2> {
         ensures plan { IfOk result (λ m. (s : Known) (requests : ℕ → List Task) (h : List Call) → IsIn 2 self s (past s requests h) → HoldsPlan m s (past s requests h)) }
         ensures same { IfErr result (λ m. m ≡ self) }
     {
-        if self.ring.is_done() {
+        if self.is_done() {
             self.ring.set_phase(3);
             Ok(in_state(self.ring))
         } else {
@@ -129,7 +167,7 @@ impl Master<Cp3> {
         ensures plan { IfOk result (λ m. (s : Known) (requests : ℕ → List Task) (h : List Call) → IsIn 3 self s (past s requests h) → HoldsPlan m s (past s requests h)) }
         ensures same { IfErr result (λ m. m ≡ self) }
     {
-        if self.ring.is_done() {
+        if self.is_done() {
             self.ring.set_phase(4);
             Ok(in_state(self.ring))
         } else {
@@ -189,7 +227,6 @@ impl Master<Cp4> {
 // The ring falls to phase 0: an epoch begins, and the open requests are broken.
 fn fallen(ring: Box<Ring>, cause: Fall, events: &mut Events) -> Box<Ring>
     ensures stands { (s : Known) (p : Past) → CoreStandsFor ring.value s p → CoreStandsFor result.value s (new_epoch p.cycle (still_waiting p)) }
-    ensures phase { result.value.phase ≡ 0 }
     ensures told { (s : Known) (p : Past) → CoreStandsFor ring.value s p → length events.old.outcomes + length s.drives ≤ 128 →
         events.new ≡ record events.old { outcomes = with_broken s p events.old.outcomes; fall = Some cause } }
 {
@@ -197,14 +234,6 @@ fn fallen(ring: Box<Ring>, cause: Fall, events: &mut Events) -> Box<Ring>
     new.begin_epoch(&mut events.outcomes);
     events.fall = Some(cause);
     new
-}
-
-fn tell_fall(fall: Option<Fall>, told: &mut Option<Fall>)
-    ensures { told.new ≡ option_or fall told.old }
-{
-    if fall.is_some() {
-        *told = fall;
-    }
 }
 
 /// The master's end of the ring, in the phase that it commands. It knows of the drives only the setup's addresses, slaves and lists,
@@ -225,7 +254,7 @@ pub enum AnyMaster {
 }
 
 impl AnyMaster {
-    ghost use Rattle.sercos_master.specs.Any.{StandsAt, AnyStandsFor};
+    ghost use Rattle.sercos_master.specs.Any.{StandsAt, AnyStandsFor, Ends};
 
     /// Opens a master in phase 0 that has received nothing, with at most 4,096 requests. It uses no time that a drive declares and no
     /// data block of the setup. A request to an address without a drive in the setup is never begun. The error is `AllocError`; then
@@ -305,18 +334,17 @@ impl AnyMaster {
         ensures some { is_some result ≡ true → 0 < length out.new }
     {
         match self {
-            AnyMaster::P0(m) => m.ring.mdt(out),
-            AnyMaster::P1(m) => m.ring.mdt(out),
-            AnyMaster::P2(m) => m.ring.mdt(out),
-            AnyMaster::P3(m) => m.ring.mdt(out),
-            AnyMaster::P4(m) => m.ring.mdt(out),
+            AnyMaster::P0(m) => m.mdt(out),
+            AnyMaster::P1(m) => m.mdt(out),
+            AnyMaster::P2(m) => m.mdt(out),
+            AnyMaster::P3(m) => m.mdt(out),
+            AnyMaster::P4(m) => m.mdt(out),
         }
     }
 
-    // Its invariant in every state.
+    // Its ring, whatever the phase.
     fn into_ring(self) -> Box<Ring>
         ensures stands { (s : Known) (p : Past) → StandsAt self s p → CoreStandsFor result.value s p }
-        ensures phase { (s : Known) (p : Past) → StandsAt self s p → result.value.phase ≤ 4 }
         ensures known { (s : Known) (p : Past) → StandsAt self s p → IsKnown s }
     {
         match self {
@@ -328,16 +356,40 @@ impl AnyMaster {
         }
     }
 
-    // The state of its phase.
-    fn of_ring(ring: Box<Ring>) -> AnyMaster
-        ensures { (s : Known) (p : Past) → IsKnown s → CoreStandsFor ring.value s p → ring.value.phase ≤ 4 → StandsAt result s p }
+    // Ends the cycle, as `end_cycle` says.
+    fn ended(self, events: &mut Events) -> AnyMaster
+        ensures { Ends self events.old result events.new }
     {
-        match ring.phase() {
-            0 => AnyMaster::P0(in_state(ring)),
-            1 => AnyMaster::P1(in_state(ring)),
-            2 => AnyMaster::P2(in_state(ring)),
-            3 => AnyMaster::P3(in_state(ring)),
-            _ => AnyMaster::P4(in_state(ring)),
+        match self {
+            AnyMaster::P0(m) => match m.rise() {
+                Ok(m) => AnyMaster::P1(m.close(0, events)),
+                Err(m) => AnyMaster::P0(m.close(0, events)),
+            },
+            AnyMaster::P1(m) => match m.fall_due() {
+                Some(cause) => AnyMaster::P0(m.close(1, events).fall(cause, events)),
+                None => match m.rise() {
+                    Ok(m) => AnyMaster::P2(m.close(1, events)),
+                    Err(m) => AnyMaster::P1(m.close(1, events)),
+                },
+            },
+            AnyMaster::P2(m) => match m.fall_due() {
+                Some(cause) => AnyMaster::P0(m.close(2, events).fall(cause, events)),
+                None => match m.rise() {
+                    Ok(m) => AnyMaster::P3(m.close(2, events)),
+                    Err(m) => AnyMaster::P2(m.close(2, events)),
+                },
+            },
+            AnyMaster::P3(m) => match m.fall_due() {
+                Some(cause) => AnyMaster::P0(m.close(3, events).fall(cause, events)),
+                None => match m.rise() {
+                    Ok(m) => AnyMaster::P4(m.close(3, events)),
+                    Err(m) => AnyMaster::P3(m.close(3, events)),
+                },
+            },
+            AnyMaster::P4(m) => match m.fall_due() {
+                Some(cause) => AnyMaster::P0(m.close(4, events).fall(cause, events)),
+                None => AnyMaster::P4(m.close(4, events)),
+            },
         }
     }
 
@@ -349,11 +401,7 @@ impl AnyMaster {
         ensures told { (s : Known) (jobs : List Job) (h : List Call) → AnyStandsFor self s jobs h → AreOpen events.old.outcomes h →
             events.new ≡ events_told s (past s (tasks_for s jobs) h) events.old }
     {
-        let mut ring = self.into_ring();
-        ring.tell_plan(&mut events.plan);
-        let fall = ring.end_cycle(&mut events.outcomes, &mut events.stop);
-        tell_fall(fall, &mut events.fall);
-        AnyMaster::of_ring(ring)
+        self.ended(events)
     }
 
     /// Restarts the master: it commands phase 0 and has received nothing. The open requests are added to the events as broken, and
@@ -363,6 +411,6 @@ impl AnyMaster {
         ensures told { (s : Known) (jobs : List Job) (h : List Call) → AnyStandsFor self s jobs h → length events.old.outcomes ≤ 64 →
             events.new ≡ restart_told s (past s (tasks_for s jobs) h) events.old }
     {
-        AnyMaster::of_ring(fallen(self.into_ring(), Fall::Restart, events))
+        AnyMaster::P0(in_state(fallen(self.into_ring(), Fall::Restart, events)))
     }
 }

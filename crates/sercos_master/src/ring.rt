@@ -107,13 +107,6 @@ impl Ring {
         })
     }
 
-    // The phase that is commanded.
-    pub fn phase(&self) -> u8
-        ensures { result ≡ self.now.phase }
-    {
-        self.phase
-    }
-
     // Commands another phase.
     pub fn set_phase(&mut self, phase: u8)
         ensures { self.new ≡ record self.old { phase = phase } }
