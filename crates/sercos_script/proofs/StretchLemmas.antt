@@ -1,14 +1,14 @@
 -- Stretches of a script.
-use Rattle.std.proofs.Common.{◌≡◌, ◌≤◌, ◌<◌, ℕ, ◌+◌, ◌-◌, Bool, List, [], ◌++◌, length, take, drop, get_or, set, replicate, sym, ◌∙◌, ap, arith, ◌⊎◌, inl, inr}
+use Rattle.std.proofs.Common.{◌≡◌, ◌≤◌, ◌<◌, ℕ, zero, suc, ◌+◌, ◌-◌, Bool, List, [], ◌++◌, length, take, drop, get_or, set, replicate, subst, sym, ◌∙◌, ap, arith, ◌⊎◌, inl, inr}
 use Rattle.std.specs.List.{filter, slice_range}
 use Rattle.std.proofs.lemmas.Bool.{cases_lt, cases_eq}
 use Rattle.std.proofs.lemmas.Bool.Decides.{nat_tests}
-use Rattle.std.proofs.lemmas.List.{append-nil, take_all, get_or-replicate, get_or_past, length-replicate, get_or-set_same, get_or-set_other}
+use Rattle.std.proofs.lemmas.List.{append-nil, take_all, get_or-take, get_or-drop, length-drop, length-take-le, get_or-replicate, get_or_past, length-replicate, get_or-set_same, get_or-set_other}
 use Rattle.std.proofs.lemmas.List.Elements.{filter-append}
 use Rattle.std.proofs.Math.Seq.{take-add}
 use Rattle.sercos_script.specs.declared.fault.Fault.{Fault}
 use Rattle.sercos_script.specs.Scripts.{acts}
-use Rattle.sercos_script.specs.Stretches.{edge, stretch, AreAhead}
+use Rattle.sercos_script.specs.Stretches.{edge, stretch, AreAhead, Rest, AreDone}
 
 -- What the stretches before a place have, and one more.
 split : (p : Fault → Bool) (i j : ℕ) (xs : List Fault) → i ≤ j → filter p (take j xs) ≡ filter p (take i xs) ++ filter p (slice_range xs i j)
@@ -23,16 +23,6 @@ more : (p : Fault → Bool) (k : ℕ) (script : List Fault)
     → filter p (take (edge (length script) (k + 1)) script) ≡ filter p (take (edge (length script) k) script) ++ filter p (stretch k script)
 unfolding stretch
 more p k script = split p (edge (length script) k) (edge (length script) (k + 1)) script (edges (length script) k)
-
--- A stretch's faults don't act from one cycle on before another.
-abbrev pub Rest : List Fault → ℕ → ℕ → ℕ → Type 0
-Rest script k from until = (c : ℕ) → from ≤ c → c < until → filter (acts c) (stretch k script) ≡ []
-
--- The stretches before one have been looked into for a cycle, and these of their faults act in it.
-pub record AreDone (script : List Fault) (cycle : ℕ) (soonest : List ℕ) (k : ℕ) (acting : List Fault) : Type 0 where
-  pub behind : (j : ℕ) → j < k → Rest script j (cycle + 1) (get_or soonest j 0)
-  pub left : (j : ℕ) → k ≤ j → Rest script j cycle (get_or soonest j 0)
-  pub gathered : acting ≡ filter (acts cycle) (take (edge (length script) k) script)
 
 first : (p : Fault → Bool) (script : List Fault) → filter p (take (edge (length script) 0) script) ≡ []
 first p script =
@@ -62,6 +52,22 @@ done-skipped {script} {cycle} {soonest} {k} {acting} done early' = record {
   gathered = done.gathered ∙ sym (more (acts cycle) k script ∙ ap (λ (xs : List Fault). filter (acts cycle) (take (edge (length script) k) script) ++ xs) (done.left k (omega arith) cycle (omega arith) early')
       ∙ append-nil (filter (acts cycle) (take (edge (length script) k) script)));
 }
+
+-- Several in a row whose cycles haven't come.
+pub done-skipped_all : {script : List Fault} {cycle : ℕ} {soonest : List ℕ} {k : ℕ} {acting : List Fault} → (n : ℕ) → AreDone script cycle soonest k acting → ((j : ℕ) → j < n → cycle < get_or soonest (k + j) 0)
+    → AreDone script cycle soonest (k + n) acting
+done-skipped_all {script} {cycle} {soonest} {k} {acting} zero done early' = let same : k ≡ k + 0 = omega arith in subst (λ (i : ℕ). AreDone script cycle soonest i acting) same done
+done-skipped_all {script} {cycle} {soonest} {k} {acting} (suc n) done early' =
+    let next : k + n + 1 ≡ k + suc n = omega arith in
+    subst (λ (i : ℕ). AreDone script cycle soonest i acting) next (done-skipped (done-skipped_all n done (λ j below. early' j (omega arith))) (early' n (omega arith)))
+
+-- Before all numbers of a part.
+pub early_part : (cycle begin n : ℕ) (soonest : List ℕ) → begin + n ≤ length soonest → ((k : ℕ) → k < length (take n (drop begin soonest)) → cycle < get_or (take n (drop begin soonest)) k 0)
+    → (j : ℕ) → j < n → cycle < get_or soonest (begin + j) 0
+early_part cycle begin n soonest room early' j below =
+    let long : length (take n (drop begin soonest)) ≡ n = length-take-le n (drop begin soonest) (rw (length-drop begin soonest) (omega arith)) in
+    let here : cycle < get_or (take n (drop begin soonest)) j 0 = early' j (rw long below) in
+    rw (get_or-take n (drop begin soonest) j 0 below, get_or-drop begin soonest j 0) at here
 
 -- A stretch gets another number.
 pub ahead-set : (script : List Fault) (from : ℕ) (soonest : List ℕ) (k n : ℕ) → AreAhead script from soonest → k < length soonest → Rest script k from n → AreAhead script from (set soonest k n)

@@ -1,7 +1,8 @@
 // What one fault does.
 ghost use Rattle.std.specs.Prelude.{◌≡◌, ◌%◌, ◌==◌};
 ghost use Rattle.sercos_script.specs.Links.{arrived};
-ghost use Rattle.sercos_script.specs.Scripts.{is_kind, acts, concerns, flipped, over_fault, is_deaf, is_restart};
+ghost use Rattle.sercos_script.specs.Scripts.{is_kind, acts, concerns, flipped, is_restart};
+ghost use Rattle.sercos_script.specs.Ways.{has_link, over_way};
 
 use crate::fault::{Damage, Fault};
 use crate::link::Passage;
@@ -48,36 +49,41 @@ fn flip(bits: &mut BitBuf, place: u32)
     }
 }
 
-// Does to the bits on a link what a fault does. Returns whether anything leaves the link.
-pub(crate) fn over_fault(damage: Damage, link: u8, bits: &mut BitBuf) -> bool
-    ensures { arrived result bits.new ≡ over_fault damage link bits.old }
+// The links from one with a number on, and the station that they lead to.
+#[derive(Clone, Copy)]
+pub(crate) struct Way {
+    pub link: u8,
+    pub count: u16,
+    pub to: u8,
+}
+
+// Returns whether a way has a link.
+fn has_link(way: Way, link: u8) -> bool
+    ensures { result ≡ has_link way link }
+{
+    way.link <= link && u32::from(link) < u32::from(way.link) + u32::from(way.count)
+}
+
+// Does to the bits on a way what a damage does. Returns whether anything arrives.
+pub(crate) fn over_way(damage: Damage, way: Way, bits: &mut BitBuf) -> bool
+    ensures { arrived result bits.new ≡ over_way damage way bits.old }
 {
     match damage {
-        Damage::Lose { link: at } => at != link,
-        Damage::Flip { link: at, bit } => {
-            if at == link {
+        Damage::Lose { link } => !has_link(way, link),
+        Damage::Flip { link, bit } => {
+            if has_link(way, link) {
                 flip(bits, bit);
             }
             true
         }
-        Damage::Cut { link: at, bit } => {
-            if at == link {
+        Damage::Cut { link, bit } => {
+            if has_link(way, link) {
                 bits.cut(bit as usize);
             }
             true
         }
-        Damage::Deaf { station: _ } => true,
+        Damage::Deaf { station } => station != way.to,
         Damage::Restart { station: _ } => true,
-    }
-}
-
-// Returns whether a damage makes a station deaf.
-pub(crate) fn is_deaf(damage: Damage, station: u8) -> bool
-    ensures { result ≡ is_deaf station damage }
-{
-    match damage {
-        Damage::Deaf { station: at } => at == station,
-        _ => false,
     }
 }
 

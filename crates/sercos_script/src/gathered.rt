@@ -2,7 +2,7 @@
 ghost use Rattle.std.specs.Prelude.{◌≡◌, ◌+◌, true, ℕ, Bool, List, []};
 ghost use Rattle.std.specs.List.{filter};
 ghost use Rattle.std.specs.List.Sorted.{IsNonDecreasingBy};
-ghost use Rattle.sercos_script.specs.Lanes.{key_of, is_in, telegram_lane, AreByLink, IsGathered, candidates};
+ghost use Rattle.sercos_script.specs.Lanes.{key_of, is_in, telegram_lane, AreByReach, IsGathered, candidates};
 ghost use Rattle.sercos_script.specs.Scripts.{carried, restarts_at};
 ghost use Rattle.sercos_script.specs.Stretches.{AreAhead};
 
@@ -13,6 +13,9 @@ use crate::stretches::{ROOM, STRETCHES, gather, nothing_known};
 use arrayvec::ArrayVec;
 use sercos_telegram::Kind;
 use std::marker::Model;
+
+// If there was no room, the faults are gathered again in the next cycle that is a multiple of this.
+const AGAIN: u32 = 64;
 
 // The faults of a script that act in a cycle, in the order of the script, and whether all of them found room; and for each
 // stretch of the script a number of a cycle before which none of its faults acts after this cycle.
@@ -64,7 +67,8 @@ impl Gathered {
         self.cycle = cycle;
     }
 
-    // Turns to a cycle. In a later one only the stretches whose cycle has come are searched.
+    // Turns to a cycle. In a later one only the stretches whose cycle has come are searched, and none for some cycles after there was
+    // no room.
     pub(crate) fn turn(&mut self, script: &[Fault], cycle: u32)
         requires gathered { IsGathered script.now self.old }
         requires ahead { AreAhead script.now (self.old.cycle + 1) self.old.soonest }
@@ -73,6 +77,10 @@ impl Gathered {
         ensures ahead { AreAhead script.now (cycle + 1) self.new.soonest }
     {
         if cycle == self.cycle {
+            return;
+        }
+        if self.cycle < cycle && !self.complete && cycle % AGAIN != 0 {
+            self.cycle = cycle;
             return;
         }
         if cycle < self.cycle {
@@ -110,13 +118,13 @@ impl Gathered {
         self.in_lane(script, telegram_lane(kind, from)).is_empty()
     }
 
-    // Returns faults that do to a passage of this cycle what the script does, in the order of their links.
+    // Returns faults that do to a passage of this cycle what the script does, in the order of the frames that they reach.
     pub(crate) fn on_passage<'a>(&'a self, script: &'a [Fault], p: &Passage) -> &'a [Fault]
         requires gathered { IsGathered script.now self.now }
         requires sorted { IsNonDecreasingBy key_of script.now }
         requires cycle { p.now.cycle ≡ self.now.cycle }
         ensures same { (stations : ℕ) (bits : List Bool) → carried stations result.now p.now bits ≡ carried stations script.now p.now bits }
-        ensures sorted { AreByLink result.now }
+        ensures sorted { AreByReach result.now }
     {
         self.in_lane(script, telegram_lane(p.kind, p.from))
     }

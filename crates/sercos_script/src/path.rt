@@ -1,60 +1,47 @@
-// What faults do to a passage over the links of its path.
-ghost use Rattle.std.specs.Prelude.{◌≡◌, ◌≤◌, ◌+◌};
-ghost use Rattle.std.specs.List.{filter, list_any};
-ghost use Rattle.sercos_script.specs.Lanes.{AreByLink, over_path};
+// What faults do to a passage on its way.
+ghost use Rattle.std.specs.Prelude.{◌≡◌};
+ghost use Rattle.sercos_script.specs.Lanes.{AreByReach};
 ghost use Rattle.sercos_script.specs.Links.{arrived};
-ghost use Rattle.sercos_script.specs.Scripts.{acts, concerns, over_links, is_deaf, is_restart, links_between, carried, restarts_at};
+ghost use Rattle.sercos_script.specs.Scripts.{links_between, carried, restarts_at};
+ghost use Rattle.sercos_script.specs.Ways.{over_passage, over_all};
 
-use crate::effect::{acts, concerns, is_deaf, is_restart, over_fault};
+use crate::effect::{Way, acts, concerns, is_restart, over_way};
 use crate::fault::Fault;
-use crate::lanes::link_of;
+use crate::lanes::reach_of;
 use crate::link::Passage;
 use sercos_bits::BitBuf;
 
-// Does to the bits on a path of `count` links what a fault does, if it concerns the passage. Returns whether anything leaves
-// the path.
-fn over_path(fault: &Fault, p: &Passage, link: u8, count: u16, bits: &mut BitBuf) -> bool
-    ensures { arrived result bits.new ≡ over_path p.now fault.now link count bits.old }
+// Does to the bits of a passage what a fault does, if it concerns the passage. Returns whether anything arrives.
+fn over_passage(fault: &Fault, p: &Passage, way: Way, bits: &mut BitBuf) -> bool
+    ensures { arrived result bits.new ≡ over_passage p.now way fault.now bits.old }
 {
-    let at = link_of(fault.damage);
-    if concerns(fault, p) && link <= at && u32::from(at) < u32::from(link) + u32::from(count) {
-        over_fault(fault.damage, at, bits)
+    if concerns(fault, p) {
+        over_way(fault.damage, way, bits)
     } else {
         true
     }
 }
 
-// Does to the bits of a passage what the faults do that concern it, on `count` links from the link with this number on. Since
-// the faults are in the order of the links, one pass through them does it. Returns whether anything leaves the last link.
-fn over_links(faults: &[Fault], p: &Passage, link: u8, count: u16, bits: &mut BitBuf) -> bool
-    requires range { link + count ≤ 256 }
-    requires sorted { AreByLink faults.now }
-    ensures { arrived result bits.new ≡ over_links (filter (concerns p.now) faults.now) link count bits.old }
+// Does to the bits of a passage what the faults do that concern it. Their order doesn't matter. As soon as one acts on longer frames
+// alone, so do all that follow. Returns whether anything arrives.
+fn over_all(faults: &[Fault], p: &Passage, way: Way, bits: &mut BitBuf) -> bool
+    requires { AreByReach faults.now }
+    ensures { arrived result bits.new ≡ over_all (over_passage p.now way) faults.now bits.old }
 {
     for fault in faults {
-        if !over_path(fault, p, link, count, bits) {
+        if (bits.len() as u32) < reach_of(fault.damage) {
+            return true;
+        }
+        if !over_passage(fault, p, way, bits) {
             return false;
         }
     }
     true
 }
 
-// Returns whether one of the faults makes the receiver deaf to the passage.
-fn any_deaf(faults: &[Fault], p: &Passage) -> bool
-    ensures { result ≡ list_any (λ f. is_deaf p.now.to f.damage) (filter (concerns p.now) faults.now) }
-{
-    for fault in faults {
-        if concerns(fault, p) && is_deaf(fault.damage, p.to) {
-            return true;
-        }
-    }
-    false
-}
-
 // Returns how many links a telegram takes from one station to another.
 fn links_between(stations: u8, from: u8, to: u8) -> u16
-    ensures value { result ≡ links_between stations from to }
-    ensures bound { from + result ≤ 256 }
+    ensures { result ≡ links_between stations from to }
 {
     let end = if to == 0 {
         u16::from(stations) + 1
@@ -65,16 +52,16 @@ fn links_between(stations: u8, from: u8, to: u8) -> u16
 }
 
 // Does to the bits of a passage what the faults do. Returns whether anything arrives.
-#[tactic(auto, unfolding(crate::specs::Scripts::carried))]
 pub(crate) fn carry(faults: &[Fault], stations: u8, p: &Passage, bits: &mut BitBuf) -> bool
-    requires { AreByLink faults.now }
+    requires { AreByReach faults.now }
     ensures { arrived result bits.new ≡ carried stations faults.now p.now bits.old }
 {
-    if any_deaf(faults, p) {
-        return false;
-    }
-    let count = links_between(stations, p.from, p.to);
-    over_links(faults, p, p.from, count, bits)
+    let way = Way {
+        link: p.from,
+        count: links_between(stations, p.from, p.to),
+        to: p.to,
+    };
+    over_all(faults, p, way, bits)
 }
 
 // Returns whether one of the faults restarts a station in a cycle.

@@ -1,6 +1,6 @@
 // The links of a ring under a script of faults.
-ghost use Rattle.std.specs.List.Sorted.{IsNonDecreasingBy};
-ghost use Rattle.sercos_script.specs.Lanes.{key_of, HaveSameOrder};
+ghost use Rattle.std.specs.List.Sorted.{IsNonDecreasingBy, IsPermutation};
+ghost use Rattle.sercos_script.specs.Lanes.{key_of};
 
 use crate::fault::Fault;
 use crate::gathered::Gathered;
@@ -13,10 +13,10 @@ use std::marker::Model;
 
 /// The links of a ring under a script of faults (this profile). On each link the faults act in the order of the script.
 ///
-/// The faults are kept sorted by the telegrams on which they act, and by links; faults of the same telegrams and link keep their
-/// order. In each cycle the faults that act are gathered once, at most 512 of them, from those stretches of the script in which one
-/// may act by then. A passage goes once through those of its kind and sender. If more act, it goes through all faults of its kind
-/// and sender. No call takes memory.
+/// What faults do to a telegram doesn't depend on their order, so they are kept sorted by the telegrams on which they act, and by the
+/// places of the bits on which they do. In each cycle the faults that act are gathered once, at most 512 of them, from those stretches
+/// of the script in which one may act by then. A passage goes once through those of its kind and sender, up to the end of its frame.
+/// If more act, it goes through all faults of its kind and sender. No call takes memory.
 #[derive(Drop)]
 pub struct Scripted {
     faults: Vec<Fault>,
@@ -41,7 +41,7 @@ impl Model for Scripted {
 // Returns faults sorted by their keys.
 fn sorted(faults: Vec<Fault>) -> Vec<Fault>
     ensures sorted { IsNonDecreasingBy key_of result.items }
-    ensures order { HaveSameOrder faults.items result.items }
+    ensures same { IsPermutation faults.items result.items }
 {
     let mut faults = faults;
     sort(faults.as_mut_slice());
@@ -53,7 +53,7 @@ impl Scripted {
     ghost use Rattle.sercos_script.specs.Scripts.{carried, restarts_at};
 
     /// Returns the links of a ring of `stations` drives under a script of faults. The script decides what they carry, and which
-    /// stations restart. Time is quadratic in the number of faults.
+    /// stations restart.
     pub fn new(faults: Vec<Fault>, stations: u8) -> Scripted
         ensures carry { carried result.stations result.faults ≡ carried stations faults.items }
         ensures restart { restarts_at result.faults ≡ restarts_at faults.items }

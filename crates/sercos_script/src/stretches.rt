@@ -1,9 +1,9 @@
 // The faults of a script in stretches, each with the number of a cycle before which none of its faults acts, so that in a
 // cycle only the stretches whose cycle has come are searched.
-ghost use Rattle.std.specs.Prelude.{◌≡◌, ◌≤◌, ◌<◌, ◌+◌, ◌++◌, true, false, ℕ, [], length, replicate};
+ghost use Rattle.std.specs.Prelude.{◌≡◌, ◌≤◌, ◌<◌, ◌+◌, ◌*◌, ◌++◌, true, false, ℕ, [], length, replicate, slice_index_or};
 ghost use Rattle.std.specs.List.{filter};
 ghost use Rattle.sercos_script.specs.Scripts.{acts};
-ghost use Rattle.sercos_script.specs.Stretches.{edge, stretch, AreAhead};
+ghost use Rattle.sercos_script.specs.Stretches.{edge, stretch, AreAhead, AreDone};
 
 use crate::fault::Fault;
 use arrayvec::ArrayVec;
@@ -24,12 +24,15 @@ pub(crate) fn nothing_known() -> [u32; STRETCHES]
     [0; STRETCHES]
 }
 
-// Returns how many stretches a script of this length has.
-fn stretch_count(len: usize) -> usize
-    ensures bound { result ≤ 512 }
-    ensures all { len ≤ edge len result }
+// The number of stretches in a group: their numbers are looked at together.
+const GROUP: usize = 8;
+
+// Returns how many groups of stretches a script of this length has.
+fn group_count(len: usize) -> usize
+    ensures bound { result ≤ 64 }
+    ensures all { len ≤ edge len (8 * result) }
 {
-    len.div_ceil(STRETCH).min(STRETCHES)
+    len.div_ceil(STRETCH * GROUP).min(STRETCHES / GROUP)
 }
 
 // Returns the place at which a stretch begins in a script of this length.
@@ -124,8 +127,53 @@ fn look_into(faults: &[Fault], cycle: u32, acting: &mut ArrayVec<Fault, ROOM>) -
     }
 }
 
-// Gathers the faults that act in a cycle, from the stretches whose cycle has come, and keeps when each of these acts next.
-// Returns whether all of them found room.
+// Returns whether a cycle is before each of these.
+#[inline(always)]
+fn is_before_all(cycle: u32, soonest: &[u32]) -> bool
+    ensures { result ≡ true → (k : ℕ) → k < length soonest.now → cycle < slice_index_or soonest.now k 0 }
+{
+    let mut least = u32::MAX;
+    for other in soonest {
+        least = least.min(*other);
+    }
+    cycle < least
+}
+
+// Goes on to gather the faults that act in a cycle, from those stretches of a group whose cycle has come, and keeps when each of these
+// acts next. Returns whether all of them found room.
+fn gather_group(
+    script: &[Fault],
+    cycle: u32,
+    group: usize,
+    soonest: &mut [u32],
+    acting: &mut ArrayVec<Fault, ROOM>,
+) -> bool
+    requires group { group < 64 }
+    requires len { length soonest.old ≡ 512 }
+    requires done { AreDone script.now cycle soonest.old (8 * group) acting.old.items }
+    ensures ahead { AreAhead script.now (cycle + 1) soonest.new }
+    ensures len { length soonest.new ≡ 512 }
+    ensures done { result ≡ true → AreDone script.now cycle soonest.new (8 * group + 8) acting.new.items }
+{
+    let first = GROUP * group;
+    if is_before_all(cycle, &soonest[first..first + GROUP]) {
+        return true;
+    }
+    for k in first..first + GROUP {
+        if cycle < soonest[k] {
+            continue;
+        }
+        let faults = stretch(script, k);
+        let found = look_into(faults, cycle, acting);
+        soonest[k] = found.soonest;
+        if !found.room {
+            return false;
+        }
+    }
+    true
+}
+
+// Gathers the faults that act in a cycle. Returns whether all of them found room.
 pub(crate) fn gather(
     script: &[Fault],
     cycle: u32,
@@ -139,14 +187,8 @@ pub(crate) fn gather(
     ensures acting { result ≡ true → acting.new.items ≡ filter (acts cycle) script.now }
 {
     acting.clear();
-    for k in 0..stretch_count(script.len()) {
-        if cycle < soonest[k] {
-            continue;
-        }
-        let faults = stretch(script, k);
-        let found = look_into(faults, cycle, acting);
-        soonest[k] = found.soonest;
-        if !found.room {
+    for group in 0..group_count(script.len()) {
+        if !gather_group(script, cycle, group, soonest, acting) {
             return false;
         }
     }

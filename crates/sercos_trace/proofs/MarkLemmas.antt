@@ -95,3 +95,8 @@ unfolding marked_from
 marked_by_none begins [] = refl
 marked_by_none true (byte ∷ bytes) = ap (λ t. byte ∷ t) (marked_by_none (is_feed byte) bytes)
 marked_by_none false (byte ∷ bytes) = ap (λ t. byte ∷ t) (marked_by_none (is_feed byte) bytes)
+
+pub unmarked : (mark text : List ℕ) → length mark ≡ 0 → text ≡ marked mark text
+unfolding marked
+unmarked [] text none = sym (marked_by_none true text)
+unmarked (byte ∷ bytes) text none = absurd (omega (arith, none))

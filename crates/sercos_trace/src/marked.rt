@@ -47,6 +47,9 @@ fn rest_of(text: &[u8], len: usize) -> &[u8]
 pub fn write_marked<K: Sink>(mark: &[u8], text: &[u8], sink: &mut K) -> Result<(), WriteFailed>
     ensures { Writes (seen K.held K.faults K.room sink.old) (seen K.held K.faults K.room sink.new) result (marked mark.now text.now) }
 {
+    if mark.is_empty() {
+        return write_bytes(text, sink);
+    }
     let mut rest = text;
     while !rest.is_empty() {
         let len = line_len(rest);

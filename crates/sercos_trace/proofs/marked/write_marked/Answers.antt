@@ -1,9 +1,14 @@
 use Rattle.std.proofs.Common.{◌≡◌, ◌<◌, [], length, refl, subst, arith}
 use Rattle.std.proofs.lemmas.Bool.Decides.{nat_tests}
 use Rattle.sercos_trace.proofs.WriteLemmas.{failed_is, failed_early, failed_later, taken_none, taken_then}
-use Rattle.sercos_trace.specs.Written.{HasTaken, HasFailed}
-use Rattle.sercos_trace.proofs.MarkLemmas.{line_more, line_end}
+use Rattle.sercos_trace.specs.Written.{HasTaken, HasFailed, Writes}
+use Rattle.sercos_trace.proofs.MarkLemmas.{line_more, line_end, unmarked}
 use Rattle.sercos_trace.proofs.marked.write_marked.Goals as goal
+
+pub returns-then-is_empty : goal.returns-then-is_empty
+returns-then-is_empty g c =
+    let none : length c.args.mark.now ≡ 0 = grind (arith, nat_tests) in
+    subst (Writes _ _ c.write_bytes.result) (unmarked c.args.mark.now c.args.text.now none) c.write_bytes.ensures
 
 pub loop-rest-init : goal.loop-rest-init
 loop-rest-init g c = record { front = []; whole = refl; taken = taken_none _ }

@@ -1,6 +1,6 @@
 use Rattle.std.proofs.Common.{sym, subst}
-use Rattle.sercos_script.specs.Lanes.{AreByLink, candidates}
-use Rattle.sercos_script.proofs.ScriptLemmas.{carried-found, candidates-sorted, lane-by_link}
+use Rattle.sercos_script.specs.Lanes.{AreByReach, candidates}
+use Rattle.sercos_script.proofs.ScriptLemmas.{carried-found, candidates-sorted, lane-by_reach}
 use Rattle.sercos_script.proofs.gathered.Gathered.on_passage.Goals as goal
 
 pub returns-clause-same : goal.returns-clause-same
@@ -9,5 +9,5 @@ returns-clause-same c stations bits =
 
 pub returns-clause-sorted : goal.returns-clause-sorted
 returns-clause-sorted c =
-    subst AreByLink (sym c.in_lane.ensures)
-    (lane-by_link c.telegram_lane.result (candidates c.args.script.now c.args.self.now) (candidates-sorted c.args.script.now c.args.self.now c.requires.gathered c.requires.sorted))
+    subst AreByReach (sym c.in_lane.ensures)
+    (lane-by_reach c.telegram_lane.result (candidates c.args.script.now c.args.self.now) (candidates-sorted c.args.script.now c.args.self.now c.requires.gathered c.requires.sorted))

@@ -1,7 +1,7 @@
-use Rattle.std.proofs.Common.{rules, arith, ◌<◌, length}
+use Rattle.std.proofs.Common.{rules, arith, ◌≡◌, ◌<◌, ◌+◌, ◌-◌, ◌*◌, length}
 use Rattle.std.proofs.lemmas.List.{length-set}
-use Rattle.sercos_script.proofs.StretchLemmas.{done-skipped, done-looked, done-ahead, ahead-set}
-use Rattle.sercos_script.proofs.stretches.gather.Goals as goal
+use Rattle.sercos_script.proofs.StretchLemmas.{done-skipped, done-looked, done-ahead, ahead-set, done-skipped_all, early_part}
+use Rattle.sercos_script.proofs.stretches.gather_group.Goals as goal
 
 pub loop-k-preserved-then-cycle-soonest : goal.loop-k-preserved-then-cycle-soonest
 loop-k-preserved-then-cycle-soonest c = record { done = done-skipped c.loop-k.invariant.done c.if-cycle-soonest.true; long = c.loop-k.invariant.long }
@@ -19,3 +19,8 @@ pub returns-then-not-found-clause-ahead : goal.returns-then-not-found-clause-ahe
 returns-then-not-found-clause-ahead c =
     let inside : c.loop-k.k < length c.loop-k.soonest = omega arith in
     ahead-set _ _ _ _ _ (done-ahead c.loop-k.invariant.done) inside (λ at after before. rw (← c.stretch-faults.ensures) (c.look_into-found.ensures.soonest at after before))
+
+pub returns-then-is_before_all-clause-done : goal.returns-then-is_before_all-clause-done
+returns-then-is_before_all-clause-done c = λ yes.
+    let eight : 8 * c.args.group + 8 - 8 * c.args.group ≡ 8 = omega arith in
+    done-skipped_all 8 c.requires.done (early_part c.args.cycle (8 * c.args.group) 8 c.args.soonest.now (omega arith) (rw eight at c.is_before_all.ensures c.if-is_before_all.true))
