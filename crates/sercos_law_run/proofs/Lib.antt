@@ -11,4 +11,5 @@ pub mod Bounds
 pub mod Undisturbed
 pub mod Recovery
 pub mod Totals
+pub mod Tolerance
 pub mod Theorems

@@ -11,3 +11,4 @@ pub mod Bounds
 pub mod Undisturbed
 pub mod Recovery
 pub mod Totals
+pub mod Tolerance

@@ -9,6 +9,7 @@ mod recovery_laws;
 mod settings_laws;
 mod slots_laws;
 mod start_laws;
+mod tolerance_laws;
 mod totals_laws;
 mod typed_laws;
 mod undisturbed_laws;
@@ -24,6 +25,7 @@ pub use start_laws::{
     answer_law, cause_law, held_values_law, own_block_law, ring_slot_law, start_up_law,
     store_of_law,
 };
+pub use tolerance_laws::tolerance_law;
 pub use totals_laws::{plan_law, totals_law};
 pub use typed_laws::{harmless_law, typed_law};
 pub use undisturbed_laws::undisturbed_law;

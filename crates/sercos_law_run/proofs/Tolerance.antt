@@ -1,0 +1,7 @@
+pub mod Steps
+pub mod Standing
+pub mod FirstCycles
+pub mod NoFallSo
+pub mod Borne
+pub mod BearsSparse
+pub mod Worked
