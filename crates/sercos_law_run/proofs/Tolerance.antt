@@ -4,4 +4,5 @@ pub mod FirstCycles
 pub mod NoFallSo
 pub mod Borne
 pub mod BearsSparse
+pub mod Tolerates
 pub mod Worked

@@ -1,6 +1,6 @@
 // The laws of what a ring bears while faults go on.
-ghost use Rattle.sercos_law_run.specs.Tolerance.Bears.{BearsSparse};
-ghost use Rattle.sercos_law_run.specs.Tolerance.Sparse.{CalmIsSparse};
+ghost use Rattle.sercos_law_run.specs.Tolerance.Bears.{BearsSparse, Tolerates};
+ghost use Rattle.sercos_law_run.specs.Tolerance.Sparse.{CalmIsSparse, OneOfThreeIsSparse};
 
 use crate::agenda_laws::{agenda_law, report_law, stop_law};
 use crate::start_laws::{
@@ -21,10 +21,13 @@ use sercos_service_drive::writes_law;
 /// disturbed. A disturbed cycle may lose any number of telegrams, at any stations. Then no record has a fall or reports a request as broken.
 /// From the second cycle on each drive is in the commanded phase, or one below it, in the first cycle commanded this phase, if it missed the
 /// MST of it. No step is open for longer than the busy time of its drive and four cycles, or three in phases 3 and 4, and its answer arrives
-/// at most that long after the cycle in which it was begun, and first sent. Cycles in which nothing is disturbed are sparse.
+/// at most that long after the cycle in which it was begun, and first sent. So it is in each cycle of a run, from its opening on or since one
+/// whose record has a fall. Cycles in which nothing is disturbed are sparse, and those of which at most one of any three in a row is.
 pub fn tolerance_law()
     ensures calm { CalmIsSparse }
+    ensures spaced { OneOfThreeIsSparse }
     ensures bears { BearsSparse }
+    ensures tolerates { Tolerates }
 {
     agenda_law();
     report_law();

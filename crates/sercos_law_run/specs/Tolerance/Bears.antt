@@ -4,6 +4,7 @@ use Rattle.sercos_step.specs.declared.request.Job.{Job}
 use Rattle.sercos_block.specs.Views.{RingView}
 use Rattle.sercos_service_master.specs.Begun.{answers_it}
 use Rattle.sercos_trace.specs.Views.{CycleView}
+use Rattle.sercos_trace.specs.declared.events.Fall.{Fall}
 use Rattle.sercos_script.specs.Links.{Carry, Restarts}
 use Rattle.sercos_law_channel.specs.Handshake.Epochs.{epoch_begun}
 use Rattle.sercos_law_channel.specs.Handshake.Views.{Heard, View, standing, stood_in}
@@ -59,3 +60,20 @@ abbrev pub BearsSparse : Type 0
 BearsSparse = (r : RingView) (jobs : List Job) (carry : Carry) (restarts : Restarts) (t : CycleView) (cycles before : List CycleView) →
     IsOpened r jobs → IsRun r jobs carry restarts (t ∷ (cycles ++ before)) → IsClear (t ∷ (cycles ++ before)) →
     StartsEpoch r jobs carry restarts before → AreSparse r carry restarts (t ∷ cycles) before → Bears r jobs carry restarts t cycles before
+
+-- An epoch begins after these cycles: there are none, or the record of the newest has a fall, a restart of the master included. If the
+-- master restarts in it, the epoch begins in that very cycle; what is said here begins in the next one.
+abbrev pub BeginsAnew : List CycleView → Type 0
+BeginsAnew [] = Unit {0}
+BeginsAnew (f ∷ before) = (x : Fall) × (f.events.fall ≡ Some x)
+
+-- What holds of a cycle t after the cycles j: since the opening, or since one whose record has a fall, the ring bears the faults, if the
+-- disturbed cycles since are sparse.
+abbrev pub BearsIn : RingView → List Job → Carry → Restarts → CycleView → List CycleView → Type 0
+BearsIn r jobs carry restarts t j = (cycles before : List CycleView) → j ≡ cycles ++ before → BeginsAnew before →
+    AreSparse r carry restarts (t ∷ cycles) before → Bears r jobs carry restarts t cycles before
+
+-- TOLERANCE. This holds in each cycle of a run, as long as nothing is undetected, regardless of losses and restarts.
+abbrev pub Tolerates : Type 0
+Tolerates = (r : RingView) (jobs : List Job) (carry : Carry) (restarts : Restarts) (t : CycleView) (j : List CycleView) → IsOpened r jobs →
+    IsRun r jobs carry restarts (t ∷ j) → IsClear (t ∷ j) → BearsIn r jobs carry restarts t j

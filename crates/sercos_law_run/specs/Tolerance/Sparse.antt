@@ -29,3 +29,9 @@ AreSparse r carry restarts (t ∷ cycles) before = AreSparse r carry restarts cy
 abbrev pub CalmIsSparse : Type 0
 CalmIsSparse = (r : RingView) (carry : Carry) (restarts : Restarts) (t : CycleView) (j : List CycleView) →
     IsUndisturbed r carry restarts t j → IsSparse r carry restarts t j
+
+-- So are cycles in which no station restarts, and of which at most one of any three in a row is disturbed.
+abbrev pub OneOfThreeIsSparse : Type 0
+OneOfThreeIsSparse = (r : RingView) (carry : Carry) (restarts : Restarts) (t : CycleView) (j : List CycleView) →
+    ((station : ℕ) → station ≤ length r.drives → restarts (length j) station ≡ false) →
+    (IsDisturbed r carry restarts t j → AreCalm r carry restarts 2 j) → IsSparse r carry restarts t j

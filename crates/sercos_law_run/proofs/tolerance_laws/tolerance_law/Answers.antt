@@ -1,7 +1,9 @@
 use Rattle.sercos_law_run.proofs.Headline.HeadlineRuns.{MoreLaws}
 use Rattle.sercos_law_run.proofs.Headline.WellRuns.{StopLaws}
 use Rattle.sercos_law_run.proofs.Held.Runs.{Laws}
+use Rattle.sercos_law_run.specs.Tolerance.Bears.{BearsSparse}
 use Rattle.sercos_law_run.proofs.Tolerance.BearsSparse.{bears_sparse, calm_is_sparse}
+use Rattle.sercos_law_run.proofs.Tolerance.Tolerates.{one_of_three, tolerates}
 use Rattle.sercos_law_run.proofs.tolerance_laws.tolerance_law.Goals as goal
 
 pub returns : goal.returns
@@ -74,9 +76,7 @@ returns c =
       frame = c.framing_law.ensures.frame;
       wire = c.framing_law.ensures.wire;
     } in
-    record {
-      calm = calm_is_sparse;
-      bears = λ r jobs carry restarts t cycles before opened run clear starts sparse.
-          bears_sparse laws more c.agenda_law.ensures.turn c.run_law.ensures.up c.run_law.ensures.zero c.calls_law.ensures.stays
-          c.calls_law.ensures.before r jobs carry restarts opened t cycles before run clear starts sparse;
-    }
+    let bears : BearsSparse = λ r jobs carry restarts t cycles before opened run clear starts sparse.
+    bears_sparse laws more c.agenda_law.ensures.turn c.run_law.ensures.up c.run_law.ensures.zero c.calls_law.ensures.stays
+    c.calls_law.ensures.before r jobs carry restarts opened t cycles before run clear starts sparse in
+    record { calm = calm_is_sparse; spaced = one_of_three; bears = bears; tolerates = tolerates bears }
