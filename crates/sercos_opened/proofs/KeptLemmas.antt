@@ -13,11 +13,12 @@ use Rattle.sercos_law_run.specs.Headline.Once.{OnceAlways}
 use Rattle.sercos_law_run.specs.Undisturbed.WholeRuns.{StartsUndisturbed}
 use Rattle.sercos_law_run.specs.Recovery.Predicts.{Predicts}
 use Rattle.sercos_law_run.specs.Recovery.Recovers.{Recovers}
+use Rattle.sercos_law_run.specs.Tolerance.Bears.{Tolerates}
 use Rattle.sercos_law_run.specs.Journal.Harmless.{IsHarmlessAfterCuts}
 use Rattle.sercos_law_run.specs.Journal.Runs.{IsClear, IsNext, IsRun, next_record, run_of}
 use Rattle.sercos_law_run.proofs.Theorems.{both_are_harmless, cuts_are_harmless}
 use Rattle.sercos_config.specs.Views.{DocumentView}
-use Rattle.sercos_opened.specs.Kept.{document_run, script_carry, script_run, IsDocumentRun, IsScriptRun, KeepsThroughout, OnceThroughout, PredictsThroughout, RecoversThroughout, StartsThroughout, OpenedIsKept}
+use Rattle.sercos_opened.specs.Kept.{document_run, script_carry, script_run, BearsThroughout, IsDocumentRun, IsScriptRun, KeepsThroughout, OnceThroughout, PredictsThroughout, RecoversThroughout, StartsThroughout, OpenedIsKept}
 
 -- each cycle that the function gives is the next one
 abbrev pub AreNext : Type 0
@@ -62,8 +63,15 @@ run_recovers next law r jobs carry restarts n opened later t j is clear =
     law r jobs carry restarts t j opened
     (run_before r jobs carry restarts later (t ∷ j) (subst (λ (run : List CycleView). IsRun r jobs carry restarts run) is (run_is next r jobs carry restarts n))) clear
 
-pub opened_is_kept : AreNext → HarmlessIsClear → OnceAlways → Headline → Predicts → StartsUndisturbed → Recovers → OpenedIsKept
-opened_is_kept next clear once law predicts starts back r jobs carry restarts cycles opened = record {
+-- and it bears sparse faults
+pub run_bears : AreNext → Tolerates → (r : RingView) (jobs : List Job) (carry : Carry) (restarts : Restarts) (n : ℕ) → IsOpened r jobs
+    → BearsThroughout r jobs carry restarts (run_of r jobs carry restarts n)
+run_bears next law r jobs carry restarts n opened later t j is clear =
+    law r jobs carry restarts t j opened (run_before r jobs carry restarts later (t ∷ j)
+    (subst (λ (run : List CycleView). IsRun r jobs carry restarts run) is (run_is next r jobs carry restarts n))) clear
+
+pub opened_is_kept : AreNext → HarmlessIsClear → OnceAlways → Headline → Predicts → StartsUndisturbed → Recovers → Tolerates → OpenedIsKept
+opened_is_kept next clear once law predicts starts back tolerates r jobs carry restarts cycles opened = record {
   run = run_is next r jobs carry restarts cycles;
   clear = λ harmless. clear r jobs carry restarts (run_of r jobs carry restarts cycles) opened.valid opened.typed opened.jobs_typed harmless (run_is next r jobs carry restarts cycles);
   once = run_once next once r jobs carry restarts cycles opened;
@@ -71,6 +79,7 @@ opened_is_kept next clear once law predicts starts back r jobs carry restarts cy
   predicts = run_predicts next predicts r jobs carry restarts cycles opened;
   starts = run_starts next starts r jobs carry restarts cycles opened;
   recovers = run_recovers next back r jobs carry restarts cycles opened;
+  bears = run_bears next tolerates r jobs carry restarts cycles opened;
 }
 
 -- Nothing is unseen in the run of a document whose script has no flip, if the link handed in is harmless after cuts; nor in its run over

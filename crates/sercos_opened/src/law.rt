@@ -2,13 +2,13 @@
 ghost use Rattle.sercos_opened.specs.Kept.{OpenedIsKept};
 
 use sercos_law_run::{
-    harmless_law, headline_law, once_law, recovery_law, run_law, undisturbed_law,
+    harmless_law, headline_law, once_law, recovery_law, run_law, tolerance_law, undisturbed_law,
 };
 
 /// A law and no code. The cycles of a ring that may be opened with its requests are a run. In each of them no request is reported a
 /// second time. In each, up to the first arrival that is unseen, all is kept that is promised of it, the planner's answer to the ring's
-/// requirements predicts it, and the ring recovers in time; up to the first that is disturbed, the start-up goes as it should. If the link
-/// is harmless, no arrival is unseen.
+/// requirements predicts it, the ring recovers in time, and it bears sparse faults without a fall; up to the first that is disturbed, the
+/// start-up goes as it should. If the link is harmless, no arrival is unseen.
 pub fn kept_law()
     ensures kept { OpenedIsKept }
 {
@@ -18,4 +18,5 @@ pub fn kept_law()
     headline_law();
     undisturbed_law();
     recovery_law();
+    tolerance_law();
 }

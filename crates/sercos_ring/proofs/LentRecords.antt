@@ -5,7 +5,8 @@ use Rattle.sercos_script.specs.Links.{Carry, Restarts}
 use Rattle.sercos_law_run.specs.Headline.Headline.{Headline}
 use Rattle.sercos_law_run.specs.Undisturbed.WholeRuns.{StartsUndisturbed}
 use Rattle.sercos_law_run.specs.Recovery.Recovers.{Recovers}
-use Rattle.sercos_ring.specs.Kept.{IsNextOf, KeepsAllOf, RecoversOf, StartsUpOf}
+use Rattle.sercos_law_run.specs.Tolerance.Bears.{Tolerates}
+use Rattle.sercos_ring.specs.Kept.{BearsOf, IsNextOf, KeepsAllOf, RecoversOf, StartsUpOf}
 use Rattle.sercos_ring.specs.declared.ring.Ring.{Ring}
 
 -- what is lent is what the ring keeps
@@ -25,4 +26,11 @@ starts_lent carry_of restart_of ring lent law next = record {
 pub recovers_lent : {L : Type 0} (carry_of : L → Carry) (restart_of : L → Restarts) (ring : Ring L) (lent : CycleView) → Recovers → IsNextOf carry_of restart_of ring lent → RecoversOf carry_of restart_of ring lent
 recovers_lent carry_of restart_of ring lent law next = record {
   recovers = λ r jobs carry restarts j stands opened clear. law r jobs carry restarts lent j opened (stands.run, next.next r jobs carry restarts j stands) clear;
+}
+
+pub bears_lent : {L : Type 0} (carry_of : L → Carry) (restart_of : L → Restarts) (ring : Ring L) (lent : CycleView) → Tolerates
+    → IsNextOf carry_of restart_of ring lent → BearsOf carry_of restart_of ring lent
+bears_lent carry_of restart_of ring lent law next = record {
+  bears = λ r jobs carry restarts j stands opened clear.
+      law r jobs carry restarts lent j opened (stands.run, next.next r jobs carry restarts j stands) clear;
 }
