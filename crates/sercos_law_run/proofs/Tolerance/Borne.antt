@@ -45,8 +45,10 @@ use Rattle.sercos_law_run.proofs.Recovery.LateDown.{phase_after, phase_now, turn
 use Rattle.sercos_law_run.proofs.Recovery.Limits.{are_sent}
 use Rattle.sercos_law_run.proofs.Recovery.Stretches.{whole_at}
 use Rattle.sercos_law_run.specs.Tolerance.Bears.{IsBehind, IsFirst}
+use Rattle.sercos_law_run.specs.Tolerance.Losses.{is_lost}
 use Rattle.sercos_law_run.specs.Tolerance.Sparse.{AreCalm, AreSparse, IsSparse}
 use Rattle.sercos_law_run.proofs.Tolerance.FirstCycles.{never_first}
+use Rattle.sercos_law_run.proofs.Tolerance.Losses.{early_kept, none_lost_in}
 use Rattle.sercos_law_run.proofs.Tolerance.NoFallSo.{at_second, count_next, counted, limit_so, mst_second, none_falls}
 use Rattle.sercos_law_run.proofs.Tolerance.Standing.{hears_whole, lost_so, stays_same, takes_whole, took_mdt, zero_up}
 use Rattle.sercos_law_run.proofs.Tolerance.Steps.{IsYoung, older, oldest, rested, young_both, young_lost, young_taken}
@@ -116,6 +118,8 @@ module _ (laws : Laws) (more : MoreLaws) (turn : WorkInTurn) (comes_up : (busy :
     pub first : (k : ℕ) → k < length r.drives → IsFirst (view k t j) (views k j) → is_done (known_of r) (now t j) ≡ true → ⊥
     pub aged : (k : ℕ) → k < length r.drives → IsAged r carry restarts (busy_of k) t j (views k (t ∷ j))
     pub asked : (k : ℕ) → k < length r.drives → IsAsked r carry restarts t j k (now t j)
+    pub kept : IsUndisturbed r carry restarts t j → (3 ≤ t.phase) ⊎ AreCalm r carry restarts 1 j → (k : ℕ) → k < length r.drives
+        → is_lost (view k t j) (views k j) ≡ false
 
   is_run : (j : List CycleView) → IsRun r jobs carry restarts j → IsClear j → (k : ℕ) → k < length r.drives
       → IsViewRun (busy_of k) (views k j)
@@ -143,7 +147,7 @@ module _ (laws : Laws) (more : MoreLaws) (turn : WorkInTurn) (comes_up : (busy :
   -- THE FIRST CYCLE OF AN EPOCH
   module _ (t : CycleView) (j : List CycleView) (run : IsRun r jobs carry restarts (t ∷ j)) (clear : IsClear (t ∷ j))
       (starts : StartsEpoch r jobs carry restarts j) (goes_on : restarts (length j) 0 ≡ false) where
-    zero_is : t.phase ≡ 0
+    pub zero_is : t.phase ≡ 0
     zero_is = run.1.phase ∙ ap (λ (p : Past). p.now.phase) (started r jobs (restarts (length j) 0) (master_calls r carry restarts j)
         ∙ ap (λ (b : Bool). begun_cycle b (looks_back r jobs (master_calls r carry restarts j))) goes_on) ∙ starts
 
@@ -181,6 +185,8 @@ module _ (laws : Laws) (more : MoreLaws) (turn : WorkInTurn) (comes_up : (busy :
       first = λ k below first done. never_above j k first;
       aged = λ k below. aged_after t j k stays_first (rested_all r carry restarts (busy_of k) t j (staying (view k t j) ∷ views k j)
           (ap open_in (idle_so t j run clear k below (let zero_now = zero_is in omega (arith, zero_now)))));
+      kept = λ calm before k below. early_kept (busy_of k) (view k t j) (views k j) (is_run (t ∷ j) run clear k below)
+          (let zero_now = zero_is in omega (arith, zero_now));
       asked = λ k below. record {
         any = λ one. let zero_now = now_zero in absurd (omega (arith, one, zero_now));
         lost = λ disturbed one. let zero_now = now_zero in absurd (omega (arith, one, zero_now));
@@ -286,14 +292,21 @@ module _ (laws : Laws) (more : MoreLaws) (turn : WorkInTurn) (comes_up : (busy :
           → is_some (processed_in (staying (view k t (u ∷ j))) (views k (u ∷ j))) ≡ true
       takes calm = takes_whole (busy_of k) (staying (view k t (u ∷ j))) (views k (u ∷ j)) run_now (whole calm k below) (up_now calm k below)
 
-      calm_now : IsUndisturbed r carry restarts t (u ∷ j) → (3 ≤ t.phase) ⊎ AreCalm r carry restarts 1 (u ∷ j) → IsYoung (busy_of k) 0 0 all
-      calm_now calm before = young_both (busy_of k) (staying (view k t (u ∷ j))) (views k (u ∷ j)) run_now refl goes_now 2
-          (is.aged k below).any (takes calm)
-          (hears_whole (busy_of k) (staying (view k t (u ∷ j))) (view k u j) (views k j) run_now (u_stays k) (whole calm k below)
-          (up_now calm k below) (next k below) (elim before [
+      hears : IsUndisturbed r carry restarts t (u ∷ j) → (3 ≤ t.phase) ⊎ AreCalm r carry restarts 1 (u ∷ j)
+          → is_some (open_in (epoch_begun (views k (u ∷ j)))) ≡ true → is_some (view k t (u ∷ j)).heard ≡ true
+      hears calm before = hears_whole (busy_of k) (staying (view k t (u ∷ j))) (view k u j) (views k j) run_now (u_stays k)
+          (whole calm k below) (up_now calm k below) (next k below) (elim before [
             | inl late ↦ inl late
             | inr are ↦ inr (whole_before are.1 k below, is.up are.1 k below)
-          ]))
+          ])
+
+      calm_now : IsUndisturbed r carry restarts t (u ∷ j) → (3 ≤ t.phase) ⊎ AreCalm r carry restarts 1 (u ∷ j) → IsYoung (busy_of k) 0 0 all
+      calm_now calm before = young_both (busy_of k) (staying (view k t (u ∷ j))) (views k (u ∷ j)) run_now refl goes_now 2
+          (is.aged k below).any (takes calm) (hears calm before)
+
+      kept_now : IsUndisturbed r carry restarts t (u ∷ j) → (3 ≤ t.phase) ⊎ AreCalm r carry restarts 1 (u ∷ j)
+          → is_lost (view k t (u ∷ j)) (views k (u ∷ j)) ≡ false
+      kept_now calm before = none_lost_in (view k t (u ∷ j)) (views k (u ∷ j)) goes_now (hears calm before) (takes calm)
 
       before_lost : IsDisturbed r carry restarts t (u ∷ j) → 2 ≤ t.phase → IsYoung (busy_of k) 0 0 (views k (u ∷ j))
       before_lost disturbed two = elim (cases_lt t.phase 3) [
@@ -437,6 +450,7 @@ module _ (laws : Laws) (more : MoreLaws) (turn : WorkInTurn) (comes_up : (busy :
           first done k below;
       aged = λ k below. aged_after t (u ∷ j) k stays_now (aged_now k below);
       asked = asked_now;
+      kept = λ calm before k below. kept_now k below calm before;
     }
 
     -- where phase 3 or 4 is commanded, no step that was open before is older than this

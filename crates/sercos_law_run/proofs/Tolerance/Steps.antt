@@ -111,7 +111,7 @@ oldest busy fresh late all run few y = by (open_in (epoch_begun all)) refl
 -- ONE CYCLE, without a fall or a restart of the master
 module _ (busy : ℕ) (v : View) (past : List View) (run : IsRun busy (v ∷ past)) (stays : v.falls ≡ false)
     (goes_on : v.master_restarts ≡ false) where
-  begun_is : epoch_begun (v ∷ past) ≡ begun_in v past
+  pub begun_is : epoch_begun (v ∷ past) ≡ begun_in v past
   begun_is = cond-false v.falls [] (begun_in v past) stays
 
   log_is : epoch_log (v ∷ past) ≡ log_in v past
@@ -137,14 +137,14 @@ module _ (busy : ℕ) (v : View) (past : List View) (run : IsRun busy (v ∷ pas
   answers_are = ap (λ (l : List Begun). length (answers_in l)) begun_is
       ∙ ap length (begun_same v.begins (with_heard v.heard (unless_restart v (epoch_begun past))))
 
-  answers_more : length (answers_in (epoch_begun past)) ≤ length (answers_in (epoch_begun (v ∷ past)))
+  pub answers_more : length (answers_in (epoch_begun past)) ≤ length (answers_in (epoch_begun (v ∷ past)))
   answers_more =
       let more = heard_more v.heard (unless_restart v (epoch_begun past)) in
       let first = ap (λ (l : List Begun). length (answers_in l)) start_is in
       let last = answers_are in omega (arith, more, first, last)
 
   -- the log stays, or has one entry more, of this cycle
-  grows : (epoch_log (v ∷ past) ≡ epoch_log past) ⊎ ((x : Entry) × (epoch_log (v ∷ past) ≡ x ∷ epoch_log past)
+  pub grows : (epoch_log (v ∷ past) ≡ epoch_log past) ⊎ ((x : Entry) × (epoch_log (v ∷ past) ≡ x ∷ epoch_log past)
       × (x.taken.cycle ≡ length past))
   grows = elim (log_grows v past goes_on) [ inl same ↦ inl (log_is ∙ same) | inr (x, is, at) ↦ inr (x, log_is ∙ is, at) ]
 
@@ -171,10 +171,10 @@ module _ (busy : ℕ) (v : View) (past : List View) (run : IsRun busy (v ∷ pas
       )
       by false is = inr (age ∙ cond-false _ (age_in past + 1) 1 is)
 
-  soon : (e : Entry) (log : List Entry) → epoch_log (v ∷ past) ≡ e ∷ log → e.taken.cycle < length (v ∷ past)
+  pub soon : (e : Entry) (log : List Entry) → epoch_log (v ∷ past) ≡ e ∷ log → e.taken.cycle < length (v ∷ past)
   soon e log those = head_before (length (v ∷ past)) (epoch_taken (v ∷ past)) (taken_before (v ∷ past)) e log those
 
-  same_head : (e f : Entry) (log rest : List Entry) → e ∷ log ≡ f ∷ rest → e.taken.cycle ≡ f.taken.cycle
+  pub same_head : (e f : Entry) (log rest : List Entry) → e ∷ log ≡ f ∷ rest → e.taken.cycle ≡ f.taken.cycle
   same_head e f log rest same = let one : e ≡ f = cc in ap (λ (x : Entry). x.taken.cycle) one
 
   -- A STEP THAT THE DRIVE HAS ACCEPTED: since when it is open,
@@ -287,7 +287,7 @@ module _ (busy : ℕ) (v : View) (past : List View) (run : IsRun busy (v ∷ pas
   ]
 
   -- one that is open though the drive is heard is busy
-  busy_still : (is_some (open_in (epoch_begun past)) ≡ true → is_some v.heard ≡ true) → (e : Entry) (log : List Entry)
+  pub busy_still : (is_some (open_in (epoch_begun past)) ≡ true → is_some v.heard ≡ true) → (e : Entry) (log : List Entry)
       → epoch_log (v ∷ past) ≡ e ∷ log → is_some (open_in (epoch_begun (v ∷ past))) ≡ true
       → length (steps_in (epoch_begun (v ∷ past))) ≡ length (epoch_log (v ∷ past)) → length (v ∷ past) ≤ e.taken.cycle + (busy + 1) + 0
   busy_still hears e log those some steps = elim grows [
@@ -345,7 +345,7 @@ module _ (busy : ℕ) (v : View) (past : List View) (run : IsRun busy (v ∷ pas
           f rest at opened s (head_before (length past) (epoch_taken past) (taken_before past) f rest (sym log_start ∙ at)))
 
   -- A STEP THAT THE DRIVE HASN'T ACCEPTED isn't there if it processes the record;
-  none_new : (is_some (open_in (begun_in v past)) ≡ true → is_some (processed_in v past) ≡ true)
+  pub none_new : (is_some (open_in (begun_in v past)) ≡ true → is_some (processed_in v past) ≡ true)
       → is_some (open_in (epoch_begun (v ∷ past))) ≡ true
       → length (steps_in (epoch_begun (v ∷ past))) ≡ suc (length (epoch_log (v ∷ past))) → ⊥
   none_new takes some steps = by (processes v past)

@@ -3,6 +3,8 @@ use Rattle.sercos_law_run.proofs.Headline.WellRuns.{StopLaws}
 use Rattle.sercos_law_run.proofs.Held.Runs.{Laws}
 use Rattle.sercos_law_run.specs.Tolerance.Bears.{BearsSparse}
 use Rattle.sercos_law_run.proofs.Tolerance.BearsSparse.{bears_sparse, calm_is_sparse}
+use Rattle.sercos_law_run.proofs.Tolerance.CostsSparse.{costs_sparse}
+use Rattle.sercos_law_run.proofs.Tolerance.Losses.{takes_time_and_losses}
 use Rattle.sercos_law_run.proofs.Tolerance.Tolerates.{one_of_three, tolerates}
 use Rattle.sercos_law_run.proofs.tolerance_laws.tolerance_law.Goals as goal
 
@@ -79,4 +81,14 @@ returns c =
     let bears : BearsSparse = λ r jobs carry restarts t cycles before opened run clear starts sparse.
     bears_sparse laws more c.agenda_law.ensures.turn c.run_law.ensures.up c.run_law.ensures.zero c.calls_law.ensures.stays
     c.calls_law.ensures.before r jobs carry restarts opened t cycles before run clear starts sparse in
-    record { calm = calm_is_sparse; spaced = one_of_three; bears = bears; tolerates = tolerates bears }
+    record {
+      calm = calm_is_sparse;
+      spaced = one_of_three;
+      bears = bears;
+      tolerates = tolerates bears;
+      losses = takes_time_and_losses;
+      costs = λ r jobs carry restarts cycles before opened run clear starts sparse k longest below listed.
+          costs_sparse laws more c.agenda_law.ensures.turn c.run_law.ensures.up c.run_law.ensures.zero c.calls_law.ensures.stays
+          c.calls_law.ensures.before r jobs carry restarts opened c.cost_law.ensures.in_cost c.cost_law.ensures.timed cycles before run
+          clear starts sparse k longest below listed;
+    }
