@@ -12,4 +12,5 @@ pub mod Undisturbed
 pub mod Recovery
 pub mod Totals
 pub mod Stations
+pub mod Tolerance
 pub mod Theorems

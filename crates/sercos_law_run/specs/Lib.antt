@@ -12,3 +12,4 @@ pub mod Undisturbed
 pub mod Recovery
 pub mod Totals
 pub mod Stations
+pub mod Tolerance

@@ -10,6 +10,7 @@ mod settings_laws;
 mod slots_laws;
 mod start_laws;
 mod station_laws;
+mod tolerance_laws;
 mod totals_laws;
 mod typed_laws;
 mod undisturbed_laws;
@@ -26,6 +27,7 @@ pub use start_laws::{
     store_of_law,
 };
 pub use station_laws::{fall_law, fit_law, phase_law, station_law};
+pub use tolerance_laws::tolerance_law;
 pub use totals_laws::{plan_law, totals_law};
 pub use typed_laws::{harmless_law, typed_law};
 pub use undisturbed_laws::undisturbed_law;

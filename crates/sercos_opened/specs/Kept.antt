@@ -15,6 +15,7 @@ use Rattle.sercos_law_run.specs.Recovery.Recovers.{RecoversIn}
 use Rattle.sercos_law_run.specs.Stations.Cycles.{DrivesArePlain}
 use Rattle.sercos_law_run.specs.Stations.Senders.{IsAlone}
 use Rattle.sercos_law_run.specs.Stations.Falls.{FallsForCause}
+use Rattle.sercos_law_run.specs.Tolerance.Bears.{BearsIn}
 use Rattle.sercos_law_run.specs.Held.Opened.{IsOpened}
 use Rattle.sercos_config.specs.Views.{DocumentView}
 
@@ -52,6 +53,11 @@ StartsThroughout r jobs carry restarts run = (later : List CycleView) (t : Cycle
 abbrev pub RecoversThroughout : RingView → List Job → Carry → Restarts → List CycleView → Type 0
 RecoversThroughout r jobs carry restarts run = (later : List CycleView) (t : CycleView) (j : List CycleView) → run ≡ later ++ t ∷ j → IsClear (t ∷ j) → RecoversIn r jobs carry restarts t j
 
+-- And while faults go on: in each such cycle the ring bears them, as long as the disturbed cycles are sparse.
+abbrev pub BearsThroughout : RingView → List Job → Carry → Restarts → List CycleView → Type 0
+BearsThroughout r jobs carry restarts run = (later : List CycleView) (t : CycleView) (j : List CycleView) → run ≡ later ++ t ∷ j →
+    IsClear (t ∷ j) → BearsIn r jobs carry restarts t j
+
 -- And in each such cycle the planner's answer to the ring's requirements predicts the run: the plan or the chain that is reported, how far
 -- the ring may rise, and the cause of a stop.
 abbrev pub PredictsThroughout : RingView → List CycleView → Type 0
@@ -86,6 +92,7 @@ pub record IsKept (r : RingView) (jobs : List Job) (carry : Carry) (restarts : R
   pub drives : DrivesThroughout r carry restarts journal
   pub falls : FallsThroughout r jobs carry restarts journal
   pub alone : AloneThroughout journal
+  pub bears : BearsThroughout r jobs carry restarts journal
 
 -- The cycles of a document are such a run: over a link handed in too, and over its script alone.
 abbrev pub IsDocumentRun : Carry → Restarts → DocumentView → Type 0

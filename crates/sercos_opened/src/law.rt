@@ -3,14 +3,14 @@ ghost use Rattle.sercos_opened.specs.Kept.{OpenedIsKept};
 
 use sercos_law_run::{
     fall_law, harmless_law, headline_law, once_law, recovery_law, run_law, station_law,
-    undisturbed_law,
+    tolerance_law, undisturbed_law,
 };
 
 /// A law and no code. The cycles of a ring that may be opened with its requests are a run. In each of them no request is reported a
 /// second time. In each, up to the first arrival that is unseen, all is kept that is promised of it, the planner's answer to the ring's
-/// requirements predicts it, and the ring recovers in time; up to the first that is disturbed, the start-up goes as it should. If the link
-/// is harmless, no arrival is unseen. And whatever arrives, each drive's data are fit for its phase, it moves for its causes
-/// alone, and each fall of the ring has its cause.
+/// requirements predicts it, the ring recovers in time, and it bears sparse faults without a fall; up to the first that is disturbed, the
+/// start-up goes as it should. If the link is harmless, no arrival is unseen. And whatever arrives, each drive's data are fit for its
+/// phase, it moves for its causes alone, and each fall of the ring has its cause.
 pub fn kept_law()
     ensures kept { OpenedIsKept }
 {
@@ -22,4 +22,5 @@ pub fn kept_law()
     recovery_law();
     station_law();
     fall_law();
+    tolerance_law();
 }

@@ -17,6 +17,7 @@ use Rattle.sercos_law_run.specs.Recovery.Recovers.{RecoversIn}
 use Rattle.sercos_law_run.specs.Stations.Cycles.{DrivesArePlain}
 use Rattle.sercos_law_run.specs.Stations.Senders.{IsAlone}
 use Rattle.sercos_law_run.specs.Stations.Falls.{FallsForCause}
+use Rattle.sercos_law_run.specs.Tolerance.Bears.{BearsIn}
 use Rattle.sercos_ring.specs.Stations.{AllStand, addresses_below}
 use Rattle.sercos_ring.specs.Parts.{PartsStandFor}
 use Rattle.sercos_ring.specs.declared.ring.Ring.{Ring}
@@ -106,3 +107,8 @@ pub record StationsOf {L : Type 0} (carry_of : L → Carry) (restart_of : L → 
       → RingStandsFor carry_of restart_of ring r jobs carry restarts j → IsOpened r jobs → FallsForCause r jobs carry restarts made j
   pub alone : (r : RingView) (jobs : List Job) (carry : Carry) (restarts : Restarts) (j : List CycleView)
       → RingStandsFor carry_of restart_of ring r jobs carry restarts j → IsOpened r jobs → IsClear (made ∷ j) → IsAlone made j
+
+-- And what holds of it while faults go on, if nothing was undetected so far: as long as the disturbed cycles are sparse, the ring bears them.
+pub record BearsOf {L : Type 0} (carry_of : L → Carry) (restart_of : L → Restarts) (ring : Ring L) (made : CycleView) : Type 0 where
+  pub bears : (r : RingView) (jobs : List Job) (carry : Carry) (restarts : Restarts) (j : List CycleView)
+      → RingStandsFor carry_of restart_of ring r jobs carry restarts j → IsOpened r jobs → IsClear (made ∷ j) → BearsIn r jobs carry restarts made j

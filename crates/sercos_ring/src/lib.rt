@@ -3,6 +3,7 @@
 
 mod counting;
 mod law;
+mod laws;
 mod moves;
 mod opening;
 mod receiving;

@@ -18,6 +18,7 @@ ghost use Rattle.sercos_master.specs.Any.{AnyStandsFor};
 ghost use Rattle.sercos_master.specs.Annals.{Call, Restart, past};
 ghost use Rattle.sercos_master.specs.Reports.{restart_told};
 
+use crate::laws::cycle_laws;
 use crate::moves::{phases_of, push_moves};
 use crate::opening::{addresses_of, open_drives};
 use crate::receiving::{Framed, Receiver, frame_said};
@@ -28,7 +29,6 @@ use arrayvec::ArrayVec;
 use sercos_bits::Content;
 use sercos_block::RingSetup;
 use sercos_drive::Drive;
-use sercos_law_run::{fall_law, headline_law, recovery_law, station_law, undisturbed_law};
 use sercos_master::AnyMaster;
 use sercos_script::BitLink;
 use sercos_step::Job;
@@ -207,7 +207,7 @@ impl<L: BitLink> Ring<L> {
     ghost use Rattle.std.specs.Borrow.{follows_so};
     ghost use mathlib.Core.Option.{none};
     ghost use Rattle.sercos_ring.specs.contracts.ring.Ring.{the_row};
-    ghost use Rattle.sercos_ring.specs.Kept.{AfterCycle, AfterTurn, IsNextOf, KeepsAllOf, RecoversOf, RingStandsFor, StartsUpOf, StationsOf, cycles_made, drives_in, newest};
+    ghost use Rattle.sercos_ring.specs.Kept.{AfterCycle, AfterTurn, BearsOf, IsNextOf, KeepsAllOf, RecoversOf, RingStandsFor, StartsUpOf, StationsOf, cycles_made, drives_in, newest};
 
     /// Opens a ring of a valid setup that has made no cycle, over a link, with at most 4,096 requests, each of an element that a
     /// transfer takes. A request to an address that no drive of the setup has is never begun. `AllocError` is returned if memory
@@ -299,6 +299,11 @@ impl<L: BitLink> Ring<L> {
     /// after which no cycle is disturbed, the ring starts up again as it does from its opening. From `recovery_bound` cycles after the
     /// last disturbed one on, twice the bound of a start-up and 200, phase 4 is commanded, or the master is at a stop for its cause.
     ///
+    /// While faults go on, as long as nothing was undetected: since the opening, or since a fall, no fall is reported and no request as
+    /// broken, if no station restarts and the disturbed cycles are sparse. In phases 1 and 2 neither of the two cycles before a
+    /// disturbed one is disturbed then, in 3 and 4 not the one before. Each drive keeps to the commanded phase, or is one below it in
+    /// that phase's first cycle; and a step is answered at most busy time and four cycles after it was first sent.
+    ///
     /// Whatever arrives, undetected damage too: in phases 3 and 4 each drive's data keep its times, so that its data record lies within
     /// the MDT, and in phase 4 their limits too; each drive rises, and goes to phase 0, for its causes alone; and a fall that is reported
     /// has its cause. As long as nothing was undetected, at most one AT is sent with phase 0, 1 or 2 commanded, by the drive that the MDT
@@ -310,13 +315,10 @@ impl<L: BitLink> Ring<L> {
         ensures headline { KeepsAllOf L.carry L.restart self.old result.now }
         ensures undisturbed { StartsUpOf L.carry L.restart self.old result.now }
         ensures recovers { RecoversOf L.carry L.restart self.old result.now }
+        ensures bears { BearsOf L.carry L.restart self.old result.now }
         ensures stations { StationsOf L.carry L.restart self.old result.now }
     {
-        headline_law();
-        undisturbed_law();
-        recovery_law();
-        station_law();
-        fall_law();
+        cycle_laws();
         self.go();
         &self.made
     }

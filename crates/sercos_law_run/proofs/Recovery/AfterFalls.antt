@@ -29,7 +29,7 @@ use Rattle.sercos_law_run.proofs.Recovery.EpochStops.{once_since, told_since}
 use Rattle.sercos_law_run.proofs.Recovery.Stretches.{rest_runs}
 
 -- a fall that is told is one of the ring, or a restart
-fell_so : (o : Option Fall) (b : Bool) (e f : EventsView) (x : Fall) → f.fall ≡ None → option_or o (if b then e else f).fall ≡ Some x → (is_some o ≡ true) ⊎ (b ≡ true)
+pub fell_so : (o : Option Fall) (b : Bool) (e f : EventsView) (x : Fall) → f.fall ≡ None → option_or o (if b then e else f).fall ≡ Some x → (is_some o ≡ true) ⊎ (b ≡ true)
 fell_so (Some y) b e f x quiet told = inl refl
 fell_so None true e f x quiet told = inr refl
 fell_so None false e f x quiet told = let same : None ≡ Some x = sym quiet ∙ told in absurd (cc)

@@ -83,16 +83,17 @@ no_fall_told s p e none before = rw (none, before) refl
 quiet_so : (r : RingView) (jobs : List Job) (restarts : Restarts) (cycle : ℕ) (h : List Call) → restarts cycle 0 ≡ false → restart_events r jobs restarts cycle h ≡ no_events
 quiet_so r jobs restarts cycle h stays = rw stays refl
 
--- AN UNDISTURBED CYCLE AT WHOSE END THE RING DOESN'T FALL: its record has no fall, and no outcome of a broken request.
+-- A CYCLE IN WHICH THE MASTER DOESN'T RESTART and at whose end the ring doesn't fall: its record has no fall, and no outcome of a broken
+-- request.
 module _ (laws : Laws) (more : MoreLaws) (r : RingView) (jobs : List Job) (carry : Carry) (restarts : Restarts) (opened : IsOpened r jobs) where
-  pub tells_in : (t : CycleView) (j : List CycleView) → IsRun r jobs carry restarts (t ∷ j) → IsClear (t ∷ j) → IsUndisturbed r carry restarts t j → fall_of (known_of r) (behind_mdt r jobs carry restarts t.sent j) ≡ None → TellsNoFall t
-  tells_in t j run clear calm none = record {
+  pub tells_going : (t : CycleView) (j : List CycleView) → IsRun r jobs carry restarts (t ∷ j) → IsClear (t ∷ j) → restarts (length j) 0 ≡ false → fall_of (known_of r) (behind_mdt r jobs carry restarts t.sent j) ≡ None → TellsNoFall t
+  tells_going t j run clear goes_on none = record {
     fall = ap (λ (e : EventsView). e.fall) run.1.events ∙ no_fall_told (known_of r) (behind_mdt r jobs carry restarts t.sent j) (restart_events r jobs restarts (length j) (master_calls r carry restarts j)) none (ap (λ (e : EventsView). e.fall) quiet);
     unbroken = λ number told. unbroken number ((keeps.reported.events number outcome.Broken).0 told);
   }
     where
       quiet : restart_events r jobs restarts (length j) (master_calls r carry restarts j) ≡ no_events
-      quiet = quiet_so r jobs restarts (length j) (master_calls r carry restarts j) (none_below (length r.drives + 1) (restarts (length j)) (both_off _ _ calm).0 0 (omega arith))
+      quiet = quiet_so r jobs restarts (length j) (master_calls r carry restarts j) goes_on
 
       keeps : KeepsAll r jobs carry restarts t j
       keeps = keeps_all laws more r jobs carry restarts opened t j run clear
@@ -108,6 +109,9 @@ module _ (laws : Laws) (more : MoreLaws) (r : RingView) (jobs : List Job) (carry
       unbroken number (inl told) = subst (λ (e : EventsView). HasOutcome e.outcomes number outcome.Broken) quiet told
       unbroken number (inr (k, below, told)) = ended_so k number _ (let count = members_count r in omega (arith, below, count)) refl (subst (λ (o : Option Fall). HasReport (told_at_end (is_some o) ((behind_mdt r jobs carry restarts t.sent j).now.report k)
           (broken (behind_mdt r jobs carry restarts t.sent j) k) []) number outcome.Broken) none told)
+
+  pub tells_in : (t : CycleView) (j : List CycleView) → IsRun r jobs carry restarts (t ∷ j) → IsClear (t ∷ j) → IsUndisturbed r carry restarts t j → fall_of (known_of r) (behind_mdt r jobs carry restarts t.sent j) ≡ None → TellsNoFall t
+  tells_in t j run clear calm none = tells_going t j run clear (none_below (length r.drives + 1) (restarts (length j)) (both_off _ _ calm).0 0 (omega arith)) none
 
 module _ (laws : Laws) (more : MoreLaws) (turn : WorkInTurn) (comes_up : (busy : ℕ) → ComesUp busy) (late : (busy : ℕ) → NoneLate busy) (r : RingView) (jobs : List Job) (carry : Carry) (restarts : Restarts) (opened : IsOpened r jobs) where
   -- No step gets older than busy time and one cycle ..

@@ -47,7 +47,7 @@ fresh_end s k p = by (is_some (fall_of s p))
     by true = refl
     by false = refl
 
-fresh_at : (r : RingView) (jobs : List Job) (carry : Carry) (restarts : Restarts) (k : ℕ) (j : List CycleView) → (looks_back r jobs (master_calls r carry restarts j)).now.heard k ≡ false
+pub fresh_at : (r : RingView) (jobs : List Job) (carry : Carry) (restarts : Restarts) (k : ℕ) (j : List CycleView) → (looks_back r jobs (master_calls r carry restarts j)).now.heard k ≡ false
 fresh_at r jobs carry restarts k [] = refl
 fresh_at r jobs carry restarts k (t ∷ j) = fresh_end (known_of r) k (behind_mdt r jobs carry restarts t.sent j)
 

@@ -69,7 +69,7 @@ nothing_heard : (o : Option Heard) → with_heard o [] ≡ []
 nothing_heard None = refl
 nothing_heard (Some a) = no_answer (answers_it [] a.status) []
 
-begun_none : (busy : ℕ) → BeginsEmpty busy → (v : View) (past : List View) → IsViewRun busy (v ∷ past) → v.phase ≤ 1 → begun_in v past ≡ []
+pub begun_none : (busy : ℕ) → BeginsEmpty busy → (v : View) (past : List View) → IsViewRun busy (v ∷ past) → v.phase ≤ 1 → begun_in v past ≡ []
 begun_none busy empty v past (run, next) early =
     ap (λ (l : List Begun). with_begun v.begins (with_heard v.heard l)) ended ∙ ap (λ (l : List Begun). with_begun v.begins l) (nothing_heard v.heard) ∙ ap (λ (o : Option Request). with_begun o []) none
   where

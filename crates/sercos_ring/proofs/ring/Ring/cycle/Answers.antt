@@ -1,6 +1,6 @@
 use Rattle.std.proofs.Common.{refl}
 use Rattle.sercos_ring.specs.Kept.{IsNextOf, newest}
-use Rattle.sercos_ring.proofs.LentRecords.{next_lent, keeps_lent, starts_lent, stations_lent, recovers_lent}
+use Rattle.sercos_ring.proofs.LentRecords.{next_lent, keeps_lent, starts_lent, recovers_lent, bears_lent, stations_lent}
 use Rattle.sercos_ring.proofs.ring.Ring.cycle.Goals as goal
 
 pub returns : goal.returns
@@ -11,9 +11,10 @@ returns g c =
       record {
         after = tt;
         next = next;
-        headline = keeps_lent g.L.BitLink.carry g.L.BitLink.restart c.args.self.now c.deref.result.now c.headline_law.ensures next;
-        undisturbed = starts_lent g.L.BitLink.carry g.L.BitLink.restart c.args.self.now c.deref.result.now c.undisturbed_law.ensures.starts next;
-        recovers = recovers_lent g.L.BitLink.carry g.L.BitLink.restart c.args.self.now c.deref.result.now c.recovery_law.ensures.recovers next;
-        stations = stations_lent g.L.BitLink.carry g.L.BitLink.restart c.args.self.now c.deref.result.now c.station_law.ensures.plain c.fall_law.ensures.causes c.station_law.ensures.alone next;
+        headline = keeps_lent g.L.BitLink.carry g.L.BitLink.restart c.args.self.now c.deref.result.now c.cycle_laws.ensures.headline next;
+        undisturbed = starts_lent g.L.BitLink.carry g.L.BitLink.restart c.args.self.now c.deref.result.now c.cycle_laws.ensures.undisturbed next;
+        recovers = recovers_lent g.L.BitLink.carry g.L.BitLink.restart c.args.self.now c.deref.result.now c.cycle_laws.ensures.recovers next;
+        bears = bears_lent g.L.BitLink.carry g.L.BitLink.restart c.args.self.now c.deref.result.now c.cycle_laws.ensures.bears next;
+        stations = stations_lent g.L.BitLink.carry g.L.BitLink.restart c.args.self.now c.deref.result.now c.cycle_laws.ensures.plain c.cycle_laws.ensures.falls c.cycle_laws.ensures.alone next;
       },
     )

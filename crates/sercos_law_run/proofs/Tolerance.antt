@@ -1,0 +1,10 @@
+pub mod Steps
+pub mod Standing
+pub mod FirstCycles
+pub mod Losses
+pub mod NoFallSo
+pub mod Borne
+pub mod CostsSparse
+pub mod BearsSparse
+pub mod Tolerates
+pub mod Worked

@@ -1,0 +1,138 @@
+-- What a ring bears while disturbed cycles are sparse.
+use Rattle.std.proofs.Common.{◌≡◌, ◌⊎◌, inl, inr, ℕ, ◌+◌, ◌<◌, ◌≤◌, Bool, true, false, List, [], ◌∷◌, ◌++◌, length, ◌∙◌, arith}
+use Rattle.std.proofs.lemmas.Bool.{cases_eq}
+use Rattle.sercos_step.specs.declared.request.Job.{Job}
+use Rattle.sercos_block.specs.Views.{RingView}
+use Rattle.sercos_trace.specs.Views.{CycleView}
+use Rattle.sercos_script.specs.Links.{Carry, Restarts}
+use Rattle.sercos_law_channel.specs.Handshake.RunLaws.{ComesToZero, ComesUp}
+use Rattle.sercos_law_channel.specs.Handshake.Runs.{IsRun as IsViewRun}
+use Rattle.sercos_law_channel.specs.Pace.Ages.{age_in}
+use Rattle.sercos_law_channel.specs.Pace.ChannelCalls.{AgesBeforeEnd, StaysARun}
+use Rattle.sercos_law_channel.specs.Pace.Passages.{IsUp}
+use Rattle.sercos_law_channel.proofs.Theorems.{nothing_old}
+use Rattle.sercos_law_run.specs.Journal.Runs.{drive_at, IsClear, IsRun}
+use Rattle.sercos_law_run.specs.Agenda.Turns.{WorkInTurn}
+use Rattle.sercos_law_run.specs.Views.RingViews.{view_of, views_of}
+use Rattle.sercos_law_run.specs.Held.Opened.{IsOpened}
+use Rattle.sercos_law_run.proofs.Held.Runs.{Laws}
+use Rattle.sercos_law_run.proofs.Headline.HeadlineRuns.{MoreLaws, all_stand}
+use Rattle.sercos_law_run.specs.Undisturbed.EpochStarts.{StartsEpoch}
+use Rattle.sercos_law_run.proofs.Undisturbed.Answered.{tells_going}
+use Rattle.sercos_law_run.proofs.Undisturbed.Comes.{calm_in}
+use Rattle.sercos_law_run.proofs.Undisturbed.NeverFalls.{begins_so}
+use Rattle.sercos_law_run.proofs.Recovery.LateDown.{phase_after}
+use Rattle.sercos_law_run.specs.Tolerance.Bears.{Bears, IsBehind}
+use Rattle.sercos_law_run.specs.Tolerance.Sparse.{AreSparse, CalmIsSparse}
+use Rattle.sercos_law_run.proofs.Tolerance.Borne.{IsBorne, all_borne, calm_or_not, late_age}
+use Rattle.sercos_law_run.proofs.Tolerance.Standing.{zero_again}
+use Rattle.sercos_law_run.proofs.Tolerance.Steps.{closed_age, oldest}
+
+-- cycles in which nothing is disturbed are sparse
+never : (b : Bool) → b ≡ true → b ≡ false → ⊥
+never true on off = cc
+never false on off = cc
+
+pub calm_is_sparse : CalmIsSparse
+calm_is_sparse r carry restarts t j calm = record {
+  goes_on = (calm_in r carry restarts t j calm).stays;
+  early = λ disturbed one low. absurd (never _ disturbed calm);
+  late = λ disturbed high. absurd (never _ disturbed calm);
+}
+
+module _ (laws : Laws) (more : MoreLaws) (turn : WorkInTurn) (comes_up : (busy : ℕ) → ComesUp busy)
+    (to_zero : (busy : ℕ) → ComesToZero busy) (goes : (busy : ℕ) → StaysARun busy) (counts : (busy : ℕ) → AgesBeforeEnd busy)
+    (r : RingView) (jobs : List Job) (carry : Carry) (restarts : Restarts) (opened : IsOpened r jobs) where
+  abbrev Borne : CycleView → List CycleView → Type 0
+  Borne t j = IsBorne laws more turn comes_up to_zero goes counts r jobs carry restarts opened t j
+
+  is_run : (j : List CycleView) → IsRun r jobs carry restarts j → IsClear j → (k : ℕ) → k < length r.drives
+      → IsViewRun (drive_at r k).busy (views_of r jobs carry restarts k j)
+  is_run j run clear k below = (all_stand laws more r jobs carry restarts opened j run clear k below).sees.run
+
+  -- how old a step is at the end of a cycle
+  age_of : (t : CycleView) (j : List CycleView) → IsRun r jobs carry restarts (t ∷ j) → IsClear (t ∷ j) → Borne t j → (k : ℕ)
+      → k < length r.drives → age_in (views_of r jobs carry restarts k (t ∷ j)) ≤ (drive_at r k).busy + 4
+  age_of t j run clear is k below =
+      let most = oldest (drive_at r k).busy 1 2 (views_of r jobs carry restarts k (t ∷ j)) (is_run (t ∷ j) run clear k below) (omega arith)
+      (is.aged k below).any in omega (arith, most)
+
+  late_age_of : (t : CycleView) (j : List CycleView) → IsRun r jobs carry restarts (t ∷ j) → IsClear (t ∷ j) → Borne t j → 3 ≤ t.phase
+      → (k : ℕ) → k < length r.drives
+      → age_in (views_of r jobs carry restarts k (t ∷ j)) ≤ (drive_at r k).busy + 3
+  late_age_of t j run clear is late k below = elim (calm_or_not r carry restarts t j) [
+    | inl disturbed ↦ (let most = oldest (drive_at r k).busy 1 1 (views_of r jobs carry restarts k (t ∷ j))
+        (is_run (t ∷ j) run clear k below) (omega arith) ((is.aged k below).lost disturbed) in omega (arith, most))
+    | inr calm ↦ (let most = oldest (drive_at r k).busy 0 0 (views_of r jobs carry restarts k (t ∷ j)) (is_run (t ∷ j) run clear k below)
+        (omega arith) ((is.aged k below).calm calm (inl late)) in omega (arith, most))
+  ]
+
+  -- and before the first of an epoch
+  none_old : (before : List CycleView) → IsRun r jobs carry restarts before → IsClear before → StartsEpoch r jobs carry restarts before
+      → (k : ℕ) → k < length r.drives → age_in (views_of r jobs carry restarts k before) ≡ 0
+  none_old before run clear starts k below =
+      let begins = begins_so laws more r jobs carry restarts opened [] before run clear starts k below in
+      nothing_old (drive_at r k).busy (views_of r jobs carry restarts k before) begins.0 begins.1
+
+  module _ (t : CycleView) (before : List CycleView) (starts : StartsEpoch r jobs carry restarts before) where
+    borne : (cycles : List CycleView) → IsRun r jobs carry restarts (t ∷ (cycles ++ before)) → IsClear (t ∷ (cycles ++ before))
+        → AreSparse r carry restarts (t ∷ cycles) before → Borne t (cycles ++ before)
+    borne cycles run clear sparse = all_borne laws more turn comes_up to_zero goes counts r jobs carry restarts opened t cycles before run
+        clear starts sparse
+
+    stands : (cycles : List CycleView) → IsRun r jobs carry restarts (t ∷ (cycles ++ before)) → IsClear (t ∷ (cycles ++ before))
+        → AreSparse r carry restarts (t ∷ cycles) before → 1 ≤ length cycles → (k : ℕ) → k < length r.drives
+        → IsUp (view_of r jobs carry restarts k t (cycles ++ before)) (views_of r jobs carry restarts k (cycles ++ before))
+        ⊎ IsBehind (view_of r jobs carry restarts k t (cycles ++ before)) (views_of r jobs carry restarts k (cycles ++ before))
+    stands [] run clear sparse some k below = absurd (omega (arith, some))
+    stands (u ∷ cycles) run clear sparse some k below = elim (cases_eq t.phase 0) [
+      | inr later ↦ (borne (u ∷ cycles) run clear sparse).near (omega (arith, later)) k below
+      | inl at_zero ↦ inl (zero_again more.no_later (view_of r jobs carry restarts k t (u ∷ (cycles ++ before)))
+          (view_of r jobs carry restarts k u (cycles ++ before)) (views_of r jobs carry restarts k (cycles ++ before)) at_zero
+          (was_zero at_zero))
+    ]
+      where
+        was_zero : t.phase ≡ 0 → u.phase ≡ 0
+        was_zero at_zero = elim (phase_after laws more turn r jobs carry restarts opened t u (cycles ++ before) run clear
+            (all_borne laws more turn comes_up to_zero goes counts r jobs carry restarts opened u cycles before run.0 clear.0 starts
+            sparse.0).stays (sparse.1.goes_on 0 (omega arith)) k below) [
+              | inl same ↦ same ∙ at_zero
+              | inr up ↦ absurd (omega (arith, up, at_zero))
+            ]
+
+    ages_before : (cycles : List CycleView) → IsRun r jobs carry restarts (t ∷ (cycles ++ before)) → IsClear (t ∷ (cycles ++ before))
+        → AreSparse r carry restarts (t ∷ cycles) before → (k : ℕ) → k < length r.drives
+        → age_in (views_of r jobs carry restarts k (cycles ++ before)) ≤ (drive_at r k).busy + 4
+    ages_before [] run clear sparse k below = let none = none_old before run.0 clear.0 starts k below in omega (arith, none)
+    ages_before (u ∷ cycles) run clear sparse k below =
+        age_of u (cycles ++ before) run.0 clear.0 (all_borne laws more turn comes_up to_zero goes counts r jobs carry restarts opened u
+        cycles before run.0 clear.0 starts sparse.0) k below
+
+    late_before : (cycles : List CycleView) → IsRun r jobs carry restarts (t ∷ (cycles ++ before)) → IsClear (t ∷ (cycles ++ before))
+        → AreSparse r carry restarts (t ∷ cycles) before → 3 ≤ t.phase → (k : ℕ) → k < length r.drives
+        → age_in (views_of r jobs carry restarts k (cycles ++ before)) ≤ (drive_at r k).busy + 3
+    late_before [] run clear sparse late k below = let none = none_old before run.0 clear.0 starts k below in omega (arith, none)
+    late_before (u ∷ cycles) run clear sparse late k below = elim (late_age laws more turn comes_up to_zero goes counts r jobs carry
+        restarts opened t u (cycles ++ before) run clear is sparse.1 late k below) [
+          | inl same ↦ late_age_of u (cycles ++ before) run.0 clear.0 is same.1 k below
+          | inr none ↦ (let zero = closed_age (views_of r jobs carry restarts k (u ∷ (cycles ++ before))) none in omega (arith, zero))
+        ]
+      where
+        is : Borne u (cycles ++ before)
+        is = all_borne laws more turn comes_up to_zero goes counts r jobs carry restarts opened u cycles before run.0 clear.0 starts
+            sparse.0
+
+  pub bears_sparse : (t : CycleView) (cycles before : List CycleView) → IsRun r jobs carry restarts (t ∷ (cycles ++ before))
+      → IsClear (t ∷ (cycles ++ before)) → StartsEpoch r jobs carry restarts before
+      → AreSparse r carry restarts (t ∷ cycles) before → Bears r jobs carry restarts t cycles before
+  bears_sparse t cycles before run clear starts sparse = record {
+    tells = tells_going laws more r jobs carry restarts opened t (cycles ++ before) run clear is.goes_on is.stays;
+    stands = stands t before starts cycles run clear sparse;
+    ages = age_of t (cycles ++ before) run clear is;
+    late_ages = λ late k below. late_age_of t (cycles ++ before) run clear is late k below;
+    answers = λ k a below hears fits. ages_before t before starts cycles run clear sparse k below;
+    late_answers = λ late k a below hears fits. late_before t before starts cycles run clear sparse late k below;
+  }
+    where
+      is : Borne t (cycles ++ before)
+      is = borne t before starts cycles run clear sparse

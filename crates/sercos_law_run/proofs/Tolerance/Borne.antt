@@ -1,0 +1,467 @@
+-- From one cycle to the next: while disturbed cycles are sparse, the ring doesn't fall, each drive keeps near the commanded phase, and no
+-- step gets old.
+use Rattle.std.proofs.Common.{◌≡◌, ◌⊎◌, inl, inr, ℕ, ◌+◌, ◌<◌, ◌≤◌, Bool, true, false, not, ◌&&◌, List, [], ◌∷◌, ◌++◌, length, Option, None, refl, sym, ap, ◌∙◌, subst, arith, if◌then◌else◌}
+use Rattle.std.specs.Prelude.{is_some}
+use Rattle.std.proofs.lemmas.Bool.{cases_Bool, cases_eq, cases_lt, cond-false}
+use Rattle.sercos_step.specs.declared.request.Job.{Job}
+use Rattle.sercos_block.specs.Views.{RingView}
+use Rattle.sercos_service_master.specs.Begun.{open_in}
+use Rattle.sercos_service_master.specs.Calls.{age_of, cycles_open}
+use Rattle.sercos_service_master.specs.Calls as channel
+use Rattle.sercos_trace.specs.Views.{CycleView}
+use Rattle.sercos_trace.specs.declared.events.Fall.{Fall}
+use Rattle.sercos_seat.specs.Channel.{is_place}
+use Rattle.sercos_seat.specs.Ring.{known_of, tasks_for}
+use Rattle.sercos_master.specs.Annals.{Past, Turn, count_addressed, fall_of, has_lost_at, has_lost_mst, is_done}
+use Rattle.sercos_script.specs.Links.{Carry, Restarts}
+use Rattle.sercos_law_channel.specs.Handshake.Epochs.{begun_in, epoch_begun}
+use Rattle.sercos_law_channel.specs.Handshake.RunLaws.{ComesToZero, ComesUp}
+use Rattle.sercos_law_channel.specs.Handshake.Runs.{IsRun as IsViewRun}
+use Rattle.sercos_law_channel.specs.Handshake.Views.{View, processed_in, standing, stood_in}
+use Rattle.sercos_law_channel.specs.Pace.Ages.{age_in}
+use Rattle.sercos_law_channel.specs.Pace.ChannelCalls.{AgesBeforeEnd, StaysARun, calls_in, channel_calls, staying}
+use Rattle.sercos_law_channel.specs.Pace.Passages.{IsPassed, IsUp, IsWhole}
+use Rattle.sercos_law_channel.proofs.Theorems.{commanded, up_by}
+use Rattle.sercos_law_channel.proofs.Handshake.EpochRuns.{whole_row-le}
+use Rattle.sercos_law_run.specs.Journal.Runs.{drive_at, is_disturbed_in, looks_back, master_calls, middle, IsClear, IsDisturbed, IsRun}
+use Rattle.sercos_law_run.specs.Agenda.Turns.{WorkInTurn}
+use Rattle.sercos_law_run.specs.Views.RingViews.{behind_ats, behind_mdt, view_of, views_of}
+use Rattle.sercos_law_run.proofs.Views.MasterSame.{begun_cycle}
+use Rattle.sercos_law_run.proofs.Views.Members.{members_count}
+use Rattle.sercos_law_run.proofs.Views.ViewRuns.{started}
+use Rattle.sercos_law_run.specs.Held.Opened.{IsOpened}
+use Rattle.sercos_law_run.proofs.Held.Runs.{Laws}
+use Rattle.sercos_law_run.proofs.Headline.HeadlineRuns.{MoreLaws, all_stand}
+use Rattle.sercos_law_run.specs.Undisturbed.EpochStarts.{StartsEpoch}
+use Rattle.sercos_law_run.specs.Undisturbed.Undisturbed.{IsUndisturbed}
+use Rattle.sercos_law_run.proofs.Undisturbed.ChannelsKept.{calls_now}
+use Rattle.sercos_law_run.proofs.Undisturbed.NeverFalls.{busy_low}
+use Rattle.sercos_law_run.proofs.Undisturbed.NoFalls.{IsNoLower, has_risen, heard_mdt}
+use Rattle.sercos_law_run.proofs.Undisturbed.PassedRuns.{passed_in}
+use Rattle.sercos_law_run.proofs.Undisturbed.Sending.{sends_in}
+use Rattle.sercos_law_run.proofs.Undisturbed.StaysUp.{addressed_once, begun_none, heard_then, idle_then, whole_now}
+use Rattle.sercos_law_run.proofs.Undisturbed.WholeIn.{whole_in}
+use Rattle.sercos_law_run.proofs.Recovery.LateDown.{phase_after, phase_now, turns_now}
+use Rattle.sercos_law_run.proofs.Recovery.Limits.{are_sent}
+use Rattle.sercos_law_run.proofs.Recovery.Stretches.{whole_at}
+use Rattle.sercos_law_run.specs.Tolerance.Bears.{IsBehind, IsFirst}
+use Rattle.sercos_law_run.specs.Tolerance.Losses.{is_lost}
+use Rattle.sercos_law_run.specs.Tolerance.Sparse.{AreCalm, AreSparse, IsSparse}
+use Rattle.sercos_law_run.proofs.Tolerance.FirstCycles.{never_first}
+use Rattle.sercos_law_run.proofs.Tolerance.Losses.{early_kept, none_lost_in}
+use Rattle.sercos_law_run.proofs.Tolerance.NoFallSo.{at_second, count_next, counted, limit_so, mst_second, none_falls}
+use Rattle.sercos_law_run.proofs.Tolerance.Standing.{hears_whole, lost_so, stays_same, takes_whole, took_mdt, zero_up}
+use Rattle.sercos_law_run.proofs.Tolerance.Steps.{IsYoung, older, oldest, rested, young_both, young_lost, young_taken}
+
+-- the phase rises if the one above is commanded next
+rises_so : (rises : Bool) (n : ℕ) → (if rises then n + 1 else n) ≡ n + 1 → rises ≡ true
+rises_so true n is = refl
+rises_so false n is = absurd (omega (arith, is))
+
+second_of : (a b : Bool) → (not a && b) ≡ true → b ≡ true
+second_of true b is = absurd (cc)
+second_of false b is = is
+
+-- A cycle is disturbed or not.
+pub calm_or_not : (r : RingView) (carry : Carry) (restarts : Restarts) (t : CycleView) (j : List CycleView)
+    → IsDisturbed r carry restarts t j ⊎ IsUndisturbed r carry restarts t j
+calm_or_not r carry restarts t j = cases_Bool (is_disturbed_in r carry restarts (length j) t.sent)
+
+never_both : (b : Bool) → b ≡ true → b ≡ false → ⊥
+never_both true on off = cc
+never_both false on off = cc
+
+-- How old a step may be at the end of a cycle, by whether the cycle is disturbed, and the one before.
+pub record IsAged (r : RingView) (carry : Carry) (restarts : Restarts) (busy : ℕ) (t : CycleView) (j : List CycleView) (all : List View) :
+    Type 0 where
+  pub any : IsYoung busy 1 2 all
+  pub lost : IsDisturbed r carry restarts t j → IsYoung busy 1 1 all
+  pub calm : IsUndisturbed r carry restarts t j → (3 ≤ t.phase) ⊎ AreCalm r carry restarts 1 j → IsYoung busy 0 0 all
+
+rested_all : (r : RingView) (carry : Carry) (restarts : Restarts) (busy : ℕ) (t : CycleView) (j : List CycleView) (all : List View)
+    → open_in (epoch_begun all) ≡ None → IsAged r carry restarts busy t j all
+rested_all r carry restarts busy t j all none = record {
+  any = older busy 0 0 1 2 all (omega arith) (omega arith) (rested busy all none);
+  lost = λ disturbed. older busy 0 0 1 1 all (omega arith) (omega arith) (rested busy all none);
+  calm = λ calm before. rested busy all none;
+}
+
+-- In how many cycles in a row the drive at place k was addressed in phase 1, where it is addressed in this one.
+pub record IsAsked (r : RingView) (carry : Carry) (restarts : Restarts) (t : CycleView) (j : List CycleView) (k : ℕ) (p : Past) : Type 0
+  where
+    pub any : p.now.phase ≡ 1 → is_place k p.now.addressed ≡ true → count_addressed k p.turns ≤ 2
+    pub lost : IsDisturbed r carry restarts t j → p.now.phase ≡ 1 → is_place k p.now.addressed ≡ true → count_addressed k p.turns ≤ 1
+    pub calm : IsUndisturbed r carry restarts t j → AreCalm r carry restarts 1 j → p.now.phase ≡ 1 → is_place k p.now.addressed ≡ true
+        → count_addressed k p.turns ≤ 0
+
+module _ (laws : Laws) (more : MoreLaws) (turn : WorkInTurn) (comes_up : (busy : ℕ) → ComesUp busy)
+    (to_zero : (busy : ℕ) → ComesToZero busy) (goes : (busy : ℕ) → StaysARun busy) (counts : (busy : ℕ) → AgesBeforeEnd busy)
+    (r : RingView) (jobs : List Job) (carry : Carry) (restarts : Restarts) (opened : IsOpened r jobs) where
+  abbrev view : ℕ → CycleView → List CycleView → View
+  view k t j = view_of r jobs carry restarts k t j
+
+  abbrev views : ℕ → List CycleView → List View
+  views k j = views_of r jobs carry restarts k j
+
+  abbrev now : CycleView → List CycleView → Past
+  now t j = behind_mdt r jobs carry restarts t.sent j
+
+  abbrev busy_of : ℕ → ℕ
+  busy_of k = (drive_at r k).busy
+
+  -- what holds at the end of a cycle
+  pub record IsBorne (t : CycleView) (j : List CycleView) : Type 0 where
+    pub stays : fall_of (known_of r) (now t j) ≡ None
+    pub goes_on : restarts (length j) 0 ≡ false
+    pub up : IsUndisturbed r carry restarts t j → (k : ℕ) → k < length r.drives → IsUp (view k t j) (views k j)
+    pub near : 1 ≤ t.phase → (k : ℕ) → k < length r.drives → IsUp (view k t j) (views k j) ⊎ IsBehind (view k t j) (views k j)
+    pub first : (k : ℕ) → k < length r.drives → IsFirst (view k t j) (views k j) → is_done (known_of r) (now t j) ≡ true → ⊥
+    pub aged : (k : ℕ) → k < length r.drives → IsAged r carry restarts (busy_of k) t j (views k (t ∷ j))
+    pub asked : (k : ℕ) → k < length r.drives → IsAsked r carry restarts t j k (now t j)
+    pub kept : IsUndisturbed r carry restarts t j → (3 ≤ t.phase) ⊎ AreCalm r carry restarts 1 j → (k : ℕ) → k < length r.drives
+        → is_lost (view k t j) (views k j) ≡ false
+
+  is_run : (j : List CycleView) → IsRun r jobs carry restarts j → IsClear j → (k : ℕ) → k < length r.drives
+      → IsViewRun (busy_of k) (views k j)
+  is_run j run clear k below = (all_stand laws more r jobs carry restarts opened j run clear k below).sees.run
+
+  run_on : (t : CycleView) (j : List CycleView) → IsRun r jobs carry restarts (t ∷ j) → IsClear (t ∷ j) → (k : ℕ) → k < length r.drives
+      → IsViewRun (busy_of k) (staying (view k t j) ∷ views k j)
+  run_on t j run clear k below = goes (busy_of k) (view k t j) (views k j) (is_run (t ∷ j) run clear k below)
+
+  inside : (k : ℕ) → k < length (known_of r).drives → k < length r.drives
+  inside k below = let count = members_count r in omega (arith, below, count)
+
+  -- in phases 0 and 1 no step is open
+  idle_so : (t : CycleView) (j : List CycleView) → IsRun r jobs carry restarts (t ∷ j) → IsClear (t ∷ j) → (k : ℕ) → k < length r.drives
+      → t.phase ≤ 1 → begun_in (view k t j) (views k j) ≡ []
+  idle_so t j run clear k below early = begun_none (busy_of k) (laws.empty (busy_of k)) (view k t j) (views k j)
+      (is_run (t ∷ j) run clear k below) early
+
+  aged_after : (t : CycleView) (j : List CycleView) (k : ℕ) → fall_of (known_of r) (now t j) ≡ None
+      → IsAged r carry restarts (busy_of k) t j (staying (view k t j) ∷ views k j)
+      → IsAged r carry restarts (busy_of k) t j (views k (t ∷ j))
+  aged_after t j k stays aged = subst (λ (v : View). IsAged r carry restarts (busy_of k) t j (v ∷ views k j))
+      (stays_same (view k t j) (ap (λ (o : Option Fall). is_some o) stays)) aged
+
+  -- THE FIRST CYCLE OF AN EPOCH
+  module _ (t : CycleView) (j : List CycleView) (run : IsRun r jobs carry restarts (t ∷ j)) (clear : IsClear (t ∷ j))
+      (starts : StartsEpoch r jobs carry restarts j) (goes_on : restarts (length j) 0 ≡ false) where
+    pub zero_is : t.phase ≡ 0
+    zero_is = run.1.phase ∙ ap (λ (p : Past). p.now.phase) (started r jobs (restarts (length j) 0) (master_calls r carry restarts j)
+        ∙ ap (λ (b : Bool). begun_cycle b (looks_back r jobs (master_calls r carry restarts j))) goes_on) ∙ starts
+
+    now_zero : (now t j).now.phase ≡ 0
+    now_zero = phase_now r jobs carry restarts t j run.1 ∙ zero_is
+
+    none_lost : (turns : List Turn) → IsNoLower (now t j).now.phase turns → has_lost_mst ((now t j).now ∷ turns) ≡ false
+    none_lost [] low = refl
+    none_lost (b ∷ turns) low = let zero_now = now_zero in mst_second (now t j).now b turns (inr (inr (omega (arith, low, zero_now))))
+
+    all_heard : (k : ℕ) (turns : List Turn) → IsNoLower (now t j).now.phase turns → has_lost_at k ((now t j).now ∷ turns) ≡ false
+    all_heard k [] low = refl
+    all_heard k (b ∷ turns) low = let zero_now = now_zero in at_second k (now t j).now b turns
+        (λ late. absurd (omega (arith, late, low, zero_now)))
+
+    stays_first : fall_of (known_of r) (now t j) ≡ None
+    stays_first =
+        let risen = has_risen (known_of r) (tasks_for (known_of r) jobs) (middle r carry restarts t.sent j) in
+        none_falls (known_of r) (now t j) (none_lost (now t j).turns risen) (λ k below. all_heard k (now t j).turns risen)
+        (λ k below. limit_so (now t j) k (λ one. let zero_now = now_zero in absurd (omega (arith, one, zero_now)))
+        (let zero_now = zero_is in let idle = idle_then laws more comes_up r jobs carry restarts opened t j run clear
+        (omega (arith, zero_now)) k (inside k below) in omega (arith, idle)))
+
+    never_above : (j' : List CycleView) (k : ℕ) → IsFirst (view k t j) (views k j') → ⊥
+    never_above [] k first = first
+    never_above (u ∷ older) k first = let zero_now = zero_is in omega (arith, first, zero_now)
+
+    pub first_borne : IsBorne t j
+    first_borne = record {
+      stays = stays_first;
+      goes_on = goes_on;
+      up = λ calm k below. zero_up (view k t j) (views k j) (whole_in laws more turn r jobs carry restarts opened t j run clear calm k
+          below).mst zero_is;
+      near = λ one k below. let zero_now = zero_is in absurd (omega (arith, one, zero_now));
+      first = λ k below first done. never_above j k first;
+      aged = λ k below. aged_after t j k stays_first (rested_all r carry restarts (busy_of k) t j (staying (view k t j) ∷ views k j)
+          (ap open_in (idle_so t j run clear k below (let zero_now = zero_is in omega (arith, zero_now)))));
+      kept = λ calm before k below. early_kept (busy_of k) (view k t j) (views k j) (is_run (t ∷ j) run clear k below)
+          (let zero_now = zero_is in omega (arith, zero_now));
+      asked = λ k below. record {
+        any = λ one. let zero_now = now_zero in absurd (omega (arith, one, zero_now));
+        lost = λ disturbed one. let zero_now = now_zero in absurd (omega (arith, one, zero_now));
+        calm = λ calm before one. let zero_now = now_zero in absurd (omega (arith, one, zero_now));
+      };
+    }
+
+  -- A LATER CYCLE, t, after u
+  module _ (t u : CycleView) (j : List CycleView) (run : IsRun r jobs carry restarts (t ∷ u ∷ j)) (clear : IsClear (t ∷ u ∷ j))
+      (is : IsBorne u j) (sparse : IsSparse r carry restarts t (u ∷ j)) where
+    goes_now : restarts (length (u ∷ j)) 0 ≡ false
+    goes_now = sparse.goes_on 0 (omega arith)
+
+    still : (k : ℕ) → k < length r.drives → restarts (length (u ∷ j)) (k + 1) ≡ false
+    still k below = sparse.goes_on (k + 1) (omega (arith, below))
+
+    next : (k : ℕ) → k < length r.drives → (u.phase ≡ t.phase) ⊎ (u.phase + 1 ≡ t.phase)
+    next k below = phase_after laws more turn r jobs carry restarts opened t u j run clear is.stays goes_now k below
+
+    u_stays : (k : ℕ) → (view k u j).falls ≡ false
+    u_stays k = ap (λ (o : Option Fall). is_some o) is.stays
+
+    passed : (k : ℕ) → k < length r.drives → IsPassed (view k t (u ∷ j)) (views k (u ∷ j))
+    passed k below = passed_in laws more r jobs carry restarts opened t (u ∷ j) run clear k below (still k below)
+
+    whole : IsUndisturbed r carry restarts t (u ∷ j) → (k : ℕ) → k < length r.drives
+        → IsWhole (staying (view k t (u ∷ j))) (views k (u ∷ j))
+    whole calm k below = whole_in laws more turn r jobs carry restarts opened t (u ∷ j) run clear calm k below
+
+    whole_before : IsUndisturbed r carry restarts u j → (k : ℕ) → k < length r.drives → IsWhole (view k u j) (views k j)
+    whole_before calm k below = whole_at laws more turn r jobs carry restarts opened u j run.0 clear.0 calm is.stays k below
+
+    -- if t is disturbed from phase 1 on, u isn't
+    calm_before : IsDisturbed r carry restarts t (u ∷ j) → 1 ≤ t.phase → IsUndisturbed r carry restarts u j
+    calm_before disturbed one = elim (cases_lt t.phase 3) [
+      | inl low ↦ (sparse.early disturbed one (omega (arith, low))).1
+      | inr high ↦ (sparse.late disturbed (omega (arith, high))).1
+    ]
+
+    -- THE PHASE RISES at the end of u
+    rises : (k : ℕ) → k < length r.drives → u.phase + 1 ≡ t.phase → (view k u j).rises ≡ true
+    rises k below up = elim (commanded (view k t (u ∷ j)) (views k (u ∷ j)) (is_run (t ∷ u ∷ j) run clear k below).1.commanded) [
+      | inl c ↦ absurd (never_both (view k t (u ∷ j)).master_restarts c.0 goes_now)
+      | inr c ↦ rises_so (view k u j).rises u.phase (sym (cond-false (view k u j).falls 0
+          (if (view k u j).rises then u.phase + 1 else u.phase) (u_stays k)) ∙ sym c.1 ∙ sym up)
+    ]
+
+    rests : (k : ℕ) → k < length r.drives → u.phase + 1 ≡ t.phase → open_in (epoch_begun (views k (u ∷ j))) ≡ None
+    rests k below up = ap open_in (cond-false (view k u j).falls [] (begun_in (view k u j) (views k j)) (u_stays k))
+        ∙ (is_run (u ∷ j) run.0 clear.0 k below).1.rests (rises k below up)
+
+    ended_zero : (k : ℕ) → k < length r.drives → u.phase ≡ 0 → u.phase + 1 ≡ t.phase → (standing (views k (u ∷ j))).ended ≡ 0
+    ended_zero k below at_zero up =
+        let row = (is_run (u ∷ j) run.0 clear.0 k below).1.ten (rises k below up) at_zero in
+        let most = whole_row-le (views k (u ∷ j)) in
+        to_zero (busy_of k) (views k (u ∷ j)) (is_run (u ∷ j) run.0 clear.0 k below) (omega (arith, row, most))
+
+    -- before the MST each drive is in the commanded phase or the one below
+    was_near : 1 ≤ t.phase → (k : ℕ) → k < length r.drives → ((standing (views k (u ∷ j))).ended ≡ t.phase)
+        ⊎ ((standing (views k (u ∷ j))).ended + 1 ≡ t.phase)
+    was_near one k below = elim (cases_eq u.phase 0) [
+      | inl at_zero ↦ elim (next k below) [
+        | inl same ↦ absurd (omega (arith, at_zero, same, one))
+        | inr up ↦ inr (let ended = ended_zero k below at_zero up in omega (arith, ended, at_zero, up))
+      ]
+      | inr later ↦ elim (is.near (omega (arith, later)) k below) [
+        | inl at ↦ elim (next k below) [ inl same ↦ inl (at.1 ∙ same) | inr up ↦ inr (ap (λ (n : ℕ). n + 1) at.1 ∙ up) ]
+        | inr behind ↦ elim (next k below) [
+          | inl same ↦ inr (behind.ended ∙ same)
+          | inr up ↦ absurd (is.first k below behind.first (second_of (is_some (fall_of (known_of r) (now u j)))
+              (is_done (known_of r) (now u j)) (rises k below up)))
+        ]
+      ]
+    ]
+
+    up_now : IsUndisturbed r carry restarts t (u ∷ j) → (k : ℕ) → k < length r.drives → IsUp (view k t (u ∷ j)) (views k (u ∷ j))
+    up_now calm k below = elim (cases_eq t.phase 0) [
+      | inl at_zero ↦ zero_up (view k t (u ∷ j)) (views k (u ∷ j)) (whole calm k below).mst at_zero
+      | inr later ↦ up_by (staying (view k t (u ∷ j))) (views k (u ∷ j)) (whole calm k below) (passed k below)
+          (was_near (omega (arith, later)) k below)
+    ]
+
+    near_now : 1 ≤ t.phase → (k : ℕ) → k < length r.drives → IsUp (view k t (u ∷ j)) (views k (u ∷ j))
+        ⊎ IsBehind (view k t (u ∷ j)) (views k (u ∷ j))
+    near_now one k below = elim (calm_or_not r carry restarts t (u ∷ j)) [
+      | inr calm ↦ inl (up_now calm k below)
+      | inl disturbed ↦
+          let before = calm_before disturbed one in
+          let was = is.up before k below in
+          lost_so (view k t (u ∷ j)) (view k u j) (views k j) (still k below) (whole_before before k below).mst
+          (took_mdt (view k u j) (views k j) (whole_before before k below) was.0) was (next k below) (passed k below)
+    ]
+
+    -- THE STEPS
+    module _ (k : ℕ) (below : k < length r.drives) where
+      abbrev all : List View
+      all = staying (view k t (u ∷ j)) ∷ views k (u ∷ j)
+
+      run_now : IsViewRun (busy_of k) all
+      run_now = run_on t (u ∷ j) run clear k below
+
+      takes : IsUndisturbed r carry restarts t (u ∷ j) → is_some (open_in (begun_in (staying (view k t (u ∷ j))) (views k (u ∷ j)))) ≡ true
+          → is_some (processed_in (staying (view k t (u ∷ j))) (views k (u ∷ j))) ≡ true
+      takes calm = takes_whole (busy_of k) (staying (view k t (u ∷ j))) (views k (u ∷ j)) run_now (whole calm k below) (up_now calm k below)
+
+      hears : IsUndisturbed r carry restarts t (u ∷ j) → (3 ≤ t.phase) ⊎ AreCalm r carry restarts 1 (u ∷ j)
+          → is_some (open_in (epoch_begun (views k (u ∷ j)))) ≡ true → is_some (view k t (u ∷ j)).heard ≡ true
+      hears calm before = hears_whole (busy_of k) (staying (view k t (u ∷ j))) (view k u j) (views k j) run_now (u_stays k)
+          (whole calm k below) (up_now calm k below) (next k below) (elim before [
+            | inl late ↦ inl late
+            | inr are ↦ inr (whole_before are.1 k below, is.up are.1 k below)
+          ])
+
+      calm_now : IsUndisturbed r carry restarts t (u ∷ j) → (3 ≤ t.phase) ⊎ AreCalm r carry restarts 1 (u ∷ j) → IsYoung (busy_of k) 0 0 all
+      calm_now calm before = young_both (busy_of k) (staying (view k t (u ∷ j))) (views k (u ∷ j)) run_now refl goes_now 2
+          (is.aged k below).any (takes calm) (hears calm before)
+
+      kept_now : IsUndisturbed r carry restarts t (u ∷ j) → (3 ≤ t.phase) ⊎ AreCalm r carry restarts 1 (u ∷ j)
+          → is_lost (view k t (u ∷ j)) (views k (u ∷ j)) ≡ false
+      kept_now calm before = none_lost_in (view k t (u ∷ j)) (views k (u ∷ j)) goes_now (hears calm before) (takes calm)
+
+      before_lost : IsDisturbed r carry restarts t (u ∷ j) → 2 ≤ t.phase → IsYoung (busy_of k) 0 0 (views k (u ∷ j))
+      before_lost disturbed two = elim (cases_lt t.phase 3) [
+        | inl low ↦ (let are = sparse.early disturbed (omega (arith, two)) (omega (arith, low)) in (is.aged k below).calm are.1 (inr are.0))
+        | inr high ↦ elim (next k below) [
+          | inl same ↦ (is.aged k below).calm (sparse.late disturbed (omega (arith, high))).1 (inl (omega (arith, high, same)))
+          | inr up ↦ rested (busy_of k) (views k (u ∷ j)) (rests k below up)
+        ]
+      ]
+
+      lost_now : 2 ≤ t.phase → IsDisturbed r carry restarts t (u ∷ j) → IsYoung (busy_of k) 1 1 all
+      lost_now two disturbed = young_lost (busy_of k) (staying (view k t (u ∷ j))) (views k (u ∷ j)) run_now refl goes_now 0
+          (before_lost disturbed two)
+
+      any_now : 2 ≤ t.phase → IsYoung (busy_of k) 1 2 all
+      any_now two = elim (calm_or_not r carry restarts t (u ∷ j)) [
+        | inl disturbed ↦ older (busy_of k) 1 1 1 2 all (omega arith) (omega arith) (lost_now two disturbed)
+        | inr calm ↦ elim (calm_or_not r carry restarts u j) [
+          | inl before ↦ older (busy_of k) 0 2 1 2 all (omega arith) (omega arith)
+              (young_taken (busy_of k) (staying (view k t (u ∷ j))) (views k (u ∷ j)) run_now refl goes_now 1
+              ((is.aged k below).lost before) (takes calm))
+          | inr before ↦ older (busy_of k) 0 0 1 2 all (omega arith) (omega arith) (calm_now calm (inr (tt, before)))
+        ]
+      ]
+
+      aged_now : IsAged r carry restarts (busy_of k) t (u ∷ j) all
+      aged_now = elim (cases_lt t.phase 2) [
+        | inl early ↦ rested_all r carry restarts (busy_of k) t (u ∷ j) all
+            (ap open_in (idle_so t (u ∷ j) run clear k below (omega (arith, early))))
+        | inr late ↦ record { any = any_now (omega (arith, late)); lost = lost_now (omega (arith, late)); calm = calm_now }
+      ]
+
+      few_open : cycles_open ((now t (u ∷ j)).calls k) ≤ 63
+      few_open =
+          let age = oldest (busy_of k) 1 2 all run_now (omega arith) aged_now.any in
+          let low = busy_low r k opened.valid below in
+          subst (λ (c : List channel.Call). cycles_open c ≤ 63) (calls_now laws more r jobs carry restarts opened t (u ∷ j) run clear k
+          below)
+          (counted (age_of (calls_in (view k t (u ∷ j)) (channel_calls (views k (u ∷ j)))))
+          (is_some (open_in (begun_in (view k t (u ∷ j)) (views k (u ∷ j))))) (age_in all) (busy_of k + 4) (omega (arith, age))
+          (omega (arith, low))
+          (counts (busy_of k) (view k t (u ∷ j)) (views k (u ∷ j)) (is_run (t ∷ u ∷ j) run clear k below)
+          (are_sent laws more turn r jobs carry restarts opened (u ∷ j) run.0 clear.0 k below)
+          (λ opens. sends_in laws more turn r jobs carry restarts opened t (u ∷ j) run clear k below opens)))
+
+    -- THE IDENTIFICATIONS
+    module _ (k : ℕ) (below : k < length r.drives) where
+      turns_are : (now t (u ∷ j)).turns ≡ (now u j).now ∷ (now u j).turns
+      turns_are = turns_now r jobs carry restarts t u j is.stays goes_now
+
+      more_asked : (c : ℕ) → ((now u j).now.phase ≡ 1 → is_place k (now u j).now.addressed ≡ true → count_addressed k (now u j).turns ≤ c)
+          → count_addressed k (now t (u ∷ j)).turns ≤ c + 1
+      more_asked c few = subst (λ (l : List Turn). count_addressed k l ≤ c + 1) (sym turns_are)
+          (count_next k c (now u j).now (now u j).turns few)
+
+      calm_asked : IsUndisturbed r carry restarts t (u ∷ j) → AreCalm r carry restarts 1 (u ∷ j) → (now t (u ∷ j)).now.phase ≡ 1
+          → is_place k (now t (u ∷ j)).now.addressed ≡ true → count_addressed k (now t (u ∷ j)).turns ≤ 0
+      calm_asked calm before one to =
+          let none = addressed_once laws more comes_up r jobs carry restarts opened t u j run clear calm before.1
+          (sym (phase_now r jobs carry restarts t (u ∷ j) run.1) ∙ one) k below to in omega (arith, none)
+
+      lost_asked : IsDisturbed r carry restarts t (u ∷ j) → (now t (u ∷ j)).now.phase ≡ 1 → is_place k (now t (u ∷ j)).now.addressed ≡ true
+          → count_addressed k (now t (u ∷ j)).turns ≤ 1
+      lost_asked disturbed one to =
+          let same = phase_now r jobs carry restarts t (u ∷ j) run.1 in
+          let are = sparse.early disturbed (omega (arith, same, one)) (omega (arith, same, one)) in
+          more_asked 0 ((is.asked k below).calm are.1 are.0)
+
+      asked_now : IsAsked r carry restarts t (u ∷ j) k (now t (u ∷ j))
+      asked_now = record {
+        any = λ one to. elim (calm_or_not r carry restarts t (u ∷ j)) [
+          | inl disturbed ↦ (let few = lost_asked disturbed one to in omega (arith, few))
+          | inr calm ↦ elim (calm_or_not r carry restarts u j) [
+            | inl before ↦ more_asked 1 ((is.asked k below).lost before)
+            | inr before ↦ (let few = calm_asked calm (tt, before) one to in omega (arith, few))
+          ]
+        ];
+        lost = lost_asked;
+        calm = calm_asked;
+      }
+
+    -- THE RING DOESN'T FALL
+    up_stood : (v : View) (past : List View) → IsUp v past → 3 ≤ v.phase → 1 ≤ stood_in v (standing past)
+    up_stood v past up late = let same = up.0 in omega (arith, same, late)
+
+    heard_now : IsUndisturbed r carry restarts t (u ∷ j) → (k : ℕ) → k < length r.drives → 3 ≤ t.phase → (now t (u ∷ j)).now.heard k ≡ true
+    heard_now calm k below late = ap (λ (f : ℕ → Bool). f k) (heard_mdt (known_of r) (behind_ats r jobs carry restarts t.sent (u ∷ j)))
+        ∙ heard_then laws more comes_up r jobs carry restarts opened t (u ∷ j) run clear k below
+        ((whole calm k below).listens late (up_stood (view k t (u ∷ j)) (views k (u ∷ j)) (up_now calm k below) late))
+
+    heard_before : IsUndisturbed r carry restarts u j → (k : ℕ) → k < length r.drives → 3 ≤ u.phase → (now u j).now.heard k ≡ true
+    heard_before calm k below late = ap (λ (f : ℕ → Bool). f k) (heard_mdt (known_of r) (behind_ats r jobs carry restarts u.sent j))
+        ∙ heard_then laws more comes_up r jobs carry restarts opened u j run.0 clear.0 k below
+        ((whole_before calm k below).listens late (up_stood (view k u j) (views k j) (is.up calm k below) late))
+
+    own_came : ((now t (u ∷ j)).now.whole ≡ true) ⊎ (((now u j).now.whole ≡ true) ⊎ ((now u j).now.phase ≡ 0))
+    own_came = elim (calm_or_not r carry restarts t (u ∷ j)) [
+      | inr calm ↦ inl (whole_now laws more comes_up r jobs carry restarts opened t (u ∷ j) run.1 calm)
+      | inl disturbed ↦ elim (cases_eq t.phase 0) [
+        | inr later ↦ inr (inl (whole_now laws more comes_up r jobs carry restarts opened u j run.0.1
+            (calm_before disturbed (omega (arith, later)))))
+        | inl at_zero ↦ (
+            let risen : IsNoLower (now t (u ∷ j)).now.phase (now t (u ∷ j)).turns = has_risen (known_of r) (tasks_for (known_of r) jobs)
+            (middle r carry restarts t.sent (u ∷ j)) in
+            let low : (now u j).now.phase ≤ (now t (u ∷ j)).now.phase = subst (IsNoLower (now t (u ∷ j)).now.phase)
+            (turns_now r jobs carry restarts t u j is.stays goes_now) risen in
+            let same = phase_now r jobs carry restarts t (u ∷ j) run.1 in inr (inr (omega (arith, low, same, at_zero))))
+      ]
+    ]
+
+    ats_came : (k : ℕ) → k < length r.drives → 3 ≤ (now u j).now.phase
+        → ((now t (u ∷ j)).now.heard k ≡ true) ⊎ ((now u j).now.heard k ≡ true)
+    ats_came k below late = elim (calm_or_not r carry restarts t (u ∷ j)) [
+      | inr calm ↦ inl (heard_now calm k below late_now)
+      | inl disturbed ↦ inr (heard_before (calm_before disturbed (omega (arith, late_now))) k below late_before)
+    ]
+      where
+        late_before : 3 ≤ u.phase
+        late_before = let same = phase_now r jobs carry restarts u j run.0.1 in omega (arith, same, late)
+
+        late_now : 3 ≤ t.phase
+        late_now = elim (next k below) [ inl same ↦ omega (arith, same, late_before) | inr up ↦ omega (arith, up, late_before) ]
+
+    stays_now : fall_of (known_of r) (now t (u ∷ j)) ≡ None
+    stays_now =
+        let turns = turns_now r jobs carry restarts t u j is.stays goes_now in
+        none_falls (known_of r) (now t (u ∷ j)) (ap (λ (l : List Turn). has_lost_mst ((now t (u ∷ j)).now ∷ l)) turns
+        ∙ mst_second (now t (u ∷ j)).now (now u j).now (now u j).turns own_came)
+        (λ k below. ap (λ (l : List Turn). has_lost_at k ((now t (u ∷ j)).now ∷ l)) turns
+        ∙ at_second k (now t (u ∷ j)).now (now u j).now (now u j).turns (ats_came k (inside k below)))
+        (λ k below. limit_so (now t (u ∷ j)) k (λ one to. let few = (asked_now k (inside k below)).any one to in omega (arith, few))
+        (few_open k (inside k below)))
+
+    pub next_borne : IsBorne t (u ∷ j)
+    next_borne = record {
+      stays = stays_now;
+      goes_on = goes_now;
+      up = up_now;
+      near = near_now;
+      first = λ k below first done. never_first laws more comes_up r jobs carry restarts opened t u j run clear is.stays goes_now is.goes_on
+          first done k below;
+      aged = λ k below. aged_after t (u ∷ j) k stays_now (aged_now k below);
+      asked = asked_now;
+      kept = λ calm before k below. kept_now k below calm before;
+    }
+
+    -- where phase 3 or 4 is commanded, no step that was open before is older than this
+    pub late_age : 3 ≤ t.phase → (k : ℕ) → k < length r.drives → ((u.phase ≡ t.phase) × (3 ≤ u.phase))
+        ⊎ (open_in (epoch_begun (views k (u ∷ j))) ≡ None)
+    late_age late k below = elim (next k below) [ inl same ↦ inl (same, omega (arith, same, late)) | inr up ↦ inr (rests k below up) ]
+
+  -- SO IT IS in each cycle of an epoch.
+  pub all_borne : (t : CycleView) (cycles before : List CycleView) → IsRun r jobs carry restarts (t ∷ (cycles ++ before))
+      → IsClear (t ∷ (cycles ++ before)) → StartsEpoch r jobs carry restarts before
+      → AreSparse r carry restarts (t ∷ cycles) before → IsBorne t (cycles ++ before)
+  all_borne t [] before run clear starts sparse = first_borne t before run clear starts (sparse.1.goes_on 0 (omega arith))
+  all_borne t (u ∷ cycles) before run clear starts sparse = next_borne t u (cycles ++ before) run clear
+      (all_borne u cycles before run.0 clear.0 starts sparse.0) sparse.1

@@ -1,0 +1,252 @@
+-- How long a channel is at work in a stretch of which something is lost.
+use Rattle.std.proofs.Common.{◌≡◌, inl, inr, ℕ, suc, ◌+◌, ◌*◌, ◌≤◌, Bool, true, false, not, ◌&&◌, ◌||◌, List, [], ◌∷◌, ◌++◌, length, Option, refl, sym, ap, ◌∙◌, arith}
+use Rattle.std.specs.Prelude.{is_some}
+use Rattle.std.proofs.lemmas.Bool.{cond-false, false≢true}
+use Rattle.sercos_step.specs.declared.step.Step.{Step}
+use Rattle.sercos_service_drive.specs.Log.{Entry}
+use Rattle.sercos_service_master.specs.Begun.{Begun, answers_in, open_in, steps_in}
+use Rattle.sercos_law_channel.specs.Handshake.Epochs.{begun_in, epoch_begun, epoch_log, epoch_taken, unless_restart}
+use Rattle.sercos_law_channel.specs.Handshake.InStep.{AreInStep, Idle, Kept, Sent}
+use Rattle.sercos_law_channel.specs.Handshake.Runs.{IsRun}
+use Rattle.sercos_law_channel.specs.Handshake.Views.{View, processed_in}
+use Rattle.sercos_law_channel.specs.Pace.Stretches.{open_since}
+use Rattle.sercos_law_channel.specs.Pace.Times.{one_more}
+use Rattle.sercos_law_channel.proofs.Theorems.{in_step, length-replies_of, length-steps_of}
+use Rattle.sercos_law_channel.proofs.Handshake.EpochRuns.{start, start_begun}
+use Rattle.sercos_law_channel.proofs.Pace.LateRuns.{head_before, taken_before}
+use Rattle.sercos_law_run.specs.Tolerance.Losses.{GoesOn, TakesTimeAndLosses, is_lost, lost_since}
+use Rattle.sercos_law_run.proofs.Tolerance.Steps.{Counts, NoneOpen, NotAnswered, NotTaken, answers_more, begun_is, busy_still, counts, grows, none_new, same_head}
+
+-- If nothing is lost, an open step is heard, and processed.
+heard_if : (a h b p : Bool) → ((a && not h) || (b && not p)) ≡ false → a ≡ true → h ≡ true
+heard_if true true b p off on = refl
+heard_if true false b p off on = absurd (false≢true (sym off))
+heard_if false h b p off on = absurd (false≢true on)
+
+taken_if : (a h b p : Bool) → ((a && not h) || (b && not p)) ≡ false → b ≡ true → p ≡ true
+taken_if a h b true off on = refl
+taken_if true true true false off on = absurd (false≢true (sym off))
+taken_if true false true false off on = absurd (false≢true (sym off))
+taken_if false h true false off on = absurd (false≢true (sym off))
+taken_if a h false false off on = absurd (false≢true on)
+
+more_if : (b : Bool) (n : ℕ) → b ≡ true → one_more b n ≡ n + 1
+more_if true n on = refl
+more_if false n on = absurd (false≢true on)
+
+same_if : (b : Bool) (n : ℕ) → b ≡ false → one_more b n ≡ n
+same_if true n off = absurd (false≢true (sym off))
+same_if false n off = refl
+
+no_fewer : (b : Bool) (n : ℕ) → n ≤ one_more b n
+no_fewer true n = omega arith
+no_fewer false n = omega arith
+
+-- A cycle of which nothing is lost
+kept_by : (a h b p : Bool) → (a ≡ true → h ≡ true) → (b ≡ true → p ≡ true) → ((a && not h) || (b && not p)) ≡ false
+kept_by true true true true hears takes = refl
+kept_by true true true false hears takes = absurd (false≢true (takes refl))
+kept_by true true false p hears takes = refl
+kept_by true false b p hears takes = absurd (false≢true (hears refl))
+kept_by false h true true hears takes = refl
+kept_by false h true false hears takes = absurd (false≢true (takes refl))
+kept_by false h false p hears takes = refl
+
+pub none_lost_in : (v : View) (past : List View) → v.master_restarts ≡ false
+    → (is_some (open_in (epoch_begun past)) ≡ true → is_some v.heard ≡ true)
+    → (is_some (open_in (begun_in v past)) ≡ true → is_some (processed_in v past) ≡ true) → is_lost v past ≡ false
+none_lost_in v past goes_on hears takes =
+    kept_by (is_some (open_in (unless_restart v (epoch_begun past)))) (is_some v.heard) (is_some (open_in (begun_in v past)))
+    (is_some (processed_in v past))
+    (λ on. hears (ap (λ (l : List Begun). is_some (open_in l)) (sym (cond-false v.master_restarts [] (epoch_begun past) goes_on)) ∙ on))
+    takes
+
+-- in phases 0 and 1 no step is open
+closed : (begun : List Begun) → begun ≡ [] → is_some (open_in begun) ≡ true → ⊥
+closed begun none on = false≢true (sym (ap (λ (l : List Begun). is_some (open_in l)) none) ∙ on)
+
+pub early_kept : (busy : ℕ) (v : View) (past : List View) → IsRun busy (v ∷ past) → v.phase ≤ 1 → is_lost v past ≡ false
+early_kept busy v past run early =
+    let none = (start busy v past run early).0 in
+    kept_by (is_some (open_in (unless_restart v (epoch_begun past)))) (is_some v.heard) (is_some (open_in (begun_in v past)))
+    (is_some (processed_in v past)) (λ on. absurd (closed (unless_restart v (epoch_begun past)) none on))
+    (λ on. absurd (closed (begun_in v past) (start_begun busy v past run.1 early none) on))
+
+-- A step that was accepted and has no answer is open.
+waits_open : (begun : List Begun) (log : List Entry) → AreInStep begun log → suc (length (answers_in begun)) ≡ length log
+    → (is_some (open_in begun) ≡ true) × (length (steps_in begun) ≡ length log)
+waits_open begun log (Idle none s a) waits = let count = ap length a ∙ length-replies_of log in absurd (omega (arith, waits, count))
+waits_open begun log (Sent step opened s a) waits = let count = ap length a ∙ length-replies_of log in absurd (omega (arith, waits, count))
+waits_open begun log (Kept e past opened those s a) waits = (ap (λ (o : Option Step). is_some o) opened, ap length s ∙ length-steps_of log)
+
+module _ (busy : ℕ) where
+  few : (n k : ℕ) → n ≤ k → (busy + 1) * n ≤ (busy + 1) * k
+  few n k le = grind arith
+
+  more : (n : ℕ) → (busy + 1) * suc n ≡ (busy + 1) * n + (busy + 1)
+  more n = grind arith
+
+  -- The cycles with an open step, by the steps accepted; and where one waits for its answer, by the cycles since it was accepted.
+  record IsPaced (cycles past : List View) : Type 0 where
+    total : open_since cycles past + (busy + 1) * length (answers_in (epoch_begun past)) ≤ (busy + 1) * length
+        (epoch_log (cycles ++ past)) + lost_since cycles past
+    waits : (e : Entry) (log : List Entry) → epoch_log (cycles ++ past) ≡ e ∷ log
+        → suc (length (answers_in (epoch_begun (cycles ++ past)))) ≡ length (epoch_log (cycles ++ past))
+        → open_since cycles past + (busy + 1) * length (answers_in (epoch_begun past)) + e.taken.cycle
+        ≤ (busy + 1) * length (answers_in (epoch_begun (cycles ++ past))) + length (cycles ++ past) + lost_since cycles past
+
+  at_first : (past : List View) → IsRun busy past → IsPaced [] past
+  at_first past run = record {
+    total = let le = by (counts (epoch_begun past) (epoch_log past) (in_step busy past run)) in omega (arith, le);
+    waits = λ e log those waits. let less = head_before (length past) (epoch_taken past) (taken_before past) e log those in
+        omega (arith, less);
+  }
+    where
+      by : Counts (epoch_begun past) (epoch_log past) → (busy + 1) * length (answers_in (epoch_begun past)) ≤ (busy + 1) * length
+          (epoch_log past)
+      by (NoneOpen none s a) = few (length (answers_in (epoch_begun past))) (length (epoch_log past)) (omega (arith, a))
+      by (NotTaken s a) = few (length (answers_in (epoch_begun past))) (length (epoch_log past)) (omega (arith, a))
+      by (NotAnswered s a) = few (length (answers_in (epoch_begun past))) (length (epoch_log past)) (omega (arith, a))
+
+  -- ONE CYCLE MORE
+  module _ (v : View) (cycles past : List View) (run : IsRun busy (v ∷ (cycles ++ past))) (stays : v.falls ≡ false)
+      (goes_on : v.master_restarts ≡ false) (is : IsPaced cycles past) where
+    all : List View
+    all = cycles ++ past
+
+    lost_so : (b : Bool) → is_lost v (cycles ++ past) ≡ b → lost_since (v ∷ cycles) past ≡ one_more b (lost_since cycles past)
+    lost_so b is_b = ap (λ (x : Bool). one_more x (lost_since cycles past)) is_b
+
+    heard_by : is_lost v (cycles ++ past) ≡ false → is_some (open_in (epoch_begun (cycles ++ past))) ≡ true → is_some v.heard ≡ true
+    heard_by off some = heard_if (is_some (open_in (unless_restart v (epoch_begun (cycles ++ past))))) (is_some v.heard)
+        (is_some (open_in (begun_in v (cycles ++ past)))) (is_some (processed_in v (cycles ++ past))) off
+        (ap (λ (l : List Begun). is_some (open_in l)) (cond-false v.master_restarts [] (epoch_begun (cycles ++ past)) goes_on) ∙ some)
+
+    taken_by : is_lost v (cycles ++ past) ≡ false → is_some (open_in (begun_in v (cycles ++ past))) ≡ true
+        → is_some (processed_in v (cycles ++ past)) ≡ true
+    taken_by off some = taken_if (is_some (open_in (unless_restart v (epoch_begun (cycles ++ past))))) (is_some v.heard)
+        (is_some (open_in (begun_in v (cycles ++ past)))) (is_some (processed_in v (cycles ++ past))) off some
+
+    -- how the log grows
+    at_least : length (epoch_log (cycles ++ past)) ≤ length (epoch_log (v ∷ (cycles ++ past)))
+    at_least = elim (grows busy v (cycles ++ past) run stays goes_on) [
+      | inl same ↦ (let long = ap length same in omega (arith, long))
+      | inr (x, more_is, cycle) ↦ (let long = ap length more_is in omega (arith, long))
+    ]
+
+    waited : suc (length (answers_in (epoch_begun (v ∷ (cycles ++ past))))) ≡ length (epoch_log (v ∷ (cycles ++ past)))
+        → epoch_log (v ∷ (cycles ++ past)) ≡ epoch_log (cycles ++ past)
+        → length (answers_in (epoch_begun (v ∷ (cycles ++ past)))) ≡ length (answers_in (epoch_begun (cycles ++ past)))
+    waited waits same = by (counts (epoch_begun (cycles ++ past)) (epoch_log (cycles ++ past)) (in_step busy (cycles ++ past) run.0))
+      where
+        by : Counts (epoch_begun (cycles ++ past)) (epoch_log (cycles ++ past))
+            → length (answers_in (epoch_begun (v ∷ (cycles ++ past)))) ≡ length (answers_in (epoch_begun (cycles ++ past)))
+        by (NoneOpen none s a) = let long = ap length same in let least = answers_more busy v (cycles ++ past) run stays goes_on in
+            absurd (omega (arith, waits, a, long, least))
+        by (NotTaken s a) = let long = ap length same in let least = answers_more busy v (cycles ++ past) run stays goes_on in
+            absurd (omega (arith, waits, a, long, least))
+        by (NotAnswered s a) = let long = ap length same in omega (arith, waits, a, long)
+
+    waits_next : (e : Entry) (log : List Entry) → epoch_log (v ∷ (cycles ++ past)) ≡ e ∷ log
+        → suc (length (answers_in (epoch_begun (v ∷ (cycles ++ past))))) ≡ length (epoch_log (v ∷ (cycles ++ past)))
+        → open_since (v ∷ cycles) past + (busy + 1) * length (answers_in (epoch_begun past)) + e.taken.cycle
+        ≤ (busy + 1) * length (answers_in (epoch_begun (v ∷ (cycles ++ past)))) + length (v ∷ (cycles ++ past)) + lost_since (v ∷ cycles)
+        past
+    waits_next e log those waits = elim (grows busy v (cycles ++ past) run stays goes_on) [
+      | inl same ↦ (
+          let before = is.waits e log (sym same ∙ those) (let count = waited waits same in let long = ap length same in
+          omega (arith, waits, count, long)) in
+          let count = ap (λ (n : ℕ). (busy + 1) * n) (waited waits same) in omega (arith, before, count, opens, least))
+      | inr (x, more_is, cycle) ↦ (
+          let at = same_head busy v (cycles ++ past) run stays goes_on e x log (epoch_log (cycles ++ past)) (sym those ∙ more_is) in
+          let long = ap length more_is in
+          let count : length (answers_in (epoch_begun (v ∷ (cycles ++ past)))) ≡ length
+          (epoch_log (cycles ++ past)) = omega (arith, waits, long) in
+          let product = ap (λ (n : ℕ). (busy + 1) * n) count in
+          let before = is.total in omega (arith, before, product, opens, least, at, cycle))
+    ]
+      where
+        opens : open_since (v ∷ cycles) past ≤ open_since cycles past + 1
+        opens = by (is_some (open_in (begun_in v (cycles ++ past))))
+          where
+            by : (b : Bool) → one_more b (open_since cycles past) ≤ open_since cycles past + 1
+            by true = omega arith
+            by false = omega arith
+
+        least : lost_since cycles past ≤ lost_since (v ∷ cycles) past
+        least = no_fewer (is_lost v (cycles ++ past)) (lost_since cycles past)
+
+    total_next : open_since (v ∷ cycles) past + (busy + 1) * length (answers_in (epoch_begun past)) ≤ (busy + 1) * length
+        (epoch_log (v ∷ (cycles ++ past))) + lost_since (v ∷ cycles) past
+    total_next = by (is_some (open_in (begun_in v (cycles ++ past)))) refl
+      where
+        some_now : is_some (open_in (begun_in v (cycles ++ past))) ≡ true → is_some (open_in (epoch_begun (v ∷ (cycles ++ past)))) ≡ true
+        some_now on = ap (λ (l : List Begun). is_some (open_in l)) (begun_is busy v (cycles ++ past) run stays goes_on) ∙ on
+
+        product : (busy + 1) * length (epoch_log (cycles ++ past)) ≤ (busy + 1) * length (epoch_log (v ∷ (cycles ++ past)))
+        product = few (length (epoch_log (cycles ++ past))) (length (epoch_log (v ∷ (cycles ++ past)))) at_least
+
+        -- one more lost makes up for one more open
+        lost_one : is_lost v (cycles ++ past) ≡ true → open_since (v ∷ cycles) past ≡ open_since cycles past + 1
+            → open_since (v ∷ cycles) past + (busy + 1) * length (answers_in (epoch_begun past)) ≤ (busy + 1) * length
+            (epoch_log (v ∷ (cycles ++ past))) + lost_since (v ∷ cycles) past
+        lost_one on opened = let lost = more_if (is_lost v (cycles ++ past)) (lost_since cycles past) on in let before = is.total in
+            let least = product in omega (arith, opened, lost, before, least)
+
+        -- a step that waits, in a cycle of which nothing is lost
+        on_time : is_lost v (cycles ++ past) ≡ false → open_since (v ∷ cycles) past ≡ open_since cycles past + 1
+            → (e : Entry) (log : List Entry) → epoch_log (v ∷ (cycles ++ past)) ≡ e ∷ log
+            → suc (length (answers_in (epoch_begun (v ∷ (cycles ++ past))))) ≡ length (epoch_log (v ∷ (cycles ++ past)))
+            → open_since (v ∷ cycles) past + (busy + 1) * length (answers_in (epoch_begun past)) ≤ (busy + 1) * length
+            (epoch_log (v ∷ (cycles ++ past))) + lost_since (v ∷ cycles) past
+        on_time off opened e log those waits = elim (grows busy v (cycles ++ past) run stays goes_on) [
+          | inr (x, more_is, cycle) ↦ (
+              let lost = same_if (is_lost v (cycles ++ past)) (lost_since cycles past) off in
+              let long = ap (λ (n : ℕ). (busy + 1) * n) (ap length more_is) in
+              let up = more (length (epoch_log (cycles ++ past))) in
+              let before = is.total in omega (arith, lost, long, up, before, opened))
+          | inl same ↦ (
+              let lost = same_if (is_lost v (cycles ++ past)) (lost_since cycles past) off in
+              let state = waits_open (epoch_begun (v ∷ (cycles ++ past))) (epoch_log (v ∷ (cycles ++ past)))
+              (in_step busy (v ∷ (cycles ++ past)) run) waits in
+              let late = busy_still busy v (cycles ++ past) run stays goes_on (heard_by off) e log those state.0 state.1 in
+              let sum = waits_next e log those waits in
+              let up = more (length (answers_in (epoch_begun (v ∷ (cycles ++ past))))) in
+              let long = ap (λ (n : ℕ). (busy + 1) * n) waits in omega (arith, lost, late, sum, up, long))
+        ]
+
+        which : is_some (open_in (begun_in v (cycles ++ past))) ≡ true → (b : Bool) → is_lost v (cycles ++ past) ≡ b → (log : List Entry)
+            → epoch_log (v ∷ (cycles ++ past)) ≡ log
+            → Counts (epoch_begun (v ∷ (cycles ++ past))) (epoch_log (v ∷ (cycles ++ past)))
+            → open_since (v ∷ cycles) past + (busy + 1) * length (answers_in (epoch_begun past)) ≤ (busy + 1) * length
+            (epoch_log (v ∷ (cycles ++ past))) + lost_since (v ∷ cycles) past
+        which on true lost log those state = lost_one lost (more_if (is_some (open_in (begun_in v (cycles ++ past))))
+            (open_since cycles past) on)
+        which on false off log those (NoneOpen none s a) = absurd (false≢true
+            (sym (ap (λ (o : Option Step). is_some o) none) ∙ some_now on))
+        which on false off log those (NotTaken s a) = absurd (none_new busy v (cycles ++ past) run stays goes_on (taken_by off)
+            (some_now on) s)
+        which on false off [] those (NotAnswered s a) = let none = ap length those in absurd (omega (arith, none, a))
+        which on false off (e ∷ log) those (NotAnswered s a) = on_time off
+            (more_if (is_some (open_in (begun_in v (cycles ++ past)))) (open_since cycles past) on) e log those a
+
+        by : (b : Bool) → is_some (open_in (begun_in v (cycles ++ past))) ≡ b
+            → open_since (v ∷ cycles) past + (busy + 1) * length (answers_in (epoch_begun past)) ≤ (busy + 1) * length
+            (epoch_log (v ∷ (cycles ++ past))) + lost_since (v ∷ cycles) past
+        by true on = which on (is_lost v (cycles ++ past)) refl (epoch_log (v ∷ (cycles ++ past))) refl
+            (counts (epoch_begun (v ∷ (cycles ++ past))) (epoch_log (v ∷ (cycles ++ past))) (in_step busy (v ∷ (cycles ++ past)) run))
+        by false off =
+            let same = same_if (is_some (open_in (begun_in v (cycles ++ past)))) (open_since cycles past) off in
+            let least = no_fewer (is_lost v (cycles ++ past)) (lost_since cycles past) in
+            let before = is.total in
+            let up = product in omega (arith, same, least, before, up)
+
+    paced_next : IsPaced (v ∷ cycles) past
+    paced_next = record { total = total_next; waits = waits_next }
+
+  are_paced : (cycles past : List View) → IsRun busy (cycles ++ past) → GoesOn cycles → IsPaced cycles past
+  are_paced [] past run on = at_first past run
+  are_paced (v ∷ cycles) past run on = paced_next v cycles past run on.1 on.2 (are_paced cycles past run.0 on.0)
+
+  pub takes_time_and_losses : TakesTimeAndLosses busy
+  takes_time_and_losses cycles past run on = (are_paced cycles past run on).total

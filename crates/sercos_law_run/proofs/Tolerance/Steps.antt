@@ -1,0 +1,434 @@
+-- How old a step gets on a channel, if few cycles in a row lose its record or its answer.
+use Rattle.std.proofs.Common.{◌≡◌, ◌⊎◌, inl, inr, ℕ, suc, ◌+◌, ◌<◌, ◌≤◌, Bool, true, false, List, [], ◌∷◌, length, Option, Some, None, refl, sym, ap, ◌∙◌, arith, if◌then◌else◌}
+use Rattle.std.specs.Prelude.{◌==◌, IfSome, is_some}
+use Rattle.std.proofs.lemmas.Bool.{cond-false, cond-true, eqb-true, false≢true}
+use Rattle.sercos_telegram.specs.declared.words.Status.{Status}
+use Rattle.sercos_step.specs.declared.request.Request.{Request}
+use Rattle.sercos_step.specs.declared.step.Step.{Step}
+use Rattle.sercos_service_drive.specs.Log.{Entry, Taken}
+use Rattle.sercos_service_drive.specs.Replies.{log_of, reply_of}
+use Rattle.sercos_service_master.specs.Begun.{Begun, answer_in, answers_in, answers_it, open_in, steps_in, with_answer}
+use Rattle.sercos_law_channel.specs.Handshake.Epochs.{begun_in, epoch_begun, epoch_log, epoch_taken, log_in, taken_in, unless_restart, with_begun, with_heard}
+use Rattle.sercos_law_channel.specs.Handshake.InStep.{AreInStep, Idle, Kept, Sent, steps_of}
+use Rattle.sercos_law_channel.specs.Handshake.Moves.{with_taken}
+use Rattle.sercos_law_channel.specs.Handshake.Runs.{IsRun, IsShown}
+use Rattle.sercos_law_channel.specs.Handshake.Views.{Heard, View, processed_in, record_in, standing, stood_in, with_record}
+use Rattle.sercos_law_channel.specs.Pace.Ages.{age_by, age_in}
+use Rattle.sercos_law_channel.proofs.Theorems.{Nothing, Processes, Record, in_step, length-replies_of, length-steps_of, processes, said_of}
+use Rattle.sercos_law_channel.proofs.Handshake.EpochRuns.{begun_of, heard_of, joined, restarted, shown_of}
+use Rattle.sercos_law_channel.proofs.Handshake.HandshakeMoves.{log-taken}
+use Rattle.sercos_law_channel.proofs.Pace.AgeRuns.{log_grows}
+use Rattle.sercos_law_channel.proofs.Pace.LateMoves.{BusyLate, FreeLate, NewLate, WorksLate, heard_late}
+use Rattle.sercos_law_channel.proofs.Pace.LateRuns.{head_before, taken_before}
+use Rattle.sercos_law_channel.proofs.Pace.OnTime.{joins}
+
+-- WHERE A STEP IS, by the numbers of steps begun, answers taken and steps accepted: none is open; one is, which the drive hasn't accepted;
+-- or one that it has accepted, and that has no answer.
+pub data Counts (begun : List Begun) (log : List Entry) : Type 0 where
+  NoneOpen : open_in begun ≡ None → length (steps_in begun) ≡ length log → length (answers_in begun) ≡ length log → Counts begun log
+  NotTaken : length (steps_in begun) ≡ suc (length log) → length (answers_in begun) ≡ length log → Counts begun log
+  NotAnswered : length (steps_in begun) ≡ length log → suc (length (answers_in begun)) ≡ length log → Counts begun log
+
+pub counts : (begun : List Begun) (log : List Entry) → AreInStep begun log → Counts begun log
+counts begun log (Idle none s a) = NoneOpen none (ap length s ∙ length-steps_of log) (ap length a ∙ length-replies_of log)
+counts begun log (Sent step opened s a) =
+    NotTaken (ap length s ∙ ap (λ (n : ℕ). suc n) (length-steps_of log)) (ap length a ∙ length-replies_of log)
+counts begun log (Kept e past opened those s a) =
+    NotAnswered (ap length s ∙ length-steps_of log) (ap (λ (n : ℕ). suc n) (ap length a ∙ length-replies_of past) ∙ sym (ap length those))
+
+-- ANSWERS only come to those that are there.
+more_answers : (b : Bool) (status : Status) (word : ℕ) (begun : List Begun)
+    → length (answers_in begun) ≤ length (answers_in (if b then with_answer (answer_in status word) begun else begun))
+more_answers true status word [] = omega arith
+more_answers true status word (b ∷ begun) = omega arith
+more_answers false status word begun = omega arith
+
+heard_more : (o : Option Heard) (begun : List Begun) → length (answers_in begun) ≤ length (answers_in (with_heard o begun))
+heard_more None begun = omega arith
+heard_more (Some a) begun = more_answers (answers_it begun a.status) a.status a.word begun
+
+begun_same : (o : Option Request) (begun : List Begun) → answers_in (with_begun o begun) ≡ answers_in begun
+begun_same None begun = refl
+begun_same (Some q) begun = refl
+
+-- if no step is open, its age is 0
+pub closed_age : (all : List View) → open_in (epoch_begun all) ≡ None → age_in all ≡ 0
+closed_age [] none = refl
+closed_age (v ∷ past) none = by v.falls none
+  where
+    by : (falls : Bool) → open_in (if falls then [] else begun_in v past) ≡ None
+        → (if falls then 0 else age_by (is_some (open_in (begun_in v past)))
+        (length (steps_in (begun_in v past)) == length (steps_in (unless_restart v (epoch_begun past)))) (age_in past)) ≡ 0
+    by true none = refl
+    by false none =
+        ap (λ (o : Option Step). age_by (is_some o) (length (steps_in (begun_in v past)) == length
+        (steps_in (unless_restart v (epoch_begun past)))) (age_in past)) none
+
+-- An open step that the drive hasn't accepted is at most `fresh` cycles old. One that it has accepted was begun at most a cycle before,
+-- and is open for at most busy time and `late` cycles since.
+pub record IsYoung (busy fresh late : ℕ) (all : List View) : Type 0 where
+  pub new : is_some (open_in (epoch_begun all)) ≡ true → length (steps_in (epoch_begun all)) ≡ suc (length (epoch_log all))
+      → age_in all ≤ fresh
+  pub old : (e : Entry) (log : List Entry) → epoch_log all ≡ e ∷ log → is_some (open_in (epoch_begun all)) ≡ true
+      → length (steps_in (epoch_begun all)) ≡ length (epoch_log all)
+      → (age_in all + e.taken.cycle ≤ length all + 1) × (length all ≤ e.taken.cycle + (busy + 1) + late)
+
+pub older : (busy f l fresh late : ℕ) (all : List View) → f ≤ fresh → l ≤ late → IsYoung busy f l all → IsYoung busy fresh late all
+older busy f l fresh late all more longer y = record {
+  new = λ some is. let young = y.new some is in omega (arith, young, more);
+  old = λ e log those some is. let (a, b) = y.old e log those some is in (a, omega (arith, b, longer));
+}
+
+never_some : {A : Type 0} (o : Option A) → o ≡ None → is_some o ≡ true → ⊥
+never_some o none some = false≢true (sym (ap (λ (x : Option _). is_some x) none) ∙ some)
+
+pub rested : (busy : ℕ) (all : List View) → open_in (epoch_begun all) ≡ None → IsYoung busy 0 0 all
+rested busy all none = record {
+  new = λ some is. absurd (never_some (open_in (epoch_begun all)) none some);
+  old = λ e log those some is. absurd (never_some (open_in (epoch_begun all)) none some);
+}
+
+-- so it is no older than this
+pub oldest : (busy fresh late : ℕ) (all : List View) → IsRun busy all → fresh ≤ 1 → IsYoung busy fresh late all
+    → age_in all ≤ busy + 2 + late
+oldest busy fresh late all run few y = by (open_in (epoch_begun all)) refl
+  where
+    accepted : (log : List Entry) → epoch_log all ≡ log → is_some (open_in (epoch_begun all)) ≡ true
+        → length (steps_in (epoch_begun all)) ≡ length (epoch_log all)
+        → suc (length (answers_in (epoch_begun all))) ≡ length (epoch_log all) → age_in all ≤ busy + 2 + late
+    accepted [] those some steps answers = let none = ap length those in absurd (omega (arith, none, answers))
+    accepted (e ∷ log) those some steps answers = let (a, b) = y.old e log those some steps in omega (arith, a, b)
+
+    which : is_some (open_in (epoch_begun all)) ≡ true → Counts (epoch_begun all) (epoch_log all) → age_in all ≤ busy + 2 + late
+    which some (NoneOpen none s a) = absurd (never_some (open_in (epoch_begun all)) none some)
+    which some (NotTaken s a) = let young = y.new some s in omega (arith, young, few)
+    which some (NotAnswered s a) = accepted (epoch_log all) refl some s a
+
+    by : (o : Option Step) → open_in (epoch_begun all) ≡ o → age_in all ≤ busy + 2 + late
+    by None none = let zero = closed_age all none in omega (arith, zero)
+    by (Some s) some = which (ap (λ (x : Option Step). is_some x) some) (counts (epoch_begun all) (epoch_log all) (in_step busy all run))
+
+-- ONE CYCLE, without a fall or a restart of the master
+module _ (busy : ℕ) (v : View) (past : List View) (run : IsRun busy (v ∷ past)) (stays : v.falls ≡ false)
+    (goes_on : v.master_restarts ≡ false) where
+  pub begun_is : epoch_begun (v ∷ past) ≡ begun_in v past
+  begun_is = cond-false v.falls [] (begun_in v past) stays
+
+  log_is : epoch_log (v ∷ past) ≡ log_in v past
+  log_is = ap log_of (cond-false v.falls [] (taken_in v past) stays)
+
+  start_is : unless_restart v (epoch_begun past) ≡ epoch_begun past
+  start_is = cond-false v.master_restarts [] (epoch_begun past) goes_on
+
+  log_start : log_of (unless_restart v (epoch_taken past)) ≡ epoch_log past
+  log_start = ap log_of (cond-false v.master_restarts [] (epoch_taken past) goes_on)
+
+  now : Counts (epoch_begun (v ∷ past)) (epoch_log (v ∷ past))
+  now = counts (epoch_begun (v ∷ past)) (epoch_log (v ∷ past)) (in_step busy (v ∷ past) run)
+
+  then_ : Counts (epoch_begun past) (epoch_log past)
+  then_ = counts (epoch_begun past) (epoch_log past) (in_step busy past run.0)
+
+  steps_are : length (steps_in (epoch_begun (v ∷ past))) ≡ length (steps_in (begun_in v past))
+  steps_are = ap (λ (l : List Begun). length (steps_in l)) begun_is
+
+  answers_are : length (answers_in (epoch_begun (v ∷ past))) ≡ length
+      (answers_in (with_heard v.heard (unless_restart v (epoch_begun past))))
+  answers_are = ap (λ (l : List Begun). length (answers_in l)) begun_is
+      ∙ ap length (begun_same v.begins (with_heard v.heard (unless_restart v (epoch_begun past))))
+
+  pub answers_more : length (answers_in (epoch_begun past)) ≤ length (answers_in (epoch_begun (v ∷ past)))
+  answers_more =
+      let more = heard_more v.heard (unless_restart v (epoch_begun past)) in
+      let first = ap (λ (l : List Begun). length (answers_in l)) start_is in
+      let last = answers_are in omega (arith, more, first, last)
+
+  -- the log stays, or has one entry more, of this cycle
+  pub grows : (epoch_log (v ∷ past) ≡ epoch_log past) ⊎ ((x : Entry) × (epoch_log (v ∷ past) ≡ x ∷ epoch_log past)
+      × (x.taken.cycle ≡ length past))
+  grows = elim (log_grows v past goes_on) [ inl same ↦ inl (log_is ∙ same) | inr (x, is, at) ↦ inr (x, log_is ∙ is, at) ]
+
+  -- the open step is the one of before, a cycle older, or a new one
+  aged : is_some (open_in (epoch_begun (v ∷ past))) ≡ true
+      → ((length (steps_in (epoch_begun (v ∷ past))) ≡ length (steps_in (epoch_begun past))) × (age_in (v ∷ past) ≡ age_in past + 1))
+      ⊎ (age_in (v ∷ past) ≡ 1)
+  aged some = by (length (steps_in (begun_in v past)) == length (steps_in (unless_restart v (epoch_begun past)))) refl
+    where
+      at : is_some (open_in (begun_in v past)) ≡ true
+      at = ap (λ (l : List Begun). is_some (open_in l)) (sym begun_is) ∙ some
+
+      age : age_in (v ∷ past) ≡ (if length (steps_in (begun_in v past)) == length (steps_in (unless_restart v (epoch_begun past))) then
+          age_in past + 1 else 1)
+      age = cond-false v.falls 0 _ stays ∙ cond-true (is_some (open_in (begun_in v past))) _ 0 at
+
+      by : (same : Bool) → (length (steps_in (begun_in v past)) == length (steps_in (unless_restart v (epoch_begun past)))) ≡ same
+          → ((length (steps_in (epoch_begun (v ∷ past))) ≡ length (steps_in (epoch_begun past))) × (age_in (v ∷ past) ≡ age_in past + 1))
+          ⊎ (age_in (v ∷ past) ≡ 1)
+      by true is = inl (
+        steps_are ∙ eqb-true _ _ is ∙ ap (λ (l : List Begun). length (steps_in l)) start_is,
+        age
+            ∙ cond-true _ (age_in past + 1) 1 is,
+      )
+      by false is = inr (age ∙ cond-false _ (age_in past + 1) 1 is)
+
+  pub soon : (e : Entry) (log : List Entry) → epoch_log (v ∷ past) ≡ e ∷ log → e.taken.cycle < length (v ∷ past)
+  soon e log those = head_before (length (v ∷ past)) (epoch_taken (v ∷ past)) (taken_before (v ∷ past)) e log those
+
+  pub same_head : (e f : Entry) (log rest : List Entry) → e ∷ log ≡ f ∷ rest → e.taken.cycle ≡ f.taken.cycle
+  same_head e f log rest same = let one : e ≡ f = cc in ap (λ (x : Entry). x.taken.cycle) one
+
+  -- A STEP THAT THE DRIVE HAS ACCEPTED: since when it is open,
+  begun_by : (fresh late : ℕ) → fresh ≤ 1 → IsYoung busy fresh late past → (e : Entry) (log : List Entry) → epoch_log (v ∷ past) ≡ e ∷ log
+      → is_some (open_in (epoch_begun (v ∷ past))) ≡ true
+      → length (steps_in (epoch_begun (v ∷ past))) ≡ length (epoch_log (v ∷ past))
+      → age_in (v ∷ past) + e.taken.cycle ≤ length (v ∷ past) + 1
+  begun_by fresh late few y e log those some steps = elim (aged some) [
+    | inr one ↦ let less = soon e log those in omega (arith, one, less)
+    | inl (same, age) ↦ elim grows [
+      | inl stayed ↦ old same age stayed then_
+      | inr (x, is, at) ↦ new same age x is at then_
+    ]
+  ]
+    where
+      old : length (steps_in (epoch_begun (v ∷ past))) ≡ length (steps_in (epoch_begun past)) → age_in (v ∷ past) ≡ age_in past + 1
+          → epoch_log (v ∷ past) ≡ epoch_log past
+          → Counts (epoch_begun past) (epoch_log past) → age_in (v ∷ past) + e.taken.cycle ≤ length (v ∷ past) + 1
+      old same age stayed (NoneOpen none s a) = let zero = closed_age past none in let less = soon e log those in
+          omega (arith, age, zero, less)
+      old same age stayed (NotTaken s a) = let long = ap length stayed in absurd (omega (arith, same, steps, s, long))
+      old same age stayed (NotAnswered s a) = by (open_in (epoch_begun past)) refl
+        where
+          by : (o : Option Step) → open_in (epoch_begun past) ≡ o → age_in (v ∷ past) + e.taken.cycle ≤ length (v ∷ past) + 1
+          by None none = let zero = closed_age past none in let less = soon e log those in omega (arith, age, zero, less)
+          by (Some z) opened = let was = (y.old e log (sym stayed ∙ those) (ap (λ (o : Option Step). is_some o) opened) s).0 in
+              omega (arith, age, was)
+
+      new : length (steps_in (epoch_begun (v ∷ past))) ≡ length (steps_in (epoch_begun past)) → age_in (v ∷ past) ≡ age_in past + 1
+          → (x : Entry) → epoch_log (v ∷ past) ≡ x ∷ epoch_log past → x.taken.cycle ≡ length past
+          → Counts (epoch_begun past) (epoch_log past) → age_in (v ∷ past) + e.taken.cycle ≤ length (v ∷ past) + 1
+      new same age x is at (NoneOpen none s a) = let long = ap length is in absurd (omega (arith, same, steps, s, long))
+      new same age x is at (NotAnswered s a) = let long = ap length is in absurd (omega (arith, same, steps, s, long))
+      new same age x is at (NotTaken s a) = by (open_in (epoch_begun past)) refl
+        where
+          cycle : e.taken.cycle ≡ length past
+          cycle = same_head e x log (epoch_log past) (sym those ∙ is) ∙ at
+
+          by : (o : Option Step) → open_in (epoch_begun past) ≡ o → age_in (v ∷ past) + e.taken.cycle ≤ length (v ∷ past) + 1
+          by None none = let zero = closed_age past none in omega (arith, age, zero, cycle)
+          by (Some z) opened = let young = y.new (ap (λ (o : Option Step). is_some o) opened) s in omega (arith, age, young, few, cycle)
+
+  -- and until when
+  unanswered : (e : Entry) (log : List Entry) → epoch_log (v ∷ past) ≡ e ∷ log
+      → length (steps_in (epoch_begun (v ∷ past))) ≡ length (epoch_log (v ∷ past)) → is_some (open_in (epoch_begun (v ∷ past))) ≡ true
+      → suc (length (answers_in (epoch_begun (v ∷ past)))) ≡ length (epoch_log (v ∷ past))
+  unanswered e log those steps some = by now
+    where
+      by : Counts (epoch_begun (v ∷ past)) (epoch_log (v ∷ past)) → suc (length (answers_in (epoch_begun (v ∷ past)))) ≡ length
+          (epoch_log (v ∷ past))
+      by (NoneOpen none s a) = absurd (never_some (open_in (epoch_begun (v ∷ past))) none some)
+      by (NotTaken s a) = absurd (omega (arith, s, steps))
+      by (NotAnswered s a) = a
+
+  was_open : (e : Entry) (log : List Entry) → epoch_log (v ∷ past) ≡ e ∷ log
+      → length (steps_in (epoch_begun (v ∷ past))) ≡ length (epoch_log (v ∷ past)) → is_some (open_in (epoch_begun (v ∷ past))) ≡ true
+      → epoch_log (v ∷ past) ≡ epoch_log past → suc (length (answers_in (epoch_begun past))) ≡ length (epoch_log past)
+  was_open e log those steps some stayed = by then_
+    where
+      last : suc (length (answers_in (epoch_begun (v ∷ past)))) ≡ length (epoch_log (v ∷ past))
+      last = unanswered e log those steps some
+
+      by : Counts (epoch_begun past) (epoch_log past) → suc (length (answers_in (epoch_begun past))) ≡ length (epoch_log past)
+      by (NoneOpen none s a) = let long = ap length stayed in let more = answers_more in absurd (omega (arith, last, a, long, more))
+      by (NotTaken s a) = let long = ap length stayed in let more = answers_more in absurd (omega (arith, last, a, long, more))
+      by (NotAnswered s a) = a
+
+  open_late_by : (fresh late : ℕ) → IsYoung busy fresh late past → (e : Entry) (log : List Entry) → epoch_log (v ∷ past) ≡ e ∷ log
+      → is_some (open_in (epoch_begun (v ∷ past))) ≡ true
+      → length (steps_in (epoch_begun (v ∷ past))) ≡ length (epoch_log (v ∷ past))
+      → length (v ∷ past) ≤ e.taken.cycle + (busy + 1) + (late + 1)
+  open_late_by fresh late y e log those some steps = elim grows [
+    | inl stayed ↦ by (was_open e log those steps some stayed) then_ (open_in (epoch_begun past)) refl stayed
+    | inr (x, is, at) ↦ let cycle = same_head e x log (epoch_log past) (sym those ∙ is) in omega (arith, cycle, at)
+  ]
+    where
+      by : suc (length (answers_in (epoch_begun past))) ≡ length (epoch_log past) → Counts (epoch_begun past) (epoch_log past)
+          → (o : Option Step) → open_in (epoch_begun past) ≡ o → epoch_log (v ∷ past) ≡ epoch_log past
+          → length (v ∷ past) ≤ e.taken.cycle + (busy + 1) + (late + 1)
+      by open_then (NoneOpen none s a) o is stayed = absurd (omega (arith, open_then, a))
+      by open_then (NotTaken s a) o is stayed = absurd (omega (arith, open_then, a))
+      by open_then (NotAnswered s a) (Some z) is stayed = let was =
+          (y.old e log (sym stayed ∙ those) (ap (λ (o : Option Step). is_some o) is) s).1 in omega (arith, was)
+      by open_then (NotAnswered s a) None is stayed = absurd (kept (in_step busy past run.0))
+        where
+          kept : AreInStep (epoch_begun past) (epoch_log past) → ⊥
+          kept (Idle none steps answers) = let count = ap length answers ∙ length-replies_of (epoch_log past) in omega (arith, a, count)
+          kept (Sent step opened steps answers) = cc
+          kept (Kept f rest opened at steps answers) = cc
+
+  -- WHAT IS HEARD
+  started : AreInStep (unless_restart v (epoch_begun past)) (log_of (unless_restart v (epoch_taken past)))
+  started = restarted busy v (epoch_begun past) (epoch_taken past) (in_step busy past run.0)
+
+  heard_then : AreInStep (with_heard v.heard (unless_restart v (epoch_begun past))) (log_of (unless_restart v (epoch_taken past)))
+  heard_then = heard_of busy v past run (joined busy past run.0) v.heard run.1.heard started
+
+  works : (o : Option Heard) → IfSome o (λ a. IsShown busy a v past)
+      → AreInStep (with_heard o (unless_restart v (epoch_begun past))) (log_of (unless_restart v (epoch_taken past))) → is_some o ≡ true
+      → (e : Entry) (rest : List Entry) → log_of (unless_restart v (epoch_taken past)) ≡ e ∷ rest
+      → open_in (unless_restart v (epoch_begun past)) ≡ Some e.taken.step
+      → steps_in (unless_restart v (epoch_begun past)) ≡ steps_of (log_of (unless_restart v (epoch_taken past)))
+      → e.taken.cycle < length past
+      → WorksLate busy (length past) 0 (with_heard o (unless_restart v (epoch_begun past))) (log_of (unless_restart v (epoch_taken past)))
+  works None shown after some e rest those opened steps earlier = absurd (false≢true some)
+  works (Some a) shown after some e rest those opened steps earlier = elim (shown_of busy v past run (joined busy past run.0) a shown) [
+    | inl none ↦ let free : open_in (unless_restart v (epoch_begun past)) ≡ None = ap open_in none in absurd (cc)
+    | inr says ↦ heard_late busy (length past) 0 v.showing a.status a.word (unless_restart v (epoch_begun past))
+        (unless_restart v (epoch_taken past)) says e rest started after those opened steps earlier (omega arith) (omega (arith, earlier))
+  ]
+
+  -- one that is open though the drive is heard is busy
+  pub busy_still : (is_some (open_in (epoch_begun past)) ≡ true → is_some v.heard ≡ true) → (e : Entry) (log : List Entry)
+      → epoch_log (v ∷ past) ≡ e ∷ log → is_some (open_in (epoch_begun (v ∷ past))) ≡ true
+      → length (steps_in (epoch_begun (v ∷ past))) ≡ length (epoch_log (v ∷ past)) → length (v ∷ past) ≤ e.taken.cycle + (busy + 1) + 0
+  busy_still hears e log those some steps = elim grows [
+    | inl stayed ↦ by stayed started
+    | inr (x, is, at) ↦ let cycle = same_head e x log (epoch_log past) (sym those ∙ is) in omega (arith, cycle, at)
+  ]
+    where
+      last : suc (length (answers_in (epoch_begun (v ∷ past)))) ≡ length (epoch_log (v ∷ past))
+      last = unanswered e log those steps some
+
+      long : length (log_of (unless_restart v (epoch_taken past))) ≡ length (epoch_log past)
+      long = ap length log_start
+
+      -- not all answers were taken
+      not_all : epoch_log (v ∷ past) ≡ epoch_log past → length (answers_in (with_heard v.heard (unless_restart v (epoch_begun past)))) ≡
+          length (log_of (unless_restart v (epoch_taken past))) → ⊥
+      not_all stayed all = let same = ap length stayed in let is = answers_are in omega (arith, last, long, same, is, all)
+
+      before_all : length (answers_in (unless_restart v (epoch_begun past))) ≡ length (log_of (unless_restart v (epoch_taken past)))
+          → epoch_log (v ∷ past) ≡ epoch_log past → ⊥
+      before_all all stayed = let same = ap length stayed in let is = answers_are in
+          let more = heard_more v.heard (unless_restart v (epoch_begun past)) in omega (arith, last, long, same, is, all, more)
+
+      after_so : epoch_log (v ∷ past) ≡ epoch_log past → open_in (with_heard v.heard (unless_restart v (epoch_begun past))) ≡ None
+          → AreInStep (with_heard v.heard (unless_restart v (epoch_begun past))) (log_of (unless_restart v (epoch_taken past))) → ⊥
+      after_so stayed none (Idle off s a) = not_all stayed (ap length a ∙ length-replies_of (log_of (unless_restart v (epoch_taken past))))
+      after_so stayed none (Sent step opened s a) = cc
+      after_so stayed none (Kept f rest opened at s a) = cc
+
+      new_so : epoch_log (v ∷ past) ≡ epoch_log past → length (steps_in (with_heard v.heard (unless_restart v (epoch_begun past)))) ≡ suc
+          (length (log_of (unless_restart v (epoch_taken past))))
+          → Counts (with_heard v.heard (unless_restart v (epoch_begun past))) (log_of (unless_restart v (epoch_taken past))) → ⊥
+      new_so stayed more (NoneOpen none s a) = not_all stayed a
+      new_so stayed more (NotTaken s a) = not_all stayed a
+      new_so stayed more (NotAnswered s a) = omega (arith, more, s)
+
+      which : epoch_log (v ∷ past) ≡ epoch_log past → WorksLate busy (length past) 0
+          (with_heard v.heard (unless_restart v (epoch_begun past))) (log_of (unless_restart v (epoch_taken past)))
+          → length (v ∷ past) ≤ e.taken.cycle + (busy + 1) + 0
+      which stayed (FreeLate none is) = absurd (after_so stayed none heard_then)
+      which stayed (NewLate s opened more is) = absurd (new_so stayed
+          (ap length more ∙ ap (λ (n : ℕ). suc n) (length-steps_of (log_of (unless_restart v (epoch_taken past)))))
+          (counts (with_heard v.heard (unless_restart v (epoch_begun past))) (log_of (unless_restart v (epoch_taken past))) heard_then))
+      which stayed (BusyLate g rest at opened all earlier late sum) =
+          let cycle = same_head e g log rest (sym those ∙ stayed ∙ sym log_start ∙ at) in omega (arith, cycle, late)
+
+      by : epoch_log (v ∷ past) ≡ epoch_log past → AreInStep (unless_restart v (epoch_begun past))
+          (log_of (unless_restart v (epoch_taken past))) → length (v ∷ past) ≤ e.taken.cycle + (busy + 1) + 0
+      by stayed (Idle none s a) = absurd (before_all (ap length a ∙ length-replies_of (log_of (unless_restart v (epoch_taken past))))
+          stayed)
+      by stayed (Sent step opened s a) = absurd (before_all (ap length a ∙ length-replies_of (log_of (unless_restart v (epoch_taken past))))
+          stayed)
+      by stayed (Kept f rest opened at s a) = which stayed (works v.heard run.1.heard heard_then
+          (hears (ap (λ (l : List Begun). is_some (open_in l)) (sym start_is) ∙ ap (λ (o : Option Step). is_some o) opened))
+          f rest at opened s (head_before (length past) (epoch_taken past) (taken_before past) f rest (sym log_start ∙ at)))
+
+  -- A STEP THAT THE DRIVE HASN'T ACCEPTED isn't there if it processes the record;
+  pub none_new : (is_some (open_in (begun_in v past)) ≡ true → is_some (processed_in v past) ≡ true)
+      → is_some (open_in (epoch_begun (v ∷ past))) ≡ true
+      → length (steps_in (epoch_begun (v ∷ past))) ≡ suc (length (epoch_log (v ∷ past))) → ⊥
+  none_new takes some steps = by (processes v past)
+    where
+      at : is_some (open_in (begun_in v past)) ≡ true
+      at = ap (λ (l : List Begun). is_some (open_in l)) (sym begun_is) ∙ some
+
+      by : Processes v past → ⊥
+      by (Nothing none) = never_some (processed_in v past) none (takes at)
+      by (Record s got came two processed) = which (begun_of busy v.begins (with_heard v.heard (unless_restart v (epoch_begun past)))
+          (unless_restart v (epoch_taken past)) run.1.begins heard_then)
+        where
+          log : List Entry
+          log = log_of (unless_restart v (epoch_taken past))
+
+          t : Taken
+          t = record_in v (length past) (stood_in v (standing past)) s
+
+          now_is : epoch_log (v ∷ past) ≡ with_taken t (reply_of t log) log
+          now_is = log_is ∙ ap (λ (o : Option Taken). log_of (with_record o (unless_restart v (epoch_taken past)))) processed
+              ∙ log-taken t (unless_restart v (epoch_taken past))
+
+          least : length log ≤ length (epoch_log (v ∷ past))
+          least = let start = ap length log_start in elim grows [
+            | inl stayed ↦ (let same = ap length stayed in omega (arith, same, start))
+            | inr (x, is, cycle) ↦ (let same = ap length is in omega (arith, same, start))
+          ]
+
+          which : AreInStep (begun_in v past) log → ⊥
+          which (Idle none e a) = let count = ap length e ∙ length-steps_of log in let same = steps_are in
+              omega (arith, count, same, steps, least)
+          which (Kept f rest opened those e a) = let count = ap length e ∙ length-steps_of log in let same = steps_are in
+              omega (arith, count, same, steps, least)
+          which (Sent step opened e a) =
+              let count = ap length e ∙ ap (λ (n : ℕ). suc n) (length-steps_of log) in
+              let same = steps_are in
+              let more = ap length (now_is ∙ joins busy (length past) 0 (begun_in v past) log t (reply_of t log) step
+              (said_of busy v past run.1.sent s got) e) in omega (arith, count, same, steps, more)
+
+  -- else it is a cycle old, if it wasn't there before.
+  young_new : (late : ℕ) → IsYoung busy 0 late past → is_some (open_in (epoch_begun (v ∷ past))) ≡ true
+      → length (steps_in (epoch_begun (v ∷ past))) ≡ suc (length (epoch_log (v ∷ past))) → age_in (v ∷ past) ≤ 1
+  young_new late y some steps = elim (aged some) [
+    | inr one ↦ omega (arith, one)
+    | inl (same, age) ↦ elim grows [
+      | inl stayed ↦ (let long = ap length stayed in by same age long then_ (open_in (epoch_begun past)) refl)
+      | inr (x, is, cycle) ↦ (let long = ap length is in absurd (never same long then_))
+    ]
+  ]
+    where
+      by : length (steps_in (epoch_begun (v ∷ past))) ≡ length (steps_in (epoch_begun past)) → age_in (v ∷ past) ≡ age_in past + 1
+          → length (epoch_log (v ∷ past)) ≡ length (epoch_log past)
+          → Counts (epoch_begun past) (epoch_log past) → (o : Option Step) → open_in (epoch_begun past) ≡ o → age_in (v ∷ past) ≤ 1
+      by same age long c None none = let zero = closed_age past none in omega (arith, age, zero)
+      by same age long (NoneOpen none s a) (Some z) opened = absurd (omega (arith, same, steps, long, s))
+      by same age long (NotTaken s a) (Some z) opened = let young = y.new (ap (λ (o : Option Step). is_some o) opened) s in
+          omega (arith, age, young)
+      by same age long (NotAnswered s a) (Some z) opened = absurd (omega (arith, same, steps, long, s))
+
+      never : length (steps_in (epoch_begun (v ∷ past))) ≡ length (steps_in (epoch_begun past))
+          → length (epoch_log (v ∷ past)) ≡ suc (length (epoch_log past)) → Counts (epoch_begun past) (epoch_log past) → ⊥
+      never same long (NoneOpen none s a) = omega (arith, same, steps, long, s)
+      never same long (NotTaken s a) = omega (arith, same, steps, long, s)
+      never same long (NotAnswered s a) = omega (arith, same, steps, long, s)
+
+  -- AFTER A CYCLE that is heard and processed; that is processed; and any other.
+  pub young_both : (late : ℕ) → IsYoung busy 1 late past → (is_some (open_in (begun_in v past)) ≡ true
+      → is_some (processed_in v past) ≡ true) → (is_some (open_in (epoch_begun past)) ≡ true → is_some v.heard ≡ true)
+      → IsYoung busy 0 0 (v ∷ past)
+  young_both late y takes hears = record {
+    new = λ some steps. absurd (none_new takes some steps);
+    old = λ e log those some steps. (begun_by 1 late (omega arith) y e log those some steps, busy_still hears e log those some steps);
+  }
+
+  pub young_taken : (late : ℕ) → IsYoung busy 1 late past → (is_some (open_in (begun_in v past)) ≡ true
+      → is_some (processed_in v past) ≡ true) → IsYoung busy 0 (late + 1) (v ∷ past)
+  young_taken late y takes = record {
+    new = λ some steps. absurd (none_new takes some steps);
+    old = λ e log those some steps. (begun_by 1 late (omega arith) y e log those some steps, open_late_by 1 late y e log those some steps);
+  }
+
+  pub young_lost : (late : ℕ) → IsYoung busy 0 late past → IsYoung busy 1 (late + 1) (v ∷ past)
+  young_lost late y = record {
+    new = λ some steps. young_new late y some steps;
+    old = λ e log those some steps. (begun_by 0 late (omega arith) y e log those some steps, open_late_by 0 late y e log those some steps);
+  }

@@ -1,0 +1,92 @@
+-- Worked runs whose disturbed cycles are sparse, and some whose are not, computed from the definitions.
+use Rattle.std.proofs.Common.{◌≡◌, ℕ, true, false, List, [], ◌∷◌, length, Option, Some, None, refl, sym, ◌∙◌, if◌then◌else◌, arith}
+use Rattle.std.proofs.lemmas.Bool.{false≢true}
+use Rattle.sercos_telegram.specs.declared.layout.Kind.{Kind}
+use Rattle.sercos_telegram.specs.declared.layout.Kind.TheVariants as kinds
+use Rattle.sercos_script.specs.declared.fault.Damage.TheVariants.{Deaf}
+use Rattle.sercos_script.specs.declared.fault.Fault.{Fault}
+use Rattle.sercos_script.specs.Scripts.{carried, restarts_at, acts}
+use Rattle.sercos_trace.specs.Views.{CycleView}
+use Rattle.sercos_trace.specs.declared.events.Fall.{Fall}
+use Rattle.sercos_trace.specs.declared.events.Fall.TheVariants as fall
+use Rattle.sercos_law_run.specs.Journal.Runs.{is_disturbed_in, run_of}
+use Rattle.sercos_law_run.proofs.Journal.Worked.{fault, ring}
+use Rattle.sercos_law_run.specs.Tolerance.Sparse.{IsSparse}
+use Rattle.sercos_law_run.specs.Journal.Arrivals as Arrivals
+use Rattle.sercos_model.specs.Bits as Bits
+use Rattle.sercos_model.specs.CheckSequence as CheckSequence
+use Rattle.sercos_hdlc.specs.Reason as Reason
+use Rattle.sercos_hdlc.specs.Stuffed as Stuffed
+use Rattle.sercos_telegram.specs.Faults as Faults
+use Rattle.sercos_telegram.specs.Spells as Spells
+use Rattle.sercos_telegram.specs.Words as Words
+use Rattle.sercos_idn.specs.Codes as Codes
+use Rattle.sercos_idn.specs.Attributes as Attributes
+use Rattle.sercos_block.specs.Blocks as Blocks
+use Rattle.sercos_block.specs.BuiltIns as BuiltIns
+use Rattle.sercos_timing.specs.Valid as Valid
+use Rattle.sercos_block.specs.Rings as Rings
+use Rattle.sercos_block.specs.Stores as Stores
+use Rattle.sercos_command.specs.Checks as Checks
+use Rattle.sercos_command.specs.Settings as Settings
+use Rattle.sercos_service_drive.specs.Replies as Replies
+use Rattle.sercos_plan.specs.ChainOf as ChainOf
+use Rattle.sercos_plan.specs.LeastTimes as LeastTimes
+use Rattle.sercos_drive.specs.Heard as Heard
+use Rattle.sercos_drive.specs.Says as Says
+
+-- What a run shows, the newest first: which cycles are disturbed, and which falls are reported.
+abbrev disturbed : List Fault → List CycleView → List ℕ
+disturbed faults [] = []
+disturbed faults (t ∷ j) = if is_disturbed_in ring (carried 1 faults) (restarts_at faults) (length j) t.sent then t.cycle ∷ disturbed faults
+    j else disturbed faults j
+
+abbrev with_fall : ℕ → Option Fall → List (ℕ × Fall) → List (ℕ × Fall)
+with_fall cycle None others = others
+with_fall cycle (Some f) others = (cycle, f) ∷ others
+
+abbrev falls : List CycleView → List (ℕ × Fall)
+falls [] = []
+falls (t ∷ j) = with_fall t.cycle t.events.fall (falls j)
+
+abbrev run : List Fault → ℕ → List CycleView
+run faults n = run_of ring [] (carried 1 faults) (restarts_at faults) n
+
+abbrev shows : List Fault → ℕ → List ℕ × List (ℕ × Fall)
+shows faults n = (disturbed faults (run faults n), falls (run faults n))
+
+-- a station misses a telegram in one cycle
+abbrev misses : ℕ → Kind → ℕ → ℕ → Fault
+misses cycle kind from station = fault cycle cycle kind from (Deaf station)
+
+-- SPARSE. In phase 2 the drive misses the MST in 13 and its AT is lost in 16. In phase 4 the AT is lost in 105, the MDT in 107, and in 109
+-- the own MST.
+abbrev sparse : List Fault
+sparse = misses 13 kinds.Mst 0 1 ∷ misses 16 kinds.At 1 0 ∷ misses 105 kinds.At 1 0 ∷ misses 107 kinds.Mdt 0 1 ∷ misses 109 kinds.Mst 0 0 ∷
+    []
+
+sparse_is_borne : shows sparse 114 ≡ (109 ∷ 107 ∷ 105 ∷ 16 ∷ 13 ∷ [], [])
+unfolding carried restarts_at acts Bits.bits_of Bits.low_bits Bits.is_odd Bits.number_of Bits.bytes_of CheckSequence.fcs_of CheckSequence.divided CheckSequence.added CheckSequence.sum_of Arrivals.content_in Arrivals.is_unseen Reason.begins_with_six Reason.is_five Reason.ends_in_five Reason.six_place Reason.unstuffed Reason.given Reason.unclosed Reason.unreadable Reason.reason_of Stuffed.stuffed Stuffed.frame_of Faults.mst_fault Faults.head_fault Spells.word_bytes Spells.word_at Spells.fields Words.control_of Words.status_of Codes.attribute_fault Attributes.attribute_of Blocks.element_of BuiltIns.built_in Rings.attribute_in Valid.is_cycle Stores.inserted Stores.with_own Stores.store_of Checks.number_at Checks.idns_at Checks.carried_len Checks.breaks_1 Checks.breaks_2 Checks.breaks_6 Checks.breaks_7 Checks.breaks_8 Checks.breaks_9 Checks.breaks_10 Checks.breaks_15 Checks.breaks_list Checks.breaks_89 Checks.unfit_for_phase_3 Checks.unfit_for_phase_4 Settings.with_write Settings.with_lists Replies.data_in Replies.element_words Replies.bytes_written Replies.write_cause ChainOf.chain_of LeastTimes.least_plan LeastTimes.least_t2 LeastTimes.least_t3 Heard.mst_in Heard.single_in Heard.joint_in Says.value_in
+sparse_is_borne = refl
+
+-- NOT SPARSE. Where two cycles in a row lose the AT in phase 4, the ring falls in the second.
+abbrev twice : List Fault
+twice = misses 105 kinds.At 1 0 ∷ misses 106 kinds.At 1 0 ∷ []
+
+twice_falls : shows twice 107 ≡ (106 ∷ 105 ∷ [], (106, fall.AtLost 1) ∷ [])
+unfolding carried restarts_at acts Bits.bits_of Bits.low_bits Bits.is_odd Bits.number_of Bits.bytes_of CheckSequence.fcs_of CheckSequence.divided CheckSequence.added CheckSequence.sum_of Arrivals.content_in Arrivals.is_unseen Reason.begins_with_six Reason.is_five Reason.ends_in_five Reason.six_place Reason.unstuffed Reason.given Reason.unclosed Reason.unreadable Reason.reason_of Stuffed.stuffed Stuffed.frame_of Faults.mst_fault Faults.head_fault Spells.word_bytes Spells.word_at Spells.fields Words.control_of Words.status_of Codes.attribute_fault Attributes.attribute_of Blocks.element_of BuiltIns.built_in Rings.attribute_in Valid.is_cycle Stores.inserted Stores.with_own Stores.store_of Checks.number_at Checks.idns_at Checks.carried_len Checks.breaks_1 Checks.breaks_2 Checks.breaks_6 Checks.breaks_7 Checks.breaks_8 Checks.breaks_9 Checks.breaks_10 Checks.breaks_15 Checks.breaks_list Checks.breaks_89 Checks.unfit_for_phase_3 Checks.unfit_for_phase_4 Settings.with_write Settings.with_lists Replies.data_in Replies.element_words Replies.bytes_written Replies.write_cause ChainOf.chain_of LeastTimes.least_plan LeastTimes.least_t2 LeastTimes.least_t3 Heard.mst_in Heard.single_in Heard.joint_in Says.value_in
+twice_falls = refl
+
+-- Where each second cycle from phase 1 on loses the MST at the drive, a step isn't answered.
+abbrev each_second : List Fault
+each_second = (record { cycle = 13; last = 80; every = 2; kind = kinds.Mst; from = 0; damage = Deaf 1 }) ∷ []
+
+each_second_falls : falls (run each_second 80) ≡ (76, fall.StepLimit 1) ∷ []
+unfolding carried restarts_at acts Bits.bits_of Bits.low_bits Bits.is_odd Bits.number_of Bits.bytes_of CheckSequence.fcs_of CheckSequence.divided CheckSequence.added CheckSequence.sum_of Arrivals.content_in Arrivals.is_unseen Reason.begins_with_six Reason.is_five Reason.ends_in_five Reason.six_place Reason.unstuffed Reason.given Reason.unclosed Reason.unreadable Reason.reason_of Stuffed.stuffed Stuffed.frame_of Faults.mst_fault Faults.head_fault Spells.word_bytes Spells.word_at Spells.fields Words.control_of Words.status_of Codes.attribute_fault Attributes.attribute_of Blocks.element_of BuiltIns.built_in Rings.attribute_in Valid.is_cycle Stores.inserted Stores.with_own Stores.store_of Checks.number_at Checks.idns_at Checks.carried_len Checks.breaks_1 Checks.breaks_2 Checks.breaks_6 Checks.breaks_7 Checks.breaks_8 Checks.breaks_9 Checks.breaks_10 Checks.breaks_15 Checks.breaks_list Checks.breaks_89 Checks.unfit_for_phase_3 Checks.unfit_for_phase_4 Settings.with_write Settings.with_lists Replies.data_in Replies.element_words Replies.bytes_written Replies.write_cause ChainOf.chain_of LeastTimes.least_plan LeastTimes.least_t2 LeastTimes.least_t3 Heard.mst_in Heard.single_in Heard.joint_in Says.value_in
+each_second_falls = refl
+
+-- The second cycle of two in a row isn't sparse in phases 3 and 4.
+twice_is_not_sparse : (t u : CycleView) (j : List CycleView) → is_disturbed_in ring (carried 1 twice) (restarts_at twice) (length (u ∷ j))
+    t.sent ≡ true → is_disturbed_in ring (carried 1 twice) (restarts_at twice) (length j) u.sent ≡ true
+    → t.phase ≡ 4 → IsSparse ring (carried 1 twice) (restarts_at twice) t (u ∷ j) → ⊥
+twice_is_not_sparse t u j now before four is = false≢true (sym (is.late now (omega (arith, four))).1 ∙ before)

@@ -1,0 +1,94 @@
+use Rattle.sercos_law_run.proofs.Headline.HeadlineRuns.{MoreLaws}
+use Rattle.sercos_law_run.proofs.Headline.WellRuns.{StopLaws}
+use Rattle.sercos_law_run.proofs.Held.Runs.{Laws}
+use Rattle.sercos_law_run.specs.Tolerance.Bears.{BearsSparse}
+use Rattle.sercos_law_run.proofs.Tolerance.BearsSparse.{bears_sparse, calm_is_sparse}
+use Rattle.sercos_law_run.proofs.Tolerance.CostsSparse.{costs_sparse}
+use Rattle.sercos_law_run.proofs.Tolerance.Losses.{takes_time_and_losses}
+use Rattle.sercos_law_run.proofs.Tolerance.Tolerates.{one_of_three, tolerates}
+use Rattle.sercos_law_run.proofs.tolerance_laws.tolerance_law.Goals as goal
+
+pub returns : goal.returns
+returns c =
+    let laws : Laws = record {
+      empty = c.run_law.ensures.empty;
+      exact = c.exact_law.ensures;
+      written = c.values_law.ensures.written;
+      protected = c.values_law.ensures.protected;
+      newest = c.values_law.ensures.newest;
+      tasks = c.agenda_law.ensures.tasks;
+      ends = c.agenda_law.ensures.ended;
+      reads = c.agenda_law.ensures.reads;
+      write_data = c.agenda_law.ensures.data;
+      configures = c.agenda_law.ensures.rise;
+      planned = c.master_law.ensures.planned;
+      left = c.master_law.ensures.left;
+      ring = c.ring_law.ensures;
+      types = c.store_law.ensures.types;
+      holds_plan = c.answer_law.ensures.holds;
+      as_long = c.start_up_law.ensures.as_long;
+      writes_start = c.answer_law.ensures.writes;
+      whole = c.held_values_law.ensures.whole;
+      asks = c.answer_law.ensures.asks;
+      factors = c.answer_law.ensures.factors;
+      guarded = c.held_values_law.ensures.protected;
+    } in
+    let stops : StopLaws = record {
+      ring_valid = c.cause_law.ensures.valid;
+      no_stops = c.answer_law.ensures.stops;
+      lower = record {
+        transfers = record { once = c.transfer_law.ensures.writes_once; reads = c.transfer_law.ensures.reads_once };
+        allowed = c.writes_law.ensures.allowed;
+        newest = c.values_law.ensures.newest;
+        stays_written = c.values_law.ensures.written;
+        begins = c.agenda_law.ensures.tasks;
+        write_data = c.agenda_law.ensures.data;
+        configures = c.agenda_law.ensures.check;
+        writes_start = c.answer_law.ensures.writes;
+        protected = c.held_values_law.ensures.protected;
+        checks = c.held_values_law.ensures.checks;
+        whole = c.held_values_law.ensures.whole;
+        stay = c.held_values_law.ensures.stay;
+        keep = c.store_of_law.ensures.keep;
+        passes = c.start_up_law.ensures.passes;
+      };
+      sets = c.transfer_law.ensures.sets_and_cancels;
+      ends_with_status = c.transfer_law.ensures.ends_with_status;
+      cause127 = c.stop_law.ensures.check127;
+      requests = c.report_law.ensures.requests;
+    } in
+    let more : MoreLaws = record {
+      always = c.typed_law.ensures.always;
+      within = c.typed_law.ensures.within;
+      spelled = c.typed_law.ensures.spelled;
+      sends_apart = c.ring_slot_law.ensures.sends;
+      commanded = c.run_law.ensures.commanded;
+      no_later = c.run_law.ensures.no_later;
+      handshake = c.run_law.ensures.handshake;
+      requests = c.report_law.ensures.requests;
+      in_order = c.report_law.ensures.in_order;
+      once = c.report_law.ensures.once;
+      right = c.report_law.ensures.right;
+      told = c.report_law.ensures.events;
+      told_at_restart = c.report_law.ensures.restart;
+      stop_laws = stops;
+      keep = c.store_of_law.ensures.blocks;
+      allows = c.writes_law.ensures.allowed;
+      those = c.drive_law.ensures.those;
+      frame = c.framing_law.ensures.frame;
+      wire = c.framing_law.ensures.wire;
+    } in
+    let bears : BearsSparse = λ r jobs carry restarts t cycles before opened run clear starts sparse.
+    bears_sparse laws more c.agenda_law.ensures.turn c.run_law.ensures.up c.run_law.ensures.zero c.calls_law.ensures.stays
+    c.calls_law.ensures.before r jobs carry restarts opened t cycles before run clear starts sparse in
+    record {
+      calm = calm_is_sparse;
+      spaced = one_of_three;
+      bears = bears;
+      tolerates = tolerates bears;
+      losses = takes_time_and_losses;
+      costs = λ r jobs carry restarts cycles before opened run clear starts sparse k longest below listed.
+          costs_sparse laws more c.agenda_law.ensures.turn c.run_law.ensures.up c.run_law.ensures.zero c.calls_law.ensures.stays
+          c.calls_law.ensures.before r jobs carry restarts opened c.cost_law.ensures.in_cost c.cost_law.ensures.timed cycles before run
+          clear starts sparse k longest below listed;
+    }

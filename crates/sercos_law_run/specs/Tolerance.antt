@@ -1,0 +1,4 @@
+-- What a ring bears while faults go on: epochs in which the disturbed cycles are sparse.
+pub mod Sparse
+pub mod Bears
+pub mod Losses
