@@ -1,5 +1,5 @@
 -- One cycle more.
-use Rattle.std.proofs.Common.{◌≡◌, ℕ, suc, zero, ◌+◌, ◌≤◌, Bool, true, false, List, [], ◌∷◌, length, Option, refl, sym, ◌∙◌, ap, subst, arith, nat_le, ◌&&◌, length-append}
+use Rattle.std.proofs.Common.{◌≡◌, ℕ, suc, zero, ◌+◌, ◌≤◌, Bool, true, false, List, [], ◌∷◌, length, Option, refl, sym, ◌∙◌, ap, subst, arith, length-append}
 use Rattle.sercos_step.specs.declared.request.Job.{Job}
 use Rattle.sercos_block.specs.Views.{DriveView, RingView}
 use Rattle.sercos_trace.specs.Views.{CycleView}
@@ -12,9 +12,7 @@ use Rattle.sercos_master.specs.Any.{AnyStandsFor}
 use Rattle.sercos_seat.specs.Ring.{known_of}
 use Rattle.sercos_master.specs.Annals.{Call, End}
 use Rattle.sercos_master.specs.Says.{Sent}
-use Rattle.std.specs.Prelude.{◌==◌}
-use Rattle.std.proofs.lemmas.Bool.{eq-eqb}
-use Rattle.sercos_law_run.proofs.Theorems.{few_drives, ats_in-said, mdt_in-said, AreParts, parts_next}
+use Rattle.sercos_law_run.proofs.Theorems.{ats_in-said, mdt_in-said, AreParts, parts_next}
 use Rattle.sercos_script.specs.Links.{Carry, Restarts}
 use Rattle.sercos_law_run.specs.Journal.Records.{mst_in, ats_in, mdt_in}
 use Rattle.sercos_law_run.specs.Journal.Runs.{drive_at, with_restart, drive_calls, master_calls, given_before, mid_calls, at_mst, at_mdt, contents, content_of, IsNext}
@@ -86,19 +84,7 @@ before_cycle n d rate carry restarts restarting j cycle now k below =
     let most = cycle-given (d k) rate carry restarts j (k + 1) in
     rw (cycle-with_restart (d k) rate (restarting cycle (k + 1)) (given_before carry restarts j k), now) most
 
--- a ring that stands for something is whole
-length-list_below : {A : Type 0} (n : ℕ) (f : ℕ → A) → length (list_below n f) ≡ n
+-- there are as many addresses as drives
+pub length-list_below : {A : Type 0} (n : ℕ) (f : ℕ → A) → length (list_below n f) ≡ n
 length-list_below zero f = refl
 length-list_below (suc n) f = let all = length-list_below n f in rw (length-append (list_below n f) (f n ∷ []), all) (omega arith)
-
-pub whole : (carries : Carry) (restarting : Restarts) (cycle rate : ℕ) (addresses : List ℕ) (drives : List DriveState) (m : AnyMaster)
-    (r : RingView) (jobs : List Job) (carry : Carry) (restarts : Restarts) (j : List CycleView) → PartsStandFor carries restarting cycle rate addresses drives m r jobs carry restarts j
-    → (nat_le (length drives) 64 && (length addresses == length drives)) ≡ true
-whole carries restarting cycle rate addresses drives m r jobs carry restarts j s =
-    let few = few_drives r s.valid in
-    let same : length addresses ≡ length r.drives = ap (λ (l : List ℕ). length l) s.addresses_are ∙ length-list_below (length r.drives) _ in
-    rw (s.count_is, same, few, eq-eqb (length r.drives) (length r.drives) refl) refl
-
-pub never : {A : Type 0} (b : Bool) → b ≡ false → b ≡ true → A
-never true isnt holds = cc
-never false isnt holds = cc

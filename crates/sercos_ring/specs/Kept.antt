@@ -19,7 +19,6 @@ use Rattle.sercos_law_run.specs.Stations.Senders.{IsAlone}
 use Rattle.sercos_law_run.specs.Stations.Falls.{FallsForCause}
 use Rattle.sercos_law_run.specs.Tolerance.Bears.{BearsIn}
 use Rattle.sercos_ring.specs.Stations.{AllStand, addresses_below}
-use Rattle.sercos_ring.specs.Parts.{PartsStandFor}
 use Rattle.sercos_ring.specs.declared.ring.Ring.{Ring}
 
 -- how many drives a ring has, how many cycles it has made, and the record of the newest one
@@ -58,19 +57,7 @@ pub record RingStandsFor {L : Type 0} (carry_of : L → Carry) (restart_of : L �
   pub drives_stand : AllStand ring.drives.items (drive_at r) r.rate (given_before carry restarts j)
   pub master_stands : HasMaster ring.master (known_of r) jobs (master_calls r carry restarts j)
 
--- the same with the master apart
-abbrev pub BothStandFor : {L : Type 0} → (L → Carry) → (L → Restarts) → Ring L → AnyMaster → RingView → List Job → Carry → Restarts → List CycleView → Type 0
-BothStandFor carry_of restart_of ring master r jobs carry restarts j =
-    PartsStandFor (carry_of ring.link) (restart_of ring.link) ring.cycle ring.rate ring.addresses.items ring.drives.items master r jobs carry restarts j
-
 -- After a cycle the ring stands for one cycle more, whose record it keeps.
-pub record AfterTurn {L : Type 0} (carry_of : L → Carry) (restart_of : L → Restarts) (old : Ring L) (before : AnyMaster) (new : Ring L) (after : AnyMaster) : Type 0 where
-  pub stands_for : (r : RingView) (jobs : List Job) (carry : Carry) (restarts : Restarts) (j : List CycleView)
-      → BothStandFor carry_of restart_of old before r jobs carry restarts j
-      → BothStandFor carry_of restart_of new after r jobs carry restarts (newest new ∷ j)
-  pub count : cycles_made new ≤ cycles_made old + 1
-  pub drives : drives_in new ≡ drives_in old
-
 pub record AfterCycle {L : Type 0} (carry_of : L → Carry) (restart_of : L → Restarts) (old new : Ring L) : Type 0 where
   pub stands_for : (r : RingView) (jobs : List Job) (carry : Carry) (restarts : Restarts) (j : List CycleView)
       → RingStandsFor carry_of restart_of old r jobs carry restarts j

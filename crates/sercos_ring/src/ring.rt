@@ -1,5 +1,5 @@
 // The ring.
-ghost use Rattle.std.specs.Prelude.{◌≡◌, ℕ, ◌+◌, ◌^◌, ◌<◌, ◌≤◌, ◌==◌, nat_le, ◌&&◌, true, IfOk, Bool, List, [], ◌∷◌, Option, Some, None, if◌then◌else◌, length, vec_len};
+ghost use Rattle.std.specs.Prelude.{◌≡◌, ℕ, ◌+◌, ◌^◌, ◌<◌, ◌≤◌, true, IfOk, Bool, List, [], ◌∷◌, Option, Some, None, if◌then◌else◌, is_some, length, vec_len};
 ghost use Rattle.std.specs.Borrow.{sem};
 ghost use Rattle.std.specs.List.{All};
 ghost use Rattle.sercos_step.specs.Steps.{IsRequest};
@@ -38,16 +38,19 @@ use std::alloc::{AllocError, Global};
 
 /// A ring: its drives, its master, and the links between them.
 #[derive(Drop)]
-pub struct Ring<L: BitLink> {
+pub struct Ring<L: Drop> {
     link: L,
     drives: Vec<Drive>,
     addresses: ArrayVec<u8, 64>,
-    // there between the cycles
+    // there, but while a cycle is made
     master: Option<AnyMaster>,
     rate: u8,
     cycle: u32,
     made: Box<CycleRecord>,
     desk: Box<Desk>,
+    ghost few: { length drives.items ≤ 64 },
+    ghost addressed: { length addresses.items ≡ length drives.items },
+    ghost there: { is_some master ≡ true },
 }
 
 // Where a telegram is worked on: its content, its frame, and what arrives of it.
@@ -207,7 +210,7 @@ impl<L: BitLink> Ring<L> {
     ghost use Rattle.std.specs.Borrow.{follows_so};
     ghost use mathlib.Core.Option.{none};
     ghost use Rattle.sercos_ring.specs.contracts.ring.Ring.{the_row};
-    ghost use Rattle.sercos_ring.specs.Kept.{AfterCycle, AfterTurn, BearsOf, IsNextOf, KeepsAllOf, RecoversOf, RingStandsFor, StartsUpOf, StationsOf, cycles_made, drives_in, newest};
+    ghost use Rattle.sercos_ring.specs.Kept.{AfterCycle, BearsOf, IsNextOf, KeepsAllOf, RecoversOf, RingStandsFor, StartsUpOf, StationsOf, cycles_made, drives_in, newest};
 
     /// Opens a ring of a valid setup that has made no cycle, over a link, with at most 4,096 requests, each of an element that a
     /// transfer takes. A request to an address that no drive of the setup has is never begun. `AllocError` is returned if memory
@@ -241,21 +244,13 @@ impl<L: BitLink> Ring<L> {
         })
     }
 
-    // Returns whether it has 1 to 64 drives, each with its address.
-    fn is_whole(&self) -> bool
-        ensures { result ≡ (nat_le (length self.now.drives.items) 64 && (length self.now.addresses.items == length self.now.drives.items)) }
-    {
-        self.drives.len() <= 64 && self.addresses.len() == self.drives.len()
-    }
-
-    // A cycle, with the master taken out.
-    fn run(&mut self, master: AnyMaster) -> AnyMaster
+    // A cycle.
+    fn go(&mut self)
         requires room { cycles_made self.old < 2 ^ 31 }
-        ensures after { AfterTurn L.carry L.restart self.old master self.new result }
+        ensures after { AfterCycle L.carry L.restart self.old self.new }
+        ensures next { IsNextOf L.carry L.restart self.old (newest self.new) }
     {
-        if !self.is_whole() {
-            return master;
-        }
+        let master = self.master.take().unwrap();
         let master = fill(
             &mut self.made,
             &mut self.link,
@@ -267,19 +262,7 @@ impl<L: BitLink> Ring<L> {
             &mut self.desk,
         );
         self.cycle += 1;
-        master
-    }
-
-    // A cycle.
-    fn go(&mut self)
-        requires room { cycles_made self.old < 2 ^ 31 }
-        ensures after { AfterCycle L.carry L.restart self.old self.new }
-        ensures next { IsNextOf L.carry L.restart self.old (newest self.new) }
-    {
-        if let Some(master) = self.master.take() {
-            let master = self.run(master);
-            self.master = Some(master);
-        }
+        self.master = Some(master);
     }
 
     /// Makes the next cycle, and lends its record: the telegrams, the moves of the drives, what the master reports, and the number of
