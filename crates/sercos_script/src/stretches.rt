@@ -25,12 +25,12 @@ pub(crate) fn nothing_known() -> [u32; STRETCHES]
 }
 
 // The number of stretches in a group: their numbers are looked at together.
-const GROUP: usize = 8;
+const GROUP: usize = 16;
 
 // Returns how many groups of stretches a script of this length has.
 fn group_count(len: usize) -> usize
-    ensures bound { result ≤ 64 }
-    ensures all { len ≤ edge len (8 * result) }
+    ensures bound { result ≤ 32 }
+    ensures all { len ≤ edge len (16 * result) }
 {
     len.div_ceil(STRETCH * GROUP).min(STRETCHES / GROUP)
 }
@@ -148,12 +148,12 @@ fn gather_group(
     soonest: &mut [u32],
     acting: &mut ArrayVec<Fault, ROOM>,
 ) -> bool
-    requires group { group < 64 }
+    requires group { group < 32 }
     requires len { length soonest.old ≡ 512 }
-    requires done { AreDone script.now cycle soonest.old (8 * group) acting.old.items }
+    requires done { AreDone script.now cycle soonest.old (16 * group) acting.old.items }
     ensures ahead { AreAhead script.now (cycle + 1) soonest.new }
     ensures len { length soonest.new ≡ 512 }
-    ensures done { result ≡ true → AreDone script.now cycle soonest.new (8 * group + 8) acting.new.items }
+    ensures done { result ≡ true → AreDone script.now cycle soonest.new (16 * group + 16) acting.new.items }
 {
     let first = GROUP * group;
     if is_before_all(cycle, &soonest[first..first + GROUP]) {

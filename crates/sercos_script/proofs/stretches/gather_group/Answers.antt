@@ -22,5 +22,5 @@ returns-then-not-found-clause-ahead c =
 
 pub returns-then-is_before_all-clause-done : goal.returns-then-is_before_all-clause-done
 returns-then-is_before_all-clause-done c = λ yes.
-    let eight : 8 * c.args.group + 8 - 8 * c.args.group ≡ 8 = omega arith in
-    done-skipped_all 8 c.requires.done (early_part c.args.cycle (8 * c.args.group) 8 c.args.soonest.now (omega arith) (rw eight at c.is_before_all.ensures c.if-is_before_all.true))
+    let long : 16 * c.args.group + 16 - 16 * c.args.group ≡ 16 = omega arith in
+    done-skipped_all 16 c.requires.done (early_part c.args.cycle (16 * c.args.group) 16 c.args.soonest.now (omega arith) (rw long at c.is_before_all.ensures c.if-is_before_all.true))
