@@ -5,6 +5,7 @@ pub mod Losses
 pub mod NoFallSo
 pub mod Borne
 pub mod CostsSparse
+pub mod CostsShared
 pub mod BearsSparse
 pub mod Tolerates
 pub mod Worked
