@@ -6,6 +6,7 @@ pub mod NoFallSo
 pub mod Borne
 pub mod CostsSparse
 pub mod CostsShared
+pub mod EarlySparse
 pub mod BearsSparse
 pub mod Tolerates
 pub mod Worked

@@ -2,3 +2,4 @@
 pub mod Sparse
 pub mod Bears
 pub mod Losses
+pub mod Early

@@ -1,6 +1,7 @@
 // The laws of what a ring bears while faults go on.
 ghost use Rattle.std.specs.Prelude.{ℕ};
 ghost use Rattle.sercos_law_run.specs.Tolerance.Bears.{BearsSparse, Tolerates};
+ghost use Rattle.sercos_law_run.specs.Tolerance.Early.{EarlySparse};
 ghost use Rattle.sercos_law_run.specs.Tolerance.Losses.{CostsShared, CostsSparse, TakesTimeAndLosses};
 ghost use Rattle.sercos_law_run.specs.Tolerance.Sparse.{CalmIsSparse, OneOfThreeIsSparse};
 
@@ -26,9 +27,10 @@ use sercos_service_drive::writes_law;
 /// at most that long after the cycle in which it was begun, and first sent. So it is in each cycle of a run, from its opening on or since one
 /// whose record has a fall. The cycles of such an epoch in which a step to a drive is open are at most the cost of the requests to it, and
 /// what the disturbed cycles cost: two cycles each in phase 2, one in 3 and 4. Up to phase 2, where one channel works after the other, a
-/// disturbed cycle counts once for all of them. Underneath, in any cycles without a fall and without a restart of the master, a step costs
-/// busy time and one, and each cycle in which its record or its answer is lost one more. Cycles in which nothing is disturbed are sparse,
-/// and those of which at most one of any three in a row is.
+/// disturbed cycle counts once for all of them. Phases 0 and 1 last for eleven cycles and one for each drive at most, and ten for each cycle
+/// of phase 0 in which the own MST was lost, and two for each disturbed one of phase 1. Underneath, in any cycles without a fall and without
+/// a restart of the master, a step costs busy time and one, and each cycle in which its record or its answer is lost one more. Cycles in
+/// which nothing is disturbed are sparse, and those of which at most one of any three in a row is.
 pub fn tolerance_law()
     ensures calm { CalmIsSparse }
     ensures spaced { OneOfThreeIsSparse }
@@ -37,6 +39,7 @@ pub fn tolerance_law()
     ensures losses { (busy : ℕ) → TakesTimeAndLosses busy }
     ensures costs { CostsSparse }
     ensures shared { CostsShared }
+    ensures early { EarlySparse }
 {
     agenda_law();
     report_law();

@@ -143,11 +143,13 @@ module _ (laws : Laws) (more : MoreLaws) (turn : WorkInTurn) (comes_up : (busy :
           | inl low ↦ elim (phase_after laws more turn r jobs carry restarts opened t u j run clear was.stays
               (sparse.goes_on 0 (omega arith)) k below) [
                 | inr up ↦ calm_more t (u ∷ j) off (is.rested_kept off k below
-                    (rests laws more turn comes_up to_zero goes counts r jobs carry restarts opened t u j run clear was sparse k below up)) lost
+                    (rests laws more turn comes_up to_zero goes counts r jobs carry restarts opened t u j run clear was sparse k below up))
+                    lost
                     dist
                     (omega (arith, le))
                 | inl same ↦ (
-                    let most = at_most (is_lost (view_of r jobs carry restarts k t (u ∷ j)) (views_of r jobs carry restarts k (u ∷ j))) lost in
+                    let most = at_most (is_lost (view_of r jobs carry restarts k t (u ∷ j)) (views_of r jobs carry restarts k (u ∷ j))) lost
+                    in
                     let (a, b) = two_for u.phase (omega (arith, same, two, low)) in
                     let (c, d) = off_so t (u ∷ j) off in
                     let (e, f) = on_so u j disturbed in omega (arith, most, a, b, c, d, e, f, le))

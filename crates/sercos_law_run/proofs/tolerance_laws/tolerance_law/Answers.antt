@@ -5,6 +5,7 @@ use Rattle.sercos_law_run.specs.Tolerance.Bears.{BearsSparse}
 use Rattle.sercos_law_run.proofs.Tolerance.BearsSparse.{bears_sparse, calm_is_sparse}
 use Rattle.sercos_law_run.proofs.Tolerance.CostsShared.{costs_shared}
 use Rattle.sercos_law_run.proofs.Tolerance.CostsSparse.{costs_sparse}
+use Rattle.sercos_law_run.proofs.Tolerance.EarlySparse.{early_sparse}
 use Rattle.sercos_law_run.proofs.Tolerance.Losses.{takes_time_and_losses}
 use Rattle.sercos_law_run.proofs.Tolerance.Tolerates.{one_of_three, tolerates}
 use Rattle.sercos_law_run.proofs.tolerance_laws.tolerance_law.Goals as goal
@@ -96,4 +97,7 @@ returns c =
           costs_shared laws more c.agenda_law.ensures.turn c.run_law.ensures.up c.run_law.ensures.zero c.calls_law.ensures.stays
           c.calls_law.ensures.before r jobs carry restarts opened c.cost_law.ensures.in_cost c.cost_law.ensures.timed t cycles before run
           clear starts sparse low longest listed;
+      early = λ r jobs carry restarts t cycles before opened run clear starts sparse low.
+          early_sparse laws more c.agenda_law.ensures.turn c.run_law.ensures.up c.run_law.ensures.zero c.calls_law.ensures.stays
+          c.calls_law.ensures.before r jobs carry restarts opened t cycles before run clear starts sparse low;
     }
