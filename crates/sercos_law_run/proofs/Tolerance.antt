@@ -7,6 +7,7 @@ pub mod Borne
 pub mod CostsSparse
 pub mod CostsShared
 pub mod EarlySparse
+pub mod TwoLasts
 pub mod BearsSparse
 pub mod Tolerates
 pub mod Worked

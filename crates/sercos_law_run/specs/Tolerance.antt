@@ -3,3 +3,4 @@ pub mod Sparse
 pub mod Bears
 pub mod Losses
 pub mod Early
+pub mod TwoLasts

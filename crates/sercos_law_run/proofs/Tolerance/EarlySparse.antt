@@ -133,11 +133,11 @@ module _ (laws : Laws) (more : MoreLaws) (turn : WorkInTurn) (comes_up : (busy :
 
   -- A CYCLE that is borne
   module _ (t : CycleView) (j : List CycleView) (run : IsRun r jobs carry restarts (t ∷ j)) (is : Borne t j) where
-    start_is : at_start r jobs carry restarts j ≡ back j
+    pub start_is : at_start r jobs carry restarts j ≡ back j
     start_is = started r jobs (restarts (length j) 0) (master_calls r carry restarts j)
         ∙ ap (λ (b : Bool). begun_cycle b (back j)) is.goes_on
 
-    phase_is : t.phase ≡ (back j).now.phase
+    pub phase_is : t.phase ≡ (back j).now.phase
     phase_is = run.1.phase ∙ ap (λ (p : Past). p.now.phase) start_is
 
     turns_before : (now t j).turns ≡ (back j).turns
@@ -147,7 +147,7 @@ module _ (laws : Laws) (more : MoreLaws) (turn : WorkInTurn) (comes_up : (busy :
     turns_after = ap (λ (p : Past). p.turns) (end_kept (known_of r) (now t j) is.stays)
         ∙ ap (λ (l : List Turn). (now t j).now ∷ l) turns_before
 
-    phase_next : (back (t ∷ j)).now.phase ≡ (if is_done (known_of r) (now t j) then t.phase + 1 else t.phase)
+    pub phase_next : (back (t ∷ j)).now.phase ≡ (if is_done (known_of r) (now t j) then t.phase + 1 else t.phase)
     phase_next = phase_after laws more comes_up r jobs carry restarts opened t j run is.stays
 
     whole_is : (now t j).now.whole ≡ (behind_mst r jobs carry restarts t.sent j).now.whole
