@@ -5,6 +5,9 @@ pub mod Losses
 pub mod NoFallSo
 pub mod Borne
 pub mod CostsSparse
+pub mod CostsShared
+pub mod EarlySparse
+pub mod TwoLasts
 pub mod BearsSparse
 pub mod Tolerates
 pub mod Worked

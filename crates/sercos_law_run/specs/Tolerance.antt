@@ -2,3 +2,5 @@
 pub mod Sparse
 pub mod Bears
 pub mod Losses
+pub mod Early
+pub mod TwoLasts

@@ -1,8 +1,10 @@
 // The laws of what a ring bears while faults go on.
 ghost use Rattle.std.specs.Prelude.{ℕ};
 ghost use Rattle.sercos_law_run.specs.Tolerance.Bears.{BearsSparse, Tolerates};
-ghost use Rattle.sercos_law_run.specs.Tolerance.Losses.{CostsSparse, TakesTimeAndLosses};
+ghost use Rattle.sercos_law_run.specs.Tolerance.Early.{EarlySparse};
+ghost use Rattle.sercos_law_run.specs.Tolerance.Losses.{CostsShared, CostsSparse, TakesTimeAndLosses};
 ghost use Rattle.sercos_law_run.specs.Tolerance.Sparse.{CalmIsSparse, OneOfThreeIsSparse};
+ghost use Rattle.sercos_law_run.specs.Tolerance.TwoLasts.{TwoSparse};
 
 use crate::agenda_laws::{agenda_law, report_law, stop_law};
 use crate::start_laws::{
@@ -12,7 +14,9 @@ use crate::typed_laws::typed_law;
 use sercos_block::{ring_law, store_law};
 use sercos_drive::drive_law;
 use sercos_hdlc::framing_law;
-use sercos_law_channel::{calls_law, cost_law, exact_law, run_law, transfer_law, values_law};
+use sercos_law_channel::{
+    calls_law, cost_law, exact_law, jobs_law, run_law, transfer_law, values_law,
+};
 use sercos_master::master_law;
 use sercos_service_drive::writes_law;
 
@@ -25,9 +29,12 @@ use sercos_service_drive::writes_law;
 /// MST of it. No step is open for longer than the busy time of its drive and four cycles, or three in phases 3 and 4, and its answer arrives
 /// at most that long after the cycle in which it was begun, and first sent. So it is in each cycle of a run, from its opening on or since one
 /// whose record has a fall. The cycles of such an epoch in which a step to a drive is open are at most the cost of the requests to it, and
-/// what the disturbed cycles cost: two cycles each in phases 1 and 2, one in 3 and 4. Underneath, in any cycles without a fall and without a
-/// restart of the master, a step costs busy time and one, and each cycle in which its record or its answer is lost one more. Cycles in
-/// which nothing is disturbed are sparse, and those of which at most one of any three in a row is.
+/// what the disturbed cycles cost: two cycles each in phase 2, one in 3 and 4. Up to phase 2, where one channel works after the other, a
+/// disturbed cycle counts once for all of them. Phases 0 and 1 last for eleven cycles and one for each drive at most, and ten for each cycle
+/// of phase 0 in which the own MST was lost, and two for each disturbed one of phase 1. Phase 2 lasts for the reads and the writes of each
+/// drive at most, and two cycles for each disturbed one, unless there is a stop. Underneath, in any cycles without a fall and without a
+/// restart of the master, a step costs busy time and one, and each cycle in which its record or its answer is lost one more. Cycles in which
+/// nothing is disturbed are sparse, and those of which at most one of any three in a row is.
 pub fn tolerance_law()
     ensures calm { CalmIsSparse }
     ensures spaced { OneOfThreeIsSparse }
@@ -35,6 +42,9 @@ pub fn tolerance_law()
     ensures tolerates { Tolerates }
     ensures losses { (busy : ℕ) → TakesTimeAndLosses busy }
     ensures costs { CostsSparse }
+    ensures shared { CostsShared }
+    ensures early { EarlySparse }
+    ensures two { TwoSparse }
 {
     agenda_law();
     report_law();
@@ -58,4 +68,5 @@ pub fn tolerance_law()
     typed_law();
     calls_law();
     cost_law();
+    jobs_law();
 }

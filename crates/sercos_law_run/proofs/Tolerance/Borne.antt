@@ -51,7 +51,7 @@ use Rattle.sercos_law_run.proofs.Tolerance.FirstCycles.{never_first}
 use Rattle.sercos_law_run.proofs.Tolerance.Losses.{early_kept, none_lost_in}
 use Rattle.sercos_law_run.proofs.Tolerance.NoFallSo.{at_second, count_next, counted, limit_so, mst_second, none_falls}
 use Rattle.sercos_law_run.proofs.Tolerance.Standing.{hears_whole, lost_so, stays_same, takes_whole, took_mdt, zero_up}
-use Rattle.sercos_law_run.proofs.Tolerance.Steps.{IsYoung, older, oldest, rested, young_both, young_lost, young_taken}
+use Rattle.sercos_law_run.proofs.Tolerance.Steps.{IsYoung, never_some, older, oldest, rested, young_both, young_lost, young_taken}
 
 -- the phase rises if the one above is commanded next
 rises_so : (rises : Bool) (n : ℕ) → (if rises then n + 1 else n) ≡ n + 1 → rises ≡ true
@@ -120,6 +120,8 @@ module _ (laws : Laws) (more : MoreLaws) (turn : WorkInTurn) (comes_up : (busy :
     pub asked : (k : ℕ) → k < length r.drives → IsAsked r carry restarts t j k (now t j)
     pub kept : IsUndisturbed r carry restarts t j → (3 ≤ t.phase) ⊎ AreCalm r carry restarts 1 j → (k : ℕ) → k < length r.drives
         → is_lost (view k t j) (views k j) ≡ false
+    pub rested_kept : IsUndisturbed r carry restarts t j → (k : ℕ) → k < length r.drives → open_in (epoch_begun (views k j)) ≡ None
+        → is_lost (view k t j) (views k j) ≡ false
 
   is_run : (j : List CycleView) → IsRun r jobs carry restarts j → IsClear j → (k : ℕ) → k < length r.drives
       → IsViewRun (busy_of k) (views k j)
@@ -187,6 +189,8 @@ module _ (laws : Laws) (more : MoreLaws) (turn : WorkInTurn) (comes_up : (busy :
           (ap open_in (idle_so t j run clear k below (let zero_now = zero_is in omega (arith, zero_now)))));
       kept = λ calm before k below. early_kept (busy_of k) (view k t j) (views k j) (is_run (t ∷ j) run clear k below)
           (let zero_now = zero_is in omega (arith, zero_now));
+      rested_kept = λ calm k below none. early_kept (busy_of k) (view k t j) (views k j) (is_run (t ∷ j) run clear k below)
+          (let zero_now = zero_is in omega (arith, zero_now));
       asked = λ k below. record {
         any = λ one. let zero_now = now_zero in absurd (omega (arith, one, zero_now));
         lost = λ disturbed one. let zero_now = now_zero in absurd (omega (arith, one, zero_now));
@@ -234,7 +238,7 @@ module _ (laws : Laws) (more : MoreLaws) (turn : WorkInTurn) (comes_up : (busy :
           (if (view k u j).rises then u.phase + 1 else u.phase) (u_stays k)) ∙ sym c.1 ∙ sym up)
     ]
 
-    rests : (k : ℕ) → k < length r.drives → u.phase + 1 ≡ t.phase → open_in (epoch_begun (views k (u ∷ j))) ≡ None
+    pub rests : (k : ℕ) → k < length r.drives → u.phase + 1 ≡ t.phase → open_in (epoch_begun (views k (u ∷ j))) ≡ None
     rests k below up = ap open_in (cond-false (view k u j).falls [] (begun_in (view k u j) (views k j)) (u_stays k))
         ∙ (is_run (u ∷ j) run.0 clear.0 k below).1.rests (rises k below up)
 
@@ -307,6 +311,11 @@ module _ (laws : Laws) (more : MoreLaws) (turn : WorkInTurn) (comes_up : (busy :
       kept_now : IsUndisturbed r carry restarts t (u ∷ j) → (3 ≤ t.phase) ⊎ AreCalm r carry restarts 1 (u ∷ j)
           → is_lost (view k t (u ∷ j)) (views k (u ∷ j)) ≡ false
       kept_now calm before = none_lost_in (view k t (u ∷ j)) (views k (u ∷ j)) goes_now (hears calm before) (takes calm)
+
+      rested_now : IsUndisturbed r carry restarts t (u ∷ j) → open_in (epoch_begun (views k (u ∷ j))) ≡ None
+          → is_lost (view k t (u ∷ j)) (views k (u ∷ j)) ≡ false
+      rested_now calm none = none_lost_in (view k t (u ∷ j)) (views k (u ∷ j)) goes_now
+          (λ some. absurd (never_some (open_in (epoch_begun (views k (u ∷ j)))) none some)) (takes calm)
 
       before_lost : IsDisturbed r carry restarts t (u ∷ j) → 2 ≤ t.phase → IsYoung (busy_of k) 0 0 (views k (u ∷ j))
       before_lost disturbed two = elim (cases_lt t.phase 3) [
@@ -451,6 +460,7 @@ module _ (laws : Laws) (more : MoreLaws) (turn : WorkInTurn) (comes_up : (busy :
       aged = λ k below. aged_after t (u ∷ j) k stays_now (aged_now k below);
       asked = asked_now;
       kept = λ calm before k below. kept_now k below calm before;
+      rested_kept = λ calm k below none. rested_now k below calm none;
     }
 
     -- where phase 3 or 4 is commanded, no step that was open before is older than this

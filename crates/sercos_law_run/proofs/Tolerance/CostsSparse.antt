@@ -1,7 +1,7 @@
 -- What sparse faults cost: the cycles with an open step to a drive, by the cost of its requests and the disturbed cycles.
 use Rattle.std.proofs.Common.{◌≡◌, inl, inr, ℕ, ◌+◌, ◌*◌, ◌<◌, ◌≤◌, Bool, true, false, List, [], ◌∷◌, ◌++◌, length, Option, refl, sym, ap, ◌∙◌, subst, arith, if◌then◌else◌}
 use Rattle.std.specs.Prelude.{◌==◌, nat_le, is_some}
-use Rattle.std.proofs.lemmas.Bool.{cases_eq, cases_lt, cond-false, cond-true}
+use Rattle.std.proofs.lemmas.Bool.{cases_lt, cond-false, cond-true}
 use Rattle.std.proofs.lemmas.Bool.Decides.{nat_tests}
 use Rattle.sercos_step.specs.declared.request.Job.{Job}
 use Rattle.sercos_block.specs.Stores.{store_of}
@@ -34,32 +34,28 @@ use Rattle.sercos_law_run.proofs.Undisturbed.PassedCycles.{views_split}
 use Rattle.sercos_law_run.proofs.Undisturbed.PassedRuns.{commands_so}
 use Rattle.sercos_law_run.proofs.Recovery.LateDown.{phase_after}
 use Rattle.sercos_law_run.specs.Tolerance.Losses.{GoesOn, cycles_for, disturbances, is_lost, lost_since}
-use Rattle.sercos_law_run.specs.Tolerance.Sparse.{AreSparse}
-use Rattle.sercos_law_run.proofs.Tolerance.Borne.{IsBorne, all_borne, calm_or_not, zero_is}
+use Rattle.sercos_law_run.specs.Tolerance.Sparse.{AreSparse, IsSparse}
+use Rattle.sercos_law_run.proofs.Tolerance.Borne.{IsBorne, all_borne, calm_or_not, rests, zero_is}
 use Rattle.sercos_law_run.proofs.Tolerance.Losses.{early_kept, takes_time_and_losses}
 
 -- What a disturbed cycle costs, and what of it is left for the next.
-abbrev spare_for : ℕ → ℕ
-spare_for phase = if phase == 0 then 0 else (if nat_le phase 2 then 1 else 0)
+abbrev pub spare_for : ℕ → ℕ
+spare_for phase = if phase == 2 then 1 else 0
 
-zero_for : (n : ℕ) → n ≡ 0 → (cycles_for n ≡ 0) × (spare_for n ≡ 0)
-zero_for n is = (ap cycles_for is, ap spare_for is)
+pub early_for : (n : ℕ) → n ≤ 1 → (cycles_for n ≡ 0) × (spare_for n ≡ 0)
+early_for n low =
+    let is : nat_le n 1 ≡ true = grind (arith, nat_tests, low) in
+    let other : (n == 2) ≡ false = grind (arith, nat_tests, low) in
+    (cond-true (nat_le n 1) 0 (if n == 2 then 2 else 1) is, cond-false (n == 2) 1 0 other)
 
-early_for : (n : ℕ) → 1 ≤ n → n ≤ 2 → (cycles_for n ≡ 2) × (spare_for n ≡ 1)
-early_for n some low =
-    let other : (n == 0) ≡ false = grind (arith, nat_tests, some) in
-    let is : nat_le n 2 ≡ true = grind (arith, nat_tests, low) in (
-      cond-false (n == 0) 0 (if nat_le n 2 then 2 else 1) other ∙ cond-true (nat_le n 2) 2 1 is,
-      cond-false (n == 0) 0 (if nat_le n 2 then 1 else 0) other ∙ cond-true (nat_le n 2) 1 0 is,
-    )
+pub two_for : (n : ℕ) → n ≡ 2 → (cycles_for n ≡ 2) × (spare_for n ≡ 1)
+two_for n is = (ap cycles_for is, ap spare_for is)
 
 late_for : (n : ℕ) → 3 ≤ n → (cycles_for n ≡ 1) × (spare_for n ≡ 0)
 late_for n high =
-    let other : (n == 0) ≡ false = grind (arith, nat_tests, high) in
-    let is : nat_le n 2 ≡ false = grind (arith, nat_tests, high) in (
-      cond-false (n == 0) 0 (if nat_le n 2 then 2 else 1) other ∙ cond-false (nat_le n 2) 2 1 is,
-      cond-false (n == 0) 0 (if nat_le n 2 then 1 else 0) other ∙ cond-false (nat_le n 2) 1 0 is,
-    )
+    let off : nat_le n 1 ≡ false = grind (arith, nat_tests, high) in
+    let other : (n == 2) ≡ false = grind (arith, nat_tests, high) in
+    (cond-false (nat_le n 1) 0 (if n == 2 then 2 else 1) off ∙ cond-false (n == 2) 2 1 other, cond-false (n == 2) 1 0 other)
 
 at_most : (b : Bool) (n : ℕ) → one_more b n ≤ n + 1
 at_most true n = omega arith
@@ -79,13 +75,13 @@ module _ (laws : Laws) (more : MoreLaws) (turn : WorkInTurn) (comes_up : (busy :
       → IsViewRun (drive_at r k).busy (views_of r jobs carry restarts k j)
   is_run j run clear k below = (all_stand laws more r jobs carry restarts opened j run clear k below).sees.run
 
-  abbrev spare : CycleView → List CycleView → ℕ
+  abbrev pub spare : CycleView → List CycleView → ℕ
   spare t j = if is_disturbed_in r carry restarts (length j) t.sent then spare_for t.phase else 0
 
-  abbrev costs : CycleView → List CycleView → ℕ
+  abbrev pub costs : CycleView → List CycleView → ℕ
   costs t j = if is_disturbed_in r carry restarts (length j) t.sent then cycles_for t.phase else 0
 
-  on_so : (t : CycleView) (j : List CycleView) → IsDisturbed r carry restarts t j
+  pub on_so : (t : CycleView) (j : List CycleView) → IsDisturbed r carry restarts t j
       → (costs t j ≡ cycles_for t.phase) × (spare t j ≡ spare_for t.phase)
   on_so t j on = (
     cond-true (is_disturbed_in r carry restarts (length j) t.sent) (cycles_for t.phase) 0 on,
@@ -93,7 +89,7 @@ module _ (laws : Laws) (more : MoreLaws) (turn : WorkInTurn) (comes_up : (busy :
         (is_disturbed_in r carry restarts (length j) t.sent) (spare_for t.phase) 0 on,
   )
 
-  off_so : (t : CycleView) (j : List CycleView) → IsUndisturbed r carry restarts t j → (costs t j ≡ 0) × (spare t j ≡ 0)
+  pub off_so : (t : CycleView) (j : List CycleView) → IsUndisturbed r carry restarts t j → (costs t j ≡ 0) × (spare t j ≡ 0)
   off_so t j off = (
     cond-false (is_disturbed_in r carry restarts (length j) t.sent) (cycles_for t.phase) 0 off,
     cond-false
@@ -105,17 +101,17 @@ module _ (laws : Laws) (more : MoreLaws) (turn : WorkInTurn) (comes_up : (busy :
     disturbed_more : (t : CycleView) (j : List CycleView) → IsRun r jobs carry restarts (t ∷ j) → IsClear (t ∷ j)
         → IsDisturbed r carry restarts t j → (lost dist : ℕ) → lost ≤ dist
         → one_more (is_lost (view_of r jobs carry restarts k t j) (views_of r jobs carry restarts k j)) lost + spare t j ≤ dist + costs t j
-    disturbed_more t j run clear on lost dist le = elim (cases_eq t.phase 0) [
-      | inl at_zero ↦ (
+    disturbed_more t j run clear on lost dist le = elim (cases_lt t.phase 2) [
+      | inl early ↦ (
           let same = none_more (is_lost (view_of r jobs carry restarts k t j) (views_of r jobs carry restarts k j)) lost
           (early_kept (drive_at r k).busy (view_of r jobs carry restarts k t j) (views_of r jobs carry restarts k j)
-          (is_run (t ∷ j) run clear k below) (omega (arith, at_zero))) in
-          let (a, b) = zero_for t.phase at_zero in
+          (is_run (t ∷ j) run clear k below) (omega (arith, early))) in
+          let (a, b) = early_for t.phase (omega (arith, early)) in
           let (c, d) = on_so t j on in omega (arith, same, a, b, c, d, le))
       | inr later ↦ elim (cases_lt t.phase 3) [
         | inl low ↦ (
             let most = at_most (is_lost (view_of r jobs carry restarts k t j) (views_of r jobs carry restarts k j)) lost in
-            let (a, b) = early_for t.phase (omega (arith, later)) (omega (arith, low)) in
+            let (a, b) = two_for t.phase (omega (arith, later, low)) in
             let (c, d) = on_so t j on in omega (arith, most, a, b, c, d, le))
         | inr high ↦ (
             let most = at_most (is_lost (view_of r jobs carry restarts k t j) (views_of r jobs carry restarts k j)) lost in
@@ -132,11 +128,11 @@ module _ (laws : Laws) (more : MoreLaws) (turn : WorkInTurn) (comes_up : (busy :
         let (c, d) = off_so t j off in omega (arith, same, c, d, le)
 
     calm_next : (t u : CycleView) (j : List CycleView) → IsRun r jobs carry restarts (t ∷ u ∷ j) → IsClear (t ∷ u ∷ j) → Borne u j
-        → restarts (length (u ∷ j)) 0 ≡ false → Borne t (u ∷ j) → IsUndisturbed r carry restarts t (u ∷ j)
+        → IsSparse r carry restarts t (u ∷ j) → Borne t (u ∷ j) → IsUndisturbed r carry restarts t (u ∷ j)
         → (lost dist : ℕ) → lost + spare u j ≤ dist
-        → one_more (is_lost (view_of r jobs carry restarts k t (u ∷ j)) (views_of r jobs carry restarts k (u ∷ j))) lost + spare t (u ∷ j) ≤
-        dist + costs t (u ∷ j)
-    calm_next t u j run clear was still is off lost dist le = elim (cases_lt t.phase 2) [
+        → one_more (is_lost (view_of r jobs carry restarts k t (u ∷ j)) (views_of r jobs carry restarts k (u ∷ j))) lost + spare t (u ∷ j)
+        ≤ dist + costs t (u ∷ j)
+    calm_next t u j run clear was sparse is off lost dist le = elim (cases_lt t.phase 2) [
       | inl early ↦ calm_more t (u ∷ j) off (early_kept (drive_at r k).busy (view_of r jobs carry restarts k t (u ∷ j))
           (views_of r jobs carry restarts k (u ∷ j)) (is_run (t ∷ u ∷ j) run clear k below) (omega (arith, early))) lost dist
           (omega (arith, le))
@@ -144,16 +140,20 @@ module _ (laws : Laws) (more : MoreLaws) (turn : WorkInTurn) (comes_up : (busy :
         | inr calm ↦ calm_more t (u ∷ j) off (is.kept off (inr (tt, calm)) k below) lost dist (omega (arith, le))
         | inl disturbed ↦ elim (cases_lt t.phase 3) [
           | inr high ↦ calm_more t (u ∷ j) off (is.kept off (inl (omega (arith, high))) k below) lost dist (omega (arith, le))
-          | inl low ↦ (
-              let most = at_most (is_lost (view_of r jobs carry restarts k t (u ∷ j)) (views_of r jobs carry restarts k (u ∷ j))) lost in
-              let before : (1 ≤ u.phase) × (u.phase ≤ 2) = elim (phase_after laws more turn r jobs carry restarts opened t u j run clear
-              was.stays still k below) [
-                | inl same ↦ (omega (arith, same, two), omega (arith, same, low))
-                | inr up ↦ (omega (arith, up, two), omega (arith, up, low))
-              ] in
-              let (a, b) = early_for u.phase before.0 before.1 in
-              let (c, d) = off_so t (u ∷ j) off in
-              let (e, f) = on_so u j disturbed in omega (arith, most, a, b, c, d, e, f, le))
+          | inl low ↦ elim (phase_after laws more turn r jobs carry restarts opened t u j run clear was.stays
+              (sparse.goes_on 0 (omega arith)) k below) [
+                | inr up ↦ calm_more t (u ∷ j) off (is.rested_kept off k below
+                    (rests laws more turn comes_up to_zero goes counts r jobs carry restarts opened t u j run clear was sparse k below up))
+                    lost
+                    dist
+                    (omega (arith, le))
+                | inl same ↦ (
+                    let most = at_most (is_lost (view_of r jobs carry restarts k t (u ∷ j)) (views_of r jobs carry restarts k (u ∷ j))) lost
+                    in
+                    let (a, b) = two_for u.phase (omega (arith, same, two, low)) in
+                    let (c, d) = off_so t (u ∷ j) off in
+                    let (e, f) = on_so u j disturbed in omega (arith, most, a, b, c, d, e, f, le))
+              ]
         ]
       ]
     ]
@@ -179,7 +179,7 @@ module _ (laws : Laws) (more : MoreLaws) (turn : WorkInTurn) (comes_up : (busy :
         (views_split r jobs carry restarts k (u ∷ cycles) before) (elim (calm_or_not r carry restarts t (u ∷ (cycles ++ before))) [
           | inl on ↦ disturbed_more t (u ∷ (cycles ++ before)) run clear on _
               _ (let le = lost_few u cycles before run.0 clear.0 starts sparse.0 in omega (arith, le))
-          | inr off ↦ calm_next t u (cycles ++ before) run clear was (sparse.1.goes_on 0 (omega arith)) is off _ _
+          | inr off ↦ calm_next t u (cycles ++ before) run clear was sparse.1 is off _ _
               (lost_few u cycles before run.0 clear.0 starts sparse.0)
         ])
       where
@@ -191,7 +191,7 @@ module _ (laws : Laws) (more : MoreLaws) (turn : WorkInTurn) (comes_up : (busy :
         is = all_borne laws more turn comes_up to_zero goes counts r jobs carry restarts opened t (u ∷ cycles) before run clear starts
             sparse
 
-    goes_since : (cycles before : List CycleView) → IsRun r jobs carry restarts (cycles ++ before) → IsClear (cycles ++ before)
+    pub goes_since : (cycles before : List CycleView) → IsRun r jobs carry restarts (cycles ++ before) → IsClear (cycles ++ before)
         → StartsEpoch r jobs carry restarts before → AreSparse r carry restarts cycles before
         → GoesOn (views_since r jobs carry restarts k cycles before)
     goes_since [] before run clear starts sparse = tt
@@ -200,7 +200,36 @@ module _ (laws : Laws) (more : MoreLaws) (turn : WorkInTurn) (comes_up : (busy :
         in
         (goes_since cycles before run.0 clear.0 starts sparse.0, ap (λ (o : Option Fall). is_some o) is.stays, is.goes_on)
 
-  -- THE CYCLES WITH AN OPEN STEP
+  -- THE CYCLES WITH AN OPEN STEP, by what was lost,
+  pub opens_so : ((busy : ℕ) → StaysInCost busy) → ComesTimed → (cycles before : List CycleView)
+      → IsRun r jobs carry restarts (cycles ++ before) → IsClear (cycles ++ before) → StartsEpoch r jobs carry restarts before
+      → AreSparse r carry restarts cycles before → (k : ℕ) (longest : ℕ → ℕ) → k < length r.drives
+      → AreListed longest (views_of r jobs carry restarts k (cycles ++ before))
+      → open_since (views_since r jobs carry restarts k cycles before) (views_of r jobs carry restarts k before)
+      ≤ cost_in (cost_of (drive_at r k).busy (drive_at r k).command longest (store_of (drive_at r k)))
+      (epoch_begun (views_of r jobs carry restarts k (cycles ++ before)))
+      + lost_since (views_since r jobs carry restarts k cycles before) (views_of r jobs carry restarts k before)
+  opens_so in_cost timed cycles before run clear starts sparse k longest below listed =
+      let split = views_split r jobs carry restarts k cycles before in
+      let stands = all_stand laws more r jobs carry restarts opened (cycles ++ before) run clear k below in
+      let follow = (commands_so laws more r jobs carry restarts opened (cycles ++ before) run clear k below).follow in
+      let in_time = timed (drive_at r k).command (views_of r jobs carry restarts k (cycles ++ before))
+      (are_carried (drive_at r k).command (first_commands r k) refl refl (views_of r jobs carry restarts k (cycles ++ before)) follow) in
+      let cost = in_cost (drive_at r k).busy (drive_at r k).command longest (store_of (drive_at r k))
+      (views_of r jobs carry restarts k (cycles ++ before))
+      (small laws r jobs carry restarts opened (first_store laws more r jobs carry restarts opened) k below) stands.sees.run
+      stands.sound in_time listed in
+      let time = subst (λ (l : List View).
+      open_since (views_since r jobs carry restarts k cycles before) (views_of r jobs carry restarts k before)
+      + ((drive_at r k).busy + 1) * length (answers_in (epoch_begun (views_of r jobs carry restarts k before)))
+      ≤ ((drive_at r k).busy + 1) * length (epoch_log l)
+      + lost_since (views_since r jobs carry restarts k cycles before) (views_of r jobs carry restarts k before)) (sym split)
+      (takes_time_and_losses (drive_at r k).busy (views_since r jobs carry restarts k cycles before)
+      (views_of r jobs carry restarts k before) (runs_split laws more r jobs carry restarts opened cycles before run clear k below)
+      (goes_since k below cycles before run clear starts sparse)) in
+      omega (arith, cost, time)
+
+  -- and by the disturbed cycles
   pub costs_sparse : ((busy : ℕ) → StaysInCost busy) → ComesTimed → (cycles before : List CycleView)
       → IsRun r jobs carry restarts (cycles ++ before) → IsClear (cycles ++ before) → StartsEpoch r jobs carry restarts before
       → AreSparse r carry restarts cycles before → (k : ℕ) (longest : ℕ → ℕ) → k < length r.drives
@@ -209,29 +238,12 @@ module _ (laws : Laws) (more : MoreLaws) (turn : WorkInTurn) (comes_up : (busy :
       ≤ cost_in (cost_of (drive_at r k).busy (drive_at r k).command longest (store_of (drive_at r k)))
       (epoch_begun (views_of r jobs carry restarts k (cycles ++ before))) + disturbances r carry restarts cycles before
   costs_sparse in_cost timed cycles before run clear starts sparse k longest below listed =
-      let split = views_split r jobs carry restarts k cycles before in
-      let stands = all_stand laws more r jobs carry restarts opened (cycles ++ before) run clear k below in
-      let follow = (commands_so laws more r jobs carry restarts opened (cycles ++ before) run clear k below).follow in
-      let in_time = timed (drive_at r k).command (views_of r jobs carry restarts k (cycles ++ before))
-      (are_carried (drive_at r k).command (first_commands r k) refl refl (views_of r jobs carry restarts k (cycles ++ before)) follow)
-      in
-      let cost = in_cost (drive_at r k).busy (drive_at r k).command longest (store_of (drive_at r k))
-      (views_of r jobs carry restarts k (cycles ++ before))
-      (small laws r jobs carry restarts opened (first_store laws more r jobs carry restarts opened) k below) stands.sees.run stands.sound
-      in_time listed in
-      let time = subst (λ (l : List View). open_since (views_since r jobs carry restarts k cycles before)
-      (views_of r jobs carry restarts k before) + ((drive_at r k).busy + 1) * length
-      (answers_in (epoch_begun (views_of r jobs carry restarts k before)))
-      ≤ ((drive_at r k).busy + 1) * length (epoch_log l) + lost_since (views_since r jobs carry restarts k cycles before)
-      (views_of r jobs carry restarts k before)) (sym split)
-      (takes_time_and_losses (drive_at r k).busy (views_since r jobs carry restarts k cycles before)
-      (views_of r jobs carry restarts k before) (runs_split laws more r jobs carry restarts opened cycles before run clear k below)
-      (goes_since k below cycles before run clear starts sparse)) in
-      let lost = lost_in cycles run clear sparse in omega (arith, cost, time, lost)
+      let most = opens_so in_cost timed cycles before run clear starts sparse k longest below listed in
+      let lost = lost_in cycles run clear sparse in omega (arith, most, lost)
     where
       lost_in : (l : List CycleView) → IsRun r jobs carry restarts (l ++ before) → IsClear (l ++ before)
           → AreSparse r carry restarts l before
-          → lost_since (views_since r jobs carry restarts k l before) (views_of r jobs carry restarts k before) ≤ disturbances r carry
-          restarts l before
+          → lost_since (views_since r jobs carry restarts k l before) (views_of r jobs carry restarts k before)
+          ≤ disturbances r carry restarts l before
       lost_in [] run clear sparse = omega arith
       lost_in (t ∷ l) run clear sparse = let few = lost_few k below t l before run clear starts sparse in omega (arith, few)

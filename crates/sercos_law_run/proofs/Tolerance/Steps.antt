@@ -79,7 +79,7 @@ older busy f l fresh late all more longer y = record {
   old = λ e log those some is. let (a, b) = y.old e log those some is in (a, omega (arith, b, longer));
 }
 
-never_some : {A : Type 0} (o : Option A) → o ≡ None → is_some o ≡ true → ⊥
+pub never_some : {A : Type 0} (o : Option A) → o ≡ None → is_some o ≡ true → ⊥
 never_some o none some = false≢true (sym (ap (λ (x : Option _). is_some x) none) ∙ some)
 
 pub rested : (busy : ℕ) (all : List View) → open_in (epoch_begun all) ≡ None → IsYoung busy 0 0 all

@@ -12,6 +12,7 @@ use Rattle.sercos_law_channel.specs.Handshake.Views.{View, processed_in}
 use Rattle.sercos_law_channel.specs.Pace.Costs.{AreListed, cost_in, cost_of}
 use Rattle.sercos_law_channel.specs.Pace.Stretches.{open_since}
 use Rattle.sercos_law_channel.specs.Pace.Times.{one_more}
+use Rattle.sercos_law_run.specs.Journal.Arrivals.{sum_below}
 use Rattle.sercos_law_run.specs.Journal.Runs.{drive_at, is_disturbed_in, IsClear, IsRun}
 use Rattle.sercos_law_run.specs.Views.RingViews.{views_of}
 use Rattle.sercos_law_run.specs.Held.Opened.{IsOpened}
@@ -43,9 +44,9 @@ TakesTimeAndLosses busy = (cycles past : List View) → IsViewRun busy (cycles +
     open_since cycles past + (busy + 1) * length (answers_in (epoch_begun past))
     ≤ (busy + 1) * length (epoch_log (cycles ++ past)) + lost_since cycles past
 
--- What a disturbed cycle costs a channel: nothing in phase 0, two cycles in phases 1 and 2, one in 3 and 4.
+-- What a disturbed cycle costs a channel: nothing in phases 0 and 1, two cycles in 2, one in 3 and 4.
 abbrev pub cycles_for : ℕ → ℕ
-cycles_for phase = if phase == 0 then 0 else (if nat_le phase 2 then 2 else 1)
+cycles_for phase = if nat_le phase 1 then 0 else (if phase == 2 then 2 else 1)
 
 abbrev pub disturbances : RingView → Carry → Restarts → List CycleView → List CycleView → ℕ
 disturbances r carry restarts [] before = 0
@@ -63,3 +64,15 @@ CostsSparse = (r : RingView) (jobs : List Job) (carry : Carry) (restarts : Resta
     open_since (views_since r jobs carry restarts k cycles before) (views_of r jobs carry restarts k before)
     ≤ cost_in (cost_of (drive_at r k).busy (drive_at r k).command longest (store_of (drive_at r k)))
     (epoch_begun (views_of r jobs carry restarts k (cycles ++ before))) + disturbances r carry restarts cycles before
+
+-- UP TO PHASE 2, in which one channel is at work after the other, a disturbed cycle counts once for all drives: the sum of the cycles with
+-- an open step is at most the sum of the costs, and what the disturbed cycles cost.
+abbrev pub CostsShared : Type 0
+CostsShared = (r : RingView) (jobs : List Job) (carry : Carry) (restarts : Restarts) (t : CycleView) (cycles before : List CycleView) →
+    IsOpened r jobs → IsRun r jobs carry restarts (t ∷ (cycles ++ before)) → IsClear (t ∷ (cycles ++ before)) →
+    StartsEpoch r jobs carry restarts before → AreSparse r carry restarts (t ∷ cycles) before → t.phase ≤ 2 → (longest : ℕ → ℕ) →
+    ((k : ℕ) → k < length r.drives → AreListed longest (views_of r jobs carry restarts k (t ∷ (cycles ++ before)))) →
+    sum_below (length r.drives) (λ k. open_since (views_since r jobs carry restarts k (t ∷ cycles) before)
+    (views_of r jobs carry restarts k before))
+    ≤ sum_below (length r.drives) (λ k. cost_in (cost_of (drive_at r k).busy (drive_at r k).command longest (store_of (drive_at r k)))
+    (epoch_begun (views_of r jobs carry restarts k (t ∷ (cycles ++ before))))) + disturbances r carry restarts (t ∷ cycles) before

@@ -3,8 +3,11 @@ use Rattle.sercos_law_run.proofs.Headline.WellRuns.{StopLaws}
 use Rattle.sercos_law_run.proofs.Held.Runs.{Laws}
 use Rattle.sercos_law_run.specs.Tolerance.Bears.{BearsSparse}
 use Rattle.sercos_law_run.proofs.Tolerance.BearsSparse.{bears_sparse, calm_is_sparse}
+use Rattle.sercos_law_run.proofs.Tolerance.CostsShared.{costs_shared}
 use Rattle.sercos_law_run.proofs.Tolerance.CostsSparse.{costs_sparse}
+use Rattle.sercos_law_run.proofs.Tolerance.EarlySparse.{early_sparse}
 use Rattle.sercos_law_run.proofs.Tolerance.Losses.{takes_time_and_losses}
+use Rattle.sercos_law_run.proofs.Tolerance.TwoLasts.{two_sparse}
 use Rattle.sercos_law_run.proofs.Tolerance.Tolerates.{one_of_three, tolerates}
 use Rattle.sercos_law_run.proofs.tolerance_laws.tolerance_law.Goals as goal
 
@@ -91,4 +94,15 @@ returns c =
           costs_sparse laws more c.agenda_law.ensures.turn c.run_law.ensures.up c.run_law.ensures.zero c.calls_law.ensures.stays
           c.calls_law.ensures.before r jobs carry restarts opened c.cost_law.ensures.in_cost c.cost_law.ensures.timed cycles before run
           clear starts sparse k longest below listed;
+      shared = λ r jobs carry restarts t cycles before opened run clear starts sparse low longest listed.
+          costs_shared laws more c.agenda_law.ensures.turn c.run_law.ensures.up c.run_law.ensures.zero c.calls_law.ensures.stays
+          c.calls_law.ensures.before r jobs carry restarts opened c.cost_law.ensures.in_cost c.cost_law.ensures.timed t cycles before run
+          clear starts sparse low longest listed;
+      early = λ r jobs carry restarts t cycles before opened run clear starts sparse low.
+          early_sparse laws more c.agenda_law.ensures.turn c.run_law.ensures.up c.run_law.ensures.zero c.calls_law.ensures.stays
+          c.calls_law.ensures.before r jobs carry restarts opened t cycles before run clear starts sparse low;
+      two = λ r jobs carry restarts t cycles before opened run clear starts sparse is_two none.
+          two_sparse laws more c.agenda_law.ensures.turn c.agenda_law.ensures.two c.run_law.ensures.up c.run_law.ensures.zero
+          c.calls_law.ensures.stays c.calls_law.ensures.before r jobs carry restarts opened c.cost_law.ensures.in_cost
+          c.cost_law.ensures.timed c.jobs_law.ensures.reads c.jobs_law.ensures.writes t cycles before run clear starts sparse is_two none;
     }

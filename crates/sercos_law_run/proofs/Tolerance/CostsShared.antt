@@ -1,0 +1,297 @@
+-- Up to phase 2 a disturbed cycle costs all channels together no more than one.
+use Rattle.std.proofs.Common.{◌≡◌, ◌⊎◌, inl, inr, ℕ, zero, suc, ◌+◌, ◌<◌, ◌≤◌, Bool, true, false, not, ◌&&◌, ◌||◌, List, [], ◌∷◌, ◌++◌, length, Option, Some, None, refl, sym, ap, ◌∙◌, arith, if◌then◌else◌}
+use Rattle.std.specs.Prelude.{IsSome, is_some}
+use Rattle.std.proofs.lemmas.Bool.{cases_lt, cond-false, cond-true, false≢true}
+use Rattle.sercos_step.specs.declared.request.Job.{Job}
+use Rattle.sercos_step.specs.declared.request.Request.{Request}
+use Rattle.sercos_block.specs.Stores.{store_of}
+use Rattle.sercos_block.specs.Views.{RingView}
+use Rattle.sercos_service_master.specs.Begun.{Begun, open_in}
+use Rattle.sercos_trace.specs.Views.{CycleView}
+use Rattle.sercos_seat.specs.Ring.{known_of}
+use Rattle.sercos_master.specs.Annals.{in_turn}
+use Rattle.sercos_script.specs.Links.{Carry, Restarts}
+use Rattle.sercos_law_channel.specs.Handshake.Epochs.{begun_in, epoch_begun, unless_restart, with_begun, with_heard}
+use Rattle.sercos_law_channel.specs.Handshake.RunLaws.{ComesToZero, ComesUp}
+use Rattle.sercos_law_channel.specs.Handshake.Runs.{IsRun as IsViewRun}
+use Rattle.sercos_law_channel.specs.Handshake.Views.{Heard, View, processed_in}
+use Rattle.sercos_law_channel.specs.Pace.ChannelCalls.{AgesBeforeEnd, StaysARun}
+use Rattle.sercos_law_channel.specs.Pace.Costs.{AreListed, ComesTimed, StaysInCost, cost_in, cost_of}
+use Rattle.sercos_law_channel.specs.Pace.Stretches.{open_since}
+use Rattle.sercos_law_channel.specs.Pace.Times.{one_more}
+use Rattle.sercos_law_run.specs.Journal.Arrivals.{sum_below}
+use Rattle.sercos_law_run.specs.Journal.Runs.{drive_at, is_disturbed_in, IsClear, IsDisturbed, IsRun}
+use Rattle.sercos_law_run.specs.Agenda.Turns.{WorkInTurn}
+use Rattle.sercos_law_run.specs.Views.RingViews.{behind_mdt, view_of, views_of}
+use Rattle.sercos_law_run.proofs.Views.Members.{members_count}
+use Rattle.sercos_law_run.specs.Held.Opened.{IsOpened}
+use Rattle.sercos_law_run.proofs.Held.Runs.{Laws, s_known}
+use Rattle.sercos_law_run.proofs.Headline.HeadlineRuns.{MoreLaws, all_stand, first_store}
+use Rattle.sercos_law_run.specs.Undisturbed.EpochStarts.{StartsEpoch}
+use Rattle.sercos_law_run.specs.Undisturbed.Undisturbed.{IsUndisturbed}
+use Rattle.sercos_law_run.specs.Undisturbed.ViewsSince.{views_since}
+use Rattle.sercos_law_run.proofs.Undisturbed.PassedCycles.{views_split}
+use Rattle.sercos_law_run.proofs.Undisturbed.Small.{some_is}
+use Rattle.sercos_law_run.proofs.Recovery.LateDown.{no_lower, not_true, phase_after}
+use Rattle.sercos_law_run.proofs.Recovery.Turns.{opens_in_turn}
+use Rattle.sercos_law_run.specs.Tolerance.Losses.{cycles_for, disturbances, is_lost, lost_since}
+use Rattle.sercos_law_run.specs.Tolerance.Sparse.{AreSparse}
+use Rattle.sercos_law_run.proofs.Tolerance.Borne.{IsBorne, all_borne, calm_or_not, rests, zero_is}
+use Rattle.sercos_law_run.proofs.Tolerance.CostsSparse.{early_for, opens_so, spare_for, two_for}
+use Rattle.sercos_law_run.proofs.Tolerance.Losses.{early_kept}
+
+-- SUMS over the drives
+sum_same : (n : ℕ) (f g : ℕ → ℕ) → ((k : ℕ) → k < n → f k ≡ g k) → sum_below n f ≡ sum_below n g
+sum_same zero f g same = refl
+sum_same (suc n) f g same =
+    let rest = sum_same n f g (λ k low. same k (omega (arith, low))) in
+    let last = same n (omega arith) in omega (arith, rest, last)
+
+sum_most : (n : ℕ) (f g : ℕ → ℕ) → ((k : ℕ) → k < n → f k ≤ g k) → sum_below n f ≤ sum_below n g
+sum_most zero f g most = omega arith
+sum_most (suc n) f g most =
+    let rest = sum_most n f g (λ k low. most k (omega (arith, low))) in
+    let last = most n (omega arith) in omega (arith, rest, last)
+
+sum_both : (n : ℕ) (f g : ℕ → ℕ) → sum_below n (λ k. f k + g k) ≡ sum_below n f + sum_below n g
+sum_both zero f g = refl
+sum_both (suc n) f g = let rest = sum_both n f g in omega (arith, rest)
+
+sum_zero : (n : ℕ) → sum_below n (λ k. 0) ≡ 0
+sum_zero zero = refl
+sum_zero (suc n) = let rest = sum_zero n in omega (arith, rest)
+
+same_if : (b : Bool) (n : ℕ) → b ≡ false → one_more b n ≡ n
+same_if b n off = ap (λ (x : Bool). one_more x n) off
+
+-- if the test holds at one place at most, the sum is one more at most
+sum_one : (n : ℕ) (b : ℕ → Bool) (f : ℕ → ℕ) → ((i j : ℕ) → i < n → j < n → b i ≡ true → b j ≡ true → i ≡ j)
+    → sum_below n (λ k. one_more (b k) (f k)) ≤ sum_below n f + 1
+sum_one zero b f one = omega arith
+sum_one (suc n) b f one = by (b n) refl (sum_one n b f (λ i j low high. one i j (omega (arith, low)) (omega (arith, high))))
+  where
+    others : b n ≡ true → (k : ℕ) → k < n → one_more (b k) (f k) ≡ f k
+    others on k low = same_if (b k) (f k) (not_true (b k) (λ too. let same = one k n (omega (arith, low)) (omega arith) too on in
+        omega (arith, same, low)))
+
+    by : (x : Bool) → b n ≡ x → sum_below n (λ k. one_more (b k) (f k)) ≤ sum_below n f + 1
+        → sum_below n (λ k. one_more (b k) (f k)) + one_more (b n) (f n) ≤ sum_below n f + f n + 1
+    by true on rest =
+        let none = sum_same n (λ k. one_more (b k) (f k)) f (others on) in
+        let last : one_more (b n) (f n) ≡ f n + 1 = ap (λ (x : Bool). one_more x (f n)) on in omega (arith, none, last)
+    by false off rest = let last = same_if (b n) (f n) off in omega (arith, rest, last)
+
+-- WHERE SOMETHING IS LOST, a step is open at the end.
+first_part : (a h b p : Bool) → ((a && not h) || (b && not p)) ≡ true → b ≡ false → (a ≡ true) × (h ≡ false)
+first_part a h true p on off = absurd (false≢true (sym off))
+first_part true false false p on off = (refl, refl)
+first_part true true false p on off = absurd (false≢true on)
+first_part false h false p on off = absurd (false≢true on)
+
+unheard_same : (o : Option Heard) (begun : List Begun) → is_some o ≡ false → with_heard o begun ≡ begun
+unheard_same None begun off = refl
+unheard_same (Some a) begun off = absurd (false≢true (sym off))
+
+none_begun : (o : Option Request) (begun : List Begun) → (IsSome o → open_in begun ≡ None) → is_some (open_in begun) ≡ true
+    → with_begun o begun ≡ begun
+none_begun None begun shut some = refl
+none_begun (Some q) begun shut some = absurd (false≢true (sym (ap (λ (o : Option _). is_some o) (shut refl)) ∙ some))
+
+lost_opens : (busy : ℕ) (v : View) (past : List View) → IsViewRun busy (v ∷ past) → is_lost v past ≡ true
+    → is_some (open_in (begun_in v past)) ≡ true
+lost_opens busy v past run lost = by (is_some (open_in (begun_in v past))) refl
+  where
+    start : List Begun
+    start = unless_restart v (epoch_begun past)
+
+    by : (b : Bool) → is_some (open_in (begun_in v past)) ≡ b → is_some (open_in (begun_in v past)) ≡ true
+    by true on = on
+    by false off =
+        let parts = first_part (is_some (open_in (unless_restart v (epoch_begun past)))) (is_some v.heard)
+        (is_some (open_in (begun_in v past))) (is_some (processed_in v past)) lost off in
+        let same : with_heard v.heard (unless_restart v (epoch_begun past)) ≡ unless_restart v (epoch_begun past) = unheard_same v.heard
+        (unless_restart v (epoch_begun past)) parts.1 in
+        let some : is_some (open_in (with_heard v.heard (unless_restart v (epoch_begun past)))) ≡ true = ap
+        (λ (l : List Begun). is_some (open_in l)) same ∙ parts.0 in
+        ap (λ (l : List Begun). is_some (open_in l)) (none_begun v.begins (with_heard v.heard (unless_restart v (epoch_begun past)))
+        run.1.begins some) ∙ some
+
+module _ (laws : Laws) (more : MoreLaws) (turn : WorkInTurn) (comes_up : (busy : ℕ) → ComesUp busy)
+    (to_zero : (busy : ℕ) → ComesToZero busy)
+    (goes : (busy : ℕ) → StaysARun busy) (counts : (busy : ℕ) → AgesBeforeEnd busy)
+    (r : RingView) (jobs : List Job) (carry : Carry) (restarts : Restarts) (opened : IsOpened r jobs) where
+  abbrev Borne : CycleView → List CycleView → Type 0
+  Borne t j = IsBorne laws more turn comes_up to_zero goes counts r jobs carry restarts opened t j
+
+  abbrev spare : CycleView → List CycleView → ℕ
+  spare t j = if is_disturbed_in r carry restarts (length j) t.sent then spare_for t.phase else 0
+
+  abbrev costs : CycleView → List CycleView → ℕ
+  costs t j = if is_disturbed_in r carry restarts (length j) t.sent then cycles_for t.phase else 0
+
+  on_so : (t : CycleView) (j : List CycleView) → IsDisturbed r carry restarts t j
+      → (costs t j ≡ cycles_for t.phase) × (spare t j ≡ spare_for t.phase)
+  on_so t j on = (
+    cond-true (is_disturbed_in r carry restarts (length j) t.sent) (cycles_for t.phase) 0 on,
+    cond-true
+        (is_disturbed_in r carry restarts (length j) t.sent) (spare_for t.phase) 0 on,
+  )
+
+  off_so : (t : CycleView) (j : List CycleView) → IsUndisturbed r carry restarts t j → (costs t j ≡ 0) × (spare t j ≡ 0)
+  off_so t j off = (
+    cond-false (is_disturbed_in r carry restarts (length j) t.sent) (cycles_for t.phase) 0 off,
+    cond-false
+        (is_disturbed_in r carry restarts (length j) t.sent) (spare_for t.phase) 0 off,
+  )
+
+  abbrev lost_at : ℕ → CycleView → List CycleView → Bool
+  lost_at k t j = is_lost (view_of r jobs carry restarts k t j) (views_of r jobs carry restarts k j)
+
+  abbrev lost_of : List CycleView → List CycleView → ℕ → ℕ
+  lost_of cycles before k = lost_since (views_since r jobs carry restarts k cycles before) (views_of r jobs carry restarts k before)
+
+  abbrev all_lost : List CycleView → List CycleView → ℕ
+  all_lost cycles before = sum_below (length r.drives) (lost_of cycles before)
+
+  is_run : (j : List CycleView) → IsRun r jobs carry restarts j → IsClear j → (k : ℕ) → k < length r.drives
+      → IsViewRun (drive_at r k).busy (views_of r jobs carry restarts k j)
+  is_run j run clear k below = (all_stand laws more r jobs carry restarts opened j run clear k below).sees.run
+
+  some_drive : 0 < length r.drives
+  some_drive = let count = members_count r in let some = (s_known laws r jobs carry restarts opened
+      (first_store laws more r jobs carry restarts opened)).some in omega (arith, count, some)
+
+  lost_next : (t : CycleView) (cycles before : List CycleView) → all_lost (t ∷ cycles) before ≡ sum_below (length r.drives)
+      (λ k. one_more (lost_at k t (cycles ++ before)) (lost_of cycles before k))
+  lost_next t cycles before = sum_same (length r.drives) (lost_of (t ∷ cycles) before)
+      (λ k. one_more (lost_at k t (cycles ++ before)) (lost_of cycles before k))
+      (λ k low. ap (λ (l : List View). one_more (is_lost (view_of r jobs carry restarts k t (cycles ++ before)) l)
+      (lost_of cycles before k)) (sym (views_split r jobs carry restarts k cycles before)))
+
+  -- nothing more is lost, or of one channel
+  none_lost : (t : CycleView) (cycles before : List CycleView) → ((k : ℕ) → k < length r.drives → lost_at k t (cycles ++ before) ≡ false)
+      → all_lost (t ∷ cycles) before ≡ all_lost cycles before
+  none_lost t cycles before none = lost_next t cycles before ∙ sum_same (length r.drives)
+      (λ k. one_more (lost_at k t (cycles ++ before)) (lost_of cycles before k)) (lost_of cycles before)
+      (λ k low. same_if (lost_at k t (cycles ++ before)) (lost_of cycles before k) (none k low))
+
+  early_lost : (t : CycleView) (cycles before : List CycleView) → IsRun r jobs carry restarts (t ∷ (cycles ++ before))
+      → IsClear (t ∷ (cycles ++ before)) → t.phase ≤ 1 → all_lost (t ∷ cycles) before ≡ all_lost cycles before
+  early_lost t cycles before run clear early = none_lost t cycles before
+      (λ k low. early_kept (drive_at r k).busy (view_of r jobs carry restarts k t (cycles ++ before))
+      (views_of r jobs carry restarts k (cycles ++ before)) (is_run (t ∷ (cycles ++ before)) run clear k low) early)
+
+  one_lost : (t : CycleView) (cycles before : List CycleView) → IsRun r jobs carry restarts (t ∷ (cycles ++ before))
+      → IsClear (t ∷ (cycles ++ before)) → t.phase ≤ 2 → all_lost (t ∷ cycles) before ≤ all_lost cycles before + 1
+  one_lost t cycles before run clear low = elim (cases_lt t.phase 2) [
+    | inl early ↦ (let same = early_lost t cycles before run clear (omega (arith, early)) in omega (arith, same))
+    | inr two ↦ (
+        let same = lost_next t cycles before in
+        let most = sum_one (length r.drives) (λ k. lost_at k t (cycles ++ before)) (lost_of cycles before) (λ i j i_low j_low i_lost j_lost.
+        some_is i j (sym (in_turn_of two i i_low i_lost) ∙ in_turn_of two j j_low j_lost)) in omega (arith, same, most))
+  ]
+    where
+      in_turn_of : 2 ≤ t.phase → (k : ℕ) → k < length r.drives → lost_at k t (cycles ++ before) ≡ true
+          → in_turn (known_of r) (behind_mdt r jobs carry restarts t.sent (cycles ++ before)) ≡ Some k
+      in_turn_of two k below lost = opens_in_turn laws more turn r jobs carry restarts opened t (cycles ++ before) run clear
+          (omega (arith, two, low)) k below
+          (lost_opens (drive_at r k).busy (view_of r jobs carry restarts k t (cycles ++ before))
+          (views_of r jobs carry restarts k (cycles ++ before)) (is_run (t ∷ (cycles ++ before)) run clear k below) lost)
+
+  -- a disturbed cycle
+  disturbed_more : (t : CycleView) (cycles before : List CycleView) → IsRun r jobs carry restarts (t ∷ (cycles ++ before))
+      → IsClear (t ∷ (cycles ++ before)) → t.phase ≤ 2 → IsDisturbed r carry restarts t (cycles ++ before)
+      → (dist : ℕ) → all_lost cycles before ≤ dist → all_lost (t ∷ cycles) before + spare t (cycles ++ before) ≤ dist + costs t
+      (cycles ++ before)
+  disturbed_more t cycles before run clear low on dist le = elim (cases_lt t.phase 2) [
+    | inl early ↦ (
+        let same = early_lost t cycles before run clear (omega (arith, early)) in
+        let (a, b) = early_for t.phase (omega (arith, early)) in
+        let (c, d) = on_so t (cycles ++ before) on in omega (arith, same, a, b, c, d, le))
+    | inr later ↦ (
+        let most = one_lost t cycles before run clear low in
+        let (a, b) = two_for t.phase (omega (arith, later, low)) in
+        let (c, d) = on_so t (cycles ++ before) on in omega (arith, most, a, b, c, d, le))
+  ]
+
+  -- WHAT IS LOST of all channels
+  all_few : (t : CycleView) (cycles before : List CycleView) → IsRun r jobs carry restarts (t ∷ (cycles ++ before))
+      → IsClear (t ∷ (cycles ++ before)) → StartsEpoch r jobs carry restarts before → AreSparse r carry restarts (t ∷ cycles) before
+      → t.phase ≤ 2
+      → all_lost (t ∷ cycles) before + spare t (cycles ++ before) ≤ disturbances r carry restarts (t ∷ cycles) before
+  all_few t [] before run clear starts sparse low =
+      let none : all_lost [] before ≡ 0 = sum_zero (length r.drives) in
+      let at_zero = zero_is laws more turn comes_up to_zero goes counts r jobs carry restarts opened t before run clear starts
+      (sparse.1.goes_on 0 (omega arith)) in
+      let same = early_lost t [] before run clear (omega (arith, at_zero)) in elim (calm_or_not r carry restarts t before) [
+        | inl on ↦ (let more_is = disturbed_more t [] before run clear low on 0 (omega (arith, none)) in omega (arith, more_is))
+        | inr off ↦ (let (c, d) = off_so t before off in omega (arith, same, none, c, d))
+      ]
+  all_few t (u ∷ cycles) before run clear starts sparse low = by (calm_or_not r carry restarts t (u ∷ (cycles ++ before)))
+      (all_few u cycles before run.0 clear.0 starts sparse.0 (omega (arith, u_low, low)))
+    where
+      was : Borne u (cycles ++ before)
+      was = all_borne laws more turn comes_up to_zero goes counts r jobs carry restarts opened u cycles before run.0 clear.0 starts sparse.0
+
+      is : Borne t (u ∷ (cycles ++ before))
+      is = all_borne laws more turn comes_up to_zero goes counts r jobs carry restarts opened t (u ∷ cycles) before run clear starts sparse
+
+      still : restarts (length (u ∷ (cycles ++ before))) 0 ≡ false
+      still = sparse.1.goes_on 0 (omega arith)
+
+      u_low : u.phase ≤ t.phase
+      u_low = no_lower laws more turn r jobs carry restarts opened t u (cycles ++ before) run clear was.stays still 0 some_drive
+
+      calm_more : IsUndisturbed r carry restarts t (u ∷ (cycles ++ before))
+          → all_lost (u ∷ cycles) before + spare u (cycles ++ before) ≤ disturbances r carry restarts (u ∷ cycles) before
+          → all_lost (t ∷ u ∷ cycles) before ≤ disturbances r carry restarts (u ∷ cycles) before
+      calm_more off few = elim (cases_lt t.phase 2) [
+        | inl early ↦ (let same = early_lost t (u ∷ cycles) before run clear (omega (arith, early)) in omega (arith, same, few))
+        | inr two ↦ elim (calm_or_not r carry restarts u (cycles ++ before)) [
+          | inr calm ↦ (let same = none_lost t (u ∷ cycles) before (is.kept off (inr (tt, calm))) in omega (arith, same, few))
+          | inl disturbed ↦ elim (phase_after laws more turn r jobs carry restarts opened t u (cycles ++ before) run clear was.stays still 0
+              some_drive) [
+                | inr up ↦ (
+                    let same = none_lost t (u ∷ cycles) before (λ k below. is.rested_kept off k below
+                    (rests laws more turn comes_up to_zero goes counts r jobs carry restarts opened t u (cycles ++ before) run clear was
+                    sparse.1 k below up)) in omega (arith, same, few))
+                | inl equal ↦ (
+                    let most = one_lost t (u ∷ cycles) before run clear low in
+                    let (a, b) = two_for u.phase (omega (arith, equal, two, low)) in
+                    let (e, f) = on_so u (cycles ++ before) disturbed in omega (arith, most, a, b, e, f, few))
+              ]
+        ]
+      ]
+
+      by : IsDisturbed r carry restarts t (u ∷ (cycles ++ before)) ⊎ IsUndisturbed r carry restarts t (u ∷ (cycles ++ before))
+          → all_lost (u ∷ cycles) before + spare u (cycles ++ before) ≤ disturbances r carry restarts (u ∷ cycles) before
+          → all_lost (t ∷ u ∷ cycles) before + spare t (u ∷ (cycles ++ before)) ≤ disturbances r carry restarts (t ∷ u ∷ cycles) before
+      by (inl on) few = disturbed_more t (u ∷ cycles) before run clear low on (disturbances r carry restarts (u ∷ cycles) before)
+          (omega (arith, few))
+      by (inr off) few = let most = calm_more off few in let (c, d) = off_so t (u ∷ (cycles ++ before)) off in omega (arith, most, c, d)
+
+  -- THE SUM OVER THE DRIVES
+  pub costs_shared : ((busy : ℕ) → StaysInCost busy) → ComesTimed → (t : CycleView) (cycles before : List CycleView)
+      → IsRun r jobs carry restarts (t ∷ (cycles ++ before)) → IsClear (t ∷ (cycles ++ before)) → StartsEpoch r jobs carry restarts before
+      → AreSparse r carry restarts (t ∷ cycles) before → t.phase ≤ 2 → (longest : ℕ → ℕ)
+      → ((k : ℕ) → k < length r.drives → AreListed longest (views_of r jobs carry restarts k (t ∷ (cycles ++ before))))
+      → sum_below (length r.drives) (λ k. open_since (views_since r jobs carry restarts k (t ∷ cycles) before)
+      (views_of r jobs carry restarts k before))
+      ≤ sum_below (length r.drives) (λ k. cost_in (cost_of (drive_at r k).busy (drive_at r k).command longest (store_of (drive_at r k)))
+      (epoch_begun (views_of r jobs carry restarts k (t ∷ (cycles ++ before)))))
+      + disturbances r carry restarts (t ∷ cycles) before
+  costs_shared in_cost timed t cycles before run clear starts sparse low longest listed =
+      let each = sum_most (length r.drives) opens (λ k. cost k + lost_of (t ∷ cycles) before k) one in
+      let both = sum_both (length r.drives) cost (lost_of (t ∷ cycles) before) in
+      let few = all_few t cycles before run clear starts sparse low in omega (arith, each, both, few)
+    where
+      opens : ℕ → ℕ
+      opens k = open_since (views_since r jobs carry restarts k (t ∷ cycles) before) (views_of r jobs carry restarts k before)
+
+      cost : ℕ → ℕ
+      cost k = cost_in (cost_of (drive_at r k).busy (drive_at r k).command longest (store_of (drive_at r k)))
+          (epoch_begun (views_of r jobs carry restarts k (t ∷ (cycles ++ before))))
+
+      one : (k : ℕ) → k < length r.drives → opens k ≤ cost k + lost_of (t ∷ cycles) before k
+      one k below = opens_so laws more turn comes_up to_zero goes counts r jobs carry restarts opened in_cost timed (t ∷ cycles) before run
+          clear starts sparse k longest below (listed k below)

@@ -1,0 +1,376 @@
+-- How long phases 0 and 1 last while disturbed cycles are sparse.
+use Rattle.std.proofs.Common.{◌≡◌, ◌⊎◌, inl, inr, ℕ, zero, suc, ◌+◌, ◌<◌, ◌≤◌, Bool, true, false, not, ◌&&◌, ◌||◌, List, [], ◌∷◌, ◌++◌, length, Option, Some, None, refl, sym, ap, ◌∙◌, arith, if◌then◌else◌}
+use Rattle.std.specs.Prelude.{◌==◌, is_none}
+use Rattle.std.proofs.lemmas.Bool.{cases_eq, false≢true}
+use Rattle.sercos_step.specs.declared.request.Job.{Job}
+use Rattle.sercos_block.specs.Views.{RingView}
+use Rattle.sercos_trace.specs.Views.{CycleView}
+use Rattle.sercos_seat.specs.Ring.{known_of}
+use Rattle.sercos_master.specs.Annals.{Past, Turn, all_identified, first_from, first_place, has_identified, is_done, is_done_in, is_identified, whole_row}
+use Rattle.sercos_script.specs.Links.{Carry, Restarts}
+use Rattle.sercos_law_channel.specs.Handshake.RunLaws.{ComesToZero, ComesUp}
+use Rattle.sercos_law_channel.specs.Pace.ChannelCalls.{AgesBeforeEnd, StaysARun}
+use Rattle.sercos_law_run.specs.Journal.Runs.{is_disturbed_in, looks_back, master_calls, IsClear, IsDisturbed, IsRun}
+use Rattle.sercos_law_run.specs.Agenda.Turns.{WorkInTurn}
+use Rattle.sercos_law_run.specs.Views.RingViews.{at_start, behind_ats, behind_mdt, behind_mst}
+use Rattle.sercos_law_run.proofs.Views.MasterSame.{begun_cycle, turn_mdt}
+use Rattle.sercos_law_run.proofs.Views.Members.{members_count}
+use Rattle.sercos_law_run.proofs.Views.ViewRuns.{started}
+use Rattle.sercos_law_run.specs.Held.Opened.{IsOpened}
+use Rattle.sercos_law_run.proofs.Held.Runs.{Laws}
+use Rattle.sercos_law_run.proofs.Headline.HeadlineRuns.{MoreLaws}
+use Rattle.sercos_law_run.specs.Undisturbed.EpochStarts.{StartsEpoch, came_back}
+use Rattle.sercos_law_run.specs.Undisturbed.Undisturbed.{IsUndisturbed}
+use Rattle.sercos_law_run.proofs.Undisturbed.ChannelsKept.{ats_leave}
+use Rattle.sercos_law_run.proofs.Undisturbed.Identified.{heard_next}
+use Rattle.sercos_law_run.proofs.Undisturbed.NoFalls.{heard_mdt}
+use Rattle.sercos_law_run.proofs.Undisturbed.PhaseCounts.{end_kept}
+use Rattle.sercos_law_run.proofs.Undisturbed.PhasesRise.{phase_after}
+use Rattle.sercos_law_run.proofs.Undisturbed.PhaseZero.{few_back}
+use Rattle.sercos_law_run.proofs.Undisturbed.StaysUp.{addressed_first, found_passes, phase_now, stands_so, turns_now}
+use Rattle.sercos_law_run.specs.Tolerance.Early.{early_cost, early_costs}
+use Rattle.sercos_law_run.specs.Tolerance.Sparse.{AreSparse}
+use Rattle.sercos_law_run.proofs.Tolerance.Borne.{IsBorne, all_borne, calm_or_not}
+
+-- COUNTS of places that pass a test
+abbrev one_if : Bool → ℕ
+one_if true = 1
+one_if false = 0
+
+abbrev count : ℕ → (ℕ → Bool) → ℕ
+count zero test = 0
+count (suc n) test = count n test + one_if (test n)
+
+no_less : (a b : Bool) → (a ≡ true → b ≡ true) → one_if a ≤ one_if b
+no_less true b more = let on : one_if b ≡ 1 = ap one_if (more refl) in omega (arith, on)
+no_less false b more = omega arith
+
+count_most : (n : ℕ) (f g : ℕ → Bool) → ((k : ℕ) → f k ≡ true → g k ≡ true) → count n f ≤ count n g
+count_most zero f g more = omega arith
+count_most (suc n) f g more = let rest = count_most n f g more in let last = no_less (f n) (g n) (more n) in omega (arith, rest, last)
+
+count_more : (n k : ℕ) (f g : ℕ → Bool) → ((i : ℕ) → f i ≡ true → g i ≡ true) → k < n → f k ≡ false → g k ≡ true → count n f + 1 ≤ count n g
+count_more zero k f g more low off on = absurd (omega (arith, low))
+count_more (suc n) k f g more low off on = elim (cases_eq k n) [
+  | inl same ↦ (
+      let rest = count_most n f g more in
+      let none : one_if (f n) ≡ 0 = ap one_if (ap f (sym same) ∙ off) in
+      let one : one_if (g n) ≡ 1 = ap one_if (ap g (sym same) ∙ on) in omega (arith, rest, none, one))
+  | inr other ↦ (let rest = count_more n k f g more (omega (arith, low, other)) off on in let last = no_less (f n) (g n) (more n) in
+      omega (arith, rest, last))
+]
+
+count_all : (n : ℕ) → count n (λ k. true) ≡ n
+count_all zero = refl
+count_all (suc n) = let rest = count_all n in omega (arith, rest)
+
+-- the first place that passes, if one does
+found_low : (k n i : ℕ) (test : ℕ → Bool) → first_from k n test ≡ Some i → i < k + n
+found_low k zero i test found = cc
+found_low k (suc n) i test found = by (test k) found (λ rest. found_low (k + 1) n i test rest)
+  where
+    by : (b : Bool) → (if b then Some k else first_from (k + 1) n test) ≡ Some i → (first_from (k + 1) n test ≡ Some i → i < k + 1 + n)
+        → i < k + suc n
+    by true is next = let same : k ≡ i = cc in omega (arith, same)
+    by false is next = let low = next is in omega (arith, low)
+
+some_first : (o : Option ℕ) → is_none o ≡ false → (k : ℕ) × (o ≡ Some k)
+some_first None off = absurd (false≢true (sym off))
+some_first (Some k) off = (k, refl)
+
+unknown_off : (b : Bool) → not b ≡ true → b ≡ false
+unknown_off true on = absurd (false≢true on)
+unknown_off false on = refl
+
+-- what tests of a phase choose
+abbrev cost_by : ℕ → Bool → Bool → ℕ
+cost_by n whole disturbed = if n == 0 then (if whole then 0 else 10) else (if n == 1 then (if disturbed then 2 else 0) else 0)
+
+abbrev ten_unless : Bool → ℕ
+ten_unless whole = if whole then 0 else 10
+
+abbrev two_if : Bool → ℕ
+two_if disturbed = if disturbed then 2 else 0
+
+zero_cost : (n : ℕ) (whole disturbed : Bool) → n ≡ 0 → cost_by n whole disturbed ≡ ten_unless whole
+zero_cost n whole disturbed is = ap (λ (m : ℕ). cost_by m whole disturbed) is
+
+one_cost : (n : ℕ) (whole disturbed : Bool) → n ≡ 1 → cost_by n whole disturbed ≡ two_if disturbed
+one_cost n whole disturbed is = ap (λ (m : ℕ). cost_by m whole disturbed) is
+
+-- one cycle of phase 0 more
+row_next : (whole : Bool) (len row costs : ℕ) → len ≤ row + costs → row ≤ 9
+    → suc len ≤ (if whole then row + 1 else 0) + (costs + (if whole then 0 else 10))
+row_next true len row costs le few = omega (arith, le)
+row_next false len row costs le few = omega (arith, le, few)
+
+zero_phase : (done : Bool) (n : ℕ) → (if done then n + 1 else n) ≡ 0 → n ≡ 0
+zero_phase true n is = absurd (omega (arith, is))
+zero_phase false n is = is
+
+one_phase : (done : Bool) (n : ℕ) → (if done then n + 1 else n) ≡ 1 → ((done ≡ true) × (n ≡ 0)) ⊎ ((done ≡ false) × (n ≡ 1))
+one_phase true n is = inl (refl, omega (arith, is))
+one_phase false n is = inr (refl, is)
+
+module _ (laws : Laws) (more : MoreLaws) (turn : WorkInTurn) (comes_up : (busy : ℕ) → ComesUp busy)
+    (to_zero : (busy : ℕ) → ComesToZero busy)
+    (goes : (busy : ℕ) → StaysARun busy) (counts : (busy : ℕ) → AgesBeforeEnd busy)
+    (r : RingView) (jobs : List Job) (carry : Carry) (restarts : Restarts) (opened : IsOpened r jobs) where
+  abbrev back : List CycleView → Past
+  back j = looks_back r jobs (master_calls r carry restarts j)
+
+  abbrev now : CycleView → List CycleView → Past
+  now t j = behind_mdt r jobs carry restarts t.sent j
+
+  abbrev Borne : CycleView → List CycleView → Type 0
+  Borne t j = IsBorne laws more turn comes_up to_zero goes counts r jobs carry restarts opened t j
+
+  abbrev known : List Turn → ℕ
+  known turns = count (length (known_of r).drives) (λ k. has_identified k turns)
+
+  abbrev spare : CycleView → List CycleView → ℕ
+  spare t j = one_if (is_disturbed_in r carry restarts (length j) t.sent)
+
+  -- A CYCLE that is borne
+  module _ (t : CycleView) (j : List CycleView) (run : IsRun r jobs carry restarts (t ∷ j)) (is : Borne t j) where
+    pub start_is : at_start r jobs carry restarts j ≡ back j
+    start_is = started r jobs (restarts (length j) 0) (master_calls r carry restarts j)
+        ∙ ap (λ (b : Bool). begun_cycle b (back j)) is.goes_on
+
+    pub phase_is : t.phase ≡ (back j).now.phase
+    phase_is = run.1.phase ∙ ap (λ (p : Past). p.now.phase) start_is
+
+    turns_before : (now t j).turns ≡ (back j).turns
+    turns_before = turns_now laws more comes_up r jobs carry restarts opened t j ∙ ap (λ (p : Past). p.turns) start_is
+
+    turns_after : (back (t ∷ j)).turns ≡ (now t j).now ∷ (back j).turns
+    turns_after = ap (λ (p : Past). p.turns) (end_kept (known_of r) (now t j) is.stays)
+        ∙ ap (λ (l : List Turn). (now t j).now ∷ l) turns_before
+
+    pub phase_next : (back (t ∷ j)).now.phase ≡ (if is_done (known_of r) (now t j) then t.phase + 1 else t.phase)
+    phase_next = phase_after laws more comes_up r jobs carry restarts opened t j run is.stays
+
+    whole_is : (now t j).now.whole ≡ (behind_mst r jobs carry restarts t.sent j).now.whole
+    whole_is = (turn_mdt (known_of r) (behind_ats r jobs carry restarts t.sent j)).whole_is
+        ∙ (ats_leave r jobs carry restarts t j 0).whole_is
+
+    row_after : came_back r jobs carry restarts (t ∷ j) ≡ (if (behind_mst r jobs carry restarts t.sent j).now.whole then came_back r jobs
+        carry restarts j + 1 else 0)
+    row_after = ap whole_row turns_after ∙ ap (λ (b : Bool). if b then whole_row (back j).turns + 1 else 0) whole_is
+
+    -- the drives that are identified stay so
+    known_after : known (back j).turns ≤ known (back (t ∷ j)).turns
+    known_after = count_most (length (known_of r).drives) (λ k. has_identified k (back j).turns)
+        (λ k. has_identified k (back (t ∷ j)).turns)
+        (λ k on. ap (has_identified k) turns_after ∙ still ((now t j).now.phase == 1) ((now t j).now.heard k)
+        (has_identified k (back j).turns) on)
+      where
+        still : (a b c : Bool) → c ≡ true → ((a && b) || c) ≡ true
+        still true true c on = refl
+        still true false c on = on
+        still false b c on = on
+
+  -- PHASE 0
+  zero_lasts : (cycles before : List CycleView) → IsRun r jobs carry restarts (cycles ++ before) → IsClear (cycles ++ before)
+      → StartsEpoch r jobs carry restarts before → AreSparse r carry restarts cycles before
+      → (back (cycles ++ before)).now.phase ≡ 0 → length cycles ≤ came_back r jobs carry restarts (cycles ++ before) + early_costs r jobs
+      carry restarts cycles before
+  zero_lasts [] before run clear starts sparse at_zero = omega arith
+  zero_lasts (t ∷ cycles) before run clear starts sparse at_zero =
+      by (zero_lasts cycles before run.0 clear.0 starts sparse.0 (sym (phase_is t (cycles ++ before) run is) ∙ t_zero))
+    where
+      is : Borne t (cycles ++ before)
+      is = all_borne laws more turn comes_up to_zero goes counts r jobs carry restarts opened t cycles before run clear starts sparse
+
+      t_zero : t.phase ≡ 0
+      t_zero = zero_phase (is_done (known_of r) (now t (cycles ++ before))) t.phase (sym (phase_next t (cycles ++ before) run is) ∙ at_zero)
+
+      by : length cycles ≤ came_back r jobs carry restarts (cycles ++ before) + early_costs r jobs carry restarts cycles before
+          → suc (length cycles) ≤ came_back r jobs carry restarts (t ∷ (cycles ++ before)) + early_costs r jobs carry restarts (t ∷ cycles)
+          before
+      by le =
+          let few = few_back r jobs carry restarts (cycles ++ before) (sym (phase_is t (cycles ++ before) run is) ∙ t_zero) in
+          let row = row_after t (cycles ++ before) run is in
+          let cost = zero_cost t.phase (behind_mst r jobs carry restarts t.sent (cycles ++ before)).now.whole
+          (is_disturbed_in r carry restarts (length (cycles ++ before)) t.sent) t_zero in
+          let step = row_next (behind_mst r jobs carry restarts t.sent (cycles ++ before)).now.whole (length cycles)
+          (came_back r jobs carry restarts (cycles ++ before)) (early_costs r jobs carry restarts cycles before) le few in
+          omega (arith, row, cost, step)
+
+  -- A DRIVE MORE is identified, if two cycles of phase 1 in a row are undisturbed.
+  one_more : (t u : CycleView) (j : List CycleView) → IsRun r jobs carry restarts (t ∷ u ∷ j) → IsClear (t ∷ u ∷ j) → Borne t (u ∷ j)
+      → Borne u j → IsUndisturbed r carry restarts t (u ∷ j) → IsUndisturbed r carry restarts u j
+      → t.phase ≡ 1 → u.phase ≡ 1 → is_done (known_of r) (now u j) ≡ false → known (back (u ∷ j)).turns + 1 ≤ known (back (t ∷ u ∷ j)).turns
+  one_more t u j run clear is was calm calm_before one was_one unfinished =
+      count_more (length (known_of r).drives) first.0 (λ k. has_identified k (back (u ∷ j)).turns)
+      (λ k. has_identified k (back (t ∷ u ∷ j)).turns) stay low off on
+    where
+      u_phase : (now u j).now.phase ≡ 1
+      u_phase = phase_now laws more comes_up r jobs carry restarts opened u j run.0.1 ∙ was_one
+
+      t_phase : (now t (u ∷ j)).now.phase ≡ 1
+      t_phase = phase_now laws more comes_up r jobs carry restarts opened t (u ∷ j) run.1 ∙ one
+
+      not_all : all_identified (known_of r) (now u j) ≡ false
+      not_all = sym (ap (λ (n : ℕ). is_done_in n (known_of r) (now u j)) u_phase) ∙ unfinished
+
+      first : (k : ℕ) × (first_place (known_of r) (λ k. not (is_identified (now u j) k)) ≡ Some k)
+      first = some_first (first_place (known_of r) (λ k. not (is_identified (now u j) k))) not_all
+
+      low : first.0 < length (known_of r).drives
+      low = let less = found_low 0 (length (known_of r).drives) first.0 (λ k. not (is_identified (now u j) k)) first.1 in
+          omega (arith, less)
+
+      inside : first.0 < length r.drives
+      inside = let all = members_count r in let less = low in omega (arith, all, less)
+
+      to : (now u j).now.addressed ≡ Some first.0
+      to = addressed_first (known_of r) (behind_ats r jobs carry restarts u.sent j) u_phase ∙ first.1
+
+      same_turns : (back (u ∷ j)).turns ≡ (now u j).now ∷ (now u j).turns
+      same_turns = turns_after u j run.0 was ∙ ap (λ (l : List Turn). (now u j).now ∷ l) (sym (turns_before u j run.0 was))
+
+      off : has_identified first.0 (back (u ∷ j)).turns ≡ false
+      off = ap (has_identified first.0) same_turns ∙ unknown_off (is_identified (now u j) first.0)
+          (found_passes 0 (length (known_of r).drives) first.0 (λ k. not (is_identified (now u j) k)) first.1)
+
+      hears : (now t (u ∷ j)).now.heard first.0 ≡ true
+      hears = ap (λ (f : ℕ → Bool). f first.0) (heard_mdt (known_of r) (behind_ats r jobs carry restarts t.sent (u ∷ j)))
+          ∙ heard_next laws more r jobs carry restarts opened t u j run calm calm_before first.0 inside one u_phase to
+          (stands_so laws more comes_up r jobs carry restarts opened u j run.0 clear.0 calm_before (omega (arith, was_one)) first.0 inside
+          ∙ was_one)
+
+      on : has_identified first.0 (back (t ∷ u ∷ j)).turns ≡ true
+      on = ap (has_identified first.0) (turns_after t (u ∷ j) run is)
+          ∙ found ((now t (u ∷ j)).now.phase) ((now t (u ∷ j)).now.heard first.0) (has_identified first.0 (back (u ∷ j)).turns) t_phase
+          hears
+        where
+          found : (n : ℕ) (heard rest : Bool) → n ≡ 1 → heard ≡ true → (((n == 1) && heard) || rest) ≡ true
+          found n heard rest n_is heard_is = rw (n_is, heard_is) refl
+
+      stay : (k : ℕ) → has_identified k (back (u ∷ j)).turns ≡ true → has_identified k (back (t ∷ u ∷ j)).turns ≡ true
+      stay k known_is = ap (has_identified k) (turns_after t (u ∷ j) run is)
+          ∙ still ((now t (u ∷ j)).now.phase == 1) ((now t (u ∷ j)).now.heard k) (has_identified k (back (u ∷ j)).turns) known_is
+        where
+          still : (a b c : Bool) → c ≡ true → ((a && b) || c) ≡ true
+          still true true c on = refl
+          still true false c on = on
+          still false b c on = on
+
+  -- PHASE 1: at its start, and after each cycle of it
+  risen : (t : CycleView) (cycles before : List CycleView) → IsRun r jobs carry restarts (t ∷ (cycles ++ before))
+      → IsClear (t ∷ (cycles ++ before)) → StartsEpoch r jobs carry restarts before → AreSparse r carry restarts (t ∷ cycles) before
+      → t.phase ≡ 0 → suc (length cycles) ≤ 10 + early_costs r jobs carry restarts (t ∷ cycles) before
+  risen t cycles before run clear starts sparse t_zero =
+      let is = all_borne laws more turn comes_up to_zero goes counts r jobs carry restarts opened t cycles before run clear starts sparse in
+      let at_zero = sym (phase_is t (cycles ++ before) run is) ∙ t_zero in
+      let few = few_back r jobs carry restarts (cycles ++ before) at_zero in
+      let le = zero_lasts cycles before run.0 clear.0 starts sparse.0 at_zero in omega (arith, few, le)
+
+  one_lasts : (t : CycleView) (cycles before : List CycleView) → IsRun r jobs carry restarts (t ∷ (cycles ++ before))
+      → IsClear (t ∷ (cycles ++ before)) → StartsEpoch r jobs carry restarts before → AreSparse r carry restarts (t ∷ cycles) before
+      → t.phase ≡ 1 → suc (length cycles) + spare t (cycles ++ before) ≤ 11 + known (back (t ∷ (cycles ++ before))).turns + early_costs r
+      jobs carry restarts (t ∷ cycles) before
+  one_lasts t [] before run clear starts sparse one =
+      let is = all_borne laws more turn comes_up to_zero goes counts r jobs carry restarts opened t [] before run clear starts sparse in
+      let none : t.phase ≡ 0 = phase_is t before run is ∙ starts in absurd (omega (arith, none, one))
+  one_lasts t (u ∷ cycles) before run clear starts sparse one =
+      elim (one_phase (is_done (known_of r) (now u (cycles ++ before))) u.phase
+      (sym (phase_next u (cycles ++ before) run.0 was) ∙ sym (phase_is t (u ∷ (cycles ++ before)) run is) ∙ one)) [
+        | inl first ↦ by_first (risen u cycles before run.0 clear.0 starts sparse.0 first.1)
+        | inr later ↦ by_later later.0 later.1 (one_lasts u cycles before run.0 clear.0 starts sparse.0 later.1)
+      ]
+    where
+      was : Borne u (cycles ++ before)
+      was = all_borne laws more turn comes_up to_zero goes counts r jobs carry restarts opened u cycles before run.0 clear.0 starts sparse.0
+
+      is : Borne t (u ∷ (cycles ++ before))
+      is = all_borne laws more turn comes_up to_zero goes counts r jobs carry restarts opened t (u ∷ cycles) before run clear starts sparse
+
+      cost : early_cost r jobs carry restarts t (u ∷ (cycles ++ before)) ≡ two_if
+          (is_disturbed_in r carry restarts (length (u ∷ (cycles ++ before))) t.sent)
+      cost = one_cost t.phase (behind_mst r jobs carry restarts t.sent (u ∷ (cycles ++ before))).now.whole
+          (is_disturbed_in r carry restarts (length (u ∷ (cycles ++ before))) t.sent) one
+
+      lost_so : IsDisturbed r carry restarts t (u ∷ (cycles ++ before))
+          → (early_cost r jobs carry restarts t (u ∷ (cycles ++ before)) ≡ 2) × (spare t (u ∷ (cycles ++ before)) ≡ 1)
+      lost_so on = (cost ∙ ap two_if on, ap one_if on)
+
+      calm_so : IsUndisturbed r carry restarts t (u ∷ (cycles ++ before)) → spare t (u ∷ (cycles ++ before)) ≡ 0
+      calm_so off = ap one_if off
+
+      by_first : suc (length cycles) ≤ 10 + early_costs r jobs carry restarts (u ∷ cycles) before
+          → suc (suc (length cycles)) + spare t (u ∷ (cycles ++ before)) ≤ 11 + known (back (t ∷ u ∷ (cycles ++ before))).turns +
+          early_costs r jobs carry restarts (t ∷ u ∷ cycles) before
+      by_first le = elim (calm_or_not r carry restarts t (u ∷ (cycles ++ before))) [
+        | inl on ↦ (let (a, b) = lost_so on in omega (arith, a, b, le))
+        | inr off ↦ (let a = calm_so off in omega (arith, a, le))
+      ]
+
+      by_later : is_done (known_of r) (now u (cycles ++ before)) ≡ false → u.phase ≡ 1
+          → suc (length cycles) + spare u (cycles ++ before) ≤ 11 + known (back (u ∷ (cycles ++ before))).turns + early_costs r jobs carry
+          restarts (u ∷ cycles) before
+          → suc (suc (length cycles)) + spare t (u ∷ (cycles ++ before)) ≤ 11 + known (back (t ∷ u ∷ (cycles ++ before))).turns +
+          early_costs r jobs carry restarts (t ∷ u ∷ cycles) before
+      by_later unfinished was_one le = elim (calm_or_not r carry restarts t (u ∷ (cycles ++ before))) [
+        | inl on ↦ (let (a, b) = lost_so on in let grows = known_after t (u ∷ (cycles ++ before)) run is in omega (arith, a, b, le, grows))
+        | inr off ↦ elim (calm_or_not r carry restarts u (cycles ++ before)) [
+          | inl disturbed ↦ (
+              let a = calm_so off in
+              let b : spare u (cycles ++ before) ≡ 1 = ap one_if disturbed in
+              let grows = known_after t (u ∷ (cycles ++ before)) run is in omega (arith, a, b, le, grows))
+          | inr calm ↦ (
+              let a = calm_so off in
+              let grows = one_more t u (cycles ++ before) run clear is was off calm one was_one unfinished in omega (arith, a, le, grows))
+        ]
+      ]
+
+  -- not all drives are identified while phase 1 goes on
+  known_few : (t : CycleView) (j : List CycleView) → IsRun r jobs carry restarts (t ∷ j) → Borne t j → t.phase ≡ 1
+      → is_done (known_of r) (now t j) ≡ false → known (back (t ∷ j)).turns + 1 ≤ length r.drives
+  known_few t j run is one unfinished =
+      let all = count_all (length (known_of r).drives) in
+      let members = members_count r in
+      let less = count_more (length (known_of r).drives) first.0 (λ k. has_identified k (back (t ∷ j)).turns) (λ k. true) (λ k on. refl) low
+      off refl in omega (arith, all, members, less)
+    where
+      t_phase : (now t j).now.phase ≡ 1
+      t_phase = phase_now laws more comes_up r jobs carry restarts opened t j run.1 ∙ one
+
+      first : (k : ℕ) × (first_place (known_of r) (λ k. not (is_identified (now t j) k)) ≡ Some k)
+      first = some_first (first_place (known_of r) (λ k. not (is_identified (now t j) k)))
+          (sym (ap (λ (n : ℕ). is_done_in n (known_of r) (now t j)) t_phase) ∙ unfinished)
+
+      low : first.0 < length (known_of r).drives
+      low = let less = found_low 0 (length (known_of r).drives) first.0 (λ k. not (is_identified (now t j) k)) first.1 in
+          omega (arith, less)
+
+      off : has_identified first.0 (back (t ∷ j)).turns ≡ false
+      off = ap (has_identified first.0) (turns_after t j run is ∙ ap (λ (l : List Turn). (now t j).now ∷ l) (sym (turns_before t j run is)))
+          ∙ unknown_off (is_identified (now t j) first.0) (found_passes 0 (length (known_of r).drives) first.0
+          (λ k. not (is_identified (now t j) k)) first.1)
+
+  -- BOTH PHASES
+  pub early_sparse : (t : CycleView) (cycles before : List CycleView) → IsRun r jobs carry restarts (t ∷ (cycles ++ before))
+      → IsClear (t ∷ (cycles ++ before)) → StartsEpoch r jobs carry restarts before → AreSparse r carry restarts (t ∷ cycles) before
+      → t.phase ≤ 1 → length cycles ≤ 10 + length r.drives + early_costs r jobs carry restarts cycles before
+  early_sparse t [] before run clear starts sparse low = omega arith
+  early_sparse t (u ∷ cycles) before run clear starts sparse low = elim (cases_eq t.phase 0) [
+    | inl at_zero ↦ (
+        let back_zero = sym (phase_is t (u ∷ (cycles ++ before)) run is) ∙ at_zero in
+        let few = few_back r jobs carry restarts (u ∷ (cycles ++ before)) back_zero in
+        let le = zero_lasts (u ∷ cycles) before run.0 clear.0 starts sparse.0 back_zero in omega (arith, few, le))
+    | inr later ↦ elim (one_phase (is_done (known_of r) (now u (cycles ++ before))) u.phase
+        (sym (phase_next u (cycles ++ before) run.0 was) ∙ sym (phase_is t (u ∷ (cycles ++ before)) run is) ∙ (omega (arith, low, later)))) [
+          | inl first ↦ (let le = risen u cycles before run.0 clear.0 starts sparse.0 first.1 in omega (arith, le))
+          | inr on ↦ (
+              let le = one_lasts u cycles before run.0 clear.0 starts sparse.0 on.1 in
+              let few = known_few u (cycles ++ before) run.0 was on.1 on.0 in omega (arith, le, few))
+        ]
+  ]
+    where
+      was : Borne u (cycles ++ before)
+      was = all_borne laws more turn comes_up to_zero goes counts r jobs carry restarts opened u cycles before run.0 clear.0 starts sparse.0
+
+      is : Borne t (u ∷ (cycles ++ before))
+      is = all_borne laws more turn comes_up to_zero goes counts r jobs carry restarts opened t (u ∷ cycles) before run clear starts sparse

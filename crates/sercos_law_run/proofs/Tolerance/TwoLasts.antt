@@ -1,0 +1,163 @@
+-- How long phase 2 lasts while disturbed cycles are sparse.
+use Rattle.std.proofs.Common.{◌≡◌, ◌⊎◌, inl, inr, ℕ, zero, suc, ◌+◌, ◌<◌, ◌≤◌, Bool, true, false, List, [], ◌∷◌, ◌++◌, length, None, refl, sym, ap, ◌∙◌, subst, arith, if◌then◌else◌}
+use Rattle.std.specs.List.{sum_by}
+use Rattle.sercos_step.specs.declared.request.Job.{Job}
+use Rattle.sercos_block.specs.Stores.{store_of}
+use Rattle.sercos_block.specs.Views.{RingView}
+use Rattle.sercos_trace.specs.Views.{CycleView}
+use Rattle.sercos_seat.specs.Ring.{known_of}
+use Rattle.sercos_master.specs.Annals.{Past, is_done, is_done_in}
+use Rattle.sercos_script.specs.Links.{Carry, Restarts}
+use Rattle.sercos_law_channel.specs.Handshake.Epochs.{epoch_begun}
+use Rattle.sercos_law_channel.specs.Handshake.RunLaws.{ComesToZero, ComesUp}
+use Rattle.sercos_law_channel.specs.Pace.ChannelCalls.{AgesBeforeEnd, StaysARun}
+use Rattle.sercos_law_channel.specs.Pace.Costs.{ComesTimed, StaysInCost, cost_in, cost_of}
+use Rattle.sercos_law_channel.specs.Pace.Jobs.{ReadsCost, WritesCost}
+use Rattle.sercos_law_channel.specs.Pace.Stretches.{open_since}
+use Rattle.sercos_law_run.specs.Journal.Arrivals.{sum_below}
+use Rattle.sercos_law_run.specs.Journal.Runs.{drive_at, looks_back, master_calls, IsClear, IsRun}
+use Rattle.sercos_law_run.specs.Agenda.Turns.{WorkInTurn, WorksInTwo}
+use Rattle.sercos_law_run.proofs.Start.CheckPasses.{ring_drive}
+use Rattle.sercos_law_run.specs.Views.RingViews.{behind_mdt, views_of}
+use Rattle.sercos_law_run.proofs.Views.Members.{member_is}
+use Rattle.sercos_law_run.specs.Held.Opened.{IsOpened}
+use Rattle.sercos_law_run.proofs.Held.Runs.{Laws, drive_got}
+use Rattle.sercos_law_run.proofs.Headline.HeadlineRuns.{MoreLaws}
+use Rattle.sercos_law_run.specs.Undisturbed.EpochStarts.{StartsEpoch}
+use Rattle.sercos_law_run.specs.Undisturbed.Sections.{GoesOnInTwo}
+use Rattle.sercos_law_run.specs.Undisturbed.ViewsSince.{views_since}
+use Rattle.sercos_law_run.proofs.Undisturbed.JobsBegun.{few_now, places_now, planned_now}
+use Rattle.sercos_law_run.proofs.Undisturbed.JobsCost.{two_fits}
+use Rattle.sercos_law_run.proofs.Undisturbed.PhaseTwo.{listed_all, section_two, sum_within}
+use Rattle.sercos_law_run.proofs.Undisturbed.Sections.{one_works}
+use Rattle.sercos_law_run.proofs.Undisturbed.StopStays.{none_before, stop_after}
+use Rattle.sercos_law_run.proofs.Recovery.LateDown.{phase_now}
+use Rattle.sercos_law_run.specs.Tolerance.Early.{early_costs}
+use Rattle.sercos_law_run.specs.Tolerance.Losses.{disturbances}
+use Rattle.sercos_law_run.specs.Tolerance.Sparse.{AreSparse}
+use Rattle.sercos_law_run.proofs.Tolerance.Borne.{IsBorne, all_borne}
+use Rattle.sercos_law_run.proofs.Tolerance.CostsShared.{costs_shared}
+use Rattle.sercos_law_run.proofs.Tolerance.EarlySparse.{early_sparse, phase_is, phase_next, start_is}
+
+two_phase : (done : Bool) (n : ℕ) → (if done then n + 1 else n) ≡ 2 → ((done ≡ true) × (n ≡ 1)) ⊎ ((done ≡ false) × (n ≡ 2))
+two_phase true n is = inl (refl, omega (arith, is))
+two_phase false n is = inr (refl, is)
+
+none_in : (n : ℕ) → sum_below n (λ k. 0) ≡ 0
+none_in zero = refl
+none_in (suc n) = let rest = none_in n in omega (arith, rest)
+
+module _ (laws : Laws) (more : MoreLaws) (turn : WorkInTurn) (two : WorksInTwo) (comes_up : (busy : ℕ) → ComesUp busy)
+    (to_zero : (busy : ℕ) → ComesToZero busy)
+    (goes : (busy : ℕ) → StaysARun busy) (counts : (busy : ℕ) → AgesBeforeEnd busy)
+    (r : RingView) (jobs : List Job) (carry : Carry) (restarts : Restarts) (opened : IsOpened r jobs) where
+  abbrev back : List CycleView → Past
+  back j = looks_back r jobs (master_calls r carry restarts j)
+
+  abbrev now : CycleView → List CycleView → Past
+  now t j = behind_mdt r jobs carry restarts t.sent j
+
+  abbrev Borne : CycleView → List CycleView → Type 0
+  Borne t j = IsBorne laws more turn comes_up to_zero goes counts r jobs carry restarts opened t j
+
+  abbrev opens_in : List CycleView → List CycleView → ℕ
+  opens_in cycles before = sum_below (length r.drives) (λ k. open_since (views_since r jobs carry restarts k cycles before)
+      (views_of r jobs carry restarts k before))
+
+  -- each cycle of phase 2 has an open step
+  two_counts : (cycles before : List CycleView) → IsRun r jobs carry restarts (cycles ++ before) → IsClear (cycles ++ before)
+      → StartsEpoch r jobs carry restarts before → AreSparse r carry restarts cycles before
+      → (back (cycles ++ before)).now.phase ≡ 2 → (back (cycles ++ before)).stop ≡ None
+      → length cycles ≤ 11 + length r.drives + early_costs r jobs carry restarts cycles before + opens_in cycles before
+  two_counts [] before run clear starts sparse is_two none = omega arith
+  two_counts (t ∷ cycles) before run clear starts sparse is_two none =
+      elim (two_phase (is_done (known_of r) (now t (cycles ++ before))) t.phase
+      (sym (phase_next laws more turn comes_up to_zero goes counts r jobs carry restarts opened t (cycles ++ before) run is) ∙ is_two)) [
+        | inl first ↦ (let le = early_sparse laws more turn comes_up to_zero goes counts r jobs carry restarts opened t cycles before run
+            clear starts sparse (let one = first.1 in omega (arith, one)) in omega (arith, le))
+        | inr later ↦ by later.0 later.1 (two_counts cycles before run.0 clear.0 starts sparse.0
+            (sym (phase_is laws more turn comes_up to_zero goes counts r jobs carry restarts opened t (cycles ++ before) run is) ∙ later.1)
+            (none_before r jobs carry restarts t (cycles ++ before) (start_is laws more turn comes_up to_zero goes counts r jobs carry
+            restarts opened t (cycles ++ before) run is) stop_none))
+      ]
+    where
+      is : Borne t (cycles ++ before)
+      is = all_borne laws more turn comes_up to_zero goes counts r jobs carry restarts opened t cycles before run clear starts sparse
+
+      stop_none : (behind_mdt r jobs carry restarts t.sent (cycles ++ before)).stop ≡ None
+      stop_none = sym (stop_after r jobs carry restarts t (cycles ++ before) is.stays) ∙ none
+
+      by : is_done (known_of r) (behind_mdt r jobs carry restarts t.sent (cycles ++ before)) ≡ false → t.phase ≡ 2
+          → length cycles ≤ 11 + length r.drives + early_costs r jobs carry restarts cycles before + opens_in cycles before
+          → suc (length cycles) ≤ 11 + length r.drives + early_costs r jobs carry restarts (t ∷ cycles) before + opens_in (t ∷ cycles)
+          before
+      by unfinished t_two earlier =
+          let phase : (behind_mdt r jobs carry restarts t.sent (cycles ++ before)).now.phase ≡ 2 = phase_now r jobs carry restarts t
+          (cycles ++ before) run.1 ∙ t_two in
+          let goes_on : GoesOnInTwo r (behind_mdt r jobs carry restarts t.sent (cycles ++ before)) = record {
+            phase = phase;
+            goes_on = stop_none;
+            planned = planned_now laws more r jobs carry restarts opened t (cycles ++ before) run clear phase stop_none;
+            unchecked = sym (ap (λ (n : ℕ). is_done_in n (known_of r) (behind_mdt r jobs carry restarts t.sent (cycles ++ before))) phase)
+                ∙ unfinished;
+          } in
+          let works = one_works laws more two r jobs carry restarts opened t cycles before run clear goes_on in
+          omega (arith, works, earlier)
+
+  -- which the requests of phase 2 account for, and what the disturbed cycles cost
+  two_fit : ((busy : ℕ) → StaysInCost busy) → ComesTimed → ((busy : ℕ) → ReadsCost busy) → ((busy : ℕ) → WritesCost busy)
+      → (cycles before : List CycleView) → IsRun r jobs carry restarts (cycles ++ before) → IsClear (cycles ++ before)
+      → StartsEpoch r jobs carry restarts before → AreSparse r carry restarts cycles before → (back (cycles ++ before)).now.phase ≤ 2
+      → opens_in cycles before ≤ sum_by section_two r.drives + disturbances r carry restarts cycles before
+  two_fit in_cost timed reads_cost writes_cost [] before run clear starts sparse low = let none = none_in (length r.drives) in
+      omega (arith, none)
+  two_fit in_cost timed reads_cost writes_cost (t ∷ cycles) before run clear starts sparse low =
+      let shared = costs_shared laws more turn comes_up to_zero goes counts r jobs carry restarts opened in_cost timed t cycles before run
+      clear starts sparse t_low (λ raw. 512) (λ k below. listed_all (views_of r jobs carry restarts k (t ∷ (cycles ++ before)))) in
+      let sums = sum_within (λ k. cost_in (cost_of (drive_at r k).busy (drive_at r k).command (λ raw. 512) (store_of (drive_at r k)))
+      (epoch_begun (views_of r jobs carry restarts k (t ∷ (cycles ++ before))))) section_two r.drives each in
+      omega (arith, shared, sums)
+    where
+      is : Borne t (cycles ++ before)
+      is = all_borne laws more turn comes_up to_zero goes counts r jobs carry restarts opened t cycles before run clear starts sparse
+
+      was_early : (done : Bool) (n : ℕ) → (if done then n + 1 else n) ≤ 2 → n ≤ 2
+      was_early true n few = omega (arith, few)
+      was_early false n few = few
+
+      t_low : t.phase ≤ 2
+      t_low = was_early (is_done (known_of r) (now t (cycles ++ before))) t.phase
+          (subst (λ (n : ℕ). n ≤ 2) (phase_next laws more turn comes_up to_zero goes counts r jobs carry restarts opened t
+          (cycles ++ before) run is) low)
+
+      now_low : (behind_mdt r jobs carry restarts t.sent (cycles ++ before)).now.phase ≤ 2
+      now_low = let same = phase_now r jobs carry restarts t (cycles ++ before) run.1 in let few = t_low in omega (arith, same, few)
+
+      each : (k : ℕ) → k < length r.drives → cost_in (cost_of (drive_at r k).busy (drive_at r k).command (λ raw. 512)
+          (store_of (drive_at r k))) (epoch_begun (views_of r jobs carry restarts k (t ∷ (cycles ++ before)))) ≤ section_two (drive_at r k)
+      each k below =
+          let rules = (ring_drive r k (drive_at r k) opened.valid (drive_got r k below)).blocks in
+          two_fits (λ raw. 512) (drive_at r k) rules (reads_cost (drive_at r k).busy) (writes_cost (drive_at r k).busy) (known_of r)
+          (behind_mdt r jobs carry restarts t.sent (cycles ++ before)).plan k
+          (epoch_begun (views_of r jobs carry restarts k (t ∷ (cycles ++ before))))
+          (member_is r k) (places_now laws more r jobs carry restarts opened t (cycles ++ before) run clear is.stays k
+          below (let few = now_low in omega (arith, few))) (few_now laws more r jobs carry restarts opened t (cycles ++ before) run
+          clear is.stays k below now_low)
+
+  -- HOW LONG PHASE 2 LASTS
+  pub two_sparse : ((busy : ℕ) → StaysInCost busy) → ComesTimed → ((busy : ℕ) → ReadsCost busy) → ((busy : ℕ) → WritesCost busy)
+      → (t : CycleView) (cycles before : List CycleView) → IsRun r jobs carry restarts (t ∷ (cycles ++ before))
+      → IsClear (t ∷ (cycles ++ before))
+      → StartsEpoch r jobs carry restarts before → AreSparse r carry restarts (t ∷ cycles) before → t.phase ≡ 2
+      → (behind_mdt r jobs carry restarts t.sent (cycles ++ before)).stop ≡ None
+      → length cycles ≤ 11 + length r.drives + sum_by section_two r.drives + early_costs r jobs carry restarts cycles before + disturbances
+      r carry restarts cycles before
+  two_sparse in_cost timed reads_cost writes_cost t cycles before run clear starts sparse t_two none =
+      let is = all_borne laws more turn comes_up to_zero goes counts r jobs carry restarts opened t cycles before run clear starts sparse in
+      let phase = sym (phase_is laws more turn comes_up to_zero goes counts r jobs carry restarts opened t (cycles ++ before) run is)
+      ∙ t_two in
+      let stop = none_before r jobs carry restarts t (cycles ++ before)
+      (start_is laws more turn comes_up to_zero goes counts r jobs carry restarts opened t (cycles ++ before) run is) none in
+      let counted = two_counts cycles before run.0 clear.0 starts sparse.0 phase stop in
+      let fits = two_fit in_cost timed reads_cost writes_cost cycles before run.0 clear.0 starts sparse.0 (omega (arith, phase)) in
+      omega (arith, counted, fits)
