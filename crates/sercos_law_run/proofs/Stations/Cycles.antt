@@ -18,7 +18,8 @@ use Rattle.sercos_law_run.proofs.Stations.FitInFour.{fit_in_four}
 use Rattle.sercos_law_run.proofs.Stations.Times.{empty_keeps_times}
 use Rattle.sercos_law_run.proofs.Stations.Phases.{stands_by_mst, rises_by_one, drops_by_cause}
 
-are_plain : HandedThose → (d : DriveView) (rate : ℕ) (h : List DriveCall) → blocks_fault [] d.blocks ≡ None → IsStore (store_of d) → ArePlain d rate h
+are_plain : HandedThose → (d : DriveView) (rate : ℕ) (h : List DriveCall) → blocks_fault [] d.blocks ≡ None → IsStore (store_of d)
+    → ArePlain d rate h
 are_plain those d rate [] none store = tt
 are_plain those d rate (call ∷ h) none store = record {
   times = λ high. empty_keeps_times rate _ (fit_in_three those d rate (call ∷ h) none store high);

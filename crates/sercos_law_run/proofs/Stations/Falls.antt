@@ -54,14 +54,16 @@ open_for (EndCycle ∷ h) n e = by (age_of h) refl e (open_for h)
         record { newer = EndCycle ∷ since.newer; older = since.older; split = ap (λ (c : List channel.Call). EndCycle ∷ c) since.split; waits = since.waits; same = since.same; count = ap (λ (m : ℕ). m + 1) since.count ∙ next }
 open_for (Hear status word ∷ h) n e = by (answers_it (begun_by h) status) refl e (open_for h)
   where
-    by : (answers : Bool) → answers_it (begun_by h) status ≡ answers → (if answers then None else age_of h) ≡ Some n → IsOpenAt h → IsOpenFor (Hear status word ∷ h) n
+    by : (answers : Bool) → answers_it (begun_by h) status ≡ answers → (if answers then None else age_of h) ≡ Some n → IsOpenAt h
+        → IsOpenFor (Hear status word ∷ h) n
     by true is e more = cc
     by false is e more =
         let since = more n e in
         record { newer = Hear status word ∷ since.newer; older = since.older; split = ap (λ (c : List channel.Call). Hear status word ∷ c) since.split; waits = since.waits; same = rw is since.same; count = since.count }
 open_for (Send ∷ h) n e = by (is_some (open_in (begun_by h))) refl (age_of h) refl e (open_for h)
   where
-    by : (waits : Bool) → is_some (open_in (begun_by h)) ≡ waits → (o : Option ℕ) → age_of h ≡ o → (if waits then Some (unwrap_or o 0) else None) ≡ Some n → IsOpenAt h → IsOpenFor (Send ∷ h) n
+    by : (waits : Bool) → is_some (open_in (begun_by h)) ≡ waits → (o : Option ℕ) → age_of h ≡ o
+        → (if waits then Some (unwrap_or o 0) else None) ≡ Some n → IsOpenAt h → IsOpenFor (Send ∷ h) n
     by false is o age e more = cc
     by true is None age e more = let zero : 0 ≡ n = cc in record { newer = []; older = h; split = refl; waits = is; same = refl; count = zero }
     by true is (Some m) age e more =
@@ -86,14 +88,17 @@ are_to k zero turns many = tt
 are_to k (suc n) [] many = absurd (omega (arith, many))
 are_to k (suc n) (t ∷ turns) many = by ((t.phase == 1) && is_place k t.addressed) refl many (are_to k n turns)
   where
-    by : (b : Bool) → ((t.phase == 1) && is_place k t.addressed) ≡ b → suc n ≤ (if b then count_addressed k turns + 1 else 0) → (n ≤ count_addressed k turns → AreTo k n turns) → AreTo k (suc n) (t ∷ turns)
+    by : (b : Bool) → ((t.phase == 1) && is_place k t.addressed) ≡ b → suc n ≤ (if b then count_addressed k turns + 1 else 0)
+        → (n ≤ count_addressed k turns → AreTo k n turns) → AreTo k (suc n) (t ∷ turns)
     by true is many more = let (one, to) = and_parts (t.phase == 1) (is_place k t.addressed) is in (grind (arith, nat_tests, one), place_is_so k t.addressed to, more (omega (arith, many)))
     by false is many more = absurd (omega (arith, many))
 
 late_so : (p : Past) (k : ℕ) → is_at_limit p k ≡ true → IsLate p k
 late_so p k limit = by (p.now.phase == 1) refl limit
   where
-    by : (b : Bool) → (p.now.phase == 1) ≡ b → (if b then is_place k p.now.addressed && nat_le 64 (count_addressed k p.turns) else nat_le 64 (cycles_open (p.calls k))) ≡ true → IsLate p k
+    by : (b : Bool) → (p.now.phase == 1) ≡ b
+        → (if b then is_place k p.now.addressed && nat_le 64 (count_addressed k p.turns) else nat_le 64 (cycles_open (p.calls k))) ≡ true
+        → IsLate p k
     by true one limit =
         let (to, many) = and_parts (is_place k p.now.addressed) (nat_le 64 (count_addressed k p.turns)) limit in
         let is : p.now.phase ≡ 1 = grind (arith, nat_tests, one) in
@@ -124,7 +129,8 @@ at_leaves s k content q = by (place_of s (slice_index content 0))
     taken : (i : ℕ) → AtsLeave k q (after_taken i content q)
     taken i = record { phase_is = refl; whole_is = refl; turns_are = refl; quiet = which (k == i) _ }
       where
-        which : (same : Bool) (calls : List channel.Call) → (if same then true else q.now.heard k) ≡ false → (q.now.heard k ≡ false) × ((if same then calls else q.calls k) ≡ q.calls k)
+        which : (same : Bool) (calls : List channel.Call) → (if same then true else q.now.heard k) ≡ false
+            → (q.now.heard k ≡ false) × ((if same then calls else q.calls k) ≡ q.calls k)
         which true calls none = absurd (false≢true (sym none))
         which false calls none = (none, refl)
 
@@ -137,7 +143,8 @@ at_leaves s k content q = by (place_of s (slice_index content 0))
         which false = leaves_same k q
 
 -- a place from which none is taken in phases 3 and 4 gets none that reads
-unread : (s : Known) (k : ℕ) (content : List ℕ) (q : Past) → place_of s (slice_index content 0) ≡ Some k → 3 ≤ q.now.phase → (after_at s content q).now.heard k ≡ false
+unread : (s : Known) (k : ℕ) (content : List ℕ) (q : Past) → place_of s (slice_index content 0) ≡ Some k → 3 ≤ q.now.phase
+    → (after_at s content q).now.heard k ≡ false
     → is_none (at_fault (member s k).address (at_len (member s k) (outcomes q k)) content) ≡ false
 unread s k content q found late none =
     by (is_taken s q k content) refl (subst (λ (o : Option ℕ). (after_at_of s o content q).now.heard k ≡ false) found none)
@@ -164,11 +171,13 @@ unread s k content q found late none =
 
 -- So none of the ATs of a cycle reads as that of a drive from which none is taken.
 -- one that has another address doesn't
-other_address : (address len : ℕ) (content : List ℕ) → (slice_index content 0 == address) ≡ false → is_some (at_fault address len content) ≡ true
+other_address : (address len : ℕ) (content : List ℕ) → (slice_index content 0 == address) ≡ false
+    → is_some (at_fault address len content) ≡ true
 unfolding head_fault
 other_address address len content other = rw other (by (length content == 1 + len))
   where
-    by : (b : Bool) → is_some (option_or (then_some (not b) (Length (length content) (1 + len))) (Some (Address (slice_index content 0) address))) ≡ true
+    by : (b : Bool)
+        → is_some (option_or (then_some (not b) (Length (length content) (1 + len))) (Some (Address (slice_index content 0) address))) ≡ true
     by true = refl
     by false = refl
 
@@ -178,10 +187,12 @@ some_so (Some x) e = refl
 
 record AtsAre (r : RingView) (jobs : List Job) (carry : Carry) (cycle k : ℕ) (ats : List (List ℕ)) (q p : Past) : Type 0 where
   leaves : AtsLeave k q p
-  none : p.now.heard k ≡ false → 3 ≤ q.now.phase → NoneReads r carry cycle (drive_at r k).address (at_len (member (known_of r) k) (outcomes p k)) ats
+  none : p.now.heard k ≡ false → 3 ≤ q.now.phase
+      → NoneReads r carry cycle (drive_at r k).address (at_len (member (known_of r) k) (outcomes p k)) ats
 
 module _ (r : RingView) (jobs : List Job) (carry : Carry) (restarts : Restarts) (opened : IsOpened r jobs) where
-  ats_are : (cycle k : ℕ) → k < length r.drives → (ats : List (List ℕ)) (h : List Call) → AtsAre r jobs carry cycle k ats (looks_back r jobs h) (looks_back r jobs (at_calls r carry cycle ats h))
+  ats_are : (cycle k : ℕ) → k < length r.drives → (ats : List (List ℕ)) (h : List Call)
+      → AtsAre r jobs carry cycle k ats (looks_back r jobs h) (looks_back r jobs (at_calls r carry cycle ats h))
   ats_are cycle k below [] h = record { leaves = leaves_same k (looks_back r jobs h); none = λ none late. tt }
   ats_are cycle k below (at ∷ ats) h = by (heard carry (passage cycle kinds.At (station_of r (slice_index at 0)) 0) at) refl (λ (o : Option (List ℕ)). ats_are cycle k below ats (with_at o h))
     where
@@ -209,15 +220,18 @@ module _ (r : RingView) (jobs : List Job) (carry : Carry) (restarts : Restarts) 
           first : AtsLeave k (looks_back r jobs h) (after_at (known_of r) got (looks_back r jobs h))
           first = at_leaves (known_of r) k got (looks_back r jobs h)
 
-          reads : (after_at (known_of r) got (looks_back r jobs h)).now.heard k ≡ false → last.calls k ≡ (after_at (known_of r) got (looks_back r jobs h)).calls k
-              → (after_at (known_of r) got (looks_back r jobs h)).calls k ≡ (looks_back r jobs h).calls k → 3 ≤ (looks_back r jobs h).now.phase
+          reads : (after_at (known_of r) got (looks_back r jobs h)).now.heard k ≡ false
+              → last.calls k ≡ (after_at (known_of r) got (looks_back r jobs h)).calls k
+              → (after_at (known_of r) got (looks_back r jobs h)).calls k ≡ (looks_back r jobs h).calls k
+              → 3 ≤ (looks_back r jobs h).now.phase
               → is_some (at_fault (drive_at r k).address (at_len (member (known_of r) k) (outcomes last k)) got) ≡ true
           reads before calls same late = which (slice_index got 0 == (drive_at r k).address) refl
             where
               outs : outcomes (looks_back r jobs h) k ≡ outcomes last k
               outs = ap (λ (c : List channel.Call). outcomes_in (begun_by c)) (sym same ∙ sym calls)
 
-              which : (b : Bool) → (slice_index got 0 == (drive_at r k).address) ≡ b → is_some (at_fault (drive_at r k).address (at_len (member (known_of r) k) (outcomes last k)) got) ≡ true
+              which : (b : Bool) → (slice_index got 0 == (drive_at r k).address) ≡ b
+                  → is_some (at_fault (drive_at r k).address (at_len (member (known_of r) k) (outcomes last k)) got) ≡ true
               which false other = other_address (drive_at r k).address (at_len (member (known_of r) k) (outcomes last k)) got other
               which true own =
                   let mine : slice_index got 0 ≡ (drive_at r k).address = grind (arith, nat_tests, own) in
@@ -228,11 +242,13 @@ module _ (r : RingView) (jobs : List Job) (carry : Carry) (restarts : Restarts) 
                     ∙ unread (known_of r) k got (looks_back r jobs h) found late before)
 
   -- THE TURN of a cycle.
-  leaves_at : (t : CycleView) (j : List CycleView) (k : ℕ) → k < length r.drives → AtsLeave k (behind_mst r jobs carry restarts t.sent j) (behind_ats r jobs carry restarts t.sent j)
+  leaves_at : (t : CycleView) (j : List CycleView) (k : ℕ) → k < length r.drives
+      → AtsLeave k (behind_mst r jobs carry restarts t.sent j) (behind_ats r jobs carry restarts t.sent j)
   leaves_at t j k below = (ats_are (length j) k below (ats_in t.sent) (own_mst carry (length j) (mst_in t.sent) (begins r carry restarts j))).leaves
 
   -- it is there whether or not the ring has drives
-  ats_turn : (cycle : ℕ) (ats : List (List ℕ)) (h : List Call) → SameTurn (looks_back r jobs (at_calls r carry cycle ats h)) (looks_back r jobs h)
+  ats_turn : (cycle : ℕ) (ats : List (List ℕ)) (h : List Call)
+      → SameTurn (looks_back r jobs (at_calls r carry cycle ats h)) (looks_back r jobs h)
   ats_turn cycle [] h = record { phase_is = refl; whole_is = refl; turns_are = refl }
   ats_turn cycle (at ∷ ats) h = by (heard carry (passage cycle kinds.At (station_of r (slice_index at 0)) 0) at) (λ (o : Option (List ℕ)). ats_turn cycle ats (with_at o h))
     where
@@ -244,19 +260,23 @@ module _ (r : RingView) (jobs : List Job) (carry : Carry) (restarts : Restarts) 
           let first = at_leaves (known_of r) 0 got (looks_back r jobs h) in
           record { phase_is = rest.phase_is ∙ first.phase_is; whole_is = rest.whole_is ∙ first.whole_is; turns_are = rest.turns_are ∙ first.turns_are }
 
-  turn_at : (t : CycleView) (j : List CycleView) → SameTurn (behind_mdt r jobs carry restarts t.sent j) (behind_mst r jobs carry restarts t.sent j)
+  turn_at : (t : CycleView) (j : List CycleView)
+      → SameTurn (behind_mdt r jobs carry restarts t.sent j) (behind_mst r jobs carry restarts t.sent j)
   turn_at t j =
       let a = turn_mdt (known_of r) (behind_ats r jobs carry restarts t.sent j) in
       let b = ats_turn (length j) (ats_in t.sent) (own_mst carry (length j) (mst_in t.sent) (begins r carry restarts j)) in
       record { phase_is = a.phase_is ∙ b.phase_is; whole_is = a.whole_is ∙ b.whole_is; turns_are = a.turns_are ∙ b.turns_are }
 
-  phase_at : (t : CycleView) (j : List CycleView) → IsNext r jobs carry restarts t j → (behind_mdt r jobs carry restarts t.sent j).now.phase ≡ t.phase
+  phase_at : (t : CycleView) (j : List CycleView) → IsNext r jobs carry restarts t j
+      → (behind_mdt r jobs carry restarts t.sent j).now.phase ≡ t.phase
   phase_at t j next = (turn_at t j).phase_is ∙ sym next.phase
 
-  whole_at : (t : CycleView) (j : List CycleView) → IsNext r jobs carry restarts t j → (behind_mdt r jobs carry restarts t.sent j).now.whole ≡ comes_back carry t j
+  whole_at : (t : CycleView) (j : List CycleView) → IsNext r jobs carry restarts t j
+      → (behind_mdt r jobs carry restarts t.sent j).now.whole ≡ comes_back carry t j
   whole_at t j next = (turn_at t j).whole_is ∙ ap (λ (n : ℕ). is_mst n (heard carry (passage (length j) kinds.Mst 0 0) (mst_in t.sent))) (sym next.phase)
 
-  none_at : (t : CycleView) (j : List CycleView) (k : ℕ) → k < length r.drives → IsNext r jobs carry restarts t j → 3 ≤ t.phase → (behind_mdt r jobs carry restarts t.sent j).now.heard k ≡ false → NoneReadsIn r jobs carry restarts t j k
+  none_at : (t : CycleView) (j : List CycleView) (k : ℕ) → k < length r.drives → IsNext r jobs carry restarts t j → 3 ≤ t.phase
+      → (behind_mdt r jobs carry restarts t.sent j).now.heard k ≡ false → NoneReadsIn r jobs carry restarts t j k
   none_at t j k below next late quiet =
       let same = next.phase in
       (ats_are (length j) k below (ats_in t.sent) (own_mst carry (length j) (mst_in t.sent) (begins r carry restarts j))).none
@@ -270,7 +290,8 @@ module _ (r : RingView) (jobs : List Job) (carry : Carry) (restarts : Restarts) 
     turn : b ≡ (behind_mdt r jobs carry restarts before.sent older).now
     phase : b.phase ≤ (at_start r jobs carry restarts j).now.phase
 
-  turn_before : (t : CycleView) (j : List CycleView) (b : Turn) (rest : List Turn) → (behind_mdt r jobs carry restarts t.sent j).turns ≡ b ∷ rest → IsBefore t j b
+  turn_before : (t : CycleView) (j : List CycleView) (b : Turn) (rest : List Turn)
+      → (behind_mdt r jobs carry restarts t.sent j).turns ≡ b ∷ rest → IsBefore t j b
   turn_before t j b rest is = by (restarts (length j) 0) j (started r jobs (restarts (length j) 0) (master_calls r carry restarts j)) (sym (turn_at t j).turns_are ∙ is) refl
     where
       up : (s : Known) (p : Past) → p.now.phase ≤ next_phase s p
@@ -282,6 +303,7 @@ module _ (r : RingView) (jobs : List Job) (carry : Carry) (restarts : Restarts) 
 
       last : (u : CycleView) (older : List CycleView) → (b' : Bool) → (p : Past) → p ≡ (behind_mdt r jobs carry restarts u.sent older)
           → (if b' then new_epoch (p.cycle + 1) (still_waiting p) else goes_on (next_phase (known_of r) p) p).turns ≡ b ∷ rest
+         
           → (b ≡ p.now) × (b.phase ≤ (if b' then new_epoch (p.cycle + 1) (still_waiting p) else goes_on (next_phase (known_of r) p) p).now.phase)
       last u older true p e is = cc
       last u older false p e is =
@@ -289,7 +311,9 @@ module _ (r : RingView) (jobs : List Job) (carry : Carry) (restarts : Restarts) 
           let low = up (known_of r) p in
           (sym same, subst (λ (x : Turn). x.phase ≤ next_phase (known_of r) p) same low)
 
-      by : (restarted : Bool) (i : List CycleView) → at_start r jobs carry restarts j ≡ begun_cycle restarted (looks_back r jobs (master_calls r carry restarts j)) → (at_start r jobs carry restarts j).turns ≡ b ∷ rest → j ≡ i → IsBefore t j b
+      by : (restarted : Bool) (i : List CycleView)
+          → at_start r jobs carry restarts j ≡ begun_cycle restarted (looks_back r jobs (master_calls r carry restarts j))
+          → (at_start r jobs carry restarts j).turns ≡ b ∷ rest → j ≡ i → IsBefore t j b
       by true i start is same = let none : [] ≡ b ∷ rest = sym (ap (λ (p : Past). p.turns) start) ∙ is in absurd (cc)
       by false [] start is same =
           let none : [] ≡ b ∷ rest = sym (ap (λ (i : List CycleView). (looks_back r jobs (master_calls r carry restarts i)).turns) same) ∙ sym (ap (λ (p : Past). p.turns) start) ∙ is in absurd (cc)
@@ -305,14 +329,17 @@ module _ (r : RingView) (jobs : List Job) (carry : Carry) (restarts : Restarts) 
           }
 
   -- THE CAUSES.
-  mst_lost : (t : CycleView) (j : List CycleView) → IsRun r jobs carry restarts (t ∷ j) → has_lost_mst ((behind_mdt r jobs carry restarts t.sent j).now ∷ (behind_mdt r jobs carry restarts t.sent j).turns) ≡ true → MissesMst carry t j
+  mst_lost : (t : CycleView) (j : List CycleView) → IsRun r jobs carry restarts (t ∷ j)
+      → has_lost_mst ((behind_mdt r jobs carry restarts t.sent j).now ∷ (behind_mdt r jobs carry restarts t.sent j).turns) ≡ true
+      → MissesMst carry t j
   mst_lost t j run lost = by (behind_mdt r jobs carry restarts t.sent j).turns refl lost
     where
       not_so : (b : Bool) → not b ≡ true → b ≡ false
       not_so true e = absurd (false≢true e)
       not_so false e = refl
 
-      by : (turns : List Turn) → (behind_mdt r jobs carry restarts t.sent j).turns ≡ turns → has_lost_mst ((behind_mdt r jobs carry restarts t.sent j).now ∷ turns) ≡ true → MissesMst carry t j
+      by : (turns : List Turn) → (behind_mdt r jobs carry restarts t.sent j).turns ≡ turns
+          → has_lost_mst ((behind_mdt r jobs carry restarts t.sent j).now ∷ turns) ≡ true → MissesMst carry t j
       by [] is lost = absurd (false≢true lost)
       by (b ∷ rest) is lost =
           let (up, both) = and_parts (nat_le 1 b.phase) (not (behind_mdt r jobs carry restarts t.sent j).now.whole && not b.whole) lost in
@@ -329,14 +356,17 @@ module _ (r : RingView) (jobs : List Job) (carry : Carry) (restarts : Restarts) 
           }
 
   at_lost : (t : CycleView) (j : List CycleView) (k : ℕ) → k < length r.drives → IsRun r jobs carry restarts (t ∷ j)
-      → has_lost_at k ((behind_mdt r jobs carry restarts t.sent j).now ∷ (behind_mdt r jobs carry restarts t.sent j).turns) ≡ true → MissesAt r jobs carry restarts t j (member (known_of r) k).address
+      → has_lost_at k ((behind_mdt r jobs carry restarts t.sent j).now ∷ (behind_mdt r jobs carry restarts t.sent j).turns) ≡ true
+      → MissesAt r jobs carry restarts t j (member (known_of r) k).address
   at_lost t j k below run lost = by (behind_mdt r jobs carry restarts t.sent j).turns refl lost
     where
       not_so : (b : Bool) → not b ≡ true → b ≡ false
       not_so true e = absurd (false≢true e)
       not_so false e = refl
 
-      by : (turns : List Turn) → (behind_mdt r jobs carry restarts t.sent j).turns ≡ turns → has_lost_at k ((behind_mdt r jobs carry restarts t.sent j).now ∷ turns) ≡ true → MissesAt r jobs carry restarts t j (member (known_of r) k).address
+      by : (turns : List Turn) → (behind_mdt r jobs carry restarts t.sent j).turns ≡ turns
+          → has_lost_at k ((behind_mdt r jobs carry restarts t.sent j).now ∷ turns) ≡ true
+          → MissesAt r jobs carry restarts t j (member (known_of r) k).address
       by [] is lost = absurd (false≢true lost)
       by (b ∷ rest) is lost =
           let (up, both) = and_parts (nat_le 3 b.phase) (not ((behind_mdt r jobs carry restarts t.sent j).now.heard k) && not (b.heard k)) lost in
@@ -362,21 +392,27 @@ module _ (r : RingView) (jobs : List Job) (carry : Carry) (restarts : Restarts) 
   inside k zero i test e = cc
   inside k (suc n) i test e = by (test k) e (inside (k + 1) n i test)
     where
-      by : (b : Bool) → (if b then Some k else first_from (k + 1) n test) ≡ Some i → (first_from (k + 1) n test ≡ Some i → i < k + 1 + n) → i < k + suc n
+      by : (b : Bool) → (if b then Some k else first_from (k + 1) n test) ≡ Some i → (first_from (k + 1) n test ≡ Some i → i < k + 1 + n)
+          → i < k + suc n
       by true e more = let same : k ≡ i = cc in omega (arith, same)
       by false e more = let low = more e in omega (arith, low)
 
   placed : (k : ℕ) (test : ℕ → Bool) → first_place (known_of r) test ≡ Some k → (k < length r.drives) × (test k ≡ true)
   placed k test is = let low = inside 0 (length (known_of r).drives) k test is in let count = members_count r in (omega (arith, low, count), found_passes 0 (length (known_of r).drives) k test is)
 
-  caused : (t : CycleView) (j : List CycleView) → IsRun r jobs carry restarts (t ∷ j) → (f : Fall) → fall_of (known_of r) (behind_mdt r jobs carry restarts t.sent j) ≡ Some f → HasCause r jobs carry restarts t j f
+  caused : (t : CycleView) (j : List CycleView) → IsRun r jobs carry restarts (t ∷ j) → (f : Fall)
+      → fall_of (known_of r) (behind_mdt r jobs carry restarts t.sent j) ≡ Some f → HasCause r jobs carry restarts t j f
   caused t j run f is = by (has_lost_mst (p.now ∷ p.turns)) refl (first_place (known_of r) (λ k. has_lost_at k (p.now ∷ p.turns))) refl (first_place (known_of r) (is_at_limit p)) refl is
     where
       p : Past
       p = behind_mdt r jobs carry restarts t.sent j
 
-      by : (m : Bool) → has_lost_mst (p.now ∷ p.turns) ≡ m → (a : Option ℕ) → first_place (known_of r) (λ k. has_lost_at k (p.now ∷ p.turns)) ≡ a → (l : Option ℕ) → first_place (known_of r) (is_at_limit p) ≡ l
-          → option_or (if m then Some MstLost else None) (option_or (fall_at AtLost (known_of r) a) (fall_at StepLimit (known_of r) l)) ≡ Some f → HasCause r jobs carry restarts t j f
+      by : (m : Bool) → has_lost_mst (p.now ∷ p.turns) ≡ m → (a : Option ℕ)
+          → first_place (known_of r) (λ k. has_lost_at k (p.now ∷ p.turns)) ≡ a → (l : Option ℕ)
+          → first_place (known_of r) (is_at_limit p) ≡ l
+         
+          → option_or (if m then Some MstLost else None) (option_or (fall_at AtLost (known_of r) a) (fall_at StepLimit (known_of r) l)) ≡ Some f
+          → HasCause r jobs carry restarts t j f
       by true lost a at l late is = let same : MstLost ≡ f = cc in subst (HasCause r jobs carry restarts t j) same (mst_lost t j run lost)
       by false lost (Some k) at l late is =
           let same : AtLost (member (known_of r) k).address ≡ f = cc in
@@ -393,7 +429,9 @@ falls_have_cause r jobs carry restarts t j opened run f is =
     by (fall_of (known_of r) (behind_mdt r jobs carry restarts t.sent j)) refl (restarts (length j) 0) refl (sym (ap (λ (e : EventsView). e.fall) run.1.events) ∙ is)
   where
     by : (o : Option Fall) → fall_of (known_of r) (behind_mdt r jobs carry restarts t.sent j) ≡ o → (b : Bool) → restarts (length j) 0 ≡ b
-        → option_or o (if b then restart_told (known_of r) (looks_back r jobs (master_calls r carry restarts j)) no_events else no_events).fall ≡ Some f → HasCause r jobs carry restarts t j f
+       
+        → option_or o (if b then restart_told (known_of r) (looks_back r jobs (master_calls r carry restarts j)) no_events else no_events).fall ≡ Some f
+        → HasCause r jobs carry restarts t j f
     by (Some x) falls b restarted is = let same : x ≡ f = cc in subst (HasCause r jobs carry restarts t j) same (caused r jobs carry restarts opened t j run x falls)
     by None falls true restarted is = let same : Restart ≡ f = cc in subst (HasCause r jobs carry restarts t j) same restarted
     by None falls false restarted is = cc

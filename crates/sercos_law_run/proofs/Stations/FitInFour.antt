@@ -39,8 +39,10 @@ unfolding unfit_for_phase_4
 inside_so [] none = refl
 inside_so (b ∷ blocks) none = by (is_outside b) none (inside_so blocks)
   where
-    by : (out : Bool) → (length (map (λ (b : Block). b.idn) (if out then b ∷ filter is_outside blocks else filter is_outside blocks)) == 0) ≡ true
-        → ((length (map (λ (b : Block). b.idn) (filter is_outside blocks)) == 0) ≡ true → AreInside blocks) → (not out && list_all (λ b. not (is_outside b)) blocks) ≡ true
+    by : (out : Bool)
+        → (length (map (λ (b : Block). b.idn) (if out then b ∷ filter is_outside blocks else filter is_outside blocks)) == 0) ≡ true
+        → ((length (map (λ (b : Block). b.idn) (filter is_outside blocks)) == 0) ≡ true → AreInside blocks)
+        → (not out && list_all (λ b. not (is_outside b)) blocks) ≡ true
     by true none more = absurd (grind (arith, nat_tests, none))
     by false none more = more none
 
@@ -55,7 +57,8 @@ none_so (b ∷ blocks) inside = by (is_outside b) inside (none_so blocks)
     by false inside more = more inside
 
 -- a write that leaves the block inside its limits leaves all of them so
-inside_written : (raw : ℕ) (bytes : List ℕ) (blocks : List Block) → are_ascending blocks ≡ true → IfSome (find_block raw blocks) (λ (b : Block). is_outside (record b { value = bytes }) ≡ false)
+inside_written : (raw : ℕ) (bytes : List ℕ) (blocks : List Block) → are_ascending blocks ≡ true
+    → IfSome (find_block raw blocks) (λ (b : Block). is_outside (record b { value = bytes }) ≡ false)
     → AreInside blocks → AreInside (with_data raw bytes blocks)
 unfolding are_ascending
 inside_written raw bytes [] up fine inside = refl
@@ -64,9 +67,11 @@ inside_written raw bytes (b ∷ blocks) up fine inside =
     let (here, others) = and_parts (not (is_outside b)) (list_all (λ b. not (is_outside b)) blocks) inside in
     by (b.idn.raw == raw) refl above here others fine (inside_written raw bytes blocks rest)
   where
-    by : (same : Bool) → (b.idn.raw == raw) ≡ same → list_all (λ c. nat_lt b.idn.raw c.idn.raw) blocks ≡ true → not (is_outside b) ≡ true → AreInside blocks
+    by : (same : Bool) → (b.idn.raw == raw) ≡ same → list_all (λ c. nat_lt b.idn.raw c.idn.raw) blocks ≡ true
+        → not (is_outside b) ≡ true → AreInside blocks
         → IfSome (cond same (Some b) (find_block raw blocks)) (λ (b : Block). is_outside (record b { value = bytes }) ≡ false)
         → (IfSome (find_block raw blocks) (λ (b : Block). is_outside (record b { value = bytes }) ≡ false) → AreInside blocks → AreInside (with_data raw bytes blocks))
+       
         → (not (is_outside (cond same (record b { value = bytes }) b)) && list_all (λ b. not (is_outside b)) (with_data raw bytes blocks)) ≡ true
     by true e above here others fine more =
         let under : raw ≤ b.idn.raw = grind (arith, nat_tests, e) in
@@ -82,7 +87,8 @@ above_same b bytes None = refl
 above_same b bytes (Some limit) = refl
 
 -- An accepted write is inside the limits.
-accepted : (o : Option Block) (phase : ℕ) (bytes : List ℕ) → put_fault o phase bytes ≡ None → IfSome o (λ (b : Block). is_outside (record b { value = bytes }) ≡ false)
+accepted : (o : Option Block) (phase : ℕ) (bytes : List ℕ) → put_fault o phase bytes ≡ None
+    → IfSome o (λ (b : Block). is_outside (record b { value = bytes }) ≡ false)
 unfolding data_fault
 accepted None phase bytes fine = tt
 accepted (Some b) phase bytes fine =
@@ -106,11 +112,13 @@ list_inside b bytes list = ap₂ (λ (x y : Bool). x || y) (below b.min) (above 
     above (Some limit) = rw list refl
 
 module _ (d : DriveView) (rate : ℕ) (none : blocks_fault [] d.blocks ≡ None) where
-  listed_at : (raw : ℕ) (blocks : List Block) (bytes : List ℕ) (a : Attribute) → block_attribute d.blocks raw ≡ Some a → is_number a ≡ false → IsOf d blocks → AreInside blocks → AreInside (with_data raw bytes blocks)
+  listed_at : (raw : ℕ) (blocks : List Block) (bytes : List ℕ) (a : Attribute) → block_attribute d.blocks raw ≡ Some a
+      → is_number a ≡ false → IsOf d blocks → AreInside blocks → AreInside (with_data raw bytes blocks)
   listed_at raw blocks bytes a has list is inside =
       inside_written raw bytes blocks is.1 (by (find_block raw blocks) (same_attribute raw d blocks none is.0 ∙ has)) inside
     where
-      by : (o : Option Block) → option_map (λ (b : Block). b.attribute) o ≡ Some a → IfSome o (λ (b : Block). is_outside (record b { value = bytes }) ≡ false)
+      by : (o : Option Block) → option_map (λ (b : Block). b.attribute) o ≡ Some a
+          → IfSome o (λ (b : Block). is_outside (record b { value = bytes }) ≡ false)
       by None e = tt
       by (Some b) e = let same : b.attribute ≡ a = cc in list_inside b bytes (ap is_number same ∙ list)
 

@@ -40,11 +40,13 @@ pub record IsLater (d : DriveView) (raw : ℕ) : Type 0 where
   pub three : attribute.protect3 ≡ true
   pub four : attribute.protect4 ≡ true
 
-of_attribute : (o : Option Block) (a : Attribute) (f : Attribute → Bool) → option_map (λ (b : Block). b.attribute) o ≡ Some a → unwrap_or (option_map (λ (b : Block). f b.attribute) o) false ≡ f a
+of_attribute : (o : Option Block) (a : Attribute) (f : Attribute → Bool) → option_map (λ (b : Block). b.attribute) o ≡ Some a
+    → unwrap_or (option_map (λ (b : Block). f b.attribute) o) false ≡ f a
 of_attribute None a f e = cc
 of_attribute (Some b) a f e = let same : b.attribute ≡ a = cc in ap f same
 
-locked : (o : Option Block) (a : Attribute) (phase : ℕ) (bytes : List ℕ) → option_map (λ (b : Block). b.attribute) o ≡ Some a → a.protect3 ≡ true → a.protect4 ≡ true → 3 ≤ phase → put_fault o phase bytes ≡ None → ⊥
+locked : (o : Option Block) (a : Attribute) (phase : ℕ) (bytes : List ℕ) → option_map (λ (b : Block). b.attribute) o ≡ Some a
+    → a.protect3 ≡ true → a.protect4 ≡ true → 3 ≤ phase → put_fault o phase bytes ≡ None → ⊥
 locked None a phase bytes e three four late none = cc
 locked (Some b) a phase bytes e three four late none =
     let same : b.attribute ≡ a = cc in
@@ -66,13 +68,15 @@ other_by n raw never = by (n == raw) refl
     by true is = absurd (never (grind (arith, nat_tests, is)))
     by false is = refl
 
-pub other_later : (d : DriveView) (n : ℕ) (blocks : List Block) (raw phase : ℕ) (bytes : List ℕ) → blocks_fault [] d.blocks ≡ None → IsStoreOf d blocks → IsLater d n → 3 ≤ phase
+pub other_later : (d : DriveView) (n : ℕ) (blocks : List Block) (raw phase : ℕ) (bytes : List ℕ) → blocks_fault [] d.blocks ≡ None
+    → IsStoreOf d blocks → IsLater d n → 3 ≤ phase
     → put_fault (find_block raw blocks) phase bytes ≡ None → (n == raw) ≡ false
 other_later d n blocks raw phase bytes none is later late fine =
     other_by n raw (λ same. locked (find_block n blocks) later.attribute phase bytes (same_attribute n d blocks none is ∙ later.has) later.three later.four late
       (subst (λ (m : ℕ). put_fault (find_block m blocks) phase bytes ≡ None) (sym same) fine))
 
-pub other_command : (d : DriveView) (n : ℕ) (blocks : List Block) (raw : ℕ) → blocks_fault [] d.blocks ≡ None → IsStoreOf d blocks → IsLater d n → is_command blocks raw ≡ true → (n == raw) ≡ false
+pub other_command : (d : DriveView) (n : ℕ) (blocks : List Block) (raw : ℕ) → blocks_fault [] d.blocks ≡ None → IsStoreOf d blocks
+    → IsLater d n → is_command blocks raw ≡ true → (n == raw) ≡ false
 other_command d n blocks raw none is later command =
     other_by n raw (λ same. false≢true (sym (of_attribute (find_block n blocks) later.attribute (λ (a : Attribute). a.command) (same_attribute n d blocks none is ∙ later.has) ∙ later.plain)
       ∙ subst (λ (m : ℕ). is_command blocks m ≡ true) (sym same) command))
@@ -89,7 +93,8 @@ mapped : (such so : ℕ → Type 0) (numbers : List ℕ) → ((n : ℕ) → such
 mapped such so [] give are = tt
 mapped such so (n ∷ numbers) give are = (give n are.0, mapped such so numbers give are.1)
 
-abbrev pub later_by : (d : DriveView) (raw : ℕ) (a : Attribute) → block_attribute d.blocks raw ≡ Some a → a.command ≡ false → a.protect3 ≡ true → a.protect4 ≡ true → IsLater d raw
+abbrev pub later_by : (d : DriveView) (raw : ℕ) (a : Attribute) → block_attribute d.blocks raw ≡ Some a → a.command ≡ false
+    → a.protect3 ≡ true → a.protect4 ≡ true → IsLater d raw
 later_by d raw a has plain three four = record { attribute = a; has = has; plain = plain; three = three; four = four }
 
 all_later : (d : DriveView) → AreEach (IsLater d) looks_at
@@ -113,7 +118,8 @@ record LookAlike (blocks others : List Block) : Type 0 where
   values : AreEach (λ n. data_at others n ≡ data_at blocks n) looks_at
   carry : (raw : ℕ) → cyclic_len others raw ≡ cyclic_len blocks raw
 
-unfit_alike : (rate : ℕ) (blocks others : List Block) → LookAlike blocks others → unfit_for_phase_3 rate others ≡ unfit_for_phase_3 rate blocks
+unfit_alike : (rate : ℕ) (blocks others : List Block) → LookAlike blocks others
+    → unfit_for_phase_3 rate others ≡ unfit_for_phase_3 rate blocks
 unfolding unfit_for_phase_3 breaks_1 breaks_2 breaks_6 breaks_7 breaks_8 breaks_9 breaks_10 breaks_15 breaks_list breaks_89 number_at idns_at carried_len
 unfit_alike rate blocks others alike =
     let (e1, (e2, (e3, (e4, (e5, (e6, (e7, (e8, (e9, (e10, (e15, (e16, (e24, (e89, _)))))))))))))) = alike.values in
@@ -124,7 +130,8 @@ unfit_alike rate blocks others alike =
     rw (e1, e2, e3, e4, e5, e6, e7, e8, e9, e10, e15, e16, e24, e89, cyclic16, cyclic24, long16, long24) refl
 
 -- a write to another block, which leaves the store that of the drive
-alike_by : (d : DriveView) (blocks : List Block) (raw : ℕ) (bytes : List ℕ) → blocks_fault [] d.blocks ≡ None → IsStoreOf d blocks → IsStoreOf d (with_data raw bytes blocks) → AreEach (λ n. (n == raw) ≡ false) looks_at
+alike_by : (d : DriveView) (blocks : List Block) (raw : ℕ) (bytes : List ℕ) → blocks_fault [] d.blocks ≡ None → IsStoreOf d blocks
+    → IsStoreOf d (with_data raw bytes blocks) → AreEach (λ n. (n == raw) ≡ false) looks_at
     → LookAlike blocks (with_data raw bytes blocks)
 alike_by d blocks raw bytes none is after others = record {
   values = mapped (λ n. (n == raw) ≡ false) (λ n. data_at (with_data raw bytes blocks) n ≡ data_at blocks n) looks_at (λ n other. stays blocks raw n bytes other) others;
@@ -135,7 +142,8 @@ module _ (d : DriveView) (rate : ℕ) (none : blocks_fault [] d.blocks ≡ None)
   abbrev IsFit : List Block → Type 0
   IsFit blocks = unfit_for_phase_3 rate blocks ≡ []
 
-  written : (blocks : List Block) (raw : ℕ) (bytes : List ℕ) → IsStoreOf d blocks → IsStoreOf d (with_data raw bytes blocks) → AreEach (λ n. (n == raw) ≡ false) looks_at → IsFit blocks → IsFit (with_data raw bytes blocks)
+  written : (blocks : List Block) (raw : ℕ) (bytes : List ℕ) → IsStoreOf d blocks → IsStoreOf d (with_data raw bytes blocks)
+      → AreEach (λ n. (n == raw) ≡ false) looks_at → IsFit blocks → IsFit (with_data raw bytes blocks)
   written blocks raw bytes is after others fit = unfit_alike rate blocks (with_data raw bytes blocks) (alike_by d blocks raw bytes none is after others) ∙ fit
 
   each_other : (raw : ℕ) → ((n : ℕ) → IsLater d n → (n == raw) ≡ false) → AreEach (λ n. (n == raw) ≡ false) looks_at

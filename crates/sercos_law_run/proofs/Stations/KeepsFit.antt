@@ -31,10 +31,14 @@ use Rattle.sercos_law_run.proofs.Held.StoreOf.{IsOf, store_of_so}
 pub record IsFound (d : DriveView) (rate check top : ℕ) (P : List Block → Type 0) : Type 0 where
   pub above : 3 ≤ top
   pub set : (blocks : List Block) → ends_well rate check blocks ≡ true → P blocks
-  pub listed : (blocks : List Block) (bytes : List ℕ) → IsOf d blocks → P blocks → P (with_data 21 bytes blocks) × P (with_data 22 bytes blocks)
-  pub command : (blocks : List Block) (raw phase : ℕ) (bytes : List ℕ) → IsOf d blocks → put_fault (find_block raw blocks) phase bytes ≡ None → is_command blocks raw ≡ true → P blocks → P (with_data raw bytes blocks)
-  pub later : (blocks : List Block) (raw phase : ℕ) (bytes : List ℕ) → IsOf d blocks → put_fault (find_block raw blocks) phase bytes ≡ None → top ≤ phase → phase ≤ 4 → P blocks → P (with_data raw bytes blocks)
-  pub rise : (cycle phase : ℕ) (past : List Moment) → top ≤ phase → phase ≤ top → has_passed d rate cycle phase past ≡ true → is_passed rate d.command check (calls_in past) cycle ≡ true
+  pub listed : (blocks : List Block) (bytes : List ℕ) → IsOf d blocks → P blocks
+      → P (with_data 21 bytes blocks) × P (with_data 22 bytes blocks)
+  pub command : (blocks : List Block) (raw phase : ℕ) (bytes : List ℕ) → IsOf d blocks
+      → put_fault (find_block raw blocks) phase bytes ≡ None → is_command blocks raw ≡ true → P blocks → P (with_data raw bytes blocks)
+  pub later : (blocks : List Block) (raw phase : ℕ) (bytes : List ℕ) → IsOf d blocks
+      → put_fault (find_block raw blocks) phase bytes ≡ None → top ≤ phase → phase ≤ 4 → P blocks → P (with_data raw bytes blocks)
+  pub rise : (cycle phase : ℕ) (past : List Moment) → top ≤ phase → phase ≤ top → has_passed d rate cycle phase past ≡ true
+      → is_passed rate d.command check (calls_in past) cycle ≡ true
 
 -- It holds where the check counts as passed, and where the drive is in such a phase.
 pub record Holds (d : DriveView) (rate check top : ℕ) (P : List Block → Type 0) (calls : List Call) (phase : ℕ) (blocks : List Block) : Type 0 where
@@ -43,7 +47,8 @@ pub record Holds (d : DriveView) (rate check top : ℕ) (P : List Block → Type
 
 module _ (those : HandedThose) (d : DriveView) (rate check top : ℕ) (P : List Block → Type 0) (found : IsFound d rate check top P) where
   -- phase 0 forgets what was passed
-  left : (phase after : ℕ) (calls : List Call) (blocks : List Block) → after ≤ phase → Holds d rate check top P calls phase blocks → Holds d rate check top P (with_reset after calls) after blocks
+  left : (phase after : ℕ) (calls : List Call) (blocks : List Block) → after ≤ phase → Holds d rate check top P calls phase blocks
+      → Holds d rate check top P (with_reset after calls) after blocks
   left phase after calls blocks down holds = record { passed = by (after == 0); stands = λ high. holds.stands (omega (arith, down, high)) }
     where
       by : (zero : Bool) (cycle : ℕ) → is_passed rate d.command check (if zero then Reset ∷ calls else calls) cycle ≡ true → P blocks
@@ -51,8 +56,10 @@ module _ (those : HandedThose) (d : DriveView) (rate check top : ℕ) (P : List 
       by false cycle is = holds.passed cycle is
 
   -- a write to a procedure command
-  commanded : (blocks : List Block) (calls : List Call) (phase : ℕ) (w : Write) (c : CommandsView) → IsOf d blocks → put_fault (find_block w.raw blocks) phase w.bytes ≡ None → is_command blocks w.raw ≡ true
-      → Holds d rate check top P calls phase blocks → Holds d rate check top P (Wrote w.raw (setting_in w) w.cycle (with_data w.raw w.bytes blocks) ∷ calls) phase (with_lists c w.raw (setting_in w) (with_data w.raw w.bytes blocks))
+  commanded : (blocks : List Block) (calls : List Call) (phase : ℕ) (w : Write) (c : CommandsView) → IsOf d blocks
+      → put_fault (find_block w.raw blocks) phase w.bytes ≡ None → is_command blocks w.raw ≡ true
+      → Holds d rate check top P calls phase blocks
+      → Holds d rate check top P (Wrote w.raw (setting_in w) w.cycle (with_data w.raw w.bytes blocks) ∷ calls) phase (with_lists c w.raw (setting_in w) (with_data w.raw w.bytes blocks))
   commanded blocks calls phase w c is fine command holds = record {
     passed = λ cycle so. lists (passed_by cycle (w.raw == check) (setting_in w == to_cancel) so);
     stands = λ high. lists (written (holds.stands high));
@@ -70,7 +77,8 @@ module _ (those : HandedThose) (d : DriveView) (rate check top : ℕ) (P : List 
       lists : P after → P (with_lists c w.raw (setting_in w) after)
       lists so = after_check c after w.raw (setting_in w) P so (found.listed after _ after_is so).0 (found.listed after _ after_is so).1
 
-      passed_by : (cycle : ℕ) (same cancels : Bool) → (if same then (if cancels then is_passed rate d.command check calls (min cycle w.cycle)
+      passed_by : (cycle : ℕ) (same cancels : Bool)
+          → (if same then (if cancels then is_passed rate d.command check calls (min cycle w.cycle)
           else ((is_none (find_set check (settings rate calls)) && (ends_well rate check after && nat_le (w.cycle + d.command) cycle)) || is_passed rate d.command check calls cycle))
           else is_passed rate d.command check calls cycle) ≡ true → P after
       passed_by cycle false cancels so = written (holds.passed cycle so)
@@ -78,19 +86,23 @@ module _ (those : HandedThose) (d : DriveView) (rate check top : ℕ) (P : List 
       passed_by cycle true false so =
           either (is_none (find_set check (settings rate calls)) && (ends_well rate check after && nat_le (w.cycle + d.command) cycle)) refl so
         where
-          either : (now : Bool) → (is_none (find_set check (settings rate calls)) && (ends_well rate check after && nat_le (w.cycle + d.command) cycle)) ≡ now → (now || is_passed rate d.command check calls cycle) ≡ true → P after
+          either : (now : Bool)
+              → (is_none (find_set check (settings rate calls)) && (ends_well rate check after && nat_le (w.cycle + d.command) cycle)) ≡ now
+              → (now || is_passed rate d.command check calls cycle) ≡ true → P after
           either true now so =
               let well = (and_parts (is_none (find_set check (settings rate calls))) (ends_well rate check after && nat_le (w.cycle + d.command) cycle) now).1 in
               found.set after (and_parts (ends_well rate check after) (nat_le (w.cycle + d.command) cycle) well).0
           either false now so = written (holds.passed cycle so)
 
   -- what a record makes of it
-  recorded : (blocks : List Block) (calls : List Call) (phase : ℕ) (o : Option Write) (c : CommandsView) → IsOf d blocks → phase ≤ 4 → IfSome o (λ (w : Write). put_fault (find_block w.raw blocks) phase w.bytes ≡ None)
+  recorded : (blocks : List Block) (calls : List Call) (phase : ℕ) (o : Option Write) (c : CommandsView) → IsOf d blocks → phase ≤ 4
+      → IfSome o (λ (w : Write). put_fault (find_block w.raw blocks) phase w.bytes ≡ None)
       → Holds d rate check top P calls phase blocks → Holds d rate check top P (calls_with o blocks calls) phase (blocks_with o c blocks)
   recorded blocks calls phase None c is below fine holds = holds
   recorded blocks calls phase (Some w) c is below fine holds = by (is_command blocks w.raw) refl
     where
-      by : (command : Bool) → is_command blocks w.raw ≡ command → Holds d rate check top P ((if command then Wrote w.raw (setting_in w) w.cycle (with_data w.raw w.bytes blocks) else Other w.cycle) ∷ calls) phase
+      by : (command : Bool) → is_command blocks w.raw ≡ command
+          → Holds d rate check top P ((if command then Wrote w.raw (setting_in w) w.cycle (with_data w.raw w.bytes blocks) else Other w.cycle) ∷ calls) phase
           (if command then with_lists c w.raw (setting_in w) (with_data w.raw w.bytes blocks) else with_data w.raw w.bytes blocks)
       by true command = commanded blocks calls phase w c is fine command holds
       by false command = record {
@@ -100,28 +112,36 @@ module _ (those : HandedThose) (d : DriveView) (rate check top : ℕ) (P : List 
 
   -- what the MST's place makes of it
   at_mst : (past : List Moment) (cycle : ℕ) (o : Option ℕ) → Holds d rate check top P (calls_in past) (phase_in past) (blocks_in d past)
+     
       → Holds d rate check top P (with_reset (stands_in d rate cycle o past) (calls_in past)) (stands_in d rate cycle o past) (blocks_in d past)
   at_mst past cycle o before = got o
     where
-      same : (after : ℕ) → (top ≤ after → P (blocks_in d past)) → Holds d rate check top P (with_reset after (calls_in past)) after (blocks_in d past)
+      same : (after : ℕ) → (top ≤ after → P (blocks_in d past))
+          → Holds d rate check top P (with_reset after (calls_in past)) after (blocks_in d past)
       same after stands = record { passed = by (after == 0); stands = stands }
         where
-          by : (zero : Bool) (cycle : ℕ) → is_passed rate d.command check (if zero then Reset ∷ calls_in past else calls_in past) cycle ≡ true → P (blocks_in d past)
+          by : (zero : Bool) (cycle : ℕ)
+              → is_passed rate d.command check (if zero then Reset ∷ calls_in past else calls_in past) cycle ≡ true
+              → P (blocks_in d past)
           by true cycle is = absurd (false≢true is)
           by false cycle is = before.passed cycle is
 
       zero : Holds d rate check top P (with_reset 0 (calls_in past)) 0 (blocks_in d past)
       zero = same 0 (λ low. let high = found.above in absurd (omega (arith, low, high)))
 
-      got : (o : Option ℕ) → Holds d rate check top P (with_reset (stands_in d rate cycle o past) (calls_in past)) (stands_in d rate cycle o past) (blocks_in d past)
+      got : (o : Option ℕ)
+          → Holds d rate check top P (with_reset (stands_in d rate cycle o past) (calls_in past)) (stands_in d rate cycle o past) (blocks_in d past)
       got None = by (has_mst past)
         where
-          by : (b : Bool) → Holds d rate check top P (with_reset (if b then phase_in past else 0) (calls_in past)) (if b then phase_in past else 0) (blocks_in d past)
+          by : (b : Bool)
+              → Holds d rate check top P (with_reset (if b then phase_in past else 0) (calls_in past)) (if b then phase_in past else 0) (blocks_in d past)
           by true = same (phase_in past) before.stands
           by false = zero
       got (Some phase) = by (phase == phase_in past) ((phase == phase_in past + 1) && has_passed d rate cycle phase past) refl refl
         where
-          by : (stays rises : Bool) → (phase == phase_in past) ≡ stays → ((phase == phase_in past + 1) && has_passed d rate cycle phase past) ≡ rises
+          by : (stays rises : Bool) → (phase == phase_in past) ≡ stays
+              → ((phase == phase_in past + 1) && has_passed d rate cycle phase past) ≡ rises
+             
               → Holds d rate check top P (with_reset (if stays then phase else (if rises then phase else 0)) (calls_in past)) (if stays then phase else (if rises then phase else 0)) (blocks_in d past)
           by true rises stays rise = same phase (λ high. before.stands (grind (arith, nat_tests, stays, high)))
           by false false stays rise = zero
@@ -137,8 +157,10 @@ module _ (those : HandedThose) (d : DriveView) (rate check top : ℕ) (P : List 
                       before.passed cycle (found.rise cycle phase past high (grind (arith, nat_tests, there, one)) has)
 
   -- and what the MDT's place does
-  at_mdt : (past : List Moment) (told : Option Told) → phase_in past ≤ 4 → IsOf d (blocks_in d past) → AreThose (blocks_in d past) (taken_in past)
+  at_mdt : (past : List Moment) (told : Option Told) → phase_in past ≤ 4 → IsOf d (blocks_in d past)
+      → AreThose (blocks_in d past) (taken_in past)
       → Holds d rate check top P (calls_in past) (phase_in past) (blocks_in d past)
+     
       → Holds d rate check top P (with_reset (ends_in told past) (calls_after (processed_in d rate told past) (taken_in past) (calls_in past))) (ends_in told past)
           (blocks_after (processed_in d rate told past) (taken_in past) (blocks_in d past))
   at_mdt past told below is are before = by told
@@ -150,7 +172,8 @@ module _ (those : HandedThose) (d : DriveView) (rate check top : ℕ) (P : List 
           low true = omega arith
           low false = omega arith
 
-      by : (told : Option Told) → Holds d rate check top P (with_reset (ends_in told past) (calls_after (processed_in d rate told past) (taken_in past) (calls_in past))) (ends_in told past)
+      by : (told : Option Told)
+          → Holds d rate check top P (with_reset (ends_in told past) (calls_after (processed_in d rate told past) (taken_in past) (calls_in past))) (ends_in told past)
           (blocks_after (processed_in d rate told past) (taken_in past) (blocks_in d past))
       by None = left (phase_in past) (ends_in None past) (calls_in past) (blocks_in d past) (ends_low None) before
       by (Some t) = left (phase_in past) (ends_in (Some t) past) _ _ (ends_low (Some t)) (which (has_mst past && nat_le 2 (phase_in past)))
@@ -158,12 +181,14 @@ module _ (those : HandedThose) (d : DriveView) (rate check top : ℕ) (P : List 
           one : Taken
           one = record_of (cycle_in past) (phase_in past) t.control t.info (blocks_in d past) (commands_in d rate past)
 
-          which : (b : Bool) → Holds d rate check top P (calls_after (if b then Some one else None) (taken_in past) (calls_in past)) (phase_in past) (blocks_after (if b then Some one else None) (taken_in past) (blocks_in d past))
+          which : (b : Bool)
+              → Holds d rate check top P (calls_after (if b then Some one else None) (taken_in past) (calls_in past)) (phase_in past) (blocks_after (if b then Some one else None) (taken_in past) (blocks_in d past))
           which true = recorded (blocks_in d past) (calls_in past) (phase_in past) (added_on one (taken_in past)) (commands_in d rate past) is below (allowed one (taken_in past) are) before
           which false = before
 
   -- SO IT IS whatever the drive is given.
-  pub holds_at : (h : List DriveCall) → are_ascending (store_of d) ≡ true → Holds d rate check top P (calls_in (annals d rate h)) (phase_in (annals d rate h)) (blocks_in d (annals d rate h))
+  pub holds_at : (h : List DriveCall) → are_ascending (store_of d) ≡ true
+      → Holds d rate check top P (calls_in (annals d rate h)) (phase_in (annals d rate h)) (blocks_in d (annals d rate h))
   holds_at [] ascending = let high = found.above in record { passed = λ cycle so. absurd (false≢true so); stands = λ low. absurd (omega (arith, low, high)) }
   holds_at (Restart ∷ h) ascending = let high = found.above in record { passed = λ cycle so. absurd (false≢true so); stands = λ low. absurd (omega (arith, low, high)) }
   holds_at (Mst cycle content ∷ h) ascending = at_mst (annals d rate h) cycle (mst_got content) (holds_at h ascending)

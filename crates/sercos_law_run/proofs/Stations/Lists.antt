@@ -41,14 +41,17 @@ use Rattle.sercos_law_run.proofs.Stations.FitInThree.{IsLater, other_command, ot
 abbrev AreSet : ℕ → CommandsView → List Call → Type 0
 AreSet rate c calls = (c.rate ≡ rate) × (c.set ≡ settings rate calls)
 
-set_reset : (rate phase : ℕ) (c : CommandsView) (calls : List Call) → AreSet rate c calls → AreSet rate (reset_in phase c) (with_reset phase calls)
+set_reset : (rate phase : ℕ) (c : CommandsView) (calls : List Call) → AreSet rate c calls
+    → AreSet rate (reset_in phase c) (with_reset phase calls)
 set_reset rate phase c calls are = by (phase == 0)
   where
-    by : (zero : Bool) → AreSet rate (if zero then record { rate = c.rate; time = c.time; set = []; passed_127 = None; passed_128 = None } else c) (if zero then Reset ∷ calls else calls)
+    by : (zero : Bool)
+        → AreSet rate (if zero then record { rate = c.rate; time = c.time; set = []; passed_127 = None; passed_128 = None } else c) (if zero then Reset ∷ calls else calls)
     by true = (are.0, refl)
     by false = are
 
-set_write : (rate : ℕ) (o : Option Write) (blocks : List Block) (c : CommandsView) (calls : List Call) → AreSet rate c calls → AreSet rate (commands_with o blocks c) (calls_with o blocks calls)
+set_write : (rate : ℕ) (o : Option Write) (blocks : List Block) (c : CommandsView) (calls : List Call) → AreSet rate c calls
+    → AreSet rate (commands_with o blocks c) (calls_with o blocks calls)
 unfolding with_write
 set_write rate None blocks c calls are = are
 set_write rate (Some w) blocks c calls are = by (is_command blocks w.raw)
@@ -56,12 +59,14 @@ set_write rate (Some w) blocks c calls are = by (is_command blocks w.raw)
     after : List Block
     after = with_data w.raw w.bytes blocks
 
-    by : (command : Bool) → AreSet rate (if command then with_write w.raw (setting_in w) w.cycle after c else record c { passed_127 = None; passed_128 = None })
+    by : (command : Bool)
+        → AreSet rate (if command then with_write w.raw (setting_in w) w.cycle after c else record c { passed_127 = None; passed_128 = None })
         ((if command then Wrote w.raw (setting_in w) w.cycle after else Other w.cycle) ∷ calls)
     by true = (are.0, rw (are.0, are.1) refl)
     by false = are
 
-pub are_set : (d : DriveView) (rate : ℕ) (h : List DriveCall) → AreSet rate (commands_in d rate (annals d rate h)) (calls_in (annals d rate h))
+pub are_set : (d : DriveView) (rate : ℕ) (h : List DriveCall)
+    → AreSet rate (commands_in d rate (annals d rate h)) (calls_in (annals d rate h))
 are_set d rate [] = (refl, refl)
 are_set d rate (Restart ∷ h) = ((are_set d rate h).0, refl)
 are_set d rate (Mst cycle content ∷ h) = set_reset rate (stands_in d rate cycle (mst_got content) (annals d rate h)) _ _ (are_set d rate h)
@@ -74,6 +79,7 @@ are_set d rate (Mdt content ∷ h) = set_reset rate (ends_in told past) _ _ (by 
     told = mdt_got d.address (phase_in past) (blocks_in d past) content
 
     by : (told : Option Told) → AreSet rate (commands_in d rate past) (calls_in past)
+       
         → AreSet rate (commands_after (processed_in d rate told past) (taken_in past) (commands_in d rate past)) (calls_after (processed_in d rate told past) (taken_in past) (calls_in past))
     by None are = are
     by (Some t) are = which (has_mst past && nat_le 2 (phase_in past))
@@ -81,7 +87,8 @@ are_set d rate (Mdt content ∷ h) = set_reset rate (ends_in told past) _ _ (by 
         one : Taken
         one = record_of (cycle_in past) (phase_in past) t.control t.info (blocks_in d past) (commands_in d rate past)
 
-        which : (b : Bool) → AreSet rate (commands_after (if b then Some one else None) (taken_in past) (commands_in d rate past)) (calls_after (if b then Some one else None) (taken_in past) (calls_in past))
+        which : (b : Bool)
+            → AreSet rate (commands_after (if b then Some one else None) (taken_in past) (commands_in d rate past)) (calls_after (if b then Some one else None) (taken_in past) (calls_in past))
         which true = set_write rate (added_on one (taken_in past)) (blocks_in d past) (commands_in d rate past) (calls_in past) are
         which false = are
 
@@ -90,7 +97,8 @@ record IsLocked (d : DriveView) (raw : ℕ) : Type 0 where
   later : IsLater d raw
   two : later.attribute.protect2 ≡ true
 
-locked : (o : Option Block) (d : DriveView) (raw phase : ℕ) (bytes : List ℕ) (locks : IsLocked d raw) → option_map (λ (b : Block). b.attribute) o ≡ Some locks.later.attribute → put_fault o phase bytes ≡ None → ⊥
+locked : (o : Option Block) (d : DriveView) (raw phase : ℕ) (bytes : List ℕ) (locks : IsLocked d raw)
+    → option_map (λ (b : Block). b.attribute) o ≡ Some locks.later.attribute → put_fault o phase bytes ≡ None → ⊥
 locked None d raw phase bytes locks e none = cc
 locked (Some b) d raw phase bytes locks e none =
     let same : b.attribute ≡ locks.later.attribute = cc in
@@ -99,7 +107,8 @@ locked (Some b) d raw phase bytes locks e none =
     let may : is_protected b.attribute phase ≡ false = none_of-then (is_protected b.attribute phase) 0x7005 free in
     false≢true (sym may ∙ rw same (by (phase == 2) (phase == 3)))
   where
-    by : (two three : Bool) → (if two then locks.later.attribute.protect2 else (if three then locks.later.attribute.protect3 else locks.later.attribute.protect4)) ≡ true
+    by : (two three : Bool)
+        → (if two then locks.later.attribute.protect2 else (if three then locks.later.attribute.protect3 else locks.later.attribute.protect4)) ≡ true
     by true three = locks.two
     by false true = locks.later.three
     by false false = locks.later.four
@@ -113,7 +122,8 @@ module _ (those : HandedThose) (d : DriveView) (rate : ℕ) (none : blocks_fault
   unfolding block_attribute built_in_attribute row_in attribute_in attribute_fault attribute_of
   locks_22 = record { later = later_by d 22 _ refl refl refl refl; two = refl }
 
-  other : (n : ℕ) → IsLocked d n → (blocks : List Block) (raw phase : ℕ) (bytes : List ℕ) → IsStoreOf d blocks → put_fault (find_block raw blocks) phase bytes ≡ None → (n == raw) ≡ false
+  other : (n : ℕ) → IsLocked d n → (blocks : List Block) (raw phase : ℕ) (bytes : List ℕ) → IsStoreOf d blocks
+      → put_fault (find_block raw blocks) phase bytes ≡ None → (n == raw) ≡ false
   other n locks blocks raw phase bytes is fine = by (n == raw) refl
     where
       by : (b : Bool) → (n == raw) ≡ b → b ≡ false
@@ -126,7 +136,8 @@ module _ (those : HandedThose) (d : DriveView) (rate : ℕ) (none : blocks_fault
   Contain calls blocks = (data_at blocks 21 ≡ list_bytes (found_for_3 rate calls)) × (data_at blocks 22 ≡ list_bytes (found_for_4 rate calls))
 
   -- a check that is set writes its list
-  listed : (c : CommandsView) (raw value cycle : ℕ) (blocks : List Block) (calls : List Call) → IsStoreOf d blocks → AreSet rate c calls → Contain calls blocks
+  listed : (c : CommandsView) (raw value cycle : ℕ) (blocks : List Block) (calls : List Call) → IsStoreOf d blocks → AreSet rate c calls
+      → Contain calls blocks
       → Contain (Wrote raw value cycle blocks ∷ calls) (with_lists c raw value blocks)
   unfolding with_lists
   listed c raw value cycle blocks calls is are has = rw (are.0, are.1) (by (not (value == to_cancel) && is_none (find_set raw (settings rate calls))) (raw == 127) (raw == 128) refl refl)
@@ -151,7 +162,8 @@ module _ (those : HandedThose) (d : DriveView) (rate : ℕ) (none : blocks_fault
       by true false true e f = (writes_hold blocks 22 21 _ has_22 ∙ has.0, writes_hold blocks 22 22 _ has_22)
       by true false false e f = has
 
-  recorded : (blocks : List Block) (calls : List Call) (phase : ℕ) (o : Option Write) (c : CommandsView) → IsOf d blocks → IfSome o (λ (w : Write). put_fault (find_block w.raw blocks) phase w.bytes ≡ None)
+  recorded : (blocks : List Block) (calls : List Call) (phase : ℕ) (o : Option Write) (c : CommandsView) → IsOf d blocks
+      → IfSome o (λ (w : Write). put_fault (find_block w.raw blocks) phase w.bytes ≡ None)
       → AreSet rate c calls → Contain calls blocks → Contain (calls_with o blocks calls) (blocks_with o c blocks)
   recorded blocks calls phase None c is fine are has = has
   recorded blocks calls phase (Some w) c is fine are has = by (is_command blocks w.raw)
@@ -165,7 +177,8 @@ module _ (those : HandedThose) (d : DriveView) (rate : ℕ) (none : blocks_fault
         stays blocks w.raw 22 w.bytes (other 22 locks_22 blocks w.raw phase w.bytes is.0 fine) ∙ has.1,
       )
 
-      by : (command : Bool) → Contain ((if command then Wrote w.raw (setting_in w) w.cycle after else Other w.cycle) ∷ calls) (if command then with_lists c w.raw (setting_in w) after else after)
+      by : (command : Bool)
+          → Contain ((if command then Wrote w.raw (setting_in w) w.cycle after else Other w.cycle) ∷ calls) (if command then with_lists c w.raw (setting_in w) after else after)
       by true = listed c w.raw (setting_in w) w.cycle after calls ((writes_keep d blocks w.raw phase w.bytes is.1 is.0).0 fine) are written
       by false = written
 
@@ -176,14 +189,16 @@ module _ (those : HandedThose) (d : DriveView) (rate : ℕ) (none : blocks_fault
       by true = has
       by false = has
 
-  opened : (raw : ℕ) → data_at (store_of d) raw ≡ unwrap_or (option_map (λ (b : Block). b.value) (option_or (option_map (built_in_block d) (row_in built_ins raw)) (find_block raw d.blocks))) []
+  opened : (raw : ℕ)
+      → data_at (store_of d) raw ≡ unwrap_or (option_map (λ (b : Block). b.value) (option_or (option_map (built_in_block d) (row_in built_ins raw)) (find_block raw d.blocks))) []
   opened raw = rw (find_store_of raw d none, find_built_in d raw) refl
 
   opening : Contain [] (store_of d)
   unfolding row_in
   opening = (opened 21, opened 22)
 
-  pub contain_at : (h : List DriveCall) → are_ascending (store_of d) ≡ true → Contain (calls_in (annals d rate h)) (blocks_in d (annals d rate h))
+  pub contain_at : (h : List DriveCall) → are_ascending (store_of d) ≡ true
+      → Contain (calls_in (annals d rate h)) (blocks_in d (annals d rate h))
   contain_at [] up = opening
   contain_at (Restart ∷ h) up = contain_at h up
   contain_at (Mst cycle content ∷ h) up = kept_by (stands_in d rate cycle (mst_got content) (annals d rate h)) (calls_in (annals d rate h)) (blocks_in d (annals d rate h)) (contain_at h up)
@@ -195,7 +210,9 @@ module _ (those : HandedThose) (d : DriveView) (rate : ℕ) (none : blocks_fault
       told : Option Told
       told = mdt_got d.address (phase_in past) (blocks_in d past) content
 
-      by : (told : Option Told) → AreThose (blocks_in d past) (taken_in past) → IsOf d (blocks_in d past) → Contain (calls_in past) (blocks_in d past)
+      by : (told : Option Told) → AreThose (blocks_in d past) (taken_in past) → IsOf d (blocks_in d past)
+          → Contain (calls_in past) (blocks_in d past)
+         
           → Contain (calls_after (processed_in d rate told past) (taken_in past) (calls_in past)) (blocks_after (processed_in d rate told past) (taken_in past) (blocks_in d past))
       by None are is has = has
       by (Some t) are is has = which (has_mst past && nat_le 2 (phase_in past))
@@ -203,7 +220,8 @@ module _ (those : HandedThose) (d : DriveView) (rate : ℕ) (none : blocks_fault
           one : Taken
           one = record_of (cycle_in past) (phase_in past) t.control t.info (blocks_in d past) (commands_in d rate past)
 
-          which : (b : Bool) → Contain (calls_after (if b then Some one else None) (taken_in past) (calls_in past)) (blocks_after (if b then Some one else None) (taken_in past) (blocks_in d past))
+          which : (b : Bool)
+              → Contain (calls_after (if b then Some one else None) (taken_in past) (calls_in past)) (blocks_after (if b then Some one else None) (taken_in past) (blocks_in d past))
           which true = recorded (blocks_in d past) (calls_in past) (phase_in past) (added_on one (taken_in past)) (commands_in d rate past) is (allowed one (taken_in past) are) (are_set d rate h) has
           which false = has
 

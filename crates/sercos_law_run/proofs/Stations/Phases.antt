@@ -70,7 +70,8 @@ stands_by_mst d rate (Mst cycle content ∷ h) high = got (mst_got content) refl
         → GotSo h o (stands_in d rate cycle o (annals d rate h))
     got None is high before = by (has_mst (annals d rate h)) (got_same d rate h) high
       where
-        by : (b : Bool) → b ≡ is_some (newest_got h) → 1 ≤ (if b then phase_at d rate h else 0) → GotSo h None (if b then phase_at d rate h else 0)
+        by : (b : Bool) → b ≡ is_some (newest_got h) → 1 ≤ (if b then phase_at d rate h else 0)
+            → GotSo h None (if b then phase_at d rate h else 0)
         by false none high = absurd (omega (arith, high))
         by true some high = inr (refl, which (before high))
           where
@@ -79,22 +80,26 @@ stands_by_mst d rate (Mst cycle content ∷ h) high = got (mst_got content) refl
             which (inr none) = absurd (false≢true (sym (ap is_some none.0) ∙ sym some))
     got (Some phase) is high before = inl (ap Some (by (phase == phase_at d rate h) ((phase == phase_at d rate h + 1) && has_passed d rate cycle phase (annals d rate h)) high))
       where
-        by : (stays rises : Bool) → 1 ≤ (if stays then phase else (if rises then phase else 0)) → phase ≡ (if stays then phase else (if rises then phase else 0))
+        by : (stays rises : Bool) → 1 ≤ (if stays then phase else (if rises then phase else 0))
+            → phase ≡ (if stays then phase else (if rises then phase else 0))
         by true rises high = refl
         by false true high = refl
         by false false high = absurd (omega (arith, high))
 
 -- whether a check is passed
-passed_so : (d : DriveView) (rate cycle phase : ℕ) (h : List DriveCall) → has_passed d rate cycle phase (annals d rate h) ≡ true → HasPassed d rate cycle phase h
+passed_so : (d : DriveView) (rate cycle phase : ℕ) (h : List DriveCall) → has_passed d rate cycle phase (annals d rate h) ≡ true
+    → HasPassed d rate cycle phase h
 passed_so d rate cycle phase h has = (
   λ three. subst (λ (p : ℕ). has_passed d rate cycle p (annals d rate h) ≡ true) three has,
   λ four. subst (λ (p : ℕ). has_passed d rate cycle p (annals d rate h) ≡ true) four has,
 )
 
-so_passed : (d : DriveView) (rate cycle phase : ℕ) (h : List DriveCall) → phase ≤ 4 → HasPassed d rate cycle phase h → has_passed d rate cycle phase (annals d rate h) ≡ true
+so_passed : (d : DriveView) (rate cycle phase : ℕ) (h : List DriveCall) → phase ≤ 4 → HasPassed d rate cycle phase h
+    → has_passed d rate cycle phase (annals d rate h) ≡ true
 so_passed d rate cycle phase h below has = by (nat_le phase 2) (phase == 3) refl refl
   where
     by : (low three : Bool) → nat_le phase 2 ≡ low → (phase == 3) ≡ three
+       
         → (low || (if three then is_passed rate d.command 127 (calls_in (annals d rate h)) cycle else is_passed rate d.command 128 (calls_in (annals d rate h)) cycle)) ≡ true
     by true three low is = refl
     by false true low is = has.0 (grind (arith, nat_tests, is))
@@ -123,7 +128,8 @@ rises_by_one d rate (Mst cycle content) h = got (mst_got content) refl refl
         by false same = inr (inl refl)
     got (Some phase) is = by (phase == phase_at d rate h) ((phase == phase_at d rate h + 1) && has_passed d rate cycle phase (annals d rate h)) refl refl
       where
-        by : (stays rises : Bool) → (phase == phase_at d rate h) ≡ stays → ((phase == phase_at d rate h + 1) && has_passed d rate cycle phase (annals d rate h)) ≡ rises
+        by : (stays rises : Bool) → (phase == phase_at d rate h) ≡ stays
+            → ((phase == phase_at d rate h + 1) && has_passed d rate cycle phase (annals d rate h)) ≡ rises
             → Moves d rate (Mst cycle content) h (if stays then phase else (if rises then phase else 0))
         by true rises stays rise same = inl (grind (arith, nat_tests, stays))
         by false false stays rise same = inr (inl refl)
@@ -145,17 +151,20 @@ mst_low (Some content) phase is = subst (λ (o : Option ℕ). IfSome o (λ p. p 
 
 -- A drive goes to phase 0 for a cause.
 now_same : (d : DriveView) (rate : ℕ) (content : Option (List ℕ)) (h : List DriveCall)
+   
     → (nat_le 3 (phase_at d rate h) && not (takes (mdt_got d.address (phase_at d rate h) (store_at d rate h) content) (annals d rate h))) ≡ misses d rate content h
 now_same d rate content h = missed_same d rate (Mdt content ∷ h)
 
-drops_so : (d : DriveView) (rate : ℕ) (call : DriveCall) (h : List DriveCall) → 1 ≤ phase_at d rate h → phase_at d rate (call ∷ h) ≡ 0 → Drops d rate call h
+drops_so : (d : DriveView) (rate : ℕ) (call : DriveCall) (h : List DriveCall) → 1 ≤ phase_at d rate h → phase_at d rate (call ∷ h) ≡ 0
+    → Drops d rate call h
 drops_so d rate Restart h high zero = ByRestart refl
 drops_so d rate (Mdt content) h high zero = by (nat_le 3 (phase_at d rate h) && (not took && has_missed (annals d rate h))) refl zero
   where
     took : Bool
     took = takes (mdt_got d.address (phase_at d rate h) (store_at d rate h) content) (annals d rate h)
 
-    by : (b : Bool) → (nat_le 3 (phase_at d rate h) && (not took && has_missed (annals d rate h))) ≡ b → (if b then 0 else phase_at d rate h) ≡ 0 → Drops d rate (Mdt content) h
+    by : (b : Bool) → (nat_le 3 (phase_at d rate h) && (not took && has_missed (annals d rate h))) ≡ b
+        → (if b then 0 else phase_at d rate h) ≡ 0 → Drops d rate (Mdt content) h
     by true is zero =
         let (late, both) = and_parts (nat_le 3 (phase_at d rate h)) (not took && has_missed (annals d rate h)) is in
         let (none, before) = and_parts (not took) (has_missed (annals d rate h)) both in
@@ -171,7 +180,8 @@ drops_so d rate (Mst cycle content) h high zero = got (mst_got content) refl zer
         by false some zero = ByMst cycle content refl is (none_got (newest_got h) (sym some))
     got (Some phase) is zero = by (phase == phase_at d rate h) ((phase == phase_at d rate h + 1) && has_passed d rate cycle phase (annals d rate h)) refl refl zero
       where
-        by : (stays rises : Bool) → (phase == phase_at d rate h) ≡ stays → ((phase == phase_at d rate h + 1) && has_passed d rate cycle phase (annals d rate h)) ≡ rises
+        by : (stays rises : Bool) → (phase == phase_at d rate h) ≡ stays
+            → ((phase == phase_at d rate h + 1) && has_passed d rate cycle phase (annals d rate h)) ≡ rises
             → (if stays then phase else (if rises then phase else 0)) ≡ 0 → Drops d rate (Mst cycle content) h
         by true rises stays rise zero = absurd (grind (arith, nat_tests, stays, high, zero))
         by false true stays rise zero =
@@ -179,7 +189,8 @@ drops_so d rate (Mst cycle content) h high zero = got (mst_got content) refl zer
             absurd (grind (arith, nat_tests, one, zero))
         by false false stays rise zero = ByPhase cycle phase content refl is (λ same. grind (arith, nat_tests, stays, same)) (λ next has. false≢true (sym rise ∙ both next has))
           where
-            both : phase ≡ phase_at d rate h + 1 → HasPassed d rate cycle phase h → ((phase == phase_at d rate h + 1) && has_passed d rate cycle phase (annals d rate h)) ≡ true
+            both : phase ≡ phase_at d rate h + 1 → HasPassed d rate cycle phase h
+                → ((phase == phase_at d rate h + 1) && has_passed d rate cycle phase (annals d rate h)) ≡ true
             both next has = let low = mst_low content phase is in let one : (phase == phase_at d rate h + 1) ≡ true = grind (arith, nat_tests, next) in rw (one, so_passed d rate cycle phase h low has) refl
 
 so_drops : (d : DriveView) (rate : ℕ) (call : DriveCall) (h : List DriveCall) → Drops d rate call h → phase_at d rate (call ∷ h) ≡ 0
@@ -190,7 +201,8 @@ so_drops d rate call h (ByMdt content is now before) =
     took : Bool
     took = takes (mdt_got d.address (phase_at d rate h) (store_at d rate h) content) (annals d rate h)
 
-    by : (nat_le 3 (phase_at d rate h) ≡ true) × (not took ≡ true) → (if nat_le 3 (phase_at d rate h) && (not took && has_missed (annals d rate h)) then 0 else phase_at d rate h) ≡ 0
+    by : (nat_le 3 (phase_at d rate h) ≡ true) × (not took ≡ true)
+        → (if nat_le 3 (phase_at d rate h) && (not took && has_missed (annals d rate h)) then 0 else phase_at d rate h) ≡ 0
     by parts = let missed = missed_same d rate h ∙ before in rw (parts.0, parts.1, missed) refl
 so_drops d rate call h (ByMst cycle content is none before) =
     ap (λ (c : DriveCall). phase_at d rate (c ∷ h)) is ∙ ap (λ (o : Option ℕ). stands_in d rate cycle o (annals d rate h)) none ∙ let gone = got_same d rate h ∙ ap is_some before in rw gone refl
@@ -198,7 +210,9 @@ so_drops d rate call h (ByPhase cycle phase content is got other never) =
     ap (λ (c : DriveCall). phase_at d rate (c ∷ h)) is ∙ ap (λ (o : Option ℕ). stands_in d rate cycle o (annals d rate h)) got
     ∙ by (phase == phase_at d rate h) ((phase == phase_at d rate h + 1) && has_passed d rate cycle phase (annals d rate h)) refl refl
   where
-    by : (stays rises : Bool) → (phase == phase_at d rate h) ≡ stays → ((phase == phase_at d rate h + 1) && has_passed d rate cycle phase (annals d rate h)) ≡ rises → (if stays then phase else (if rises then phase else 0)) ≡ 0
+    by : (stays rises : Bool) → (phase == phase_at d rate h) ≡ stays
+        → ((phase == phase_at d rate h + 1) && has_passed d rate cycle phase (annals d rate h)) ≡ rises
+        → (if stays then phase else (if rises then phase else 0)) ≡ 0
     by true rises stays rise = absurd (other (grind (arith, nat_tests, stays)))
     by false false stays rise = refl
     by false true stays rise =

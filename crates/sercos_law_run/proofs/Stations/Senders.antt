@@ -37,7 +37,8 @@ use Rattle.sercos_law_run.proofs.Views.Members.{heard_whole, same_drive}
 use Rattle.sercos_law_run.proofs.Views.ViewRuns.{none_below}
 
 -- AT MOST ONE of the drives that say something says it, if each two that do are one.
-none_said : (n : ℕ) (d : ℕ → DriveView) (rate : ℕ) (h : ℕ → List DriveCall) → ((i : ℕ) → i < n → drive_says (d i) rate (h i) ≡ None) → said_below n d rate h ≡ []
+none_said : (n : ℕ) (d : ℕ → DriveView) (rate : ℕ) (h : ℕ → List DriveCall) → ((i : ℕ) → i < n → drive_says (d i) rate (h i) ≡ None)
+    → said_below n d rate h ≡ []
 none_said zero d rate h none = refl
 none_said (suc n) d rate h none = rw (none n (omega arith), none_said n d rate h (λ i below. none i (omega (arith, below)))) refl
 
@@ -51,7 +52,8 @@ record IsOne (n : ℕ) (d : ℕ → DriveView) (rate : ℕ) (h : ℕ → List Dr
 abbrev AreOne : ℕ → (ℕ → DriveView) → ℕ → (ℕ → List DriveCall) → Type 0
 AreOne n d rate h = (i k : ℕ) (s u : Said) → i < n → k < n → drive_says (d i) rate (h i) ≡ Some s → drive_says (d k) rate (h k) ≡ Some u → i ≡ k
 
-one_said : (n : ℕ) (d : ℕ → DriveView) (rate : ℕ) (h : ℕ → List DriveCall) → AreOne n d rate h → (said_below n d rate h ≡ []) ⊎ IsOne n d rate h (said_below n d rate h)
+one_said : (n : ℕ) (d : ℕ → DriveView) (rate : ℕ) (h : ℕ → List DriveCall) → AreOne n d rate h
+    → (said_below n d rate h ≡ []) ⊎ IsOne n d rate h (said_below n d rate h)
 one_said zero d rate h are = inl refl
 one_said (suc n) d rate h are = by (drive_says (d n) rate (h n)) refl (one_said n d rate h (λ i k s u low below says tells. are i k s u (omega (arith, low)) (omega (arith, below)) says tells))
   where
@@ -70,26 +72,32 @@ one_said (suc n) d rate h are = by (drive_says (d n) rate (h n)) refl (one_said 
 
 -- WHAT A DRIVE NEEDS to send in the phases 1 and 2.
 -- a single MDT is got by its address
-addressed : (address phase : ℕ) (blocks : List Block) (content : List ℕ) → phase ≤ 2 → is_some (mdt_got address phase blocks (Some content)) ≡ true → slice_index content 0 ≡ address
+addressed : (address phase : ℕ) (blocks : List Block) (content : List ℕ) → phase ≤ 2
+    → is_some (mdt_got address phase blocks (Some content)) ≡ true → slice_index content 0 ≡ address
 unfolding single_in head_fault
 addressed address phase blocks content early got = by (nat_le 3 phase) refl got
   where
     read : (long other : Bool) → (slice_index content 0 == address) ≡ other
-        → is_some (if is_none (option_or (then_some (not long) (Length (length content) 5)) (then_some (not other) (Address (slice_index content 0) address))) then Some (told_at content 1) else None) ≡ true → slice_index content 0 ≡ address
+       
+        → is_some (if is_none (option_or (then_some (not long) (Length (length content) 5)) (then_some (not other) (Address (slice_index content 0) address))) then Some (told_at content 1) else None) ≡ true
+        → slice_index content 0 ≡ address
     read true true e got = grind (arith, nat_tests, e)
     read true false e got = absurd (false≢true got)
     read false true e got = absurd (false≢true got)
     read false false e got = absurd (false≢true got)
 
-    by : (late : Bool) → nat_le 3 phase ≡ late → is_some (if late then joint_in blocks content else single_in address content) ≡ true → slice_index content 0 ≡ address
+    by : (late : Bool) → nat_le 3 phase ≡ late → is_some (if late then joint_in blocks content else single_in address content) ≡ true
+        → slice_index content 0 ≡ address
     by true e got = absurd (grind (arith, nat_tests, e, early))
     by false e got = read (length content == 5) (slice_index content 0 == address) refl got
 
-sends_by : (mst : Bool) (phase : ℕ) (taken : Bool) → (mst && (nat_le 3 phase || (nat_le 1 phase && taken))) ≡ true → phase ≤ 2 → (mst ≡ true) × (1 ≤ phase) × (taken ≡ true)
+sends_by : (mst : Bool) (phase : ℕ) (taken : Bool) → (mst && (nat_le 3 phase || (nat_le 1 phase && taken))) ≡ true → phase ≤ 2
+    → (mst ≡ true) × (1 ≤ phase) × (taken ≡ true)
 sends_by false phase taken is low = absurd (false≢true is)
 sends_by true phase taken is low = by (nat_le 3 phase) (nat_le 1 phase) taken refl refl is
   where
-    by : (late up t : Bool) → nat_le 3 phase ≡ late → nat_le 1 phase ≡ up → (late || (up && t)) ≡ true → (true ≡ true) × (1 ≤ phase) × (t ≡ true)
+    by : (late up t : Bool) → nat_le 3 phase ≡ late → nat_le 1 phase ≡ up → (late || (up && t)) ≡ true
+        → (true ≡ true) × (1 ≤ phase) × (t ≡ true)
     by true up t e f is = absurd (grind (arith, nat_tests, e, low))
     by false true true e f is = (refl, grind (arith, nat_tests, f), refl)
     by false true false e f is = absurd (false≢true is)
@@ -101,19 +109,24 @@ record IsSending (d : DriveView) (rate phase : ℕ) (g : List DriveCall) : Type 
   near : phase_in (annals d rate g) ≤ phase
   took : has_taken (annals d rate g) ≡ true
 
-is_sending : (d : DriveView) (rate cycle phase : ℕ) (content : Option (List ℕ)) (g : List DriveCall) → phase ≤ 2 → mst_got content ≡ (if is_some (mst_got content) then Some phase else None)
+is_sending : (d : DriveView) (rate cycle phase : ℕ) (content : Option (List ℕ)) (g : List DriveCall) → phase ≤ 2
+    → mst_got content ≡ (if is_some (mst_got content) then Some phase else None)
     → sends (annals d rate (Mst cycle content ∷ g)) ≡ true → IsSending d rate phase g
 is_sending d rate cycle phase content g low got = by (mst_got content) got
   where
     past : List Moment
     past = annals d rate g
 
-    by : (o : Option ℕ) → o ≡ (if is_some o then Some phase else None) → (is_some o && (nat_le 3 (stands_in d rate cycle o past) || (nat_le 1 (stands_in d rate cycle o past) && has_taken past))) ≡ true → IsSending d rate phase g
+    by : (o : Option ℕ) → o ≡ (if is_some o then Some phase else None)
+        → (is_some o && (nat_le 3 (stands_in d rate cycle o past) || (nat_le 1 (stands_in d rate cycle o past) && has_taken past))) ≡ true
+        → IsSending d rate phase g
     by None e sent = absurd (false≢true sent)
     by (Some p) e sent = let same : p ≡ phase = cc in which (p == phase_in past) ((p == phase_in past + 1) && has_passed d rate cycle p past) refl refl sent
       where
         which : (stays rises : Bool) → (p == phase_in past) ≡ stays → ((p == phase_in past + 1) && has_passed d rate cycle p past) ≡ rises
-            → (true && (nat_le 3 (if stays then p else (if rises then p else 0)) || (nat_le 1 (if stays then p else (if rises then p else 0)) && has_taken past))) ≡ true → IsSending d rate phase g
+           
+            → (true && (nat_le 3 (if stays then p else (if rises then p else 0)) || (nat_le 1 (if stays then p else (if rises then p else 0)) && has_taken past))) ≡ true
+            → IsSending d rate phase g
         which true rises stays rise sent =
             let same : p ≡ phase = cc in
             let all = sends_by true p (has_taken past) sent (omega (arith, same, low)) in
@@ -130,7 +143,8 @@ record IsTaking (d : DriveView) (rate : ℕ) (content : Option (List ℕ)) (g : 
   stays : phase_in (annals d rate (Mdt content ∷ g)) ≡ phase_in (annals d rate g)
   got : is_some (mdt_got d.address (phase_in (annals d rate g)) (blocks_in d (annals d rate g)) content) ≡ true
 
-is_taking : (d : DriveView) (rate : ℕ) (content : Option (List ℕ)) (g : List DriveCall) → has_taken (annals d rate (Mdt content ∷ g)) ≡ true → IsTaking d rate content g
+is_taking : (d : DriveView) (rate : ℕ) (content : Option (List ℕ)) (g : List DriveCall)
+    → has_taken (annals d rate (Mdt content ∷ g)) ≡ true → IsTaking d rate content g
 is_taking d rate content g took = record { stays = stay (nat_le 3 (phase_in past)); got = (and_parts (nat_le 1 (phase_in past)) (is_some told) (and_parts (has_mst past) (nat_le 1 (phase_in past) && is_some told) took).1).1 }
   where
     past : List Moment
@@ -165,11 +179,13 @@ module _ (spells : SpelledNext) (r : RingView) (jobs : List Job) (carry : Carry)
           (subst (λ (l : List ℕ). (heard carry (passage (length j) kinds.Mst 0 (k + 1)) (mst_in t.sent) ≡ None) ⊎ (heard carry (passage (length j) kinds.Mst 0 (k + 1)) (mst_in t.sent) ≡ Some l)) (ap mst_in next.sent)
             (heard_whole carry _ (mst_in t.sent) spelled.mst none)))
       where
-        form : (b : Bool) (o : Option ℕ) → o ≡ (if b then Some (at_start r jobs carry restarts j).now.phase else None) → o ≡ (if is_some o then Some t.phase else None)
+        form : (b : Bool) (o : Option ℕ) → o ≡ (if b then Some (at_start r jobs carry restarts j).now.phase else None)
+            → o ≡ (if is_some o then Some t.phase else None)
         form true o is = rw (is, next.phase) refl
         form false o is = rw is refl
 
-    mdt_so : (mdt : List ℕ) → mdt_in t.sent ≡ Some mdt → (heard carry (passage (length j) kinds.Mdt 0 (k + 1)) mdt ≡ None) ⊎ (heard carry (passage (length j) kinds.Mdt 0 (k + 1)) mdt ≡ Some mdt)
+    mdt_so : (mdt : List ℕ) → mdt_in t.sent ≡ Some mdt
+        → (heard carry (passage (length j) kinds.Mdt 0 (k + 1)) mdt ≡ None) ⊎ (heard carry (passage (length j) kinds.Mdt 0 (k + 1)) mdt ≡ Some mdt)
     mdt_so mdt is = by (mdt_said (known_of r) (behind_mdt r jobs carry restarts t.sent j)) refl (sym is ∙ ap mdt_in next.sent ∙ mdt_in-said r.rate (said_below (length r.drives) (drive_at r) r.rate (given_mst carry restarts t.sent j)) _)
       where
         none : unseen_at carry (passage (length j) kinds.Mdt 0 (k + 1)) mdt ≡ 0
@@ -178,6 +194,7 @@ module _ (spells : SpelledNext) (r : RingView) (jobs : List Job) (carry : Carry)
             ap (λ (o : Option (List ℕ)). unseen_mdt carry (length j) o k) (sym is) ∙ none_below (length r.drives) (unseen_mdt carry (length j) (mdt_in t.sent)) (omega (arith, c)) k below
 
         by : (o : Option Sent) → mdt_said (known_of r) (behind_mdt r jobs carry restarts t.sent j) ≡ o → Some mdt ≡ content_of o
+           
             → (heard carry (passage (length j) kinds.Mdt 0 (k + 1)) mdt ≡ None) ⊎ (heard carry (passage (length j) kinds.Mdt 0 (k + 1)) mdt ≡ Some mdt)
         by None said e = cc
         by (Some m) said e = let same : mdt ≡ m.content = cc in heard_whole carry (passage (length j) kinds.Mdt 0 (k + 1)) mdt (rw same (spelled.mdt m said)) none
@@ -191,19 +208,24 @@ module _ (spells : SpelledNext) (r : RingView) (jobs : List Job) (carry : Carry)
     told : mdt_in before.sent ≡ Some mdt
     same : slice_index mdt 0 ≡ address
 
-  told_by : (phase : ℕ) (j : List CycleView) → IsRun r jobs carry restarts j → IsClear j → (k : ℕ) → k < length r.drives → phase ≤ 2 → phase_in (annals (drive_at r k) r.rate (given_before carry restarts j k)) ≤ phase
+  told_by : (phase : ℕ) (j : List CycleView) → IsRun r jobs carry restarts j → IsClear j → (k : ℕ) → k < length r.drives → phase ≤ 2
+      → phase_in (annals (drive_at r k) r.rate (given_before carry restarts j k)) ≤ phase
       → has_taken (annals (drive_at r k) r.rate (given_before carry restarts j k)) ≡ true → IsTold (drive_at r k).address j
   told_by phase [] run clear k below low near took = absurd (false≢true took)
   told_by phase (u ∷ j) run clear k below low near took = by (mdt_in u.sent) refl (is_taking (drive_at r k) r.rate (mdt_heard carry (length j) (k + 1) (mdt_in u.sent)) (given_mst carry restarts u.sent j k) took)
     where
-      early : phase_in (annals (drive_at r k) r.rate (given_mst carry restarts u.sent j k)) ≡ phase_in (annals (drive_at r k) r.rate (given_before carry restarts (u ∷ j) k)) → phase_in (annals (drive_at r k) r.rate (given_mst carry restarts u.sent j k)) ≤ 2
+      early : phase_in (annals (drive_at r k) r.rate (given_mst carry restarts u.sent j k)) ≡ phase_in (annals (drive_at r k) r.rate (given_before carry restarts (u ∷ j) k))
+          → phase_in (annals (drive_at r k) r.rate (given_mst carry restarts u.sent j k)) ≤ 2
       early same = omega (arith, same, near, low)
 
-      by : (o : Option (List ℕ)) → mdt_in u.sent ≡ o → IsTaking (drive_at r k) r.rate (mdt_heard carry (length j) (k + 1) o) (given_mst carry restarts u.sent j k) → IsTold (drive_at r k).address (u ∷ j)
+      by : (o : Option (List ℕ)) → mdt_in u.sent ≡ o
+          → IsTaking (drive_at r k) r.rate (mdt_heard carry (length j) (k + 1) o) (given_mst carry restarts u.sent j k)
+          → IsTold (drive_at r k).address (u ∷ j)
       by None is takes = absurd (false≢true takes.got)
       by (Some mdt) is takes = which (mdt_so u j run.1 clear.1 k below mdt is)
         where
-          which : (heard carry (passage (length j) kinds.Mdt 0 (k + 1)) mdt ≡ None) ⊎ (heard carry (passage (length j) kinds.Mdt 0 (k + 1)) mdt ≡ Some mdt) → IsTold (drive_at r k).address (u ∷ j)
+          which : (heard carry (passage (length j) kinds.Mdt 0 (k + 1)) mdt ≡ None) ⊎ (heard carry (passage (length j) kinds.Mdt 0 (k + 1)) mdt ≡ Some mdt)
+              → IsTold (drive_at r k).address (u ∷ j)
           which (inl none) = absurd (false≢true (ap (λ (o : Option (List ℕ)). is_some (mdt_got (drive_at r k).address (phase_in (annals (drive_at r k) r.rate (given_mst carry restarts u.sent j k))) (blocks_in (drive_at r k) (annals (drive_at r k) r.rate (given_mst carry restarts u.sent j k))) o)) (sym none) ∙ takes.got))
           which (inr same) = record {
             before = u;
@@ -222,16 +244,19 @@ module _ (spells : SpelledNext) (r : RingView) (jobs : List Job) (carry : Carry)
     up : 1 ≤ t.phase
     told : IsTold address j
 
-  answering : (t : CycleView) (j : List CycleView) → IsRun r jobs carry restarts (t ∷ j) → IsClear (t ∷ j) → t.phase ≤ 2 → (k : ℕ) (s : Said) → k < length r.drives
+  answering : (t : CycleView) (j : List CycleView) → IsRun r jobs carry restarts (t ∷ j) → IsClear (t ∷ j) → t.phase ≤ 2
+      → (k : ℕ) (s : Said) → k < length r.drives
       → drive_says (drive_at r k) r.rate (given_mst carry restarts t.sent j k) ≡ Some s → IsAnswering t (drive_at r k).address j
   answering t j run clear low k s below says = by (sends (annals (drive_at r k) r.rate (given_mst carry restarts t.sent j k))) _ refl says
     where
-      fresh : (b : Bool) → phase_in (annals (drive_at r k) r.rate (with_restart b (given_before carry restarts j k))) ≤ t.phase → has_taken (annals (drive_at r k) r.rate (with_restart b (given_before carry restarts j k))) ≡ true
+      fresh : (b : Bool) → phase_in (annals (drive_at r k) r.rate (with_restart b (given_before carry restarts j k))) ≤ t.phase
+          → has_taken (annals (drive_at r k) r.rate (with_restart b (given_before carry restarts j k))) ≡ true
           → IsTold (drive_at r k).address j
       fresh true near took = absurd (false≢true took)
       fresh false near took = told_by t.phase j run.0 clear.0 k below low near took
 
-      by : (b : Bool) (x : Said) → sends (annals (drive_at r k) r.rate (given_mst carry restarts t.sent j k)) ≡ b → (if b then Some x else None) ≡ Some s → IsAnswering t (drive_at r k).address j
+      by : (b : Bool) (x : Said) → sends (annals (drive_at r k) r.rate (given_mst carry restarts t.sent j k)) ≡ b
+          → (if b then Some x else None) ≡ Some s → IsAnswering t (drive_at r k).address j
       by false x sent is = cc
       by true x sent is =
           let sending = is_sending (drive_at r k) r.rate (length j) t.phase (heard carry (passage (length j) kinds.Mst 0 (k + 1)) (mst_in t.sent)) (with_restart (restarts (length j) (k + 1)) (given_before carry restarts j k)) low

@@ -28,8 +28,10 @@ ArePlain d rate (call ∷ h) = IsPlain d rate call h
 -- So does each drive of a cycle, after the MST's place and after the MDT's.
 abbrev pub DrivesArePlain : RingView → Carry → Restarts → CycleView → List CycleView → Type 0
 DrivesArePlain r carry restarts t j =
-    (k : ℕ) → k < length r.drives → ArePlain (drive_at r k) r.rate (given_mst carry restarts t.sent j k) × ArePlain (drive_at r k) r.rate (given_mdt carry restarts t.sent j k)
+    (k : ℕ) → k < length r.drives → ArePlain (drive_at r k) r.rate (given_mst carry restarts t.sent j k)
+    × ArePlain (drive_at r k) r.rate (given_mdt carry restarts t.sent j k)
 
 -- Whatever arrives, undetected damage too.
 abbrev pub AlwaysPlain : Type 0
-AlwaysPlain = (r : RingView) (jobs : List Job) (carry : Carry) (restarts : Restarts) (t : CycleView) (j : List CycleView) → IsOpened r jobs → DrivesArePlain r carry restarts t j
+AlwaysPlain = (r : RingView) (jobs : List Job) (carry : Carry) (restarts : Restarts) (t : CycleView) (j : List CycleView)
+    → IsOpened r jobs → DrivesArePlain r carry restarts t j

@@ -36,15 +36,18 @@ pub record MissesMst (carry : Carry) (t : CycleView) (j : List CycleView) : Type
 abbrev pub NoneReads : RingView → Carry → ℕ → ℕ → ℕ → List (List ℕ) → Type 0
 NoneReads r carry cycle address len [] = Unit {0}
 NoneReads r carry cycle address len (at ∷ ats) =
-    ((content : List ℕ) → heard carry (passage cycle kinds.At (station_of r (slice_index at 0)) 0) at ≡ Some content → is_some (at_fault address len content) ≡ true)
+    ((content : List ℕ) → heard carry (passage cycle kinds.At (station_of r (slice_index at 0)) 0) at ≡ Some content →
+      is_some (at_fault address len content) ≡ true)
     × NoneReads r carry cycle address len ats
 
 abbrev pub NoneReadsIn : RingView → List Job → Carry → Restarts → CycleView → List CycleView → ℕ → Type 0
 NoneReadsIn r jobs carry restarts t j k =
-    NoneReads r carry (length j) (drive_at r k).address (at_len (member (known_of r) k) (outcomes (behind_ats r jobs carry restarts t.sent j) k)) (ats_in t.sent)
+    NoneReads r carry (length j) (drive_at r k).address
+    (at_len (member (known_of r) k) (outcomes (behind_ats r jobs carry restarts t.sent j) k)) (ats_in t.sent)
 
 -- AtLost: so it was in this cycle and in the one before, in which phase 3 or 4 was commanded.
-pub record MissesAt (r : RingView) (jobs : List Job) (carry : Carry) (restarts : Restarts) (t : CycleView) (j : List CycleView) (address : ℕ) : Type 0 where
+pub record MissesAt (r : RingView) (jobs : List Job) (carry : Carry) (restarts : Restarts) (t : CycleView) (j : List CycleView)
+    (address : ℕ) : Type 0 where
   pub place : ℕ
   pub inside : place < length r.drives
   pub address_is : (drive_at r place).address ≡ address
@@ -81,7 +84,8 @@ pub data IsLate (p : Past) (k : ℕ) : Type 0 where
   Identification : p.now.phase ≡ 1 → AreTo k 65 (p.now ∷ p.turns) → IsLate p k
   Step : (n : ℕ) → 64 ≤ n → IsOpenFor (p.calls k) n → IsLate p k
 
-pub record HasNoAnswer (r : RingView) (jobs : List Job) (carry : Carry) (restarts : Restarts) (t : CycleView) (j : List CycleView) (address : ℕ) : Type 0 where
+pub record HasNoAnswer (r : RingView) (jobs : List Job) (carry : Carry) (restarts : Restarts) (t : CycleView) (j : List CycleView)
+    (address : ℕ) : Type 0 where
   pub place : ℕ
   pub inside : place < length r.drives
   pub address_is : (drive_at r place).address ≡ address
@@ -99,4 +103,5 @@ FallsForCause r jobs carry restarts t j = (f : Fall) → t.events.fall ≡ Some 
 
 -- So it is in each cycle of a run, whatever arrives, undetected damage too.
 abbrev pub FallsHaveCause : Type 0
-FallsHaveCause = (r : RingView) (jobs : List Job) (carry : Carry) (restarts : Restarts) (t : CycleView) (j : List CycleView) → IsOpened r jobs → IsRun r jobs carry restarts (t ∷ j) → FallsForCause r jobs carry restarts t j
+FallsHaveCause = (r : RingView) (jobs : List Job) (carry : Carry) (restarts : Restarts) (t : CycleView) (j : List CycleView)
+    → IsOpened r jobs → IsRun r jobs carry restarts (t ∷ j) → FallsForCause r jobs carry restarts t j

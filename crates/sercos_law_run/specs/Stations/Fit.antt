@@ -38,10 +38,12 @@ EmptyKeepsTimes = (rate : ℕ) (blocks : List Block) → unfit_for_phase_3 rate 
 
 -- In phases 3 and 4 a drive has such a store, whatever it was handed, and whatever was written to it.
 abbrev pub FitInThree : Type 0
-FitInThree = (d : DriveView) (rate : ℕ) (h : List DriveCall) → blocks_fault [] d.blocks ≡ None → IsStore (store_of d) → 3 ≤ phase_at d rate h →
+FitInThree = (d : DriveView) (rate : ℕ) (h : List DriveCall) → blocks_fault [] d.blocks ≡ None → IsStore (store_of d)
+    → 3 ≤ phase_at d rate h →
     unfit_for_phase_3 rate (store_at d rate h) ≡ []
 
 -- In phase 4 no block of it has operation data outside its limits.
 abbrev pub FitInFour : Type 0
-FitInFour = (d : DriveView) (rate : ℕ) (h : List DriveCall) → blocks_fault [] d.blocks ≡ None → IsStore (store_of d) → 4 ≤ phase_at d rate h →
+FitInFour = (d : DriveView) (rate : ℕ) (h : List DriveCall) → blocks_fault [] d.blocks ≡ None → IsStore (store_of d)
+    → 4 ≤ phase_at d rate h →
     unfit_for_phase_4 (store_at d rate h) ≡ []

@@ -18,7 +18,8 @@ found_for_3 rate [] = []
 found_for_3 rate (Reset ∷ h) = found_for_3 rate h
 found_for_3 rate (Other cycle ∷ h) = found_for_3 rate h
 found_for_3 rate (Wrote raw value cycle blocks ∷ h) =
-    if (raw == 127) && (not (value == to_cancel) && is_none (find_set raw (settings rate h))) then unfit_for_phase_3 rate blocks else found_for_3 rate h
+    if (raw == 127) && (not (value == to_cancel) && is_none (find_set raw (settings rate h)))
+    then unfit_for_phase_3 rate blocks else found_for_3 rate h
 
 -- And what that for phase 4 found, by S-0-0128.
 abbrev pub found_for_4 : ℕ → List Call → List Idn
@@ -26,7 +27,8 @@ found_for_4 rate [] = []
 found_for_4 rate (Reset ∷ h) = found_for_4 rate h
 found_for_4 rate (Other cycle ∷ h) = found_for_4 rate h
 found_for_4 rate (Wrote raw value cycle blocks ∷ h) =
-    if (raw == 128) && (not (value == to_cancel) && is_none (find_set raw (settings rate h))) then unfit_for_phase_4 blocks else found_for_4 rate h
+    if (raw == 128) && (not (value == to_cancel) && is_none (find_set raw (settings rate h)))
+    then unfit_for_phase_4 blocks else found_for_4 rate h
 
 -- S-0-0021 and S-0-0022 contain this, whatever arrives.
 abbrev pub ListsAreFound : Type 0

@@ -31,7 +31,8 @@ StandsByMst = (d : DriveView) (rate : ℕ) (h : List DriveCall) → 1 ≤ phase_
 -- The check for a phase counts as passed in a cycle: that of S-0-0127 for phase 3, that of S-0-0128 for phase 4; none is needed for others.
 abbrev pub HasPassed : DriveView → ℕ → ℕ → ℕ → List DriveCall → Type 0
 HasPassed d rate cycle phase h =
-    (phase ≡ 3 → is_passed rate d.command 127 (calls_in (annals d rate h)) cycle ≡ true) × (phase ≡ 4 → is_passed rate d.command 128 (calls_in (annals d rate h)) cycle ≡ true)
+    (phase ≡ 3 → is_passed rate d.command 127 (calls_in (annals d rate h)) cycle ≡ true)
+    × (phase ≡ 4 → is_passed rate d.command 128 (calls_in (annals d rate h)) cycle ≡ true)
 
 -- The drive rises: it gets an MST of the next phase, whose check is passed.
 pub record Rises (d : DriveView) (rate : ℕ) (call : DriveCall) (h : List DriveCall) : Type 0 where
@@ -50,7 +51,8 @@ RisesByOne = (d : DriveView) (rate : ℕ) (call : DriveCall) (h : List DriveCall
 -- The drive is in phase 3 or 4 and takes no MDT: it got no MST in this cycle, or gets no MDT.
 abbrev pub misses : DriveView → ℕ → Option (List ℕ) → List DriveCall → Bool
 misses d rate content h =
-    nat_le 3 (phase_at d rate h) && not (is_some (newest_got h) && is_some (mdt_got d.address (phase_at d rate h) (store_at d rate h) content))
+    nat_le 3 (phase_at d rate h)
+    && not (is_some (newest_got h) && is_some (mdt_got d.address (phase_at d rate h) (store_at d rate h) content))
 
 -- so it was at the newest MDT's place, and the drive hasn't restarted since
 abbrev pub missed_before : DriveView → ℕ → List DriveCall → Bool
@@ -62,12 +64,16 @@ missed_before d rate (Restart ∷ h) = false
 -- The causes for which a drive goes to phase 0: an MST of another phase than its own, unless that is the next one and its check is passed;
 -- no MST for the second time in a row; in phases 3 and 4 no MDT for the second time in a row; a restart.
 pub data Drops (d : DriveView) (rate : ℕ) (call : DriveCall) (h : List DriveCall) : Type 0 where
-  ByPhase : (cycle phase : ℕ) → (content : Option (List ℕ)) → call ≡ Mst cycle content → mst_got content ≡ Some phase → (phase ≡ phase_at d rate h → ⊥)
+  ByPhase : (cycle phase : ℕ) → (content : Option (List ℕ)) → call ≡ Mst cycle content → mst_got content ≡ Some phase
+      → (phase ≡ phase_at d rate h → ⊥)
       → (phase ≡ phase_at d rate h + 1 → HasPassed d rate cycle phase h → ⊥) → Drops d rate call h
-  ByMst : (cycle : ℕ) → (content : Option (List ℕ)) → call ≡ Mst cycle content → mst_got content ≡ None → newest_got h ≡ None → Drops d rate call h
-  ByMdt : (content : Option (List ℕ)) → call ≡ Mdt content → misses d rate content h ≡ true → missed_before d rate h ≡ true → Drops d rate call h
+  ByMst : (cycle : ℕ) → (content : Option (List ℕ)) → call ≡ Mst cycle content → mst_got content ≡ None → newest_got h ≡ None
+      → Drops d rate call h
+  ByMdt : (content : Option (List ℕ)) → call ≡ Mdt content → misses d rate content h ≡ true → missed_before d rate h ≡ true
+      → Drops d rate call h
   ByRestart : call ≡ Restart → Drops d rate call h
 
 -- It goes there for these causes, and for no other.
 abbrev pub DropsByCause : Type 0
-DropsByCause = (d : DriveView) (rate : ℕ) (call : DriveCall) (h : List DriveCall) → 1 ≤ phase_at d rate h → (phase_at d rate (call ∷ h) ≡ 0) ↔ Drops d rate call h
+DropsByCause = (d : DriveView) (rate : ℕ) (call : DriveCall) (h : List DriveCall) → 1 ≤ phase_at d rate h
+    → (phase_at d rate (call ∷ h) ≡ 0) ↔ Drops d rate call h

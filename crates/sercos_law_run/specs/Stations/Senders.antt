@@ -26,4 +26,5 @@ IsAlone t j = t.phase ≤ 2 → (ats_in t.sent ≡ []) ⊎ IsAnswer t j
 
 -- So it is in each cycle of a run, as long as nothing was undetected.
 abbrev pub SendsAlone : Type 0
-SendsAlone = (r : RingView) (jobs : List Job) (carry : Carry) (restarts : Restarts) (t : CycleView) (j : List CycleView) → IsOpened r jobs → IsRun r jobs carry restarts (t ∷ j) → IsClear (t ∷ j) → IsAlone t j
+SendsAlone = (r : RingView) (jobs : List Job) (carry : Carry) (restarts : Restarts) (t : CycleView) (j : List CycleView)
+    → IsOpened r jobs → IsRun r jobs carry restarts (t ∷ j) → IsClear (t ∷ j) → IsAlone t j
