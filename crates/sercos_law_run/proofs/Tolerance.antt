@@ -8,6 +8,7 @@ pub mod CostsSparse
 pub mod CostsShared
 pub mod EarlySparse
 pub mod TwoLasts
+pub mod ThreeLasts
 pub mod BearsSparse
 pub mod Tolerates
 pub mod Worked
