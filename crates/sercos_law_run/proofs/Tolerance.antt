@@ -9,6 +9,7 @@ pub mod CostsShared
 pub mod EarlySparse
 pub mod TwoLasts
 pub mod ThreeLasts
+pub mod Rises
 pub mod BearsSparse
 pub mod Tolerates
 pub mod Worked
