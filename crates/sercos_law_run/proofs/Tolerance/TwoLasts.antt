@@ -109,7 +109,8 @@ module _ (laws : Laws) (more : MoreLaws) (turn : WorkInTurn) (two : WorksInTwo) 
   was_early true n few = omega (arith, few)
   was_early false n few = few
 
-  pub low_before : (t : CycleView) (j : List CycleView) → IsRun r jobs carry restarts (t ∷ j) → Borne t j → (back (t ∷ j)).now.phase ≤ 2 → t.phase ≤ 2
+  pub low_before : (t : CycleView) (j : List CycleView) → IsRun r jobs carry restarts (t ∷ j) → Borne t j → (back (t ∷ j)).now.phase ≤ 2
+      → t.phase ≤ 2
   low_before t j run is low = was_early (is_done (known_of r) (now t j)) t.phase (subst (λ (n : ℕ). n ≤ 2)
       (phase_next laws more turn comes_up to_zero goes counts r jobs carry restarts opened t j run is) low)
 
@@ -129,7 +130,8 @@ module _ (laws : Laws) (more : MoreLaws) (turn : WorkInTurn) (two : WorksInTwo) 
       → (cycles before : List CycleView) → IsRun r jobs carry restarts (cycles ++ before) → IsClear (cycles ++ before)
       → StartsEpoch r jobs carry restarts before → AreSparse r carry restarts cycles before → (back (cycles ++ before)).now.phase ≤ 2
       → opens_in cycles before ≤ sum_by section_two r.drives + disturbances r carry restarts cycles before
-  two_fit in_cost timed reads_cost writes_cost [] before run clear starts sparse low = let none = none_in (length r.drives) in omega (arith, none)
+  two_fit in_cost timed reads_cost writes_cost [] before run clear starts sparse low = let none = none_in (length r.drives) in
+      omega (arith, none)
   two_fit in_cost timed reads_cost writes_cost (t ∷ cycles) before run clear starts sparse low =
       let is = all_borne laws more turn comes_up to_zero goes counts r jobs carry restarts opened t cycles before run clear starts sparse in
       let t_low = low_before t (cycles ++ before) run is low in
