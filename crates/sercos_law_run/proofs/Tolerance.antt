@@ -8,6 +8,8 @@ pub mod CostsSparse
 pub mod CostsShared
 pub mod EarlySparse
 pub mod TwoLasts
+pub mod ThreeLasts
+pub mod Rises
 pub mod BearsSparse
 pub mod Tolerates
 pub mod Worked

@@ -4,3 +4,4 @@ pub mod Bears
 pub mod Losses
 pub mod Early
 pub mod TwoLasts
+pub mod Rises

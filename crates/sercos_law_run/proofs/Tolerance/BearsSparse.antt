@@ -1,9 +1,10 @@
 -- What a ring bears while disturbed cycles are sparse.
-use Rattle.std.proofs.Common.{◌≡◌, ◌⊎◌, inl, inr, ℕ, ◌+◌, ◌<◌, ◌≤◌, Bool, true, false, List, [], ◌∷◌, ◌++◌, length, ◌∙◌, arith}
+use Rattle.std.proofs.Common.{◌≡◌, ◌⊎◌, inl, inr, ℕ, ◌+◌, ◌<◌, ◌≤◌, Bool, true, false, List, [], ◌∷◌, ◌++◌, length, ◌∙◌, ap, arith}
 use Rattle.std.proofs.lemmas.Bool.{cases_eq}
 use Rattle.sercos_step.specs.declared.request.Job.{Job}
 use Rattle.sercos_block.specs.Views.{RingView}
 use Rattle.sercos_trace.specs.Views.{CycleView}
+use Rattle.sercos_seat.specs.Ring.{known_of, tasks_for}
 use Rattle.sercos_script.specs.Links.{Carry, Restarts}
 use Rattle.sercos_law_channel.specs.Handshake.RunLaws.{ComesToZero, ComesUp}
 use Rattle.sercos_law_channel.specs.Handshake.Runs.{IsRun as IsViewRun}
@@ -11,20 +12,24 @@ use Rattle.sercos_law_channel.specs.Pace.Ages.{age_in}
 use Rattle.sercos_law_channel.specs.Pace.ChannelCalls.{AgesBeforeEnd, StaysARun}
 use Rattle.sercos_law_channel.specs.Pace.Passages.{IsUp}
 use Rattle.sercos_law_channel.proofs.Theorems.{nothing_old}
-use Rattle.sercos_law_run.specs.Journal.Runs.{drive_at, IsClear, IsRun}
+use Rattle.sercos_law_run.specs.Journal.Runs.{drive_at, master_calls, IsClear, IsRun}
 use Rattle.sercos_law_run.specs.Agenda.Turns.{WorkInTurn}
+use Rattle.sercos_law_run.proofs.Views.Members.{members_count}
 use Rattle.sercos_law_run.specs.Views.RingViews.{view_of, views_of}
 use Rattle.sercos_law_run.specs.Held.Opened.{IsOpened}
-use Rattle.sercos_law_run.proofs.Held.Runs.{Laws}
-use Rattle.sercos_law_run.proofs.Headline.HeadlineRuns.{MoreLaws, all_stand}
+use Rattle.sercos_law_run.proofs.Held.Runs.{Laws, s_known}
+use Rattle.sercos_law_run.proofs.Headline.HeadlineRuns.{MoreLaws, all_stand, first_store}
+use Rattle.sercos_law_run.proofs.Typed.Mdts.{phase_low}
 use Rattle.sercos_law_run.specs.Undisturbed.EpochStarts.{StartsEpoch}
 use Rattle.sercos_law_run.proofs.Undisturbed.Answered.{tells_going}
 use Rattle.sercos_law_run.proofs.Undisturbed.Comes.{calm_in}
 use Rattle.sercos_law_run.proofs.Undisturbed.NeverFalls.{begins_so}
-use Rattle.sercos_law_run.proofs.Recovery.LateDown.{phase_after}
+use Rattle.sercos_law_run.proofs.Recovery.LateDown.{no_lower, phase_after}
 use Rattle.sercos_law_run.specs.Tolerance.Bears.{Bears, IsBehind}
+use Rattle.sercos_law_run.specs.Tolerance.Rises.{RisesSparse}
 use Rattle.sercos_law_run.specs.Tolerance.Sparse.{AreSparse, CalmIsSparse}
 use Rattle.sercos_law_run.proofs.Tolerance.Borne.{IsBorne, all_borne, calm_or_not, late_age}
+use Rattle.sercos_law_run.proofs.Tolerance.EarlySparse.{phase_is}
 use Rattle.sercos_law_run.proofs.Tolerance.Standing.{zero_again}
 use Rattle.sercos_law_run.proofs.Tolerance.Steps.{closed_age, oldest}
 
@@ -42,6 +47,7 @@ calm_is_sparse r carry restarts t j calm = record {
 
 module _ (laws : Laws) (more : MoreLaws) (turn : WorkInTurn) (comes_up : (busy : ℕ) → ComesUp busy)
     (to_zero : (busy : ℕ) → ComesToZero busy) (goes : (busy : ℕ) → StaysARun busy) (counts : (busy : ℕ) → AgesBeforeEnd busy)
+    (rises : RisesSparse)
     (r : RingView) (jobs : List Job) (carry : Carry) (restarts : Restarts) (opened : IsOpened r jobs) where
   abbrev Borne : CycleView → List CycleView → Type 0
   Borne t j = IsBorne laws more turn comes_up to_zero goes counts r jobs carry restarts opened t j
@@ -49,6 +55,12 @@ module _ (laws : Laws) (more : MoreLaws) (turn : WorkInTurn) (comes_up : (busy :
   is_run : (j : List CycleView) → IsRun r jobs carry restarts j → IsClear j → (k : ℕ) → k < length r.drives
       → IsViewRun (drive_at r k).busy (views_of r jobs carry restarts k j)
   is_run j run clear k below = (all_stand laws more r jobs carry restarts opened j run clear k below).sees.run
+
+  some_drive : 0 < length r.drives
+  some_drive =
+      let count = members_count r in
+      let some = (s_known laws r jobs carry restarts opened (first_store laws more r jobs carry restarts opened)).some in
+      omega (arith, count, some)
 
   -- how old a step is at the end of a cycle
   age_of : (t : CycleView) (j : List CycleView) → IsRun r jobs carry restarts (t ∷ j) → IsClear (t ∷ j) → Borne t j → (k : ℕ)
@@ -122,6 +134,22 @@ module _ (laws : Laws) (more : MoreLaws) (turn : WorkInTurn) (comes_up : (busy :
         is = all_borne laws more turn comes_up to_zero goes counts r jobs carry restarts opened u cycles before run.0 clear.0 starts
             sparse.0
 
+    -- phase 4 stays
+    four_stays : (cycles : List CycleView) → IsRun r jobs carry restarts (t ∷ (cycles ++ before)) → IsClear (t ∷ (cycles ++ before))
+        → AreSparse r carry restarts (t ∷ cycles) before → (u : CycleView) (older : List CycleView) → cycles ≡ u ∷ older → u.phase ≡ 4
+        → t.phase ≡ 4
+    four_stays [] run clear sparse u older is four = cc
+    four_stays (v ∷ cycles) run clear sparse u older is four =
+        let same : v ≡ u = cc in
+        let at : v.phase ≡ 4 = ap (λ (x : CycleView). x.phase) same ∙ four in
+        let least = no_lower laws more turn r jobs carry restarts opened t v (cycles ++ before) run clear
+        (all_borne laws more turn comes_up to_zero goes counts r jobs carry restarts opened v cycles before run.0 clear.0 starts
+        sparse.0).stays
+        (sparse.1.goes_on 0 (omega arith)) 0 some_drive in
+        let most = phase_low (known_of r) (tasks_for (known_of r) jobs) (master_calls r carry restarts (v ∷ (cycles ++ before))) in
+        let phase = phase_is laws more turn comes_up to_zero goes counts r jobs carry restarts opened t (v ∷ (cycles ++ before)) run
+        (borne (v ∷ cycles) run clear sparse) in omega (arith, at, least, most, phase)
+
   pub bears_sparse : (t : CycleView) (cycles before : List CycleView) → IsRun r jobs carry restarts (t ∷ (cycles ++ before))
       → IsClear (t ∷ (cycles ++ before)) → StartsEpoch r jobs carry restarts before
       → AreSparse r carry restarts (t ∷ cycles) before → Bears r jobs carry restarts t cycles before
@@ -132,6 +160,8 @@ module _ (laws : Laws) (more : MoreLaws) (turn : WorkInTurn) (comes_up : (busy :
     late_ages = λ late k below. late_age_of t (cycles ++ before) run clear is late k below;
     answers = λ k a below hears fits. ages_before t before starts cycles run clear sparse k below;
     late_answers = λ late k a below hears fits. late_before t before starts cycles run clear sparse late k below;
+    rises = λ right long. rises r jobs carry restarts t cycles before opened run clear starts sparse right long;
+    stays = four_stays t before starts cycles run clear sparse;
   }
     where
       is : Borne t (cycles ++ before)

@@ -47,13 +47,13 @@ sum_same (suc n) f g same =
     let rest = sum_same n f g (λ k low. same k (omega (arith, low))) in
     let last = same n (omega arith) in omega (arith, rest, last)
 
-sum_most : (n : ℕ) (f g : ℕ → ℕ) → ((k : ℕ) → k < n → f k ≤ g k) → sum_below n f ≤ sum_below n g
+pub sum_most : (n : ℕ) (f g : ℕ → ℕ) → ((k : ℕ) → k < n → f k ≤ g k) → sum_below n f ≤ sum_below n g
 sum_most zero f g most = omega arith
 sum_most (suc n) f g most =
     let rest = sum_most n f g (λ k low. most k (omega (arith, low))) in
     let last = most n (omega arith) in omega (arith, rest, last)
 
-sum_both : (n : ℕ) (f g : ℕ → ℕ) → sum_below n (λ k. f k + g k) ≡ sum_below n f + sum_below n g
+pub sum_both : (n : ℕ) (f g : ℕ → ℕ) → sum_below n (λ k. f k + g k) ≡ sum_below n f + sum_below n g
 sum_both zero f g = refl
 sum_both (suc n) f g = let rest = sum_both n f g in omega (arith, rest)
 
@@ -215,7 +215,7 @@ module _ (laws : Laws) (more : MoreLaws) (turn : WorkInTurn) (comes_up : (busy :
   ]
 
   -- WHAT IS LOST of all channels
-  all_few : (t : CycleView) (cycles before : List CycleView) → IsRun r jobs carry restarts (t ∷ (cycles ++ before))
+  pub all_few : (t : CycleView) (cycles before : List CycleView) → IsRun r jobs carry restarts (t ∷ (cycles ++ before))
       → IsClear (t ∷ (cycles ++ before)) → StartsEpoch r jobs carry restarts before → AreSparse r carry restarts (t ∷ cycles) before
       → t.phase ≤ 2
       → all_lost (t ∷ cycles) before + spare t (cycles ++ before) ≤ disturbances r carry restarts (t ∷ cycles) before

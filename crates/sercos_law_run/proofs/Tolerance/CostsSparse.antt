@@ -98,7 +98,7 @@ module _ (laws : Laws) (more : MoreLaws) (turn : WorkInTurn) (comes_up : (busy :
 
   -- one cycle more, of which `lost` is lost, if so much was lost before, and so much is spare
   module _ (k : ℕ) (below : k < length r.drives) where
-    disturbed_more : (t : CycleView) (j : List CycleView) → IsRun r jobs carry restarts (t ∷ j) → IsClear (t ∷ j)
+    pub disturbed_more : (t : CycleView) (j : List CycleView) → IsRun r jobs carry restarts (t ∷ j) → IsClear (t ∷ j)
         → IsDisturbed r carry restarts t j → (lost dist : ℕ) → lost ≤ dist
         → one_more (is_lost (view_of r jobs carry restarts k t j) (views_of r jobs carry restarts k j)) lost + spare t j ≤ dist + costs t j
     disturbed_more t j run clear on lost dist le = elim (cases_lt t.phase 2) [
@@ -127,7 +127,7 @@ module _ (laws : Laws) (more : MoreLaws) (turn : WorkInTurn) (comes_up : (busy :
         let same = none_more (is_lost (view_of r jobs carry restarts k t j) (views_of r jobs carry restarts k j)) lost none in
         let (c, d) = off_so t j off in omega (arith, same, c, d, le)
 
-    calm_next : (t u : CycleView) (j : List CycleView) → IsRun r jobs carry restarts (t ∷ u ∷ j) → IsClear (t ∷ u ∷ j) → Borne u j
+    pub calm_next : (t u : CycleView) (j : List CycleView) → IsRun r jobs carry restarts (t ∷ u ∷ j) → IsClear (t ∷ u ∷ j) → Borne u j
         → IsSparse r carry restarts t (u ∷ j) → Borne t (u ∷ j) → IsUndisturbed r carry restarts t (u ∷ j)
         → (lost dist : ℕ) → lost + spare u j ≤ dist
         → one_more (is_lost (view_of r jobs carry restarts k t (u ∷ j)) (views_of r jobs carry restarts k (u ∷ j))) lost + spare t (u ∷ j)

@@ -361,7 +361,8 @@ module _ (laws : Laws) (more : MoreLaws) (turn : WorkInTurn) (comes_up : (busy :
         let few = few_back r jobs carry restarts (u ∷ (cycles ++ before)) back_zero in
         let le = zero_lasts (u ∷ cycles) before run.0 clear.0 starts sparse.0 back_zero in omega (arith, few, le))
     | inr later ↦ elim (one_phase (is_done (known_of r) (now u (cycles ++ before))) u.phase
-        (sym (phase_next u (cycles ++ before) run.0 was) ∙ sym (phase_is t (u ∷ (cycles ++ before)) run is) ∙ (omega (arith, low, later)))) [
+        (sym (phase_next u (cycles ++ before) run.0 was) ∙ sym (phase_is t (u ∷ (cycles ++ before)) run is)
+        ∙ (omega (arith, low, later)))) [
           | inl first ↦ (let le = risen u cycles before run.0 clear.0 starts sparse.0 first.1 in omega (arith, le))
           | inr on ↦ (
               let le = one_lasts u cycles before run.0 clear.0 starts sparse.0 on.1 in

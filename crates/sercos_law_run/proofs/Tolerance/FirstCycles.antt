@@ -40,7 +40,7 @@ use Rattle.sercos_law_run.proofs.Undisturbed.StaysUp as undisturbed
 use Rattle.sercos_law_run.proofs.Recovery.LateDown.{phase_now, turns_now}
 
 -- OUTCOMES: one that ended well is there, and there are no more than requests begun before the cycle.
-well_within : (outs : List Outcome) (i : ℕ) → ended_well (given outs i) ≡ true → i < length outs
+pub well_within : (outs : List Outcome) (i : ℕ) → ended_well (given outs i) ≡ true → i < length outs
 well_within outs i well = by (slice_get outs i) refl well
   where
     by : (o : Option Outcome) → slice_get outs i ≡ o → ended_well (unwrap_or (option_map bytes_of o) []) ≡ true → i < length outs
@@ -55,7 +55,7 @@ few_outcomes (b ∷ begun) = by (outcome_of b.request b.answers) (few_outcomes b
     by None few = omega (arith, few)
     by (Some x) few = let long = length-append (outcomes_in begun) (x ∷ []) in omega (arith, few, long)
 
-begun_outcomes : (o : Option Request) (begun : List Begun) → outcomes_in (with_begun o begun) ≡ outcomes_in begun
+pub begun_outcomes : (o : Option Request) (begun : List Begun) → outcomes_in (with_begun o begun) ≡ outcomes_in begun
 begun_outcomes None begun = refl
 begun_outcomes (Some q) begun = refl
 

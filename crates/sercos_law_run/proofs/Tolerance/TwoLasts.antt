@@ -65,7 +65,7 @@ module _ (laws : Laws) (more : MoreLaws) (turn : WorkInTurn) (two : WorksInTwo) 
       (views_of r jobs carry restarts k before))
 
   -- each cycle of phase 2 has an open step
-  two_counts : (cycles before : List CycleView) → IsRun r jobs carry restarts (cycles ++ before) → IsClear (cycles ++ before)
+  pub two_counts : (cycles before : List CycleView) → IsRun r jobs carry restarts (cycles ++ before) → IsClear (cycles ++ before)
       → StartsEpoch r jobs carry restarts before → AreSparse r carry restarts cycles before
       → (back (cycles ++ before)).now.phase ≡ 2 → (back (cycles ++ before)).stop ≡ None
       → length cycles ≤ 11 + length r.drives + early_costs r jobs carry restarts cycles before + opens_in cycles before
@@ -104,7 +104,28 @@ module _ (laws : Laws) (more : MoreLaws) (turn : WorkInTurn) (two : WorksInTwo) 
           let works = one_works laws more two r jobs carry restarts opened t cycles before run clear goes_on in
           omega (arith, works, earlier)
 
-  -- which the requests of phase 2 account for, and what the disturbed cycles cost
+  -- what the requests of phase 2 to a drive cost
+  was_early : (done : Bool) (n : ℕ) → (if done then n + 1 else n) ≤ 2 → n ≤ 2
+  was_early true n few = omega (arith, few)
+  was_early false n few = few
+
+  pub low_before : (t : CycleView) (j : List CycleView) → IsRun r jobs carry restarts (t ∷ j) → Borne t j → (back (t ∷ j)).now.phase ≤ 2
+      → t.phase ≤ 2
+  low_before t j run is low = was_early (is_done (known_of r) (now t j)) t.phase (subst (λ (n : ℕ). n ≤ 2)
+      (phase_next laws more turn comes_up to_zero goes counts r jobs carry restarts opened t j run is) low)
+
+  pub each_fits : ((busy : ℕ) → ReadsCost busy) → ((busy : ℕ) → WritesCost busy) → (t : CycleView) (j : List CycleView)
+      → IsRun r jobs carry restarts (t ∷ j) → IsClear (t ∷ j) → Borne t j → t.phase ≤ 2 → (k : ℕ) → k < length r.drives
+      → cost_in (cost_of (drive_at r k).busy (drive_at r k).command (λ raw. 512) (store_of (drive_at r k)))
+      (epoch_begun (views_of r jobs carry restarts k (t ∷ j))) ≤ section_two (drive_at r k)
+  each_fits reads_cost writes_cost t j run clear is low k below =
+      let rules = (ring_drive r k (drive_at r k) opened.valid (drive_got r k below)).blocks in
+      let same = phase_now r jobs carry restarts t j run.1 in
+      two_fits (λ raw. 512) (drive_at r k) rules (reads_cost (drive_at r k).busy) (writes_cost (drive_at r k).busy) (known_of r)
+      (behind_mdt r jobs carry restarts t.sent j).plan k (epoch_begun (views_of r jobs carry restarts k (t ∷ j))) (member_is r k)
+      (places_now laws more r jobs carry restarts opened t j run clear is.stays k below (omega (arith, same, low)))
+      (few_now laws more r jobs carry restarts opened t j run clear is.stays k below (omega (arith, same, low)))
+
   two_fit : ((busy : ℕ) → StaysInCost busy) → ComesTimed → ((busy : ℕ) → ReadsCost busy) → ((busy : ℕ) → WritesCost busy)
       → (cycles before : List CycleView) → IsRun r jobs carry restarts (cycles ++ before) → IsClear (cycles ++ before)
       → StartsEpoch r jobs carry restarts before → AreSparse r carry restarts cycles before → (back (cycles ++ before)).now.phase ≤ 2
@@ -112,37 +133,14 @@ module _ (laws : Laws) (more : MoreLaws) (turn : WorkInTurn) (two : WorksInTwo) 
   two_fit in_cost timed reads_cost writes_cost [] before run clear starts sparse low = let none = none_in (length r.drives) in
       omega (arith, none)
   two_fit in_cost timed reads_cost writes_cost (t ∷ cycles) before run clear starts sparse low =
+      let is = all_borne laws more turn comes_up to_zero goes counts r jobs carry restarts opened t cycles before run clear starts sparse in
+      let t_low = low_before t (cycles ++ before) run is low in
       let shared = costs_shared laws more turn comes_up to_zero goes counts r jobs carry restarts opened in_cost timed t cycles before run
       clear starts sparse t_low (λ raw. 512) (λ k below. listed_all (views_of r jobs carry restarts k (t ∷ (cycles ++ before)))) in
       let sums = sum_within (λ k. cost_in (cost_of (drive_at r k).busy (drive_at r k).command (λ raw. 512) (store_of (drive_at r k)))
-      (epoch_begun (views_of r jobs carry restarts k (t ∷ (cycles ++ before))))) section_two r.drives each in
+      (epoch_begun (views_of r jobs carry restarts k (t ∷ (cycles ++ before))))) section_two r.drives
+      (each_fits reads_cost writes_cost t (cycles ++ before) run clear is t_low) in
       omega (arith, shared, sums)
-    where
-      is : Borne t (cycles ++ before)
-      is = all_borne laws more turn comes_up to_zero goes counts r jobs carry restarts opened t cycles before run clear starts sparse
-
-      was_early : (done : Bool) (n : ℕ) → (if done then n + 1 else n) ≤ 2 → n ≤ 2
-      was_early true n few = omega (arith, few)
-      was_early false n few = few
-
-      t_low : t.phase ≤ 2
-      t_low = was_early (is_done (known_of r) (now t (cycles ++ before))) t.phase
-          (subst (λ (n : ℕ). n ≤ 2) (phase_next laws more turn comes_up to_zero goes counts r jobs carry restarts opened t
-          (cycles ++ before) run is) low)
-
-      now_low : (behind_mdt r jobs carry restarts t.sent (cycles ++ before)).now.phase ≤ 2
-      now_low = let same = phase_now r jobs carry restarts t (cycles ++ before) run.1 in let few = t_low in omega (arith, same, few)
-
-      each : (k : ℕ) → k < length r.drives → cost_in (cost_of (drive_at r k).busy (drive_at r k).command (λ raw. 512)
-          (store_of (drive_at r k))) (epoch_begun (views_of r jobs carry restarts k (t ∷ (cycles ++ before)))) ≤ section_two (drive_at r k)
-      each k below =
-          let rules = (ring_drive r k (drive_at r k) opened.valid (drive_got r k below)).blocks in
-          two_fits (λ raw. 512) (drive_at r k) rules (reads_cost (drive_at r k).busy) (writes_cost (drive_at r k).busy) (known_of r)
-          (behind_mdt r jobs carry restarts t.sent (cycles ++ before)).plan k
-          (epoch_begun (views_of r jobs carry restarts k (t ∷ (cycles ++ before))))
-          (member_is r k) (places_now laws more r jobs carry restarts opened t (cycles ++ before) run clear is.stays k
-          below (let few = now_low in omega (arith, few))) (few_now laws more r jobs carry restarts opened t (cycles ++ before) run
-          clear is.stays k below now_low)
 
   -- HOW LONG PHASE 2 LASTS
   pub two_sparse : ((busy : ℕ) → StaysInCost busy) → ComesTimed → ((busy : ℕ) → ReadsCost busy) → ((busy : ℕ) → WritesCost busy)

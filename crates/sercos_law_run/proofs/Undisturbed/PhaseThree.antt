@@ -78,19 +78,19 @@ ready_stays m outs (Some o) ready =
     let both = and_parts (is_checked m outs) (ended_well (given outs (reads_count m + 12))) ready in
     ap₂ (λ (a b : Bool). a && b) (given_stays outs o (reads_count m + 11) both.0) (given_stays outs o (reads_count m + 12) both.1)
 
-unready_before : (m : MemberView) (old new : List Outcome) → Extends old new → is_ready m new ≡ false → is_ready m old ≡ false
+pub unready_before : (m : MemberView) (old new : List Outcome) → Extends old new → is_ready m new ≡ false → is_ready m old ≡ false
 unready_before m old new (o, is) unready = by (is_ready m old) refl
   where
     by : (b : Bool) → is_ready m old ≡ b → is_ready m old ≡ false
     by false off = off
     by true on = absurd (false≢true (sym unready ∙ ap (is_ready m) is ∙ ready_stays m old o on))
 
-is_false : (b : Bool) → not b ≡ true → b ≡ false
+pub is_false : (b : Bool) → not b ≡ true → b ≡ false
 is_false false e = refl
 is_false true e = absurd (false≢true e)
 
 -- where the phase comes to 3, or stays there
-comes_three : (done : Bool) (n : ℕ) → (if done then n + 1 else n) ≡ 3 → ((done ≡ true) × (n ≡ 2)) ⊎ ((done ≡ false) × (n ≡ 3))
+pub comes_three : (done : Bool) (n : ℕ) → (if done then n + 1 else n) ≡ 3 → ((done ≡ true) × (n ≡ 2)) ⊎ ((done ≡ false) × (n ≡ 3))
 comes_three true n is = inl (refl, omega (arith, is))
 comes_three false n is = inr (refl, is)
 
@@ -237,7 +237,7 @@ module _ (laws : Laws) (more : MoreLaws) (turn : WorkInTurn) (comes_up : (busy :
 
 -- THE CYCLES OF PHASE 3
 -- all but the newest request have ended
-begun_few : (s : Known) (k : ℕ) (plan : Option PlanView) (waiting : List Task) (phase n : ℕ) (begun : List Begun) (tasks : List Task) → AreBegunTasks s k plan waiting phase begun tasks → length (outcomes_in begun) ≤ n → length begun ≤ suc n
+pub begun_few : (s : Known) (k : ℕ) (plan : Option PlanView) (waiting : List Task) (phase n : ℕ) (begun : List Begun) (tasks : List Task) → AreBegunTasks s k plan waiting phase begun tasks → length (outcomes_in begun) ≤ n → length begun ≤ suc n
 begun_few s k plan waiting phase n [] tasks are few = omega arith
 begun_few s k plan waiting phase n (b ∷ older) [] are few = absurd are
 begun_few s k plan waiting phase n (b ∷ older) (t ∷ tasks) are few = let ended = are.1.ended in let grown = longer (outcome_of b.request b.answers) (outcomes_in older) in omega (arith, ended, grown, few)

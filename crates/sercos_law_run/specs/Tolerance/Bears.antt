@@ -1,6 +1,7 @@
 -- What becomes of a ring while disturbed cycles are sparse. The newest cycle of a journal comes first.
 use Rattle.std.specs.Prelude.{◌≡◌, ◌⊎◌, ℕ, ◌+◌, ◌<◌, ◌≤◌, true, false, List, [], ◌∷◌, ◌++◌, length, Some}
 use Rattle.sercos_step.specs.declared.request.Job.{Job}
+use Rattle.sercos_block.specs.Startup.{startup_bound}
 use Rattle.sercos_block.specs.Views.{RingView}
 use Rattle.sercos_service_master.specs.Begun.{answers_it}
 use Rattle.sercos_trace.specs.Views.{CycleView}
@@ -15,6 +16,8 @@ use Rattle.sercos_law_run.specs.Views.RingViews.{view_of, views_of}
 use Rattle.sercos_law_run.specs.Held.Opened.{IsOpened}
 use Rattle.sercos_law_run.specs.Undisturbed.EpochStarts.{StartsEpoch}
 use Rattle.sercos_law_run.specs.Undisturbed.StartUps.{TellsNoFall}
+use Rattle.sercos_law_run.specs.Undisturbed.StopsLater.{IsRight}
+use Rattle.sercos_law_run.specs.Tolerance.Rises.{start_costs}
 use Rattle.sercos_law_run.specs.Tolerance.Sparse.{AreSparse}
 
 -- a cycle is the first one commanded its phase: the phase below was commanded in the one before
@@ -37,7 +40,9 @@ StandsNear v past = IsUp v past ⊎ IsBehind v past
 -- What holds of a cycle t of an epoch, which is in phase 0 after the cycles `before`; those between them and t are `cycles`. No fall is
 -- reported, nor a request as broken. From the second cycle of the epoch on each drive is in the commanded phase, or one below it, in the
 -- first cycle commanded this phase, if it missed the MST of it. No step is open for longer than the busy time of its drive and four cycles,
--- or three in phases 3 and 4; and its answer arrives at most that long after the cycle in which it was begun, and first sent.
+-- or three in phases 3 and 4; and its answer arrives at most that long after the cycle in which it was begun, and first sent. If the ring
+-- is right, phase 4 is commanded from the bound of a start-up on, and what the cycles of the epoch cost so far; and once commanded, it
+-- stays.
 pub record Bears (r : RingView) (jobs : List Job) (carry : Carry) (restarts : Restarts) (t : CycleView)
     (cycles before : List CycleView) : Type 0 where
   pub tells : TellsNoFall t
@@ -53,6 +58,8 @@ pub record Bears (r : RingView) (jobs : List Job) (carry : Carry) (restarts : Re
       (view_of r jobs carry restarts k t (cycles ++ before)).heard ≡ Some a →
       answers_it (epoch_begun (views_of r jobs carry restarts k (cycles ++ before))) a.status ≡ true →
       age_in (views_of r jobs carry restarts k (cycles ++ before)) ≤ (drive_at r k).busy + 3
+  pub rises : IsRight r → startup_bound r + start_costs r jobs carry restarts cycles before ≤ length cycles → t.phase ≡ 4
+  pub stays : (u : CycleView) (older : List CycleView) → cycles ≡ u ∷ older → u.phase ≡ 4 → t.phase ≡ 4
 
 -- THE RING BEARS SPARSE FAULTS. Take any point of a run at which phase 0 is commanded next, regardless of losses before it, if nothing is
 -- undetected. From there on, and as long as the disturbed cycles are sparse, the ring doesn't fall, and each cycle is so.

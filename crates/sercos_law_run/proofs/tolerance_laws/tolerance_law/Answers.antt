@@ -1,7 +1,11 @@
 use Rattle.sercos_law_run.proofs.Headline.HeadlineRuns.{MoreLaws}
 use Rattle.sercos_law_run.proofs.Headline.WellRuns.{StopLaws}
 use Rattle.sercos_law_run.proofs.Held.Runs.{Laws}
+use Rattle.sercos_law_run.proofs.Undisturbed.LaterStops.{ready_if_ended}
+use Rattle.sercos_law_run.proofs.Undisturbed.StartUpEnds.{ReadyIfEnded, inside}
 use Rattle.sercos_law_run.specs.Tolerance.Bears.{BearsSparse}
+use Rattle.sercos_law_run.specs.Tolerance.Rises.{RisesSparse}
+use Rattle.sercos_law_run.proofs.Tolerance.Rises.{rises_sparse}
 use Rattle.sercos_law_run.proofs.Tolerance.BearsSparse.{bears_sparse, calm_is_sparse}
 use Rattle.sercos_law_run.proofs.Tolerance.CostsShared.{costs_shared}
 use Rattle.sercos_law_run.proofs.Tolerance.CostsSparse.{costs_sparse}
@@ -81,9 +85,19 @@ returns c =
       frame = c.framing_law.ensures.frame;
       wire = c.framing_law.ensures.wire;
     } in
+    let ready : ReadyIfEnded = λ r jobs carry restarts opened t j run clear k below none ended.
+    ready_if_ended laws more c.run_law.ensures.up c.parts_law.ensures.replies c.parts_law.ensures.transfers c.run_law.ensures.in_phase
+    c.run_law.ensures.epoch c.run_law.ensures.cycle c.stop_law.ensures.refused c.stop_law.ensures.check128 r jobs carry restarts opened t j
+    run clear k below (inside r k below) none ended in
+    let rises : RisesSparse = λ r jobs carry restarts t cycles before opened run clear starts sparse right long.
+    rises_sparse laws more c.agenda_law.ensures.turn c.agenda_law.ensures.two c.agenda_law.ensures.three c.run_law.ensures.up
+    c.run_law.ensures.zero c.calls_law.ensures.stays c.calls_law.ensures.before c.cost_law.ensures.in_cost c.cost_law.ensures.timed
+    c.jobs_law.ensures.reads c.jobs_law.ensures.writes c.bound_law.ensures.started c.bound_law.ensures.greatest
+    c.undisturbed_law.ensures.stops_two c.undisturbed_law.ensures.stops_three ready r jobs carry restarts opened t cycles before run clear
+    starts sparse right long in
     let bears : BearsSparse = λ r jobs carry restarts t cycles before opened run clear starts sparse.
     bears_sparse laws more c.agenda_law.ensures.turn c.run_law.ensures.up c.run_law.ensures.zero c.calls_law.ensures.stays
-    c.calls_law.ensures.before r jobs carry restarts opened t cycles before run clear starts sparse in
+    c.calls_law.ensures.before rises r jobs carry restarts opened t cycles before run clear starts sparse in
     record {
       calm = calm_is_sparse;
       spaced = one_of_three;
@@ -101,6 +115,7 @@ returns c =
       early = λ r jobs carry restarts t cycles before opened run clear starts sparse low.
           early_sparse laws more c.agenda_law.ensures.turn c.run_law.ensures.up c.run_law.ensures.zero c.calls_law.ensures.stays
           c.calls_law.ensures.before r jobs carry restarts opened t cycles before run clear starts sparse low;
+      rises = rises;
       two = λ r jobs carry restarts t cycles before opened run clear starts sparse is_two none.
           two_sparse laws more c.agenda_law.ensures.turn c.agenda_law.ensures.two c.run_law.ensures.up c.run_law.ensures.zero
           c.calls_law.ensures.stays c.calls_law.ensures.before r jobs carry restarts opened c.cost_law.ensures.in_cost
