@@ -66,12 +66,7 @@ pub fn input_of(alloc: Global, row: &Row, given: &str) -> Result<String, Fail> {
 }
 
 /// The output of a row's program, with what a test makes, over links under the script of a document, if one is handed in.
-pub fn output(
-    alloc: Global,
-    row: &Row,
-    given: &str,
-    script: Option<&str>,
-) -> Result<String, Fail> {
+pub fn output(alloc: Global, row: &Row, given: &str, script: Option<&str>) -> Result<String, Fail> {
     let input = input_of(alloc, row, given)?;
     let input = input.as_str().as_bytes();
     let (status, sink) = answer_by(alloc, row.words, input, SOUND_READS, SOUND_WRITES, script)?;
@@ -147,12 +142,7 @@ pub fn fault_of(
 
 /// Fails if something is wrong with the answer to a row, with what a test makes, over links under the script of a document, if one is
 /// handed in.
-pub fn check_over(
-    alloc: Global,
-    row: &Row,
-    given: &str,
-    script: Option<&str>,
-) -> Result<(), Fail> {
+pub fn check_over(alloc: Global, row: &Row, given: &str, script: Option<&str>) -> Result<(), Fail> {
     let input = input_of(alloc, row, given)?;
     match fault_of(alloc, row, input.as_str(), script)? {
         None => Ok(()),

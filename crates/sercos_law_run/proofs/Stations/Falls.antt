@@ -206,7 +206,7 @@ module _ (r : RingView) (jobs : List Job) (carry : Carry) (restarts : Restarts) 
             let (before, calls) = rest.leaves.quiet quiet in
             let phase = first.phase_is in (
               (λ content came. let same : got ≡ content = cc in subst (λ (c : List ℕ). is_some (at_fault (drive_at r k).address (at_len (member (known_of r) k) (outcomes last k)) c) ≡ true) same
-                (reads before calls (first.quiet before).1 late)),
+                  (reads before calls (first.quiet before).1 late)),
               rest.none quiet (omega (arith, late, phase)),
             );
       }
@@ -238,8 +238,8 @@ module _ (r : RingView) (jobs : List Job) (carry : Carry) (restarts : Restarts) 
                   let found : place_of (known_of r) (slice_index got 0) ≡ Some k = ap (place_of (known_of r)) mine ∙ place_found r k opened.valid below in
                   let address : (member (known_of r) k).address ≡ (drive_at r k).address = ap (λ (m : MemberView). m.address) (member_is r k) in
                   some_so _ (ap (λ (l : List Outcome). is_none (at_fault (drive_at r k).address (at_len (member (known_of r) k) l) got)) (sym outs)
-                    ∙ ap (λ (a : ℕ). is_none (at_fault a (at_len (member (known_of r) k) (outcomes (looks_back r jobs h) k)) got)) (sym address)
-                    ∙ unread (known_of r) k got (looks_back r jobs h) found late before)
+                  ∙ ap (λ (a : ℕ). is_none (at_fault a (at_len (member (known_of r) k) (outcomes (looks_back r jobs h) k)) got)) (sym address)
+                  ∙ unread (known_of r) k got (looks_back r jobs h) found late before)
 
   -- THE TURN of a cycle.
   leaves_at : (t : CycleView) (j : List CycleView) (k : ℕ) → k < length r.drives
@@ -303,7 +303,6 @@ module _ (r : RingView) (jobs : List Job) (carry : Carry) (restarts : Restarts) 
 
       last : (u : CycleView) (older : List CycleView) → (b' : Bool) → (p : Past) → p ≡ (behind_mdt r jobs carry restarts u.sent older)
           → (if b' then new_epoch (p.cycle + 1) (still_waiting p) else goes_on (next_phase (known_of r) p) p).turns ≡ b ∷ rest
-         
           → (b ≡ p.now) × (b.phase ≤ (if b' then new_epoch (p.cycle + 1) (still_waiting p) else goes_on (next_phase (known_of r) p) p).now.phase)
       last u older true p e is = cc
       last u older false p e is =
@@ -319,7 +318,7 @@ module _ (r : RingView) (jobs : List Job) (carry : Carry) (restarts : Restarts) 
           let none : [] ≡ b ∷ rest = sym (ap (λ (i : List CycleView). (looks_back r jobs (master_calls r carry restarts i)).turns) same) ∙ sym (ap (λ (p : Past). p.turns) start) ∙ is in absurd (cc)
       by false (u ∷ older) start is same =
           let (turn, low) = last u older (is_some (fall_of (known_of r) (behind_mdt r jobs carry restarts u.sent older))) (behind_mdt r jobs carry restarts u.sent older) refl
-            (sym (ap (λ (i : List CycleView). (looks_back r jobs (master_calls r carry restarts i)).turns) same) ∙ sym (ap (λ (p : Past). p.turns) start) ∙ is) in
+          (sym (ap (λ (i : List CycleView). (looks_back r jobs (master_calls r carry restarts i)).turns) same) ∙ sym (ap (λ (p : Past). p.turns) start) ∙ is) in
           record {
             before = u;
             older = older;
@@ -410,7 +409,6 @@ module _ (r : RingView) (jobs : List Job) (carry : Carry) (restarts : Restarts) 
       by : (m : Bool) → has_lost_mst (p.now ∷ p.turns) ≡ m → (a : Option ℕ)
           → first_place (known_of r) (λ k. has_lost_at k (p.now ∷ p.turns)) ≡ a → (l : Option ℕ)
           → first_place (known_of r) (is_at_limit p) ≡ l
-         
           → option_or (if m then Some MstLost else None) (option_or (fall_at AtLost (known_of r) a) (fall_at StepLimit (known_of r) l)) ≡ Some f
           → HasCause r jobs carry restarts t j f
       by true lost a at l late is = let same : MstLost ≡ f = cc in subst (HasCause r jobs carry restarts t j) same (mst_lost t j run lost)
@@ -429,7 +427,6 @@ falls_have_cause r jobs carry restarts t j opened run f is =
     by (fall_of (known_of r) (behind_mdt r jobs carry restarts t.sent j)) refl (restarts (length j) 0) refl (sym (ap (λ (e : EventsView). e.fall) run.1.events) ∙ is)
   where
     by : (o : Option Fall) → fall_of (known_of r) (behind_mdt r jobs carry restarts t.sent j) ≡ o → (b : Bool) → restarts (length j) 0 ≡ b
-       
         → option_or o (if b then restart_told (known_of r) (looks_back r jobs (master_calls r carry restarts j)) no_events else no_events).fall ≡ Some f
         → HasCause r jobs carry restarts t j f
     by (Some x) falls b restarted is = let same : x ≡ f = cc in subst (HasCause r jobs carry restarts t j) same (caused r jobs carry restarts opened t j run x falls)

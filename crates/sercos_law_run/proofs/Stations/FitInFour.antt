@@ -71,7 +71,6 @@ inside_written raw bytes (b ∷ blocks) up fine inside =
         → not (is_outside b) ≡ true → AreInside blocks
         → IfSome (cond same (Some b) (find_block raw blocks)) (λ (b : Block). is_outside (record b { value = bytes }) ≡ false)
         → (IfSome (find_block raw blocks) (λ (b : Block). is_outside (record b { value = bytes }) ≡ false) → AreInside blocks → AreInside (with_data raw bytes blocks))
-       
         → (not (is_outside (cond same (record b { value = bytes }) b)) && list_all (λ b. not (is_outside b)) (with_data raw bytes blocks)) ≡ true
     by true e above here others fine more =
         let under : raw ≤ b.idn.raw = grind (arith, nat_tests, e) in

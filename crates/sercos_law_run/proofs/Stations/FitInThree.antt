@@ -73,13 +73,13 @@ pub other_later : (d : DriveView) (n : ℕ) (blocks : List Block) (raw phase : �
     → put_fault (find_block raw blocks) phase bytes ≡ None → (n == raw) ≡ false
 other_later d n blocks raw phase bytes none is later late fine =
     other_by n raw (λ same. locked (find_block n blocks) later.attribute phase bytes (same_attribute n d blocks none is ∙ later.has) later.three later.four late
-      (subst (λ (m : ℕ). put_fault (find_block m blocks) phase bytes ≡ None) (sym same) fine))
+    (subst (λ (m : ℕ). put_fault (find_block m blocks) phase bytes ≡ None) (sym same) fine))
 
 pub other_command : (d : DriveView) (n : ℕ) (blocks : List Block) (raw : ℕ) → blocks_fault [] d.blocks ≡ None → IsStoreOf d blocks
     → IsLater d n → is_command blocks raw ≡ true → (n == raw) ≡ false
 other_command d n blocks raw none is later command =
     other_by n raw (λ same. false≢true (sym (of_attribute (find_block n blocks) later.attribute (λ (a : Attribute). a.command) (same_attribute n d blocks none is ∙ later.has) ∙ later.plain)
-      ∙ subst (λ (m : ℕ). is_command blocks m ≡ true) (sym same) command))
+    ∙ subst (λ (m : ℕ). is_command blocks m ≡ true) (sym same) command))
 
 -- WHAT THE CHECK LOOKS AT: the operation data of these blocks, and of each block whether it is a number.
 abbrev looks_at : List ℕ
@@ -100,10 +100,45 @@ later_by d raw a has plain three four = record { attribute = a; has = has; plain
 all_later : (d : DriveView) → AreEach (IsLater d) looks_at
 unfolding block_attribute built_in_attribute row_in attribute_in attribute_fault attribute_of
 all_later d = (
-  later_by d 1 _ refl refl refl refl, (later_by d 2 _ refl refl refl refl, (later_by d 3 _ refl refl refl refl, (later_by d 4 _ refl refl refl refl, (
-  later_by d 5 _ refl refl refl refl, (later_by d 6 _ refl refl refl refl, (later_by d 7 _ refl refl refl refl, (later_by d 8 _ refl refl refl refl, (
-  later_by d 9 _ refl refl refl refl, (later_by d 10 _ refl refl refl refl, (later_by d 15 _ refl refl refl refl, (later_by d 16 _ refl refl refl refl, (
-  later_by d 24 _ refl refl refl refl, (later_by d 89 _ refl refl refl refl, tt))))))))))))))
+  later_by d 1 _ refl refl refl refl,
+  (
+    later_by d 2 _ refl refl refl refl,
+    (
+      later_by d 3 _ refl refl refl refl,
+      (
+        later_by d 4 _ refl refl refl refl,
+        (
+          later_by d 5 _ refl refl refl refl,
+          (
+            later_by d 6 _ refl refl refl refl,
+            (
+              later_by d 7 _ refl refl refl refl,
+              (
+                later_by d 8 _ refl refl refl refl,
+                (
+                  later_by d 9 _ refl refl refl refl,
+                  (
+                    later_by d 10 _ refl refl refl refl,
+                    (
+                      later_by d 15 _ refl refl refl refl,
+                      (
+                        later_by d 16 _ refl refl refl refl,
+                        (
+                          later_by d 24 _ refl refl refl refl,
+                          (later_by d 89 _ refl refl refl refl, tt),
+                        ),
+                      ),
+                    ),
+                  ),
+                ),
+              ),
+            ),
+          ),
+        ),
+      ),
+    ),
+  ),
+)
 
 sum_same : (f g : Idn → ℕ) (idns : List Idn) → ((i : Idn) → f i ≡ g i) → sum_by f idns ≡ sum_by g idns
 sum_same f g [] same = refl
@@ -166,11 +201,12 @@ module _ (d : DriveView) (rate : ℕ) (none : blocks_fault [] d.blocks ≡ None)
     set = λ blocks well. none_there (unfit_for_phase_3 rate blocks) well;
     listed = λ blocks bytes is fit. (
       written blocks 21 bytes is.0 ((writes_keep d blocks 21 0 bytes is.1 is.0).1 refl) beside_21 fit,
-      written blocks 22 bytes is.0 ((writes_keep d blocks 22 0 bytes is.1 is.0).1 refl) beside_22 fit);
+      written blocks 22 bytes is.0 ((writes_keep d blocks 22 0 bytes is.1 is.0).1 refl) beside_22 fit,
+    );
     command = λ blocks raw phase bytes is fine command fit.
-      written blocks raw bytes is.0 ((writes_keep d blocks raw phase bytes is.1 is.0).0 fine) (each_other raw (λ n such. other_command d n blocks raw none is.0 such command)) fit;
+        written blocks raw bytes is.0 ((writes_keep d blocks raw phase bytes is.1 is.0).0 fine) (each_other raw (λ n such. other_command d n blocks raw none is.0 such command)) fit;
     later = λ blocks raw phase bytes is fine late below fit.
-      written blocks raw bytes is.0 ((writes_keep d blocks raw phase bytes is.1 is.0).0 fine) (each_other raw (λ n such. other_later d n blocks raw phase bytes none is.0 such late fine)) fit;
+        written blocks raw bytes is.0 ((writes_keep d blocks raw phase bytes is.1 is.0).0 fine) (each_other raw (λ n such. other_later d n blocks raw phase bytes none is.0 such late fine)) fit;
     rise = λ cycle phase past high low has. let is : phase ≡ 3 = omega (arith, high, low) in subst (λ (p : ℕ). has_passed d rate cycle p past ≡ true) is has;
   }
 

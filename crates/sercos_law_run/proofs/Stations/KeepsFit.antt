@@ -112,7 +112,6 @@ module _ (those : HandedThose) (d : DriveView) (rate check top : ℕ) (P : List 
 
   -- what the MST's place makes of it
   at_mst : (past : List Moment) (cycle : ℕ) (o : Option ℕ) → Holds d rate check top P (calls_in past) (phase_in past) (blocks_in d past)
-     
       → Holds d rate check top P (with_reset (stands_in d rate cycle o past) (calls_in past)) (stands_in d rate cycle o past) (blocks_in d past)
   at_mst past cycle o before = got o
     where
@@ -141,7 +140,6 @@ module _ (those : HandedThose) (d : DriveView) (rate check top : ℕ) (P : List 
         where
           by : (stays rises : Bool) → (phase == phase_in past) ≡ stays
               → ((phase == phase_in past + 1) && has_passed d rate cycle phase past) ≡ rises
-             
               → Holds d rate check top P (with_reset (if stays then phase else (if rises then phase else 0)) (calls_in past)) (if stays then phase else (if rises then phase else 0)) (blocks_in d past)
           by true rises stays rise = same phase (λ high. before.stands (grind (arith, nat_tests, stays, high)))
           by false false stays rise = zero
@@ -160,9 +158,8 @@ module _ (those : HandedThose) (d : DriveView) (rate check top : ℕ) (P : List 
   at_mdt : (past : List Moment) (told : Option Told) → phase_in past ≤ 4 → IsOf d (blocks_in d past)
       → AreThose (blocks_in d past) (taken_in past)
       → Holds d rate check top P (calls_in past) (phase_in past) (blocks_in d past)
-     
       → Holds d rate check top P (with_reset (ends_in told past) (calls_after (processed_in d rate told past) (taken_in past) (calls_in past))) (ends_in told past)
-          (blocks_after (processed_in d rate told past) (taken_in past) (blocks_in d past))
+      (blocks_after (processed_in d rate told past) (taken_in past) (blocks_in d past))
   at_mdt past told below is are before = by told
     where
       ends_low : (told : Option Told) → ends_in told past ≤ phase_in past

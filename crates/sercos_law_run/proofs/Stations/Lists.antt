@@ -79,7 +79,6 @@ are_set d rate (Mdt content ∷ h) = set_reset rate (ends_in told past) _ _ (by 
     told = mdt_got d.address (phase_in past) (blocks_in d past) content
 
     by : (told : Option Told) → AreSet rate (commands_in d rate past) (calls_in past)
-       
         → AreSet rate (commands_after (processed_in d rate told past) (taken_in past) (commands_in d rate past)) (calls_after (processed_in d rate told past) (taken_in past) (calls_in past))
     by None are = are
     by (Some t) are = which (has_mst past && nat_le 2 (phase_in past))
@@ -150,9 +149,9 @@ module _ (those : HandedThose) (d : DriveView) (rate : ℕ) (none : blocks_fault
 
       by : (sets one two : Bool) → (raw == 127) ≡ one → (raw == 128) ≡ two →
           (data_at (if sets then (if one then with_data 21 (list_bytes (unfit_for_phase_3 rate blocks)) blocks else (if two then with_data 22 (list_bytes (unfit_for_phase_4 blocks)) blocks else blocks)) else blocks) 21
-            ≡ list_bytes (if one && sets then unfit_for_phase_3 rate blocks else found_for_3 rate calls))
+          ≡ list_bytes (if one && sets then unfit_for_phase_3 rate blocks else found_for_3 rate calls))
           × (data_at (if sets then (if one then with_data 21 (list_bytes (unfit_for_phase_3 rate blocks)) blocks else (if two then with_data 22 (list_bytes (unfit_for_phase_4 blocks)) blocks else blocks)) else blocks) 22
-            ≡ list_bytes (if two && sets then unfit_for_phase_4 blocks else found_for_4 rate calls))
+          ≡ list_bytes (if two && sets then unfit_for_phase_4 blocks else found_for_4 rate calls))
       by false false false e f = has
       by false false true e f = has
       by false true false e f = has
@@ -212,7 +211,6 @@ module _ (those : HandedThose) (d : DriveView) (rate : ℕ) (none : blocks_fault
 
       by : (told : Option Told) → AreThose (blocks_in d past) (taken_in past) → IsOf d (blocks_in d past)
           → Contain (calls_in past) (blocks_in d past)
-         
           → Contain (calls_after (processed_in d rate told past) (taken_in past) (calls_in past)) (blocks_after (processed_in d rate told past) (taken_in past) (blocks_in d past))
       by None are is has = has
       by (Some t) are is has = which (has_mst past && nat_le 2 (phase_in past))

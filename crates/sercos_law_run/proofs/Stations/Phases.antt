@@ -99,7 +99,6 @@ so_passed : (d : DriveView) (rate cycle phase : ℕ) (h : List DriveCall) → ph
 so_passed d rate cycle phase h below has = by (nat_le phase 2) (phase == 3) refl refl
   where
     by : (low three : Bool) → nat_le phase 2 ≡ low → (phase == 3) ≡ three
-       
         → (low || (if three then is_passed rate d.command 127 (calls_in (annals d rate h)) cycle else is_passed rate d.command 128 (calls_in (annals d rate h)) cycle)) ≡ true
     by true three low is = refl
     by false true low is = has.0 (grind (arith, nat_tests, is))
@@ -151,7 +150,6 @@ mst_low (Some content) phase is = subst (λ (o : Option ℕ). IfSome o (λ p. p 
 
 -- A drive goes to phase 0 for a cause.
 now_same : (d : DriveView) (rate : ℕ) (content : Option (List ℕ)) (h : List DriveCall)
-   
     → (nat_le 3 (phase_at d rate h) && not (takes (mdt_got d.address (phase_at d rate h) (store_at d rate h) content) (annals d rate h))) ≡ misses d rate content h
 now_same d rate content h = missed_same d rate (Mdt content ∷ h)
 

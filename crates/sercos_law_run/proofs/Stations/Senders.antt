@@ -78,7 +78,6 @@ unfolding single_in head_fault
 addressed address phase blocks content early got = by (nat_le 3 phase) refl got
   where
     read : (long other : Bool) → (slice_index content 0 == address) ≡ other
-       
         → is_some (if is_none (option_or (then_some (not long) (Length (length content) 5)) (then_some (not other) (Address (slice_index content 0) address))) then Some (told_at content 1) else None) ≡ true
         → slice_index content 0 ≡ address
     read true true e got = grind (arith, nat_tests, e)
@@ -124,7 +123,6 @@ is_sending d rate cycle phase content g low got = by (mst_got content) got
     by (Some p) e sent = let same : p ≡ phase = cc in which (p == phase_in past) ((p == phase_in past + 1) && has_passed d rate cycle p past) refl refl sent
       where
         which : (stays rises : Bool) → (p == phase_in past) ≡ stays → ((p == phase_in past + 1) && has_passed d rate cycle p past) ≡ rises
-           
             → (true && (nat_le 3 (if stays then p else (if rises then p else 0)) || (nat_le 1 (if stays then p else (if rises then p else 0)) && has_taken past))) ≡ true
             → IsSending d rate phase g
         which true rises stays rise sent =
@@ -176,8 +174,8 @@ module _ (spells : SpelledNext) (r : RingView) (jobs : List Job) (carry : Carry)
         let c = counts in
         let none : unseen_at carry (passage (length j) kinds.Mst 0 (k + 1)) (mst_in t.sent) ≡ 0 = none_below (length r.drives) (unseen_mst carry (length j) (mst_in t.sent)) (omega (arith, c)) k below in
         form _ _ (mst_clear (at_start r jobs carry restarts j).now.phase _ low
-          (subst (λ (l : List ℕ). (heard carry (passage (length j) kinds.Mst 0 (k + 1)) (mst_in t.sent) ≡ None) ⊎ (heard carry (passage (length j) kinds.Mst 0 (k + 1)) (mst_in t.sent) ≡ Some l)) (ap mst_in next.sent)
-            (heard_whole carry _ (mst_in t.sent) spelled.mst none)))
+        (subst (λ (l : List ℕ). (heard carry (passage (length j) kinds.Mst 0 (k + 1)) (mst_in t.sent) ≡ None) ⊎ (heard carry (passage (length j) kinds.Mst 0 (k + 1)) (mst_in t.sent) ≡ Some l)) (ap mst_in next.sent)
+        (heard_whole carry _ (mst_in t.sent) spelled.mst none)))
       where
         form : (b : Bool) (o : Option ℕ) → o ≡ (if b then Some (at_start r jobs carry restarts j).now.phase else None)
             → o ≡ (if is_some o then Some t.phase else None)
@@ -194,7 +192,6 @@ module _ (spells : SpelledNext) (r : RingView) (jobs : List Job) (carry : Carry)
             ap (λ (o : Option (List ℕ)). unseen_mdt carry (length j) o k) (sym is) ∙ none_below (length r.drives) (unseen_mdt carry (length j) (mdt_in t.sent)) (omega (arith, c)) k below
 
         by : (o : Option Sent) → mdt_said (known_of r) (behind_mdt r jobs carry restarts t.sent j) ≡ o → Some mdt ≡ content_of o
-           
             → (heard carry (passage (length j) kinds.Mdt 0 (k + 1)) mdt ≡ None) ⊎ (heard carry (passage (length j) kinds.Mdt 0 (k + 1)) mdt ≡ Some mdt)
         by None said e = cc
         by (Some m) said e = let same : mdt ≡ m.content = cc in heard_whole carry (passage (length j) kinds.Mdt 0 (k + 1)) mdt (rw same (spelled.mdt m said)) none
@@ -234,7 +231,7 @@ module _ (spells : SpelledNext) (r : RingView) (jobs : List Job) (carry : Carry)
             mdt = mdt;
             told = is;
             same = addressed (drive_at r k).address (phase_in (annals (drive_at r k) r.rate (given_mst carry restarts u.sent j k))) (blocks_in (drive_at r k) (annals (drive_at r k) r.rate (given_mst carry restarts u.sent j k))) mdt (early (sym stayed))
-              (ap (λ (o : Option (List ℕ)). is_some (mdt_got (drive_at r k).address (phase_in (annals (drive_at r k) r.rate (given_mst carry restarts u.sent j k))) (blocks_in (drive_at r k) (annals (drive_at r k) r.rate (given_mst carry restarts u.sent j k))) o)) (sym same) ∙ takes.got);
+                (ap (λ (o : Option (List ℕ)). is_some (mdt_got (drive_at r k).address (phase_in (annals (drive_at r k) r.rate (given_mst carry restarts u.sent j k))) (blocks_in (drive_at r k) (annals (drive_at r k) r.rate (given_mst carry restarts u.sent j k))) o)) (sym same) ∙ takes.got);
           }
             where
               stayed : phase_in (annals (drive_at r k) r.rate (given_before carry restarts (u ∷ j) k)) ≡ phase_in (annals (drive_at r k) r.rate (given_mst carry restarts u.sent j k))
@@ -260,7 +257,7 @@ module _ (spells : SpelledNext) (r : RingView) (jobs : List Job) (carry : Carry)
       by false x sent is = cc
       by true x sent is =
           let sending = is_sending (drive_at r k) r.rate (length j) t.phase (heard carry (passage (length j) kinds.Mst 0 (k + 1)) (mst_in t.sent)) (with_restart (restarts (length j) (k + 1)) (given_before carry restarts j k)) low
-            (mst_got_so t j run.1 clear.1 k below) sent in
+          (mst_got_so t j run.1 clear.1 k below) sent in
           record { up = sending.up; told = fresh (restarts (length j) (k + 1)) sending.near sending.took }
 
   same_told : (address other : ℕ) (j : List CycleView) → IsTold address j → IsTold other j → address ≡ other
@@ -279,7 +276,7 @@ sends_alone spells r jobs carry restarts t j opened run clear low = by (one_said
 
     one : AreOne (length r.drives) (drive_at r) r.rate (given_mst carry restarts t.sent j)
     one i k s u low_i low_k says tells = same_drive r i k opened.valid low_i low_k (same_told spells r jobs carry restarts opened (drive_at r i).address (drive_at r k).address j
-      (answering spells r jobs carry restarts opened t j run clear low i s low_i says).told (answering spells r jobs carry restarts opened t j run clear low k u low_k tells).told)
+        (answering spells r jobs carry restarts opened t j run clear low i s low_i says).told (answering spells r jobs carry restarts opened t j run clear low k u low_k tells).told)
 
     by : (said_below (length r.drives) (drive_at r) r.rate (given_mst carry restarts t.sent j) ≡ []) ⊎ IsOne (length r.drives) (drive_at r) r.rate (given_mst carry restarts t.sent j) (said_below (length r.drives) (drive_at r) r.rate (given_mst carry restarts t.sent j))
         → (ats_in t.sent ≡ []) ⊎ IsAnswer t j

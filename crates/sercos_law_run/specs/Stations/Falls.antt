@@ -37,7 +37,7 @@ abbrev pub NoneReads : RingView → Carry → ℕ → ℕ → ℕ → List (List
 NoneReads r carry cycle address len [] = Unit {0}
 NoneReads r carry cycle address len (at ∷ ats) =
     ((content : List ℕ) → heard carry (passage cycle kinds.At (station_of r (slice_index at 0)) 0) at ≡ Some content →
-      is_some (at_fault address len content) ≡ true)
+    is_some (at_fault address len content) ≡ true)
     × NoneReads r carry cycle address len ats
 
 abbrev pub NoneReadsIn : RingView → List Job → Carry → Restarts → CycleView → List CycleView → ℕ → Type 0
