@@ -1,9 +1,8 @@
 -- A drive that holds the plan agrees with the MDT that the master lays.
-use Rattle.std.proofs.Common.{◌≡◌, ℕ, zero, suc, ◌+◌, ◌<◌, ◌≤◌, true, List, [], ◌∷◌, ◌++◌, map, length, take, Option, Some, None, refl, sym, ap, ap₂, ◌∙◌, subst, arith, cond}
+use Rattle.std.proofs.Common.{◌≡◌, ℕ, zero, suc, ◌+◌, ◌<◌, true, List, [], ◌∷◌, map, length, take, Option, Some, None, refl, sym, ap, ◌∙◌, subst, arith, cond}
 use Rattle.std.specs.Prelude.{◌==◌, ◌||◌, Bool, false, slice_index, slice_get, unwrap_or, is_some}
 use Rattle.std.specs.List.{concat, list_all}
 use Rattle.std.proofs.lemmas.Bool.{and_parts}
-use Rattle.sercos_idn.specs.declared.idn.Idn.{Idn}
 use Rattle.sercos_step.specs.declared.request.Request.{Request}
 use Rattle.sercos_step.specs.declared.request.Request.TheVariants as request
 use Rattle.sercos_timing.specs.Views.{WishesView, PlanView}
@@ -18,12 +17,11 @@ use Rattle.sercos_block.specs.Rules.{has_block, blocks_fault}
 use Rattle.sercos_block.specs.Stores.{find_block, store_of}
 use Rattle.sercos_block.specs.Views.{DriveView, RingView}
 use Rattle.sercos_command.specs.Checks.{data_at, number_at, carried_len}
-use Rattle.sercos_service_drive.specs.Writes.{Write}
 use Rattle.sercos_law_run.specs.Slots.Slots.{Held}
 use Rattle.sercos_law_run.specs.Slots.OnPlan.{held_of}
 use Rattle.sercos_law_run.proofs.Slots.Places.{record_place_is, length_records}
 use Rattle.sercos_seat.specs.Agenda.{wishes_given, writes}
-use Rattle.sercos_seat.specs.Ring.{Known, known_of, member_of}
+use Rattle.sercos_seat.specs.Ring.{Known, known_of}
 use Rattle.sercos_law_run.specs.Start.StartUp.{IsStoreOf, start_up, Holds, AreAsLong}
 use Rattle.sercos_law_run.specs.Start.Held.{held_in, HoldsPlan, WritesStartUp, written_by}
 use Rattle.sercos_law_run.specs.Start.Later.{AreStoredWhole, StoresStartUpWhole}

@@ -1,6 +1,6 @@
 -- If there is a plan, a drive has answered the first reads as it has its elements.
-use Rattle.std.proofs.Common.{◌≡◌, ℕ, zero, suc, ◌+◌, ◌<◌, ◌≤◌, Bool, true, false, not, ◌&&◌, List, [], ◌∷◌, ◌++◌, map, length, Option, Some, None, refl, sym, ap, ◌∙◌, subst, arith, if◌then◌else◌, append_assoc}
-use Rattle.std.specs.Prelude.{◌==◌, slice_get, option_map, option_and_then, unwrap_or}
+use Rattle.std.proofs.Common.{◌≡◌, ℕ, zero, suc, ◌<◌, Bool, true, false, not, ◌&&◌, List, [], ◌∷◌, ◌++◌, length, Option, Some, None, refl, sym, ap, ◌∙◌, subst, arith, if◌then◌else◌, append_assoc}
+use Rattle.std.specs.Prelude.{◌==◌, slice_get, option_map, unwrap_or}
 use Rattle.std.specs.Option.{option_or}
 use mathlib.Core.Bool.{beq}
 use Rattle.sercos_idn.specs.declared.idn.Idn.{Idn}
@@ -24,16 +24,16 @@ use Rattle.sercos_service_drive.specs.Writes.{Write}
 use Rattle.sercos_service_master.specs.Begun.{Begun}
 use Rattle.sercos_service_master.specs.Calls.{begun_by}
 use Rattle.sercos_trace.specs.Views.{CycleView}
-use Rattle.sercos_seat.specs.Agenda.{idn, declared_times, reads, reads_count}
+use Rattle.sercos_seat.specs.Agenda.{idn, reads, reads_count}
 use Rattle.sercos_seat.specs.Channel.{outcomes_in}
-use Rattle.sercos_seat.specs.Ring.{Known, Task, MemberView, member, startup, known_of, tasks_for}
+use Rattle.sercos_seat.specs.Ring.{Task, MemberView, member, known_of, tasks_for}
 use Rattle.sercos_seat.proofs.Agendas.{reads_length}
 use Rattle.sercos_law_run.specs.Start.StartUp.{IsStoreOf, is_given, kept}
-use Rattle.sercos_law_run.specs.Start.Answers.{element_read, IsAnswer, AreAnswers}
+use Rattle.sercos_law_run.specs.Start.Answers.{IsAnswer, AreAnswers}
 use Rattle.sercos_law_run.proofs.Start.BlockFinds.{find_store_of, same_kept}
 use Rattle.sercos_master.specs.Annals.{Past, outcomes}
 use Rattle.sercos_script.specs.Links.{Carry, Restarts}
-use Rattle.sercos_law_channel.specs.Handshake.ReadTransfers.{entry_behind, element_in, IsReadAt}
+use Rattle.sercos_law_channel.specs.Handshake.ReadTransfers.{entry_behind, element_in}
 use Rattle.sercos_law_channel.specs.Handshake.Views.{View, standing, stood_in, record_in, kept_in}
 use Rattle.sercos_law_channel.specs.Handshake.WholeRun.{accepted_of, all_entries, all_writes, all_begun, begun_ago, AreSound, AreSmall}
 use Rattle.sercos_law_channel.specs.Handshake.Exact.{AreExact, RunsAreExact}

@@ -1,5 +1,5 @@
 -- Within a cycle outcomes only come to those that are there.
-use Rattle.std.proofs.Common.{◌≡◌, ℕ, zero, suc, ◌+◌, ◌≤◌, Bool, true, false, List, [], ◌∷◌, ◌++◌, length, Option, Some, None, refl, sym, ap, ◌∙◌, subst, arith, if◌then◌else◌}
+use Rattle.std.proofs.Common.{◌≡◌, ℕ, Bool, true, false, List, [], ◌∷◌, ◌++◌, Option, Some, None, refl, sym, ap, ◌∙◌, subst, if◌then◌else◌}
 use Rattle.std.specs.Prelude.{is_some}
 use Rattle.std.proofs.lemmas.Bool.{and_parts}
 use Rattle.sercos_telegram.specs.declared.words.Status.{Status}
@@ -11,7 +11,7 @@ use Rattle.sercos_step.specs.Steps.{outcome_of}
 use Rattle.sercos_block.specs.Views.{DriveView}
 use Rattle.sercos_service_master.specs.Begun.{Begun, open_in, step_at, answers_it, answer_in, with_answer}
 use Rattle.sercos_seat.specs.Channel.{outcomes_in, with_outcome}
-use Rattle.sercos_law_run.specs.Start.Answers.{IsAnswer, AreAnswers}
+use Rattle.sercos_law_run.specs.Start.Answers.{AreAnswers}
 use Rattle.sercos_law_channel.specs.Handshake.Moves.{with_status}
 use Rattle.sercos_law_channel.specs.Handshake.Views.{Heard}
 use Rattle.sercos_law_channel.specs.Handshake.Epochs.{with_heard, with_begun}

@@ -1,6 +1,6 @@
 -- If phase 3 or 4 is commanded next, the newest writes of a drive are those of the plan.
-use Rattle.std.proofs.Common.{◌≡◌, inl, inr, ℕ, zero, suc, ◌+◌, ◌<◌, ◌≤◌, Bool, true, false, List, [], ◌∷◌, length, Option, Some, None, refl, sym, ap, ◌∙◌, subst, arith, if◌then◌else◌}
-use Rattle.std.specs.Prelude.{nat_le, is_some, slice_get}
+use Rattle.std.proofs.Common.{◌≡◌, inl, inr, ℕ, zero, suc, ◌+◌, ◌<◌, ◌≤◌, Bool, true, false, List, [], ◌∷◌, length, Some, refl, sym, ap, ◌∙◌, subst, arith, if◌then◌else◌}
+use Rattle.std.specs.Prelude.{slice_get}
 use Rattle.std.proofs.lemmas.Bool.{cases_eq}
 use Rattle.std.proofs.lemmas.Bool.Decides.{nat_tests}
 use Rattle.sercos_idn.specs.declared.idn.Idn.{Idn}
@@ -16,14 +16,13 @@ use Rattle.sercos_service_drive.specs.Writes.{Write}
 use Rattle.sercos_service_master.specs.Calls.{begun_by}
 use Rattle.sercos_trace.specs.Views.{CycleView}
 use Rattle.sercos_seat.specs.Agenda.{writes}
-use Rattle.sercos_seat.specs.Ring.{Known, Task, known_of, tasks_for}
+use Rattle.sercos_seat.specs.Ring.{Known, known_of, tasks_for}
 use Rattle.sercos_seat.specs.Seats.{AreWaiting}
-use Rattle.sercos_master.specs.Annals.{Past, Call, fall_of, is_done, after_end, after_mdt, new_epoch, still_waiting, goes_on, next_phase}
+use Rattle.sercos_master.specs.Annals.{Past}
 use Rattle.sercos_master.proofs.Configured.{configured}
 use Rattle.sercos_script.specs.Links.{Carry, Restarts}
 use Rattle.sercos_law_channel.specs.Handshake.Views.{View}
-use Rattle.sercos_law_channel.specs.Handshake.Epochs.{command, epoch_begun}
-use Rattle.sercos_law_channel.specs.Handshake.Runs.{IsRun}
+use Rattle.sercos_law_channel.specs.Handshake.Epochs.{command}
 use Rattle.sercos_law_channel.specs.Handshake.WholeRun.{all_writes, AreSound, AreSmall}
 use Rattle.sercos_law_channel.specs.Handshake.Values.{StaysProtected, StaysWritten}
 use Rattle.sercos_law_run.specs.Journal.Runs.{drive_at, master_calls, looks_back, IsNext}

@@ -1,9 +1,7 @@
 -- How the master lays the data records of an MDT.
-use Rattle.std.proofs.Common.{◌≡◌, ℕ, zero, suc, ◌+◌, ◌<◌, ◌≤◌, List, [], ◌∷◌, ◌++◌, map, length, take, refl, sym, ap, ap₂, ◌∙◌, subst, arith}
-use Rattle.std.specs.Prelude.{slice_index, slice_index_or}
+use Rattle.std.proofs.Common.{◌≡◌, ℕ, zero, suc, ◌+◌, ◌<◌, ◌≤◌, List, [], ◌∷◌, ◌++◌, map, length, take, refl, ap, ap₂, ◌∙◌, arith}
+use Rattle.std.specs.Prelude.{slice_index_or}
 use Rattle.std.specs.List.{concat}
-use Rattle.sercos_timing.specs.Views.{WishesView, PlanView}
-use Rattle.sercos_timing.specs.Order.{record_bytes}
 use Rattle.sercos_timing.specs.declared.wishes.Wish.{Wish}
 use Rattle.sercos_seat.specs.Agenda.{record_len, wishes_from, wishes_given}
 use Rattle.sercos_seat.specs.Ring.{Known, MemberView, member, no_member}

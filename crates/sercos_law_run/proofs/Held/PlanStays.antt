@@ -1,6 +1,6 @@
 -- Within a cycle of phases 3 and 4 the plan stays.
 use Rattle.std.proofs.Common.{◌≡◌, ◌⊎◌, inl, inr, ℕ, ◌+◌, ◌≤◌, Bool, true, false, List, [], ◌∷◌, length, Option, Some, None, refl, sym, ◌∙◌, ap, subst, arith, if◌then◌else◌}
-use Rattle.std.specs.Prelude.{◌==◌, is_some, slice_index}
+use Rattle.std.specs.Prelude.{is_some, slice_index}
 use Rattle.sercos_telegram.specs.declared.layout.Kind.TheVariants as kinds
 use Rattle.sercos_step.specs.declared.request.Job.{Job}
 use Rattle.sercos_timing.specs.Views.{PlanView}

@@ -1,5 +1,5 @@
 -- What a plan of the master is, whatever its drives answered.
-use Rattle.std.proofs.Common.{◌≡◌, List, Option, Some, Result, Ok, Err, refl, subst}
+use Rattle.std.proofs.Common.{◌≡◌, Some, Result, Ok, Err, refl, subst}
 use Rattle.std.specs.Prelude.{IfOk}
 use Rattle.sercos_timing.specs.Views.{WishesView, PlanView}
 use Rattle.sercos_timing.specs.Valid.{IsValid}

@@ -1,6 +1,6 @@
 -- The phase rises only where no step is open.
-use Rattle.std.proofs.Common.{◌≡◌, inl, inr, ℕ, zero, suc, ◌+◌, ◌<◌, ◌≤◌, Bool, true, false, List, [], ◌∷◌, length, Option, Some, None, refl, sym, ap, ◌∙◌, subst, arith, if◌then◌else◌}
-use Rattle.std.specs.Prelude.{◌==◌, ◌&&◌, nat_le, is_some, is_none, slice_get, slice_index, option_map, unwrap_or}
+use Rattle.std.proofs.Common.{◌≡◌, inl, inr, ℕ, zero, suc, ◌+◌, ◌<◌, ◌≤◌, Bool, true, false, List, [], ◌∷◌, length, Option, Some, None, refl, sym, ap, ◌∙◌, subst, arith}
+use Rattle.std.specs.Prelude.{nat_le}
 use Rattle.std.proofs.lemmas.Bool.{and_parts, cases_eq, false≢true}
 use Rattle.std.proofs.lemmas.Bool.Decides.{nat_tests}
 use Rattle.sercos_step.specs.declared.request.Outcome.{Outcome}
@@ -8,13 +8,13 @@ use Rattle.sercos_step.specs.Steps.{outcome_of}
 use Rattle.sercos_service_master.specs.Begun.{Begun, open_in, step_at}
 use Rattle.sercos_service_master.specs.Calls.{begun_by}
 use Rattle.sercos_timing.specs.Views.{PlanView}
-use Rattle.sercos_seat.specs.Agenda.{bytes_of, given, ended_well, reads_count, is_checked, is_ready}
+use Rattle.sercos_seat.specs.Agenda.{given, ended_well, reads_count, is_checked, is_ready}
 use Rattle.sercos_seat.specs.Channel.{outcomes_in}
-use Rattle.sercos_seat.specs.Ring.{Known, MemberView, Task, member}
+use Rattle.sercos_seat.specs.Ring.{Known, Task, member}
 use Rattle.sercos_seat.specs.Seats.{AreWaiting}
-use Rattle.sercos_master.specs.Annals.{Past, Call, outcomes, is_done, is_done_in, all_checked, all_ready, past}
+use Rattle.sercos_master.specs.Annals.{Past, outcomes, is_done, is_done_in, all_checked, all_ready, past}
 use Rattle.sercos_master.proofs.Configured.{each_passes}
-use Rattle.sercos_law_run.specs.Agenda.Tasks.{IsTask, OfReads, OfWrites, Checks3, Lists3, Checks4, Lists4, OfWaiting, IsBegunTask, AreBegunTasks}
+use Rattle.sercos_law_run.specs.Agenda.Tasks.{IsTask, OfReads, OfWrites, Checks3, Lists3, Checks4, Lists4, OfWaiting, AreBegunTasks}
 
 -- an outcome that says that a check has ended well is there
 none_given : (outs : List Outcome) (i : ℕ) → length outs ≤ i → given outs i ≡ []

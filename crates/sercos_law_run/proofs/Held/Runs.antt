@@ -1,16 +1,13 @@
 -- Through a run of a ring in which nothing is unseen: each drive and its channel are a run of views, the requests are sound, and in
 -- phases 3 and 4 each drive holds the plan.
-use Rattle.std.proofs.Common.{◌≡◌, ◌⊎◌, inl, inr, ℕ, zero, suc, ◌+◌, ◌^◌, ◌%◌, ◌<◌, ◌≤◌, Bool, true, false, not, ◌&&◌, List, [], ◌∷◌, ◌++◌, map, length, drop, Option, Some, None, refl, sym, ◌∙◌, ap, ap₂, subst, arith, if◌then◌else◌}
-use Rattle.std.specs.Prelude.{◌==◌, slice_get, slice_index_or, IfSome, option_map}
-use Rattle.std.specs.List.{All}
+use Rattle.std.proofs.Common.{◌≡◌, ℕ, zero, suc, ◌+◌, ◌^◌, ◌<◌, ◌≤◌, Bool, true, false, not, ◌&&◌, List, [], ◌∷◌, map, length, drop, Option, Some, None, refl, sym, ◌∙◌, ap, ap₂, subst, arith, if◌then◌else◌}
+use Rattle.std.specs.Prelude.{slice_get, slice_index_or, IfSome, option_map}
 use Rattle.sercos_model.specs.Bits.{AreBytes}
 use Rattle.sercos_idn.specs.declared.attribute.Attribute.{Attribute}
-use Rattle.sercos_idn.specs.declared.idn.Idn.{Idn}
 use Rattle.sercos_step.specs.declared.request.Request.{Request}
 use Rattle.sercos_step.specs.declared.request.Outcome.{Outcome}
 use Rattle.sercos_step.specs.declared.request.Job.{Job}
 use Rattle.sercos_timing.specs.Views.{WishesView, PlanView}
-use Rattle.sercos_timing.specs.declared.wishes.Wish.{Wish}
 use Rattle.sercos_block.specs.declared.block.Block.{Block}
 use Rattle.sercos_block.specs.Blocks.{is_fixed, is_protected}
 use Rattle.sercos_block.specs.Rings.{is_ring, wishes_of}
@@ -19,16 +16,15 @@ use Rattle.sercos_block.specs.ValidRings.{IsRing}
 use Rattle.sercos_block.specs.Stores.{IsStore, find_block, store_of}
 use Rattle.sercos_block.specs.Views.{DriveView, RingView}
 use Rattle.sercos_service_drive.specs.Writes.{AreAlike, without_data}
-use Rattle.sercos_service_master.specs.Begun.{Begun, open_in}
+use Rattle.sercos_service_master.specs.Begun.{open_in}
 use Rattle.sercos_service_master.specs.Calls.{begun_by}
 use Rattle.sercos_drive.specs.Heard.{DriveCall}
 use Rattle.sercos_drive.specs.Moments.{phase_in, blocks_in}
 use Rattle.sercos_drive.specs.Annals.{annals}
-use Rattle.sercos_trace.specs.Views.{SentView, CycleView}
-use Rattle.sercos_seat.specs.Agenda.{reads, writes, wishes_given, wishes_from}
+use Rattle.sercos_trace.specs.Views.{CycleView}
+use Rattle.sercos_seat.specs.Agenda.{reads, wishes_given}
 use Rattle.sercos_seat.specs.Channel.{outcomes_in}
 use Rattle.sercos_seat.specs.Ring.{Known, MemberView, Task, member, member_of, known_of, tasks_for, IsKnown}
-use Rattle.sercos_seat.specs.Seats.{AreWaiting}
 use Rattle.sercos_law_run.specs.Start.StartUp.{IsStoreOf, is_given, kept, start_up, Holds, AreAsLong}
 use Rattle.sercos_law_run.specs.Start.Answers.{AreAnswers, HaveFactors, AsksAsRing, TypedHaveFactors}
 use Rattle.sercos_law_run.specs.Start.Held as held
@@ -37,13 +33,13 @@ use Rattle.sercos_law_run.proofs.Start.CheckPasses.{ring_drive}
 use Rattle.sercos_master.specs.Annals.{Past, Call, IsPlanned, outcomes, begins, settled, is_done, past}
 use Rattle.sercos_master.proofs.Laws.{tasks_wait, jobs_waiting}
 use Rattle.sercos_script.specs.Links.{Carry, Restarts}
-use Rattle.sercos_law_channel.specs.Handshake.Views.{View, standing, before_mst, kept_in}
+use Rattle.sercos_law_channel.specs.Handshake.Views.{standing, before_mst, kept_in}
 use Rattle.sercos_law_channel.specs.Handshake.Epochs.{with_begun, begun_in}
 use Rattle.sercos_law_channel.specs.Handshake.RunLaws.{BeginsEmpty}
 use Rattle.sercos_law_channel.specs.Handshake.WholeRun.{all_writes, IsSound, AreSound, AreSmall}
 use Rattle.sercos_law_channel.specs.Handshake.Exact.{RunsAreExact}
 use Rattle.sercos_law_channel.specs.Handshake.Values.{store_in, HoldsNewest, StaysProtected, StaysWritten}
-use Rattle.sercos_law_run.specs.Journal.Records.{mst_in, ats_in}
+use Rattle.sercos_law_run.specs.Journal.Records.{ats_in}
 use Rattle.sercos_law_run.specs.Journal.Runs.{no_drive, drive_at, with_restart, given_before, master_calls, looks_back, middle, IsNext}
 use Rattle.sercos_law_run.specs.Agenda.Tasks.{BeginsTasks, EndsTasks, HasBegunTasks}
 use Rattle.sercos_law_run.specs.Agenda.Reads.{ReadsWell}
@@ -59,7 +55,7 @@ use Rattle.sercos_law_run.proofs.Views.DriveSame.{IsSame, standing_at}
 use Rattle.sercos_law_run.proofs.Typed.Plans.{ring_known, ring_timed, all_members}
 use Rattle.sercos_law_run.proofs.Typed.Steps.{AreBegun}
 use Rattle.sercos_law_run.proofs.Typed.Begun.{tasks_so, IsTypedPast, typed_past}
-use Rattle.sercos_law_run.specs.Held.Held.{AreHeld, AreProtected, HoldsThePlan}
+use Rattle.sercos_law_run.specs.Held.Held.{AreProtected, HoldsThePlan}
 use Rattle.sercos_law_run.specs.Held.Stored.{IsStored, AreStored}
 use Rattle.sercos_law_run.specs.Held.Opened.{IsOpened}
 use Rattle.sercos_law_run.proofs.Held.HoldsRuns.{holds_next, holds_first}

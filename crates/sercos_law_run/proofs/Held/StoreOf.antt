@@ -1,5 +1,5 @@
 -- Whatever a drive is given, its blocks are its store, whatever was written to it.
-use Rattle.std.proofs.Common.{◌≡◌, ℕ, Bool, true, false, ◌&&◌, List, [], ◌∷◌, Option, Some, None, refl, subst, if◌then◌else◌}
+use Rattle.std.proofs.Common.{◌≡◌, ℕ, Bool, true, false, ◌&&◌, List, [], ◌∷◌, Option, Some, None, refl, if◌then◌else◌}
 use Rattle.std.specs.Prelude.{nat_le, IfSome}
 use Rattle.sercos_block.specs.declared.block.Block.{Block}
 use Rattle.sercos_block.specs.Stores.{find_block, put_fault, store_of, are_ascending}
@@ -8,7 +8,7 @@ use Rattle.sercos_service_drive.specs.Log.{Taken, record_of}
 use Rattle.sercos_service_drive.specs.Writes.{Write, AreThose, added_on}
 use Rattle.sercos_drive.specs.declared.hearing.Told.{Told}
 use Rattle.sercos_drive.specs.Heard.{DriveCall, Mst, Mdt, Restart, mdt_got}
-use Rattle.sercos_drive.specs.Moments.{Moment, phase_in, cycle_in, has_mst, taken_in, blocks_in, blocks_after, commands_in}
+use Rattle.sercos_drive.specs.Moments.{phase_in, cycle_in, has_mst, taken_in, blocks_in, blocks_after, commands_in}
 use Rattle.sercos_drive.specs.Annals.{annals, processed_in}
 use Rattle.sercos_drive.specs.Laws.{HandedThose}
 use Rattle.sercos_law_run.specs.Start.StartUp.{IsStoreOf}

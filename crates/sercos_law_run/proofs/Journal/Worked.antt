@@ -1,5 +1,5 @@
 -- Runs of worked rings, computed from the definitions, down to the bits of each telegram.
-use Rattle.std.proofs.Common.{◌≡◌, ℕ, ◌+◌, ◌==◌, Bool, true, false, List, [], ◌∷◌, length, Option, Some, None, if◌then◌else◌, refl, ap, arith, take, drop}
+use Rattle.std.proofs.Common.{◌≡◌, ℕ, ◌+◌, ◌==◌, Bool, false, List, [], ◌∷◌, length, Option, Some, None, if◌then◌else◌, refl, ap, arith, take, drop}
 use Rattle.std.specs.Prelude.{pos, negsuc, slice_index_or}
 use Rattle.std.proofs.lemmas.Bool.{true≢false}
 use Rattle.sercos_idn.specs.Attributes.{attribute_of}

@@ -1,11 +1,10 @@
 -- What a cycle reports is the planner's answer to the ring's requirements, and each stop has its cause.
-use Rattle.std.proofs.Common.{◌≡◌, ◌⊎◌, inl, inr, ℕ, ◌<◌, ◌≤◌, Bool, true, false, List, [], ◌∷◌, length, Option, Some, None, Ok, Err, refl, sym, ap, ◌∙◌, arith, if◌then◌else◌}
+use Rattle.std.proofs.Common.{◌≡◌, ◌⊎◌, inl, inr, ℕ, ◌<◌, ◌≤◌, Bool, true, false, List, ◌∷◌, length, Option, Some, None, Ok, sym, ap, ◌∙◌, arith, if◌then◌else◌}
 use Rattle.std.specs.Option.{option_or}
 use Rattle.std.proofs.lemmas.Bool.{cases_eq, cases_lt}
 use Rattle.sercos_step.specs.declared.request.Job.{Job}
 use Rattle.sercos_timing.specs.Views.{PlanView}
 use Rattle.sercos_plan.specs.ChainOf.{planned}
-use Rattle.sercos_plan.specs.Views.{ChainView}
 use Rattle.sercos_block.specs.Rings.{wishes_of}
 use Rattle.sercos_block.specs.Views.{RingView}
 use Rattle.sercos_trace.specs.Views.{CycleView, EventsView}
@@ -16,11 +15,10 @@ use Rattle.sercos_seat.specs.Ring.{known_of, tasks_for}
 use Rattle.sercos_master.specs.Annals.{Past, outcomes}
 use Rattle.sercos_master.specs.Reports.{plan_told, restart_told}
 use Rattle.sercos_script.specs.Links.{Carry, Restarts}
-use Rattle.sercos_law_channel.specs.Handshake.RunLaws.{ComesUp}
 use Rattle.sercos_law_run.specs.Journal.Runs.{begins, drive_at, looks_back, master_calls, middle, no_events, IsClear, IsRun}
 use Rattle.sercos_law_run.specs.Agenda.Tasks.{BeginsNoneEarly}
 use Rattle.sercos_law_run.proofs.Typed.Mdts.{phase_low}
-use Rattle.sercos_law_run.specs.Views.RingViews.{at_start, behind_mdt, view_of, views_of}
+use Rattle.sercos_law_run.specs.Views.RingViews.{behind_mdt, view_of, views_of}
 use Rattle.sercos_law_run.proofs.Settings.NoCheck127.{next_still, stays}
 use Rattle.sercos_law_run.specs.Held.Opened.{IsOpened}
 use Rattle.sercos_law_run.proofs.Held.Runs.{Laws, holding}

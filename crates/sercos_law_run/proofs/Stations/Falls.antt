@@ -1,5 +1,5 @@
 -- Why a ring falls, by what arrived at the master in its last cycles.
-use Rattle.std.proofs.Common.{◌≡◌, ◌⊎◌, inl, inr, ℕ, zero, suc, ◌+◌, ◌<◌, ◌≤◌, ◌==◌, Bool, true, false, not, ◌&&◌, ◌||◌, List, [], ◌∷◌, ◌++◌, length, Option, Some, None, refl, sym, ◌∙◌, ap, subst, arith, if◌then◌else◌}
+use Rattle.std.proofs.Common.{◌≡◌, ℕ, zero, suc, ◌+◌, ◌<◌, ◌≤◌, ◌==◌, Bool, true, false, not, ◌&&◌, List, [], ◌∷◌, length, Option, Some, None, refl, sym, ◌∙◌, ap, subst, arith, if◌then◌else◌}
 use Rattle.std.specs.Prelude.{nat_le, min, is_some, is_none, option_map, slice_index, unwrap_or}
 use Rattle.std.specs.Bool.{then_some}
 use Rattle.std.specs.Option.{option_or}
@@ -18,7 +18,7 @@ use Rattle.sercos_service_master.specs.Calls as channel
 use Rattle.sercos_seat.specs.Agenda.{at_len}
 use Rattle.sercos_seat.specs.Channel.{is_place, outcomes_in}
 use Rattle.sercos_seat.specs.Ring.{Known, MemberView, known_of, member}
-use Rattle.sercos_master.specs.Annals.{Past, Turn, Call, after_at, after_at_of, after_end, after_taken, count_addressed, fall_at, fall_of, first_from, first_place, goes_on, has_lost_at, has_lost_mst, is_at_limit, is_done, is_awaited, is_mst, is_taken, new_epoch, next_phase, outcomes, place_of, still_waiting, wanted_len}
+use Rattle.sercos_master.specs.Annals.{Past, Turn, Call, after_at, after_at_of, after_taken, count_addressed, fall_at, fall_of, first_from, first_place, goes_on, has_lost_at, has_lost_mst, is_at_limit, is_done, is_mst, is_taken, new_epoch, next_phase, outcomes, place_of, still_waiting}
 use Rattle.sercos_master.specs.Reports.{restart_told}
 use Rattle.sercos_trace.specs.Views.{CycleView, EventsView}
 use Rattle.sercos_trace.specs.declared.events.Fall.{Fall}
@@ -29,7 +29,7 @@ use Rattle.sercos_law_run.specs.Journal.Records.{mst_in, ats_in}
 use Rattle.sercos_law_run.specs.Journal.Runs.{IsRun, IsNext, at_calls, begins, drive_at, looks_back, master_calls, no_events, own_mst, station_of, with_at}
 use Rattle.sercos_law_run.specs.Views.RingViews.{at_start, behind_ats, behind_mdt, behind_mst}
 use Rattle.sercos_law_run.specs.Held.Opened.{IsOpened}
-use Rattle.sercos_law_run.specs.Stations.Falls.{AreTo, FallsHaveCause, HasCause, HasNoAnswer, Identification, IsLate, IsOpenFor, MissesAt, MissesMst, NoneReads, NoneReadsIn, Step, comes_back, cycles_in}
+use Rattle.sercos_law_run.specs.Stations.Falls.{AreTo, FallsHaveCause, HasCause, Identification, IsLate, IsOpenFor, MissesAt, MissesMst, NoneReads, NoneReadsIn, Step, comes_back}
 use Rattle.sercos_law_run.proofs.Undisturbed.Addressed.{place_found}
 use Rattle.sercos_law_run.proofs.Undisturbed.NoFalls.{heard_mdt}
 use Rattle.sercos_law_run.proofs.Undisturbed.StaysUp.{found_passes}

@@ -1,5 +1,5 @@
 -- In phase 4 no block of a drive has operation data outside its limits.
-use Rattle.std.proofs.Common.{◌≡◌, ℕ, ◌+◌, ◌≤◌, ◌==◌, nat_lt, Bool, true, false, cond, not, ◌&&◌, ◌||◌, List, [], ◌∷◌, map, length, Option, Some, None, IfSome, refl, sym, ◌∙◌, ap, ap₂, subst, arith, if◌then◌else◌}
+use Rattle.std.proofs.Common.{◌≡◌, ℕ, ◌≤◌, ◌==◌, nat_lt, Bool, true, false, cond, not, ◌&&◌, ◌||◌, List, [], ◌∷◌, map, length, Option, Some, None, IfSome, refl, ◌∙◌, ap, ap₂, subst, arith, if◌then◌else◌}
 use Rattle.std.specs.Prelude.{option_map}
 use Rattle.std.specs.Bool.{then_some}
 use Rattle.std.specs.List.{list_all, filter}
@@ -7,23 +7,19 @@ use Rattle.std.specs.Option.{option_or}
 use Rattle.std.proofs.lemmas.Bool.{and_parts, false≢true}
 use Rattle.std.proofs.lemmas.Bool.Decides.{nat_tests}
 use Rattle.sercos_model.proofs.FaultLemmas.{none_of-or, none_of-then}
-use Rattle.sercos_idn.specs.declared.idn.Idn.{Idn}
 use Rattle.sercos_idn.specs.declared.attribute.Attribute.{Attribute}
 use Rattle.sercos_idn.specs.Attributes.{attribute_of}
-use Rattle.sercos_idn.specs.Codes.{attribute_fault, is_list}
+use Rattle.sercos_idn.specs.Codes.{attribute_fault}
 use Rattle.sercos_block.specs.declared.block.Block.{Block}
 use Rattle.sercos_block.specs.Blocks.{is_number}
 use Rattle.sercos_block.specs.Rules.{blocks_fault}
 use Rattle.sercos_block.specs.Rings.{attribute_in, row_in, built_in_attribute, block_attribute}
-use Rattle.sercos_block.specs.Stores.{find_block, with_value, with_data, write_fault, data_fault, put_fault, is_short, is_long, is_invalid, is_below, is_above, are_ascending, store_of, IsStore}
+use Rattle.sercos_block.specs.Stores.{find_block, with_data, write_fault, data_fault, put_fault, is_short, is_long, is_invalid, is_below, is_above, are_ascending}
 use Rattle.sercos_block.specs.Views.{DriveView}
 use Rattle.sercos_block.proofs.PutLemmas.{with_data-nowhere}
 use Rattle.sercos_command.specs.Checks.{is_outside, unfit_for_phase_4}
-use Rattle.sercos_command.specs.Settings.{is_command, ends_well}
-use Rattle.sercos_drive.specs.Heard.{DriveCall}
 use Rattle.sercos_drive.specs.Annals.{has_passed}
 use Rattle.sercos_drive.specs.Laws.{HandedThose}
-use Rattle.sercos_law_run.specs.Start.StartUp.{IsStoreOf}
 use Rattle.sercos_law_run.specs.Stations.Fit.{FitInFour}
 use Rattle.sercos_law_run.proofs.Start.BlockFinds.{same_attribute}
 use Rattle.sercos_law_run.proofs.Start.KeptLemmas.{above_none}

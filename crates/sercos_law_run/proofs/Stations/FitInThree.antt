@@ -1,14 +1,12 @@
 -- In phases 3 and 4 the check for phase 3 finds nothing in a drive's store.
-use Rattle.std.proofs.Common.{◌≡◌, ℕ, ◌+◌, ◌*◌, ◌%◌, ◌≤◌, ◌==◌, nat_lt, Bool, true, false, cond, not, ◌&&◌, ◌||◌, List, [], ◌∷◌, length, Option, Some, None, refl, sym, ◌∙◌, ap, ap₂, subst, arith, if◌then◌else◌}
-use Rattle.std.specs.Prelude.{is_some, option_map, option_and_then, unwrap_or, slice_index}
+use Rattle.std.proofs.Common.{◌≡◌, ℕ, ◌+◌, ◌≤◌, ◌==◌, Bool, true, false, ◌&&◌, List, [], ◌∷◌, length, Option, Some, None, refl, sym, ◌∙◌, ap, ap₂, subst, arith, if◌then◌else◌}
+use Rattle.std.specs.Prelude.{is_some, option_map, unwrap_or}
 use Rattle.std.specs.Bool.{then_some}
 use Rattle.std.specs.List.{list_all, sum_by}
-use Rattle.std.specs.Option.{option_or}
-use Rattle.std.proofs.lemmas.Bool.{and_parts, false≢true}
+use Rattle.std.proofs.lemmas.Bool.{false≢true}
 use Rattle.std.proofs.lemmas.Bool.Decides.{nat_tests}
 use Rattle.std.proofs.lemmas.List.Sums.{sum_by-cons}
 use Rattle.sercos_model.proofs.FaultLemmas.{none_of-or, none_of-then}
-use Rattle.sercos_model.specs.Frames.{wire_bits}
 use Rattle.sercos_idn.specs.declared.idn.Idn.{Idn}
 use Rattle.sercos_idn.specs.declared.attribute.Attribute.{Attribute}
 use Rattle.sercos_idn.specs.Attributes.{attribute_of}
@@ -17,19 +15,16 @@ use Rattle.sercos_block.specs.declared.block.Block.{Block}
 use Rattle.sercos_block.specs.Blocks.{is_fixed, is_protected}
 use Rattle.sercos_block.specs.Rules.{blocks_fault}
 use Rattle.sercos_block.specs.Rings.{attribute_in, row_in, built_in_attribute, block_attribute}
-use Rattle.sercos_block.specs.Rings as rings
-use Rattle.sercos_block.specs.Stores.{find_block, with_data, write_fault, data_fault, put_fault, store_of, IsStore}
+use Rattle.sercos_block.specs.Stores.{find_block, with_data, write_fault, data_fault, put_fault}
 use Rattle.sercos_block.specs.Views.{DriveView}
-use Rattle.sercos_command.specs.Checks.{data_at, number_at, idns_at, cyclic_len, is_cyclic, carried_len, breaks_1, breaks_2, breaks_6, breaks_7, breaks_8, breaks_9, breaks_10, breaks_15, breaks_list, breaks_89, named, unfit_for_phase_3}
-use Rattle.sercos_command.specs.Settings.{is_command, ends_well}
-use Rattle.sercos_drive.specs.Heard.{DriveCall}
+use Rattle.sercos_command.specs.Checks.{data_at, number_at, idns_at, cyclic_len, is_cyclic, carried_len, breaks_1, breaks_2, breaks_6, breaks_7, breaks_8, breaks_9, breaks_10, breaks_15, breaks_list, breaks_89, unfit_for_phase_3}
+use Rattle.sercos_command.specs.Settings.{is_command}
 use Rattle.sercos_drive.specs.Annals.{has_passed}
 use Rattle.sercos_drive.specs.Laws.{HandedThose}
 use Rattle.sercos_law_run.specs.Start.StartUp.{IsStoreOf}
 use Rattle.sercos_law_run.specs.Stations.Fit.{FitInThree}
 use Rattle.sercos_law_run.proofs.Start.BlockFinds.{carry_alike, same_attribute}
 use Rattle.sercos_law_run.proofs.Start.KeptLemmas.{stays, writes_keep}
-use Rattle.sercos_law_run.proofs.Held.StoreOf.{IsOf}
 use Rattle.sercos_law_run.proofs.Stations.KeepsFit.{IsFound, holds_at}
 
 -- The block with a number is no procedure command, and protected in phases 3 and 4.

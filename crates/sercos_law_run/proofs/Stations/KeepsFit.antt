@@ -1,13 +1,10 @@
 -- What a check found of a drive's store stays true in the phases that need the check, whatever the drive is handed.
-use Rattle.std.proofs.Common.{◌≡◌, inl, inr, ℕ, ◌+◌, ◌≤◌, ◌==◌, Bool, true, false, cond, not, ◌&&◌, ◌||◌, List, [], ◌∷◌, Option, Some, None, IfSome, refl, sym, ◌∙◌, ap, subst, arith, if◌then◌else◌}
-use Rattle.std.specs.Prelude.{nat_le, is_none, is_some, min, option_map, unwrap_or}
+use Rattle.std.proofs.Common.{◌≡◌, ℕ, ◌+◌, ◌≤◌, ◌==◌, Bool, true, false, not, ◌&&◌, ◌||◌, List, [], ◌∷◌, Option, Some, None, IfSome, refl, sym, ◌∙◌, arith, if◌then◌else◌}
+use Rattle.std.specs.Prelude.{nat_le, is_none, min}
 use Rattle.std.proofs.lemmas.Bool.{and_parts, false≢true}
 use Rattle.std.proofs.lemmas.Bool.Decides.{nat_tests}
-use Rattle.sercos_idn.specs.declared.attribute.Attribute.{Attribute}
 use Rattle.sercos_idn.specs.Commands.{to_cancel}
 use Rattle.sercos_block.specs.declared.block.Block.{Block}
-use Rattle.sercos_block.specs.Rules.{blocks_fault}
-use Rattle.sercos_block.specs.Rings.{block_attribute}
 use Rattle.sercos_block.specs.Stores.{find_block, with_data, put_fault, are_ascending, store_of}
 use Rattle.sercos_block.specs.Views.{DriveView}
 use Rattle.sercos_command.specs.Settings.{CommandsView, find_set, is_command, with_lists, ends_well}
@@ -21,7 +18,6 @@ use Rattle.sercos_drive.specs.Moments.{Moment, phase_in, cycle_in, has_mst, has_
 use Rattle.sercos_drive.specs.Annals.{annals, has_passed, processed_in, stands_in, ends_in, takes}
 use Rattle.sercos_drive.specs.Laws.{HandedThose}
 use Rattle.sercos_drive.proofs.RecordLemmas.{phase_below}
-use Rattle.sercos_law_run.specs.Start.StartUp.{IsStoreOf}
 use Rattle.sercos_law_run.proofs.Start.LaterLemmas.{after_check, blocks_keep, still_ascending}
 use Rattle.sercos_law_run.proofs.Start.KeptLemmas.{writes_keep}
 use Rattle.sercos_law_run.proofs.Held.StoreOf.{IsOf, store_of_so}

@@ -1,11 +1,10 @@
 -- What a drive's lists of invalid operation data contain.
-use Rattle.std.proofs.Common.{◌≡◌, ℕ, ◌==◌, Bool, true, false, cond, not, ◌&&◌, List, [], ◌∷◌, Option, Some, None, IfSome, refl, sym, ◌∙◌, ap, subst, arith, if◌then◌else◌}
-use Rattle.std.specs.Prelude.{nat_le, is_none, is_some, option_map, unwrap_or}
+use Rattle.std.proofs.Common.{◌≡◌, ℕ, ◌==◌, Bool, true, false, not, ◌&&◌, List, [], ◌∷◌, Option, Some, None, IfSome, refl, sym, ◌∙◌, subst, arith, if◌then◌else◌}
+use Rattle.std.specs.Prelude.{nat_le, is_none, option_map, unwrap_or}
 use Rattle.std.specs.Bool.{then_some}
-use Rattle.std.proofs.lemmas.Bool.{and_parts, false≢true}
+use Rattle.std.proofs.lemmas.Bool.{false≢true}
 use Rattle.std.proofs.lemmas.Bool.Decides.{nat_tests}
 use Rattle.sercos_model.proofs.FaultLemmas.{none_of-or, none_of-then}
-use Rattle.sercos_idn.specs.declared.idn.Idn.{Idn}
 use Rattle.sercos_idn.specs.Attributes.{attribute_of}
 use Rattle.sercos_idn.specs.Codes.{attribute_fault}
 use Rattle.sercos_idn.specs.Commands.{to_cancel}
@@ -15,10 +14,10 @@ use Rattle.std.specs.Option.{option_or}
 use Rattle.sercos_block.specs.BuiltIns.{built_in_block, built_ins}
 use Rattle.sercos_block.specs.Rules.{blocks_fault, has_block}
 use Rattle.sercos_block.specs.Rings.{attribute_in, row_in, built_in_attribute, block_attribute}
-use Rattle.sercos_block.specs.Stores.{find_block, with_data, write_fault, data_fault, put_fault, are_ascending, store_of, IsStore}
+use Rattle.sercos_block.specs.Stores.{find_block, with_data, write_fault, data_fault, put_fault, are_ascending, store_of}
 use Rattle.sercos_block.specs.Views.{DriveView}
 use Rattle.sercos_command.specs.Checks.{data_at, list_bytes, unfit_for_phase_3, unfit_for_phase_4}
-use Rattle.sercos_command.specs.Settings.{CommandsView, find_set, is_command, with_write, with_lists, with_set, without, ends_well}
+use Rattle.sercos_command.specs.Settings.{CommandsView, find_set, is_command, with_write, with_lists}
 use Rattle.sercos_command.specs.Calls.{Call, Wrote, Other, Reset, settings}
 use Rattle.sercos_service_drive.specs.Log.{Taken, record_of}
 use Rattle.sercos_service_drive.specs.Writes.{Write, AreThose, added_on, setting_in, blocks_with, commands_with, calls_with}
@@ -28,14 +27,13 @@ use Rattle.sercos_drive.specs.Heard.{DriveCall, Mst, Mdt, Restart, mst_got, mdt_
 use Rattle.sercos_drive.specs.Laws.{HandedThose}
 use Rattle.sercos_drive.specs.Moments.{Moment, phase_in, cycle_in, has_mst, taken_in, blocks_in, blocks_after, commands_in, commands_after, calls_in, calls_after, with_reset, reset_in}
 use Rattle.sercos_drive.specs.Annals.{annals, processed_in, stands_in, ends_in}
-use Rattle.sercos_law_run.specs.Start.StartUp.{kept, IsStoreOf}
+use Rattle.sercos_law_run.specs.Start.StartUp.{IsStoreOf}
 use Rattle.sercos_law_run.specs.Stations.Lists.{found_for_3, found_for_4, ListsAreFound}
-use Rattle.sercos_law_run.proofs.Start.BlockFinds.{find_built_in, find_store_of, same_attribute, same_kept}
+use Rattle.sercos_law_run.proofs.Start.BlockFinds.{find_built_in, find_store_of, same_attribute}
 use Rattle.sercos_law_run.proofs.Start.LaterLemmas.{blocks_keep, has_of}
 use Rattle.sercos_law_run.proofs.Start.KeptLemmas.{stays, writes_hold, writes_keep}
-use Rattle.sercos_law_run.proofs.Settings.RateStays.{rate_stays}
 use Rattle.sercos_law_run.proofs.Held.StoreOf.{IsOf, store_of_so}
-use Rattle.sercos_law_run.proofs.Stations.FitInThree.{IsLater, other_command, other_later, later_by}
+use Rattle.sercos_law_run.proofs.Stations.FitInThree.{IsLater, later_by}
 
 -- What is kept of the settings is what the calls made of them.
 abbrev AreSet : ℕ → CommandsView → List Call → Type 0

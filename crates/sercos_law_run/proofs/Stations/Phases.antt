@@ -7,10 +7,10 @@ use Rattle.sercos_block.specs.Views.{DriveView}
 use Rattle.sercos_command.specs.Calls.{is_passed}
 use Rattle.sercos_drive.specs.declared.hearing.Told.{Told}
 use Rattle.sercos_drive.specs.Heard.{DriveCall, Mst, Mdt, Restart, mst_got, mdt_got}
-use Rattle.sercos_drive.specs.Moments.{Moment, phase_in, has_mst, has_missed, blocks_in, calls_in}
+use Rattle.sercos_drive.specs.Moments.{Moment, phase_in, has_mst, has_missed, calls_in}
 use Rattle.sercos_drive.specs.Annals.{annals, phase_at, store_at, has_passed, stands_in, ends_in, takes}
 use Rattle.sercos_drive.proofs.RecordLemmas.{mst_below}
-use Rattle.sercos_law_run.specs.Stations.Phases.{newest_got, before_newest, IsByMst, StandsByMst, Rises, HasPassed, RisesByOne, misses, missed_before, Drops, ByPhase, ByMst, ByMdt, ByRestart, DropsByCause}
+use Rattle.sercos_law_run.specs.Stations.Phases.{newest_got, IsByMst, StandsByMst, Rises, HasPassed, RisesByOne, misses, missed_before, Drops, ByPhase, ByMst, ByMdt, ByRestart, DropsByCause}
 
 got_same : (d : DriveView) (rate : ℕ) (h : List DriveCall) → has_mst (annals d rate h) ≡ is_some (newest_got h)
 got_same d rate [] = refl

@@ -6,16 +6,15 @@ use Rattle.std.specs.Option.{option_or}
 use Rattle.std.proofs.lemmas.Bool.{and_parts, false≢true}
 use Rattle.std.proofs.lemmas.Bool.Decides.{nat_tests}
 use Rattle.sercos_telegram.specs.declared.layout.Kind.TheVariants as kinds
-use Rattle.sercos_telegram.specs.declared.layout.Layout.{Layout}
 use Rattle.sercos_telegram.specs.declared.layout.Layout.TheVariants.{Length, Address}
-use Rattle.sercos_telegram.specs.Faults.{head_fault, single_fault}
+use Rattle.sercos_telegram.specs.Faults.{head_fault}
 use Rattle.sercos_step.specs.declared.request.Job.{Job}
 use Rattle.sercos_block.specs.declared.block.Block.{Block}
 use Rattle.sercos_block.specs.Views.{DriveView, RingView}
 use Rattle.sercos_drive.specs.declared.hearing.Told.{Told}
-use Rattle.sercos_drive.specs.Heard.{DriveCall, Mst, Mdt, Restart, mst_got, mdt_got, joint_in, single_in, told_at}
+use Rattle.sercos_drive.specs.Heard.{DriveCall, Mst, Mdt, mst_got, mdt_got, joint_in, single_in, told_at}
 use Rattle.sercos_drive.specs.Moments.{Moment, phase_in, has_mst, has_taken, has_missed, blocks_in}
-use Rattle.sercos_drive.specs.Annals.{annals, has_passed, stands_in, ends_in, takes}
+use Rattle.sercos_drive.specs.Annals.{annals, has_passed, stands_in, takes}
 use Rattle.sercos_drive.specs.Says.{Said, drive_says, sends}
 use Rattle.sercos_trace.specs.Views.{CycleView}
 use Rattle.sercos_seat.specs.Ring.{known_of, tasks_for}
@@ -23,7 +22,7 @@ use Rattle.sercos_master.specs.Says.{Sent, mdt_said}
 use Rattle.sercos_script.specs.Links.{Carry, Restarts}
 use Rattle.sercos_law_run.specs.Journal.Arrivals.{heard, passage, unseen_at, sum_below}
 use Rattle.sercos_law_run.specs.Journal.Records.{mst_in, ats_in, mdt_in}
-use Rattle.sercos_law_run.specs.Journal.Runs.{IsRun, IsNext, IsClear, begins, content_of, contents, drive_at, drive_calls, given_before, given_mst, mdt_heard, said_below, unseen_ats, unseen_mdt, unseen_mst, with_restart, with_said}
+use Rattle.sercos_law_run.specs.Journal.Runs.{IsRun, IsNext, IsClear, begins, content_of, contents, drive_at, given_before, given_mst, mdt_heard, said_below, unseen_ats, unseen_mdt, unseen_mst, with_restart, with_said}
 use Rattle.sercos_law_run.specs.Views.RingViews.{at_start, behind_mdt}
 use Rattle.sercos_law_run.specs.Views.Spelled.{IsSpelled}
 use Rattle.sercos_law_run.specs.Typed.Spelled.{SpelledNext}

@@ -1,17 +1,14 @@
 -- What an empty list of the check for phase 3 says of a store, in times and places.
-use Rattle.std.proofs.Common.{◌≡◌, ℕ, ◌+◌, ◌*◌, ◌-◌, ◌%◌, ◌≤◌, ◌==◌, nat_lt, Bool, true, false, not, ◌&&◌, ◌||◌, List, [], ◌∷◌, refl, sym, ◌∙◌, ap₂, arith, if◌then◌else◌}
+use Rattle.std.proofs.Common.{◌≡◌, ℕ, ◌+◌, ◌-◌, ◌%◌, ◌==◌, nat_lt, Bool, true, false, not, ◌||◌, List, [], refl, sym, arith}
 use Rattle.std.specs.Prelude.{nat_le}
 use Rattle.std.specs.List.{list_all}
-use Rattle.std.proofs.lemmas.Bool.{and_parts, false≢true}
+use Rattle.std.proofs.lemmas.Bool.{false≢true}
 use Rattle.std.proofs.lemmas.Bool.Decides.{nat_tests}
-use Rattle.sercos_model.specs.Frames.{wire_bits}
 use Rattle.sercos_idn.specs.declared.idn.Idn.{Idn}
 use Rattle.sercos_timing.specs.Valid.{is_cycle}
-use Rattle.sercos_block.specs.declared.block.Block.{Block}
 use Rattle.sercos_block.proofs.OpenLemmas.{either_none}
 use Rattle.sercos_command.specs.Checks.{number_at, idns_at, is_cyclic, carried_len, breaks_1, breaks_2, breaks_6, breaks_7, breaks_8, breaks_9, breaks_10, breaks_15, breaks_list, breaks_89, named, unfit_for_phase_3}
-use Rattle.sercos_drive.specs.Heard.{lies_within}
-use Rattle.sercos_law_run.specs.Stations.Fit.{KeepsTimes, EmptyKeepsTimes}
+use Rattle.sercos_law_run.specs.Stations.Fit.{EmptyKeepsTimes}
 
 -- an empty list names none
 unnamed : (raw : ℕ) (broken : Bool) (rest : List Idn) → named raw broken rest ≡ [] → (broken ≡ false) × (rest ≡ [])

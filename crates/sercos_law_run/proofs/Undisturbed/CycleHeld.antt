@@ -11,7 +11,7 @@ use Rattle.sercos_step.specs.Words.{bytes_in}
 use Rattle.sercos_service_master.specs.Calls.{begun_by}
 use Rattle.sercos_seat.specs.Agenda.{idn, is_checked}
 use Rattle.sercos_seat.specs.Ring.{known_of, member, tasks_for}
-use Rattle.sercos_master.specs.Annals.{Past, outcomes, fall_of}
+use Rattle.sercos_master.specs.Annals.{Past, outcomes}
 use Rattle.sercos_law_channel.specs.Handshake.Transfers.{stored}
 use Rattle.sercos_law_channel.specs.Handshake.Values.{newest_to}
 use Rattle.sercos_law_channel.specs.Handshake.WholeRun.{all_writes}

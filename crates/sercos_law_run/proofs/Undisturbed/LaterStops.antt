@@ -23,7 +23,6 @@ use Rattle.sercos_service_drive.specs.Replies.{write_cause_in}
 use Rattle.sercos_service_master.specs.Begun.{Begun, step_at, steps_begun, steps_in}
 use Rattle.sercos_service_master.specs.Calls.{begun_by}
 use Rattle.sercos_trace.specs.Views.{CycleView}
-use Rattle.sercos_trace.specs.declared.events.Fall.{Fall}
 use Rattle.sercos_trace.specs.declared.events.Stop.{Stop}
 use Rattle.sercos_trace.specs.declared.events.Stop.TheVariants as stop
 use Rattle.sercos_seat.specs.Agenda.{idn, idns_in, reads, reads_count, writes, is_checked, is_ready, ended_well, given, bytes_of}
@@ -31,7 +30,7 @@ use Rattle.sercos_seat.specs.Channel.{outcomes_in, with_outcome}
 use Rattle.sercos_seat.specs.Ring.{Known, Task, known_of, member, tasks_for}
 use Rattle.sercos_seat.proofs.Agendas.{ended_there, reads_length}
 use Rattle.sercos_seat.proofs.Seats.{before_end}
-use Rattle.sercos_master.specs.Annals.{Past, outcomes, fall_of}
+use Rattle.sercos_master.specs.Annals.{Past, outcomes}
 use Rattle.sercos_script.specs.Links.{Carry, Restarts}
 use Rattle.sercos_law_channel.specs.Handshake.Epochs.{begun_in, log_in}
 use Rattle.sercos_law_channel.specs.Handshake.InStep.{AreInStep}

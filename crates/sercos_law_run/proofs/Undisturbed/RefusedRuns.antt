@@ -1,6 +1,5 @@
 -- A request of the start-up that a drive refuses in phase 2 is the write of the cycle time, outside the drive's limits.
 use Rattle.std.proofs.Common.{◌≡◌, ◌⊎◌, ℕ, ◌+◌, ◌*◌, ◌<◌, ◌≤◌, ◌^◌, Bool, true, false, List, [], ◌∷◌, ◌++◌, Option, Some, None, refl, sym, ap, ◌∙◌, subst, arith, if◌then◌else◌}
-use Rattle.std.proofs.lemmas.Bool.{cond-false}
 use mathlib.Core.Bool.{beq}
 use Rattle.sercos_idn.specs.declared.code.Code.{Code}
 use Rattle.sercos_step.specs.declared.request.Request.{Request}
@@ -14,7 +13,7 @@ use Rattle.sercos_block.specs.Stores.{store_of}
 use Rattle.sercos_block.specs.Views.{DriveView}
 use Rattle.sercos_block.specs.declared.block.Block.{Block}
 use Rattle.sercos_service_drive.specs.Log.{Taken, Entry, ahs, accepted}
-use Rattle.sercos_service_drive.specs.Replies.{answered, log_of}
+use Rattle.sercos_service_drive.specs.Replies.{answered}
 use Rattle.sercos_service_drive.specs.Writes.{writes_of}
 use Rattle.sercos_service_master.specs.Begun.{Begun}
 use Rattle.sercos_seat.specs.Agenda.{idn}

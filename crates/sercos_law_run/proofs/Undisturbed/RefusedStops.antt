@@ -1,6 +1,5 @@
 -- A stop in phase 2 that comes of a refusal comes of the cycle time.
-use Rattle.std.proofs.Common.{◌≡◌, inl, inr, ℕ, ◌<◌, List, [], ◌∷◌, length, Option, Some, None, sym, ap, ◌∙◌, subst, arith}
-use Rattle.std.specs.Prelude.{is_some}
+use Rattle.std.proofs.Common.{◌≡◌, inl, inr, ℕ, ◌<◌, List, [], ◌∷◌, length, Some, sym, ap, ◌∙◌, subst, arith}
 use Rattle.std.proofs.lemmas.Bool.{cases_lt}
 use Rattle.sercos_idn.specs.declared.code.Code.{Code}
 use Rattle.sercos_idn.specs.declared.idn.Idn.{Idn}
@@ -13,11 +12,10 @@ use Rattle.sercos_block.specs.Views.{RingView}
 use Rattle.sercos_service_master.specs.Begun.{Begun}
 use Rattle.sercos_service_master.specs.Calls.{begun_by}
 use Rattle.sercos_trace.specs.Views.{CycleView}
-use Rattle.sercos_trace.specs.declared.events.Fall.{Fall}
 use Rattle.sercos_trace.specs.declared.events.Stop.TheVariants as stop
 use Rattle.sercos_seat.specs.Agenda.{asked_by, idn, reads_count}
 use Rattle.sercos_seat.specs.Ring.{MemberView, known_of, member, tasks_for}
-use Rattle.sercos_master.specs.Annals.{Past, fall_of}
+use Rattle.sercos_master.specs.Annals.{Past}
 use Rattle.sercos_script.specs.Links.{Carry, Restarts}
 use Rattle.sercos_law_channel.specs.Handshake.Epochs.{begun_in}
 use Rattle.sercos_law_channel.specs.Handshake.Parts.{HaveReplies, MakeTransfers}

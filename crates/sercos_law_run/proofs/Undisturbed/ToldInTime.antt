@@ -14,7 +14,6 @@ use Rattle.sercos_block.specs.Views.{RingView}
 use Rattle.sercos_service_master.specs.Begun.{Begun, open_in}
 use Rattle.sercos_service_master.specs.Calls.{begun_by}
 use Rattle.sercos_trace.specs.Views.{CycleView}
-use Rattle.sercos_trace.specs.declared.events.Fall.{Fall}
 use Rattle.sercos_seat.specs.Agenda.{reads_count, is_ready}
 use Rattle.sercos_seat.specs.Channel.{Report, broken_number, count_requests, number_in, outcomes_in, with_outcome}
 use Rattle.sercos_seat.specs.Ring.{Known, Task, known_of, member, tasks_for}
@@ -34,7 +33,7 @@ use Rattle.sercos_law_run.specs.Journal.Records.{mst_in, ats_in}
 use Rattle.sercos_law_run.specs.Journal.Runs.{drive_at, station_of, with_at, at_calls, own_mst, begins, master_calls, looks_back, middle, IsRun, IsClear}
 use Rattle.sercos_law_run.specs.Agenda.Channels.{Channel, channel_at}
 use Rattle.sercos_law_run.specs.Agenda.Events.{HasOutcome, HasReport}
-use Rattle.sercos_law_run.specs.Agenda.Reported.{AreNumbered, told, told_at_end, with_told, with_number, after_told, still_to_tell, task_numbers}
+use Rattle.sercos_law_run.specs.Agenda.Reported.{AreNumbered, told, told_at_end, with_number, after_told, still_to_tell, task_numbers}
 use Rattle.sercos_law_run.specs.Agenda.Tasks.{IsTask, OfReads, OfWrites, Checks3, Lists3, Checks4, Lists4, OfWaiting, AreBegunTasks}
 use Rattle.sercos_law_run.specs.Agenda.Turns.{WorkInTurn, WorksInFour}
 use Rattle.sercos_law_run.proofs.Agenda.TaskRuns.{all_ended}

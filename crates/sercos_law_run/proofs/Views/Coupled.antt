@@ -1,6 +1,6 @@
 -- What the master hears of a drive's AT is what the drive said.
-use Rattle.std.proofs.Common.{◌≡◌, ℕ, ◌+◌, ◌<◌, ◌≤◌, Bool, true, false, not, ◌&&◌, ◌||◌, List, [], ◌∷◌, length, Option, Some, None, refl, sym, ◌∙◌, ap, subst, arith, if◌then◌else◌}
-use Rattle.std.specs.Prelude.{nat_le, slice_index, is_some, IfSome, unwrap_or}
+use Rattle.std.proofs.Common.{◌≡◌, ℕ, ◌<◌, ◌≤◌, Bool, true, false, ◌&&◌, ◌||◌, List, [], ◌∷◌, length, Option, Some, None, refl, sym, ◌∙◌, ap, subst, arith, if◌then◌else◌}
+use Rattle.std.specs.Prelude.{nat_le, slice_index, IfSome, unwrap_or}
 use Rattle.std.proofs.lemmas.Bool.Decides.{nat_tests}
 use Rattle.sercos_telegram.specs.declared.layout.Kind.TheVariants as kinds
 use Rattle.sercos_telegram.specs.Words.{status_of}
@@ -8,12 +8,12 @@ use Rattle.sercos_telegram.specs.Spells.{word_at}
 use Rattle.sercos_step.specs.declared.request.Job.{Job}
 use Rattle.sercos_block.specs.Views.{DriveView, RingView}
 use Rattle.sercos_block.specs.Rings.{is_ring}
-use Rattle.sercos_service_drive.specs.Says.{Shown, shown_by, drive_says as channel_says}
+use Rattle.sercos_service_drive.specs.Says.{shown_by, drive_says as channel_says}
 use Rattle.sercos_service_master.specs.Calls as channel
 use Rattle.sercos_drive.specs.Heard.{DriveCall}
 use Rattle.sercos_drive.specs.Moments.{Moment, phase_in, cycle_in, has_mst, has_taken, taken_in, blocks_in, commands_in}
 use Rattle.sercos_drive.specs.Annals.{annals}
-use Rattle.sercos_drive.specs.Says.{Said, said, said_in, sends, drive_says, values_in}
+use Rattle.sercos_drive.specs.Says.{Said, said, said_in, sends, values_in}
 use Rattle.sercos_seat.specs.Ring.{Known, known_of}
 use Rattle.sercos_master.specs.Annals.{Past, Call, place_of}
 use Rattle.sercos_script.specs.Links.{Carry}

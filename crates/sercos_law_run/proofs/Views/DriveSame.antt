@@ -1,5 +1,5 @@
 -- What a drive keeps of its calls is what the views of its cycles give.
-use Rattle.std.proofs.Common.{◌≡◌, ℕ, ◌+◌, Bool, true, false, not, ◌&&◌, ◌||◌, List, [], ◌∷◌, length, Option, Some, None, refl, sym, ◌∙◌, ap, ap₂, if◌then◌else◌}
+use Rattle.std.proofs.Common.{◌≡◌, ℕ, ◌+◌, Bool, true, false, ◌&&◌, ◌||◌, List, [], ◌∷◌, Option, Some, None, refl, sym, ◌∙◌, ap, ap₂, if◌then◌else◌}
 use Rattle.std.specs.Prelude.{◌==◌, nat_le, is_some, option_map}
 use Rattle.sercos_block.specs.declared.block.Block.{Block}
 use Rattle.sercos_block.specs.Views.{DriveView}
@@ -9,7 +9,7 @@ use Rattle.sercos_service_drive.specs.Writes.{Write, with_added, added_on, block
 use Rattle.sercos_service_master.specs.Begun.{Said, said_by}
 use Rattle.sercos_drive.specs.declared.hearing.Told.{Told}
 use Rattle.sercos_drive.specs.Heard.{DriveCall, mst_got}
-use Rattle.sercos_drive.specs.Moments.{Moment, AtMst, AtMdt, AtRestart, phase_in, cycle_in, has_mst, has_missed, taken_in, writes_in, blocks_in, blocks_after, write_in, with_record as with_record_in, commands_in}
+use Rattle.sercos_drive.specs.Moments.{Moment, AtMst, phase_in, cycle_in, has_mst, has_missed, taken_in, writes_in, blocks_in, blocks_after, write_in, with_record as with_record_in, commands_in}
 use Rattle.sercos_drive.specs.Annals.{annals, has_passed, stands_in, takes, processed_in, ends_in, after_mdt}
 use Rattle.sercos_law_channel.specs.Handshake.Views.{View, Standing, afresh, moved, stood_from, got_in, takes_in, standing_after, record_in, processed_of, with_record, kept_in_phase, kept_unless}
 use Rattle.sercos_law_channel.specs.Handshake.WholeRun.{write_of}

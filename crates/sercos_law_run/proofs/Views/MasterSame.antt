@@ -1,5 +1,5 @@
 -- What the master keeps of a channel is what the views of its cycles give.
-use Rattle.std.proofs.Common.{◌≡◌, ◌⊎◌, inl, inr, ℕ, ◌+◌, ◌<◌, ◌≤◌, Bool, true, false, not, ◌&&◌, ◌||◌, List, [], ◌∷◌, length, Option, Some, None, refl, sym, ◌∙◌, ap, ap₂, subst, arith, if◌then◌else◌}
+use Rattle.std.proofs.Common.{◌≡◌, inl, inr, ℕ, ◌+◌, ◌<◌, ◌≤◌, Bool, true, false, not, ◌&&◌, ◌||◌, List, [], ◌∷◌, Option, Some, None, refl, sym, ◌∙◌, ap, ap₂, subst, arith, if◌then◌else◌}
 use Rattle.std.specs.Prelude.{◌==◌, nat_le, is_some, is_none, IsSome, IfSome, slice_index, Result, Ok, Err}
 use Rattle.std.proofs.lemmas.Bool.{and_parts, cases_eq, false≢true, leb-true}
 use Rattle.std.proofs.lemmas.Bool.Decides.{nat_tests}
@@ -22,7 +22,6 @@ use Rattle.sercos_seat.specs.Ring.{Known, Task}
 use Rattle.sercos_master.specs.Annals.{Past, Turn, outcomes, with_at, place_of, is_taken, after_taken, after_at_of, after_at, is_idle, has_turn, next_task, begins, with_begin, begun, settled, with_stop, with_plan, planned_by, is_plan_due, with_due_plan, first_trouble, sent_to, is_sent_to, addressed_in, ready_to_send, after_mdt, fall_of, is_done, is_done_in, next_phase, goes_on, new_epoch, still_waiting, after_end, after_restart, is_awaited}
 use Rattle.sercos_master.specs.Annals as master
 use Rattle.sercos_master.proofs.Configured.{leaves}
-use Rattle.sercos_law_channel.specs.Handshake.Moves.{with_status}
 use Rattle.sercos_law_channel.specs.Handshake.Views.{Heard, View}
 use Rattle.sercos_law_channel.specs.Handshake.Epochs.{command, command_in, whole_row, with_heard, with_begun, unless_restart, epoch_begun, begun_in}
 use Rattle.sercos_law_channel.specs.Handshake.Runs.{IsShown, IsNext}

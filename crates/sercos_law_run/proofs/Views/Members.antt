@@ -1,20 +1,17 @@
 -- The drives of a ring by their places and addresses, and whose AT a content is.
-use Rattle.std.proofs.Common.{◌≡◌, ◌⊎◌, inl, inr, ℕ, zero, suc, ◌+◌, ◌<◌, ◌≤◌, Bool, true, false, not, ◌&&◌, List, [], ◌∷◌, ◌++◌, length, Option, Some, None, refl, sym, ◌∙◌, ap, ap₂, subst, arith, if◌then◌else◌, map}
-use Rattle.std.specs.Prelude.{◌==◌, nat_lt, slice_index, slice_index_or, is_some, is_none, unwrap_or}
-use Rattle.std.proofs.lemmas.Bool.{cases_eq, false≢true}
+use Rattle.std.proofs.Common.{◌≡◌, ◌⊎◌, inl, inr, ℕ, zero, suc, ◌+◌, ◌<◌, ◌≤◌, Bool, true, false, List, [], ◌∷◌, length, Option, Some, None, refl, sym, ◌∙◌, ap, subst, arith, if◌then◌else◌, map}
+use Rattle.std.specs.Prelude.{nat_lt, slice_index, slice_index_or}
 use Rattle.std.proofs.lemmas.Bool.Decides.{nat_tests}
-use Rattle.sercos_hdlc.specs.Stuffed.{frame_of}
 use Rattle.sercos_telegram.specs.declared.layout.Kind.TheVariants as kinds
 use Rattle.sercos_block.specs.Views.{DriveView, RingView}
 use Rattle.sercos_block.specs.Rings.{is_ring}
 use Rattle.sercos_drive.specs.Heard.{DriveCall}
-use Rattle.sercos_drive.specs.Annals.{annals}
-use Rattle.sercos_drive.specs.Says.{Said, drive_says, said_in, sends}
-use Rattle.sercos_seat.specs.Ring.{Known, MemberView, member, member_of, no_member, known_of}
+use Rattle.sercos_drive.specs.Says.{Said, drive_says}
+use Rattle.sercos_seat.specs.Ring.{MemberView, member, member_of, no_member, known_of}
 use Rattle.sercos_master.specs.Annals.{first_from, place_of}
 use Rattle.sercos_script.specs.declared.link.Passage.{Passage}
 use Rattle.sercos_script.specs.Links.{Carry}
-use Rattle.sercos_law_run.specs.Journal.Arrivals.{heard, passage, arrival, content_in, is_unseen, unseen_at}
+use Rattle.sercos_law_run.specs.Journal.Arrivals.{heard, passage, unseen_at}
 use Rattle.sercos_law_run.specs.Journal.Runs.{no_drive, drive_at, station_of, inserted, with_said, said_below, contents, unseen_ats}
 use Rattle.sercos_law_run.proofs.Journal.ClearLemmas.{heard-clear}
 use Rattle.sercos_law_run.proofs.Journal.StationLemmas.{station_found, drives_so}

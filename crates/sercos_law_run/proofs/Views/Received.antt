@@ -1,12 +1,12 @@
 -- What a drive gets of the MDT is what the master tells it, or nothing.
-use Rattle.std.proofs.Common.{◌≡◌, ◌⊎◌, inl, inr, ℕ, zero, suc, ◌+◌, ◌<◌, ◌≤◌, Bool, true, false, not, ◌&&◌, ◌||◌, List, [], ◌∷◌, ◌++◌, length, Option, Some, None, refl, sym, ◌∙◌, ap, ap₂, subst, arith, if◌then◌else◌, append_assoc}
+use Rattle.std.proofs.Common.{◌≡◌, ◌⊎◌, inl, inr, ℕ, zero, suc, ◌+◌, ◌<◌, ◌≤◌, Bool, true, false, not, ◌&&◌, List, [], ◌∷◌, ◌++◌, length, Option, Some, None, refl, sym, ◌∙◌, ap, subst, arith, if◌then◌else◌, append_assoc}
 use Rattle.std.specs.Prelude.{◌==◌, nat_le, nat_lt, slice_index, slice_index_or, is_some, is_none, option_map}
 use Rattle.std.specs.Bool.{then_some}
 use Rattle.std.specs.Option.{option_or}
 use Rattle.std.proofs.lemmas.Bool.{cases_eq, and_parts}
 use Rattle.std.proofs.lemmas.Bool.Decides.{nat_tests}
-use Rattle.sercos_telegram.specs.Spells.{all_drives, fields, word_bytes}
-use Rattle.sercos_telegram.specs.Faults.{head_fault, single_fault, joint_fault}
+use Rattle.sercos_telegram.specs.Spells.{all_drives}
+use Rattle.sercos_telegram.specs.Faults.{head_fault, joint_fault}
 use Rattle.sercos_block.specs.declared.block.Block.{Block}
 use Rattle.sercos_block.specs.Views.{DriveView, RingView}
 use Rattle.sercos_timing.specs.Valid.{is_address}
@@ -18,14 +18,13 @@ use Rattle.sercos_timing.specs.Views.{PlanView}
 use Rattle.sercos_drive.specs.declared.hearing.Told.{Told}
 use Rattle.sercos_drive.specs.Heard.{mdt_got, joint_in, single_in, lies_within}
 use Rattle.sercos_seat.specs.Agenda.{mdt_attributes}
-use Rattle.sercos_seat.specs.Channel.{is_place}
-use Rattle.sercos_seat.specs.Records.{record_said, values_said, word_said}
-use Rattle.sercos_seat.specs.Ring.{Known, MemberView, member, no_member, known_of}
+use Rattle.sercos_seat.specs.Records.{record_said, values_said}
+use Rattle.sercos_seat.specs.Ring.{Known, MemberView, member, known_of}
 use Rattle.sercos_master.specs.Annals.{Past, outcomes}
 use Rattle.sercos_master.specs.Says.{Sent, said_to, record_to, records_from, idle, single, joint, mdt_said}
-use Rattle.sercos_law_run.specs.Journal.Runs.{no_drive, drive_at, content_of}
+use Rattle.sercos_law_run.specs.Journal.Runs.{no_drive, drive_at}
 use Rattle.sercos_law_run.proofs.Journal.StationLemmas.{drives_so}
-use Rattle.sercos_law_run.specs.Views.RingViews.{told_to, is_told}
+use Rattle.sercos_law_run.specs.Views.RingViews.{told_to}
 use Rattle.sercos_law_run.proofs.Views.Codecs.{single_clear, single_other, joint_clear}
 use Rattle.sercos_law_run.proofs.Views.DriveSame.{said_to as said_by_told}
 use Rattle.sercos_law_run.proofs.Views.Members.{member_is, members_count, same_drive}

@@ -1,48 +1,47 @@
 -- In a run of a ring in which nothing is unseen, each drive with its channel makes a run of views.
-use Rattle.std.proofs.Common.{◌≡◌, ◌⊎◌, inl, inr, ℕ, zero, suc, ◌+◌, ◌<◌, ◌≤◌, Bool, true, false, not, ◌&&◌, List, [], ◌∷◌, ◌++◌, length, Option, Some, None, refl, sym, ◌∙◌, ap, ap₂, subst, arith, if◌then◌else◌}
-use Rattle.std.specs.Prelude.{◌==◌, nat_le, slice_index, is_some, is_none, IsSome, IfSome, option_map}
-use Rattle.std.proofs.lemmas.Bool.{cases_eq, false≢true}
+use Rattle.std.proofs.Common.{◌≡◌, ◌⊎◌, inl, inr, ℕ, zero, suc, ◌+◌, ◌<◌, ◌≤◌, Bool, true, false, List, [], ◌∷◌, length, Option, Some, None, refl, sym, ◌∙◌, ap, ap₂, subst, arith, if◌then◌else◌}
+use Rattle.std.specs.Prelude.{slice_index, is_some, IsSome, IfSome}
+use Rattle.std.proofs.lemmas.Bool.{cases_eq}
 use Rattle.sercos_telegram.specs.declared.layout.Kind.TheVariants as kinds
 use Rattle.sercos_telegram.specs.Words.{status_of}
 use Rattle.sercos_telegram.specs.Spells.{word_at, mst_content}
 use Rattle.sercos_step.specs.declared.request.Request.{Request}
 use Rattle.sercos_step.specs.declared.request.Job.{Job}
-use Rattle.sercos_block.specs.Views.{DriveView, RingView}
+use Rattle.sercos_block.specs.Views.{RingView}
 use Rattle.sercos_block.specs.Rings.{is_ring}
 use Rattle.sercos_block.specs.Stores.{store_of}
 use Rattle.sercos_service_drive.specs.Log.{Taken}
-use Rattle.sercos_service_drive.specs.Says.{shown_by, drive_says as channel_says}
+use Rattle.sercos_service_drive.specs.Says.{drive_says as channel_says}
 use Rattle.sercos_service_master.specs.Begun.{Begun, open_in, answers_it, master_says}
 use Rattle.sercos_service_master.specs.Calls.{begun_by}
 use Rattle.sercos_timing.specs.Views.{PlanView}
-use Rattle.sercos_drive.specs.declared.hearing.Told.{Told}
 use Rattle.sercos_drive.specs.Heard.{mst_got, mdt_got}
-use Rattle.sercos_drive.specs.Moments.{Moment, phase_in, cycle_in, taken_in, blocks_in, commands_in}
+use Rattle.sercos_drive.specs.Moments.{phase_in, blocks_in, commands_in}
 use Rattle.sercos_drive.specs.Annals.{annals}
-use Rattle.sercos_trace.specs.Views.{SentView, CycleView}
-use Rattle.sercos_seat.specs.Ring.{Known, Task, known_of, tasks_for}
+use Rattle.sercos_trace.specs.Views.{CycleView}
+use Rattle.sercos_seat.specs.Ring.{known_of}
 use Rattle.sercos_master.specs.Annals.{Past, Call, is_done, past}
 use Rattle.sercos_master.specs.Annals as master
-use Rattle.sercos_master.specs.Says.{Sent, said_to, idle, mdt_said}
+use Rattle.sercos_master.specs.Says.{Sent, idle, mdt_said}
 use Rattle.sercos_script.specs.Links.{Carry, Restarts}
-use Rattle.sercos_law_channel.specs.Handshake.Views.{Heard, View, standing, before_mst as standing_before, stood_in, got_in, kept_in, since_reset}
+use Rattle.sercos_law_channel.specs.Handshake.Views.{Heard, View, standing, before_mst as standing_before, kept_in, since_reset}
 use Rattle.sercos_law_channel.specs.Handshake.Epochs.{command, command_in, whole_row, with_heard, with_begun, unless_restart, epoch_begun}
-use Rattle.sercos_law_channel.specs.Handshake.Runs.{IsShown, IsNext, IsRun}
+use Rattle.sercos_law_channel.specs.Handshake.Runs.{IsShown, IsRun}
 use Rattle.sercos_law_channel.specs.Handshake.RunLaws.{BeginsEmpty}
 use Rattle.sercos_law_channel.specs.Handshake.WholeRun.{all_writes}
 use Rattle.sercos_law_channel.specs.Handshake.Values.{store_in}
 use Rattle.sercos_law_run.specs.Journal.Arrivals.{heard, passage, sum_below, unseen_at}
 use Rattle.sercos_law_run.specs.Journal.Records.{mst_in, ats_in, mdt_in}
-use Rattle.sercos_law_run.specs.Journal.Runs.{drive_at, given_before, given_mst, master_calls, begin_calls, mdt_heard, content_of, contents, said_below, unseen_mst, unseen_mdt, unseen_ats, looks_back, mst_next, ats_next, mdt_next, IsNext as IsNextCycle}
+use Rattle.sercos_law_run.specs.Journal.Runs.{drive_at, given_before, given_mst, master_calls, mdt_heard, content_of, contents, said_below, unseen_mst, unseen_mdt, unseen_ats, looks_back, IsNext as IsNextCycle}
 use Rattle.sercos_law_run.proofs.Journal.RunLemmas.{ats_in-said, mdt_in-said}
 use Rattle.sercos_law_run.specs.Views.RingViews.{at_start, behind_mst, behind_ats, behind_mdt, heard_last, told_to, before_mst, after_mst, view_of, views_of}
-use Rattle.sercos_law_run.proofs.Views.DriveSame.{said_to as said_by_told, IsSame, same_first, same_restarted, standing_at, same_at_mst, same_at_mdt}
-use Rattle.sercos_law_run.proofs.Views.MasterSame.{IsSame as IsSameMaster, StandsAs, begun_cycle, same_started, AfterAts, ats_none, IsBehind, is_behind, IsLed, next_led, same_ended}
+use Rattle.sercos_law_run.proofs.Views.DriveSame.{IsSame, same_first, same_restarted, standing_at, same_at_mst, same_at_mdt}
+use Rattle.sercos_law_run.proofs.Views.MasterSame.{IsSame as IsSameMaster, StandsAs, begun_cycle, same_started, ats_none, IsBehind, is_behind, IsLed, next_led, same_ended}
 use Rattle.sercos_law_run.proofs.Views.Members.{all_said, heard_whole, AreHeardAs, heard_as}
 use Rattle.sercos_law_run.specs.Views.Spelled.{IsSaid, IsSpelled}
 use Rattle.sercos_law_run.proofs.Views.Codecs.{mst_clear}
 use Rattle.sercos_law_run.proofs.Views.Coupled.{ats_heard, heard_one, Speaks, speaks}
-use Rattle.sercos_law_run.proofs.Views.Received.{Agrees, GotTold, NothingGot, ToldGot, got_or_none, mdt_told}
+use Rattle.sercos_law_run.proofs.Views.Received.{Agrees, GotTold, NothingGot, got_or_none, mdt_told}
 
 -- What the drive at a place and its channel keep of a journal is what its views give, and these are a run.
 pub record Sees (r : RingView) (jobs : List Job) (carry : Carry) (restarts : Restarts) (k : ℕ) (j : List CycleView) : Type 0 where

@@ -1,5 +1,5 @@
 -- What the planner's answer to a ring's requirements says of its run. The newest cycle of a journal comes first.
-use Rattle.std.specs.Prelude.{◌≡◌, ℕ, ◌≤◌, List, ◌∷◌, Some, Ok, Err}
+use Rattle.std.specs.Prelude.{◌≡◌, ◌≤◌, List, ◌∷◌, Some, Ok, Err}
 use Rattle.sercos_step.specs.declared.request.Job.{Job}
 use Rattle.sercos_timing.specs.Views.{PlanView}
 use Rattle.sercos_plan.specs.ChainOf.{planned}

@@ -8,12 +8,12 @@ use Rattle.sercos_block.specs.Views.{RingView}
 use Rattle.sercos_service_master.specs.Begun.{Said, master_says}
 use Rattle.sercos_service_master.specs.Calls.{Hear, begun_by}
 use Rattle.sercos_service_master.specs.Calls as channel
-use Rattle.sercos_drive.specs.Heard.{DriveCall, mst_got, mdt_got}
+use Rattle.sercos_drive.specs.Heard.{mst_got, mdt_got}
 use Rattle.sercos_drive.specs.Moments.{Moment, phase_in, blocks_in, commands_in}
 use Rattle.sercos_drive.specs.Annals.{annals, has_passed}
 use Rattle.sercos_trace.specs.Views.{SentView, CycleView}
 use Rattle.sercos_seat.specs.Channel.{is_place}
-use Rattle.sercos_seat.specs.Ring.{Known, Task, known_of}
+use Rattle.sercos_seat.specs.Ring.{Task, known_of}
 use Rattle.sercos_master.specs.Annals.{Past, begins, settled, fall_of, is_done}
 use Rattle.sercos_script.specs.Links.{Carry, Restarts}
 use Rattle.sercos_law_channel.specs.Handshake.Views.{Heard, View}

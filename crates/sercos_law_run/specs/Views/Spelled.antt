@@ -1,5 +1,5 @@
 -- What a cycle sends is spelled as its telegrams are: whole frames, and words and elements that fit into their fields.
-use Rattle.std.specs.Prelude.{◌≡◌, ℕ, ◌<◌, List, length, Option, Some}
+use Rattle.std.specs.Prelude.{◌≡◌, ℕ, ◌<◌, List, length, Some}
 use Rattle.sercos_hdlc.specs.Stuffed.{frame_of}
 use Rattle.sercos_step.specs.declared.request.Job.{Job}
 use Rattle.sercos_block.specs.Views.{DriveView, RingView}
