@@ -9,7 +9,8 @@ each run:
 - nothing falls, no request is broken, and nothing is unseen;
 - each drive ends each cycle in the commanded phase, or one below it in the first cycle commanded that phase;
 - if the ring reaches phase 4 without faults, it does so under them by the bound of the start-up and the costs: 10 cycles for
-  each one of phase 0 whose own MST is lost, 2 for each disturbed one of phases 1 and 2, 1 for each of phase 3.
+  each one of phase 0 whose own MST is lost, 2 for each disturbed one of phases 1 and 2, 1 for each of phase 3. A cycle counts as
+  disturbed where the script has a fault, also if that hits no telegram.
 
 Prints each document of which this isn't so, with its seed, and at the end the numbers of what was run and the greatest part of
 the bound that a start-up took. Ends with 0 if all is so of each.

@@ -9,11 +9,11 @@ ghost use Rattle.sercos_law_run.specs.Stations.Senders.{SendsAlone};
 use crate::typed_laws::typed_law;
 use sercos_drive::drive_law;
 
-/// A law and no code: in phases 3 and 4 the check for phase 3 finds nothing in the drive's store, whatever the drive was handed and
+/// In phases 3 and 4 the check for phase 3 finds nothing in the drive's store, whatever the drive was handed and
 /// whatever was written to it, and in phase 4 no block has operation data outside its limits. A store in which the check finds nothing
 /// keeps these times: T1 is at least T1min; from the end of the drive's AT, as long as it can be, to T2 there is TATMT; T3 lies in the
-/// cycle, and T4 with T4min; the data record lies within the MDT. S-0-0021 and S-0-0022 contain what the checks found when they were last
-/// set, and before that nothing.
+/// cycle, and T4 with T4min; the data record lies within the MDT. S-0-0021 and S-0-0022 contain what their check found when it was last
+/// set while it wasn't, and nothing before.
 pub fn fit_law()
     ensures times { EmptyKeepsTimes }
     ensures three { FitInThree }
@@ -23,7 +23,7 @@ pub fn fit_law()
     drive_law();
 }
 
-/// A law and no code, on the phase of a drive, whatever the drive was handed. If it isn't 0, it is that of the MST that the drive got in
+/// On the phase of a drive, whatever the drive was handed. If it isn't 0, it is that of the MST that the drive got in
 /// this cycle, or of the one in the cycle before if it got none in this one. It rises by one at a time, by an MST of the next phase, and
 /// into 3 and 4 only if the check for that phase counts as passed. It goes to 0 exactly for these causes: an MST of a phase that the drive
 /// can't take; no MST for the second time in a row; in phases 3 and 4 no MDT for the second time in a row; a restart.
@@ -33,8 +33,8 @@ pub fn phase_law()
     ensures drops { DropsByCause }
 {}
 
-/// A law and no code: all this holds of each drive of a ring in each cycle, after the MST's place and after the MDT's, over every link and
-/// whatever arrives, undetected damage too. As long as nothing was undetected, in a cycle commanded 0, 1 or 2 at most one AT is sent: by
+/// What `fit_law` says of the times and the limits, and `phase_law` of the phase, holds of each drive of a ring in each cycle, after the
+/// MST's place and after the MDT's, over every link and whatever arrives, undetected damage too. As long as nothing was undetected, in a cycle commanded 0, 1 or 2 at most one AT is sent: by
 /// the drive that the MDT of the cycle before was addressed to, and none with phase 0.
 pub fn station_law()
     ensures plain { AlwaysPlain }
@@ -44,10 +44,10 @@ pub fn station_law()
     typed_law();
 }
 
-/// A law and no code: a fall that a ring reports has its cause, over every link and whatever arrives. `MstLost`: the own MST didn't come back
+/// A fall that a ring reports has its cause, over every link and whatever arrives. `MstLost`: the own MST didn't come back
 /// as it was sent in this cycle, nor in the one before, of phase 1 to 4. `AtLost`: in this cycle and in the one before, of phase 3 or 4, no
-/// AT that arrived reads as that drive's. `StepLimit`: in phase 1 the MDT is to that drive since 64 cycles; later a step to it was sent 64
-/// cycles ago or more, and no answer has been taken since. `Restart`: the master restarts in this cycle.
+/// AT that arrived reads as that drive's. `StepLimit`: in phase 1 the MDT was to that drive in this cycle and in the 64 before it; later
+/// a step to it was sent 64 cycles ago or more, and no answer has been taken since. `Restart`: the master restarts in this cycle.
 pub fn fall_law()
     ensures causes { FallsHaveCause }
 {}

@@ -23,8 +23,8 @@ use sercos_law_channel::{
 use sercos_master::master_law;
 use sercos_service_drive::writes_law;
 
-/// A law over every run of a ring without undetected damage, over every link. Take any point at which phase 0 is commanded next, regardless
-/// of losses and restarts before it: the opening, a fall, a restart of the master. From there on, as long as no station restarts and the
+/// A law over every run of a ring without undetected damage, over every link. Take any point at which phase 0 is commanded next: the
+/// opening, a fall, a restart of the master. Losses and restarts before it don't matter. From there on, as long as no station restarts and the
 /// disturbed cycles are sparse, the ring bears them, however many they are. They are sparse if neither of the two cycles before a disturbed
 /// one is disturbed where phase 1 or 2 is commanded in it, and the one before it isn't where phase 3 or 4 is; in phase 0 any cycle may be
 /// disturbed. A disturbed cycle may lose any number of telegrams, at any stations. Then no record has a fall or reports a request as
@@ -34,8 +34,9 @@ use sercos_service_drive::writes_law;
 /// opening on or since one whose record has a fall. The cycles of such an epoch in which a step to a drive is open are at most the cost of
 /// the requests to it, and what the disturbed cycles cost: two cycles each in phase 2, one in 3 and 4. Up to phase 2, where one channel
 /// works after the other, a disturbed cycle counts once for all of them. Phases 0 and 1 last for eleven cycles and one for each drive at
-/// most, and ten for each cycle of phase 0 in which the own MST was lost, and two for each disturbed one of phase 1. Phase 2 lasts for the
-/// reads and the writes of each drive at most, and two cycles for each disturbed one, unless there is a stop. So if a plan fits the ring's
+/// most, and ten for each cycle of phase 0 in which the own MST was lost, and two for each disturbed one of phase 1. Phases 0 to 2 together
+/// last for that, the reads and the writes of each drive, and two cycles for each disturbed one of phase 2 at most, unless there is a
+/// stop. So if a plan fits the ring's
 /// requirements, the cycle time lies within each drive's limits, and no own block of a drive was outside its limits at opening, phase 4 is
 /// commanded within the bound of a start-up and these costs, with one cycle for each disturbed one of phase 3; and once commanded, it
 /// stays. Underneath, in any cycles without a fall and without a restart of the master, a step costs busy time and one, and each cycle in

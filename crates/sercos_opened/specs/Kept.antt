@@ -71,7 +71,7 @@ OnceThroughout run = (later : List CycleView) (t : CycleView) (j : List CycleVie
 abbrev pub DrivesThroughout : RingView → Carry → Restarts → List CycleView → Type 0
 DrivesThroughout r carry restarts run = (later : List CycleView) (t : CycleView) (j : List CycleView) → run ≡ later ++ t ∷ j → DrivesArePlain r carry restarts t j
 
--- In each cycle, whatever arrived, a fall that is reported has its cause in what arrived at the master.
+-- In each cycle, whatever arrived, a fall that is reported has its cause.
 abbrev pub FallsThroughout : RingView → List Job → Carry → Restarts → List CycleView → Type 0
 FallsThroughout r jobs carry restarts run = (later : List CycleView) (t : CycleView) (j : List CycleView) → run ≡ later ++ t ∷ j → FallsForCause r jobs carry restarts t j
 
@@ -89,10 +89,10 @@ pub record IsKept (r : RingView) (jobs : List Job) (carry : Carry) (restarts : R
   pub predicts : PredictsThroughout r journal
   pub starts : StartsThroughout r jobs carry restarts journal
   pub recovers : RecoversThroughout r jobs carry restarts journal
+  pub bears : BearsThroughout r jobs carry restarts journal
   pub drives : DrivesThroughout r carry restarts journal
   pub falls : FallsThroughout r jobs carry restarts journal
   pub alone : AloneThroughout journal
-  pub bears : BearsThroughout r jobs carry restarts journal
 
 -- The cycles of a document are such a run: over a link handed in too, and over its script alone.
 abbrev pub IsDocumentRun : Carry → Restarts → DocumentView → Type 0

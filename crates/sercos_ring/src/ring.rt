@@ -284,11 +284,12 @@ impl<L: BitLink> Ring<L> {
     ///
     /// While faults go on, as long as nothing was undetected: since the opening, or since a fall, no fall is reported and no request as
     /// broken, if no station restarts and the disturbed cycles are sparse. In phases 1 and 2 neither of the two cycles before a
-    /// disturbed one is disturbed then, in 3 and 4 not the one before. Each drive keeps to the commanded phase, or is one below it in
-    /// that phase's first cycle; and a step is answered at most busy time and four cycles after it was first sent.
+    /// disturbed one is disturbed then, in 3 and 4 not the one before. From the second cycle on each drive is in the commanded phase, or
+    /// one below it in that phase's first cycle; a step is answered at most busy time and four cycles after it was first sent; and if
+    /// nothing is in its way, phase 4 comes within `startup_bound` and the costs of the disturbed cycles, and stays.
     ///
-    /// Whatever arrives, undetected damage too: in phases 3 and 4 each drive's data keep its times, so that its data record lies within
-    /// the MDT, and in phase 4 their limits too; each drive rises, and goes to phase 0, for its causes alone; and a fall that is reported
+    /// Whatever arrives, undetected damage too: in phases 3 and 4 each drive's data keep its T1min, TATMT and T4min, its data record
+    /// lies within the MDT, and in phase 4 the data keep their limits too; each drive rises, and goes to phase 0, for its causes alone; and a fall that is reported
     /// has its cause. As long as nothing was undetected, at most one AT is sent with phase 0, 1 or 2 commanded, by the drive that the MDT
     /// before was addressed to.
     pub fn cycle(&mut self) -> &CycleRecord

@@ -45,8 +45,8 @@ empty_keeps_times rate blocks e =
     record {
       sends = grind (arith, nat_tests, b6);
       turns = grind (arith, nat_tests, b89);
-      feedback = (grind (arith, nat_tests, no_8), grind (arith, nat_tests, inside));
-      command = grind (arith, nat_tests, b7);
+      command = (grind (arith, nat_tests, no_8), grind (arith, nat_tests, inside));
+      feedback = grind (arith, nat_tests, b7);
       lies = rw (place, ends) refl;
       room = grind (arith, nat_tests, b10);
       cycle = is_so (is_cycle (n 2)) b2;

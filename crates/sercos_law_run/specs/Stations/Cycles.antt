@@ -12,8 +12,8 @@ use Rattle.sercos_law_run.specs.Held.Opened.{IsOpened}
 use Rattle.sercos_law_run.specs.Stations.Fit.{KeepsTimes}
 use Rattle.sercos_law_run.specs.Stations.Phases.{IsByMst, Rises, Drops}
 
--- After a call a drive stands so: in phases 3 and 4 its store keeps the times, in phase 4 its limits too; its phase is that of an MST that
--- it got; it rose by one phase, its check passed, if it rose; and it went to phase 0 for a cause, if it did.
+-- What holds of a drive after a call: in phases 3 and 4 its store keeps the times, in phase 4 its limits too; its phase, if it isn't 0, is
+-- that of an MST that it got; it rose by one phase, its check passed, if it rose; and it went to phase 0 for a cause, if it did.
 pub record IsPlain (d : DriveView) (rate : ℕ) (call : DriveCall) (h : List DriveCall) : Type 0 where
   pub times : 3 ≤ phase_at d rate (call ∷ h) → KeepsTimes rate (store_at d rate (call ∷ h))
   pub limits : 4 ≤ phase_at d rate (call ∷ h) → unfit_for_phase_4 (store_at d rate (call ∷ h)) ≡ []
@@ -25,7 +25,8 @@ abbrev pub ArePlain : DriveView → ℕ → List DriveCall → Type 0
 ArePlain d rate [] = Unit {0}
 ArePlain d rate (call ∷ h) = IsPlain d rate call h
 
--- So does each drive of a cycle, after the MST's place and after the MDT's.
+-- So it is of each drive of a cycle, after the MST's place and after the MDT's. A restart is before the MST's place, and the drive is in
+-- phase 0 there.
 abbrev pub DrivesArePlain : RingView → Carry → Restarts → CycleView → List CycleView → Type 0
 DrivesArePlain r carry restarts t j =
     (k : ℕ) → k < length r.drives → ArePlain (drive_at r k) r.rate (given_mst carry restarts t.sent j k)

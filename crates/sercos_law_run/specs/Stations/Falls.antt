@@ -1,4 +1,4 @@
--- Why a ring falls, by what arrived at the master in its last cycles, over every link. Each list has its newest item first.
+-- Why a ring falls: by what arrived at the master in its last cycles, or what is open on a channel, over every link. Each list has its newest item first.
 use Rattle.std.specs.Prelude.{◌≡◌, ℕ, zero, suc, ◌+◌, ◌<◌, ◌≤◌, Bool, true, false, List, [], ◌∷◌, ◌++◌, length, Some, is_some, slice_index}
 use Rattle.sercos_telegram.specs.Faults.{at_fault}
 use Rattle.sercos_telegram.specs.declared.layout.Kind.TheVariants as kinds
@@ -45,7 +45,7 @@ NoneReadsIn r jobs carry restarts t j k =
     NoneReads r carry (length j) (drive_at r k).address
     (at_len (member (known_of r) k) (outcomes (behind_ats r jobs carry restarts t.sent j) k)) (ats_in t.sent)
 
--- AtLost: so it was in this cycle and in the one before, in which phase 3 or 4 was commanded.
+-- AtLost: no AT read as the drive's in this cycle, nor in the one before, in which phase 3 or 4 was commanded.
 pub record MissesAt (r : RingView) (jobs : List Job) (carry : Carry) (restarts : Restarts) (t : CycleView) (j : List CycleView)
     (address : ℕ) : Type 0 where
   pub place : ℕ
@@ -79,7 +79,7 @@ AreTo k zero turns = Unit {0}
 AreTo k (suc n) [] = ⊥
 AreTo k (suc n) (t ∷ turns) = (t.phase ≡ 1) × (t.addressed ≡ Some k) × AreTo k n turns
 
--- StepLimit: in phase 1 the drive is identified in vain since 64 cycles; later its step is open for 64 cycles.
+-- StepLimit: in phase 1 the MDT was to the drive in this cycle and in the 64 before it; later its step is open for 64 cycles.
 pub data IsLate (p : Past) (k : ℕ) : Type 0 where
   Identification : p.now.phase ≡ 1 → AreTo k 65 (p.now ∷ p.turns) → IsLate p k
   Step : (n : ℕ) → 64 ≤ n → IsOpenFor (p.calls k) n → IsLate p k

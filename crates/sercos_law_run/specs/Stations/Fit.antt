@@ -19,9 +19,9 @@ pub record KeepsTimes (rate : ℕ) (blocks : List Block) : Type 0 where
   pub sends : number_at blocks 3 ≤ number_at blocks 6
   -- in bits: from the end of the drive's own AT, at the longest that it can be, to the MDT there is the time that it needs
   pub turns : rate * number_at blocks 6 + wire_bits (1 + carried_len blocks 16) + rate * number_at blocks 4 ≤ rate * number_at blocks 89
-  -- T3 lies in the cycle, and after T4 there is the drive's time until the cycle ends
-  pub feedback : (1 ≤ number_at blocks 8) × (number_at blocks 8 ≤ number_at blocks 2)
-  pub command : number_at blocks 7 + number_at blocks 5 ≤ number_at blocks 2
+  -- T3 lies in the cycle, and after T4 there is T4min until the cycle ends
+  pub command : (1 ≤ number_at blocks 8) × (number_at blocks 8 ≤ number_at blocks 2)
+  pub feedback : number_at blocks 7 + number_at blocks 5 ≤ number_at blocks 2
   -- the data record lies within the MDT
   pub lies : lies_within (number_at blocks 10) (number_at blocks 9) (carried_len blocks 24) ≡ true
   pub room : 4 ≤ number_at blocks 10

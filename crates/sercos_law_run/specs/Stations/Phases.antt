@@ -1,4 +1,4 @@
--- In which phase a drive stands, and why, by what arrived at it. Each list of calls has its newest call first.
+-- In which phase a drive is, and why, by what arrived at it. Each list of calls has its newest call first.
 use Rattle.std.specs.Prelude.{◌≡◌, ◌⊎◌, ◌↔◌, ℕ, ◌+◌, ◌≤◌, nat_le, Bool, true, false, not, ◌&&◌, List, [], ◌∷◌, Option, Some, None, is_some}
 use Rattle.sercos_block.specs.Views.{DriveView}
 use Rattle.sercos_command.specs.Calls.{is_passed}

@@ -41,8 +41,7 @@ StandsNear v past = IsUp v past ⊎ IsBehind v past
 -- reported, nor a request as broken. From the second cycle of the epoch on each drive is in the commanded phase, or one below it, in the
 -- first cycle commanded this phase, if it missed the MST of it. No step is open for longer than the busy time of its drive and four cycles,
 -- or three in phases 3 and 4; and its answer arrives at most that long after the cycle in which it was begun, and first sent. If the ring
--- is right, phase 4 is commanded from the bound of a start-up on, and what the cycles of the epoch cost so far; and once commanded, it
--- stays.
+-- is right, phase 4 is commanded once the bound of a start-up and the costs of the cycles so far have passed; and once commanded, it stays.
 pub record Bears (r : RingView) (jobs : List Job) (carry : Carry) (restarts : Restarts) (t : CycleView)
     (cycles before : List CycleView) : Type 0 where
   pub tells : TellsNoFall t

@@ -23,7 +23,7 @@ early_costs r jobs carry restarts (t ∷ cycles) before =
     early_costs r jobs carry restarts cycles before + early_cost r jobs carry restarts t (cycles ++ before)
 
 -- PHASES 0 AND 1. While one of them is commanded in an epoch whose disturbed cycles are sparse, the cycles of the epoch so far are at most
--- ten, one for each drive, and what the cycles of these phases cost. So phase 2 is commanded in the next at the latest.
+-- ten, one for each drive, and what the cycles of these phases cost.
 abbrev pub EarlySparse : Type 0
 EarlySparse = (r : RingView) (jobs : List Job) (carry : Carry) (restarts : Restarts) (t : CycleView) (cycles before : List CycleView) →
     IsOpened r jobs → IsRun r jobs carry restarts (t ∷ (cycles ++ before)) → IsClear (t ∷ (cycles ++ before)) →

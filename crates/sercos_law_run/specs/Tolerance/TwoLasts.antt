@@ -16,7 +16,7 @@ use Rattle.sercos_law_run.specs.Tolerance.Sparse.{AreSparse}
 
 -- PHASE 2. While it is commanded in an epoch whose disturbed cycles are sparse, and the master has no stop, the cycles of the epoch so far
 -- are at most eleven, one for each drive, those of the reads and the writes of each drive, and what the disturbed cycles cost in phases 0
--- and 1, and in phase 2. So in the next at the latest phase 3 is commanded, or there is a stop.
+-- and 1, and in phase 2.
 abbrev pub TwoSparse : Type 0
 TwoSparse = (r : RingView) (jobs : List Job) (carry : Carry) (restarts : Restarts) (t : CycleView) (cycles before : List CycleView) →
     IsOpened r jobs → IsRun r jobs carry restarts (t ∷ (cycles ++ before)) → IsClear (t ∷ (cycles ++ before)) →
