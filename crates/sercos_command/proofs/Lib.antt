@@ -1,4 +1,6 @@
 mod SetLemmas
+pub mod History
 pub mod CallLemmas
+mod Statuses
 mod CheckLemmas
 mod Worked

@@ -9,7 +9,7 @@ use Rattle.sercos_timing.specs.Valid.{is_cycle}
 use Rattle.sercos_block.specs.Stores.{inserted, with_own, store_of, with_data}
 use Rattle.sercos_command.specs.Checks.{number_at, idns_at, carried_len, breaks_1, breaks_2, breaks_6, breaks_7, breaks_8, breaks_9, breaks_10, breaks_15, breaks_list, breaks_89, unfit_for_phase_3, unfit_for_phase_4, list_bytes}
 use Rattle.sercos_command.specs.Settings.{CommandsView, with_lists}
-use Rattle.sercos_command.specs.Calls.{Call, Wrote, Other, Reset, status_of, change_of, is_passed}
+use Rattle.sercos_command.specs.Calls.{Call, Wrote, Other, Reset, setting_of, status_of, change_of, is_passed}
 
 abbrev idn : ℕ → Idn
 idn raw = record { raw = raw }
@@ -117,6 +117,14 @@ cancels = refl
 
 unset : status_of 4 5 cancelled 401 116 ≡ 0
 unset = refl
+
+-- set in cycle 118 and again in cycle 120 after that, it has been set since cycle 118
+set_anew : setting_of 4 401 (Wrote 401 3 120 [] ∷ Wrote 401 3 118 [] ∷ cancelled) ≡ Some
+    (record { idn = idn 401; cycle = 118; well = true })
+set_anew = refl
+
+set_no_more : setting_of 4 401 (Reset ∷ set) ≡ None
+set_no_more = refl
 
 -- the check for phase 3 is set in cycle 95, and cancelled in a later one
 abbrev checked : ℕ → List Call

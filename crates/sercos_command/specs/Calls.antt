@@ -1,10 +1,10 @@
--- The effect of the calls on a drive's procedure commands. The newest call is first.
-use Rattle.std.specs.Prelude.{◌≡◌, ℕ, ◌+◌, ◌≤◌, ◌==◌, nat_le, Bool, false, ◌&&◌, ◌||◌, if◌then◌else◌, List, [], ◌∷◌, min, is_none}
-use Rattle.std.specs.List.{list_any}
+-- What follows from the calls on a drive's procedure commands. Each list of calls has its newest call first.
+use Rattle.std.specs.Prelude.{ℕ, ◌+◌, ◌≤◌, ◌==◌, nat_le, Bool, false, not, ◌&&◌, ◌||◌, if◌then◌else◌, List, [], ◌∷◌, length, take, drop, Option, None, is_some, option_map, unwrap_or}
+use Rattle.std.specs.List.{list_all, list_any, last_or, range_with_len, take_while}
 use Rattle.sercos_idn.specs.Commands.{to_cancel}
 use Rattle.sercos_block.specs.declared.block.Block.{Block}
 use Rattle.sercos_command.specs.declared.commands.SetCommand.{SetCommand}
-use Rattle.sercos_command.specs.Settings.{CommandsView, find_set, without, with_set, ends_well, has_ended, status_by, is_from}
+use Rattle.sercos_command.specs.Settings.{ends_well, has_ended, status_by}
 
 -- A write of 0 or 3 to a command in a cycle, with the blocks of that moment; a write to other operation data in a cycle;
 -- phase 0.
@@ -13,26 +13,71 @@ pub data Call : Type 0 where
   Other : (cycle : ℕ) → Call
   Reset : Call
 
--- the commands that are set
-abbrev pub settings : ℕ → List Call → List SetCommand
-settings rate [] = []
-settings rate (Reset ∷ h) = []
-settings rate (Other cycle ∷ h) = settings rate h
-settings rate (Wrote raw value cycle blocks ∷ h) =
-    if value == to_cancel then without raw (settings rate h)
-    else with_set (record { idn = record { raw = raw }; cycle = cycle; well = ends_well rate raw blocks }) (settings rate h)
+-- a write to one command: its value, its cycle, and the blocks of that moment
+pub record CommandWrite : Type 0 where
+  pub value : ℕ
+  pub cycle : ℕ
+  pub blocks : List Block
 
--- Whether a check, S-0-0127 or S-0-0128, counts as passed in a cycle: it was set while it wasn't, ended well by this cycle,
--- was not cancelled before its end, and since it was set no other operation data was written, and phase 0 not entered.
+-- the writes to a command since phase 0
+abbrev pub writes_to_command : ℕ → List Call → List CommandWrite
+writes_to_command raw [] = []
+writes_to_command raw (Reset ∷ h) = []
+writes_to_command raw (Other cycle ∷ h) = writes_to_command raw h
+writes_to_command raw (Wrote other value cycle blocks ∷ h) =
+    if other == raw then record { value = value; cycle = cycle; blocks = blocks } ∷ writes_to_command raw h
+    else writes_to_command raw h
+
+-- A command is set if the newest write to it since phase 0 isn't 0: by the first write since the last 0.
+abbrev pub set_by : ℕ → List Call → Option CommandWrite
+set_by raw h = last_or None (take_while (λ w. not (w.value == to_cancel)) (writes_to_command raw h))
+
+abbrev pub is_set : ℕ → List Call → Bool
+is_set raw h = is_some (set_by raw h)
+
+-- the setting of a command: in which cycle that write was, and whether the command ends well
+abbrev pub setting_by : ℕ → ℕ → CommandWrite → SetCommand
+setting_by rate raw w = record { idn = record { raw = raw }; cycle = w.cycle; well = ends_well rate raw w.blocks }
+
+abbrev pub setting_of : ℕ → ℕ → List Call → Option SetCommand
+setting_of rate raw h = option_map (setting_by rate raw) (set_by raw h)
+
+-- A call after the setting of a check leaves the check as it is: it doesn't cancel it before the cycle of its end, doesn't write
+-- other operation data, and isn't phase 0.
+abbrev pub leaves_check : ℕ → ℕ → Call → Bool
+leaves_check check end (Wrote raw value cycle blocks) = not ((raw == check) && (value == to_cancel)) || nat_le end cycle
+leaves_check check end (Other cycle) = false
+leaves_check check end Reset = false
+
+-- The newest of the calls `until` makes a check count as passed in a cycle: it sets the check, which wasn't set; the cycle of its
+-- end has come; each call since leaves the check as it is; and the check finds nothing.
+abbrev pub passes_check : ℕ → ℕ → ℕ → ℕ → List Call → List Call → Bool
+passes_check rate time check cycle since (Wrote raw value at blocks ∷ before) =
+    (raw == check) && (not (value == to_cancel) && (not (is_set check before)
+    && (nat_le (at + time) cycle && (list_all (leaves_check check (at + time)) since && ends_well rate check blocks))))
+passes_check rate time check cycle since until = false
+
+-- Whether a check, S-0-0127 or S-0-0128, counts as passed in a cycle: some call made it so.
 abbrev pub is_passed : ℕ → ℕ → ℕ → List Call → ℕ → Bool
-is_passed rate time check [] cycle = false
-is_passed rate time check (Reset ∷ h) cycle = false
-is_passed rate time check (Other c ∷ h) cycle = false
-is_passed rate time check (Wrote raw value c blocks ∷ h) cycle =
-    if raw == check
-    then (if value == to_cancel then is_passed rate time check h (min cycle c)
-    else ((is_none (find_set check (settings rate h)) && (ends_well rate check blocks && nat_le (c + time) cycle)) || is_passed rate time check h cycle))
-    else is_passed rate time check h cycle
+is_passed rate time check h cycle =
+    list_any (λ k. passes_check rate time check cycle (take k h) (drop k h)) (range_with_len 0 (length h))
+
+-- the data status of an identifier number in a cycle
+abbrev pub status_of : ℕ → ℕ → List Call → ℕ → ℕ → ℕ
+status_of rate time h raw cycle = status_by time (setting_of rate raw h) cycle
+
+-- The change bit in a cycle: some command that was written to is set and has ended.
+abbrev pub commands_in : List Call → List ℕ
+commands_in [] = []
+commands_in (Wrote raw value cycle blocks ∷ h) = raw ∷ commands_in h
+commands_in (Other cycle ∷ h) = commands_in h
+commands_in (Reset ∷ h) = commands_in h
+
+abbrev pub is_ended : ℕ → ℕ → List Call → ℕ → ℕ → Bool
+is_ended rate time h cycle raw = unwrap_or (option_map (has_ended time cycle) (setting_of rate raw h)) false
+
+abbrev pub change_of : ℕ → ℕ → List Call → ℕ → Bool
+change_of rate time h cycle = list_any (is_ended rate time h cycle) (commands_in h)
 
 abbrev pub cycle_of : Call → ℕ → ℕ
 cycle_of (Wrote raw value cycle blocks) before = cycle
@@ -48,20 +93,3 @@ newest (c ∷ h) = cycle_of c (newest h)
 abbrev pub AreInOrder : List Call → Type 0
 AreInOrder [] = Unit {0}
 AreInOrder (c ∷ h) = AreInOrder h × (newest h ≤ newest (c ∷ h))
-
--- The commands stand for these calls: what is kept of each check decides whether it counts as passed, in any cycle from that
--- of the newest call on.
-pub record CommandsStandFor (v : CommandsView) (rate time : ℕ) (h : List Call) : Type 0 where
-  pub rate_is : v.rate ≡ rate
-  pub time_is : v.time ≡ time
-  pub in_order : AreInOrder h
-  pub set_is : v.set ≡ settings rate h
-  pub passed_127_is : (cycle : ℕ) → newest h ≤ cycle → is_from v.passed_127 cycle ≡ is_passed rate time 127 h cycle
-  pub passed_128_is : (cycle : ℕ) → newest h ≤ cycle → is_from v.passed_128 cycle ≡ is_passed rate time 128 h cycle
-
--- the data status of an identifier number, and the change bit, in a cycle
-abbrev pub status_of : ℕ → ℕ → List Call → ℕ → ℕ → ℕ
-status_of rate time h raw cycle = status_by time (find_set raw (settings rate h)) cycle
-
-abbrev pub change_of : ℕ → ℕ → List Call → ℕ → Bool
-change_of rate time h cycle = list_any (has_ended time cycle) (settings rate h)

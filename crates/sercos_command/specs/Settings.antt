@@ -71,13 +71,19 @@ abbrev pub from_cancel : ℕ → Option ℕ → Option ℕ
 from_cancel cycle None = None
 from_cancel cycle (Some first) = if nat_le first cycle then Some first else None
 
--- the same after a write of a value to a command
+-- A write of a value to a command cancels this check; or it sets the check, which wasn't set, and which ends well.
+abbrev pub cancels_check : ℕ → ℕ → ℕ → Bool
+cancels_check check raw value = (value == to_cancel) && (raw == check)
+
+abbrev pub sets_check : CommandsView → ℕ → ℕ → ℕ → List Block → Bool
+sets_check c check raw value blocks =
+    not (value == to_cancel) && ((raw == check) && (is_none (find_set raw c.set) && ends_well c.rate raw blocks))
+
+-- From which cycle on the check counts as passed after such a write in a cycle. Any other leaves it as it was.
 abbrev pub from_write : CommandsView → ℕ → ℕ → ℕ → ℕ → List Block → Option ℕ → Option ℕ
 from_write c check raw value cycle blocks first =
-    if raw == check
-    then (if value == to_cancel then from_cancel cycle first
-    else (if is_none (find_set raw c.set) && ends_well c.rate raw blocks then from_setting (cycle + c.time) first else first))
-    else first
+    if cancels_check check raw value then from_cancel cycle first
+    else (if sets_check c check raw value blocks then from_setting (cycle + c.time) first else first)
 
 -- after a write of 0 or 3 to a command in a cycle, with these blocks
 unfoldable pub with_write : ℕ → ℕ → ℕ → List Block → CommandsView → CommandsView

@@ -3,7 +3,8 @@ ghost use Rattle.std.specs.Prelude.{◌≡◌, ℕ, ◌==◌, ◌<◌, ◌≤◌
 ghost use Rattle.sercos_idn.specs.Commands.{to_cancel, to_set};
 ghost use Rattle.sercos_block.specs.declared.block.Block.{Block};
 ghost use Rattle.sercos_command.specs.Settings.{find_set, is_command, ends_well, status_in, change_in, is_from, with_write, without_checks, without_settings, with_lists, are_commands_of};
-ghost use Rattle.sercos_command.specs.Calls.{Call, Wrote, Other, Reset, newest, is_passed, CommandsStandFor, status_of, change_of};
+ghost use Rattle.sercos_command.specs.Calls.{Call, Wrote, Other, Reset, newest, is_passed, status_of, change_of};
+ghost use Rattle.sercos_command.specs.Kept.{CommandsStandFor};
 
 use crate::passed::{after_cancel, after_setting, is_from};
 use crate::run::run;
@@ -141,7 +142,6 @@ impl Commands {
     }
 
     /// A write to other operation data than that of a command, in a cycle: no check counts as passed any more.
-    #[tactic(auto, using(crate::proofs::CallLemmas::stands_other))]
     pub fn written(&mut self, cycle: u32)
         ensures view { self.new ≡ without_checks self.old }
         ensures stands { (rate time : ℕ) (h : List Call) → CommandsStandFor self.old rate time h → newest h ≤ cycle → CommandsStandFor self.new rate time (Other cycle ∷ h) }
@@ -158,7 +158,7 @@ impl Commands {
     }
 
     /// Phase 0: no command is set any more, and no check counts as passed.
-    #[tactic(auto, using(crate::proofs::CallLemmas::stands_reset), unfolding(crate::specs::Settings::are_distinct))]
+    #[tactic(auto, unfolding(crate::specs::Settings::are_distinct))]
     pub fn reset(&mut self)
         ensures view { self.new ≡ without_settings self.old }
         ensures stands { (rate time : ℕ) (h : List Call) → CommandsStandFor self.old rate time h → CommandsStandFor self.new rate time (Reset ∷ h) }
@@ -169,6 +169,7 @@ impl Commands {
 
     /// Returns the data status of a command in a cycle: 0 not set, 7 running, 3 ended well, 15 ended with an error. A command runs in the
     /// cycle in which it was set and below that of its end.
+    #[tactic(auto, using(crate::proofs::CallLemmas::status_stands))]
     pub fn status(&self, idn: Idn, cycle: u32) -> u16
         ensures view { result ≡ status_in self.now idn.raw cycle }
         ensures stands { (rate time : ℕ) (h : List Call) → CommandsStandFor self.now rate time h → result ≡ status_of rate time h idn.raw cycle }
@@ -177,6 +178,7 @@ impl Commands {
     }
 
     /// Returns the change bit of procedure commands in a cycle: whether some command that is set has ended.
+    #[tactic(auto, using(crate::proofs::CallLemmas::change_stands))]
     pub fn change(&self, cycle: u32) -> bool
         ensures view { result ≡ change_in self.now cycle }
         ensures stands { (rate time : ℕ) (h : List Call) → CommandsStandFor self.now rate time h → result ≡ change_of rate time h cycle }

@@ -4,6 +4,7 @@
 mod carried;
 mod check;
 mod commands;
+mod law;
 mod passed;
 mod rules;
 mod run;
@@ -13,4 +14,5 @@ mod stored;
 pub use carried::{carried_len, idns_at, number_at};
 pub use check::{check127, check128};
 pub use commands::Commands;
+pub use law::command_law;
 pub use stored::{is_command, stored_law};

@@ -1,5 +1,5 @@
 // From which cycle on a check counts as passed.
-ghost use Rattle.std.specs.Prelude.{◌≡◌, ◌==◌, if◌then◌else◌};
+ghost use Rattle.std.specs.Prelude.{◌≡◌, ◌==◌, ◌&&◌, if◌then◌else◌};
 ghost use Rattle.sercos_command.specs.Settings.{is_from, from_setting, from_cancel};
 
 use sercos_idn::Idn;
@@ -50,7 +50,7 @@ pub(crate) fn after_setting(
     end: u64,
     well: bool,
 ) -> Option<u64>
-    ensures { result ≡ (if idn.raw == check.raw then (if well then from_setting end first else first) else first) }
+    ensures { result ≡ (if (idn.raw == check.raw) && well then from_setting end first else first) }
 {
     if idn == check && well {
         from_setting(first, end)

@@ -5,15 +5,16 @@ use Rattle.sercos_block.specs.declared.block.Block.{Block}
 use Rattle.sercos_block.specs.Views.{DriveView}
 use Rattle.sercos_block.specs.Stores.{find_block, with_data}
 use Rattle.sercos_command.specs.Settings.{CommandsView, is_command}
-use Rattle.sercos_command.specs.Calls.{Call, Wrote, Other, Reset, newest, CommandsStandFor}
-use Rattle.sercos_service_drive.specs.Log.{Taken, ahs, record_of, open_idn, run_before, in_order as words_in_order}
+use Rattle.sercos_command.specs.Calls.{Call, Wrote, Other, Reset, newest}
+use Rattle.sercos_command.specs.Kept.{CommandsStandFor}
+use Rattle.sercos_service_drive.specs.Log.{Taken, ahs, taken_record, open_idn, run_before, in_order as words_in_order}
 use Rattle.sercos_service_drive.specs.Replies.{bytes_written, reply_of, log_of}
 use Rattle.sercos_service_drive.specs.Writes.{Write, with_added, setting_in, blocks_with, commands_with, calls_with, takes_effect, written_by, adds, added_on, AreAlike, AreThose}
 use Rattle.sercos_service_drive.specs.Kept.{ChannelView, ChannelStandsFor}
 use Rattle.sercos_drive.specs.declared.hearing.Told.{Told}
 use Rattle.sercos_drive.specs.Heard.{DriveCall, Mst, Mdt, Restart, mst_got, mdt_got}
 use Rattle.sercos_drive.specs.Moments.{Moment, AtMst, AtRestart, phase_in, cycle_in, has_mst, has_missed, in_phase, with_record, write_in, taken_in, writes_in, blocks_in, commands_in, calls_in, blocks_after, commands_after, calls_after, with_reset, reset_in}
-use Rattle.sercos_drive.specs.Annals.{stands_in, takes, processed_in, ends_in, after_mdt, annals}
+use Rattle.sercos_drive.specs.Annals.{stands_in, takes, processed_in, ends_in, mdt_moment, annals}
 use Rattle.sercos_drive.specs.Kept.{DriveState, counted, KeepsMoments}
 use Rattle.sercos_drive.specs.declared.slot.Slot.{Slot}
 use Rattle.sercos_drive.specs.Slots.{slot_of}
@@ -154,7 +155,7 @@ newest-after d rate None past order = order
 newest-after d rate (Some told) past order = by (has_mst past && nat_le 2 (phase_in past))
   where
     t : Taken
-    t = record_of (cycle_in past) (phase_in past) told.control told.info (blocks_in d past) (commands_in d rate past)
+    t = taken_record (cycle_in past) (phase_in past) told.control told.info (blocks_in d past) (commands_in d rate past)
 
     by : (b : Bool) → newest (calls_after (cond b (Some t) None) (taken_in past) (calls_in past)) ≤ cycle_in past
     by true = newest-calls_with (added_on t (taken_in past)) (blocks_in d past) (calls_in past) (cycle_in past) order (added-cycle t (taken_in past))
@@ -170,7 +171,7 @@ pub keeps-mdt : (v w x : DriveState) (d : DriveView) (rate : ℕ) (told : Option
     → IsProcessed v w d.busy (processed_by v told) (taken_in past)
     → (took : Bool) → took ≡ (v.got && (nat_le 1 v.phase && is_some told))
     → IsEntered (record w { took = took; missed = nat_le 3 w.phase && not took }) x (ends_with w took)
-    → KeepsMoments x d rate (after_mdt d rate told past ∷ past)
+    → KeepsMoments x d rate (mdt_moment d rate told past ∷ past)
 keeps-mdt v w x d rate told past k processed took took_is entered =
     by (processed_in d rate told past) refl (rw (processed_by-in v d rate told past k) at processed) (ends_in told past) refl
     (subst (λ (p : ℕ). IsEntered (record w { took = took; missed = nat_le 3 w.phase && not took }) x p) (ends _ _ _ _ _ _ phase same_took missed) entered)
@@ -186,7 +187,7 @@ keeps-mdt v w x d rate told past k processed took took_is entered =
 
     by : (r : Option Taken) → processed_in d rate told past ≡ r → IsProcessed v w d.busy r (taken_in past)
         → (end : ℕ) → ends_in told past ≡ end → IsEntered (record w { took = took; missed = nat_le 3 w.phase && not took }) x end
-        → KeepsMoments x d rate (after_mdt d rate told past ∷ past)
+        → KeepsMoments x d rate (mdt_moment d rate told past ∷ past)
     by r r_is p end end_is e = rw (r_is, end_is) (record {
       address_is = ap (λ (y : DriveState). y.address) e.same ∙ ap (λ (y : DriveState). y.address) p.same ∙ k.address_is;
       phase_is = ap (λ (y : DriveState). y.phase) e.same;
@@ -231,7 +232,7 @@ AreThose-after alike d rate None past those = those
 AreThose-after alike d rate (Some told) past those = by (has_mst past && nat_le 2 (phase_in past))
   where
     t : Taken
-    t = record_of (cycle_in past) (phase_in past) told.control told.info (blocks_in d past) (commands_in d rate past)
+    t = taken_record (cycle_in past) (phase_in past) told.control told.info (blocks_in d past) (commands_in d rate past)
 
     by : (b : Bool) → AreThose (blocks_after (cond b (Some t) None) (taken_in past) (blocks_in d past)) (with_record (cond b (Some t) None) (taken_in past))
     by true =

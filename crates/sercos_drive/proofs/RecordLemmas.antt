@@ -9,11 +9,11 @@ use Rattle.sercos_telegram.specs.declared.layout.Layout.{Layout}
 use Rattle.sercos_telegram.specs.declared.layout.Layout.TheVariants.{BadField}
 use Rattle.sercos_telegram.specs.Faults.{head_fault, mst_fault}
 use Rattle.sercos_block.specs.Views.{DriveView}
-use Rattle.sercos_service_drive.specs.Log.{Taken, record_of}
+use Rattle.sercos_service_drive.specs.Log.{Taken, taken_record}
 use Rattle.sercos_drive.specs.declared.hearing.Told.{Told}
 use Rattle.sercos_drive.specs.Heard.{DriveCall, Mst, Mdt, Restart, mst_in, mst_got, mdt_got}
 use Rattle.sercos_drive.specs.Moments.{Moment, AtMdt, phase_in, cycle_in, has_mst, has_missed, blocks_in, commands_in}
-use Rattle.sercos_drive.specs.Annals.{has_passed, stands_in, takes, ends_in, after_mdt, annals, phase_at}
+use Rattle.sercos_drive.specs.Annals.{has_passed, stands_in, takes, ends_in, mdt_moment, annals, phase_at}
 use Rattle.sercos_drive.specs.Laws.{WereHanded}
 
 pub mst_below : (content : List ℕ) → IfSome (mst_in content) (λ p. p ≤ 4)
@@ -47,12 +47,12 @@ phase_below d rate (Mdt content ∷ h) = let told = mdt_got d.address (phase_in 
     either_below (nat_le 3 (phase_in (annals d rate h)) && (not (takes told (annals d rate h)) && has_missed (annals d rate h))) 0 (phase_in (annals d rate h)) (omega arith) (phase_below d rate h)
 phase_below d rate (Restart ∷ h) = omega arith
 
-handed-after : (d : DriveView) (rate : ℕ) (told : Option Told) (past : List Moment) → phase_in past ≤ 4 → WereHanded d rate past → WereHanded d rate (after_mdt d rate told past ∷ past)
+handed-after : (d : DriveView) (rate : ℕ) (told : Option Told) (past : List Moment) → phase_in past ≤ 4 → WereHanded d rate past → WereHanded d rate (mdt_moment d rate told past ∷ past)
 handed-after d rate None past below rest = rest
 handed-after d rate (Some told) past below rest = by (has_mst past && nat_le 2 (phase_in past)) refl
   where
     t : Taken
-    t = record_of (cycle_in past) (phase_in past) told.control told.info (blocks_in d past) (commands_in d rate past)
+    t = taken_record (cycle_in past) (phase_in past) told.control told.info (blocks_in d past) (commands_in d rate past)
 
     by : (b : Bool) → (has_mst past && nat_le 2 (phase_in past)) ≡ b → WereHanded d rate (AtMdt (takes (Some told) past) (cond b (Some t) None) (ends_in (Some told) past) ∷ past)
     by true e =

@@ -3,7 +3,7 @@ use Rattle.std.specs.Prelude.{ℕ, ◌+◌, ◌==◌, nat_le, Bool, not, ◌&&�
 use Rattle.sercos_block.specs.declared.block.Block.{Block}
 use Rattle.sercos_block.specs.Views.{DriveView}
 use Rattle.sercos_command.specs.Calls.{is_passed}
-use Rattle.sercos_service_drive.specs.Log.{Taken, Entry, record_of}
+use Rattle.sercos_service_drive.specs.Log.{Taken, Entry, taken_record}
 use Rattle.sercos_service_drive.specs.Replies.{log_of}
 use Rattle.sercos_service_drive.specs.Writes.{Write}
 use Rattle.sercos_drive.specs.declared.hearing.Told.{Told}
@@ -34,19 +34,19 @@ abbrev pub processed_in : DriveView → ℕ → Option Told → List Moment → 
 processed_in d rate None past = None
 processed_in d rate (Some told) past =
     if has_mst past && nat_le 2 (phase_in past)
-    then Some (record_of (cycle_in past) (phase_in past) told.control told.info (blocks_in d past) (commands_in d rate past))
+    then Some (taken_record (cycle_in past) (phase_in past) told.control told.info (blocks_in d past) (commands_in d rate past))
     else None
 
 -- the phase after the MDT's place: in phases 3 and 4 the drive goes to 0 after the second cycle in a row without a taken MDT
 abbrev pub ends_in : Option Told → List Moment → ℕ
 ends_in told past = if nat_le 3 (phase_in past) && (not (takes told past) && has_missed past) then 0 else phase_in past
 
-abbrev pub after_mdt : DriveView → ℕ → Option Told → List Moment → Moment
-after_mdt d rate told past = AtMdt (takes told past) (processed_in d rate told past) (ends_in told past)
+abbrev pub mdt_moment : DriveView → ℕ → Option Told → List Moment → Moment
+mdt_moment d rate told past = AtMdt (takes told past) (processed_in d rate told past) (ends_in told past)
 
 abbrev pub moment_of : DriveView → ℕ → DriveCall → List Moment → Moment
 moment_of d rate (Mst cycle content) past = AtMst cycle (is_some (mst_got content)) (stands_in d rate cycle (mst_got content) past)
-moment_of d rate (Mdt content) past = after_mdt d rate (mdt_got d.address (phase_in past) (blocks_in d past) content) past
+moment_of d rate (Mdt content) past = mdt_moment d rate (mdt_got d.address (phase_in past) (blocks_in d past) content) past
 moment_of d rate Restart past = AtRestart
 
 -- the moments of a drive that was opened with this setup, in a ring of this rate

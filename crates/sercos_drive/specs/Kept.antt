@@ -3,7 +3,8 @@ use Rattle.std.specs.Prelude.{◌≡◌, ℕ, ◌^◌, ◌-◌, ◌≤◌, Bool,
 use Rattle.sercos_block.specs.declared.block.Block.{Block}
 use Rattle.sercos_block.specs.Views.{DriveView}
 use Rattle.sercos_command.specs.Settings.{CommandsView}
-use Rattle.sercos_command.specs.Calls.{newest, CommandsStandFor}
+use Rattle.sercos_command.specs.Calls.{newest}
+use Rattle.sercos_command.specs.Kept.{CommandsStandFor}
 use Rattle.sercos_service_drive.specs.Kept.{ChannelView, ChannelStandsFor}
 use Rattle.sercos_drive.specs.Heard.{DriveCall}
 use Rattle.sercos_drive.specs.Moments.{Moment, phase_in, cycle_in, has_mst, has_taken, has_missed, taken_in, writes_in, blocks_in, commands_in, calls_in}

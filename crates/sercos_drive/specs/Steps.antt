@@ -1,8 +1,9 @@
--- What each part of a call leaves, in terms of what the drive keeps.
+-- What each part of a call leaves, in terms of what the drive keeps. For proofs alone.
 use Rattle.std.specs.Prelude.{◌≡◌, ℕ, ◌+◌, ◌≤◌, ◌==◌, nat_le, Bool, not, ◌&&◌, ◌||◌, if◌then◌else◌, List, Option, Some, None}
 use Rattle.sercos_command.specs.Settings.{is_from}
-use Rattle.sercos_command.specs.Calls.{Call, newest, CommandsStandFor}
-use Rattle.sercos_service_drive.specs.Log.{Taken, record_of}
+use Rattle.sercos_command.specs.Calls.{Call, newest}
+use Rattle.sercos_command.specs.Kept.{CommandsStandFor}
+use Rattle.sercos_service_drive.specs.Log.{Taken, taken_record}
 use Rattle.sercos_service_drive.specs.Writes.{Write}
 use Rattle.sercos_service_drive.specs.Kept.{ChannelStandsFor}
 use Rattle.sercos_drive.specs.declared.hearing.Told.{Told}
@@ -25,7 +26,7 @@ pub record IsEntered (v w : DriveState) (phase : ℕ) : Type 0 where
 
 -- the record of an MDT
 abbrev pub record_by : DriveState → Told → Taken
-record_by v told = record_of v.cycle v.phase told.control told.info v.blocks v.commands
+record_by v told = taken_record v.cycle v.phase told.control told.info v.blocks v.commands
 
 abbrev pub processed_by : DriveState → Option Told → Option Taken
 processed_by v None = None

@@ -2,6 +2,7 @@ pub mod KeepsFit
 pub mod FitInThree
 pub mod FitInFour
 pub mod Times
+pub mod Guard
 pub mod Phases
 pub mod Cycles
 pub mod Lists

@@ -1,6 +1,6 @@
 // Laws on what a drive is and does, by what arrived at it.
 ghost use Rattle.sercos_law_run.specs.Stations.Falls.{FallsHaveCause};
-ghost use Rattle.sercos_law_run.specs.Stations.Fit.{EmptyKeepsTimes, FitInThree, FitInFour};
+ghost use Rattle.sercos_law_run.specs.Stations.Fit.{EmptyKeepsTimes, FitInThree, AlwaysLies, FitInFour};
 ghost use Rattle.sercos_law_run.specs.Stations.Lists.{ListsAreFound};
 ghost use Rattle.sercos_law_run.specs.Stations.Phases.{StandsByMst, RisesByOne, DropsByCause};
 ghost use Rattle.sercos_law_run.specs.Stations.Cycles.{AlwaysPlain};
@@ -12,11 +12,13 @@ use sercos_drive::drive_law;
 /// In phases 3 and 4 the check for phase 3 finds nothing in the drive's store, whatever the drive was handed and
 /// whatever was written to it, and in phase 4 no block has operation data outside its limits. A store in which the check finds nothing
 /// keeps these times: T1 is at least T1min; from the end of the drive's AT, as long as it can be, to T2 there is TATMT; T3 lies in the
-/// cycle, and T4 with T4min; the data record lies within the MDT. S-0-0021 and S-0-0022 contain what their check found when it was last
+/// cycle, and T4 with T4min; the data record lies within the MDT, so in phases 3 and 4 a drive gets its record of each MDT that reads.
+/// S-0-0021 and S-0-0022 contain what their check found when it was last
 /// set while it wasn't, and nothing before.
 pub fn fit_law()
     ensures times { EmptyKeepsTimes }
     ensures three { FitInThree }
+    ensures lies { AlwaysLies }
     ensures four { FitInFour }
     ensures lists { ListsAreFound }
 {

@@ -17,7 +17,7 @@ use Rattle.sercos_trace.specs.declared.events.Stop.{Stop}
 use Rattle.sercos_trace.specs.declared.events.Stop.TheVariants as stop
 use Rattle.sercos_seat.specs.Ring.{Known, MemberView, Task, member}
 use Rattle.sercos_seat.specs.Agenda.{reads_count, given, ended_well, is_checked, is_ready, wishes_given, last_long_stop}
-use Rattle.sercos_master.specs.Annals.{all_checked, all_ready, Past, Call, HearMst, HearAt, Mdt, End, Restart, past, outcomes, with_at, after_at_of, is_taken, after_taken, place_of, after_mdt, begins, begun, with_begin, is_sent_to, addressed_in, ready_to_send, settled, with_stop, with_plan, with_due_plan, planned_by, is_plan_due, first_trouble, after_end, fall_of, goes_on, new_epoch, still_waiting, all_read, is_done, is_done_in, first_from}
+use Rattle.sercos_master.specs.Annals.{all_checked, all_ready, Past, Call, HearMst, HearAt, Mdt, End, Restart, past, outcomes, with_at, after_at_of, is_taken, after_taken, place_of, after_mdt, begins, begun, with_begin, is_sent_to, addressed_in, ready_to_send, settled, with_stop, with_plan, with_due_plan, planned_by, is_plan_due, first_trouble, after_end, fall_of, goes_on, new_epoch, still_waiting, all_read, is_done, is_done_in, first_from, hearing}
 use Rattle.sercos_seat.specs.Channel.{outcomes_in, with_outcome}
 use Rattle.sercos_seat.proofs.Channels.{Heard, heard}
 use Rattle.sercos_seat.proofs.Seats.{before_end, behind_end}
@@ -115,7 +115,7 @@ Adds p q = (j : ℕ) → (o : Option Outcome) × (outcomes q j ≡ with_outcome 
 pub at_adds : (i : ℕ) (content : List ℕ) (p : Past) → Adds p (after_taken i content p)
 at_adds i content p j = by (cases_eq j i)
   where
-    one : (identifies : Bool) → (o : Option Outcome) × (outcomes_in (begun_by (if identifies then p.calls j else channel.Hear (status_of (word_at content 1)) (word_at content 3) ∷ p.calls j)) ≡ with_outcome o (outcomes p j))
+    one : (identifies : Bool) → (o : Option Outcome) × (outcomes_in (begun_by (hearing identifies j content p).calls) ≡ with_outcome o (outcomes p j))
     one true = (None, refl)
     one false =
         let h : Heard (p.calls j) (status_of (word_at content 1)) (word_at content 3) (outcome_at (p.calls j) (status_of (word_at content 1)) (word_at content 3)) = heard (p.calls j) (status_of (word_at content 1)) (word_at content 3) _ refl in
@@ -123,7 +123,7 @@ at_adds i content p j = by (cases_eq j i)
 
     by : (j ≡ i) ⊎ (j ≡ i → ⊥) → (o : Option Outcome) × (outcomes (after_taken i content p) j ≡ with_outcome o (outcomes p j))
     by (inl is) =
-        subst (λ n. (o : Option Outcome) × (outcomes_in (begun_by (with_at n (if p.now.phase == 1 then p.calls n else channel.Hear (status_of (word_at content 1)) (word_at content 3) ∷ p.calls n) p.calls j)) ≡ with_outcome o (outcomes p j))) is
+        subst (λ n. (o : Option Outcome) × (outcomes_in (begun_by (with_at n (hearing (p.now.phase == 1) n content p).calls p.calls j)) ≡ with_outcome o (outcomes p j))) is
         (let t : (j == j) ≡ true = grind (arith, nat_tests) in rw t (one (p.now.phase == 1)))
     by (inr n) = (None, let f : (j == i) ≡ false = grind (arith, nat_tests, n) in rw f refl)
 

@@ -29,7 +29,7 @@ use Rattle.sercos_seat.specs.Agenda.{agenda, reads, reads_count, writes, is_chec
 use Rattle.sercos_seat.specs.Channel.{with_outcome, outcomes_in, last_outcome, trouble_by, of_phase}
 use Rattle.sercos_seat.proofs.Gets.{get_map, get_left, get_right, get_none, length_map, length_append}
 use Rattle.sercos_seat.proofs.Agendas.{reads_length, ended_there}
-use Rattle.sercos_master.specs.Annals.{Call, HearMst, HearAt, Mdt, End, Restart, Past, past, outcomes, all_checked, with_at, is_idle, is_taken, after_taken, after_at_of, place_of, trouble, first_trouble, first_trouble_from, with_stop, is_plan_due, with_plan, planned_by, with_due_plan, settled, has_turn, next_task, with_task, with_begin, begun, ready_to_send, is_sent_to, addressed_in, after_mdt, fall_of, next_phase, goes_on, new_epoch, still_waiting}
+use Rattle.sercos_master.specs.Annals.{Call, HearMst, HearAt, Mdt, End, Restart, Past, past, outcomes, all_checked, with_at, is_idle, is_taken, after_taken, after_at_of, place_of, trouble, first_trouble, first_trouble_from, with_stop, is_plan_due, with_plan, planned_by, with_due_plan, settled, has_turn, next_task, with_task, with_begin, begun, ready_to_send, is_sent_to, addressed_in, after_mdt, fall_of, next_phase, goes_on, new_epoch, still_waiting, hearing}
 use Rattle.sercos_master.specs.Kept.{CoreView, IsIn}
 use Rattle.sercos_master.specs.Written.{IsWritten, AreWritten, HoldsPlan}
 use Rattle.sercos_master.proofs.Configured.{Leaves, each_passes, leaves}
@@ -95,13 +95,13 @@ at_follows : (s : Known) (place : Option ℕ) (content : List ℕ) (p : Past) (k
 at_follows s None content p k all = all
 at_follows s (Some i) content p k all = by (is_taken s p i content)
   where
-    one : (identifies : Bool) → AllFollow s k p.plan (p.waiting k) (begun_by (if identifies then p.calls k else Hear (status_of (word_at content 1)) (word_at content 3) ∷ p.calls k)) (p.tasks k)
+    one : (identifies : Bool) → AllFollow s k p.plan (p.waiting k) (begun_by (hearing identifies k content p).calls) (p.tasks k)
     one true = all
     one false = hears s k p.plan (p.waiting k) (status_of (word_at content 1)) (word_at content 3) (p.calls k) (p.tasks k) all
 
     here : Followed s (after_taken i content p) k
     here = elim (cases_eq k i) [
-      | inl is ↦ subst (λ n. AllFollow s k p.plan (p.waiting k) (begun_by (with_at n (if p.now.phase == 1 then p.calls n else Hear (status_of (word_at content 1)) (word_at content 3) ∷ p.calls n) p.calls k)) (p.tasks k)) is
+      | inl is ↦ subst (λ n. AllFollow s k p.plan (p.waiting k) (begun_by (with_at n (hearing (p.now.phase == 1) n content p).calls p.calls k)) (p.tasks k)) is
           (let t : (k == k) ≡ true = grind (arith, nat_tests) in rw t (one (p.now.phase == 1)))
       | inr n ↦ let f : (k == i) ≡ false = grind (arith, nat_tests, n) in rw f all
     ]

@@ -17,7 +17,7 @@ use Rattle.sercos_seat.proofs.Lengths.{at_len_same}
 use Rattle.sercos_seat.specs.Agenda.{at_len}
 use Rattle.sercos_master.specs.Annals.{Past, first_from, is_awaited, wanted_len, is_taken, place_of, after_taken, after_at_of, outcomes}
 use Rattle.sercos_seat.specs.Channel.{is_place}
-use Rattle.sercos_seat.specs.Seats.{Seen, SeatView, SeatStandsFor, taken_in, at_in, at_len_kept}
+use Rattle.sercos_seat.specs.Seats.{Seen, SeatView, SeatStandsFor, seen_with_status, at_in, at_len_kept}
 use Rattle.sercos_master.specs.Reports.{stop_told}
 use Rattle.sercos_master.specs.Kept.{SeatsStandFor, CoreView, CoreStandsFor, seen_at}
 
@@ -44,11 +44,11 @@ other_place i k n = grind (arith, nat_tests, n)
 
 -- what is seen where an AT is taken, and elsewhere
 pub seen_there : (k : ℕ) (content : List ℕ) (p : Past) →
-    seen_at (after_taken k content p) k ≡ taken_in (p.now.phase == 1) (status_of (word_at content 1)) (word_at content 3) (seen_at p k)
+    seen_at (after_taken k content p) k ≡ seen_with_status (p.now.phase == 1) (status_of (word_at content 1)) (word_at content 3) (seen_at p k)
 seen_there k content p = by (p.now.phase == 1) refl
   where
     by : (one : Bool) → (p.now.phase == 1) ≡ one →
-        seen_at (after_taken k content p) k ≡ taken_in (p.now.phase == 1) (status_of (word_at content 1)) (word_at content 3) (seen_at p k)
+        seen_at (after_taken k content p) k ≡ seen_with_status (p.now.phase == 1) (status_of (word_at content 1)) (word_at content 3) (seen_at p k)
     by true e = rw (e, same_place k) refl
     by false e = rw (e, same_place k) refl
 

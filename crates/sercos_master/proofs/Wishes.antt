@@ -10,8 +10,8 @@ use Rattle.sercos_timing.specs.Order.{no_wish, record_bytes}
 use Rattle.sercos_timing.specs.Valid.{IsValid, AreDistinct}
 use Rattle.sercos_trace.specs.declared.events.Stop.{Stop}
 use Rattle.sercos_seat.specs.Ring.{Known, IsKnown, MemberView, member, no_member}
-use Rattle.sercos_seat.specs.Agenda.{last_long_stop, long_stop, wishes_from, wishes_given, last_long, mdt_attributes, words_given, wish_given}
-use Rattle.sercos_seat.specs.Seats.{Seen, outcomes_seen}
+use Rattle.sercos_seat.specs.Agenda.{wishes_from, wishes_given, mdt_attributes, words_given, wish_given}
+use Rattle.sercos_seat.specs.Seats.{last_long_from, long_stop, last_long, Seen, outcomes_seen}
 use Rattle.sercos_seat.proofs.Lengths.{drop_at, drop_all, get_there, lens}
 
 -- THE WISHES OF THE RING
@@ -75,24 +75,24 @@ fits_mdt w v = let e : record_bytes w.drives ≤ 2047 = v.drives.mdt_len in grin
 
 -- THE LAST LONG STOP OF THE RING
 pub stop_more : (s : Known) (outs : ℕ → List Outcome) (n m : ℕ) → n < length s.drives → m ≡ n + 1 → long_stop (member s n).address (last_long (member s n).mdt (mdt_attributes (member s n) (outs n))) ≡ None →
-    last_long_stop (drop m s.drives) m outs ≡ None → last_long_stop (drop n s.drives) n outs ≡ None
+    last_long_from (drop m s.drives) m outs ≡ None → last_long_from (drop n s.drives) n outs ≡ None
 stop_more s outs n m h e short none =
     rw (drop_at n s.drives (member s n) (get_there s.drives n no_member h), ← e, none, short) refl
 
-stop_passes : (n k : ℕ) (drives : List MemberView) (outs : ℕ → List Outcome) (x : Stop) → last_long_stop (drop n drives) (k + n) outs ≡ Some x → last_long_stop drives k outs ≡ Some x
+stop_passes : (n k : ℕ) (drives : List MemberView) (outs : ℕ → List Outcome) (x : Stop) → last_long_from (drop n drives) (k + n) outs ≡ Some x → last_long_from drives k outs ≡ Some x
 stop_passes zero k drives outs x e = let f : k + 0 ≡ k = omega arith in rw f at e
 stop_passes (suc n) k [] outs x e = absurd (cc)
 stop_passes (suc n) k (d ∷ drives) outs x e =
     let f : k + suc n ≡ k + 1 + n = omega arith in
-    let g : last_long_stop drives (k + 1) outs ≡ Some x = stop_passes n (k + 1) drives outs x (rw f at e) in
+    let g : last_long_from drives (k + 1) outs ≡ Some x = stop_passes n (k + 1) drives outs x (rw f at e) in
     rw g refl
 
 pub stop_there : (s : Known) (outs : ℕ → List Outcome) (n m : ℕ) (x : Stop) → n < length s.drives → m ≡ n + 1 → long_stop (member s n).address (last_long (member s n).mdt (mdt_attributes (member s n) (outs n))) ≡ Some x →
-    last_long_stop (drop m s.drives) m outs ≡ None → last_long_stop s.drives 0 outs ≡ Some x
+    last_long_from (drop m s.drives) m outs ≡ None → last_long_from s.drives 0 outs ≡ Some x
 stop_there s outs n m x h e long none =
     let z : 0 + n ≡ n = omega arith in stop_passes n 0 s.drives outs x (rw z (rw (drop_at n s.drives (member s n) (get_there s.drives n no_member h), ← e, none) long))
 
-pub stop_none : (s : Known) (outs : ℕ → List Outcome) (n : ℕ) → length s.drives ≤ n → last_long_stop (drop n s.drives) n outs ≡ None
+pub stop_none : (s : Known) (outs : ℕ → List Outcome) (n : ℕ) → length s.drives ≤ n → last_long_from (drop n s.drives) n outs ≡ None
 stop_none s outs n h = rw (drop_all n s.drives h) refl
 
 pub push_room : (wishes : List Wish) (n : ℕ) (w : Wish) → length wishes ≡ min n 64 → n < 64 → (if nat_lt (length wishes) 64 then wishes ++ w ∷ [] else wishes) ≡ wishes ++ w ∷ []

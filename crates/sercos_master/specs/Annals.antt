@@ -130,22 +130,34 @@ wanted_len s p k = if nat_le 3 p.now.phase then at_len (member s k) (outcomes p 
 abbrev pub is_taken : Known → Past → ℕ → List ℕ → Bool
 is_taken s p k content = is_awaited p k && (not (p.now.heard k) && is_none (at_fault (member s k).address (wanted_len s p k) content))
 
--- Its status is passed to the channel, and an outcome of a request is to be reported. In phase 1 the AT alone counts.
-abbrev pub calls_with : Bool → ℕ → List ℕ → Past → List channel.Call
-calls_with identifies k content p = if identifies then p.calls k else Hear (status_of (word_at content 1)) (word_at content 3) ∷ p.calls k
+-- What it leaves: the calls on the drive's channel, and the request to be reported.
+pub record Hearing : Type 0 where
+  pub calls : List channel.Call
+  pub report : Option Report
 
-abbrev pub report_with : Bool → ℕ → List ℕ → Past → Option Report
-report_with identifies k content p =
-    if identifies then p.now.report k
-    else option_or (report_of (outcome_at (p.calls k) (status_of (word_at content 1)) (word_at content 3)) (number_in (p.tasks k))) (p.now.report k)
+-- In phase 1 the AT alone counts: the drive is identified.
+abbrev pub identified : ℕ → Past → Hearing
+identified k p = record { calls = p.calls k; report = p.now.report k }
+
+-- In later phases its status is passed to the channel, and if that ends a request, its outcome is to be reported.
+abbrev pub heard_from : ℕ → List ℕ → Past → Hearing
+heard_from k content p = record {
+  calls = Hear (status_of (word_at content 1)) (word_at content 3) ∷ p.calls k;
+  report =
+      option_or (report_of (outcome_at (p.calls k) (status_of (word_at content 1)) (word_at content 3)) (number_in (p.tasks k)))
+      (p.now.report k);
+}
+
+abbrev pub hearing : Bool → ℕ → List ℕ → Past → Hearing
+hearing identifies k content p = if identifies then identified k p else heard_from k content p
 
 abbrev pub after_taken : ℕ → List ℕ → Past → Past
 after_taken k content p = record p {
   now = record p.now {
     heard = with_at k true p.now.heard;
-    report = with_at k (report_with (p.now.phase == 1) k content p) p.now.report;
+    report = with_at k (hearing (p.now.phase == 1) k content p).report p.now.report;
   };
-  calls = with_at k (calls_with (p.now.phase == 1) k content p) p.calls;
+  calls = with_at k (hearing (p.now.phase == 1) k content p).calls p.calls;
 }
 
 abbrev pub after_at_of : Known → Option ℕ → List ℕ → Past → Past

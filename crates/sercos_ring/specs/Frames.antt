@@ -1,4 +1,4 @@
--- What is kept of the frame of a telegram, which a station sends in a cycle.
+-- What is kept of the frame of a telegram, which a station sends in a cycle. For proofs alone.
 use Rattle.std.specs.Prelude.{◌≡◌, ℕ, ◌≤◌, true, false, List, length, Some}
 use Rattle.sercos_hdlc.specs.Stuffed.{frame_of}
 use Rattle.sercos_telegram.specs.declared.layout.Kind.{Kind}

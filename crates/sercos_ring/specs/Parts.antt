@@ -1,4 +1,4 @@
--- What the parts of a ring stand for, together.
+-- What the parts of a ring stand for, together. For proofs alone.
 use Rattle.std.specs.Prelude.{◌≡◌, ℕ, List, length, true}
 use Rattle.sercos_step.specs.declared.request.Job.{Job}
 use Rattle.sercos_block.specs.Views.{RingView}

@@ -1,4 +1,4 @@
--- How the telegrams of a cycle pass: their entries in the record, and their effect.
+-- How the telegrams of a cycle pass: their entries in the record, and their effect. For proofs alone.
 use Rattle.std.specs.Prelude.{◌≡◌, ℕ, ◌+◌, ◌<◌, length, slice_index, slice_index_or, List, [], ◌∷◌, ◌++◌, Option, Some, None}
 use Rattle.sercos_step.specs.declared.request.Job.{Job}
 use Rattle.sercos_block.specs.Views.{DriveView, RingView}

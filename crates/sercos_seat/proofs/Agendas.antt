@@ -1,6 +1,6 @@
 -- The next task of a channel, by what is kept.
 use Rattle.std.proofs.Common.{◌≡◌, ℕ, zero, suc, ◌+◌, ◌-◌, ◌<◌, ◌≤◌, ◌==◌, Bool, true, false, List, [], ◌∷◌, ◌++◌, Option, Some, None, length, ap, refl, sym, ◌∙◌, arith, if◌then◌else◌}
-use Rattle.std.specs.Prelude.{min, map, slice_get, option_map, unwrap_or, is_some, nat_lt, not, ◌&&◌}
+use Rattle.std.specs.Prelude.{min, map, slice_get, option_map, is_some, nat_lt, not, ◌&&◌}
 use Rattle.std.proofs.lemmas.Bool.{false≢true}
 use Rattle.std.proofs.lemmas.Bool.Decides.{nat_tests}
 use Rattle.sercos_step.specs.declared.request.Outcome.{Outcome}
@@ -8,7 +8,7 @@ use Rattle.sercos_step.specs.declared.request.Request.{Request}
 use Rattle.sercos_step.specs.declared.request.Request.TheVariants as request
 use Rattle.sercos_timing.specs.Views.{PlanView}
 use Rattle.sercos_seat.specs.Ring.{Known, MemberView, Task, member, startup}
-use Rattle.sercos_seat.specs.Agenda.{agenda, checking, reads, reads_count, writes, idn, bytes_of, ended_well, given, is_checked, is_ready}
+use Rattle.sercos_seat.specs.Agenda.{after_reads, agenda, checking, reads, reads_count, writes, idn, bytes_of, ended_well, given, is_checked, is_ready}
 use Rattle.sercos_seat.specs.Channel.{of_phase}
 use Rattle.sercos_seat.specs.Seats.{AreWaiting, Seen, SeatView, SeatStandsFor, is_idle_in, outcomes_seen, next_write, next_in_2, next_in_3}
 use Rattle.sercos_seat.proofs.Gets.{get_map, get_left, get_right, get_none, length_map, length_append}
@@ -19,28 +19,20 @@ reads_length d =
     let f : length (d.at ++ d.mdt) ≡ length d.at + length d.mdt = length_append d.at d.mdt in
     omega (arith, e, f)
 
--- all that comes after the reads
-abbrev behind_reads : Known → Option PlanView → List Task → ℕ → List Outcome → List Task
-behind_reads s plan waiting k outcomes =
-    unwrap_or (option_map (λ p.
-    map (startup 2) (writes s p k) ++
-    checking 2 127 21 (slice_get outcomes (reads_count (member s k) + 11))
-    (checking 3 128 22 (slice_get outcomes (reads_count (member s k) + 12)) waiting)) plan) []
-
 -- while reads are left, the next is a read
 pub next_read : (s : Known) (plan : Option PlanView) (waiting : List Task) (k : ℕ) (outcomes : List Outcome) (i : ℕ) → i < reads_count (member s k) →
     slice_get (agenda s plan waiting k outcomes) i ≡ option_map (startup 2) (slice_get (reads (member s k)) i)
 next_read s plan waiting k outcomes i h =
     let l : length (map (startup 2) (reads (member s k))) ≡ reads_count (member s k) = length_map (startup 2) (reads (member s k)) ∙ reads_length (member s k) in
-    get_left (map (startup 2) (reads (member s k))) (behind_reads s plan waiting k outcomes) i (rw l h)
+    get_left (map (startup 2) (reads (member s k))) (after_reads s plan waiting k outcomes) i (rw l h)
     ∙ get_map (startup 2) (reads (member s k)) i
 
 -- after them it is one of those that come after
 pub next_behind : (s : Known) (plan : Option PlanView) (waiting : List Task) (k : ℕ) (outcomes : List Outcome) (i j : ℕ) → i ≡ reads_count (member s k) + j →
-    slice_get (agenda s plan waiting k outcomes) i ≡ slice_get (behind_reads s plan waiting k outcomes) j
+    slice_get (agenda s plan waiting k outcomes) i ≡ slice_get (after_reads s plan waiting k outcomes) j
 next_behind s plan waiting k outcomes i j e =
     let l : length (map (startup 2) (reads (member s k))) ≡ reads_count (member s k) = length_map (startup 2) (reads (member s k)) ∙ reads_length (member s k) in
-    get_right (map (startup 2) (reads (member s k))) (behind_reads s plan waiting k outcomes) i j (rw l e)
+    get_right (map (startup 2) (reads (member s k))) (after_reads s plan waiting k outcomes) i j (rw l e)
 
 -- what `of_phase` keeps
 abbrev requests_of : ℕ → Option Task → Option Task

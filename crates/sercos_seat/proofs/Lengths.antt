@@ -5,8 +5,8 @@ use Rattle.std.specs.List.{fold}
 use Rattle.std.proofs.lemmas.Bool.Decides.{nat_tests}
 use Rattle.sercos_seat.specs.Ring.{MemberView}
 use Rattle.sercos_step.specs.declared.request.Outcome.{Outcome}
-use Rattle.sercos_seat.specs.Agenda.{at_len, record_len, len_or_none, words_given, reads_count, last_long, mdt_attributes, short_in, given}
-use Rattle.sercos_seat.specs.Seats.{Seen, SeatView, SeatStandsFor, at_len_kept, record_len_kept, len_of_words, words_of, outcomes_seen, long_of, low_at, mdt_words_kept}
+use Rattle.sercos_seat.specs.Agenda.{at_len, record_len, len_or_none, words_given, reads_count, mdt_attributes, short_in, given}
+use Rattle.sercos_seat.specs.Seats.{last_long, Seen, SeatView, SeatStandsFor, at_len_kept, record_len_kept, len_of_words, result_words, outcomes_seen, long_of, low_at, mdt_words_kept}
 use Rattle.sercos_idn.specs.declared.idn.Idn.{Idn}
 use Rattle.sercos_idn.specs.declared.attribute.Attribute.{Attribute}
 use Rattle.sercos_idn.specs.declared.kinds.Length.{Length}
@@ -33,13 +33,13 @@ part_of_part (x ∷ xs) (suc from) count zero h = absurd (omega (arith, h))
 part_of_part (x ∷ xs) (suc from) count (suc all) h = part_of_part xs from count all (omega (arith, h))
 
 -- the lengths by what is kept are those by the outcomes
-folds : (all : List Outcome) (n count : ℕ) → fold (λ a w. a + len_of_words w) n (take count (map words_of all)) ≡ fold (λ a w. a + len_or_none w) n (take count (words_given all))
+folds : (all : List Outcome) (n count : ℕ) → fold (λ a w. a + len_of_words w) n (take count (map result_words all)) ≡ fold (λ a w. a + len_or_none w) n (take count (words_given all))
 folds [] n zero = refl
 folds [] n (suc count) = refl
 folds (o ∷ all) n zero = refl
-folds (o ∷ all) n (suc count) = folds all (n + len_of_words (words_of o)) count
+folds (o ∷ all) n (suc count) = folds all (n + len_of_words (result_words o)) count
 
-sums : (all : List Outcome) (from count : ℕ) → sum_by len_of_words (take count (drop from (map words_of all))) ≡ sum_by len_or_none (take count (drop from (words_given all)))
+sums : (all : List Outcome) (from count : ℕ) → sum_by len_of_words (take count (drop from (map result_words all))) ≡ sum_by len_or_none (take count (drop from (words_given all)))
 sums all zero count = folds all 0 count
 sums [] (suc from) zero = refl
 sums [] (suc from) (suc count) = refl
@@ -47,12 +47,12 @@ sums (o ∷ all) (suc from) count = sums all from count
 
 pub at_len_same : (v : SeatView) (d : MemberView) (x : Seen) → SeatStandsFor v d x → at_len_kept v ≡ at_len d (outcomes_seen x)
 at_len_same v d x c =
-    rw (c.member_is, c.given_is, part_of_part (map words_of (outcomes_seen x)) 6 (length d.at) (reads_count d) (omega arith))
+    rw (c.member_is, c.given_is, part_of_part (map result_words (outcomes_seen x)) 6 (length d.at) (reads_count d) (omega arith))
     (ap (λ n. 4 + n) (sums (outcomes_seen x) 6 (length d.at)))
 
 pub record_len_same : (v : SeatView) (d : MemberView) (x : Seen) → SeatStandsFor v d x → record_len_kept v ≡ record_len d (outcomes_seen x)
 record_len_same v d x c =
-    rw (c.member_is, c.given_is, part_of_part (map words_of (outcomes_seen x)) (6 + length d.at) (length d.mdt) (reads_count d) (omega arith))
+    rw (c.member_is, c.given_is, part_of_part (map result_words (outcomes_seen x)) (6 + length d.at) (length d.mdt) (reads_count d) (omega arith))
     (ap (λ n. 4 + n) (sums (outcomes_seen x) (6 + length d.at) (length d.mdt)))
 
 -- THE LAST LONG ONE
@@ -101,7 +101,7 @@ pub one_long : (idns : List Idn) (words : List ℕ) (n m : ℕ) (i : Idn) (w : �
 one_long idns words n m i w e f g long none = passes n idns words (i, w) (rw (drop_at n idns i e, drop_at n words w f, ← g, none, long) refl)
 
 -- THE WISH OF A DRIVE
-low_same : (outcomes : List Outcome) (reads i : ℕ) → i < reads → low_at (take reads (map words_of outcomes)) i ≡ short_in (given outcomes i)
+low_same : (outcomes : List Outcome) (reads i : ℕ) → i < reads → low_at (take reads (map result_words outcomes)) i ≡ short_in (given outcomes i)
 low_same [] zero i h = absurd (omega (arith, h))
 low_same [] (suc reads) i h = refl
 low_same (o ∷ outcomes) zero i h = absurd (omega (arith, h))
@@ -111,17 +111,17 @@ low_same (o ∷ outcomes) (suc reads) (suc i) h = low_same outcomes reads i (ome
 pub lows : (v : SeatView) (d : MemberView) (x : Seen) (i : ℕ) → SeatStandsFor v d x → i < 6 → low_at v.given i ≡ short_in (given (outcomes_seen x) i)
 lows v d x i s h = rw s.given_is (low_same (outcomes_seen x) (reads_count d) i (omega (arith, h)))
 
-longs : (outcomes : List Outcome) (from count : ℕ) → map long_of (take count (drop from (map words_of outcomes))) ≡ take count (drop from (words_given outcomes))
+longs : (outcomes : List Outcome) (from count : ℕ) → map long_of (take count (drop from (map result_words outcomes))) ≡ take count (drop from (words_given outcomes))
 longs outcomes zero zero = refl
 longs [] zero (suc count) = refl
-longs (o ∷ outcomes) zero (suc count) = ap (λ ws. long_of (words_of o) ∷ ws) (longs outcomes zero count)
+longs (o ∷ outcomes) zero (suc count) = ap (λ ws. long_of (result_words o) ∷ ws) (longs outcomes zero count)
 longs [] (suc from) zero = refl
 longs [] (suc from) (suc count) = refl
 longs (o ∷ outcomes) (suc from) count = longs outcomes from count
 
 pub attributes_same : (v : SeatView) (d : MemberView) (x : Seen) → SeatStandsFor v d x → map long_of (mdt_words_kept v) ≡ mdt_attributes d (outcomes_seen x)
 attributes_same v d x c =
-    rw (c.member_is, c.given_is, part_of_part (map words_of (outcomes_seen x)) (6 + length d.at) (length d.mdt) (reads_count d) (omega arith))
+    rw (c.member_is, c.given_is, part_of_part (map result_words (outcomes_seen x)) (6 + length d.at) (length d.mdt) (reads_count d) (omega arith))
     (longs (outcomes_seen x) (6 + length d.at) (length d.mdt))
 
 pub get_there : {A : Type 0} (xs : List A) (k : ℕ) (d : A) → k < length xs → slice_get xs k ≡ Some (slice_index_or xs k d)

@@ -6,3 +6,4 @@ pub mod Agendas
 pub mod Queues
 pub mod Lengths
 pub mod Sends
+pub mod Longs

@@ -12,7 +12,7 @@ use Rattle.sercos_seat.specs.declared.answers.Asked.{Asked}
 use Rattle.sercos_seat.specs.Ring.{MemberView, Task}
 use Rattle.sercos_seat.specs.Agenda.{bytes_of, given, reads_count, ended_well, stop_of_task}
 use Rattle.sercos_seat.specs.Channel.{last_outcome, trouble_by, number_in, report_of, Report}
-use Rattle.sercos_seat.specs.Seats.{IsQueue, Seen, SeatView, SeatStandsFor, IsAsked, words_of, heard_in, after_outcome, kept_given, kept_report, pair_of, outcomes_seen, is_idle_in}
+use Rattle.sercos_seat.specs.Seats.{IsQueue, Seen, SeatView, SeatStandsFor, IsAsked, result_words, heard_in, after_outcome, kept_given, kept_report, pair_of, outcomes_seen, is_idle_in}
 use Rattle.sercos_seat.proofs.Channels.{Heard, heard}
 
 -- one outcome more
@@ -23,11 +23,11 @@ length_more (y ∷ xs) x = let e : length (xs ++ x ∷ []) ≡ length xs + 1 = l
 done_more : (done : ℕ) (outcomes : List Outcome) (o : Outcome) → done ≡ min (length outcomes) 100 → min (done + 1) 100 ≡ min (length (outcomes ++ o ∷ [])) 100
 done_more done outcomes o e = let l : length (outcomes ++ o ∷ []) ≡ length outcomes + 1 = length_more outcomes o in rw (e, l) (omega arith)
 
-map_more : (outcomes : List Outcome) (o : Outcome) → map words_of (outcomes ++ o ∷ []) ≡ map words_of outcomes ++ words_of o ∷ []
+map_more : (outcomes : List Outcome) (o : Outcome) → map result_words (outcomes ++ o ∷ []) ≡ map result_words outcomes ++ result_words o ∷ []
 map_more [] o = refl
-map_more (x ∷ outcomes) o = ap (λ ws. words_of x ∷ ws) (map_more outcomes o)
+map_more (x ∷ outcomes) o = ap (λ ws. result_words x ∷ ws) (map_more outcomes o)
 
-length_map : (outcomes : List Outcome) → length (map words_of outcomes) ≡ length outcomes
+length_map : (outcomes : List Outcome) → length (map result_words outcomes) ≡ length outcomes
 length_map [] = refl
 length_map (x ∷ outcomes) = ap (λ n. suc n) (length_map outcomes)
 
@@ -55,20 +55,20 @@ length_take (y ∷ xs) (suc n) h = ap (λ k. suc k) (length_take xs n (omega (ar
 
 -- what is kept of the reads
 given_more : (reads done : ℕ) (outcomes : List Outcome) (o : Outcome) → reads ≤ 38 → done ≡ min (length outcomes) 100 →
-    kept_given reads done (take reads (map words_of outcomes)) (bytes_of o) ≡ take reads (map words_of (outcomes ++ o ∷ []))
+    kept_given reads done (take reads (map result_words outcomes)) (bytes_of o) ≡ take reads (map result_words (outcomes ++ o ∷ []))
 given_more reads done outcomes o few is = by (nat_lt done reads) refl
   where
-    by : (below : Bool) → nat_lt done reads ≡ below → kept_given reads done (take reads (map words_of outcomes)) (bytes_of o) ≡ take reads (map words_of (outcomes ++ o ∷ []))
+    by : (below : Bool) → nat_lt done reads ≡ below → kept_given reads done (take reads (map result_words outcomes)) (bytes_of o) ≡ take reads (map result_words (outcomes ++ o ∷ []))
     by false e =
-        let l : length (map words_of outcomes) ≡ length outcomes = length_map outcomes in
-        let long : reads ≤ length (map words_of outcomes) = grind (arith, nat_tests, e, is, l, few) in
-        rw (e, map_more outcomes o, take_long (map words_of outcomes) (words_of o) reads long) refl
+        let l : length (map result_words outcomes) ≡ length outcomes = length_map outcomes in
+        let long : reads ≤ length (map result_words outcomes) = grind (arith, nat_tests, e, is, l, few) in
+        rw (e, map_more outcomes o, take_long (map result_words outcomes) (result_words o) reads long) refl
     by true e =
-        let l : length (map words_of outcomes) ≡ length outcomes = length_map outcomes in
-        let short : length (map words_of outcomes) < reads = grind (arith, nat_tests, e, is, l, few) in
-        let t : length (take reads (map words_of outcomes)) ≡ length (map words_of outcomes) = length_take (map words_of outcomes) reads short in
-        let room : nat_lt (length (take reads (map words_of outcomes))) 38 ≡ true = grind (arith, nat_tests, t, short, few) in
-        rw (e, room, map_more outcomes o, take_short (map words_of outcomes) (words_of o) reads short) refl
+        let l : length (map result_words outcomes) ≡ length outcomes = length_map outcomes in
+        let short : length (map result_words outcomes) < reads = grind (arith, nat_tests, e, is, l, few) in
+        let t : length (take reads (map result_words outcomes)) ≡ length (map result_words outcomes) = length_take (map result_words outcomes) reads short in
+        let room : nat_lt (length (take reads (map result_words outcomes))) 38 ≡ true = grind (arith, nat_tests, t, short, few) in
+        rw (e, room, map_more outcomes o, take_short (map result_words outcomes) (result_words o) reads short) refl
 
 -- what stands at a place of a list with one more
 at_end : (outcomes : List Outcome) (o : Outcome) (i : ℕ) → i ≡ length outcomes → given (outcomes ++ o ∷ []) i ≡ bytes_of o

@@ -1,6 +1,7 @@
 -- The tasks of each channel in an epoch, as far as the outcomes so far determine them, and the values in the outcomes.
 -- Outcomes are oldest first.
 use Rattle.std.specs.Prelude.{ℕ, ◌+◌, ◌*◌, ◌==◌, nat_le, Bool, false, ◌&&◌, if◌then◌else◌, List, [], ◌∷◌, ◌++◌, length, map, take, drop, sum_by, Option, Some, None, is_none, is_some, option_map, option_and_then, unwrap_or, slice_get, slice_index}
+use Rattle.std.specs.List.{filter, last_or}
 use Rattle.sercos_idn.specs.Elements.{attribute_element, data_element}
 use Rattle.sercos_idn.specs.declared.idn.Idn.{Idn}
 use Rattle.sercos_step.specs.declared.request.Request.{Request}
@@ -76,25 +77,35 @@ checking phase command list None next = startup phase (request.Command (idn comm
 checking phase command list (Some o) next =
     startup phase (request.Command (idn command)) ∷ (if ended_well (bytes_of o) then next else startup phase (request.Read (idn list) data_element) ∷ [])
 
--- All tasks of the channel to the drive at place k: the reads of phase 2; if there is a plan, its writes and the check for
--- phase 3; in phase 3 the check for phase 4; then the requests that wait.
-abbrev pub agenda : Known → Option PlanView → List Task → ℕ → List Outcome → List Task
-agenda s plan waiting k outcomes =
-    map (startup 2) (reads (member s k)) ++
-    (unwrap_or (option_map (λ p.
+-- The places of the two checks among the tasks: that for phase 3 comes after the reads and the eleven writes, that for phase 4 next.
+abbrev pub place_of_check_3 : MemberView → ℕ
+place_of_check_3 d = reads_count d + 11
+
+abbrev pub place_of_check_4 : MemberView → ℕ
+place_of_check_4 d = reads_count d + 12
+
+-- What follows the reads: nothing before there is a plan; then its writes and the check for phase 3; in phase 3 the check for phase 4;
+-- then the requests that wait.
+abbrev pub after_reads : Known → Option PlanView → List Task → ℕ → List Outcome → List Task
+after_reads s None waiting k outcomes = []
+after_reads s (Some p) waiting k outcomes =
     map (startup 2) (writes s p k) ++
-    checking 2 127 21 (slice_get outcomes (reads_count (member s k) + 11))
-    (checking 3 128 22 (slice_get outcomes (reads_count (member s k) + 12)) waiting)) plan) [])
+    checking 2 127 21 (slice_get outcomes (place_of_check_3 (member s k)))
+    (checking 3 128 22 (slice_get outcomes (place_of_check_4 (member s k))) waiting)
+
+-- All tasks of the channel to the drive at place k, from the reads of phase 2 on.
+abbrev pub agenda : Known → Option PlanView → List Task → ℕ → List Outcome → List Task
+agenda s plan waiting k outcomes = map (startup 2) (reads (member s k)) ++ after_reads s plan waiting k outcomes
 
 -- whether all reads have ended; whether the check for phase 3 has ended well; whether the check for phase 4 has too
 abbrev pub is_read : MemberView → List Outcome → Bool
 is_read d outcomes = nat_le (reads_count d) (length outcomes)
 
 abbrev pub is_checked : MemberView → List Outcome → Bool
-is_checked d outcomes = ended_well (given outcomes (reads_count d + 11))
+is_checked d outcomes = ended_well (given outcomes (place_of_check_3 d))
 
 abbrev pub is_ready : MemberView → List Outcome → Bool
-is_ready d outcomes = is_checked d outcomes && ended_well (given outcomes (reads_count d + 12))
+is_ready d outcomes = is_checked d outcomes && ended_well (given outcomes (place_of_check_4 d))
 
 -- The attributes that were read, as words, and how many bytes each adds to a telegram: two or four if it is that of a number,
 -- and none otherwise.
@@ -192,18 +203,27 @@ stop_by address asked outcome.Broken = None
 abbrev pub stop_of_task : ℕ → Option ℕ → Asked → Outcome → Option Stop
 stop_of_task address number asked o = if is_some number then None else stop_by address asked o
 
--- If the data records are longer than an MDT, the last entry in ring order that was read as one of four bytes is bad.
-abbrev pub last_long : List Idn → List ℕ → Option (Idn × ℕ)
-last_long (i ∷ idns) (word ∷ words) =
-    if is_some (last_long idns words) then last_long idns words else (if len_or_none word == 4 then Some (i, word) else None)
-last_long _ _ = None
+-- The entries of all data records, in ring order: the drive's address, the number, and its attribute as it was read.
+pub record RecordEntry : Type 0 where
+  pub address : ℕ
+  pub idn : Idn
+  pub word : ℕ
 
-abbrev pub long_stop : ℕ → Option (Idn × ℕ) → Option Stop
-long_stop address None = None
-long_stop address (Some found) = Some (stop.BadConfig address found.0 found.1)
+abbrev pub record_entries : ℕ → List Idn → List ℕ → List RecordEntry
+record_entries address (i ∷ idns) (word ∷ words) = record { address = address; idn = i; word = word } ∷ record_entries address idns words
+record_entries address idns words = []
+
+abbrev pub entries_from : List MemberView → ℕ → (ℕ → List Outcome) → List RecordEntry
+entries_from [] k outcomes = []
+entries_from (d ∷ drives) k outcomes =
+    record_entries d.address d.mdt (mdt_attributes d (outcomes k)) ++ entries_from drives (k + 1) outcomes
+
+-- If the data records are longer than an MDT, the last entry that was read as one of four bytes is bad.
+abbrev pub has_four_bytes : RecordEntry → Bool
+has_four_bytes e = len_or_none e.word == 4
+
+abbrev pub stop_of_entry : RecordEntry → Stop
+stop_of_entry e = stop.BadConfig e.address e.idn e.word
 
 abbrev pub last_long_stop : List MemberView → ℕ → (ℕ → List Outcome) → Option Stop
-last_long_stop [] k outcomes = None
-last_long_stop (d ∷ drives) k outcomes =
-    if is_some (last_long_stop drives (k + 1) outcomes) then last_long_stop drives (k + 1) outcomes
-    else long_stop d.address (last_long d.mdt (mdt_attributes d (outcomes k)))
+last_long_stop drives k outcomes = option_map stop_of_entry (last_or None (filter has_four_bytes (entries_from drives k outcomes)))

@@ -1,6 +1,7 @@
 -- What the master keeps of one drive, and how it stands for what it looks back on. For proofs alone.
 use Rattle.std.specs.Prelude.{reverse, unwrap_or, ◌-◌, slice_get, ◌*◌, sum_by, slice_index_or, ◌≡◌, ℕ, ◌+◌, ◌≤◌, ◌==◌, ◌++◌, nat_le, nat_lt, if◌then◌else◌, Bool, true, false, not, ◌&&◌, List, [], ◌∷◌, length, map, take, drop, min, Option, Some, None, is_some, option_map, is_none}
 use Rattle.sercos_idn.specs.Elements.{data_element}
+use Rattle.sercos_idn.specs.declared.idn.Idn.{Idn}
 use Rattle.sercos_step.specs.declared.request.Outcome.{Outcome}
 use Rattle.sercos_service_master.specs.Kept.{MasterView, MasterStandsFor}
 use Rattle.std.specs.Option.{option_or}
@@ -15,6 +16,7 @@ use Rattle.sercos_service_master.specs.Begun.{open_in, master_says}
 use Rattle.sercos_service_master.specs.Calls as channel
 use Rattle.sercos_timing.specs.Views.{PlanView}
 use Rattle.sercos_trace.specs.declared.events.Stop.{Stop}
+use Rattle.sercos_trace.specs.declared.events.Stop.TheVariants as stop
 use Rattle.sercos_seat.specs.declared.answers.Words.{Words}
 use Rattle.sercos_seat.specs.declared.answers.Asked.{Asked}
 use Rattle.sercos_seat.specs.declared.queue.Waiting.{Waiting}
@@ -39,11 +41,27 @@ abbrev pub outcomes_seen : Seen → List Outcome
 outcomes_seen x = outcomes_in (begun_by x.calls)
 
 -- the two words of up to four bytes
-abbrev pub words_in : List ℕ → Words
-words_in bytes = record { low = short_in bytes; high = short_in (drop 2 bytes) }
+abbrev pub low_and_high : List ℕ → Words
+low_and_high bytes = record { low = short_in bytes; high = short_in (drop 2 bytes) }
 
-abbrev pub words_of : Outcome → Words
-words_of o = words_in (bytes_of o)
+abbrev pub result_words : Outcome → Words
+result_words o = low_and_high (bytes_of o)
+
+-- The last entry of a data record that was read as one of four bytes, and its stop; the same of all data records, from the last drive on.
+abbrev pub last_long : List Idn → List ℕ → Option (Idn × ℕ)
+last_long (i ∷ idns) (word ∷ words) =
+    if is_some (last_long idns words) then last_long idns words else (if len_or_none word == 4 then Some (i, word) else None)
+last_long idns words = None
+
+abbrev pub long_stop : ℕ → Option (Idn × ℕ) → Option Stop
+long_stop address None = None
+long_stop address (Some found) = Some (stop.BadConfig address found.0 found.1)
+
+abbrev pub last_long_from : List MemberView → ℕ → (ℕ → List Outcome) → Option Stop
+last_long_from [] k outcomes = None
+last_long_from (d ∷ drives) k outcomes =
+    if is_some (last_long_from drives (k + 1) outcomes) then last_long_from drives (k + 1) outcomes
+    else long_stop d.address (last_long d.mdt (mdt_attributes d (outcomes k)))
 
 -- What is kept: the drive; its channel; the number of outcomes, counted up to 100; the results of the reads; whether each check
 -- ended well; the request of the task at work, and its number; and the drive's telegrams.
@@ -109,7 +127,7 @@ pub record SeatStandsFor (v : SeatView) (d : MemberView) (x : Seen) : Type 0 whe
   -- each task was begun on the channel
   pub begun_is : map (λ t. t.request) x.tasks ≡ map (λ b. b.request) (begun_by x.calls)
   pub done_is : v.done ≡ min (length (outcomes_seen x)) 100
-  pub given_is : v.given ≡ take (reads_count d) (map words_of (outcomes_seen x))
+  pub given_is : v.given ≡ take (reads_count d) (map result_words (outcomes_seen x))
   pub checked_is : v.checked ≡ is_checked d (outcomes_seen x)
   pub ready_is : v.ready ≡ is_ready d (outcomes_seen x)
   pub asked_is : IsAsked x.tasks v.asked
@@ -123,7 +141,7 @@ pub record SeatStandsFor (v : SeatView) (d : MemberView) (x : Seen) : Type 0 whe
 
 -- what the start-up keeps with one outcome more, by how many there were
 abbrev pub kept_given : ℕ → ℕ → List Words → List ℕ → List Words
-kept_given reads done given bytes = if nat_lt done reads && nat_lt (length given) 38 then given ++ words_in bytes ∷ [] else given
+kept_given reads done given bytes = if nat_lt done reads && nat_lt (length given) 38 then given ++ low_and_high bytes ∷ [] else given
 
 abbrev pub kept_checked : ℕ → ℕ → Bool → List ℕ → Bool
 kept_checked reads done checked bytes = if done == reads + 11 then ended_well bytes else checked
@@ -198,13 +216,13 @@ has_read v = nat_le (reads_count v.member) v.done
 abbrev pub identified_in : Seen → Seen
 identified_in x = record x { heard = true; identified = true }
 
-abbrev pub taken_in : Bool → Status → ℕ → Seen → Seen
-taken_in identifies status word x = if identifies then identified_in x else heard_in status word x
+abbrev pub seen_with_status : Bool → Status → ℕ → Seen → Seen
+seen_with_status identifies status word x = if identifies then identified_in x else heard_in status word x
 
 -- the telegrams after one with the drive's address
 abbrev pub at_in : Bool → ℕ → ℕ → List ℕ → Seen → Seen
 at_in identifies address wanted content x =
-    if not x.heard && is_none (at_fault address wanted content) then taken_in identifies (status_of (word_at content 1)) (word_at content 3) x else x
+    if not x.heard && is_none (at_fault address wanted content) then seen_with_status identifies (status_of (word_at content 1)) (word_at content 3) x else x
 
 -- the bytes of a telegram after the address, by the words that were read of its attributes
 abbrev pub long_of : Words → ℕ

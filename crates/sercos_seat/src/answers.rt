@@ -1,9 +1,9 @@
 // The values in outcomes.
 ghost use Rattle.std.specs.Prelude.{◌%◌, ◌&&◌, nat_le, nat_lt, map, ◌≡◌, ℕ, ◌+◌, ◌*◌, ◌<◌, ◌≤◌, ◌==◌, List, [], ◌∷◌, ◌++◌, length, take, drop, Option, Some, None, IfSome, slice_index, if◌then◌else◌};
 ghost use Rattle.sercos_step.specs.declared.request.Outcome.TheVariants as outcome;
-ghost use Rattle.sercos_seat.specs.Agenda.{last_long, long_stop, bytes_of, short_in, long_in, idns_in, ended_well, len_said, attribute_stop, list_stop, reads_that, reads_element, asked_by, stop_by_bytes, stop_by, stop_of_task};
+ghost use Rattle.sercos_seat.specs.Agenda.{bytes_of, short_in, long_in, idns_in, ended_well, len_said, attribute_stop, list_stop, reads_that, reads_element, asked_by, stop_by_bytes, stop_by, stop_of_task};
+ghost use Rattle.sercos_seat.specs.Seats.{last_long, long_stop, long_of, low_at, low_and_high, result_words, len_of_words, listed_len};
 ghost use Rattle.sercos_seat.specs.Records.{value_said, values_said};
-ghost use Rattle.sercos_seat.specs.Seats.{long_of, low_at, words_in, words_of, len_of_words, listed_len};
 
 use arrayvec::ArrayVec;
 use sercos_bits::byte_at;
@@ -65,8 +65,8 @@ fn second_word(bytes: &[u8]) -> u16
 }
 
 /// Returns the two words of up to four bytes.
-pub fn words_in(bytes: &[u8]) -> Words
-    ensures { result ≡ words_in bytes.now }
+pub fn low_and_high(bytes: &[u8]) -> Words
+    ensures { result ≡ low_and_high bytes.now }
 {
     Words {
         low: first_word(bytes),
@@ -290,7 +290,7 @@ impl Asked {
         ensures { result ≡ stop_by_bytes address self.now bytes.now }
     {
         if self.reads_element(3) {
-            attribute_stop(address, self.idn, words_in(bytes).long())
+            attribute_stop(address, self.idn, low_and_high(bytes).long())
         } else if self.reads_element(7) {
             list_stop(address, self.idn.raw, bytes)
         } else {

@@ -11,14 +11,14 @@ ghost use Rattle.sercos_seat.specs.Records.{record_said};
 ghost use Rattle.sercos_seat.specs.Ring.{Known, MemberView, Task, member, request_task};
 ghost use Rattle.sercos_seat.specs.Channel.{of_phase};
 ghost use Rattle.sercos_seat.specs.declared.queue.Waiting.{Waiting};
-ghost use Rattle.sercos_seat.specs.Agenda.{wish_given, long_stop, last_long, mdt_attributes, agenda, bytes_of, reads_count, is_checked, is_ready, ended_well, stop_of_task, asked_by};
+ghost use Rattle.sercos_seat.specs.Agenda.{wish_given, mdt_attributes, agenda, bytes_of, reads_count, is_checked, is_ready, ended_well, stop_of_task, asked_by};
+ghost use Rattle.sercos_seat.specs.Seats.{long_stop, last_long, pair_of, broken_in, record_seen, record_len_kept, mdt_words_kept, IsQueue, sent_in, forgotten, after_outcome, result_words, Seen, SeatStandsFor, heard_in, identified_in, seen_with_status, at_in, begun_in, with_begun, is_idle_in, has_read, cycles_kept, nothing_seen, ended_in, AreWaiting, outcomes_seen, next_write, next_in_2, next_in_3, at_len_kept, len_of_words, listed_len, IsSeat, kept_given, kept_checked, kept_ready};
 ghost use Rattle.sercos_service_master.specs.Begun.{said_by, master_says};
 ghost use Rattle.sercos_service_master.specs.Calls.{begun_by};
-ghost use Rattle.sercos_seat.specs.Seats.{pair_of, broken_in, record_seen, record_len_kept, mdt_words_kept, IsQueue, sent_in, forgotten, after_outcome, words_of, Seen, SeatStandsFor, heard_in, identified_in, taken_in, at_in, begun_in, with_begun, is_idle_in, has_read, cycles_kept, nothing_seen, ended_in, AreWaiting, outcomes_seen, next_write, next_in_2, next_in_3, at_len_kept, len_of_words, listed_len, IsSeat, kept_given, kept_checked, kept_ready};
 
 use crate::answers::{
-    Asked, Words, asked_by, ended_well, last_long_stop, lens_of, listed_len, low_at, outcome_bytes,
-    part, put_command_values, words_in,
+    Asked, Words, asked_by, ended_well, last_long_stop, lens_of, listed_len, low_and_high, low_at,
+    outcome_bytes, part, put_command_values,
 };
 use crate::member::{Member, Numbers, command, number_at, read, write_list, write_word};
 use crate::queue::{Waiting, is_request};
@@ -176,7 +176,7 @@ impl Seat {
         let reads = self.member.reads_count();
         let done = usize::from(self.done);
         if done < reads && self.given.len() < 38 {
-            self.given.push(words_in(bytes));
+            self.given.push(low_and_high(bytes));
             self.at_len = at_len_of(self.given.as_slice(), &self.member);
             self.mdt_lens = mdt_lens_of(self.given.as_slice(), &self.member);
         }
@@ -231,7 +231,7 @@ impl Seat {
 
     // Takes an AT: it identifies the drive, or its status is processed.
     fn take(&mut self, identifies: bool, status: &Status, info: u16)
-        ensures { (d : MemberView) (x : Seen) → SeatStandsFor self.old d x → SeatStandsFor self.new d (taken_in identifies status.now info x) }
+        ensures { (d : MemberView) (x : Seen) → SeatStandsFor self.old d x → SeatStandsFor self.new d (seen_with_status identifies status.now info x) }
     {
         if identifies {
             self.identify();

@@ -12,7 +12,7 @@ use Rattle.sercos_service_drive.specs.declared.channel.Last.{Last}
 use Rattle.sercos_service_drive.specs.Log.{Taken, Entry, ahs, accepted, open_idn, run_before, in_order}
 use Rattle.sercos_service_drive.specs.Replies.{answer_by, bytes_written, write_cause_in, reply_at, reply_of, answered, log_of}
 use Rattle.sercos_service_drive.specs.Writes.{Write, written_by, AreThose, adds, added_on}
-use Rattle.sercos_service_drive.specs.Says.{Shown, shown, shown_by, drive_says}
+use Rattle.sercos_service_drive.specs.Says.{Shown, shown, shown_by, channel_says}
 use Rattle.sercos_service_drive.specs.Kept.{ends_run, run_of, GoesWith, SessionView, IsAnswered, last_of, ChannelView, ChannelStandsFor}
 
 -- the blocks are those of the last step of the run
@@ -84,7 +84,7 @@ effect_adds t log answer is = rw is (by (t.step.write && ((t.step.element == 7) 
 -- What is shown.
 
 module _ (v : ChannelView) (busy cycle : ℕ) (commands : CommandsView) (h : List Taken) (stood : ChannelStandsFor v busy h) where
-  pub shows_none : v.last ≡ None → drive_says busy cycle commands h ≡ record { ahs = v.ahs; busy = false; error = false; change = change_in commands cycle; word = 0 }
+  pub shows_none : v.last ≡ None → channel_says busy cycle commands h ≡ record { ahs = v.ahs; busy = false; error = false; change = change_in commands cycle; word = 0 }
   shows_none none = rw (← stood.ahs_is) (by (log_of h) (sym stood.last_is ∙ none))
     where
       by : (log : List Entry) → last_of log ≡ None → shown busy cycle v.ahs (change_in commands cycle) log ≡ record { ahs = v.ahs; busy = false; error = false; change = change_in commands cycle; word = 0 }
@@ -102,7 +102,7 @@ module _ (v : ChannelView) (busy cycle : ℕ) (commands : CommandsView) (h : Lis
       rw (← same, stood.busy_is) refl
 
   pub shows_last : (last : Last) → v.last ≡ Some last → (test : Bool) → nat_le (cycle - last.cycle) v.busy ≡ test
-      → drive_says busy cycle commands h
+      → channel_says busy cycle commands h
       ≡ cond test (record { ahs = v.ahs; busy = true; error = false; change = change_in commands cycle; word = 0 })
       (record { ahs = v.ahs; busy = false; error = last.answer.error; change = change_in commands cycle; word = last.answer.word })
   shows_last last some test is =

@@ -7,7 +7,8 @@ use Rattle.sercos_step.specs.Words.{words_of, bytes_in}
 use Rattle.sercos_block.specs.declared.block.Block.{Block}
 use Rattle.sercos_block.specs.Stores.{put_fault}
 use Rattle.sercos_command.specs.Settings.{CommandsView}
-use Rattle.sercos_command.specs.Calls.{Call, newest, CommandsStandFor}
+use Rattle.sercos_command.specs.Calls.{Call, newest}
+use Rattle.sercos_command.specs.Kept.{CommandsStandFor}
 use Rattle.sercos_service_drive.specs.Replies.{bytes_written}
 use Rattle.sercos_service_drive.specs.Writes.{Write, unless, blocks_with, commands_with, calls_with}
 use Rattle.sercos_service_drive.specs.Partial.{place_cause, IsStarted, IsEffect, IsWord, write_by}

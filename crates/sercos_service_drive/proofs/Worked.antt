@@ -9,7 +9,7 @@ use Rattle.sercos_command.specs.Settings.{CommandsView}
 use Rattle.sercos_service_drive.specs.Log.{Taken, Entry}
 use Rattle.sercos_service_drive.specs.Replies.{answered, log_of, data_in, element_words, write_cause, bytes_written}
 use Rattle.sercos_service_drive.specs.Writes.{writes_of}
-use Rattle.sercos_service_drive.specs.Says.{drive_says}
+use Rattle.sercos_service_drive.specs.Says.{channel_says}
 
 abbrev pub a_block : ℕ → ℕ → Option ℕ → Option ℕ → List ℕ → ℕ → Bool → ℕ → Block
 a_block raw word low high value max_len fixed step = record {
@@ -171,8 +171,8 @@ unfolding attribute_of element_words data_in element_of
 repeated = refl
 
 -- with a busy time of 2 a step of cycle 100 is busy up to cycle 102
-busy : map (λ cycle. (drive_says 2 cycle commands (taken 100 4 true (a_step true true 1 99) ∷ [])).busy) (101 ∷ 102 ∷ 103 ∷ []) ≡ true ∷ true ∷ false ∷ []
+busy : map (λ cycle. (channel_says 2 cycle commands (taken 100 4 true (a_step true true 1 99) ∷ [])).busy) (101 ∷ 102 ∷ 103 ∷ []) ≡ true ∷ true ∷ false ∷ []
 busy = refl
 
-shown : drive_says 2 103 commands (taken 100 4 true (a_step true true 1 99) ∷ []) ≡ record { ahs = true; busy = false; error = true; change = false; word = 0x1001 }
+shown : channel_says 2 103 commands (taken 100 4 true (a_step true true 1 99) ∷ []) ≡ record { ahs = true; busy = false; error = true; change = false; word = 0x1001 }
 shown = refl

@@ -22,8 +22,8 @@ abbrev pub taken : ℕ → ℕ → Bool → Step → List Block → CommandsView
 taken cycle phase mhs step blocks commands = record { cycle = cycle; phase = phase; mhs = mhs; step = step; blocks = blocks; commands = commands }
 
 -- a record as it is handed in: a control word and an information word
-abbrev pub record_of : ℕ → ℕ → Control → ℕ → List Block → CommandsView → Taken
-record_of cycle phase control info blocks commands =
+abbrev pub taken_record : ℕ → ℕ → Control → ℕ → List Block → CommandsView → Taken
+taken_record cycle phase control info blocks commands =
     taken cycle phase control.mhs (record { write = control.write; last = control.last; element = control.element; word = info }) blocks commands
 
 -- AHS is the bit of the last record that was taken

@@ -22,8 +22,8 @@ shown busy cycle bit change (e ∷ log) =
     then record { ahs = bit; busy = true; error = false; change = change; word = 0 }
     else record { ahs = bit; busy = false; error = e.answer.error; change = change; word = e.answer.word }
 
-abbrev pub drive_says : ℕ → ℕ → CommandsView → List Taken → Shown
-drive_says busy cycle commands h = shown busy cycle (ahs h) (change_in commands cycle) (log_of h)
+abbrev pub channel_says : ℕ → ℕ → CommandsView → List Taken → Shown
+channel_says busy cycle commands h = shown busy cycle (ahs h) (change_in commands cycle) (log_of h)
 
 -- what a status and an information word show
 abbrev pub shown_by : Status → ℕ → Shown

@@ -4,7 +4,8 @@ ghost use Rattle.std.specs.Int.{w16, from_le_bytes};
 ghost use Rattle.sercos_idn.specs.Commands.{to_cancel, to_set};
 ghost use Rattle.sercos_block.specs.Stores.{find_block, put_fault};
 ghost use Rattle.sercos_command.specs.Settings.{is_command, with_write, with_lists, without_checks, are_commands_of};
-ghost use Rattle.sercos_command.specs.Calls.{Call, Wrote, Other, newest, CommandsStandFor};
+ghost use Rattle.sercos_command.specs.Calls.{Call, Wrote, Other, newest};
+ghost use Rattle.sercos_command.specs.Kept.{CommandsStandFor};
 ghost use Rattle.sercos_service_drive.specs.Writes.{unless, blocks_with, commands_with, calls_with};
 
 use sercos_bits::byte_at;

@@ -6,12 +6,12 @@ use Rattle.sercos_step.specs.declared.request.Request.{Request}
 use Rattle.sercos_command.specs.Settings.{change_in}
 use Rattle.sercos_service_drive.specs.Log.{Taken, Entry}
 use Rattle.sercos_service_drive.specs.Replies.{reply_of, log_of}
-use Rattle.sercos_service_drive.specs.Says.{drive_says, shown_by}
+use Rattle.sercos_service_drive.specs.Says.{channel_says, shown_by}
 use Rattle.sercos_service_master.specs.Begun.{Begun, Said, open_in, master_says}
 use Rattle.sercos_law_channel.specs.Handshake.InStep.{AreInStep, Idle}
 use Rattle.sercos_law_channel.proofs.Handshake.HandshakeMoves.{hears, begins, takes, ahs-log, log-taken}
 use Rattle.sercos_law_channel.specs.Handshake.Views.{Heard, View, Standing, stood_in, got_in, standing, record_in, processed_in, with_record, kept_in, since_reset}
-use Rattle.sercos_law_channel.specs.Handshake.Epochs.{command, command_in, whole_row, with_heard, with_begun, unless_restart, epoch_begun, begun_in, epoch_taken, taken_in, epoch_log, log_in}
+use Rattle.sercos_law_channel.specs.Handshake.Epochs.{command, command_in, whole_row, with_heard, with_begun, unless_restart, epoch_begun, begun_in, epoch_taken, taken_in_views, epoch_log, log_in}
 use Rattle.sercos_law_channel.specs.Handshake.Runs.{IsShown, IsNext, IsRun}
 use Rattle.sercos_law_channel.specs.Handshake.RunLaws.{zero_run}
 use Rattle.sercos_law_channel.proofs.Handshake.PhaseMoves.{chosen, Stands, Down, Moves, Stays, stands, before, ends, Processes, Nothing, Record, processes, processed_phase, kept_on, kept_below, reset_on}
@@ -86,14 +86,14 @@ module _ (busy : ℕ) where
   pub quiet : (past : List View) → IsRun busy past → command past ≤ 1 → (epoch_begun past ≡ []) × (epoch_taken past ≡ [])
   quiet [] run low = (refl, refl)
   quiet (v ∷ past) run low = elim (cases_Bool v.falls) [
-    | inl fell ↦ (cond-true v.falls [] (begun_in v past) fell, cond-true v.falls [] (taken_in v past) fell)
+    | inl fell ↦ (cond-true v.falls [] (begun_in v past) fell, cond-true v.falls [] (taken_in_views v past) fell)
     | inr on ↦
         let p : v.phase ≤ 1 = command_low v.falls v.rises v.phase on low in
         let earlier : v.master_restarts ≡ false → (epoch_begun past ≡ []) × (epoch_taken past ≡ []) = λ still. quiet past run.0 (elim (commanded v past run.1.commanded) [ inl r ↦ absurd (cc) | inr c ↦ omega (arith, c.1) ]) in
-        let taken : taken_in v past ≡ [] =
+        let taken : taken_in_views v past ≡ [] =
         ap (λ (o : Option Taken). with_record o (unless_restart v (epoch_taken past))) (start_processed v past p) ∙ unless_restart-none v (epoch_taken past) (λ still. (earlier still).1) in
         let begun : begun_in v past ≡ [] = start_begun v past run.1 p (unless_restart-none v (epoch_begun past) (λ still. (earlier still).0)) in
-        (cond-false v.falls [] (begun_in v past) on ∙ begun, cond-false v.falls [] (taken_in v past) on ∙ taken)
+        (cond-false v.falls [] (begun_in v past) on ∙ begun, cond-false v.falls [] (taken_in_views v past) on ∙ taken)
   ]
 
   -- what is there at the start of a cycle commanded 0 or 1
@@ -162,7 +162,7 @@ module _ (busy : ℕ) where
       by (Stays missed got_mst still is) = inr missed
 
   -- what it keeps at the end of a cycle commanded 1 or later
-  same_after : (v : View) (past : List View) → IsRun busy (v ∷ past) → Joined past → 1 ≤ v.phase → ((standing (v ∷ past)).ended ≡ 0) ⊎ (since_reset (v ∷ past) ≡ taken_in v past)
+  same_after : (v : View) (past : List View) → IsRun busy (v ∷ past) → Joined past → 1 ≤ v.phase → ((standing (v ∷ past)).ended ≡ 0) ⊎ (since_reset (v ∷ past) ≡ taken_in_views v past)
   same_after v past run j up = elim (cases_eq (standing (v ∷ past)).ended 0) [
     | inl z ↦ inl z
     | inr nz ↦ inr (reset_on v past nz ∙ ap (with_record (processed_in v past)) (same_at v past run j up (λ z. nz (elim (ends v past) [ inl y ↦ y | inr e ↦ e ∙ z ]))))
@@ -188,7 +188,7 @@ module _ (busy : ℕ) where
               | inl z ↦ elim parts.1 [ inl r ↦ inl (ten r z) | inr one ↦ absurd (omega arith) ]
               | inr more ↦ elim (same_after v past run j (omega arith)) [
                 | inl z ↦ inl z
-                | inr e ↦ inr (e ∙ sym (cond-false v.falls [] (taken_in v past) parts.0))
+                | inr e ↦ inr (e ∙ sym (cond-false v.falls [] (taken_in_views v past) parts.0))
               ]
             ];
       }
@@ -207,10 +207,10 @@ module _ (busy : ℕ) where
 
   -- what is heard shows what was taken in this epoch, or nothing was begun
   pub shown_of : (v : View) (past : List View) → IsRun busy (v ∷ past) → Joined past → (a : Heard) → IsShown busy a v past →
-      (unless_restart v (epoch_begun past) ≡ []) ⊎ (shown_by a.status a.word ≡ drive_says busy (length past) v.showing (unless_restart v (epoch_taken past)))
+      (unless_restart v (epoch_begun past) ≡ []) ⊎ (shown_by a.status a.word ≡ channel_says busy (length past) v.showing (unless_restart v (epoch_taken past)))
   shown_of v past run j a shown = elim (cases_low v.phase) [
     | inl low ↦ inl (start v past run low).0
-    | inr two ↦ inr (shown.says ∙ ap (drive_says busy (length past) v.showing) (same_at v past run j (omega arith) (λ z. let up = shown.stands in omega arith)))
+    | inr two ↦ inr (shown.says ∙ ap (channel_says busy (length past) v.showing) (same_at v past run j (omega arith) (λ z. let up = shown.stands in omega arith)))
   ]
     where
       cases_low : (p : ℕ) → (p ≤ 1) ⊎ (2 ≤ p)
@@ -260,7 +260,7 @@ module _ (busy : ℕ) where
   in_step [] run = Idle refl refl refl
   in_step (v ∷ past) run = by v.falls (in_step_by v past run (in_step past run.0))
     where
-      by : (falls : Bool) → AreInStep (begun_in v past) (log_in v past) → AreInStep (if falls then [] else begun_in v past) (log_of (if falls then [] else taken_in v past))
+      by : (falls : Bool) → AreInStep (begun_in v past) (log_in v past) → AreInStep (if falls then [] else begun_in v past) (log_of (if falls then [] else taken_in_views v past))
       by true h = Idle refl refl refl
       by false h = h
 
@@ -268,5 +268,5 @@ module _ (busy : ℕ) where
   in_step_in v past run = in_step_by v past run (in_step past run.0)
 
   -- the log of a drive that isn't in 0 is that of the epoch
-  pub same_log : (v : View) (past : List View) → IsRun busy (v ∷ past) → 1 ≤ v.phase → ((standing (v ∷ past)).ended ≡ 0) ⊎ (since_reset (v ∷ past) ≡ taken_in v past)
+  pub same_log : (v : View) (past : List View) → IsRun busy (v ∷ past) → 1 ≤ v.phase → ((standing (v ∷ past)).ended ≡ 0) ⊎ (since_reset (v ∷ past) ≡ taken_in_views v past)
   same_log v past run up = same_after v past run (joined past run.0) up

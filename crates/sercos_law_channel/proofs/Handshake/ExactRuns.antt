@@ -7,7 +7,7 @@ use Rattle.sercos_step.specs.declared.step.Answer.{Answer}
 use Rattle.sercos_step.specs.declared.request.Request.{Request}
 use Rattle.sercos_block.specs.declared.block.Block.{Block}
 use Rattle.sercos_command.specs.Settings.{CommandsView, change_in}
-use Rattle.sercos_service_drive.specs.Says.{Shown, drive_says, shown_by}
+use Rattle.sercos_service_drive.specs.Says.{Shown, channel_says, shown_by}
 use Rattle.sercos_service_drive.specs.Log.{Taken, Entry, ahs, accepted}
 use Rattle.sercos_service_drive.specs.Replies.{reply_of, answered, log_of}
 use Rattle.sercos_service_drive.specs.Writes.{Write, AreAlike, writes_of}
@@ -19,7 +19,7 @@ use Rattle.sercos_law_channel.specs.Handshake.Transfers.{AreReplies, HaveBlocks}
 use Rattle.sercos_law_channel.proofs.Handshake.HandshakeMoves.{ahs-shown, ahs-log, log-taken}
 use Rattle.sercos_law_channel.proofs.Handshake.LogParts.{heard_in_turn, fall_into_parts}
 use Rattle.sercos_law_channel.specs.Handshake.Views.{Heard, View, standing, stood_in, record_in, with_record}
-use Rattle.sercos_law_channel.specs.Handshake.Epochs.{command, with_heard, with_begun, unless_restart, epoch_begun, begun_in, epoch_taken, taken_in, epoch_log, log_in}
+use Rattle.sercos_law_channel.specs.Handshake.Epochs.{command, with_heard, with_begun, unless_restart, epoch_begun, begun_in, epoch_taken, taken_in_views, epoch_log, log_in}
 use Rattle.sercos_law_channel.specs.Handshake.Runs.{IsShown, IsRun}
 use Rattle.sercos_law_channel.specs.Handshake.WholeRun.{leaving, begun_ago, all_begun, all_writes, IsSound, AreSound, AreSmall}
 use Rattle.sercos_law_channel.specs.Handshake.Exact.{AreExact, RunsAreExact}
@@ -95,11 +95,11 @@ module _ (blocks : List Block) where
       by true = answered_sound (answer_in status word) begun sound
       by false = sound
 
-  bit_shown : (busy cycle : ℕ) (showing : CommandsView) (status : Status) (word : ℕ) (taken : List Taken) → shown_by status word ≡ drive_says busy cycle showing taken → status.ahs ≡ is_odd (log_of taken)
+  bit_shown : (busy cycle : ℕ) (showing : CommandsView) (status : Status) (word : ℕ) (taken : List Taken) → shown_by status word ≡ channel_says busy cycle showing taken → status.ahs ≡ is_odd (log_of taken)
   bit_shown busy cycle showing status word taken says = ap (λ (s : Shown). s.ahs) says ∙ ahs-shown busy cycle (ahs taken) (change_in showing cycle) (log_of taken) ∙ ahs-log taken
 
   heard_epoch : (phase busy cycle : ℕ) (showing : CommandsView) (a : Heard) (begun : List Begun) (taken : List Taken) → AreInStep begun (log_of taken) →
-      (begun ≡ []) ⊎ (shown_by a.status a.word ≡ drive_says busy cycle showing taken) → IsEpoch blocks phase begun taken → IsEpoch blocks phase (with_heard (Some a) begun) taken
+      (begun ≡ []) ⊎ (shown_by a.status a.word ≡ channel_says busy cycle showing taken) → IsEpoch blocks phase begun taken → IsEpoch blocks phase (with_heard (Some a) begun) taken
   heard_epoch phase busy cycle showing a begun taken h (inl none) is = subst (λ (b : List Begun). IsEpoch blocks phase b taken) (sym (ap (with_heard (Some a)) none ∙ sym none)) is
   heard_epoch phase busy cycle showing a begun taken h (inr says) is = record {
     in_turn = heard_in_turn (is_some (open_in begun)) _ (answer_in a.status a.word) begun refl is.in_turn;
@@ -142,7 +142,7 @@ module _ (blocks : List Block) where
   }
 
   module _ (busy : ℕ) where
-    in_cycle : (v : View) (past : List View) → IsRun busy (v ∷ past) → AreSound blocks (v ∷ past) → IsEpoch blocks (command past) (epoch_begun past) (epoch_taken past) → IsEpoch blocks v.phase (begun_in v past) (taken_in v past)
+    in_cycle : (v : View) (past : List View) → IsRun busy (v ∷ past) → AreSound blocks (v ∷ past) → IsEpoch blocks (command past) (epoch_begun past) (epoch_taken past) → IsEpoch blocks v.phase (begun_in v past) (taken_in_views v past)
     in_cycle v past run sound is =
         let taken = unless_restart v (epoch_taken past) in
         let begun = unless_restart v (epoch_begun past) in
@@ -177,18 +177,18 @@ module _ (blocks : List Block) where
         heard_any (Some a) shown h was =
             heard_epoch v.phase busy (length past) v.showing a (unless_restart v (epoch_begun past)) (unless_restart v (epoch_taken past)) h (shown_of busy v past run (joined busy past run.0) a shown) was
 
-        recorded : AreInStep (begun_in v past) (log_of (unless_restart v (epoch_taken past))) → IsEpoch blocks v.phase (begun_in v past) (unless_restart v (epoch_taken past)) → Processes v past → IsEpoch blocks v.phase (begun_in v past) (taken_in v past)
+        recorded : AreInStep (begun_in v past) (log_of (unless_restart v (epoch_taken past))) → IsEpoch blocks v.phase (begun_in v past) (unless_restart v (epoch_taken past)) → Processes v past → IsEpoch blocks v.phase (begun_in v past) (taken_in_views v past)
         recorded h was (Nothing none) = subst (λ (o : Option Taken). IsEpoch blocks v.phase (begun_in v past) (with_record o (unless_restart v (epoch_taken past)))) (sym none) was
         recorded h was (Record s got came two some) =
             subst (λ (o : Option Taken). IsEpoch blocks v.phase (begun_in v past) (with_record o (unless_restart v (epoch_taken past)))) (sym some)
             (taken_epoch v.phase (record_in v (length past) (stood_in v (standing past)) s) (begun_in v past) (unless_restart v (epoch_taken past)) h (said_of busy v past run.1.sent s got) (processed_phase v past came (omega arith)) sound.1.0 was)
 
-    after_cycle : (v : View) (past : List View) → IsRun busy (v ∷ past) → IsEpoch blocks v.phase (begun_in v past) (taken_in v past) → IsEpoch blocks (command (v ∷ past)) (epoch_begun (v ∷ past)) (epoch_taken (v ∷ past))
+    after_cycle : (v : View) (past : List View) → IsRun busy (v ∷ past) → IsEpoch blocks v.phase (begun_in v past) (taken_in_views v past) → IsEpoch blocks (command (v ∷ past)) (epoch_begun (v ∷ past)) (epoch_taken (v ∷ past))
     after_cycle v past run is = by v.falls v.rises refl
       where
-        by : (falls rises : Bool) → v.rises ≡ rises → IsEpoch blocks (if falls then 0 else (if rises then v.phase + 1 else v.phase)) (if falls then [] else begun_in v past) (if falls then [] else taken_in v past)
+        by : (falls rises : Bool) → v.rises ≡ rises → IsEpoch blocks (if falls then 0 else (if rises then v.phase + 1 else v.phase)) (if falls then [] else begun_in v past) (if falls then [] else taken_in_views v past)
         by true rises on = at_start 0
-        by false true on = risen v.phase (v.phase + 1) (begun_in v past) (taken_in v past) (run.1.rests on) is
+        by false true on = risen v.phase (v.phase + 1) (begun_in v past) (taken_in_views v past) (run.1.rests on) is
         by false false on = is
 
     pub epoch : (past : List View) → IsRun busy past → AreSound blocks past → IsEpoch blocks (command past) (epoch_begun past) (epoch_taken past)
@@ -204,7 +204,7 @@ module _ (blocks : List Block) where
       pub cycle_exact : (v : View) (past : List View) → IsRun busy (v ∷ past) → AreSound blocks (v ∷ past) → AreExact blocks (begun_in v past) (log_in v past) (writes_of (log_in v past))
       cycle_exact v past run sound =
           let is = in_cycle v past run sound (epoch past run.0 sound.0) in
-          parts_exact laws blocks small (begun_in v past) (log_in v past) (fall_into_parts (begun_in v past) (log_in v past) is.in_turn (in_step_in busy v past run)) is.sound (answered_replies (accepted (taken_in v past))) is.alike is.level.steady
+          parts_exact laws blocks small (begun_in v past) (log_in v past) (fall_into_parts (begun_in v past) (log_in v past) is.in_turn (in_step_in busy v past run)) is.sound (answered_replies (accepted (taken_in_views v past))) is.alike is.level.steady
 
       left_exact : (ends : Bool) (xs ago : List Begun) (es fs : List Entry) (ws us : List Write) → AreExact blocks xs es ws → AreExact blocks ago fs us → AreExact blocks (leaving ends xs ago) (leaving ends es fs) (leaving ends ws us)
       left_exact true xs ago es fs ws us is behind = exact-append blocks xs ago es fs ws us is behind

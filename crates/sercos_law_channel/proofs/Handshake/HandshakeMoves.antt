@@ -9,7 +9,7 @@ use Rattle.sercos_service_drive.specs.Log.{Taken, Entry, ahs, accepted}
 use Rattle.sercos_service_drive.specs.Replies.{reply_of, answered, log_of}
 use Rattle.sercos_service_drive.specs.Says.{Shown, shown, shown_by}
 use Rattle.sercos_service_master.specs.Begun.{Begun, Said, open_in, steps_in, answers_in, steps_begun, step_at, with_step, is_odd, mhs_in, answers_it, answer_in, with_answer, step_or_none, master_says}
-use Rattle.sercos_law_channel.specs.Handshake.InStep.{InStep, Idle, Sent, Kept, AreInStep, steps_of, replies_of}
+use Rattle.sercos_law_channel.specs.Handshake.InStep.{InStep, Idle, Sent, Kept, AreInStep, log_steps, replies_of}
 use Rattle.sercos_law_channel.specs.Handshake.Moves.{Hears, Begins, Takes, with_status, said_in, with_taken}
 
 pub beq-self : (b : Bool) → beq b b ≡ true
@@ -50,7 +50,7 @@ log-taken t h = joined (beq t.mhs (ahs h)) ∙ ap (λ (a : Bool). if beq t.mhs a
     joined true = refl
     joined false = refl
 
-is_odd-steps_of : (log : List Entry) → is_odd (steps_of log) ≡ is_odd log
+is_odd-steps_of : (log : List Entry) → is_odd (log_steps log) ≡ is_odd log
 is_odd-steps_of [] = refl
 is_odd-steps_of (e ∷ log) = ap not (is_odd-steps_of log)
 
@@ -76,11 +76,11 @@ ahs-shown busy cycle bit change (e ∷ log) = ahs-shown_so bit change e (nat_le 
 pub quiet_none : (begun : List Begun) (status : Status) → open_in begun ≡ None → answers_it begun status ≡ false
 quiet_none begun status none = rw none refl
 
-pub quiet_bit : (begun : List Begun) (log : List Entry) (s : Step) (status : Status) → steps_in begun ≡ s ∷ steps_of log → status.ahs ≡ is_odd log → open_in begun ≡ Some s → answers_it begun status ≡ false
+pub quiet_bit : (begun : List Begun) (log : List Entry) (s : Step) (status : Status) → steps_in begun ≡ s ∷ log_steps log → status.ahs ≡ is_odd log → open_in begun ≡ Some s → answers_it begun status ≡ false
 quiet_bit begun log s status steps bit opened = rw (opened, steps, bit, is_odd-steps_of log, beq-not (is_odd log)) refl
 
 -- the open step has the answer, and with it the next one is open or none
-next_open : (o : Option Step) (steps : List Step) (answers : List Answer) (log : List Entry) → steps ≡ steps_of log → answers ≡ replies_of log → InStep o (with_step o steps) answers log
+next_open : (o : Option Step) (steps : List Step) (answers : List Answer) (log : List Entry) → steps ≡ log_steps log → answers ≡ replies_of log → InStep o (with_step o steps) answers log
 next_open None steps answers log s a = Idle refl s a
 next_open (Some step) steps answers log s a = Sent step refl (ap (λ (l : List Step). step ∷ l) s) a
 
@@ -88,14 +88,14 @@ with_step-append : (o : Option Step) (steps more : List Step) → with_step o st
 with_step-append None steps more = refl
 with_step-append (Some s) steps more = refl
 
-takes_answer : (begun : List Begun) (e : Entry) (past : List Entry) → open_in begun ≡ Some e.taken.step → steps_in begun ≡ steps_of (e ∷ past) → answers_in begun ≡ replies_of past → AreInStep (with_answer e.answer begun) (e ∷ past)
+takes_answer : (begun : List Begun) (e : Entry) (past : List Entry) → open_in begun ≡ Some e.taken.step → steps_in begun ≡ log_steps (e ∷ past) → answers_in begun ≡ replies_of past → AreInStep (with_answer e.answer begun) (e ∷ past)
 takes_answer [] e past opened steps answers = absurd (cc)
 takes_answer (b ∷ begun) e past opened steps answers =
     rw (with_step-append (step_at b.request (e.answer ∷ b.answers)) (steps_begun b.request b.answers) (steps_in begun))
     (next_open (step_at b.request (e.answer ∷ b.answers)) (steps_in (b ∷ begun)) (e.answer ∷ answers_in (b ∷ begun)) (e ∷ past) steps (ap (λ (l : List Answer). e.answer ∷ l) answers))
 
 hears_kept : (begun : List Begun) (e : Entry) (past : List Entry) (change : Bool) (status : Status) (word : ℕ) (v : Bool) →
-    open_in begun ≡ Some e.taken.step → steps_in begun ≡ steps_of (e ∷ past) → answers_in begun ≡ replies_of past →
+    open_in begun ≡ Some e.taken.step → steps_in begun ≡ log_steps (e ∷ past) → answers_in begun ≡ replies_of past →
     shown_by status word ≡ shown_so (is_odd (e ∷ past)) change e v → AreInStep (with_status status word begun) (e ∷ past)
 hears_kept begun e past change status word true opened steps answers shows =
     let bit : status.ahs ≡ not (is_odd past) = ap (λ (s : Shown). s.ahs) shows in
@@ -109,7 +109,7 @@ hears_kept begun e past change status word false opened steps answers shows =
     rw (takes, same) (takes_answer begun e past opened steps answers)
 
 hears_by : (begun : List Begun) (log : List Entry) (busy cycle : ℕ) (change : Bool) (status : Status) (word : ℕ) (e : Entry) (past : List Entry) → log ≡ e ∷ past →
-    open_in begun ≡ Some e.taken.step → steps_in begun ≡ steps_of log → answers_in begun ≡ replies_of past →
+    open_in begun ≡ Some e.taken.step → steps_in begun ≡ log_steps log → answers_in begun ≡ replies_of past →
     shown_by status word ≡ shown busy cycle (is_odd log) change log → AreInStep (with_status status word begun) log
 hears_by begun log busy cycle change status word e past is opened steps answers shows =
     let kept = hears_kept begun e past change status word (nat_le (cycle - e.taken.cycle) busy) opened (rw is at steps) answers (rw is at shows) in
@@ -124,7 +124,7 @@ hears begun log busy cycle change status word (Sent step opened s a) shows =
 hears begun log busy cycle change status word (Kept e past opened is s a) shows = hears_by begun log busy cycle change status word e past is opened s a shows
 
 -- the master begins a request where no step is open
-begins_idle : (o : Option Step) (begun : List Begun) (log : List Entry) → steps_in begun ≡ steps_of log → answers_in begun ≡ replies_of log → InStep o (with_step o [] ++ steps_in begun) (answers_in begun) log
+begins_idle : (o : Option Step) (begun : List Begun) (log : List Entry) → steps_in begun ≡ log_steps log → answers_in begun ≡ replies_of log → InStep o (with_step o [] ++ steps_in begun) (answers_in begun) log
 begins_idle None begun log s a = Idle refl s a
 begins_idle (Some step) begun log s a = Sent step refl (ap (λ (l : List Step). step ∷ l) s) a
 
@@ -138,7 +138,7 @@ takes_same : (begun : List Begun) (log : List Entry) (t : Taken) (answer : Answe
 takes_same begun log t answer bit h = rw (bit, beq-self (is_odd log)) h
 
 takes_new : (begun : List Begun) (log : List Entry) (t : Taken) (answer : Answer) → t.mhs ≡ not (is_odd log) →
-    open_in begun ≡ Some t.step → steps_in begun ≡ t.step ∷ steps_of log → answers_in begun ≡ replies_of log → AreInStep begun (with_taken t answer log)
+    open_in begun ≡ Some t.step → steps_in begun ≡ t.step ∷ log_steps log → answers_in begun ≡ replies_of log → AreInStep begun (with_taken t answer log)
 takes_new begun log t answer bit opened s a =
     joins (beq t.mhs (is_odd log)) (rw (bit, beq-not_left (is_odd log)) refl)
   where
@@ -153,15 +153,15 @@ said_bit t begun says = ap (λ (s : Said). s.mhs) says
 pub said_step : (t : Taken) (begun : List Begun) → said_in t ≡ master_says begun → t.step ≡ step_or_none (open_in begun)
 said_step t begun says = ap (λ (s : Said). s.step) says
 
-pub parity : (steps : List Step) (log : List Entry) → steps ≡ steps_of log → is_odd steps ≡ is_odd log
+pub parity : (steps : List Step) (log : List Entry) → steps ≡ log_steps log → is_odd steps ≡ is_odd log
 parity steps log s = ap (λ (l : List Step). is_odd l) s ∙ is_odd-steps_of log
 
-pub parity_sent : (steps : List Step) (s : Step) (log : List Entry) → steps ≡ s ∷ steps_of log → is_odd steps ≡ not (is_odd log)
+pub parity_sent : (steps : List Step) (s : Step) (log : List Entry) → steps ≡ s ∷ log_steps log → is_odd steps ≡ not (is_odd log)
 parity_sent steps s log e = ap (λ (l : List Step). is_odd l) e ∙ ap not (is_odd-steps_of log)
 
 pub takes : Takes
 takes begun log t answer (Idle none s a) says = takes_same begun log t answer (said_bit t begun says ∙ parity (steps_in begun) log s) (Idle none s a)
 takes begun log t answer (Sent step opened s a) says =
     let is : t.step ≡ step = said_step t begun says ∙ ap step_or_none opened in
-    takes_new begun log t answer (said_bit t begun says ∙ parity_sent (steps_in begun) step log s) (opened ∙ ap (λ (x : Step). Some x) (sym is)) (s ∙ ap (λ (x : Step). x ∷ steps_of log) (sym is)) a
+    takes_new begun log t answer (said_bit t begun says ∙ parity_sent (steps_in begun) step log s) (opened ∙ ap (λ (x : Step). Some x) (sym is)) (s ∙ ap (λ (x : Step). x ∷ log_steps log) (sym is)) a
 takes begun log t answer (Kept e past opened is s a) says = takes_same begun log t answer (said_bit t begun says ∙ parity (steps_in begun) log s) (Kept e past opened is s a)

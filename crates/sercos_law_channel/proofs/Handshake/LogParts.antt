@@ -10,7 +10,7 @@ use Rattle.sercos_service_drive.specs.Log.{Taken, Entry}
 use Rattle.sercos_service_drive.specs.Replies.{reply_of, answered}
 use Rattle.sercos_service_master.specs.Begun.{Begun, step_at, with_step, steps_begun, steps_in, answers_in, open_in, answer_in, with_answer}
 use Rattle.sercos_service_master.specs.Calls.{Begin, Send, Hear, EndCycle, begun_by}
-use Rattle.sercos_law_channel.specs.Handshake.InStep.{Idle, Sent, Kept, AreInStep, steps_of, replies_of}
+use Rattle.sercos_law_channel.specs.Handshake.InStep.{Idle, Sent, Kept, AreInStep, log_steps, replies_of}
 use Rattle.sercos_law_channel.specs.Handshake.Parts.{AreInTurn, ComeInTurn, IsRow, IsPart, Unsent, Heard, Unheard, FallIntoParts, HaveReplies}
 use Rattle.sercos_law_channel.proofs.Handshake.TransferSteps.{length-steps_of, length-replies_of, length-steps_begun}
 
@@ -53,12 +53,12 @@ few_steps (b ∷ past) are none =
     let answers = length-append b.answers (answers_in past) in omega arith
 
 -- a list of steps in two parts, and the log with it
-steps_split : (steps more : List Step) (log : List Entry) → steps ++ more ≡ steps_of log → (steps_of (take (length steps) log) ≡ steps) × (steps_of (drop (length steps) log) ≡ more)
+steps_split : (steps more : List Step) (log : List Entry) → steps ++ more ≡ log_steps log → (log_steps (take (length steps) log) ≡ steps) × (log_steps (drop (length steps) log) ≡ more)
 steps_split [] more log is = (refl, sym is)
 steps_split (s ∷ steps) more [] is = absurd (cc)
 steps_split (s ∷ steps) more (e ∷ log) is =
     let head : s ≡ e.taken.step = cc in
-    let tail : steps ++ more ≡ steps_of log = cc in
+    let tail : steps ++ more ≡ log_steps log = cc in
     let split = steps_split steps more log tail in
     (ap₂ (λ (x : Step) (l : List Step). x ∷ l) (sym head) split.0, split.1)
 
@@ -73,12 +73,12 @@ answers_split (a ∷ answers) more (e ∷ log) is =
 
 -- a front of the log has these steps and these answers, and what is after it the others
 record IsFront (some more : List Step) (answers others : List Answer) (part rest : List Entry) : Type 0 where
-  steps : steps_of part ≡ some
+  steps : log_steps part ≡ some
   replies : replies_of part ≡ answers
-  steps_behind : steps_of rest ≡ more
+  steps_behind : log_steps rest ≡ more
   replies_behind : replies_of rest ≡ others
 
-front : (r : Request) (a : Answer) (h : List Answer) (more : List Step) (others : List Answer) (log : List Entry) → length more ≤ length others → steps_begun r h ++ more ≡ steps_of log → (a ∷ h) ++ others ≡ replies_of log →
+front : (r : Request) (a : Answer) (h : List Answer) (more : List Step) (others : List Answer) (log : List Entry) → length more ≤ length others → steps_begun r h ++ more ≡ log_steps log → (a ∷ h) ++ others ≡ replies_of log →
     IsFront (steps_begun r h) more (a ∷ h) others (take (suc (length h)) log) (drop (suc (length h)) log)
 front r a h more others log few s t =
     let few_first = length-steps_begun r h in
@@ -90,9 +90,9 @@ front r a h more others log few s t =
     let of_steps = steps_split (steps_begun r h) more log s in
     let of_answers = answers_split (a ∷ h) others log t in
     record {
-      steps = ap (λ (n : ℕ). steps_of (take n log)) (sym count) ∙ of_steps.0;
+      steps = ap (λ (n : ℕ). log_steps (take n log)) (sym count) ∙ of_steps.0;
       replies = of_answers.0;
-      steps_behind = ap (λ (n : ℕ). steps_of (drop n log)) (sym count) ∙ of_steps.1;
+      steps_behind = ap (λ (n : ℕ). log_steps (drop n log)) (sym count) ∙ of_steps.1;
       replies_behind = of_answers.1;
     }
 
@@ -100,7 +100,7 @@ abbrev begun_with : Request → List Answer → Begun
 begun_with r answers = record { request = r; answers = answers }
 
 -- a part whose answers were all taken
-heard_part : (r : Request) (a : Answer) (h : List Answer) (part : List Entry) → AreAnswers r (a ∷ h) → steps_of part ≡ steps_begun r h → replies_of part ≡ a ∷ h → IsPart (begun_with r (a ∷ h)) part
+heard_part : (r : Request) (a : Answer) (h : List Answer) (part : List Entry) → AreAnswers r (a ∷ h) → log_steps part ≡ steps_begun r h → replies_of part ≡ a ∷ h → IsPart (begun_with r (a ∷ h)) part
 heard_part r a h [] are s t = absurd (cc)
 heard_part r a h (e ∷ entries) are s t =
     let rest : replies_of entries ≡ h = cc in
@@ -111,7 +111,7 @@ heard_part r a h (e ∷ entries) are s t =
     }) (sym t)
 
 -- one whose newest answer wasn't
-unheard_part : (r : Request) (a : Answer) (h : List Answer) (e : Entry) (part : List Entry) → AreAnswers r (a ∷ h) → step_at r (a ∷ h) ≡ Some e.taken.step → steps_of part ≡ steps_begun r h → replies_of part ≡ a ∷ h →
+unheard_part : (r : Request) (a : Answer) (h : List Answer) (e : Entry) (part : List Entry) → AreAnswers r (a ∷ h) → step_at r (a ∷ h) ≡ Some e.taken.step → log_steps part ≡ steps_begun r h → replies_of part ≡ a ∷ h →
     IsPart (begun_with r (a ∷ h)) (e ∷ part)
 unheard_part r a h e part are opened s t =
     Unheard e part refl (record {
@@ -124,15 +124,15 @@ abbrev SplitsOff : Request → List Answer → List Begun → List Entry → Typ
 SplitsOff r answers past log = (part : List Entry) × (rest : List Entry) × (log ≡ part ++ rest) × IsPart (begun_with r answers) part × AreInStep past rest
 
 module _ (r : Request) (past : List Begun) (shut : open_in past ≡ None) where
-  off_unsent : (log : List Entry) → steps_in past ≡ steps_of log → answers_in past ≡ replies_of log → SplitsOff r [] past log
+  off_unsent : (log : List Entry) → steps_in past ≡ log_steps log → answers_in past ≡ replies_of log → SplitsOff r [] past log
   off_unsent log s t = ([], log, refl, Unsent refl refl, Idle shut s t)
 
-  off_first : (log : List Entry) (e : Entry) (entries : List Entry) → log ≡ e ∷ entries → step_at r [] ≡ Some e.taken.step → steps_in past ≡ steps_of entries → answers_in past ≡ replies_of entries → SplitsOff r [] past log
+  off_first : (log : List Entry) (e : Entry) (entries : List Entry) → log ≡ e ∷ entries → step_at r [] ≡ Some e.taken.step → steps_in past ≡ log_steps entries → answers_in past ≡ replies_of entries → SplitsOff r [] past log
   off_first log e entries is opened s t =
       let row : IsRow (begun_with r []) e [] = record { steps = ap (λ (o : Option Step). with_step o []) (sym opened); in_turn = tt; goes_on = refl } in
       (e ∷ [], entries, is, Unheard e [] refl row refl, Idle shut s t)
 
-  off_heard : (a : Answer) (h : List Answer) (log : List Entry) → AreAnswers r (a ∷ h) → length (steps_in past) ≤ length (answers_in past) → steps_begun r h ++ steps_in past ≡ steps_of log → (a ∷ h) ++ answers_in past ≡ replies_of log →
+  off_heard : (a : Answer) (h : List Answer) (log : List Entry) → AreAnswers r (a ∷ h) → length (steps_in past) ≤ length (answers_in past) → steps_begun r h ++ steps_in past ≡ log_steps log → (a ∷ h) ++ answers_in past ≡ replies_of log →
       SplitsOff r (a ∷ h) past log
   off_heard a h log are few s t =
       let is = front r a h (steps_in past) (answers_in past) log few s t in (
@@ -144,7 +144,7 @@ module _ (r : Request) (past : List Begun) (shut : open_in past ≡ None) where
       )
 
   off_unheard : (a : Answer) (h : List Answer) (log : List Entry) (e : Entry) (entries : List Entry) → log ≡ e ∷ entries → AreAnswers r (a ∷ h) → length (steps_in past) ≤ length (answers_in past) → step_at r (a ∷ h) ≡ Some e.taken.step →
-      steps_begun r h ++ steps_in past ≡ steps_of entries → (a ∷ h) ++ answers_in past ≡ replies_of entries → SplitsOff r (a ∷ h) past log
+      steps_begun r h ++ steps_in past ≡ log_steps entries → (a ∷ h) ++ answers_in past ≡ replies_of entries → SplitsOff r (a ∷ h) past log
   off_unheard a h log e entries those are few opened s t =
       let is = front r a h (steps_in past) (answers_in past) entries few s t in (
         e ∷ take (suc (length h)) entries,
@@ -157,17 +157,17 @@ module _ (r : Request) (past : List Begun) (shut : open_in past ≡ None) where
   -- the part of the request that was begun last
   splits_off : (answers : List Answer) (log : List Entry) → AreAnswers r answers → length (steps_in past) ≤ length (answers_in past) → AreInStep (begun_with r answers ∷ past) log → SplitsOff r answers past log
   splits_off [] log are few (Idle none s t) = off_unsent log (rw none at s) t
-  splits_off [] log are few (Sent x opened s t) = let same : x ∷ steps_in past ≡ x ∷ steps_of log = rw opened at s in let tail : steps_in past ≡ steps_of log = cc in off_unsent log tail t
+  splits_off [] log are few (Sent x opened s t) = let same : x ∷ steps_in past ≡ x ∷ log_steps log = rw opened at s in let tail : steps_in past ≡ log_steps log = cc in off_unsent log tail t
   splits_off [] log are few (Kept e entries opened is s t) =
-      let same : e.taken.step ∷ steps_in past ≡ e.taken.step ∷ steps_of entries = ap (λ (o : Option Step). with_step o [] ++ steps_in past) (sym opened) ∙ s ∙ ap steps_of is in
-      let tail : steps_in past ≡ steps_of entries = cc in off_first log e entries is opened tail t
+      let same : e.taken.step ∷ steps_in past ≡ e.taken.step ∷ log_steps entries = ap (λ (o : Option Step). with_step o [] ++ steps_in past) (sym opened) ∙ s ∙ ap log_steps is in
+      let tail : steps_in past ≡ log_steps entries = cc in off_first log e entries is opened tail t
   splits_off (a ∷ h) log are few (Idle none s t) = off_heard a h log are few (ap (λ (o : Option Step). with_step o (steps_begun r h) ++ steps_in past) (sym none) ∙ s) t
   splits_off (a ∷ h) log are few (Sent x opened s t) =
-      let same : x ∷ (steps_begun r h ++ steps_in past) ≡ x ∷ steps_of log = ap (λ (o : Option Step). with_step o (steps_begun r h) ++ steps_in past) (sym opened) ∙ s in
-      let tail : steps_begun r h ++ steps_in past ≡ steps_of log = cc in off_heard a h log are few tail t
+      let same : x ∷ (steps_begun r h ++ steps_in past) ≡ x ∷ log_steps log = ap (λ (o : Option Step). with_step o (steps_begun r h) ++ steps_in past) (sym opened) ∙ s in
+      let tail : steps_begun r h ++ steps_in past ≡ log_steps log = cc in off_heard a h log are few tail t
   splits_off (a ∷ h) log are few (Kept e entries opened is s t) =
-      let same : e.taken.step ∷ (steps_begun r h ++ steps_in past) ≡ e.taken.step ∷ steps_of entries = ap (λ (o : Option Step). with_step o (steps_begun r h) ++ steps_in past) (sym opened) ∙ s ∙ ap steps_of is in
-      let tail : steps_begun r h ++ steps_in past ≡ steps_of entries = cc in off_unheard a h log e entries is are few opened tail t
+      let same : e.taken.step ∷ (steps_begun r h ++ steps_in past) ≡ e.taken.step ∷ log_steps entries = ap (λ (o : Option Step). with_step o (steps_begun r h) ++ steps_in past) (sym opened) ∙ s ∙ ap log_steps is in
+      let tail : steps_begun r h ++ steps_in past ≡ log_steps entries = cc in off_unheard a h log e entries is are few opened tail t
 
 nothing_left : (log : List Entry) → AreInStep [] log → log ≡ []
 nothing_left [] is = refl

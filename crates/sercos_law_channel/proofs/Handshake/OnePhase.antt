@@ -17,7 +17,7 @@ use Rattle.sercos_step.specs.Steps.{run, reading, writing, attribute_then, asks_
 use Rattle.sercos_service_drive.specs.Log.{Taken, Entry, opens}
 use Rattle.sercos_service_master.specs.Begun.{Begun, step_at, with_step, steps_in, open_in, is_odd, mhs_in, answers_it, answer_in, with_answer, step_or_none, master_says}
 use Rattle.sercos_block.specs.declared.block.Block.{Block}
-use Rattle.sercos_law_channel.specs.Handshake.InStep.{Idle, Sent, Kept, AreInStep, replies_of, steps_of as log_steps}
+use Rattle.sercos_law_channel.specs.Handshake.InStep.{Idle, Sent, Kept, AreInStep, replies_of, log_steps}
 use Rattle.sercos_law_channel.specs.Handshake.Transfers.{IsTransfer}
 use Rattle.sercos_law_channel.proofs.Handshake.TransferSteps.{all-slice_get, newest_step, without_newest}
 use Rattle.sercos_law_channel.specs.Handshake.Moves.{with_status, said_in, with_taken}

@@ -12,10 +12,10 @@ use Rattle.sercos_service_master.specs.Begun.{step_at, with_step, steps_begun}
 use Rattle.sercos_block.specs.declared.block.Block.{Block}
 use Rattle.sercos_service_drive.specs.Log.{Entry}
 use Rattle.sercos_service_drive.specs.Writes.{Write, with_added, writes_of, takes_effect}
-use Rattle.sercos_law_channel.specs.Handshake.InStep.{steps_of, replies_of}
+use Rattle.sercos_law_channel.specs.Handshake.InStep.{log_steps, replies_of}
 use Rattle.sercos_law_channel.specs.Handshake.Transfers.{IsTransfer, is_complete}
 
-pub length-steps_of : (entries : List Entry) → length (steps_of entries) ≡ length entries
+pub length-steps_of : (entries : List Entry) → length (log_steps entries) ≡ length entries
 length-steps_of [] = refl
 length-steps_of (e ∷ entries) = ap suc (length-steps_of entries)
 
@@ -60,7 +60,7 @@ module _ (r : Request) (blocks : List Block) (log : List Entry) where
       let long = length-steps_of entries in
       let many = length-replies_of entries in
       next-step_at r (replies_of (d ∷ entries)) e.taken.step
-      (begun_last (step_at r (replies_of (d ∷ entries))) e.taken.step (steps_of (d ∷ entries)) (steps_begun r (replies_of entries)) is.steps (omega arith)).0
+      (begun_last (step_at r (replies_of (d ∷ entries))) e.taken.step (log_steps (d ∷ entries)) (steps_begun r (replies_of entries)) is.steps (omega arith)).0
 
   -- the entries without the newest are a transfer's
   pub without_newest : (e d : Entry) (entries : List Entry) → IsTransfer r blocks e (d ∷ entries) log → IsTransfer r blocks d entries log
@@ -68,7 +68,7 @@ module _ (r : Request) (blocks : List Block) (log : List Entry) where
       let few = length-steps_begun r (replies_of entries) in
       let long = length-steps_of entries in
       let many = length-replies_of entries in record {
-        steps = (begun_last (step_at r (replies_of (d ∷ entries))) e.taken.step (steps_of (d ∷ entries)) (steps_begun r (replies_of entries)) is.steps (omega arith)).1;
+        steps = (begun_last (step_at r (replies_of (d ∷ entries))) e.taken.step (log_steps (d ∷ entries)) (steps_begun r (replies_of entries)) is.steps (omega arith)).1;
         in_turn = is.in_turn.0;
         goes_on = is.in_turn.1;
         replies = is.replies.0;

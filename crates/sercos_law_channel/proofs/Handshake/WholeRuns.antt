@@ -6,7 +6,7 @@ use Rattle.sercos_service_drive.specs.Log.{Taken, Entry, ahs, accepted}
 use Rattle.sercos_service_drive.specs.Replies.{reply_of, answered, log_of}
 use Rattle.sercos_service_drive.specs.Writes.{Write, with_added, writes_of, adds, added_on}
 use Rattle.sercos_law_channel.specs.Handshake.Views.{View, processed_in, with_record, kept_in}
-use Rattle.sercos_law_channel.specs.Handshake.Epochs.{unless_restart, epoch_taken, taken_in, epoch_log, log_in}
+use Rattle.sercos_law_channel.specs.Handshake.Epochs.{unless_restart, epoch_taken, taken_in_views, epoch_log, log_in}
 use Rattle.sercos_law_channel.specs.Handshake.Runs.{IsRun}
 use Rattle.sercos_law_channel.specs.Handshake.WholeRun.{accepted_of, all_entries, write_of, all_writes, leaving}
 use Rattle.sercos_law_channel.proofs.Handshake.PhaseMoves.{Processes, Nothing, Record, processes, processed_phase}
@@ -79,11 +79,11 @@ module _ (busy : ℕ) where
   entries_in_epochs (v ∷ past) run =
       ap (accepted_of (processed_in v past) (kept_in v past)) (entries_in_epochs past run.0 ∙ moved_on v.master_restarts log_of (epoch_taken past) (entries_ago past) refl)
       ∙ entries_more (processed_in v past) (kept_in v past) (unless_restart v (epoch_taken past)) (leaving v.master_restarts (epoch_log past) (entries_ago past)) (kept_same v past run)
-      ∙ moved_on v.falls log_of (taken_in v past) (leaving v.master_restarts (epoch_log past) (entries_ago past)) refl
+      ∙ moved_on v.falls log_of (taken_in_views v past) (leaving v.master_restarts (epoch_log past) (entries_ago past)) refl
 
   pub writes_in_epochs : (past : List View) → IsRun busy past → all_writes past ≡ writes_of (epoch_log past) ++ writes_ago past
   writes_in_epochs [] run = refl
   writes_in_epochs (v ∷ past) run =
       ap (with_added (write_of (processed_in v past) (kept_in v past))) (writes_in_epochs past run.0 ∙ moved_on v.master_restarts (λ h. writes_of (log_of h)) (epoch_taken past) (writes_ago past) refl)
       ∙ writes_more (processed_in v past) (kept_in v past) (unless_restart v (epoch_taken past)) (leaving v.master_restarts (writes_of (epoch_log past)) (writes_ago past)) (kept_same v past run)
-      ∙ moved_on v.falls (λ h. writes_of (log_of h)) (taken_in v past) (leaving v.master_restarts (writes_of (epoch_log past)) (writes_ago past)) refl
+      ∙ moved_on v.falls (λ h. writes_of (log_of h)) (taken_in_views v past) (leaving v.master_restarts (writes_of (epoch_log past)) (writes_ago past)) refl

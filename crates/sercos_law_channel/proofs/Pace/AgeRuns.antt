@@ -7,11 +7,11 @@ use Rattle.sercos_step.specs.declared.step.Step.{Step}
 use Rattle.sercos_service_drive.specs.Log.{Taken, Entry}
 use Rattle.sercos_service_drive.specs.Replies.{reply_of, log_of}
 use Rattle.sercos_service_master.specs.Begun.{Begun, open_in, steps_in, answers_in, is_odd}
-use Rattle.sercos_law_channel.specs.Handshake.InStep.{steps_of}
+use Rattle.sercos_law_channel.specs.Handshake.InStep.{log_steps}
 use Rattle.sercos_law_channel.proofs.Handshake.HandshakeMoves.{log-taken}
 use Rattle.sercos_law_channel.proofs.Handshake.TransferSteps.{length-steps_of}
 use Rattle.sercos_law_channel.specs.Handshake.Views.{View, standing, stood_in, record_in, with_record}
-use Rattle.sercos_law_channel.specs.Handshake.Epochs.{unless_restart, epoch_begun, begun_in, epoch_taken, taken_in, epoch_log, log_in}
+use Rattle.sercos_law_channel.specs.Handshake.Epochs.{unless_restart, epoch_begun, begun_in, epoch_taken, taken_in_views, epoch_log, log_in}
 use Rattle.sercos_law_channel.specs.Handshake.Runs.{IsRun}
 use Rattle.sercos_law_channel.specs.Pace.Times.{one_more, open_cycles, AreUndisturbed, IsOnTime, Rests, Waits}
 use Rattle.sercos_law_channel.specs.Pace.Stretches.{IsClean, AreClean, open_since, IsInTime, RestsNow, WaitsNow}
@@ -69,7 +69,7 @@ module _ (busy : ℕ) where
     begun = cond-false v.falls [] (begun_in v all) clean.stays
 
     pub logged : epoch_log (v ∷ all) ≡ log_in v all
-    logged = ap log_of (cond-false v.falls [] (taken_in v all) clean.stays)
+    logged = ap log_of (cond-false v.falls [] (taken_in_views v all) clean.stays)
 
     pub before : unless_restart v (epoch_begun all) ≡ epoch_begun all
     before = cond-false v.master_restarts [] (epoch_begun all) clean.goes_on
@@ -88,7 +88,7 @@ module _ (busy : ℕ) where
 
     -- the step that was open is open still
     old_age : (e f : Entry) (log rest : List Entry) → epoch_log (v ∷ all) ≡ e ∷ log → epoch_log all ≡ f ∷ rest → e.taken.cycle < length (v ∷ all) → is_some (open_in (epoch_begun (v ∷ all))) ≡ true →
-        steps_in (epoch_begun (v ∷ all)) ≡ steps_of (epoch_log (v ∷ all)) → steps_in (epoch_begun all) ≡ steps_of (epoch_log all) → age_in all + f.taken.cycle ≤ length all + age_in past → age_in (v ∷ all) + e.taken.cycle ≤ length (v ∷ all) + age_in past
+        steps_in (epoch_begun (v ∷ all)) ≡ log_steps (epoch_log (v ∷ all)) → steps_in (epoch_begun all) ≡ log_steps (epoch_log all) → age_in all + f.taken.cycle ≤ length all + age_in past → age_in (v ∷ all) + e.taken.cycle ≤ length (v ∷ all) + age_in past
     old_age e f log rest those were earlier some now then_ old = by (length (steps_in (begun_in v all)) == length (steps_in (unless_restart v (epoch_begun all)))) refl (aged_open some)
       where
         by : (same : Bool) → (length (steps_in (begun_in v all)) == length (steps_in (unless_restart v (epoch_begun all)))) ≡ same → age_in (v ∷ all) ≡ (if same then age_in all + 1 else 1) → age_in (v ∷ all) + e.taken.cycle ≤ length (v ∷ all) + age_in past
@@ -100,8 +100,8 @@ module _ (busy : ℕ) where
               let cycle = ap (λ (x : Entry). x.taken.cycle) entry in omega (arith, age, cycle, old)
           | inr (x, grows, at) ↦
               let count : length (steps_in (begun_in v all)) ≡ length (steps_in (unless_restart v (epoch_begun all))) = eqb-true _ _ is in
-              let left : length (steps_in (begun_in v all)) ≡ length (steps_of (epoch_log (v ∷ all))) = ap (λ (l : List Begun). length (steps_in l)) (sym begun) ∙ ap length now in
-              let right : length (steps_in (unless_restart v (epoch_begun all))) ≡ length (steps_of (epoch_log all)) = ap (λ (l : List Begun). length (steps_in l)) before ∙ ap length then_ in
+              let left : length (steps_in (begun_in v all)) ≡ length (log_steps (epoch_log (v ∷ all))) = ap (λ (l : List Begun). length (steps_in l)) (sym begun) ∙ ap length now in
+              let right : length (steps_in (unless_restart v (epoch_begun all))) ≡ length (log_steps (epoch_log all)) = ap (λ (l : List Begun). length (steps_in l)) before ∙ ap length then_ in
               let long = length-steps_of (epoch_log (v ∷ all)) in
               let short = length-steps_of (epoch_log all) in
               let more : length (epoch_log (v ∷ all)) ≡ suc (length (epoch_log all)) = ap length (logged ∙ grows) in absurd (omega (arith, count, left, right, long, short, more))

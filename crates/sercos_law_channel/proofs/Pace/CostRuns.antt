@@ -16,7 +16,7 @@ use Rattle.sercos_service_drive.specs.Log.{Taken, Entry, accepted}
 use Rattle.sercos_service_drive.specs.Replies.{reply_of, log_of}
 use Rattle.sercos_service_drive.specs.Writes.{Write, writes_of}
 use Rattle.sercos_service_master.specs.Begun.{Begun, step_at, open_in, steps_in, answers_in, is_odd}
-use Rattle.sercos_law_channel.specs.Handshake.InStep.{AreInStep, Idle, Sent, Kept, steps_of, replies_of}
+use Rattle.sercos_law_channel.specs.Handshake.InStep.{AreInStep, Idle, Sent, Kept, log_steps, replies_of}
 use Rattle.sercos_law_channel.specs.Handshake.Parts.{AreInTurn, IsRow, IsPart, Unsent, Heard, Unheard, AreParts}
 use Rattle.sercos_law_channel.specs.Handshake.Transfers.{AreReplies, HaveBlocks, IsTransfer}
 use Rattle.sercos_law_channel.proofs.Handshake.HandshakeMoves.{log-taken}
@@ -24,7 +24,7 @@ use Rattle.sercos_law_channel.proofs.Handshake.LogParts.{fall_into_parts}
 use Rattle.sercos_law_channel.proofs.Handshake.ReadStages.{low_of, high_of}
 use Rattle.sercos_law_channel.proofs.Handshake.TransferSteps.{length-replies_of}
 use Rattle.sercos_law_channel.specs.Handshake.Views.{View, standing, stood_in, record_in, processed_in, with_record}
-use Rattle.sercos_law_channel.specs.Handshake.Epochs.{unless_restart, epoch_begun, epoch_taken, taken_in, epoch_log, log_in}
+use Rattle.sercos_law_channel.specs.Handshake.Epochs.{unless_restart, epoch_begun, epoch_taken, taken_in_views, epoch_log, log_in}
 use Rattle.sercos_law_channel.specs.Handshake.Runs.{IsRun}
 use Rattle.sercos_law_channel.specs.Handshake.WholeRun.{leaving, all_writes, AreSound, AreSmall}
 use Rattle.sercos_law_channel.specs.Pace.Times.{time_for}
@@ -155,7 +155,7 @@ module _ (said : (b : Block) → b.attribute.factor < 2 ^ 16 → shape_of 7 (low
   timed_in (v ∷ past) run are = by v.falls (timed_cycle v past run are.1 (timed_in past run.0 are.0))
     where
       by : (falls : Bool) → LogTimed time (leaving v.master_restarts (writes_of (epoch_log past)) (writes_ago past)) (log_in v past) →
-          LogTimed time (leaving falls (writes_of (log_in v past)) (leaving v.master_restarts (writes_of (epoch_log past)) (writes_ago past))) (log_of (if falls then [] else taken_in v past))
+          LogTimed time (leaving falls (writes_of (log_in v past)) (leaving v.master_restarts (writes_of (epoch_log past)) (writes_ago past))) (log_of (if falls then [] else taken_in_views v past))
       by true timed = tt
       by false timed = timed
 
@@ -193,7 +193,7 @@ module _ (said : (b : Block) → b.attribute.factor < 2 ^ 16 → shape_of 7 (low
   answers_few begun log (Kept e past opened is s a) = let y = ap length a in let z = ap length is in let m = length-replies_of past in omega (arith, y, z, m)
 
   -- .. and one less if one waits
-  answers_fewer : (e : Entry) (past : List Entry) (begun : List Begun) (log : List Entry) → AreInStep begun log → steps_in begun ≡ steps_of log → open_in begun ≡ Some e.taken.step → length (answers_in begun) + 1 ≤ length log
+  answers_fewer : (e : Entry) (past : List Entry) (begun : List Begun) (log : List Entry) → AreInStep begun log → steps_in begun ≡ log_steps log → open_in begun ≡ Some e.taken.step → length (answers_in begun) + 1 ≤ length log
   answers_fewer e past begun log (Idle none s a) all opened = absurd (cc)
   answers_fewer e past begun log (Sent step at s a) all opened = let more = ap length (sym s ∙ all) in absurd (omega (arith, more))
   answers_fewer e past begun log (Kept x rest at is s a) all opened = let y = ap length a in let z = ap length is in let m = length-replies_of rest in omega (arith, y, z, m)

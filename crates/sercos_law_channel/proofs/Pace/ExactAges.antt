@@ -4,7 +4,7 @@ use Rattle.std.specs.Prelude.{◌==◌, None, is_some}
 use Rattle.std.proofs.lemmas.Bool.{cond-true, cond-false, eq-eqb, ne_eqb}
 use Rattle.sercos_service_drive.specs.Log.{Entry}
 use Rattle.sercos_service_master.specs.Begun.{Begun, open_in, steps_in, answers_in, answers_it}
-use Rattle.sercos_law_channel.specs.Handshake.InStep.{AreInStep, Idle, Sent, Kept, steps_of, replies_of}
+use Rattle.sercos_law_channel.specs.Handshake.InStep.{AreInStep, Idle, Sent, Kept, log_steps, replies_of}
 use Rattle.sercos_law_channel.proofs.Handshake.TransferSteps.{length-steps_of}
 use Rattle.sercos_law_channel.specs.Handshake.Views.{View}
 use Rattle.sercos_law_channel.specs.Handshake.Epochs.{unless_restart, epoch_begun, begun_in, epoch_log, log_in}
@@ -20,11 +20,11 @@ use Rattle.sercos_law_channel.proofs.Pace.EpochBegins.{run_after, none_begun, Ea
 use Rattle.sercos_law_channel.proofs.Pace.AgeRuns.{log_grows, begun, logged, before, aged_open, undisturbed_on}
 
 -- in an epoch that is on time all steps that were begun are accepted
-all_accepted : (busy : ℕ) (past : List View) → IsRun busy past → IsOnTime busy past → steps_in (epoch_begun past) ≡ steps_of (epoch_log past)
+all_accepted : (busy : ℕ) (past : List View) → IsRun busy past → IsOnTime busy past → steps_in (epoch_begun past) ≡ log_steps (epoch_log past)
 all_accepted busy past run (Waits e log those opened all earlier late sum) = all
 all_accepted busy past run (Rests none is) = by (in_step busy past run)
   where
-    by : AreInStep (epoch_begun past) (epoch_log past) → steps_in (epoch_begun past) ≡ steps_of (epoch_log past)
+    by : AreInStep (epoch_begun past) (epoch_log past) → steps_in (epoch_begun past) ≡ log_steps (epoch_log past)
     by (Idle off s a) = s
     by (Sent step opened s a) = absurd (cc)
     by (Kept e log opened those s a) = s

@@ -10,9 +10,9 @@ use Rattle.sercos_step.specs.declared.request.Request.{Request}
 use Rattle.sercos_command.specs.Settings.{CommandsView, change_in}
 use Rattle.sercos_service_drive.specs.Log.{Taken, Entry, ahs}
 use Rattle.sercos_service_drive.specs.Replies.{log_of}
-use Rattle.sercos_service_drive.specs.Says.{Shown, shown, drive_says, shown_by}
+use Rattle.sercos_service_drive.specs.Says.{Shown, shown, channel_says, shown_by}
 use Rattle.sercos_service_master.specs.Begun.{Begun, open_in, steps_in, answers_in, is_odd, answers_it, answer_in, with_answer, master_says, step_or_none}
-use Rattle.sercos_law_channel.specs.Handshake.InStep.{AreInStep, Idle, Sent, Kept, steps_of, replies_of}
+use Rattle.sercos_law_channel.specs.Handshake.InStep.{AreInStep, Idle, Sent, Kept, log_steps, replies_of}
 use Rattle.sercos_law_channel.specs.Handshake.Moves.{with_status, said_in, with_taken}
 use Rattle.sercos_law_channel.proofs.Handshake.HandshakeMoves.{ahs-shown, quiet_bit, said_step, parity, ahs-log}
 use Rattle.sercos_law_channel.specs.Handshake.Epochs.{with_begun}
@@ -24,21 +24,21 @@ use Rattle.sercos_law_channel.proofs.Pace.OnTime.{answered-answers, shown_busy, 
 -- has accepted.
 pub data StartsLate (busy c spent : ℕ) (begun : List Begun) (log : List Entry) : Type 0 where
   LateFree : open_in begun ≡ None → spent ≤ time_for busy (answers_in begun) → StartsLate busy c spent begun log
-  LateNew : (s : Step) → open_in begun ≡ Some s → steps_in begun ≡ s ∷ steps_of log → spent ≤ time_for busy (answers_in begun) → StartsLate busy c spent begun log
-  LateBusy : (e : Entry) (past : List Entry) → log ≡ e ∷ past → open_in begun ≡ Some e.taken.step → steps_in begun ≡ steps_of log → e.taken.cycle < c →
+  LateNew : (s : Step) → open_in begun ≡ Some s → steps_in begun ≡ s ∷ log_steps log → spent ≤ time_for busy (answers_in begun) → StartsLate busy c spent begun log
+  LateBusy : (e : Entry) (past : List Entry) → log ≡ e ∷ past → open_in begun ≡ Some e.taken.step → steps_in begun ≡ log_steps log → e.taken.cycle < c →
       spent ≤ time_for busy (answers_in begun) + (busy + 1) → spent + e.taken.cycle ≤ time_for busy (answers_in begun) + c → StartsLate busy c spent begun log
 
 -- .. after the AT, when the drive is still busy with one that it has accepted ..
 pub data WorksLate (busy c spent : ℕ) (begun : List Begun) (log : List Entry) : Type 0 where
   FreeLate : open_in begun ≡ None → spent ≤ time_for busy (answers_in begun) → WorksLate busy c spent begun log
-  NewLate : (s : Step) → open_in begun ≡ Some s → steps_in begun ≡ s ∷ steps_of log → spent ≤ time_for busy (answers_in begun) → WorksLate busy c spent begun log
-  BusyLate : (e : Entry) (past : List Entry) → log ≡ e ∷ past → open_in begun ≡ Some e.taken.step → steps_in begun ≡ steps_of log → e.taken.cycle ≤ c → c ≤ e.taken.cycle + busy →
+  NewLate : (s : Step) → open_in begun ≡ Some s → steps_in begun ≡ s ∷ log_steps log → spent ≤ time_for busy (answers_in begun) → WorksLate busy c spent begun log
+  BusyLate : (e : Entry) (past : List Entry) → log ≡ e ∷ past → open_in begun ≡ Some e.taken.step → steps_in begun ≡ log_steps log → e.taken.cycle ≤ c → c ≤ e.taken.cycle + busy →
       spent + e.taken.cycle ≤ time_for busy (answers_in begun) + c → WorksLate busy c spent begun log
 
 -- .. and at the end of the cycle
 pub data EndsLate (busy c spent : ℕ) (begun : List Begun) (after : List Entry) : Type 0 where
   RestsLate : open_in begun ≡ None → spent ≤ time_for busy (answers_in begun) → EndsLate busy c spent begun after
-  WaitsLate : (e : Entry) (past : List Entry) → after ≡ e ∷ past → open_in begun ≡ Some e.taken.step → steps_in begun ≡ steps_of after → e.taken.cycle ≤ c → c ≤ e.taken.cycle + busy →
+  WaitsLate : (e : Entry) (past : List Entry) → after ≡ e ∷ past → open_in begun ≡ Some e.taken.step → steps_in begun ≡ log_steps after → e.taken.cycle ≤ c → c ≤ e.taken.cycle + busy →
       spent + e.taken.cycle ≤ time_for busy (answers_in begun) + c → EndsLate busy c spent begun after
 
 -- if every accepted step has its answer, none is busy
@@ -62,19 +62,19 @@ same_bit : (b : Bool) → (true && (beq b b && not false)) ≡ true
 same_bit true = refl
 same_bit false = refl
 
-module _ (busy c spent : ℕ) (showing : CommandsView) (status : Status) (word : ℕ) (begun : List Begun) (taken : List Taken) (says : shown_by status word ≡ drive_says busy c showing taken) where
+module _ (busy c spent : ℕ) (showing : CommandsView) (status : Status) (word : ℕ) (begun : List Begun) (taken : List Taken) (says : shown_by status word ≡ channel_says busy c showing taken) where
   quiet : answers_it begun status ≡ false → with_status status word begun ≡ begun
   quiet off = cond-false (answers_it begun status) (with_answer (answer_in status word) begun) begun off
 
   bit : status.ahs ≡ is_odd (log_of taken)
   bit = ap (λ (s : Shown). s.ahs) says ∙ ahs-shown busy c (ahs taken) (change_in showing c) (log_of taken) ∙ ahs-log taken
 
-  pub new_late : (s : Step) → open_in begun ≡ Some s → steps_in begun ≡ s ∷ steps_of (log_of taken) → spent ≤ time_for busy (answers_in begun) → WorksLate busy c spent (with_status status word begun) (log_of taken)
+  pub new_late : (s : Step) → open_in begun ≡ Some s → steps_in begun ≡ s ∷ log_steps (log_of taken) → spent ≤ time_for busy (answers_in begun) → WorksLate busy c spent (with_status status word begun) (log_of taken)
   new_late s opened more is =
       let off : answers_it begun status ≡ false = quiet_bit begun (log_of taken) s status more bit opened in
       subst (λ (l : List Begun). WorksLate busy c spent l (log_of taken)) (sym (quiet off)) (NewLate s opened more is)
 
-  pub heard_late : (e : Entry) (past : List Entry) → AreInStep begun (log_of taken) → AreInStep (with_status status word begun) (log_of taken) → log_of taken ≡ e ∷ past → open_in begun ≡ Some e.taken.step → steps_in begun ≡ steps_of (log_of taken) → e.taken.cycle < c →
+  pub heard_late : (e : Entry) (past : List Entry) → AreInStep begun (log_of taken) → AreInStep (with_status status word begun) (log_of taken) → log_of taken ≡ e ∷ past → open_in begun ≡ Some e.taken.step → steps_in begun ≡ log_steps (log_of taken) → e.taken.cycle < c →
       spent ≤ time_for busy (answers_in begun) + (busy + 1) → spent + e.taken.cycle ≤ time_for busy (answers_in begun) + c → WorksLate busy c spent (with_status status word begun) (log_of taken)
   heard_late e past before after those opened all earlier soon sum =
       by (nat_le (c - e.taken.cycle) busy) refl (says ∙ ap (shown busy c (ahs taken) (change_in showing c)) those)
@@ -102,10 +102,10 @@ module _ (busy c spent : ℕ) (begun : List Begun) (log : List Entry) where
   taken_late t answer says at (NewLate s opened more is) =
       let grown = joins busy c spent begun log t answer s says more in
       let step : t.step ≡ s = said_step t begun says ∙ ap step_or_none opened in
-      WaitsLate (record { taken = t; answer = answer }) log grown (opened ∙ ap (λ (x : Step). Some x) (sym step)) (more ∙ ap (λ (x : Step). x ∷ steps_of log) (sym step) ∙ ap steps_of (sym grown)) (omega arith) (omega arith) (omega arith)
+      WaitsLate (record { taken = t; answer = answer }) log grown (opened ∙ ap (λ (x : Step). Some x) (sym step)) (more ∙ ap (λ (x : Step). x ∷ log_steps log) (sym step) ∙ ap log_steps (sym grown)) (omega arith) (omega arith) (omega arith)
   taken_late t answer says at (BusyLate e past those opened all earlier late sum) =
       let same = dropped busy c spent begun log t answer says all in
-      WaitsLate e past (same ∙ those) opened (all ∙ ap steps_of (sym same)) earlier late sum
+      WaitsLate e past (same ∙ those) opened (all ∙ ap log_steps (sym same)) earlier late sum
 
   pub silent_late : open_in begun ≡ None → WorksLate busy c spent begun log → EndsLate busy c spent begun log
   silent_late none (FreeLate x is) = RestsLate none is

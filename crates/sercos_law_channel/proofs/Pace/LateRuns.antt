@@ -7,10 +7,10 @@ use Rattle.sercos_step.specs.declared.step.Step.{Step}
 use Rattle.sercos_service_drive.specs.Log.{Taken, Entry}
 use Rattle.sercos_service_drive.specs.Replies.{reply_of, log_of}
 use Rattle.sercos_service_master.specs.Begun.{Begun, open_in, steps_in, answers_in, answers_it, is_odd}
-use Rattle.sercos_law_channel.specs.Handshake.InStep.{AreInStep, steps_of}
+use Rattle.sercos_law_channel.specs.Handshake.InStep.{AreInStep, log_steps}
 use Rattle.sercos_law_channel.proofs.Handshake.HandshakeMoves.{log-taken}
 use Rattle.sercos_law_channel.specs.Handshake.Views.{Heard, View, standing, stood_in, record_in, processed_in, with_record}
-use Rattle.sercos_law_channel.specs.Handshake.Epochs.{with_heard, unless_restart, epoch_begun, begun_in, epoch_taken, taken_in, epoch_log, log_in}
+use Rattle.sercos_law_channel.specs.Handshake.Epochs.{with_heard, unless_restart, epoch_begun, begun_in, epoch_taken, taken_in_views, epoch_log, log_in}
 use Rattle.sercos_law_channel.specs.Handshake.Runs.{IsShown, IsRun}
 use Rattle.sercos_law_channel.specs.Pace.Times.{time_for, one_more}
 use Rattle.sercos_law_channel.specs.Pace.Stretches.{IsClean, open_since, spent_since, IsInTime, RestsNow, WaitsNow, ComesInTime, TakesTimeSince}
@@ -117,7 +117,7 @@ module _ (busy : ℕ) where
       begun = cond-false v.falls [] (begun_in v (cycles ++ past)) on
 
       taken : epoch_log (v ∷ (cycles ++ past)) ≡ log_in v (cycles ++ past)
-      taken = ap log_of (cond-false v.falls [] (taken_in v (cycles ++ past)) on)
+      taken = ap log_of (cond-false v.falls [] (taken_in_views v (cycles ++ past)) on)
 
       same : time_for busy (answers_in (epoch_begun (v ∷ (cycles ++ past)))) ≡ time_for busy (answers_in (begun_in v (cycles ++ past)))
       same = ap (λ (l : List Begun). time_for busy (answers_in l)) begun
@@ -128,7 +128,7 @@ module _ (busy : ℕ) where
           RestsNow (ap open_in begun ∙ none) (omega (arith, same))
       by (WaitsLate e log those opened all earlier late sum) =
           let spent : open_since (v ∷ cycles) past ≡ open_since cycles past + 1 = ap (λ (o : Option Step). one_more (is_some o) (open_since cycles past)) opened in
-          WaitsNow e log (taken ∙ those) (ap open_in begun ∙ opened) (ap steps_in begun ∙ all ∙ ap steps_of (sym taken)) (omega arith) (omega arith) (omega (arith, same))
+          WaitsNow e log (taken ∙ those) (ap open_in begun ∙ opened) (ap steps_in begun ∙ all ∙ ap log_steps (sym taken)) (omega arith) (omega arith) (omega (arith, same))
 
   start_of : (cycles past : List View) → IsInTime busy cycles past → StartsLate busy (length (cycles ++ past)) (spent_since busy cycles past) (epoch_begun (cycles ++ past)) (epoch_log (cycles ++ past))
   start_of cycles past (RestsNow none is) = LateFree none is

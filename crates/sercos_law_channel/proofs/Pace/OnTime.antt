@@ -11,9 +11,9 @@ use Rattle.sercos_step.specs.declared.request.Request.{Request}
 use Rattle.sercos_command.specs.Settings.{CommandsView, change_in}
 use Rattle.sercos_service_drive.specs.Log.{Taken, Entry, ahs}
 use Rattle.sercos_service_drive.specs.Replies.{log_of}
-use Rattle.sercos_service_drive.specs.Says.{Shown, shown, drive_says, shown_by}
+use Rattle.sercos_service_drive.specs.Says.{Shown, shown, channel_says, shown_by}
 use Rattle.sercos_service_master.specs.Begun.{Begun, open_in, steps_in, answers_in, is_odd, answers_it, answer_in, with_answer, master_says, step_or_none}
-use Rattle.sercos_law_channel.specs.Handshake.InStep.{AreInStep, Idle, Sent, Kept, steps_of, replies_of}
+use Rattle.sercos_law_channel.specs.Handshake.InStep.{AreInStep, Idle, Sent, Kept, log_steps, replies_of}
 use Rattle.sercos_law_channel.specs.Handshake.Moves.{with_status, said_in, with_taken}
 use Rattle.sercos_law_channel.proofs.Handshake.HandshakeMoves.{said_bit, said_step, parity, parity_sent, ahs-log}
 use Rattle.sercos_law_channel.proofs.Handshake.OnePhase.{no_longer}
@@ -24,8 +24,8 @@ use Rattle.sercos_law_channel.specs.Pace.Times.{time_for}
 -- that it has accepted and shows as busy.
 pub data Works (busy c spent : ℕ) (begun : List Begun) (log : List Entry) : Type 0 where
   Free : open_in begun ≡ None → spent ≡ time_for busy (answers_in begun) → Works busy c spent begun log
-  New : (s : Step) → open_in begun ≡ Some s → steps_in begun ≡ s ∷ steps_of log → spent ≡ time_for busy (answers_in begun) → Works busy c spent begun log
-  Busy : (e : Entry) (past : List Entry) → log ≡ e ∷ past → open_in begun ≡ Some e.taken.step → steps_in begun ≡ steps_of log → e.taken.cycle ≤ c → c ≤ e.taken.cycle + busy → spent + e.taken.cycle ≡ time_for busy (answers_in begun) + c → Works busy c spent begun log
+  New : (s : Step) → open_in begun ≡ Some s → steps_in begun ≡ s ∷ log_steps log → spent ≡ time_for busy (answers_in begun) → Works busy c spent begun log
+  Busy : (e : Entry) (past : List Entry) → log ≡ e ∷ past → open_in begun ≡ Some e.taken.step → steps_in begun ≡ log_steps log → e.taken.cycle ≤ c → c ≤ e.taken.cycle + busy → spent + e.taken.cycle ≡ time_for busy (answers_in begun) + c → Works busy c spent begun log
 
 -- if every accepted step has its answer, none is busy
 settled : (busy c spent : ℕ) (begun : List Begun) (log : List Entry) → AreInStep begun log → answers_in begun ≡ replies_of log → spent ≡ time_for busy (answers_in begun) → Works busy c spent begun log
@@ -46,16 +46,16 @@ shown_free busy c cycle is before = grind (arith, nat_tests)
 
 module _ (busy c spent : ℕ) (begun : List Begun) (log : List Entry) (h : AreInStep begun log) where
   -- a step that is open and accepted has no answer yet
-  pub one_waits : (e : Entry) (past : List Entry) → log ≡ e ∷ past → open_in begun ≡ Some e.taken.step → steps_in begun ≡ steps_of log → answers_in begun ≡ replies_of past
+  pub one_waits : (e : Entry) (past : List Entry) → log ≡ e ∷ past → open_in begun ≡ Some e.taken.step → steps_in begun ≡ log_steps log → answers_in begun ≡ replies_of past
   one_waits e past those opened all = by h
     where
       by : AreInStep begun log → answers_in begun ≡ replies_of past
       by (Idle none s a) = absurd (cc)
-      by (Sent step at s a) = absurd (no_longer step (steps_of log) (sym s ∙ all))
+      by (Sent step at s a) = absurd (no_longer step (log_steps log) (sym s ∙ all))
       by (Kept x rest at is s a) = let same : x ∷ rest ≡ e ∷ past = sym is ∙ those in let tail : rest ≡ past = cc in a ∙ ap replies_of tail
 
   pub heard_works : (cycle : ℕ) (showing : CommandsView) (status : Status) (word : ℕ) (taken : List Taken) (e : Entry) (past : List Entry) → log ≡ log_of taken → AreInStep (with_status status word begun) log →
-      shown_by status word ≡ drive_says busy c showing taken → log ≡ e ∷ past → open_in begun ≡ Some e.taken.step → steps_in begun ≡ steps_of log → e.taken.cycle < c → c ≤ e.taken.cycle + (busy + 1) →
+      shown_by status word ≡ channel_says busy c showing taken → log ≡ e ∷ past → open_in begun ≡ Some e.taken.step → steps_in begun ≡ log_steps log → e.taken.cycle < c → c ≤ e.taken.cycle + (busy + 1) →
       spent + e.taken.cycle ≡ time_for busy (answers_in begun) + c → Works busy c spent (with_status status word begun) log
   heard_works cycle showing status word taken e past of after says those opened all earlier late sum =
       by (nat_le (c - e.taken.cycle) busy) refl (says ∙ ap (shown busy c (ahs taken) (change_in showing c)) (sym of ∙ those))
@@ -94,19 +94,19 @@ module _ (busy c spent : ℕ) (begun : List Begun) (log : List Entry) (h : AreIn
 -- at the end of the cycle
 pub data EndsSo (busy c spent : ℕ) (begun : List Begun) (after : List Entry) : Type 0 where
   RestsSo : open_in begun ≡ None → spent ≡ time_for busy (answers_in begun) → EndsSo busy c spent begun after
-  WaitsSo : (e : Entry) (past : List Entry) → after ≡ e ∷ past → open_in begun ≡ Some e.taken.step → steps_in begun ≡ steps_of after → e.taken.cycle ≤ c → c ≤ e.taken.cycle + busy →
+  WaitsSo : (e : Entry) (past : List Entry) → after ≡ e ∷ past → open_in begun ≡ Some e.taken.step → steps_in begun ≡ log_steps after → e.taken.cycle ≤ c → c ≤ e.taken.cycle + busy →
       spent + e.taken.cycle ≡ time_for busy (answers_in begun) + c → EndsSo busy c spent begun after
 
 module _ (busy c spent : ℕ) (begun : List Begun) (log : List Entry) where
   -- a record that was sent before is dropped
-  pub dropped : (t : Taken) (answer : Answer) → said_in t ≡ master_says begun → steps_in begun ≡ steps_of log → with_taken t answer log ≡ log
+  pub dropped : (t : Taken) (answer : Answer) → said_in t ≡ master_says begun → steps_in begun ≡ log_steps log → with_taken t answer log ≡ log
   dropped t answer says all = cond-true (beq t.mhs (is_odd log)) log _ (ap (λ (b : Bool). beq b (is_odd log)) (said_bit t begun says ∙ parity (steps_in begun) log all) ∙ same (is_odd log))
     where
       same : (b : Bool) → beq b b ≡ true
       same true = refl
       same false = refl
 
-  pub joins : (t : Taken) (answer : Answer) (s : Step) → said_in t ≡ master_says begun → steps_in begun ≡ s ∷ steps_of log → with_taken t answer log ≡ (record { taken = t; answer = answer }) ∷ log
+  pub joins : (t : Taken) (answer : Answer) (s : Step) → said_in t ≡ master_says begun → steps_in begun ≡ s ∷ log_steps log → with_taken t answer log ≡ (record { taken = t; answer = answer }) ∷ log
   joins t answer s says more = cond-false (beq t.mhs (is_odd log)) log _ (ap (λ (b : Bool). beq b (is_odd log)) (said_bit t begun says ∙ parity_sent (steps_in begun) s log more) ∙ other (is_odd log))
     where
       other : (b : Bool) → beq (not b) b ≡ false
@@ -118,10 +118,10 @@ module _ (busy c spent : ℕ) (begun : List Begun) (log : List Entry) where
   taken_works t answer says at (New s opened more is) =
       let grown = joins t answer s says more in
       let step : t.step ≡ s = said_step t begun says ∙ ap step_or_none opened in
-      WaitsSo (record { taken = t; answer = answer }) log grown (opened ∙ ap (λ (x : Step). Some x) (sym step)) (more ∙ ap (λ (x : Step). x ∷ steps_of log) (sym step) ∙ ap steps_of (sym grown)) (omega arith) (omega arith) (ap₂ (λ (n k : ℕ). n + k) is at)
+      WaitsSo (record { taken = t; answer = answer }) log grown (opened ∙ ap (λ (x : Step). Some x) (sym step)) (more ∙ ap (λ (x : Step). x ∷ log_steps log) (sym step) ∙ ap log_steps (sym grown)) (omega arith) (omega arith) (ap₂ (λ (n k : ℕ). n + k) is at)
   taken_works t answer says at (Busy e past those opened all earlier late sum) =
       let same = dropped t answer says all in
-      WaitsSo e past (same ∙ those) opened (all ∙ ap steps_of (sym same)) earlier late sum
+      WaitsSo e past (same ∙ those) opened (all ∙ ap log_steps (sym same)) earlier late sum
 
   pub silent_works : open_in begun ≡ None → Works busy c spent begun log → EndsSo busy c spent begun log
   silent_works none (Free x is) = RestsSo none is
@@ -143,7 +143,7 @@ begun_works busy c spent (Some r) begun log shut h after w = settled busy c spen
     rests (Busy e past those opened all earlier late sum) = let off = shut refl in absurd (cc)
 
 -- a status that is an answer shows that the drive is no longer busy
-pub late_answer : (busy c : ℕ) (showing : CommandsView) (status : Status) (word : ℕ) (begun : List Begun) (taken : List Taken) (e : Entry) (past : List Entry) → shown_by status word ≡ drive_says busy c showing taken → log_of taken ≡ e ∷ past →
+pub late_answer : (busy c : ℕ) (showing : CommandsView) (status : Status) (word : ℕ) (begun : List Begun) (taken : List Taken) (e : Entry) (past : List Entry) → shown_by status word ≡ channel_says busy c showing taken → log_of taken ≡ e ∷ past →
     answers_it begun status ≡ true → e.taken.cycle < c → e.taken.cycle + (busy + 1) ≤ c
 late_answer busy c showing status word begun taken e past says those takes earlier = by (nat_le (c - e.taken.cycle) busy) refl (says ∙ ap (shown busy c (ahs taken) (change_in showing c)) those)
   where

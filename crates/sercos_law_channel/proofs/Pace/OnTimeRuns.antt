@@ -7,11 +7,11 @@ use Rattle.sercos_step.specs.declared.step.Answer.{Answer}
 use Rattle.sercos_service_drive.specs.Log.{Taken, Entry}
 use Rattle.sercos_service_drive.specs.Replies.{reply_of, log_of}
 use Rattle.sercos_service_master.specs.Begun.{Begun, open_in, steps_in, answers_in, answers_it}
-use Rattle.sercos_law_channel.specs.Handshake.InStep.{AreInStep, Idle, Sent, Kept, steps_of}
+use Rattle.sercos_law_channel.specs.Handshake.InStep.{AreInStep, Idle, Sent, Kept, log_steps}
 use Rattle.sercos_law_channel.proofs.Handshake.TransferSteps.{length-steps_of, length-replies_of}
 use Rattle.sercos_law_channel.proofs.Handshake.HandshakeMoves.{log-taken}
 use Rattle.sercos_law_channel.specs.Handshake.Views.{Heard, View, standing, stood_in, record_in, processed_in, with_record}
-use Rattle.sercos_law_channel.specs.Handshake.Epochs.{with_heard, unless_restart, epoch_begun, begun_in, epoch_taken, taken_in, epoch_log, log_in}
+use Rattle.sercos_law_channel.specs.Handshake.Epochs.{with_heard, unless_restart, epoch_begun, begun_in, epoch_taken, taken_in_views, epoch_log, log_in}
 use Rattle.sercos_law_channel.specs.Handshake.Runs.{IsShown, IsRun}
 use Rattle.sercos_law_channel.specs.Pace.Times.{time_for, one_more, open_cycles, IsUndisturbed, AreUndisturbed, IsOnTime, Rests, Waits, AreOnTime, AnswersOnTime, TakesTime}
 use Rattle.sercos_law_channel.proofs.Handshake.PhaseMoves.{Processes, Nothing, Record, processes}
@@ -25,7 +25,7 @@ in_step_counts begun log (Idle none s a) = let x = ap length s in let y = ap len
 in_step_counts begun log (Sent step opened s a) = let x = ap length s in let y = ap length a in let n = length-steps_of log in let m = length-replies_of log in omega arith
 in_step_counts begun log (Kept e past opened is s a) = let x = ap length s in let y = ap length a in let z = ap length is in let n = length-steps_of log in let m = length-replies_of past in omega arith
 
-pub waiting_counts : (begun : List Begun) (log : List Entry) → AreInStep begun log → (e : Entry) (past : List Entry) → log ≡ e ∷ past → open_in begun ≡ Some e.taken.step → steps_in begun ≡ steps_of log → length (answers_in begun) + 1 ≤ length (steps_in begun)
+pub waiting_counts : (begun : List Begun) (log : List Entry) → AreInStep begun log → (e : Entry) (past : List Entry) → log ≡ e ∷ past → open_in begun ≡ Some e.taken.step → steps_in begun ≡ log_steps log → length (answers_in begun) + 1 ≤ length (steps_in begun)
 waiting_counts begun log h e past those opened all =
     let a = ap length (one_waits 0 0 0 begun log h e past those opened all) in let s = ap length all in let z = ap length those in
     let n = length-steps_of log in let m = length-replies_of past in omega arith
@@ -33,7 +33,7 @@ waiting_counts begun log h e past those opened all =
 -- at the start of a cycle
 data Starts (busy c spent : ℕ) (begun : List Begun) (log : List Entry) : Type 0 where
   StartsFree : open_in begun ≡ None → spent ≡ time_for busy (answers_in begun) → Starts busy c spent begun log
-  StartsBusy : (e : Entry) (past : List Entry) → log ≡ e ∷ past → open_in begun ≡ Some e.taken.step → steps_in begun ≡ steps_of log → e.taken.cycle < c → c ≤ e.taken.cycle + (busy + 1) →
+  StartsBusy : (e : Entry) (past : List Entry) → log ≡ e ∷ past → open_in begun ≡ Some e.taken.step → steps_in begun ≡ log_steps log → e.taken.cycle < c → c ≤ e.taken.cycle + (busy + 1) →
       spent + e.taken.cycle ≡ time_for busy (answers_in begun) + c → Starts busy c spent begun log
 
 abbrev spent_before : View → List View → ℕ
@@ -104,7 +104,7 @@ module _ (busy : ℕ) where
       begun = cond-false v.falls [] (begun_in v past) on
 
       taken : epoch_log (v ∷ past) ≡ log_in v past
-      taken = ap log_of (cond-false v.falls [] (taken_in v past) on)
+      taken = ap log_of (cond-false v.falls [] (taken_in_views v past) on)
 
       spent : open_cycles (v ∷ past) ≡ one_more (is_some (open_in (begun_in v past))) (spent_before v past)
       spent = cond-false v.falls 0 _ on
@@ -115,7 +115,7 @@ module _ (busy : ℕ) where
       by (WaitsSo e log those opened all earlier late sum) =
           let open_one : open_cycles (v ∷ past) ≡ spent_before v past + 1 = spent ∙ ap (λ (o : Option Step). one_more (is_some o) (spent_before v past)) opened in
           let same : time_for busy (answers_in (epoch_begun (v ∷ past))) ≡ time_for busy (answers_in (begun_in v past)) = ap (λ (l : List Begun). time_for busy (answers_in l)) begun in
-          Waits e log (taken ∙ those) (ap open_in begun ∙ opened) (ap steps_in begun ∙ all ∙ ap steps_of (sym taken)) (omega arith) (omega arith) (omega arith)
+          Waits e log (taken ∙ those) (ap open_in begun ∙ opened) (ap steps_in begun ∙ all ∙ ap log_steps (sym taken)) (omega arith) (omega arith) (omega arith)
 
   pub on_time : AreOnTime busy
   on_time [] run whole = Rests refl refl

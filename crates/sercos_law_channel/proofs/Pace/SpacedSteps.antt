@@ -6,13 +6,13 @@ use Rattle.sercos_step.specs.declared.step.Answer.{Answer}
 use Rattle.sercos_step.specs.declared.request.Request.{Request}
 use Rattle.sercos_service_drive.specs.Log.{Taken, Entry}
 use Rattle.sercos_service_drive.specs.Replies.{reply_of, log_of}
-use Rattle.sercos_service_drive.specs.Says.{drive_says, shown_by}
+use Rattle.sercos_service_drive.specs.Says.{channel_says, shown_by}
 use Rattle.sercos_service_master.specs.Begun.{Begun, steps_in, answers_in, is_odd, answers_it, answer_in, with_answer, master_says}
 use Rattle.sercos_law_channel.specs.Handshake.InStep.{AreInStep, Idle, Sent, Kept, replies_of}
 use Rattle.sercos_law_channel.specs.Handshake.Moves.{said_in, with_taken}
 use Rattle.sercos_law_channel.proofs.Handshake.HandshakeMoves.{said_bit, parity, log-taken}
 use Rattle.sercos_law_channel.specs.Handshake.Views.{Heard, View, standing, stood_in, record_in, with_record}
-use Rattle.sercos_law_channel.specs.Handshake.Epochs.{with_heard, with_begun, unless_restart, epoch_begun, begun_in, epoch_taken, taken_in, epoch_log, log_in}
+use Rattle.sercos_law_channel.specs.Handshake.Epochs.{with_heard, with_begun, unless_restart, epoch_begun, begun_in, epoch_taken, taken_in_views, epoch_log, log_in}
 use Rattle.sercos_law_channel.specs.Handshake.Runs.{IsShown, IsRun}
 use Rattle.sercos_law_channel.specs.Pace.Costs.{AreSpaced, SpacesSteps}
 use Rattle.sercos_law_channel.proofs.Handshake.PhaseMoves.{Processes, Nothing, Record, processes}
@@ -80,7 +80,7 @@ module _ (busy : ℕ) where
   ]
     where
       by : (b : Bool) → answers_it (unless_restart v (epoch_begun past)) a.status ≡ b → answers_in (if b then with_answer (answer_in a.status a.word) (unless_restart v (epoch_begun past)) else unless_restart v (epoch_begun past)) ≡ replies_of (log_of (unless_restart v (epoch_taken past))) →
-          (e : Entry) (log : List Entry) → log_of (unless_restart v (epoch_taken past)) ≡ e ∷ log → shown_by a.status a.word ≡ drive_says busy (length past) v.showing (unless_restart v (epoch_taken past)) → e.taken.cycle + (busy + 1) ≤ length past
+          (e : Entry) (log : List Entry) → log_of (unless_restart v (epoch_taken past)) ≡ e ∷ log → shown_by a.status a.word ≡ channel_says busy (length past) v.showing (unless_restart v (epoch_taken past)) → e.taken.cycle + (busy + 1) ≤ length past
       by true takes all e log those says = late_answer busy (length past) v.showing a.status a.word (unless_restart v (epoch_begun past)) (unless_restart v (epoch_taken past)) e log says those takes (earlier e log those)
       by false off all e log those says = is.due all e log those
 
@@ -121,7 +121,7 @@ module _ (busy : ℕ) where
   spaced_in [] run = nothing_spaced busy 0 []
   spaced_in (v ∷ past) run = by v.falls (in_cycle v past run (spaced_in past run.0))
     where
-      by : (falls : Bool) → IsSpaced busy (length past) (begun_in v past) (log_in v past) → IsSpaced busy (suc (length past)) (if falls then [] else begun_in v past) (log_of (if falls then [] else taken_in v past))
+      by : (falls : Bool) → IsSpaced busy (length past) (begun_in v past) (log_in v past) → IsSpaced busy (suc (length past)) (if falls then [] else begun_in v past) (log_of (if falls then [] else taken_in_views v past))
       by true is = nothing_spaced busy (suc (length past)) []
       by false is = later_spaced busy (length past) (suc (length past)) (begun_in v past) (log_in v past) (omega arith) is
 

@@ -5,7 +5,7 @@ use Rattle.sercos_telegram.specs.declared.words.Status.{Status}
 use Rattle.sercos_step.specs.declared.request.Request.{Request}
 use Rattle.sercos_block.specs.declared.block.Block.{Block}
 use Rattle.sercos_command.specs.Settings.{CommandsView}
-use Rattle.sercos_service_drive.specs.Says.{Shown, drive_says}
+use Rattle.sercos_service_drive.specs.Says.{Shown, channel_says}
 use Rattle.sercos_service_drive.specs.Writes.{AreAlike}
 use Rattle.sercos_service_master.specs.Begun.{Begun, Said, open_in, master_says}
 use Rattle.sercos_law_channel.specs.Handshake.Views.{Heard, View, standing, stood_in, kept_in}
@@ -58,7 +58,7 @@ silent_by c past = record {
 
 -- what the drive shows, and what is received of it
 abbrev pub shown_at : ℕ → Choice → List View → Shown
-shown_at busy c past = drive_says busy (length past) c.showing (kept_in (silent_by c past) past)
+shown_at busy c past = channel_says busy (length past) c.showing (kept_in (silent_by c past) past)
 
 abbrev pub heard_at : ℕ → Choice → List View → Option Heard
 heard_at busy c past =

@@ -53,11 +53,11 @@ abbrev pub epoch_taken : List View → List Taken
 epoch_taken [] = []
 epoch_taken (v ∷ past) = if v.falls then [] else with_record (processed_in v past) (unless_restart v (epoch_taken past))
 
-abbrev pub taken_in : View → List View → List Taken
-taken_in v past = with_record (processed_in v past) (unless_restart v (epoch_taken past))
+abbrev pub taken_in_views : View → List View → List Taken
+taken_in_views v past = with_record (processed_in v past) (unless_restart v (epoch_taken past))
 
 abbrev pub epoch_log : List View → List Entry
 epoch_log past = log_of (epoch_taken past)
 
 abbrev pub log_in : View → List View → List Entry
-log_in v past = log_of (taken_in v past)
+log_in v past = log_of (taken_in_views v past)

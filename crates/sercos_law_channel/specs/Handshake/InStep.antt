@@ -6,9 +6,9 @@ use Rattle.sercos_service_master.specs.Begun.{Begun, open_in, steps_in, answers_
 use Rattle.sercos_service_drive.specs.Log.{Entry}
 
 -- the steps of a log, and the replies to them
-abbrev pub steps_of : List Entry → List Step
-steps_of [] = []
-steps_of (e ∷ log) = e.taken.step ∷ steps_of log
+abbrev pub log_steps : List Entry → List Step
+log_steps [] = []
+log_steps (e ∷ log) = e.taken.step ∷ log_steps log
 
 abbrev pub replies_of : List Entry → List Answer
 replies_of [] = []
@@ -18,9 +18,9 @@ replies_of (e ∷ log) = e.answer ∷ replies_of log
 -- that very step. No step is open: all are accepted and answered. Or one is open, which the drive hasn't accepted yet. Or
 -- one is open, which the drive has accepted, and the master hasn't taken the answer yet.
 pub data InStep («open» : Option Step) (steps : List Step) (answers : List Answer) (log : List Entry) : Type 0 where
-  Idle : («open» ≡ None) → (steps ≡ steps_of log) → (answers ≡ replies_of log) → InStep «open» steps answers log
-  Sent : (s : Step) → («open» ≡ Some s) → (steps ≡ s ∷ steps_of log) → (answers ≡ replies_of log) → InStep «open» steps answers log
-  Kept : (e : Entry) (past : List Entry) → («open» ≡ Some e.taken.step) → (log ≡ e ∷ past) → (steps ≡ steps_of log) → (answers ≡ replies_of past) →
+  Idle : («open» ≡ None) → (steps ≡ log_steps log) → (answers ≡ replies_of log) → InStep «open» steps answers log
+  Sent : (s : Step) → («open» ≡ Some s) → (steps ≡ s ∷ log_steps log) → (answers ≡ replies_of log) → InStep «open» steps answers log
+  Kept : (e : Entry) (past : List Entry) → («open» ≡ Some e.taken.step) → (log ≡ e ∷ past) → (steps ≡ log_steps log) → (answers ≡ replies_of past) →
       InStep «open» steps answers log
 
 -- .. where these requests were begun

@@ -6,7 +6,7 @@ use Rattle.sercos_service_master.specs.Begun.{Begun, open_in, steps_begun}
 use Rattle.sercos_service_master.specs.Calls.{Call, AreCalls, begun_by}
 use Rattle.sercos_service_drive.specs.Log.{Taken, Entry}
 use Rattle.sercos_service_drive.specs.Replies.{answered}
-use Rattle.sercos_law_channel.specs.Handshake.InStep.{AreInStep, steps_of, replies_of}
+use Rattle.sercos_law_channel.specs.Handshake.InStep.{AreInStep, log_steps, replies_of}
 use Rattle.sercos_law_channel.specs.Handshake.Transfers.{AreReplies, HaveBlocks, IsTransfer}
 
 -- each request was begun when no step of those before it was open, and each of its answers came while it went on
@@ -20,7 +20,7 @@ ComeInTurn = (h : List Call) → AreCalls h → AreInTurn (begun_by h)
 
 -- These entries are those of the first steps of a request, as in a transfer.
 pub record IsRow (b : Begun) (e : Entry) (entries : List Entry) : Type 0 where
-  pub steps : steps_of (e ∷ entries) ≡ steps_begun b.request (replies_of entries)
+  pub steps : log_steps (e ∷ entries) ≡ steps_begun b.request (replies_of entries)
   pub in_turn : AreAnswers b.request (replies_of entries)
   pub goes_on : outcome_of b.request (replies_of entries) ≡ None
 

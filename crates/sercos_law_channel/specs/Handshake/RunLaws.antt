@@ -4,7 +4,7 @@ use Rattle.sercos_service_drive.specs.Log.{Taken, Entry}
 use Rattle.sercos_service_drive.specs.Replies.{log_of}
 use Rattle.sercos_law_channel.specs.Handshake.InStep.{AreInStep}
 use Rattle.sercos_law_channel.specs.Handshake.Views.{View, got_in, standing, stood_in, processed_in, since_reset}
-use Rattle.sercos_law_channel.specs.Handshake.Epochs.{command, epoch_begun, begun_in, epoch_taken, taken_in, epoch_log, log_in}
+use Rattle.sercos_law_channel.specs.Handshake.Epochs.{command, epoch_begun, begun_in, epoch_taken, taken_in_views, epoch_log, log_in}
 use Rattle.sercos_law_channel.specs.Handshake.Runs.{IsRun}
 use Rattle.sercos_law_channel.specs.Handshake.WholeRun.{all_entries}
 
@@ -73,7 +73,7 @@ AreInStepInCycle busy = (v : View) (past : List View) → IsRun busy (v ∷ past
 -- In a cycle commanded 1 or later, what a drive took since its reset is what it took in this epoch, unless it is in phase 0.
 abbrev pub IsOfEpoch : ℕ → Type 0
 IsOfEpoch busy = (v : View) (past : List View) → IsRun busy (v ∷ past) → 1 ≤ v.phase →
-    ((standing (v ∷ past)).ended ≡ 0) ⊎ (since_reset (v ∷ past) ≡ taken_in v past)
+    ((standing (v ∷ past)).ended ≡ 0) ⊎ (since_reset (v ∷ past) ≡ taken_in_views v past)
 
 -- The handshake: in a cycle commanded 2 to 4, at whose end the drive is in 2 to 4, the steps that it accepted since its reset are
 -- all that the master began in this epoch, or all but the last; and each answer that was taken is the reply to that very step.

@@ -1,6 +1,6 @@
 -- Which cycles may follow others. Whatever the master does of its own choice is left open. Each list has its newest item first.
 use Rattle.std.specs.Prelude.{◌≡◌, ℕ, ◌≤◌, ◌<◌, true, List, [], ◌∷◌, length, None, IsSome, IfSome}
-use Rattle.sercos_service_drive.specs.Says.{shown_by, drive_says}
+use Rattle.sercos_service_drive.specs.Says.{shown_by, channel_says}
 use Rattle.sercos_service_master.specs.Begun.{open_in, master_says}
 use Rattle.sercos_law_channel.specs.Handshake.Views.{Heard, View, standing, stood_in, kept_in}
 use Rattle.sercos_law_channel.specs.Handshake.Epochs.{command_in, whole_row, with_heard, unless_restart, epoch_begun, begun_in}
@@ -9,7 +9,7 @@ use Rattle.sercos_law_channel.specs.Handshake.Epochs.{command_in, whole_row, wit
 pub record IsShown (busy : ℕ) (a : Heard) (v : View) (past : List View) : Type 0 where
   pub got_mst : v.mst_comes ≡ true
   pub stands : 1 ≤ stood_in v (standing past)
-  pub says : shown_by a.status a.word ≡ drive_says busy (length past) v.showing (kept_in v past)
+  pub says : shown_by a.status a.word ≡ channel_says busy (length past) v.showing (kept_in v past)
 
 -- A cycle follows these, if the drive is busy with each step for `busy` cycles.
 pub record IsNext (busy : ℕ) (v : View) (past : List View) : Type 0 where

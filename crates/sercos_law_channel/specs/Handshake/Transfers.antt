@@ -16,7 +16,7 @@ use Rattle.sercos_block.specs.Stores.{find_block}
 use Rattle.sercos_service_drive.specs.Log.{Entry}
 use Rattle.sercos_service_drive.specs.Replies.{reply_of}
 use Rattle.sercos_service_drive.specs.Writes.{AreAlike, writes_of}
-use Rattle.sercos_law_channel.specs.Handshake.InStep.{steps_of, replies_of}
+use Rattle.sercos_law_channel.specs.Handshake.InStep.{log_steps, replies_of}
 
 -- each of these entries has the reply to its step, after those before it and the log
 abbrev pub AreReplies : List Entry → List Entry → Type 0
@@ -31,7 +31,7 @@ HaveBlocks blocks (e ∷ entries) = HaveBlocks blocks entries × AreAlike e.take
 -- These entries are those of the first steps of a request, up to one that is the newest: each other one was answered, and
 -- the transfer went on.
 pub record IsTransfer (r : Request) (blocks : List Block) (e : Entry) (entries log : List Entry) : Type 0 where
-  pub steps : steps_of (e ∷ entries) ≡ steps_begun r (replies_of entries)
+  pub steps : log_steps (e ∷ entries) ≡ steps_begun r (replies_of entries)
   pub in_turn : AreAnswers r (replies_of entries)
   pub goes_on : outcome_of r (replies_of entries) ≡ None
   pub replies : AreReplies (e ∷ entries) log

@@ -3,7 +3,7 @@
 use Rattle.std.specs.Prelude.{◌≡◌, ℕ, ◌+◌, ◌*◌, ◌<◌, ◌≤◌, false, List, [], ◌∷◌, ◌++◌, length, Some, None, is_some}
 use Rattle.sercos_service_drive.specs.Log.{Entry}
 use Rattle.sercos_service_master.specs.Begun.{open_in, steps_in, answers_in}
-use Rattle.sercos_law_channel.specs.Handshake.InStep.{steps_of}
+use Rattle.sercos_law_channel.specs.Handshake.InStep.{log_steps}
 use Rattle.sercos_law_channel.specs.Handshake.Views.{View}
 use Rattle.sercos_law_channel.specs.Handshake.Epochs.{epoch_begun, begun_in, epoch_log}
 use Rattle.sercos_law_channel.specs.Handshake.Runs.{IsRun}
@@ -33,7 +33,7 @@ spent_since busy cycles past = open_since cycles past + time_for busy (answers_i
 -- and the answers account for the cycles before that.
 pub data IsInTime (busy : ℕ) (cycles past : List View) : Type 0 where
   RestsNow : open_in (epoch_begun (cycles ++ past)) ≡ None → spent_since busy cycles past ≤ time_for busy (answers_in (epoch_begun (cycles ++ past))) → IsInTime busy cycles past
-  WaitsNow : (e : Entry) (log : List Entry) → epoch_log (cycles ++ past) ≡ e ∷ log → open_in (epoch_begun (cycles ++ past)) ≡ Some e.taken.step → steps_in (epoch_begun (cycles ++ past)) ≡ steps_of (epoch_log (cycles ++ past)) →
+  WaitsNow : (e : Entry) (log : List Entry) → epoch_log (cycles ++ past) ≡ e ∷ log → open_in (epoch_begun (cycles ++ past)) ≡ Some e.taken.step → steps_in (epoch_begun (cycles ++ past)) ≡ log_steps (epoch_log (cycles ++ past)) →
       e.taken.cycle < length (cycles ++ past) → length (cycles ++ past) ≤ e.taken.cycle + (busy + 1) →
       spent_since busy cycles past + e.taken.cycle ≤ time_for busy (answers_in (epoch_begun (cycles ++ past))) + length (cycles ++ past) → IsInTime busy cycles past
 

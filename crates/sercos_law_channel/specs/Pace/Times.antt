@@ -3,7 +3,7 @@ use Rattle.std.specs.Prelude.{◌≡◌, ℕ, ◌+◌, ◌*◌, ◌<◌, ◌≤�
 use Rattle.sercos_step.specs.declared.step.Answer.{Answer}
 use Rattle.sercos_service_drive.specs.Log.{Entry}
 use Rattle.sercos_service_master.specs.Begun.{open_in, steps_in, answers_in, answers_it}
-use Rattle.sercos_law_channel.specs.Handshake.InStep.{steps_of}
+use Rattle.sercos_law_channel.specs.Handshake.InStep.{log_steps}
 use Rattle.sercos_law_channel.specs.Handshake.Views.{Heard, View, processed_in}
 use Rattle.sercos_law_channel.specs.Handshake.Epochs.{unless_restart, epoch_begun, begun_in, epoch_log}
 use Rattle.sercos_law_channel.specs.Handshake.Runs.{IsRun}
@@ -40,7 +40,7 @@ time_for busy (a ∷ answers) = time_for busy answers + (busy + 1)
 -- cycles before that went into the answers.
 pub data IsOnTime (busy : ℕ) (past : List View) : Type 0 where
   Rests : open_in (epoch_begun past) ≡ None → open_cycles past ≡ time_for busy (answers_in (epoch_begun past)) → IsOnTime busy past
-  Waits : (e : Entry) (log : List Entry) → epoch_log past ≡ e ∷ log → open_in (epoch_begun past) ≡ Some e.taken.step → steps_in (epoch_begun past) ≡ steps_of (epoch_log past) → e.taken.cycle < length past → length past ≤ e.taken.cycle + (busy + 1) →
+  Waits : (e : Entry) (log : List Entry) → epoch_log past ≡ e ∷ log → open_in (epoch_begun past) ≡ Some e.taken.step → steps_in (epoch_begun past) ≡ log_steps (epoch_log past) → e.taken.cycle < length past → length past ≤ e.taken.cycle + (busy + 1) →
       open_cycles past + e.taken.cycle ≡ time_for busy (answers_in (epoch_begun past)) + length past → IsOnTime busy past
 
 -- In an epoch in which nothing is lost a channel is on time.

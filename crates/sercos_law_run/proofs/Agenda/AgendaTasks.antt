@@ -7,7 +7,7 @@ use Rattle.sercos_timing.specs.Views.{PlanView}
 use Rattle.sercos_seat.proofs.Gets.{length_map}
 use Rattle.sercos_seat.proofs.Agendas.{reads_length}
 use Rattle.sercos_seat.specs.Ring.{Known, Task, member, startup}
-use Rattle.sercos_seat.specs.Agenda.{bytes_of, idn, given, ended_well, reads, reads_count, writes, checking, agenda, is_checked, is_ready}
+use Rattle.sercos_seat.specs.Agenda.{after_reads, bytes_of, idn, given, ended_well, reads, reads_count, writes, checking, agenda, is_checked, is_ready}
 use Rattle.sercos_law_run.specs.Agenda.Tasks.{IsTask, OfReads, OfWrites, Checks3, Lists3, Checks4, Lists4, OfWaiting}
 
 -- where an item of two lists is
@@ -66,7 +66,7 @@ module _ (s : Known) (k : ℕ) (plan : Option PlanView) (waiting : List Task) (o
 
   -- after the reads
   planned_task : (o : Option PlanView) (j : ℕ) → plan ≡ o → length outcomes ≡ reads_count (member s k) + j →
-      slice_get (unwrap_or (option_map (λ p. map (startup 2) (writes s p k) ++ checking 2 127 21 (slice_get outcomes (reads_count (member s k) + 11)) (checking 3 128 22 (slice_get outcomes (reads_count (member s k) + 12)) waiting)) o) []) j ≡ Some t →
+      slice_get (after_reads s o waiting k outcomes) j ≡ Some t →
       IsTask s k plan waiting outcomes t
   planned_task None j has at got = absurd (cc)
   planned_task (Some p) j has at got = by (is_in (map (startup 2) (writes s p k)) (checking 2 127 21 (slice_get outcomes (reads_count (member s k) + 11)) (checking 3 128 22 (slice_get outcomes (reads_count (member s k) + 12)) waiting)) j t got)
@@ -81,6 +81,7 @@ module _ (s : Known) (k : ℕ) (plan : Option PlanView) (waiting : List Task) (o
       long : length (map (startup 2) (reads (member s k))) ≡ reads_count (member s k)
       long = length_map (startup 2) (reads (member s k)) ∙ reads_length (member s k)
 
-      by : IsIn (map (startup 2) (reads (member s k))) (unwrap_or (option_map (λ p. map (startup 2) (writes s p k) ++ checking 2 127 21 (slice_get outcomes (reads_count (member s k) + 11)) (checking 3 128 22 (slice_get outcomes (reads_count (member s k) + 12)) waiting)) plan) []) (length outcomes) t → IsTask s k plan waiting outcomes t
+      by : IsIn (map (startup 2) (reads (member s k))) (after_reads s plan waiting k outcomes) (length outcomes) t
+          → IsTask s k plan waiting outcomes t
       by (First less is) = let r = mapped (startup 2) (reads (member s k)) (length outcomes) t is in OfReads r.0 (subst (λ (n : ℕ). length outcomes < n) long less) r.1 r.2
       by (After j at is) = planned_task plan j refl (at ∙ ap (λ (n : ℕ). n + j) long) is

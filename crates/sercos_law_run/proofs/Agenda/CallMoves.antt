@@ -17,7 +17,7 @@ use Rattle.sercos_trace.specs.declared.events.Stop.TheVariants as stop
 use Rattle.sercos_seat.specs.Channel.{is_place, last_outcome, trouble_by, of_phase}
 use Rattle.sercos_seat.specs.Ring.{Known, Task, member}
 use Rattle.sercos_seat.specs.Agenda.{wishes_given, last_long_stop, is_checked, is_ready}
-use Rattle.sercos_master.specs.Annals.{is_done_in, is_closed, all_identified, all_checked, all_ready, in_turn, with_plan, Call, HearMst, HearAt, Mdt, End, Restart, Past, outcomes, is_idle, is_awaited, wanted_len, is_taken, calls_with, report_with, after_taken, after_at_of, after_at, place_of, first_trouble, is_plan_due, all_read, has_turn, next_task, is_done, fall_of, goes_on, new_epoch, still_waiting, after_end, with_stop, planned_by, with_due_plan, settled, begins, with_begin, with_task, begun, sent_to, is_sent_to, addressed_in, ready_to_send, past}
+use Rattle.sercos_master.specs.Annals.{is_done_in, is_closed, all_identified, all_checked, all_ready, in_turn, with_plan, Call, HearMst, HearAt, Mdt, End, Restart, Past, outcomes, is_idle, is_awaited, wanted_len, is_taken, after_taken, after_at_of, after_at, place_of, first_trouble, is_plan_due, all_read, has_turn, next_task, is_done, fall_of, goes_on, new_epoch, still_waiting, after_end, with_stop, planned_by, with_due_plan, settled, begins, with_begin, with_task, begun, sent_to, is_sent_to, addressed_in, ready_to_send, past, hearing}
 use Rattle.sercos_master.proofs.Followed.{none_troubled, no_stop_before, settles}
 use Rattle.sercos_master.proofs.Configured.{each_passes}
 use Rattle.sercos_law_run.specs.Agenda.Channels.{CallsAreMoves, GoesByMoves, AreMoves, newest, Channel, channel_at, new_channel, IsNextTask, IsDoneWith, Steps, Stays, Identifies, Hears, Plans, Begins, Moves, Within, Ends, Falls}
@@ -34,7 +34,7 @@ module _ (s : Known) (k : ℕ) where
   ]
     where
       one : (identifies : Bool) → p.now.heard k ≡ false →
-          Steps s k (channel_at p k) (record { phase = p.now.phase; waiting = p.waiting k; plan = p.plan; begun = begun_by (calls_with identifies k content p); tasks = p.tasks k; heard = true; report = report_with identifies k content p })
+          Steps s k (channel_at p k) (record { phase = p.now.phase; waiting = p.waiting k; plan = p.plan; begun = begun_by (hearing identifies k content p).calls; tasks = p.tasks k; heard = true; report = (hearing identifies k content p).report })
       one true off = Identifies refl
       one false off = Hears (status_of (word_at content 1)) (word_at content 3) off refl
 
@@ -44,9 +44,9 @@ module _ (s : Known) (k : ℕ) where
         waiting = p.waiting k;
         plan = p.plan;
         tasks = p.tasks k;
-        begun = begun_by (if on then calls_with (p.now.phase == 1) k content p else p.calls k);
+        begun = begun_by (if on then (hearing (p.now.phase == 1) k content p).calls else p.calls k);
         heard = if on then true else p.now.heard k;
-        report = if on then report_with (p.now.phase == 1) k content p else p.now.report k;
+        report = if on then (hearing (p.now.phase == 1) k content p).report else p.now.report k;
       }
 
       here : p.now.heard k ≡ false → Steps s k (channel_at p k) (channel_at (after_taken k content p) k)
@@ -65,9 +65,9 @@ module _ (s : Known) (k : ℕ) where
         waiting = p.waiting k;
         plan = p.plan;
         tasks = p.tasks k;
-        begun = begun_by (if on then calls_with (p.now.phase == 1) i content p else p.calls k);
+        begun = begun_by (if on then (hearing (p.now.phase == 1) i content p).calls else p.calls k);
         heard = if on then true else p.now.heard k;
-        report = if on then report_with (p.now.phase == 1) i content p else p.now.report k;
+        report = if on then (hearing (p.now.phase == 1) i content p).report else p.now.report k;
       }
 
       away : (k ≡ i → ⊥) → channel_at (after_taken i content p) k ≡ channel_at p k

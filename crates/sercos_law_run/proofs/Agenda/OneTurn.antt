@@ -23,7 +23,7 @@ use Rattle.sercos_seat.specs.Channel.{with_outcome, outcomes_in, is_place, of_ph
 use Rattle.sercos_seat.specs.Seats.{AreWaiting}
 use Rattle.sercos_master.proofs.Laws.{all_waiting}
 use Rattle.sercos_master.proofs.Configured.{mdt_adds, leaves}
-use Rattle.sercos_master.specs.Annals.{Call, HearMst, HearAt, Mdt, End, Restart, Past, first_from, outcomes, is_idle, is_taken, calls_with, after_taken, after_at_of, after_at, place_of, in_turn, has_turn, next_task, begins, with_begin, settled, begun, is_sent_to, addressed_in, ready_to_send, after_mdt, fall_of, is_done, goes_on, new_epoch, still_waiting, past}
+use Rattle.sercos_master.specs.Annals.{Call, HearMst, HearAt, Mdt, End, Restart, Past, first_from, outcomes, is_idle, is_taken, after_taken, after_at_of, after_at, place_of, in_turn, has_turn, next_task, begins, with_begin, settled, begun, is_sent_to, addressed_in, ready_to_send, after_mdt, fall_of, is_done, goes_on, new_epoch, still_waiting, past, hearing}
 use Rattle.sercos_master.proofs.Followed.{HasNext}
 use Rattle.sercos_law_run.specs.Agenda.Channels.{outcome_in}
 use Rattle.sercos_law_run.specs.Agenda.Tasks.{IsTask, OfReads, OfWrites, Checks3, Lists3, Checks4, Lists4, OfWaiting, AreBegunTasks}
@@ -100,17 +100,19 @@ other_place k i other = which (k == i) refl
     which true is = absurd (other (eqb-true k i is))
 
 pub elsewhere_same : (i k : ℕ) (content : List ℕ) (p : Past) → (k ≡ i → ⊥) → begun_by ((after_taken i content p).calls k) ≡ begun_by (p.calls k)
-elsewhere_same i k content p other = ap (λ (v : Bool). begun_by (if v then calls_with (p.now.phase == 1) i content p else p.calls k)) (other_place k i other)
+elsewhere_same i k content p other = ap (λ (v : Bool). begun_by (if v then (hearing (p.now.phase == 1) i content p).calls else p.calls k))
+    (other_place k i other)
 
 pub here_hears : (i : ℕ) (content : List ℕ) (p : Past) → AtHears p (after_taken i content p) i
 here_hears i content p = by (p.now.phase == 1) refl
   where
-    place : begun_by ((after_taken i content p).calls i) ≡ begun_by (calls_with (p.now.phase == 1) i content p)
-    place = ap (λ (v : Bool). begun_by (if v then calls_with (p.now.phase == 1) i content p else p.calls i)) (eq-eqb i i refl)
+    place : begun_by ((after_taken i content p).calls i) ≡ begun_by (hearing (p.now.phase == 1) i content p).calls
+    place = ap (λ (v : Bool). begun_by (if v then (hearing (p.now.phase == 1) i content p).calls else p.calls i)) (eq-eqb i i refl)
 
     by : (v : Bool) → (p.now.phase == 1) ≡ v → AtHears p (after_taken i content p) i
-    by true on = SameAt (place ∙ ap (λ (v : Bool). begun_by (calls_with v i content p)) on)
-    by false off = HeardAt (status_of (word_at content 1)) (word_at content 3) (place ∙ ap (λ (v : Bool). begun_by (calls_with v i content p)) off)
+    by true on = SameAt (place ∙ ap (λ (v : Bool). begun_by (hearing v i content p).calls) on)
+    by false off = HeardAt (status_of (word_at content 1)) (word_at content 3)
+        (place ∙ ap (λ (v : Bool). begun_by (hearing v i content p).calls) off)
 
 module _ (s : Known) where
   abbrev pub AllHaveTurn : Past → Type 0

@@ -1,6 +1,7 @@
 -- After any calls a stop has its cause.
-use Rattle.std.proofs.Common.{◌≡◌, inl, inr, ℕ, zero, suc, ◌+◌, ◌<◌, Bool, true, false, ◌&&◌, List, [], ◌∷◌, length, refl, sym, ap, ◌∙◌, subst, arith, if◌then◌else◌, ap₂}
-use Rattle.std.specs.Prelude.{◌==◌, nat_le, Option, Some, None, Result, Ok, Err, is_some, is_none, slice_index, slice_get}
+use Rattle.std.proofs.Common.{◌≡◌, inl, inr, ℕ, zero, suc, ◌+◌, ◌<◌, Bool, true, false, ◌&&◌, List, [], ◌∷◌, ◌++◌, length, refl, sym, ap, ◌∙◌, subst, arith, if◌then◌else◌, ap₂}
+use Rattle.std.specs.Prelude.{◌==◌, nat_le, Option, Some, None, Result, Ok, Err, is_some, is_none, option_map, slice_index, slice_get}
+use Rattle.std.specs.List.{filter, last_or}
 use Rattle.std.specs.Option.{option_or}
 use Rattle.std.proofs.lemmas.Option.{get_or_from_slice_get, slice_get_within}
 use Rattle.std.proofs.lemmas.Bool.{leb-true, and_parts, cases_eq}
@@ -15,7 +16,7 @@ use Rattle.sercos_service_master.specs.Begun.{Begun, open_in}
 use Rattle.sercos_service_master.specs.Calls.{begun_by}
 use Rattle.sercos_trace.specs.declared.events.Stop.{Stop}
 use Rattle.sercos_trace.specs.declared.events.Stop.TheVariants as stop
-use Rattle.sercos_seat.specs.Agenda.{is_read, reads_count, stop_by, asked_by, wishes_given, mdt_attributes, last_long, long_stop, last_long_stop}
+use Rattle.sercos_seat.specs.Agenda.{is_read, reads_count, stop_by, asked_by, wishes_given, mdt_attributes, RecordEntry, record_entries, entries_from, has_four_bytes, stop_of_entry, last_long_stop}
 use Rattle.sercos_seat.specs.Ring.{no_member, Known, Task, MemberView, member}
 use Rattle.sercos_seat.specs.Channel.{with_outcome, outcomes_in, last_outcome, trouble_by, of_phase}
 use Rattle.sercos_master.proofs.Configured.{each_passes}
@@ -40,36 +41,37 @@ pub ended_idle : (begun : List Begun) (b : Begun) (older : List Begun) (o : Outc
 ended_idle begun b older o is ended = ap (λ (l : List Begun). is_none (open_in l)) is ∙ ap (λ (x : Option Outcome). is_none (if is_some x then None else next_step b.request b.answers)) ended
 
 -- records too long for an MDT are a bad configuration
-long_bad : (drives : List MemberView) (k : ℕ) (all : ℕ → List Outcome) (x : Stop) → last_long_stop drives k all ≡ Some x → (address : ℕ) × (i : Idn) × (word : ℕ) × (x ≡ stop.BadConfig address i word)
-long_bad [] k all x is = absurd (cc)
-long_bad (d ∷ drives) k all x is = by (is_some (last_long_stop drives (k + 1) all)) is (long_bad drives (k + 1) all x)
+long_bad : (drives : List MemberView) (k : ℕ) (all : ℕ → List Outcome) (x : Stop) → last_long_stop drives k all ≡ Some x
+    → (address : ℕ) × (i : Idn) × (word : ℕ) × (x ≡ stop.BadConfig address i word)
+long_bad drives k all x is = by (last_or None (filter has_four_bytes (entries_from drives k all))) is
   where
-    here : (o : Option (Idn × ℕ)) → long_stop d.address o ≡ Some x → (address : ℕ) × (i : Idn) × (word : ℕ) × (x ≡ stop.BadConfig address i word)
-    here None is = absurd (cc)
-    here (Some f) is = let same : stop.BadConfig d.address f.0 f.1 ≡ x = one is in (d.address, f.0, f.1, sym same)
+    by : (o : Option RecordEntry) → option_map stop_of_entry o ≡ Some x
+        → (address : ℕ) × (i : Idn) × (word : ℕ) × (x ≡ stop.BadConfig address i word)
+    by None is = absurd (cc)
+    by (Some e) is = let same : stop_of_entry e ≡ x = one is in (e.address, e.idn, e.word, sym same)
       where
-        one : Some (stop.BadConfig d.address f.0 f.1) ≡ Some x → stop.BadConfig d.address f.0 f.1 ≡ x
-        one e = cc
-
-    by : (v : Bool) → (if v then last_long_stop drives (k + 1) all else long_stop d.address (last_long d.mdt (mdt_attributes d (all k)))) ≡ Some x →
-        (last_long_stop drives (k + 1) all ≡ Some x → (address : ℕ) × (i : Idn) × (word : ℕ) × (x ≡ stop.BadConfig address i word)) → (address : ℕ) × (i : Idn) × (word : ℕ) × (x ≡ stop.BadConfig address i word)
-    by true is more = more is
-    by false is more = here (last_long d.mdt (mdt_attributes d (all k))) is
+        one : Some (stop_of_entry e) ≡ Some x → stop_of_entry e ≡ x
+        one same = cc
 
 -- what is the last value of four bytes stays, if outcomes come after the reads alone
 attributes_stay : (d : MemberView) (all : List Outcome) (o : Option Outcome) → is_read d all ≡ true → mdt_attributes d (with_outcome o all) ≡ mdt_attributes d all
 attributes_stay d all None read = refl
 attributes_stay d all (Some o) read = let many = leb-true (reads_count d) (length all) read in part_before all o (6 + length d.at) (length d.mdt) (omega (arith, many))
 
-longs_same : (drives : List MemberView) (k : ℕ) (f g : ℕ → List Outcome) → ((j : ℕ) (d : MemberView) → slice_get drives j ≡ Some d → mdt_attributes d (g (k + j)) ≡ mdt_attributes d (f (k + j))) → last_long_stop drives k g ≡ last_long_stop drives k f
-longs_same [] k f g same = refl
-longs_same (d ∷ drives) k f g same =
-    ap₂ (λ (o : Option Stop) (l : List ℕ). if is_some o then o else long_stop d.address (last_long d.mdt l))
-    (longs_same drives (k + 1) f g (λ j e got. let n : k + suc j ≡ (k + 1) + j = omega arith in subst (λ (m : ℕ). mdt_attributes e (g m) ≡ mdt_attributes e (f m)) n (same (suc j) e got)))
+entries_same : (drives : List MemberView) (k : ℕ) (f g : ℕ → List Outcome)
+    → ((j : ℕ) (d : MemberView) → slice_get drives j ≡ Some d → mdt_attributes d (g (k + j)) ≡ mdt_attributes d (f (k + j)))
+    → entries_from drives k g ≡ entries_from drives k f
+entries_same [] k f g same = refl
+entries_same (d ∷ drives) k f g same =
+    ap₂ (λ (l : List ℕ) (entries : List RecordEntry). record_entries d.address d.mdt l ++ entries)
     (let z : k + 0 ≡ k = omega arith in subst (λ (n : ℕ). mdt_attributes d (g n) ≡ mdt_attributes d (f n)) z (same 0 d refl))
+    (entries_same drives (k + 1) f g (λ j e got. let n : k + suc j ≡ (k + 1) + j = omega arith in subst
+    (λ (m : ℕ). mdt_attributes e (g m) ≡ mdt_attributes e (f m)) n (same (suc j) e got)))
 
 longs_after : (s : Known) (p q : Past) → Adds p q → all_read s p ≡ true → last_long_stop s.drives 0 (outcomes q) ≡ last_long_stop s.drives 0 (outcomes p)
-longs_after s p q adds all = longs_same s.drives 0 (outcomes p) (outcomes q) each
+longs_after s p q adds all =
+    ap (λ (entries : List RecordEntry). option_map stop_of_entry (last_or None (filter has_four_bytes entries)))
+    (entries_same s.drives 0 (outcomes p) (outcomes q) each)
   where
     each : (j : ℕ) (d : MemberView) → slice_get s.drives j ≡ Some d → mdt_attributes d (outcomes q (0 + j)) ≡ mdt_attributes d (outcomes p (0 + j))
     each j d got =

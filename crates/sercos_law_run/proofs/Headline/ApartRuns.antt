@@ -13,7 +13,7 @@ use Rattle.sercos_block.specs.Views.{DriveView}
 use Rattle.sercos_drive.specs.Heard.{DriveCall}
 use Rattle.sercos_drive.specs.Moments.{Moment, phase_in, cycle_in, has_mst, has_taken, blocks_in, commands_in, taken_in}
 use Rattle.sercos_drive.specs.Says.{Said, said, said_in, sends, shown_word, values_in, start_in}
-use Rattle.sercos_service_drive.specs.Says.{Shown, drive_says as channel_says}
+use Rattle.sercos_service_drive.specs.Says.{Shown, channel_says}
 use Rattle.sercos_law_run.specs.Slots.Slots.{AtSlot}
 use Rattle.sercos_law_run.specs.Slots.OnPlan.{IsSentBefore}
 use Rattle.sercos_law_run.specs.Slots.Sending.{AreAtsOf}

@@ -4,7 +4,7 @@ use Rattle.std.specs.Prelude.{nat_le, IfSome}
 use Rattle.sercos_block.specs.declared.block.Block.{Block}
 use Rattle.sercos_block.specs.Stores.{find_block, put_fault, store_of, are_ascending}
 use Rattle.sercos_block.specs.Views.{DriveView}
-use Rattle.sercos_service_drive.specs.Log.{Taken, record_of}
+use Rattle.sercos_service_drive.specs.Log.{Taken, taken_record}
 use Rattle.sercos_service_drive.specs.Writes.{Write, AreThose, added_on}
 use Rattle.sercos_drive.specs.declared.hearing.Told.{Told}
 use Rattle.sercos_drive.specs.Heard.{DriveCall, Mst, Mdt, Restart, mdt_got}
@@ -34,9 +34,9 @@ store_of_so keep allows those d rate (Mdt content ∷ h) ascending =
     by (Some t) are before = which (has_mst (annals d rate h) && nat_le 2 (phase_in (annals d rate h)))
       where
         one : Taken
-        one = record_of (cycle_in (annals d rate h)) (phase_in (annals d rate h)) t.control t.info (blocks_in d (annals d rate h)) (commands_in d rate (annals d rate h))
+        one = taken_record (cycle_in (annals d rate h)) (phase_in (annals d rate h)) t.control t.info (blocks_in d (annals d rate h)) (commands_in d rate (annals d rate h))
 
-        which : (b : Bool) → IsOf d (blocks_after (if b then Some (record_of (cycle_in (annals d rate h)) (phase_in (annals d rate h)) t.control t.info (blocks_in d (annals d rate h)) (commands_in d rate (annals d rate h))) else None)
+        which : (b : Bool) → IsOf d (blocks_after (if b then Some (taken_record (cycle_in (annals d rate h)) (phase_in (annals d rate h)) t.control t.info (blocks_in d (annals d rate h)) (commands_in d rate (annals d rate h))) else None)
             (taken_in (annals d rate h)) (blocks_in d (annals d rate h)))
         which true = keep d (blocks_in d (annals d rate h)) (added_on one (taken_in (annals d rate h))) (commands_in d rate (annals d rate h)) (phase_in (annals d rate h)) before.1 before.0 (allows one (taken_in (annals d rate h)) are)
         which false = before

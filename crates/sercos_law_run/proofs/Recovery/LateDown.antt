@@ -5,16 +5,13 @@ use Rattle.std.specs.Option.{option_or}
 use Rattle.std.proofs.lemmas.Bool.{false≢true}
 use Rattle.std.proofs.lemmas.Bool.Decides.{nat_tests}
 use Rattle.sercos_telegram.specs.declared.layout.Kind.TheVariants as kinds
-use Rattle.sercos_telegram.specs.Words.{status_of}
-use Rattle.sercos_telegram.specs.Spells.{word_at}
 use Rattle.sercos_step.specs.declared.request.Job.{Job}
 use Rattle.sercos_block.specs.Views.{RingView}
-use Rattle.sercos_service_master.specs.Calls.{Hear}
 use Rattle.sercos_trace.specs.Views.{CycleView}
 use Rattle.sercos_trace.specs.declared.events.Fall.{Fall}
 use Rattle.sercos_trace.specs.declared.events.Fall.TheVariants as fall
 use Rattle.sercos_seat.specs.Ring.{Known, known_of}
-use Rattle.sercos_master.specs.Annals.{Call, Past, Turn, after_taken, fall_at, fall_of, first_from, first_place, goes_on, has_lost_at, has_lost_mst, is_at_limit, new_epoch, next_phase, still_waiting}
+use Rattle.sercos_master.specs.Annals.{Call, Past, Turn, after_taken, fall_at, fall_of, first_from, first_place, goes_on, has_lost_at, has_lost_mst, is_at_limit, new_epoch, next_phase, still_waiting, hearing}
 use Rattle.sercos_script.specs.Links.{Carry, Restarts}
 use Rattle.sercos_law_channel.specs.Handshake.Views.{Heard}
 use Rattle.sercos_law_channel.specs.Pace.ChannelCalls.{staying}
@@ -52,7 +49,7 @@ taken_hears : (k i : ℕ) (content : List ℕ) (p : Past) → IsHeardOn k p → 
 taken_hears k i content p on = record { not_one = on.not_one; hears = by (k == i) (p.now.phase == 1) on.not_one }
   where
     by : (same one : Bool) → one ≡ false → (if same then true else p.now.heard k) ≡ true
-        → is_some (heard_last (if same then (if one then p.calls i else Hear (status_of (word_at content 1)) (word_at content 3) ∷ p.calls i) else p.calls k)) ≡ true
+        → is_some (heard_last (if same then (hearing one i content p).calls else p.calls k)) ≡ true
     by true true off is = absurd (false≢true (sym off))
     by true false off is = refl
     by false one off is = on.hears is

@@ -5,7 +5,7 @@ use Rattle.sercos_block.specs.declared.block.Block.{Block}
 use Rattle.sercos_block.specs.Views.{DriveView}
 use Rattle.sercos_block.specs.Stores.{with_data}
 use Rattle.sercos_command.specs.Settings.{CommandsView, is_command, with_write, without_checks, without_settings}
-use Rattle.sercos_service_drive.specs.Log.{Taken, record_of}
+use Rattle.sercos_service_drive.specs.Log.{Taken, taken_record}
 use Rattle.sercos_service_drive.specs.Writes.{Write, setting_in, added_on, commands_with}
 use Rattle.sercos_drive.specs.declared.hearing.Told.{Told}
 use Rattle.sercos_drive.specs.Heard.{DriveCall, Mst, Mdt, Restart, mst_got, mdt_got}
@@ -42,7 +42,7 @@ rate_after d rate None past h = refl
 rate_after d rate (Some told) past h = by (has_mst past && nat_le 2 (phase_in past))
   where
     t : Taken
-    t = record_of (cycle_in past) (phase_in past) told.control told.info (blocks_in d past) (commands_in d rate past)
+    t = taken_record (cycle_in past) (phase_in past) told.control told.info (blocks_in d past) (commands_in d rate past)
 
     by : (v : Bool) → (commands_after (if v then Some t else None) h (commands_in d rate past)).rate ≡ (commands_in d rate past).rate
     by true = rate_with (added_on t h) t.blocks t.commands

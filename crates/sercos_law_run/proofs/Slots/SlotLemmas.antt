@@ -11,7 +11,7 @@ use Rattle.sercos_timing.specs.Inequalities.{greatest_tmtsy, positions, Fits}
 use Rattle.sercos_timing.specs.Valid.{IsValid}
 use Rattle.sercos_plan.proofs.LeastLemmas.{Among}
 use Rattle.sercos_plan.proofs.PlanLemmas.{among_greatest}
-use Rattle.sercos_law_run.specs.Slots.Slots.{AtSlot, MdtSlot, Held, mdt_content, record_of, record_start, end_of, HasPause, HasRecovered, IsAtItsTime, IsServed}
+use Rattle.sercos_law_run.specs.Slots.Slots.{AtSlot, MdtSlot, Held, mdt_content, slot_record, record_start, end_of, HasPause, HasRecovered, IsAtItsTime, IsServed}
 use Rattle.sercos_law_run.specs.Slots.OnPlan.{held_of, IsSentBefore, AreOnPlan, PlanKeepsApart}
 use Rattle.sercos_law_run.proofs.Slots.Spacing.{IsSpaced, AreSpaced, spaced, either_first, after_mst, before_mdt, kept_at}
 use Rattle.sercos_law_run.proofs.Slots.Places.{has_turn, place_from, place_within, places_apart, record_place_is, length_records, length_record, record_there}
@@ -82,7 +82,7 @@ le_start x a a' e h = omega arith
 count : (records : List (List ℕ)) (ds : List Wish) → map length records ≡ map (λ (d : Wish). d.record_len) ds → length records ≡ length ds
 count records ds same = sym (length-map records length) ∙ ap length same ∙ length-map ds (λ d. d.record_len)
 
-there_at : (m : MdtSlot) (k place len : ℕ) → place ≡ record_start m k → length (record_of m k) ≡ len → k < length m.records → take len (drop place (mdt_content m)) ≡ record_of m k
+there_at : (m : MdtSlot) (k place len : ℕ) → place ≡ record_start m k → length (slot_record m k) ≡ len → k < length m.records → take len (drop place (mdt_content m)) ≡ slot_record m k
 there_at m k place len e f within =
     let next : 1 + length (concat (take k m.records)) ≡ suc (length (concat (take k m.records))) = omega arith in
     rw (e, next, ← f) (record_there m.records k within)

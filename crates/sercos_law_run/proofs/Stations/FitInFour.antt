@@ -1,5 +1,5 @@
 -- In phase 4 no block of a drive has operation data outside its limits.
-use Rattle.std.proofs.Common.{◌≡◌, ℕ, ◌≤◌, ◌==◌, nat_lt, Bool, true, false, cond, not, ◌&&◌, ◌||◌, List, [], ◌∷◌, map, length, Option, Some, None, IfSome, refl, ◌∙◌, ap, ap₂, subst, arith, if◌then◌else◌}
+use Rattle.std.proofs.Common.{◌≡◌, ℕ, ◌≤◌, ◌==◌, nat_lt, Bool, true, false, cond, not, ◌&&◌, ◌||◌, List, [], ◌∷◌, map, length, Option, Some, None, IfSome, refl, sym, ◌∙◌, ap, ap₂, subst, arith, if◌then◌else◌}
 use Rattle.std.specs.Prelude.{option_map}
 use Rattle.std.specs.Bool.{then_some}
 use Rattle.std.specs.List.{list_all, filter}
@@ -18,6 +18,8 @@ use Rattle.sercos_block.specs.Stores.{find_block, with_data, write_fault, data_f
 use Rattle.sercos_block.specs.Views.{DriveView}
 use Rattle.sercos_block.proofs.PutLemmas.{with_data-nowhere}
 use Rattle.sercos_command.specs.Checks.{is_outside, unfit_for_phase_4}
+use Rattle.sercos_command.proofs.History.{is_passed-kept}
+use Rattle.sercos_drive.specs.Moments.{calls_in}
 use Rattle.sercos_drive.specs.Annals.{has_passed}
 use Rattle.sercos_drive.specs.Laws.{HandedThose}
 use Rattle.sercos_law_run.specs.Stations.Fit.{FitInFour}
@@ -125,7 +127,8 @@ module _ (d : DriveView) (rate : ℕ) (none : blocks_fault [] d.blocks ≡ None)
     listed = λ blocks bytes is inside. (listed_at 21 blocks bytes _ refl refl is inside, listed_at 22 blocks bytes _ refl refl is inside);
     command = λ blocks raw phase bytes is fine command inside. inside_written raw bytes blocks is.1 (accepted (find_block raw blocks) phase bytes fine) inside;
     later = λ blocks raw phase bytes is fine late below inside. inside_written raw bytes blocks is.1 (accepted (find_block raw blocks) phase bytes fine) inside;
-    rise = λ cycle phase past high low has. let is : phase ≡ 4 = omega (arith, high, low) in subst (λ (p : ℕ). has_passed d rate cycle p past ≡ true) is has;
+    rise = λ cycle phase past high low has. let is : phase ≡ 4 = omega (arith, high, low) in sym
+        (is_passed-kept rate d.command 128 (calls_in past) cycle) ∙ subst (λ (p : ℕ). has_passed d rate cycle p past ≡ true) is has;
   }
 
 pub fit_in_four : HandedThose → FitInFour

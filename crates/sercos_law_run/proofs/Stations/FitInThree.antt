@@ -19,6 +19,8 @@ use Rattle.sercos_block.specs.Stores.{find_block, with_data, write_fault, data_f
 use Rattle.sercos_block.specs.Views.{DriveView}
 use Rattle.sercos_command.specs.Checks.{data_at, number_at, idns_at, cyclic_len, is_cyclic, carried_len, breaks_1, breaks_2, breaks_6, breaks_7, breaks_8, breaks_9, breaks_10, breaks_15, breaks_list, breaks_89, unfit_for_phase_3}
 use Rattle.sercos_command.specs.Settings.{is_command}
+use Rattle.sercos_command.proofs.History.{is_passed-kept}
+use Rattle.sercos_drive.specs.Moments.{calls_in}
 use Rattle.sercos_drive.specs.Annals.{has_passed}
 use Rattle.sercos_drive.specs.Laws.{HandedThose}
 use Rattle.sercos_law_run.specs.Start.StartUp.{IsStoreOf}
@@ -202,7 +204,8 @@ module _ (d : DriveView) (rate : ℕ) (none : blocks_fault [] d.blocks ≡ None)
         written blocks raw bytes is.0 ((writes_keep d blocks raw phase bytes is.1 is.0).0 fine) (each_other raw (λ n such. other_command d n blocks raw none is.0 such command)) fit;
     later = λ blocks raw phase bytes is fine late below fit.
         written blocks raw bytes is.0 ((writes_keep d blocks raw phase bytes is.1 is.0).0 fine) (each_other raw (λ n such. other_later d n blocks raw phase bytes none is.0 such late fine)) fit;
-    rise = λ cycle phase past high low has. let is : phase ≡ 3 = omega (arith, high, low) in subst (λ (p : ℕ). has_passed d rate cycle p past ≡ true) is has;
+    rise = λ cycle phase past high low has. let is : phase ≡ 3 = omega (arith, high, low) in sym
+        (is_passed-kept rate d.command 127 (calls_in past) cycle) ∙ subst (λ (p : ℕ). has_passed d rate cycle p past ≡ true) is has;
   }
 
 pub fit_in_three : HandedThose → FitInThree

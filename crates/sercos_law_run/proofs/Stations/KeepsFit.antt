@@ -8,8 +8,9 @@ use Rattle.sercos_block.specs.declared.block.Block.{Block}
 use Rattle.sercos_block.specs.Stores.{find_block, with_data, put_fault, are_ascending, store_of}
 use Rattle.sercos_block.specs.Views.{DriveView}
 use Rattle.sercos_command.specs.Settings.{CommandsView, find_set, is_command, with_lists, ends_well}
-use Rattle.sercos_command.specs.Calls.{Call, Wrote, Other, Reset, is_passed, settings}
-use Rattle.sercos_service_drive.specs.Log.{Taken, record_of}
+use Rattle.sercos_command.specs.Calls.{Call, Wrote, Other, Reset}
+use Rattle.sercos_command.specs.Kept.{settings, passed_so_far}
+use Rattle.sercos_service_drive.specs.Log.{Taken, taken_record}
 use Rattle.sercos_service_drive.specs.Writes.{Write, AreThose, added_on, setting_in, blocks_with, calls_with}
 use Rattle.sercos_service_drive.proofs.AllowedWrites.{allowed}
 use Rattle.sercos_drive.specs.declared.hearing.Told.{Told}
@@ -34,11 +35,11 @@ pub record IsFound (d : DriveView) (rate check top : ℕ) (P : List Block → Ty
   pub later : (blocks : List Block) (raw phase : ℕ) (bytes : List ℕ) → IsOf d blocks
       → put_fault (find_block raw blocks) phase bytes ≡ None → top ≤ phase → phase ≤ 4 → P blocks → P (with_data raw bytes blocks)
   pub rise : (cycle phase : ℕ) (past : List Moment) → top ≤ phase → phase ≤ top → has_passed d rate cycle phase past ≡ true
-      → is_passed rate d.command check (calls_in past) cycle ≡ true
+      → passed_so_far rate d.command check (calls_in past) cycle ≡ true
 
 -- It holds where the check counts as passed, and where the drive is in such a phase.
 pub record Holds (d : DriveView) (rate check top : ℕ) (P : List Block → Type 0) (calls : List Call) (phase : ℕ) (blocks : List Block) : Type 0 where
-  pub passed : (cycle : ℕ) → is_passed rate d.command check calls cycle ≡ true → P blocks
+  pub passed : (cycle : ℕ) → passed_so_far rate d.command check calls cycle ≡ true → P blocks
   pub stands : top ≤ phase → P blocks
 
 module _ (those : HandedThose) (d : DriveView) (rate check top : ℕ) (P : List Block → Type 0) (found : IsFound d rate check top P) where
@@ -47,7 +48,7 @@ module _ (those : HandedThose) (d : DriveView) (rate check top : ℕ) (P : List 
       → Holds d rate check top P (with_reset after calls) after blocks
   left phase after calls blocks down holds = record { passed = by (after == 0); stands = λ high. holds.stands (omega (arith, down, high)) }
     where
-      by : (zero : Bool) (cycle : ℕ) → is_passed rate d.command check (if zero then Reset ∷ calls else calls) cycle ≡ true → P blocks
+      by : (zero : Bool) (cycle : ℕ) → passed_so_far rate d.command check (if zero then Reset ∷ calls else calls) cycle ≡ true → P blocks
       by true cycle is = absurd (false≢true is)
       by false cycle is = holds.passed cycle is
 
@@ -74,9 +75,10 @@ module _ (those : HandedThose) (d : DriveView) (rate check top : ℕ) (P : List 
       lists so = after_check c after w.raw (setting_in w) P so (found.listed after _ after_is so).0 (found.listed after _ after_is so).1
 
       passed_by : (cycle : ℕ) (same cancels : Bool)
-          → (if same then (if cancels then is_passed rate d.command check calls (min cycle w.cycle)
-          else ((is_none (find_set check (settings rate calls)) && (ends_well rate check after && nat_le (w.cycle + d.command) cycle)) || is_passed rate d.command check calls cycle))
-          else is_passed rate d.command check calls cycle) ≡ true → P after
+          → (if same then (if cancels then passed_so_far rate d.command check calls (min cycle w.cycle)
+          else ((is_none (find_set check (settings rate calls)) && (ends_well rate check after && nat_le (w.cycle + d.command) cycle))
+          || passed_so_far rate d.command check calls cycle))
+          else passed_so_far rate d.command check calls cycle) ≡ true → P after
       passed_by cycle false cancels so = written (holds.passed cycle so)
       passed_by cycle true true so = written (holds.passed (min cycle w.cycle) so)
       passed_by cycle true false so =
@@ -84,7 +86,7 @@ module _ (those : HandedThose) (d : DriveView) (rate check top : ℕ) (P : List 
         where
           either : (now : Bool)
               → (is_none (find_set check (settings rate calls)) && (ends_well rate check after && nat_le (w.cycle + d.command) cycle)) ≡ now
-              → (now || is_passed rate d.command check calls cycle) ≡ true → P after
+              → (now || passed_so_far rate d.command check calls cycle) ≡ true → P after
           either true now so =
               let well = (and_parts (is_none (find_set check (settings rate calls))) (ends_well rate check after && nat_le (w.cycle + d.command) cycle) now).1 in
               found.set after (and_parts (ends_well rate check after) (nat_le (w.cycle + d.command) cycle) well).0
@@ -116,7 +118,7 @@ module _ (those : HandedThose) (d : DriveView) (rate check top : ℕ) (P : List 
       same after stands = record { passed = by (after == 0); stands = stands }
         where
           by : (zero : Bool) (cycle : ℕ)
-              → is_passed rate d.command check (if zero then Reset ∷ calls_in past else calls_in past) cycle ≡ true
+              → passed_so_far rate d.command check (if zero then Reset ∷ calls_in past else calls_in past) cycle ≡ true
               → P (blocks_in d past)
           by true cycle is = absurd (false≢true is)
           by false cycle is = before.passed cycle is
@@ -172,7 +174,7 @@ module _ (those : HandedThose) (d : DriveView) (rate check top : ℕ) (P : List 
       by (Some t) = left (phase_in past) (ends_in (Some t) past) _ _ (ends_low (Some t)) (which (has_mst past && nat_le 2 (phase_in past)))
         where
           one : Taken
-          one = record_of (cycle_in past) (phase_in past) t.control t.info (blocks_in d past) (commands_in d rate past)
+          one = taken_record (cycle_in past) (phase_in past) t.control t.info (blocks_in d past) (commands_in d rate past)
 
           which : (b : Bool)
               → Holds d rate check top P (calls_after (if b then Some one else None) (taken_in past) (calls_in past)) (phase_in past) (blocks_after (if b then Some one else None) (taken_in past) (blocks_in d past))

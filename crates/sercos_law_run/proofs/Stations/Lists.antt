@@ -1,6 +1,6 @@
 -- What a drive's lists of invalid operation data contain.
 use Rattle.std.proofs.Common.{◌≡◌, ℕ, ◌==◌, Bool, true, false, not, ◌&&◌, List, [], ◌∷◌, Option, Some, None, IfSome, refl, sym, ◌∙◌, subst, arith, if◌then◌else◌}
-use Rattle.std.specs.Prelude.{nat_le, is_none, option_map, unwrap_or}
+use Rattle.std.specs.Prelude.{nat_le, option_map, unwrap_or}
 use Rattle.std.specs.Bool.{then_some}
 use Rattle.std.proofs.lemmas.Bool.{false≢true}
 use Rattle.std.proofs.lemmas.Bool.Decides.{nat_tests}
@@ -17,9 +17,11 @@ use Rattle.sercos_block.specs.Rings.{attribute_in, row_in, built_in_attribute, b
 use Rattle.sercos_block.specs.Stores.{find_block, with_data, write_fault, data_fault, put_fault, are_ascending, store_of}
 use Rattle.sercos_block.specs.Views.{DriveView}
 use Rattle.sercos_command.specs.Checks.{data_at, list_bytes, unfit_for_phase_3, unfit_for_phase_4}
-use Rattle.sercos_command.specs.Settings.{CommandsView, find_set, is_command, with_write, with_lists}
-use Rattle.sercos_command.specs.Calls.{Call, Wrote, Other, Reset, settings}
-use Rattle.sercos_service_drive.specs.Log.{Taken, record_of}
+use Rattle.sercos_command.specs.Settings.{CommandsView, is_command, with_write, with_lists}
+use Rattle.sercos_command.specs.Calls.{Call, Wrote, Other, Reset, is_set}
+use Rattle.sercos_command.specs.Kept.{settings}
+use Rattle.sercos_command.proofs.History.{is_none-settings}
+use Rattle.sercos_service_drive.specs.Log.{Taken, taken_record}
 use Rattle.sercos_service_drive.specs.Writes.{Write, AreThose, added_on, setting_in, blocks_with, commands_with, calls_with}
 use Rattle.sercos_service_drive.proofs.AllowedWrites.{allowed}
 use Rattle.sercos_drive.specs.declared.hearing.Told.{Told}
@@ -82,7 +84,7 @@ are_set d rate (Mdt content ∷ h) = set_reset rate (ends_in told past) _ _ (by 
     by (Some t) are = which (has_mst past && nat_le 2 (phase_in past))
       where
         one : Taken
-        one = record_of (cycle_in past) (phase_in past) t.control t.info (blocks_in d past) (commands_in d rate past)
+        one = taken_record (cycle_in past) (phase_in past) t.control t.info (blocks_in d past) (commands_in d rate past)
 
         which : (b : Bool)
             → AreSet rate (commands_after (if b then Some one else None) (taken_in past) (commands_in d rate past)) (calls_after (if b then Some one else None) (taken_in past) (calls_in past))
@@ -137,7 +139,8 @@ module _ (those : HandedThose) (d : DriveView) (rate : ℕ) (none : blocks_fault
       → Contain calls blocks
       → Contain (Wrote raw value cycle blocks ∷ calls) (with_lists c raw value blocks)
   unfolding with_lists
-  listed c raw value cycle blocks calls is are has = rw (are.0, are.1) (by (not (value == to_cancel) && is_none (find_set raw (settings rate calls))) (raw == 127) (raw == 128) refl refl)
+  listed c raw value cycle blocks calls is are has = rw (are.0, are.1, is_none-settings rate raw calls)
+      (by (not (value == to_cancel) && not (is_set raw calls)) (raw == 127) (raw == 128) refl refl)
     where
       has_21 : has_block 21 blocks ≡ true
       has_21 = has_of 21 d blocks is refl
@@ -214,7 +217,7 @@ module _ (those : HandedThose) (d : DriveView) (rate : ℕ) (none : blocks_fault
       by (Some t) are is has = which (has_mst past && nat_le 2 (phase_in past))
         where
           one : Taken
-          one = record_of (cycle_in past) (phase_in past) t.control t.info (blocks_in d past) (commands_in d rate past)
+          one = taken_record (cycle_in past) (phase_in past) t.control t.info (blocks_in d past) (commands_in d rate past)
 
           which : (b : Bool)
               → Contain (calls_after (if b then Some one else None) (taken_in past) (calls_in past)) (blocks_after (if b then Some one else None) (taken_in past) (blocks_in d past))

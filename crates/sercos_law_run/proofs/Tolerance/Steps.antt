@@ -8,8 +8,8 @@ use Rattle.sercos_step.specs.declared.step.Step.{Step}
 use Rattle.sercos_service_drive.specs.Log.{Entry, Taken}
 use Rattle.sercos_service_drive.specs.Replies.{log_of, reply_of}
 use Rattle.sercos_service_master.specs.Begun.{Begun, answer_in, answers_in, answers_it, open_in, steps_in, with_answer}
-use Rattle.sercos_law_channel.specs.Handshake.Epochs.{begun_in, epoch_begun, epoch_log, epoch_taken, log_in, taken_in, unless_restart, with_begun, with_heard}
-use Rattle.sercos_law_channel.specs.Handshake.InStep.{AreInStep, Idle, Kept, Sent, steps_of}
+use Rattle.sercos_law_channel.specs.Handshake.Epochs.{begun_in, epoch_begun, epoch_log, epoch_taken, log_in, taken_in_views, unless_restart, with_begun, with_heard}
+use Rattle.sercos_law_channel.specs.Handshake.InStep.{AreInStep, Idle, Kept, Sent, log_steps}
 use Rattle.sercos_law_channel.specs.Handshake.Moves.{with_taken}
 use Rattle.sercos_law_channel.specs.Handshake.Runs.{IsRun, IsShown}
 use Rattle.sercos_law_channel.specs.Handshake.Views.{Heard, View, processed_in, record_in, standing, stood_in, with_record}
@@ -115,7 +115,7 @@ module _ (busy : ℕ) (v : View) (past : List View) (run : IsRun busy (v ∷ pas
   begun_is = cond-false v.falls [] (begun_in v past) stays
 
   log_is : epoch_log (v ∷ past) ≡ log_in v past
-  log_is = ap log_of (cond-false v.falls [] (taken_in v past) stays)
+  log_is = ap log_of (cond-false v.falls [] (taken_in_views v past) stays)
 
   start_is : unless_restart v (epoch_begun past) ≡ epoch_begun past
   start_is = cond-false v.master_restarts [] (epoch_begun past) goes_on
@@ -276,7 +276,7 @@ module _ (busy : ℕ) (v : View) (past : List View) (run : IsRun busy (v ∷ pas
       → AreInStep (with_heard o (unless_restart v (epoch_begun past))) (log_of (unless_restart v (epoch_taken past))) → is_some o ≡ true
       → (e : Entry) (rest : List Entry) → log_of (unless_restart v (epoch_taken past)) ≡ e ∷ rest
       → open_in (unless_restart v (epoch_begun past)) ≡ Some e.taken.step
-      → steps_in (unless_restart v (epoch_begun past)) ≡ steps_of (log_of (unless_restart v (epoch_taken past)))
+      → steps_in (unless_restart v (epoch_begun past)) ≡ log_steps (log_of (unless_restart v (epoch_taken past)))
       → e.taken.cycle < length past
       → WorksLate busy (length past) 0 (with_heard o (unless_restart v (epoch_begun past))) (log_of (unless_restart v (epoch_taken past)))
   works None shown after some e rest those opened steps earlier = absurd (false≢true some)

@@ -20,7 +20,7 @@ use Rattle.sercos_block.proofs.SoundLemmas.{found_sound, value_len, found-carrie
 use Rattle.sercos_block.proofs.TypeLemmas.{types}
 use Rattle.sercos_command.specs.Checks.{data_at, idns_in, idns_at}
 use Rattle.sercos_service_drive.specs.Replies.{data_in}
-use Rattle.sercos_service_drive.specs.Says.{Shown, drive_says as channel_says}
+use Rattle.sercos_service_drive.specs.Says.{Shown, channel_says}
 use Rattle.sercos_drive.specs.Heard.{DriveCall}
 use Rattle.sercos_drive.specs.Moments.{phase_in, cycle_in, taken_in, blocks_in, commands_in}
 use Rattle.sercos_drive.specs.Annals.{annals}

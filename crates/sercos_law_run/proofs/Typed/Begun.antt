@@ -1,6 +1,6 @@
 -- Each request that the master begins is typed.
 use Rattle.std.proofs.Common.{◌≡◌, ℕ, zero, suc, ◌+◌, ◌*◌, ◌<◌, ◌≤◌, ◌==◌, Bool, true, false, ◌&&◌, List, [], ◌∷◌, ◌++◌, map, length, drop, Option, Some, None, IfSome, is_none, is_some, refl, sym, subst, arith, if◌then◌else◌}
-use Rattle.std.specs.Prelude.{slice_index, slice_get, option_map, unwrap_or}
+use Rattle.std.specs.Prelude.{slice_index, slice_get}
 use Rattle.std.proofs.lemmas.List.Elements.{All-head, All-tail}
 use Rattle.sercos_idn.specs.declared.idn.Idn.{Idn}
 use Rattle.sercos_telegram.specs.declared.words.Status.{Status}
@@ -17,9 +17,9 @@ use Rattle.sercos_service_master.specs.Begun.{Begun, answers_it, answer_in, with
 use Rattle.sercos_service_master.specs.Calls.{Hear, begun_by}
 use Rattle.sercos_service_master.specs.Calls as channel
 use Rattle.sercos_seat.specs.Ring.{Known, IsKnown, MemberView, Task, member, startup, request_task, tasks_from, tasks_for}
-use Rattle.sercos_seat.specs.Agenda.{bytes_of, idn, declared_times, reads, reads_count, writes_word, writes_list, writes, ended_well, checking, agenda}
+use Rattle.sercos_seat.specs.Agenda.{after_reads, bytes_of, idn, declared_times, reads, reads_count, writes_word, writes_list, writes, ended_well, checking, agenda}
 use Rattle.sercos_seat.specs.Channel.{count_requests, of_phase}
-use Rattle.sercos_master.specs.Annals.{Call, HearMst, HearAt, Mdt, End, Restart, Past, IsPlanned, past, outcomes, is_idle, is_taken, after_taken, after_at_of, place_of, settled, has_turn, next_task, begins, with_begin, ready_to_send, is_sent_to, addressed_in, after_mdt, fall_of, next_phase, goes_on, new_epoch, still_waiting}
+use Rattle.sercos_master.specs.Annals.{Call, HearMst, HearAt, Mdt, End, Restart, Past, IsPlanned, past, outcomes, is_idle, is_taken, after_taken, after_at_of, place_of, settled, has_turn, next_task, begins, with_begin, ready_to_send, is_sent_to, addressed_in, after_mdt, fall_of, next_phase, goes_on, new_epoch, still_waiting, hearing}
 use Rattle.sercos_master.proofs.Followed.{settles}
 use Rattle.sercos_law_run.specs.Typed.Typed.{IsTypedRequest, AreTypedJobs}
 use Rattle.sercos_law_run.proofs.Typed.Words.{AreWords, bytes_of_words}
@@ -135,7 +135,7 @@ AreNumbers plan k = IfSome plan (λ p. PlanWords p k)
 agenda_so : (s : Known) (plan : Option PlanView) (waiting : List Task) (k : ℕ) (outs : List Outcome) → IsTimed s → IsMember (member s k) → AreNumbers plan k → AreTasks waiting → AreTasks (agenda s plan waiting k outs)
 agenda_so s plan waiting k outs timed is numbers are = tasks_append (map (startup 2) (reads (member s k))) _ (started 2 (reads (member s k)) (reads_so (member s k) is)) (by plan numbers)
   where
-    by : (o : Option PlanView) → AreNumbers o k → AreTasks (unwrap_or (option_map (λ p. map (startup 2) (writes s p k) ++ checking 2 127 21 (slice_get outs (reads_count (member s k) + 11)) (checking 3 128 22 (slice_get outs (reads_count (member s k) + 12)) waiting)) o) [])
+    by : (o : Option PlanView) → AreNumbers o k → AreTasks (after_reads s o waiting k outs)
     by None numbers = tt
     by (Some p) numbers = tasks_append (map (startup 2) (writes s p k)) _ (started 2 (writes s p k) (writes_so s p k timed is numbers))
         (checking_so 2 127 21 (slice_get outs (reads_count (member s k) + 11)) _ (omega arith) (omega arith)
@@ -178,11 +178,11 @@ at_so : (s : Known) (place : Option ℕ) (content : List ℕ) (p : Past) → IsT
 at_so s None content p are = are
 at_so s (Some i) content p are = by (is_taken s p i content)
   where
-    one : (identifies : Bool) (k : ℕ) → AreBegun (begun_by (if identifies then p.calls k else Hear (status_of (word_at content 1)) (word_at content 3) ∷ p.calls k))
+    one : (identifies : Bool) (k : ℕ) → AreBegun (begun_by (hearing identifies k content p).calls)
     one true k = are.begun k
     one false k = hears (status_of (word_at content 1)) (word_at content 3) (p.calls k) (are.begun k)
 
-    here : (k : ℕ) (same : Bool) → AreBegun (begun_by (if same then (if p.now.phase == 1 then p.calls i else Hear (status_of (word_at content 1)) (word_at content 3) ∷ p.calls i) else p.calls k))
+    here : (k : ℕ) (same : Bool) → AreBegun (begun_by (if same then (hearing (p.now.phase == 1) i content p).calls else p.calls k))
     here k true = one (p.now.phase == 1) i
     here k false = are.begun k
 

@@ -16,7 +16,7 @@ use Rattle.sercos_block.specs.Rings.{is_ring, is_drive, are_drives, are_drive_nu
 use Rattle.sercos_block.specs.Stores.{find_block, store_of, put_fault, is_typed, IsStore}
 use Rattle.sercos_block.specs.Views.{DriveView, RingView}
 use Rattle.sercos_command.specs.Checks.{number_at, carried_len}
-use Rattle.sercos_service_drive.specs.Log.{Taken, record_of}
+use Rattle.sercos_service_drive.specs.Log.{Taken, taken_record}
 use Rattle.sercos_service_drive.specs.Writes.{AreThose, added_on}
 use Rattle.sercos_drive.specs.declared.hearing.Told.{Told}
 use Rattle.sercos_drive.specs.Heard.{DriveCall, Mst, Mdt, Restart, mst_got, told_at, single_in, joint_in, lies_within, mdt_got}
@@ -158,7 +158,7 @@ processed : (d : DriveView) (rate : ℕ) (told : Option Told) (past : List Momen
 processed d rate None past is store = tt
 processed d rate (Some told) past is store = by (has_mst past && nat_le 2 (phase_in past))
   where
-    by : (b : Bool) → IfSome (if b then Some (record_of (cycle_in past) (phase_in past) told.control told.info (blocks_in d past) (commands_in d rate past)) else None) (λ t. IsTaken t × (t.blocks ≡ blocks_in d past))
+    by : (b : Bool) → IfSome (if b then Some (taken_record (cycle_in past) (phase_in past) told.control told.info (blocks_in d past) (commands_in d rate past)) else None) (λ t. IsTaken t × (t.blocks ≡ blocks_in d past))
     by true = (record { blocks = store; element = is.0; word = is.1 }, refl)
     by false = tt
 

@@ -25,7 +25,7 @@ use Rattle.sercos_command.specs.declared.commands.SetCommand.{SetCommand}
 use Rattle.sercos_command.specs.Settings.{CommandsView, has_ended, find_set, status_by, status_in, change_in}
 use Rattle.sercos_service_drive.specs.Log.{Taken, Entry, accepted, ahs, opens, open_idn, run_before, selection, in_order}
 use Rattle.sercos_service_drive.specs.Replies.{good, refused, answer_by, data_in, list_words, element_words, copy, read_cause, write_cause, write_cause_in, selects, ends_early, is_over, is_uneven, is_no_setting, bytes_written, reply_on, reply_at, reply_of, answered}
-use Rattle.sercos_service_drive.specs.Says.{Shown, shown, drive_says}
+use Rattle.sercos_service_drive.specs.Says.{Shown, shown, channel_says}
 use Rattle.sercos_law_run.specs.Typed.Keeps.{IsTaken, AreTaken}
 use Rattle.sercos_law_run.proofs.Typed.Words.{AreWords, word_of, words_of_bytes, two_bytes, four_bytes}
 use Rattle.sercos_law_run.proofs.Typed.Records.{AreEntries, accepted_so, answered_so, run_so, selection_so}
@@ -205,7 +205,7 @@ either : (b : Bool) (x y : Shown) → x.word < 65536 → y.word < 65536 → (if 
 either true x y low other = low
 either false x y low other = other
 
-pub shows_word : (busy cycle : ℕ) (commands : CommandsView) (h : List Taken) → AreTaken h → (drive_says busy cycle commands h).word < 65536
+pub shows_word : (busy cycle : ℕ) (commands : CommandsView) (h : List Taken) → AreTaken h → (channel_says busy cycle commands h).word < 65536
 shows_word busy cycle commands h are = by (accepted h) (accepted_so h are)
   where
     by : (a : List Taken) → AreTaken a → (shown busy cycle (ahs h) (change_in commands cycle) (answered a)).word < 65536

@@ -7,7 +7,7 @@ use Rattle.sercos_block.specs.Views.{DriveView}
 use Rattle.sercos_block.specs.declared.block.Block.{Block}
 use Rattle.sercos_command.specs.Checks.{unfit_for_phase_3, unfit_for_phase_4, list_bytes}
 use Rattle.sercos_command.specs.Settings.{CommandsView, find_set, is_command, with_lists}
-use Rattle.sercos_service_drive.specs.Log.{Taken, record_of}
+use Rattle.sercos_service_drive.specs.Log.{Taken, taken_record}
 use Rattle.sercos_service_drive.specs.Writes.{Write, AreThose, added_on, setting_in, blocks_with}
 use Rattle.sercos_drive.specs.declared.hearing.Told.{Told}
 use Rattle.sercos_drive.specs.Heard.{DriveCall, Mst, Mdt, Restart, mdt_got}
@@ -91,9 +91,9 @@ module _ (keep : BlocksKeep) (allows : AllowsWrites) (those : HandedThose) (d : 
       by (Some t) are before is = which (has_mst (annals d rate h) && nat_le 2 (phase_in (annals d rate h)))
         where
           one : Taken
-          one = record_of (cycle_in (annals d rate h)) (phase_in (annals d rate h)) t.control t.info (blocks_in d (annals d rate h)) (commands_in d rate (annals d rate h))
+          one = taken_record (cycle_in (annals d rate h)) (phase_in (annals d rate h)) t.control t.info (blocks_in d (annals d rate h)) (commands_in d rate (annals d rate h))
 
-          which : (b : Bool) → IsAt n such (blocks_after (if b then Some (record_of (cycle_in (annals d rate h)) (phase_in (annals d rate h)) t.control t.info (blocks_in d (annals d rate h)) (commands_in d rate (annals d rate h))) else None)
+          which : (b : Bool) → IsAt n such (blocks_after (if b then Some (taken_record (cycle_in (annals d rate h)) (phase_in (annals d rate h)) t.control t.info (blocks_in d (annals d rate h)) (commands_in d rate (annals d rate h))) else None)
               (taken_in (annals d rate h)) (blocks_in d (annals d rate h)))
           which true = next (blocks_in d (annals d rate h)) (added_on one (taken_in (annals d rate h))) (commands_in d rate (annals d rate h)) (phase_in (annals d rate h)) before.1 before.0 (allows one (taken_in (annals d rate h)) are) is
           which false = is

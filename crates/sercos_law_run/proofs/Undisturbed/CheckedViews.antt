@@ -15,7 +15,7 @@ use Rattle.sercos_service_drive.specs.Writes.{Write, writes_of, without_data, Ar
 use Rattle.sercos_service_master.specs.Begun.{Begun}
 use Rattle.sercos_seat.specs.Agenda.{idn, ended_well}
 use Rattle.sercos_law_channel.specs.Handshake.Views.{View, standing, since_reset}
-use Rattle.sercos_law_channel.specs.Handshake.Epochs.{begun_in, epoch_taken, taken_in, log_in}
+use Rattle.sercos_law_channel.specs.Handshake.Epochs.{begun_in, epoch_taken, taken_in_views, log_in}
 use Rattle.sercos_law_channel.specs.Handshake.Runs.{IsRun}
 use Rattle.sercos_law_channel.specs.Handshake.RunLaws.{AreBefore}
 use Rattle.sercos_law_channel.specs.Handshake.Transfers.{HaveBlocks}
@@ -113,8 +113,8 @@ module _ (raw : ℕ) (passed : CommandsView → Option ℕ) (sets : PassesIfSet 
   leaves : LogLeaves (log_in v past) (commands_ended c (v ∷ past))
   leaves = subst (λ (l : List Entry). LogLeaves l (commands_ended c (v ∷ past))) log_is (leaves_since c fresh (v ∷ past) follow)
 
-  taken_is : epoch_taken (v ∷ past) ≡ taken_in v past
-  taken_is = cond-false v.falls [] (taken_in v past) goes_on
+  taken_is : epoch_taken (v ∷ past) ≡ taken_in_views v past
+  taken_is = cond-false v.falls [] (taken_in_views v past) goes_on
 
   have : HaveBlocks blocks (log_in v past)
   have = subst (λ (h : List Taken). HaveBlocks blocks (log_of h)) taken_is (epoch blocks busy (v ∷ past) run sound).alike

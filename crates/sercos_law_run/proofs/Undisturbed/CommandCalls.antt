@@ -8,8 +8,9 @@ use Rattle.sercos_block.specs.declared.block.Block.{Block}
 use Rattle.sercos_block.specs.Stores.{with_data}
 use Rattle.sercos_block.specs.Views.{DriveView, RingView}
 use Rattle.sercos_command.specs.Settings.{CommandsView, is_command, is_from, with_write, without_checks, without_settings}
-use Rattle.sercos_command.specs.Calls.{Call, Wrote, Other, Reset, newest, CommandsStandFor}
-use Rattle.sercos_service_drive.specs.Log.{Taken, ahs, record_of}
+use Rattle.sercos_command.specs.Calls.{Call, Wrote, Other, Reset, newest}
+use Rattle.sercos_command.specs.Kept.{CommandsStandFor}
+use Rattle.sercos_service_drive.specs.Log.{Taken, ahs, taken_record}
 use Rattle.sercos_service_drive.specs.Replies.{reply_of, log_of}
 use Rattle.sercos_service_drive.specs.Writes.{Write, setting_in, added_by, adds, added_on, commands_with, calls_with}
 use Rattle.sercos_drive.specs.declared.hearing.Told.{Told}
@@ -72,7 +73,7 @@ keeps_record d rate None past cycle now s = s
 keeps_record d rate (Some told) past cycle now s = by (has_mst past && nat_le 2 (phase_in past))
   where
     t : Taken
-    t = record_of (cycle_in past) (phase_in past) told.control told.info (blocks_in d past) (commands_in d rate past)
+    t = taken_record (cycle_in past) (phase_in past) told.control told.info (blocks_in d past) (commands_in d rate past)
 
     at : (o : Option Write) → IfSome o (λ w. w.cycle ≡ cycle_in past) → IfSome o (λ w. w.cycle ≡ cycle)
     at None is = tt

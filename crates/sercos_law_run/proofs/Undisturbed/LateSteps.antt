@@ -19,7 +19,7 @@ use Rattle.sercos_seat.specs.Agenda.{reads_count}
 use Rattle.sercos_seat.specs.Ring.{known_of, member}
 use Rattle.sercos_master.specs.Annals.{fall_of}
 use Rattle.sercos_script.specs.Links.{Carry, Restarts}
-use Rattle.sercos_law_channel.specs.Handshake.Epochs.{epoch_begun, begun_in, epoch_taken, taken_in, epoch_log, log_in, unless_restart, with_heard, with_begun}
+use Rattle.sercos_law_channel.specs.Handshake.Epochs.{epoch_begun, begun_in, epoch_taken, taken_in_views, epoch_log, log_in, unless_restart, with_heard, with_begun}
 use Rattle.sercos_law_channel.specs.Handshake.InStep.{AreInStep, Idle, Sent, Kept}
 use Rattle.sercos_law_channel.specs.Handshake.RunLaws.{ComesUp, ProcessesInPhase, AreInStepInEpoch}
 use Rattle.sercos_law_channel.specs.Handshake.Views.{Heard, View, with_record, processed_in}
@@ -163,8 +163,8 @@ module _ (laws : Laws) (more : MoreLaws) (comes_up : (busy : ℕ) → ComesUp bu
       past = views_of r jobs carry restarts k j
 
       by : (o : Option Fall) → fall_of (known_of r) (behind_mdt r jobs carry restarts t.sent j) ≡ o → ChecksLate (epoch_begun past) (epoch_log past) → ChecksLate (epoch_begun (v ∷ past)) (epoch_log (v ∷ past))
-      by None stays before = subst (λ (fell : Bool). ChecksLate (if fell then [] else begun_in v past) (log_of (if fell then [] else taken_in v past))) (sym (ap (λ (o : Option Fall). is_some o) stays)) (late_in_cycle t j run clear before)
-      by (Some f) falls before = subst (λ (fell : Bool). ChecksLate (if fell then [] else begun_in v past) (log_of (if fell then [] else taken_in v past))) (sym (ap (λ (o : Option Fall). is_some o) falls)) (λ one older e rest begun many log steps. absurd (nothing_there one older begun))
+      by None stays before = subst (λ (fell : Bool). ChecksLate (if fell then [] else begun_in v past) (log_of (if fell then [] else taken_in_views v past))) (sym (ap (λ (o : Option Fall). is_some o) stays)) (late_in_cycle t j run clear before)
+      by (Some f) falls before = subst (λ (fell : Bool). ChecksLate (if fell then [] else begun_in v past) (log_of (if fell then [] else taken_in_views v past))) (sym (ap (λ (o : Option Fall). is_some o) falls)) (λ one older e rest begun many log steps. absurd (nothing_there one older begun))
 
   pub late_now : (t : CycleView) (j : List CycleView) → IsRun r jobs carry restarts (t ∷ j) → IsClear (t ∷ j)
       → ChecksLate (begun_in (view_of r jobs carry restarts k t j) (views_of r jobs carry restarts k j)) (log_in (view_of r jobs carry restarts k t j) (views_of r jobs carry restarts k j))

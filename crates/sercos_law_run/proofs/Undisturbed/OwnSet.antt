@@ -11,7 +11,7 @@ use Rattle.sercos_block.specs.declared.block.Block.{Block}
 use Rattle.sercos_command.specs.Checks.{is_outside, unfit_for_phase_4}
 use Rattle.sercos_command.specs.Settings.{CommandsView, find_set, without, with_set, is_command, ends_well, with_lists, with_write, without_checks, without_settings}
 use Rattle.sercos_command.specs.declared.commands.SetCommand.{SetCommand}
-use Rattle.sercos_service_drive.specs.Log.{Taken, record_of}
+use Rattle.sercos_service_drive.specs.Log.{Taken, taken_record}
 use Rattle.sercos_service_drive.specs.Writes.{Write, added_on, with_added, setting_in, blocks_with, commands_with}
 use Rattle.sercos_drive.specs.declared.hearing.Told.{Told}
 use Rattle.sercos_drive.specs.Heard.{DriveCall, Mst, Mdt, Restart, mst_got, mdt_got}
@@ -190,7 +190,7 @@ own_so d rate (Mdt content ∷ h) are =
     by (Some t) are own = which (has_mst (annals d rate h) && nat_le 2 (phase_in (annals d rate h))) are
       where
         one : Taken
-        one = record_of (cycle_in (annals d rate h)) (phase_in (annals d rate h)) t.control t.info (blocks_in d (annals d rate h)) (commands_in d rate (annals d rate h))
+        one = taken_record (cycle_in (annals d rate h)) (phase_in (annals d rate h)) t.control t.info (blocks_in d (annals d rate h)) (commands_in d rate (annals d rate h))
 
         one_write : (w : Option Write) → AreBuiltIn (with_added w (writes_in (annals d rate h))) → IsOwn d (blocks_with w (commands_in d rate (annals d rate h)) (blocks_in d (annals d rate h))) (commands_with w (blocks_in d (annals d rate h)) (commands_in d rate (annals d rate h)))
         one_write None are = own

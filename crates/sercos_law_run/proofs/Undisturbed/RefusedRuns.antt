@@ -17,7 +17,7 @@ use Rattle.sercos_service_drive.specs.Replies.{answered}
 use Rattle.sercos_service_drive.specs.Writes.{writes_of}
 use Rattle.sercos_service_master.specs.Begun.{Begun}
 use Rattle.sercos_seat.specs.Agenda.{idn}
-use Rattle.sercos_law_channel.specs.Handshake.Epochs.{command, command_in, epoch_taken, unless_restart, begun_in, taken_in, log_in}
+use Rattle.sercos_law_channel.specs.Handshake.Epochs.{command, command_in, epoch_taken, unless_restart, begun_in, taken_in_views, log_in}
 use Rattle.sercos_law_channel.specs.Handshake.Exact.{AreExact}
 use Rattle.sercos_law_channel.specs.Handshake.InStep.{replies_of}
 use Rattle.sercos_law_channel.specs.Handshake.Parts.{IsPart, Unsent, Heard, Unheard, HaveReplies, MakeTransfers}
@@ -59,7 +59,7 @@ newest_between n (t ∷ h) e entries rest same are = subst (λ (x : Entry). IsBe
     first_is : {x y : Entry} {xs ys : List Entry} → x ∷ xs ≡ y ∷ ys → x ≡ y
     first_is e = cc
 
-cycle_between : ProcessesInPhase → (v : View) (past : List View) → v.phase ≡ command_in v past → AreBetween (command past) (epoch_taken past) → AreBetween v.phase (taken_in v past)
+cycle_between : ProcessesInPhase → (v : View) (past : List View) → v.phase ≡ command_in v past → AreBetween (command past) (epoch_taken past) → AreBetween v.phase (taken_in_views v past)
 cycle_between in_phase v past commanded before = by (processed_in v past) refl (restarted v.master_restarts commanded)
   where
     restarted : (b : Bool) → v.phase ≡ (if b then 0 else command past) → AreBetween v.phase (if b then [] else epoch_taken past)
@@ -74,9 +74,9 @@ epoch_between : ProcessesInPhase → (busy : ℕ) (past : List View) → IsViewR
 epoch_between in_phase busy [] run = tt
 epoch_between in_phase busy (v ∷ past) run = ended v.falls v.rises (cycle_between in_phase v past run.1.commanded (epoch_between in_phase busy past run.0))
   where
-    ended : (f u : Bool) → AreBetween v.phase (taken_in v past) → AreBetween (if f then 0 else (if u then v.phase + 1 else v.phase)) (if f then [] else taken_in v past)
+    ended : (f u : Bool) → AreBetween v.phase (taken_in_views v past) → AreBetween (if f then 0 else (if u then v.phase + 1 else v.phase)) (if f then [] else taken_in_views v past)
     ended true u are = tt
-    ended false true are = between_more v.phase (v.phase + 1) (taken_in v past) (omega arith) are
+    ended false true are = between_more v.phase (v.phase + 1) (taken_in_views v past) (omega arith) are
     ended false false are = are
 
 -- THE STEP THAT WAS REFUSED is the newest of the newest request.
@@ -128,10 +128,10 @@ module _ (laws : Laws) (replies : HaveReplies) (transfers : MakeTransfers) (in_p
                   e = e;
                   entries = entries;
                   log = rest;
-                  transfer = transfers one (store_of d) e entries rest row (replies (accepted (taken_in v past)) (e ∷ entries) rest log_so) (have_first (e ∷ entries) rest (subst (HaveBlocks (store_of d)) log_so have));
+                  transfer = transfers one (store_of d) e entries rest row (replies (accepted (taken_in_views v past)) (e ∷ entries) rest log_so) (have_first (e ∷ entries) rest (subst (HaveBlocks (store_of d)) log_so have));
                   error = ends.0;
                   code_is = ends.1;
-                  between = newest_between v.phase (accepted (taken_in v past)) e entries rest log_so (between_accepted v.phase (taken_in v past) (cycle_between in_phase v past run.1.commanded (epoch_between in_phase busy past run.0)));
+                  between = newest_between v.phase (accepted (taken_in_views v past)) e entries rest log_so (between_accepted v.phase (taken_in_views v past) (cycle_between in_phase v past run.1.commanded (epoch_between in_phase busy past run.0)));
                   stored = (subst (EntriesStored d) all (entries_stored d (stays v ∷ past) stored)).1.1;
                 },
                 log_so,

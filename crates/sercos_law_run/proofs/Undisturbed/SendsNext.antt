@@ -4,7 +4,7 @@ use Rattle.std.specs.Prelude.{◌==◌, nat_le, is_some, is_none, slice_index}
 use Rattle.sercos_telegram.specs.Faults.{at_fault}
 use Rattle.sercos_telegram.proofs.Spellings.{head_fault-none}
 use Rattle.sercos_block.specs.Views.{DriveView}
-use Rattle.sercos_service_drive.specs.Says.{Shown, drive_says as channel_says}
+use Rattle.sercos_service_drive.specs.Says.{Shown, channel_says}
 use Rattle.sercos_drive.specs.declared.hearing.Told.{Told}
 use Rattle.sercos_drive.specs.Heard.{DriveCall, Mst, Mdt, mst_got, mdt_got}
 use Rattle.sercos_drive.specs.Moments.{Moment, phase_in, cycle_in, has_mst, has_taken, has_missed, taken_in, blocks_in, commands_in}

@@ -14,7 +14,7 @@ use Rattle.sercos_block.specs.Rings.{wishes_of, at_len}
 use Rattle.sercos_block.specs.Rules.{blocks_fault}
 use Rattle.sercos_block.specs.Stores.{IsStore}
 use Rattle.sercos_block.specs.Views.{DriveView, RingView}
-use Rattle.sercos_service_drive.specs.Says.{Shown, drive_says as channel_says}
+use Rattle.sercos_service_drive.specs.Says.{Shown, channel_says}
 use Rattle.sercos_drive.specs.Moments.{Moment, phase_in, cycle_in, has_mst, has_taken, taken_in, blocks_in, commands_in}
 use Rattle.sercos_drive.specs.Says.{Said, said, said_in, sends, shown_word, values_in}
 use Rattle.sercos_seat.specs.Agenda.{wish_given, wishes_from, wishes_given}

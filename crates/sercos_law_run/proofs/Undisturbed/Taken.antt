@@ -14,7 +14,7 @@ use Rattle.sercos_drive.specs.Says.{Said, drive_says}
 use Rattle.sercos_seat.specs.Agenda.{at_len}
 use Rattle.sercos_seat.specs.Channel.{is_place, outcomes_in}
 use Rattle.sercos_seat.specs.Ring.{Known, member, known_of}
-use Rattle.sercos_master.specs.Annals.{Past, Turn, Call, addressed_before, place_of, is_awaited, wanted_len, is_taken, calls_with, after_taken, after_at_of, after_at}
+use Rattle.sercos_master.specs.Annals.{Past, Turn, Call, addressed_before, place_of, is_awaited, wanted_len, is_taken, after_taken, after_at_of, after_at, hearing}
 use Rattle.sercos_script.specs.Links.{Carry}
 use Rattle.sercos_law_run.specs.Journal.Arrivals.{heard, passage}
 use Rattle.sercos_law_run.specs.Journal.Runs.{station_of, inserted, with_said, said_below, contents, with_at, at_calls, looks_back}
@@ -50,7 +50,7 @@ takes_it k p q content w = record {
       by (q.now.phase == 1) (grind (arith, nat_tests, same, two));
 }
   where
-    by : (identifies : Bool) → identifies ≡ false → is_some (heard_last (if k == k then calls_with identifies k content q else q.calls k)) ≡ true
+    by : (identifies : Bool) → identifies ≡ false → is_some (heard_last (if k == k then (hearing identifies k content q).calls else q.calls k)) ≡ true
     by identifies is = rw (same_place k, is) refl
 
 -- what is heard of another drive, or isn't taken, changes nothing

@@ -8,7 +8,7 @@ use Rattle.sercos_telegram.specs.Spells.{word_at}
 use Rattle.sercos_step.specs.declared.request.Job.{Job}
 use Rattle.sercos_block.specs.Views.{DriveView, RingView}
 use Rattle.sercos_block.specs.Rings.{is_ring}
-use Rattle.sercos_service_drive.specs.Says.{shown_by, drive_says as channel_says}
+use Rattle.sercos_service_drive.specs.Says.{shown_by, channel_says}
 use Rattle.sercos_service_master.specs.Calls as channel
 use Rattle.sercos_drive.specs.Heard.{DriveCall}
 use Rattle.sercos_drive.specs.Moments.{Moment, phase_in, cycle_in, has_mst, has_taken, taken_in, blocks_in, commands_in}

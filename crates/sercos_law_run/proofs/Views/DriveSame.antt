@@ -10,7 +10,7 @@ use Rattle.sercos_service_master.specs.Begun.{Said, said_by}
 use Rattle.sercos_drive.specs.declared.hearing.Told.{Told}
 use Rattle.sercos_drive.specs.Heard.{DriveCall, mst_got}
 use Rattle.sercos_drive.specs.Moments.{Moment, AtMst, phase_in, cycle_in, has_mst, has_missed, taken_in, writes_in, blocks_in, blocks_after, write_in, with_record as with_record_in, commands_in}
-use Rattle.sercos_drive.specs.Annals.{annals, has_passed, stands_in, takes, processed_in, ends_in, after_mdt}
+use Rattle.sercos_drive.specs.Annals.{annals, has_passed, stands_in, takes, processed_in, ends_in, mdt_moment}
 use Rattle.sercos_law_channel.specs.Handshake.Views.{View, Standing, afresh, moved, stood_from, got_in, takes_in, standing_after, record_in, processed_of, with_record, kept_in_phase, kept_unless}
 use Rattle.sercos_law_channel.specs.Handshake.WholeRun.{write_of}
 use Rattle.sercos_law_run.specs.Journal.Runs.{with_restart}
@@ -108,7 +108,7 @@ pub same_at_mdt : (d : DriveView) (rate cycle : ℕ) (past : List Moment) (told 
     → cycle_in past ≡ cycle → option_map said_to told ≡ got_in v → v.blocks ≡ blocks_in d past → v.commands ≡ commands_in d rate past
     → IsSame d past (standing_at v f) h w b
     → let o : Option Taken = processed_of v cycle (stood_from v f) (got_in v) in
-    IsSame d (after_mdt d rate told past ∷ past) (standing_after v (stood_from v f) f) (kept_in_phase (standing_after v (stood_from v f) f).ended (with_record o h))
+    IsSame d (mdt_moment d rate told past ∷ past) (standing_after v (stood_from v f) f) (kept_in_phase (standing_after v (stood_from v f) f).ended (with_record o h))
     (with_added (write_of o h) w) (blocks_with (write_of o h) v.commands b)
 same_at_mdt d rate cycle past told v f h w b now told_is blocks commands s =
     let stood : ℕ = stood_from v f in

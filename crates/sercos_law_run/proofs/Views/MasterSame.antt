@@ -76,8 +76,12 @@ ats_next s k such p q content is a = place (place_of s (slice_index content 0)) 
   where
     here : place_of s (slice_index content 0) ≡ Some k → is_taken s q k content ≡ true → HasHeard s k such (p.calls k) q → (identifies : Bool)
         → HasHeard s k such (p.calls k) (record q {
-          now = record q.now { heard = with_at k true q.now.heard; report = with_at k (master.report_with identifies k content q) q.now.report };
-          calls = with_at k (master.calls_with identifies k content q) q.calls;
+          now = record q.now {
+            heard = with_at k true q.now.heard;
+            report = with_at k
+                (master.hearing identifies k content q).report q.now.report;
+          };
+          calls = with_at k (master.hearing identifies k content q).calls q.calls;
         })
     here found taken (Nothing same) true = Nothing (rw (same_place k) same)
     here found taken (Nothing same) false = One content is found (rw (same_place k) (ap (λ (c : List channel.Call). Hear (status_of (word_at content 1)) (word_at content 3) ∷ c) same)) (rw (same_place k) refl)
@@ -96,7 +100,8 @@ ats_next s k such p q content is a = place (place_of s (slice_index content 0)) 
         by = elim (cases_eq k i) [
           | inl same ↦ subst (λ n. HasHeard s k such (p.calls k) (after_taken n content q)) same
               (here (found ∙ ap (λ (n : ℕ). Some n) (sym same)) (ap (λ (n : ℕ). is_taken s q n content) same ∙ e) a.has (q.now.phase == 1))
-          | inr other ↦ elsewhere i (grind (arith, nat_tests, other)) (master.calls_with (q.now.phase == 1) i content q) (master.report_with (q.now.phase == 1) i content q) a.has
+          | inr other ↦ elsewhere i (grind (arith, nat_tests, other)) (master.hearing (q.now.phase == 1) i content q).calls
+              (master.hearing (q.now.phase == 1) i content q).report a.has
         ]
 
     place : (o : Option ℕ) → place_of s (slice_index content 0) ≡ o → AfterAts s k such p (after_at_of s o content q)

@@ -11,7 +11,7 @@ use Rattle.sercos_block.specs.Views.{RingView}
 use Rattle.sercos_block.specs.Rings.{is_ring}
 use Rattle.sercos_block.specs.Stores.{store_of}
 use Rattle.sercos_service_drive.specs.Log.{Taken}
-use Rattle.sercos_service_drive.specs.Says.{drive_says as channel_says}
+use Rattle.sercos_service_drive.specs.Says.{channel_says}
 use Rattle.sercos_service_master.specs.Begun.{Begun, open_in, answers_it, master_says}
 use Rattle.sercos_service_master.specs.Calls.{begun_by}
 use Rattle.sercos_timing.specs.Views.{PlanView}

@@ -181,8 +181,8 @@ at_mdt carry cycle mdt h k = Mdt (mdt_heard carry cycle (k + 1) mdt) ∷ h k
 
 -- The record of a cycle, by the MST, the ATs and the MDT that are sent in it; the calls of the drives before it and up to the MST's
 -- place; what the master looks back on at the MDT's place; and the calls of the master before the cycle.
-abbrev pub record_of : RingView → List Job → Carry → Restarts → ℕ → ℕ → List ℕ → List Said → Option Sent → (ℕ → List DriveCall) → (ℕ → List DriveCall) → Past → List Call → CycleView
-record_of r jobs carry restarts cycle phase mst ats mdt g h p calls = record {
+abbrev pub cycle_record : RingView → List Job → Carry → Restarts → ℕ → ℕ → List ℕ → List Said → Option Sent → (ℕ → List DriveCall) → (ℕ → List DriveCall) → Past → List Call → CycleView
+cycle_record r jobs carry restarts cycle phase mst ats mdt g h p calls = record {
   cycle = cycle;
   phase = phase;
   sent = sent_mst mst ∷ ats_said r.rate ats ++ sent_mdt r.rate mdt;
@@ -194,7 +194,7 @@ record_of r jobs carry restarts cycle phase mst ats mdt g h p calls = record {
 abbrev pub next_from : RingView → List Job → Carry → Restarts → ℕ → Past → List ℕ → List Said → (ℕ → List DriveCall) → (ℕ → List DriveCall) → List Call → CycleView
 next_from r jobs carry restarts cycle now mst ats g h calls =
     let middle = looks_back r jobs (mid_calls r carry restarts cycle mst (contents ats) calls) in
-    record_of r jobs carry restarts cycle now.now.phase mst ats (mdt_said (known_of r) middle) g h middle calls
+    cycle_record r jobs carry restarts cycle now.now.phase mst ats (mdt_said (known_of r) middle) g h middle calls
 
 abbrev pub next_with : RingView → List Job → Carry → Restarts → ℕ → Past → (ℕ → List DriveCall) → List Call → CycleView
 next_with r jobs carry restarts cycle now g calls =

@@ -31,8 +31,8 @@ abbrev pub mdt_content : MdtSlot → List ℕ
 mdt_content m = all_drives ∷ concat m.records
 
 -- the data record of the drive at place k, and the byte of the content at which it begins; the address is byte 0
-abbrev pub record_of : MdtSlot → ℕ → List ℕ
-record_of m k = slice_index_or m.records k []
+abbrev pub slot_record : MdtSlot → ℕ → List ℕ
+slot_record m k = slice_index_or m.records k []
 
 abbrev pub record_start : MdtSlot → ℕ → ℕ
 record_start m k = 1 + length (concat (take k m.records))
@@ -78,7 +78,7 @@ pub record IsServed (w : WishesView) (mdt : MdtSlot) (k : ℕ) (h : Held) : Type
   pub t4 : h.t4 + (times w k).t4min ≤ w.cycle
   -- its data record begins at the position that it holds, and there it reads the whole record
   pub position : h.position ≡ record_start mdt k
-  pub there : take (wish w k).record_len (drop h.position (mdt_content mdt)) ≡ record_of mdt k
+  pub there : take (wish w k).record_len (drop h.position (mdt_content mdt)) ≡ slot_record mdt k
   -- the MDT has the length that the drive holds, and the record lies within it
   pub mdt_len : h.mdt_len + 1 ≡ length (mdt_content mdt)
   pub inside : (1 ≤ h.position) × (h.position + (wish w k).record_len ≤ h.mdt_len + 1)

@@ -1,5 +1,5 @@
 -- What a drive's data are fit for in phases 3 and 4, whatever arrived at the drive.
-use Rattle.std.specs.Prelude.{◌≡◌, ℕ, ◌+◌, ◌*◌, ◌%◌, ◌≤◌, true, List, [], None}
+use Rattle.std.specs.Prelude.{◌≡◌, ℕ, ◌+◌, ◌*◌, ◌%◌, ◌≤◌, true, if◌then◌else◌, List, [], Some, None, is_none}
 use Rattle.std.specs.List.{list_all}
 use Rattle.sercos_model.specs.Frames.{wire_bits}
 use Rattle.sercos_timing.specs.Valid.{is_cycle}
@@ -8,7 +8,8 @@ use Rattle.sercos_block.specs.Rules.{blocks_fault}
 use Rattle.sercos_block.specs.Stores.{store_of, IsStore}
 use Rattle.sercos_block.specs.Views.{DriveView}
 use Rattle.sercos_command.specs.Checks.{number_at, idns_at, is_cyclic, carried_len, unfit_for_phase_3, unfit_for_phase_4}
-use Rattle.sercos_drive.specs.Heard.{DriveCall, lies_within}
+use Rattle.sercos_telegram.specs.Faults.{joint_fault}
+use Rattle.sercos_drive.specs.Heard.{DriveCall, lies_within, joint_in, told_at}
 use Rattle.sercos_drive.specs.Annals.{phase_at, store_at}
 
 -- A store in which the check for phase 3 finds nothing, in times and places. Numbers by the blocks: 1 control unit cycle time, 2 cycle
@@ -41,6 +42,15 @@ abbrev pub FitInThree : Type 0
 FitInThree = (d : DriveView) (rate : ℕ) (h : List DriveCall) → blocks_fault [] d.blocks ≡ None → IsStore (store_of d)
     → 3 ≤ phase_at d rate h →
     unfit_for_phase_3 rate (store_at d rate h) ≡ []
+
+-- So there a drive gets its record of each MDT to all drives that reads: it is tested whether the record lies within the MDT, and it
+-- always does.
+abbrev pub AlwaysLies : Type 0
+AlwaysLies = (d : DriveView) (rate : ℕ) (h : List DriveCall) (content : List ℕ) → blocks_fault [] d.blocks ≡ None → IsStore (store_of d)
+    → 3 ≤ phase_at d rate h →
+    joint_in (store_at d rate h) content
+    ≡ (if is_none (joint_fault (number_at (store_at d rate h) 10) content)
+    then Some (told_at content (number_at (store_at d rate h) 9)) else None)
 
 -- In phase 4 no block of it has operation data outside its limits.
 abbrev pub FitInFour : Type 0

@@ -3,7 +3,7 @@ use Rattle.std.specs.Prelude.{◌≡◌, ℕ, ◌<◌, List, length, Some}
 use Rattle.sercos_hdlc.specs.Stuffed.{frame_of}
 use Rattle.sercos_step.specs.declared.request.Job.{Job}
 use Rattle.sercos_block.specs.Views.{DriveView, RingView}
-use Rattle.sercos_service_drive.specs.Says.{drive_says as channel_says}
+use Rattle.sercos_service_drive.specs.Says.{channel_says}
 use Rattle.sercos_drive.specs.Heard.{DriveCall}
 use Rattle.sercos_drive.specs.Moments.{Moment, cycle_in, taken_in, commands_in}
 use Rattle.sercos_drive.specs.Says.{Said as SaidByDrive, drive_says}

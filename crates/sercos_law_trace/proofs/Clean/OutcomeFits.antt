@@ -32,7 +32,7 @@ use Rattle.sercos_trace.specs.Kinds.{template_of}
 use Rattle.sercos_trace.specs.Views.{EventsView, CycleView}
 use Rattle.sercos_seat.specs.Channel.{Report, number_in, broken_number}
 use Rattle.sercos_seat.specs.Ring.{Known, Task, known_of, tasks_from, tasks_for, request_task, member}
-use Rattle.sercos_master.specs.Annals.{Call, HearMst, HearAt, Mdt, End, Restart, Past, past, is_taken, after_taken, after_at_of, place_of, settled, begins, with_begin, ready_to_send, is_sent_to, addressed_in, after_mdt, fall_of, next_phase, goes_on, new_epoch, still_waiting, is_idle}
+use Rattle.sercos_master.specs.Annals.{Call, HearMst, HearAt, Mdt, End, Restart, Past, past, is_taken, after_taken, after_at_of, place_of, settled, begins, with_begin, ready_to_send, is_sent_to, addressed_in, after_mdt, fall_of, next_phase, goes_on, new_epoch, still_waiting, is_idle, hearing}
 use Rattle.sercos_master.specs.Reports.{inserted, with_report, with_reports, broken, with_broken, outcomes_told, restart_told}
 use Rattle.sercos_master.proofs.Followed.{settles}
 use Rattle.sercos_script.specs.declared.link.Passage.{Passage}
@@ -101,11 +101,11 @@ at_told : (s : Known) (place : Option ℕ) (content : List ℕ) (p : Past) → A
 at_told s None content p bytes are k = are k
 at_told s (Some i) content p bytes are k = by (is_taken s p i content)
   where
-    one : (identifies : Bool) → AreTold (if identifies then p.calls i else Hear (status_of (word_at content 1)) (word_at content 3) ∷ p.calls i)
+    one : (identifies : Bool) → AreTold (hearing identifies i content p).calls
     one true = are i
     one false = (read_word content 3 bytes, are i)
 
-    here : (same : Bool) → AreTold (if same then (if p.now.phase == 1 then p.calls i else Hear (status_of (word_at content 1)) (word_at content 3) ∷ p.calls i) else p.calls k)
+    here : (same : Bool) → AreTold (if same then (hearing (p.now.phase == 1) i content p).calls else p.calls k)
     here true = one (p.now.phase == 1)
     here false = are k
 

@@ -7,7 +7,7 @@ use Rattle.sercos_block.specs.Rings.{wishes_of}
 use Rattle.sercos_block.specs.Views.{DriveView, RingView}
 use Rattle.sercos_drive.specs.Moments.{Moment, phase_in, cycle_in, has_mst, has_taken, blocks_in, commands_in, taken_in}
 use Rattle.sercos_drive.specs.Says.{Said, said, said_in, sends, shown_word, values_in, start_in}
-use Rattle.sercos_service_drive.specs.Says.{Shown, drive_says as channel_says}
+use Rattle.sercos_service_drive.specs.Says.{Shown, channel_says}
 use Rattle.sercos_service_master.specs.Begun.{Said as Told}
 use Rattle.sercos_seat.specs.Ring.{Known, MemberView, known_of}
 use Rattle.sercos_seat.proofs.Sends.{fields_length}

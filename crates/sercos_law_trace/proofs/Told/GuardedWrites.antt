@@ -20,7 +20,7 @@ use Rattle.sercos_service_drive.specs.Writes.{Write, with_added, writes_of, adde
 use Rattle.sercos_service_master.specs.Begun.{Begun, open_in, answers_it, answer_in, with_answer}
 use Rattle.sercos_law_channel.specs.Handshake.Exact.{Given, given_of, written_to, given_by, AreWrites, Complete, Refused, Broken, AreExact}
 use Rattle.sercos_law_channel.specs.Handshake.Views.{Heard, View, standing, stood_in, record_in, with_record, processed_in}
-use Rattle.sercos_law_channel.specs.Handshake.Epochs.{command, with_heard, with_begun, epoch_begun, begun_in, epoch_taken, epoch_log, log_in, taken_in}
+use Rattle.sercos_law_channel.specs.Handshake.Epochs.{command, with_heard, with_begun, epoch_begun, begun_in, epoch_taken, epoch_log, log_in, taken_in_views}
 use Rattle.sercos_law_channel.specs.Handshake.Runs.{IsRun}
 use Rattle.sercos_law_channel.specs.Handshake.WholeRun.{AreSound, AreSmall}
 use Rattle.sercos_law_channel.proofs.Theorems.{cycle_exact, Laws, Processes, Nothing, Record, processes, processed_phase, added_bare, written}
@@ -212,7 +212,7 @@ module _ (laws : Laws) (busy few : ℕ) (blocks : List Block) (small : AreSmall 
   guarded (v ∷ past) run sound fews four = by v.falls v.rises refl four (guarded past run.0 sound.0 fews.0)
     where
       by : (falls rises : Bool) → v.rises ≡ rises → (if falls then 0 else (if rises then v.phase + 1 else v.phase)) ≡ 4 → (command past ≡ 4 → IsGuarded few idn.raw blocks (epoch_begun past) (writes_of (epoch_log past)))
-          → IsGuarded few idn.raw blocks (if falls then [] else begun_in v past) (writes_of (log_of (if falls then [] else taken_in v past)))
+          → IsGuarded few idn.raw blocks (if falls then [] else begun_in v past) (writes_of (log_of (if falls then [] else taken_in_views v past)))
       by true rises on is before = absurd (omega (arith, is))
       by false true on is before = at_rise v past run sound on (fews.1 on)
       by false false on is before = in_four v past run sound is before

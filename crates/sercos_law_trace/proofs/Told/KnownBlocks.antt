@@ -18,7 +18,7 @@ use Rattle.sercos_service_drive.specs.Writes.{AreAlike}
 use Rattle.sercos_service_master.specs.Begun.{Begun, step_at, with_step, steps_begun}
 use Rattle.sercos_script.specs.Links.{Carry, Restarts}
 use Rattle.sercos_trace.specs.Views.{CycleView}
-use Rattle.sercos_law_channel.specs.Handshake.InStep.{steps_of, replies_of}
+use Rattle.sercos_law_channel.specs.Handshake.InStep.{log_steps, replies_of}
 use Rattle.sercos_law_channel.specs.Handshake.Parts.{IsRow, IsPart, Unsent, Heard, Unheard}
 use Rattle.sercos_law_channel.specs.Handshake.Transfers.{is_complete}
 use Rattle.sercos_law_channel.specs.Handshake.CommandTransfers.{idn_of}
@@ -74,7 +74,7 @@ row_before b e d entries row =
     let few = length-steps_begun b.request (replies_of entries) in
     let long = length-steps_of entries in
     let many = length-replies_of entries in record {
-      steps = begun_before (step_at b.request (replies_of (d ∷ entries))) e.taken.step (steps_of (d ∷ entries)) (steps_begun b.request (replies_of entries)) row.steps (omega arith);
+      steps = begun_before (step_at b.request (replies_of (d ∷ entries))) e.taken.step (log_steps (d ∷ entries)) (steps_begun b.request (replies_of entries)) row.steps (omega arith);
       in_turn = row.in_turn.0;
       goes_on = row.in_turn.1;
     }

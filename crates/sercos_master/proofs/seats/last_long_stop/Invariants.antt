@@ -1,8 +1,7 @@
 use Rattle.std.proofs.Common.{◌≡◌, ℕ, length, None}
 use Rattle.std.specs.Prelude.{◌-◌, drop}
 use Rattle.sercos_seat.specs.Ring.{Known}
-use Rattle.sercos_seat.specs.Agenda.{last_long_stop}
-use Rattle.sercos_seat.specs.Seats.{Seen, outcomes_seen}
+use Rattle.sercos_seat.specs.Seats.{last_long_from, Seen, outcomes_seen}
 use Rattle.sercos_master.specs.Kept.{SeatsStandFor}
 use Rattle.sercos_master.proofs.seats.last_long_stop.Given as goal
 
@@ -10,5 +9,5 @@ use Rattle.sercos_master.proofs.seats.last_long_stop.Given as goal
 abbrev pub invariant-loop-i : goal.invariant-loop-i
 invariant-loop-i l = record {
   none : (s : Known) (seen : ℕ → Seen) → length l.seats ≡ length s.drives → SeatsStandFor l.seats s seen →
-      last_long_stop (drop (l.count - l.i) s.drives) (l.count - l.i) (λ k. outcomes_seen (seen k)) ≡ None;
+      last_long_from (drop (l.count - l.i) s.drives) (l.count - l.i) (λ k. outcomes_seen (seen k)) ≡ None;
 }

@@ -1,7 +1,6 @@
 use Rattle.std.proofs.Common.{◌≡◌, None}
 use Rattle.std.specs.Prelude.{◌-◌, map, drop}
-use Rattle.sercos_seat.specs.Agenda.{last_long}
-use Rattle.sercos_seat.specs.Seats.{long_of}
+use Rattle.sercos_seat.specs.Seats.{last_long, long_of}
 use Rattle.sercos_seat.proofs.answers.last_long.Given as goal
 
 -- none of those after it was read as one of four bytes

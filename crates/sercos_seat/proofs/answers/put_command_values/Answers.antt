@@ -1,4 +1,4 @@
-use Rattle.std.proofs.Common.{◌≡◌, ◌<◌, ◌≤◌, ◌++◌, length, get_or, sym, ◌∙◌, ap, arith}
+use Rattle.std.proofs.Common.{◌++◌, get_or, sym, ◌∙◌, ap, arith}
 use Rattle.sercos_seat.specs.Records.{lens_said, value_said}
 use Rattle.sercos_seat.proofs.Sends.{by_lens, values_more, values_whole, longer}
 use Rattle.sercos_seat.proofs.answers.put_command_values.Goals as goal

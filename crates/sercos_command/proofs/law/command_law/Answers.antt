@@ -1,0 +1,5 @@
+use Rattle.sercos_command.proofs.Statuses.{set_by_newest, status_says}
+use Rattle.sercos_command.proofs.law.command_law.Goals as goal
+
+pub returns : goal.returns
+returns c = record { set = set_by_newest; status = status_says }
