@@ -1,5 +1,6 @@
 mod Bench
 mod Runs
+mod WorkedTogether
 pub mod Places
 pub mod Rings
 pub mod Wishes

@@ -18,10 +18,10 @@ use Rattle.sercos_plan.specs.LeastTimes as LeastTimes
 use Rattle.sercos_master.proofs.Bench.{Script, Drive, run, before_end, events, no_events, quiet}
 
 -- A RING OF ONE DRIVE, of 4 megabits and cycles of 250 microseconds, whose AT carries S-0-0051 and whose record S-0-0047.
-abbrev idn : ℕ → Idn
+abbrev pub idn : ℕ → Idn
 idn raw = record { raw = raw }
 
-abbrev ring : Known
+abbrev pub ring : Known
 ring = record { rate = 4; cycle = 250; control = 250; gap = 5; order = 0 ∷ []; drives = (record { address = 1; slave = 1; at = idn 51 ∷ []; mdt = idn 47 ∷ [] }) ∷ [] }
 
 -- its times: T1min 10, TATMT 6, T4min 20, TATAT 5, TMTSY 10, TMTSG 20
@@ -31,16 +31,16 @@ words raw = if raw == 3 then 10 ∷ [] else (if raw == 4 then 6 ∷ [] else (if 
 abbrev attribute : ℕ → ℕ
 attribute raw = if (raw == 47) || (raw == 51) then 0x00220001 else (if (raw == 16) || ((raw == 24) || ((raw == 21) || (raw == 22))) then 0x60550001 else 0x60110001)
 
-abbrev drive : Drive
+abbrev pub drive : Drive
 drive = record { words = words; attribute = attribute; refuses = λ raw. 0; status = λ raw. 3 }
 
-abbrev no_requests : ℕ → List Task
+abbrev pub no_requests : ℕ → List Task
 no_requests k = []
 
 abbrev read_51 : ℕ → List Task
 read_51 k = (record { phase = 4; number = Some 1; request = request.Read (idn 51) 7 }) ∷ []
 
-abbrev write_and_read : ℕ → List Task
+abbrev pub write_and_read : ℕ → List Task
 write_and_read k =
     (record { phase = 4; number = Some 1; request = request.Write (idn 47) 7 (1 ∷ 0 ∷ 0 ∷ 0 ∷ []) })
     ∷ (record { phase = 4; number = Some 2; request = request.Read (idn 47) 7 }) ∷ []
@@ -97,10 +97,10 @@ unfolding Faults.mst_fault Faults.head_fault Spells.word_bytes Spells.word_at Sp
 plan_follows = refl
 
 -- LOST TELEGRAMS, from one cycle to another, both included.
-abbrev losing : ℕ → ℕ → Script
+abbrev pub losing : ℕ → ℕ → Script
 losing first last = record quiet { at_lost = λ c k. nat_le first c && nat_le c last }
 
-abbrev losing_msts : ℕ → ℕ → Script
+abbrev pub losing_msts : ℕ → ℕ → Script
 losing_msts first last = record quiet { mst_lost = λ c. nat_le first c && nat_le c last }
 
 -- The step first sent in 12 is answered in 76, which is in time; with that AT lost too it is not.
@@ -120,7 +120,7 @@ starts_again : phases ring no_requests (drive ∷ []) (losing 13 76) (76 ∷ 77 
 unfolding Faults.mst_fault Faults.head_fault Spells.word_bytes Spells.word_at Spells.fields Words.status_of Rings.attribute_in Codes.attribute_fault Attributes.attribute_of ChainOf.chain_of LeastTimes.least_plan LeastTimes.least_t2 LeastTimes.least_t3
 starts_again = refl
 
-abbrev holding_1 : List Drive
+abbrev pub holding_1 : List Drive
 holding_1 = (record drive { words = λ raw. if raw == 47 then 1 ∷ 0 ∷ [] else words raw }) ∷ []
 
 -- Two ATs in a row are lost: the request at work is broken and isn't sent again; the next one runs after the restart.
@@ -149,7 +149,7 @@ mst_lost = refl
 abbrev refusing : Drive
 refusing = record drive { refuses = λ raw. if raw == 2 then 0x7006 else 0 }
 
-abbrev invalid : Drive
+abbrev pub invalid : Drive
 invalid = record drive { words = λ raw. if raw == 22 then 2 ∷ 128 ∷ 32778 ∷ [] else words raw; status = λ raw. if raw == 128 then 15 else 3 }
 
 cycle_refused : events ring no_requests (refusing ∷ []) quiet 50 ≡ record no_events { stop = Some (stop.Refused 1 (idn 2) (record { raw = 0x7006 })) }
@@ -198,10 +198,10 @@ unfolding Faults.mst_fault Faults.head_fault Spells.word_bytes Spells.word_at Sp
 second_after_restart = refl
 
 -- TWO DRIVES of two slaves.
-abbrev two : Known
+abbrev pub two : Known
 two = record ring { order = 0 ∷ 1 ∷ []; drives = (record { address = 1; slave = 1; at = idn 51 ∷ []; mdt = idn 47 ∷ [] }) ∷ (record { address = 2; slave = 2; at = idn 51 ∷ []; mdt = idn 47 ∷ [] }) ∷ [] }
 
-abbrev both : List Drive
+abbrev pub both : List Drive
 both = drive ∷ (record drive { words = λ raw. if raw == 3 then 12 ∷ [] else words raw }) ∷ []
 
 plan_of_two : events two no_requests both quiet 73 ≡ record no_events { plan = Some (record { t1 = 10 ∷ 46 ∷ []; t2 = 83; t3 = 153; t4 = 230; position = 1 ∷ 9 ∷ []; mdt_len = 16 }) }
