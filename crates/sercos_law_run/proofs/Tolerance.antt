@@ -9,7 +9,11 @@ pub mod CostsShared
 pub mod EarlySparse
 pub mod TwoLasts
 pub mod ThreeLasts
+pub mod NotYet
 pub mod Rises
+pub mod Ends
+pub mod InARow
+pub mod Reported
 pub mod BearsSparse
 pub mod Tolerates
 pub mod Worked

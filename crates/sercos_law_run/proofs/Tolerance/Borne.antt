@@ -317,7 +317,7 @@ module _ (laws : Laws) (more : MoreLaws) (turn : WorkInTurn) (comes_up : (busy :
       rested_now calm none = none_lost_in (view k t (u ∷ j)) (views k (u ∷ j)) goes_now
           (λ some. absurd (never_some (open_in (epoch_begun (views k (u ∷ j)))) none some)) (takes calm)
 
-      before_lost : IsDisturbed r carry restarts t (u ∷ j) → 2 ≤ t.phase → IsYoung (busy_of k) 0 0 (views k (u ∷ j))
+      pub before_lost : IsDisturbed r carry restarts t (u ∷ j) → 2 ≤ t.phase → IsYoung (busy_of k) 0 0 (views k (u ∷ j))
       before_lost disturbed two = elim (cases_lt t.phase 3) [
         | inl low ↦ (let are = sparse.early disturbed (omega (arith, two)) (omega (arith, low)) in (is.aged k below).calm are.1 (inr are.0))
         | inr high ↦ elim (next k below) [

@@ -56,7 +56,7 @@ use Rattle.sercos_law_run.proofs.Tolerance.FirstCycles.{begun_outcomes}
 use Rattle.sercos_law_run.proofs.Tolerance.TwoLasts.{each_fits, low_before, two_counts}
 
 -- SUMS without one place
-abbrev without : ℕ → (ℕ → ℕ) → ℕ → ℕ
+abbrev pub without : ℕ → (ℕ → ℕ) → ℕ → ℕ
 without k f j = if j == k then 0 else f j
 
 without_all : (n k : ℕ) (f : ℕ → ℕ) → n ≤ k → sum_below n (without k f) ≡ sum_below n f
@@ -66,7 +66,7 @@ without_all (suc n) k f high =
     let other : (n == k) ≡ false = ne_eqb n k (λ same. omega (arith, same, high)) in
     let last : without k f n ≡ f n = cond-false (n == k) 0 (f n) other in omega (arith, rest, last)
 
-sum_split : (n k : ℕ) (f : ℕ → ℕ) → k < n → sum_below n f ≡ sum_below n (without k f) + f k
+pub sum_split : (n k : ℕ) (f : ℕ → ℕ) → k < n → sum_below n f ≡ sum_below n (without k f) + f k
 sum_split zero k f low = absurd (omega (arith, low))
 sum_split (suc n) k f low = elim (cases_eq n k) [
   | inl same ↦ (
@@ -209,7 +209,7 @@ module _ (laws : Laws) (more : MoreLaws) (turn : WorkInTurn) (two : WorksInTwo) 
           (cond-false (restarts (length j) 0) [] (epoch_begun (views_of r jobs carry restarts k j)) is.goes_on)
 
   -- in phase 3 there is a plan
-  planned : (t : CycleView) (j : List CycleView) → IsRun r jobs carry restarts (t ∷ j) → IsClear (t ∷ j) → t.phase ≡ 3 → (k : ℕ)
+  pub planned : (t : CycleView) (j : List CycleView) → IsRun r jobs carry restarts (t ∷ j) → IsClear (t ∷ j) → t.phase ≡ 3 → (k : ℕ)
       → k < length r.drives → (plan : PlanView) × ((behind_mdt r jobs carry restarts t.sent j).plan ≡ Some plan)
   planned t j (run, next) (before, clear) is_three k below =
       let at_three : (at_start r jobs carry restarts j).now.phase ≡ 3 = sym next.phase ∙ is_three in
@@ -246,7 +246,7 @@ module _ (laws : Laws) (more : MoreLaws) (turn : WorkInTurn) (two : WorksInTwo) 
           (views_of r jobs carry restarts k (cycles ++ before))))) 0
       idle = never_idle laws more three r jobs carry restarts opened k below (t ∷ []) (cycles ++ before) run clear (tt, goes_on)
 
-  three_counts : (t : CycleView) (cycles before : List CycleView) → IsRun r jobs carry restarts (t ∷ (cycles ++ before))
+  pub three_counts : (t : CycleView) (cycles before : List CycleView) → IsRun r jobs carry restarts (t ∷ (cycles ++ before))
       → IsClear (t ∷ (cycles ++ before)) → StartsEpoch r jobs carry restarts before → AreSparse r carry restarts (t ∷ cycles) before
       → (back (t ∷ (cycles ++ before))).now.phase ≡ 3 → (back (t ∷ (cycles ++ before))).stop ≡ None → (k : ℕ) → k < length r.drives
       → is_unready k (t ∷ (cycles ++ before))

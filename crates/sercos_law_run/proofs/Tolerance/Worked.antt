@@ -1,5 +1,5 @@
 -- Worked runs whose disturbed cycles are sparse, and some whose are not, computed from the definitions.
-use Rattle.std.proofs.Common.{◌≡◌, ℕ, true, List, [], ◌∷◌, length, Option, Some, None, refl, sym, ◌∙◌, if◌then◌else◌, arith}
+use Rattle.std.proofs.Common.{◌≡◌, inl, inr, ℕ, true, List, [], ◌∷◌, length, Option, Some, None, refl, sym, ◌∙◌, if◌then◌else◌, arith}
 use Rattle.std.proofs.lemmas.Bool.{false≢true}
 use Rattle.sercos_telegram.specs.declared.layout.Kind.{Kind}
 use Rattle.sercos_telegram.specs.declared.layout.Kind.TheVariants as kinds
@@ -10,7 +10,10 @@ use Rattle.sercos_trace.specs.Views.{CycleView}
 use Rattle.sercos_trace.specs.declared.events.Fall.{Fall}
 use Rattle.sercos_trace.specs.declared.events.Fall.TheVariants as fall
 use Rattle.sercos_law_run.specs.Journal.Runs.{is_disturbed_in, run_of}
-use Rattle.sercos_law_run.proofs.Journal.Worked.{fault, ring}
+use Rattle.sercos_law_run.proofs.Journal.Worked.{fault, read, ring}
+use Rattle.sercos_law_run.specs.Undisturbed.Reports.{left_after}
+use Rattle.sercos_law_run.specs.Tolerance.Ends.{IsUpOrStopped}
+use Rattle.sercos_law_run.specs.Tolerance.Reports.{cycles_in}
 use Rattle.sercos_law_run.specs.Tolerance.Sparse.{IsSparse}
 use Rattle.sercos_law_run.specs.Journal.Arrivals as Arrivals
 use Rattle.sercos_model.specs.Bits as Bits
@@ -90,3 +93,37 @@ twice_is_not_sparse : (t u : CycleView) (j : List CycleView) → is_disturbed_in
     t.sent ≡ true → is_disturbed_in ring (carried 1 twice) (restarts_at twice) (length j) u.sent ≡ true
     → t.phase ≡ 4 → IsSparse ring (carried 1 twice) (restarts_at twice) t (u ∷ j) → ⊥
 twice_is_not_sparse t u j now before four is = false≢true (sym (is.late now (omega (arith, four))).1 ∙ before)
+
+-- THE CYCLES OF PHASE 4 of the first run: it begins in 103, three cycles later than without faults.
+sparse_in_four : cycles_in 4 (run sparse 114) ≡ 11
+unfolding carried restarts_at acts Bits.bits_of Bits.low_bits Bits.is_odd Bits.number_of Bits.bytes_of CheckSequence.fcs_of CheckSequence.divided CheckSequence.added CheckSequence.sum_of Arrivals.content_in Arrivals.is_unseen Reason.begins_with_six Reason.is_five Reason.ends_in_five Reason.six_place Reason.unstuffed Reason.given Reason.unclosed Reason.unreadable Reason.reason_of Stuffed.stuffed Stuffed.frame_of Faults.mst_fault Faults.head_fault Spells.word_bytes Spells.word_at Spells.fields Words.control_of Words.status_of Codes.attribute_fault Attributes.attribute_of Blocks.element_of BuiltIns.built_in Rings.attribute_in Valid.is_cycle Stores.inserted Stores.with_own Stores.store_of Checks.number_at Checks.idns_at Checks.carried_len Checks.breaks_1 Checks.breaks_2 Checks.breaks_6 Checks.breaks_7 Checks.breaks_8 Checks.breaks_9 Checks.breaks_10 Checks.breaks_15 Checks.breaks_list Checks.breaks_89 Checks.unfit_for_phase_3 Checks.unfit_for_phase_4 Settings.with_write Settings.with_lists Replies.data_in Replies.element_words Replies.bytes_written Replies.write_cause ChainOf.chain_of LeastTimes.least_plan LeastTimes.least_t2 LeastTimes.least_t3 Heard.mst_in Heard.single_in Heard.joint_in Says.value_in
+sparse_in_four = refl
+
+-- A REQUEST. Phase 4 begins in 100, and the drive misses the MDT in 101, 103 and each second cycle from there on. After nine cycles of
+-- phase 4
+-- the read isn't reported, so no such number of cycles is enough for it; after ten it is.
+abbrev each_mdt : List Fault
+each_mdt = (record { cycle = 101; last = 200; every = 2; kind = kinds.Mdt; from = 0; damage = Deaf 1 }) ∷ []
+
+abbrev requested : ℕ → List CycleView
+requested n = run_of ring (read ∷ []) (carried 1 each_mdt) (restarts_at each_mdt) n
+
+abbrev left : ℕ → ℕ × List (Option ℕ)
+left n = (cycles_in 4 (requested n), left_after ring (read ∷ []) (carried 1 each_mdt) (restarts_at each_mdt) (requested n) 0)
+
+still_left : left 109 ≡ (9, Some 1 ∷ [])
+unfolding carried restarts_at acts Bits.bits_of Bits.low_bits Bits.is_odd Bits.number_of Bits.bytes_of CheckSequence.fcs_of CheckSequence.divided CheckSequence.added CheckSequence.sum_of Arrivals.content_in Arrivals.is_unseen Reason.begins_with_six Reason.is_five Reason.ends_in_five Reason.six_place Reason.unstuffed Reason.given Reason.unclosed Reason.unreadable Reason.reason_of Stuffed.stuffed Stuffed.frame_of Faults.mst_fault Faults.head_fault Spells.word_bytes Spells.word_at Spells.fields Words.control_of Words.status_of Codes.attribute_fault Attributes.attribute_of Blocks.element_of BuiltIns.built_in Rings.attribute_in Valid.is_cycle Stores.inserted Stores.with_own Stores.store_of Checks.number_at Checks.idns_at Checks.carried_len Checks.breaks_1 Checks.breaks_2 Checks.breaks_6 Checks.breaks_7 Checks.breaks_8 Checks.breaks_9 Checks.breaks_10 Checks.breaks_15 Checks.breaks_list Checks.breaks_89 Checks.unfit_for_phase_3 Checks.unfit_for_phase_4 Settings.with_write Settings.with_lists Replies.data_in Replies.element_words Replies.bytes_written Replies.write_cause ChainOf.chain_of LeastTimes.least_plan LeastTimes.least_t2 LeastTimes.least_t3 Heard.mst_in Heard.single_in Heard.joint_in Says.value_in
+still_left = refl
+
+told_then : left 110 ≡ (10, [])
+unfolding carried restarts_at acts Bits.bits_of Bits.low_bits Bits.is_odd Bits.number_of Bits.bytes_of CheckSequence.fcs_of CheckSequence.divided CheckSequence.added CheckSequence.sum_of Arrivals.content_in Arrivals.is_unseen Reason.begins_with_six Reason.is_five Reason.ends_in_five Reason.six_place Reason.unstuffed Reason.given Reason.unclosed Reason.unreadable Reason.reason_of Stuffed.stuffed Stuffed.frame_of Faults.mst_fault Faults.head_fault Spells.word_bytes Spells.word_at Spells.fields Words.control_of Words.status_of Codes.attribute_fault Attributes.attribute_of Blocks.element_of BuiltIns.built_in Rings.attribute_in Valid.is_cycle Stores.inserted Stores.with_own Stores.store_of Checks.number_at Checks.idns_at Checks.carried_len Checks.breaks_1 Checks.breaks_2 Checks.breaks_6 Checks.breaks_7 Checks.breaks_8 Checks.breaks_9 Checks.breaks_10 Checks.breaks_15 Checks.breaks_list Checks.breaks_89 Checks.unfit_for_phase_3 Checks.unfit_for_phase_4 Settings.with_write Settings.with_lists Replies.data_in Replies.element_words Replies.bytes_written Replies.write_cause ChainOf.chain_of LeastTimes.least_plan LeastTimes.least_t2 LeastTimes.least_t3 Heard.mst_in Heard.single_in Heard.joint_in Says.value_in
+told_then = refl
+
+-- AN END. A cycle of phase 3 without a stop isn't one.
+abbrev in_three : CycleView → CycleView
+in_three t = record t { phase = 3; events = record t.events { stop = None } }
+
+three_is_no_end : (t : CycleView) → IsUpOrStopped ring (in_three t) [] → ⊥
+three_is_no_end t (inl (four, right)) = absurd (omega (arith, four))
+three_is_no_end t (inr (x, inl told, cause)) = cc
+three_is_no_end t (inr (x, inr none, cause)) = none
