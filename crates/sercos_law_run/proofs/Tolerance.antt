@@ -12,6 +12,11 @@ pub mod ThreeLasts
 pub mod NotYet
 pub mod Rises
 pub mod Ends
+pub mod ManyEarly
+pub mod ManyTwo
+pub mod ManyThree
+pub mod Many
+pub mod Spared
 pub mod InARow
 pub mod Reported
 pub mod BearsSparse

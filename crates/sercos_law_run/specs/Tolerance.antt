@@ -7,3 +7,4 @@ pub mod TwoLasts
 pub mod Rises
 pub mod Reports
 pub mod Ends
+pub mod Many

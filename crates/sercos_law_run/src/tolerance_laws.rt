@@ -4,6 +4,7 @@ ghost use Rattle.sercos_law_run.specs.Tolerance.Bears.{BearsSparse, Tolerates};
 ghost use Rattle.sercos_law_run.specs.Tolerance.Early.{EarlySparse};
 ghost use Rattle.sercos_law_run.specs.Tolerance.Ends.{EndsSparse};
 ghost use Rattle.sercos_law_run.specs.Tolerance.Losses.{CostsShared, CostsSparse, TakesTimeAndLosses};
+ghost use Rattle.sercos_law_run.specs.Tolerance.Many.{EndsAnyway, RisesAnyway};
 ghost use Rattle.sercos_law_run.specs.Tolerance.Reports.{ReportsSparse};
 ghost use Rattle.sercos_law_run.specs.Tolerance.Rises.{RisesSparse};
 ghost use Rattle.sercos_law_run.specs.Tolerance.Sparse.{CalmIsSparse, OneOfThreeIsSparse};
@@ -41,11 +42,12 @@ use sercos_service_drive::writes_law;
 /// last for that, the reads and the writes of each drive, and two cycles for each disturbed one of phase 2 at most, unless there is a stop.
 /// So if a plan fits the ring's requirements, the cycle time lies within each drive's limits, and no own block of a drive was outside its
 /// limits at opening, phase 4 is commanded within the bound of a start-up and these costs, with one cycle for each disturbed one of phase
-/// 3; and once commanded, it stays. From 41 steps of the slowest drive after that bound on, and those costs, phase 4 is commanded, or a
-/// stop for its cause has been reported. In phase 4 the requests to a drive that waited when the epoch began are reported one after the
-/// other, each within the cycles that this profile gives a request: as many as without faults. Underneath, in any cycles without a fall and
-/// without a restart of the master, a step costs busy time and one, and each cycle in which its record or its answer is lost one more.
-/// Cycles in which nothing is disturbed are sparse, and those of which at most one of any three in a row is.
+/// 3; and once commanded, it stays. However many cycles are disturbed, it is commanded within the bound of a start-up with each drive busy
+/// for one cycle more, and ten cycles for each own MST that was lost in phase 0. From 41 steps of the slowest drive after either of these
+/// on, phase 4 is commanded, or a stop for its cause has been reported. In phase 4 the requests to a drive that waited when the epoch began
+/// are reported one after the other, each within the cycles that this profile gives a request: as many as without faults. Underneath, in
+/// any cycles without a fall and without a restart of the master, a step costs busy time and one, and each cycle in which its record or its
+/// answer is lost one more. Cycles in which nothing is disturbed are sparse, and those of which at most one of any three in a row is.
 pub fn tolerance_law()
     ensures calm { CalmIsSparse }
     ensures spaced { OneOfThreeIsSparse }
@@ -59,6 +61,8 @@ pub fn tolerance_law()
     ensures rises { RisesSparse }
     ensures reports { ReportsSparse }
     ensures ends { EndsSparse }
+    ensures rises_anyway { RisesAnyway }
+    ensures ends_anyway { EndsAnyway }
 {
     agenda_law();
     report_law();

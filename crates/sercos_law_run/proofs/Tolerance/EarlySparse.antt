@@ -33,11 +33,11 @@ use Rattle.sercos_law_run.specs.Tolerance.Sparse.{AreSparse}
 use Rattle.sercos_law_run.proofs.Tolerance.Borne.{IsBorne, all_borne, calm_or_not}
 
 -- COUNTS of places that pass a test
-abbrev one_if : Bool → ℕ
+abbrev pub one_if : Bool → ℕ
 one_if true = 1
 one_if false = 0
 
-abbrev count : ℕ → (ℕ → Bool) → ℕ
+abbrev pub count : ℕ → (ℕ → Bool) → ℕ
 count zero test = 0
 count (suc n) test = count n test + one_if (test n)
 
@@ -45,7 +45,7 @@ no_less : (a b : Bool) → (a ≡ true → b ≡ true) → one_if a ≤ one_if b
 no_less true b more = let on : one_if b ≡ 1 = ap one_if (more refl) in omega (arith, on)
 no_less false b more = omega arith
 
-count_most : (n : ℕ) (f g : ℕ → Bool) → ((k : ℕ) → f k ≡ true → g k ≡ true) → count n f ≤ count n g
+pub count_most : (n : ℕ) (f g : ℕ → Bool) → ((k : ℕ) → f k ≡ true → g k ≡ true) → count n f ≤ count n g
 count_most zero f g more = omega arith
 count_most (suc n) f g more = let rest = count_most n f g more in let last = no_less (f n) (g n) (more n) in omega (arith, rest, last)
 
@@ -60,7 +60,7 @@ count_more (suc n) k f g more low off on = elim (cases_eq k n) [
       omega (arith, rest, last))
 ]
 
-count_all : (n : ℕ) → count n (λ k. true) ≡ n
+pub count_all : (n : ℕ) → count n (λ k. true) ≡ n
 count_all zero = refl
 count_all (suc n) = let rest = count_all n in omega (arith, rest)
 
@@ -83,19 +83,19 @@ unknown_off true on = absurd (false≢true on)
 unknown_off false on = refl
 
 -- what tests of a phase choose
-abbrev cost_by : ℕ → Bool → Bool → ℕ
+abbrev pub cost_by : ℕ → Bool → Bool → ℕ
 cost_by n whole disturbed = if n == 0 then (if whole then 0 else 10) else (if n == 1 then (if disturbed then 2 else 0) else 0)
 
-abbrev ten_unless : Bool → ℕ
+abbrev pub ten_unless : Bool → ℕ
 ten_unless whole = if whole then 0 else 10
 
-abbrev two_if : Bool → ℕ
+abbrev pub two_if : Bool → ℕ
 two_if disturbed = if disturbed then 2 else 0
 
-zero_cost : (n : ℕ) (whole disturbed : Bool) → n ≡ 0 → cost_by n whole disturbed ≡ ten_unless whole
+pub zero_cost : (n : ℕ) (whole disturbed : Bool) → n ≡ 0 → cost_by n whole disturbed ≡ ten_unless whole
 zero_cost n whole disturbed is = ap (λ (m : ℕ). cost_by m whole disturbed) is
 
-one_cost : (n : ℕ) (whole disturbed : Bool) → n ≡ 1 → cost_by n whole disturbed ≡ two_if disturbed
+pub one_cost : (n : ℕ) (whole disturbed : Bool) → n ≡ 1 → cost_by n whole disturbed ≡ two_if disturbed
 one_cost n whole disturbed is = ap (λ (m : ℕ). cost_by m whole disturbed) is
 
 -- one cycle of phase 0 more
@@ -104,11 +104,11 @@ row_next : (whole : Bool) (len row costs : ℕ) → len ≤ row + costs → row 
 row_next true len row costs le few = omega (arith, le)
 row_next false len row costs le few = omega (arith, le, few)
 
-zero_phase : (done : Bool) (n : ℕ) → (if done then n + 1 else n) ≡ 0 → n ≡ 0
+pub zero_phase : (done : Bool) (n : ℕ) → (if done then n + 1 else n) ≡ 0 → n ≡ 0
 zero_phase true n is = absurd (omega (arith, is))
 zero_phase false n is = is
 
-one_phase : (done : Bool) (n : ℕ) → (if done then n + 1 else n) ≡ 1 → ((done ≡ true) × (n ≡ 0)) ⊎ ((done ≡ false) × (n ≡ 1))
+pub one_phase : (done : Bool) (n : ℕ) → (if done then n + 1 else n) ≡ 1 → ((done ≡ true) × (n ≡ 0)) ⊎ ((done ≡ false) × (n ≡ 1))
 one_phase true n is = inl (refl, omega (arith, is))
 one_phase false n is = inr (refl, is)
 
@@ -125,7 +125,7 @@ module _ (laws : Laws) (more : MoreLaws) (turn : WorkInTurn) (comes_up : (busy :
   abbrev Borne : CycleView → List CycleView → Type 0
   Borne t j = IsBorne laws more turn comes_up to_zero goes counts r jobs carry restarts opened t j
 
-  abbrev known : List Turn → ℕ
+  abbrev pub known : List Turn → ℕ
   known turns = count (length (known_of r).drives) (λ k. has_identified k turns)
 
   abbrev spare : CycleView → List CycleView → ℕ
@@ -159,7 +159,7 @@ module _ (laws : Laws) (more : MoreLaws) (turn : WorkInTurn) (comes_up : (busy :
     row_after = ap whole_row turns_after ∙ ap (λ (b : Bool). if b then whole_row (back j).turns + 1 else 0) whole_is
 
     -- the drives that are identified stay so
-    known_after : known (back j).turns ≤ known (back (t ∷ j)).turns
+    pub known_after : known (back j).turns ≤ known (back (t ∷ j)).turns
     known_after = count_most (length (known_of r).drives) (λ k. has_identified k (back j).turns)
         (λ k. has_identified k (back (t ∷ j)).turns)
         (λ k on. ap (has_identified k) turns_after ∙ still ((now t j).now.phase == 1) ((now t j).now.heard k)
@@ -171,7 +171,7 @@ module _ (laws : Laws) (more : MoreLaws) (turn : WorkInTurn) (comes_up : (busy :
         still false b c on = on
 
   -- PHASE 0
-  zero_lasts : (cycles before : List CycleView) → IsRun r jobs carry restarts (cycles ++ before) → IsClear (cycles ++ before)
+  pub zero_lasts : (cycles before : List CycleView) → IsRun r jobs carry restarts (cycles ++ before) → IsClear (cycles ++ before)
       → StartsEpoch r jobs carry restarts before → AreSparse r carry restarts cycles before
       → (back (cycles ++ before)).now.phase ≡ 0 → length cycles ≤ came_back r jobs carry restarts (cycles ++ before) + early_costs r jobs
       carry restarts cycles before
@@ -198,7 +198,7 @@ module _ (laws : Laws) (more : MoreLaws) (turn : WorkInTurn) (comes_up : (busy :
           omega (arith, row, cost, step)
 
   -- A DRIVE MORE is identified, if two cycles of phase 1 in a row are undisturbed.
-  one_more : (t u : CycleView) (j : List CycleView) → IsRun r jobs carry restarts (t ∷ u ∷ j) → IsClear (t ∷ u ∷ j) → Borne t (u ∷ j)
+  pub one_more : (t u : CycleView) (j : List CycleView) → IsRun r jobs carry restarts (t ∷ u ∷ j) → IsClear (t ∷ u ∷ j) → Borne t (u ∷ j)
       → Borne u j → IsUndisturbed r carry restarts t (u ∷ j) → IsUndisturbed r carry restarts u j
       → t.phase ≡ 1 → u.phase ≡ 1 → is_done (known_of r) (now u j) ≡ false → known (back (u ∷ j)).turns + 1 ≤ known (back (t ∷ u ∷ j)).turns
   one_more t u j run clear is was calm calm_before one was_one unfinished =
@@ -258,7 +258,7 @@ module _ (laws : Laws) (more : MoreLaws) (turn : WorkInTurn) (comes_up : (busy :
           still false b c on = on
 
   -- PHASE 1: at its start, and after each cycle of it
-  risen : (t : CycleView) (cycles before : List CycleView) → IsRun r jobs carry restarts (t ∷ (cycles ++ before))
+  pub risen : (t : CycleView) (cycles before : List CycleView) → IsRun r jobs carry restarts (t ∷ (cycles ++ before))
       → IsClear (t ∷ (cycles ++ before)) → StartsEpoch r jobs carry restarts before → AreSparse r carry restarts (t ∷ cycles) before
       → t.phase ≡ 0 → suc (length cycles) ≤ 10 + early_costs r jobs carry restarts (t ∷ cycles) before
   risen t cycles before run clear starts sparse t_zero =
@@ -326,7 +326,7 @@ module _ (laws : Laws) (more : MoreLaws) (turn : WorkInTurn) (comes_up : (busy :
       ]
 
   -- not all drives are identified while phase 1 goes on
-  known_few : (t : CycleView) (j : List CycleView) → IsRun r jobs carry restarts (t ∷ j) → Borne t j → t.phase ≡ 1
+  pub known_few : (t : CycleView) (j : List CycleView) → IsRun r jobs carry restarts (t ∷ j) → Borne t j → t.phase ≡ 1
       → is_done (known_of r) (now t j) ≡ false → known (back (t ∷ j)).turns + 1 ≤ length r.drives
   known_few t j run is one unfinished =
       let all = count_all (length (known_of r).drives) in

@@ -111,7 +111,7 @@ module _ (laws : Laws) (more : MoreLaws) (turn : WorkInTurn) (two : WorksInTwo) 
       (sym (stop_after r jobs carry restarts t (cycles ++ before) (borne t cycles before e.run e.clear starts e.sparse).stays) ∙ is)
 
   -- WHAT THE REQUESTS of phases 2 and 3 to a drive cost, its list included
-  all_fit : (t : CycleView) (j : List CycleView) → IsRun r jobs carry restarts (t ∷ j) → IsClear (t ∷ j) → Borne t j → t.phase ≡ 3
+  pub all_fit : (t : CycleView) (j : List CycleView) → IsRun r jobs carry restarts (t ∷ j) → IsClear (t ∷ j) → Borne t j → t.phase ≡ 3
       → (k : ℕ) → k < length r.drives
       → cost_in (cost_of (drive_at r k).busy (drive_at r k).command longest_list (store_of (drive_at r k)))
       (epoch_begun (views_of r jobs carry restarts k (t ∷ j))) ≤ section_two (drive_at r k) + command_cycles (drive_at r k) + ((drive_at r
@@ -179,33 +179,19 @@ module _ (laws : Laws) (more : MoreLaws) (turn : WorkInTurn) (two : WorksInTwo) 
       let sums = sum_within (λ j. section_two (drive_at r j)) section_two r.drives (λ j low. omega arith) in
       omega (arith, counted, opens, cost, split, sums)
 
-  -- THE END
-  pub ends_sparse : (t : CycleView) (cycles before : List CycleView) → IsRun r jobs carry restarts (t ∷ (cycles ++ before))
+  -- HOW IT ENDS, if neither phase 0 nor 1 is commanded any more, and 2 and 3 only at a stop
+  pub end_by : (t : CycleView) (cycles before : List CycleView) → IsRun r jobs carry restarts (t ∷ (cycles ++ before))
       → IsClear (t ∷ (cycles ++ before)) → StartsEpoch r jobs carry restarts before → AreSparse r carry restarts (t ∷ cycles) before
-      → startup_bound r + 41 * (slowest r.drives + 2) + start_costs r jobs carry restarts cycles before ≤ length cycles
+      → (t.phase ≤ 1 → ⊥) → (t.phase ≤ 3 → (behind_mdt r jobs carry restarts t.sent (cycles ++ before)).stop ≡ None → ⊥)
       → IsUpOrStopped r t cycles
-  ends_sparse t cycles before run clear starts sparse long = by (behind_mdt r jobs carry restarts t.sent (cycles ++ before)).stop refl
+  end_by t cycles before run clear starts sparse never_early never_late = by
+      (behind_mdt r jobs carry restarts t.sent (cycles ++ before)).stop refl
     where
       high : t.phase ≤ 4
       high =
           let low = phase_low (known_of r) (tasks_for (known_of r) jobs) (master_calls r carry restarts (cycles ++ before)) in
           let same = phase_is laws more turn comes_up to_zero goes counts r jobs carry restarts opened t (cycles ++ before) run
           (borne t cycles before run clear starts sparse) in omega (arith, low, same)
-
-      with_costs : t.phase ≤ 3 → startup_bound r + 41 * (slowest r.drives + 2) +
-          (early_costs r jobs carry restarts cycles before + disturbances
-          r carry restarts cycles before) ≤ length cycles
-      with_costs low = let same = same_costs laws more turn comes_up to_zero goes counts r jobs carry restarts opened t cycles before run
-          clear
-          starts sparse low in omega (arith, same, long)
-
-      -- neither phase 0 nor 1 is commanded any more
-      never_early : t.phase ≤ 1 → ⊥
-      never_early early =
-          let le = early_sparse laws more turn comes_up to_zero goes counts r jobs carry restarts opened t cycles before run clear starts
-          sparse early in
-          let bound = within_bound started r in
-          let costs = with_costs (omega (arith, early)) in omega (arith, le, bound, costs)
 
       up : t.phase ≡ 4 → IsUpOrStopped r t cycles
       up four = inl (
@@ -215,6 +201,56 @@ module _ (laws : Laws) (more : MoreLaws) (turn : WorkInTurn) (two : WorksInTwo) 
           λ k below. own r jobs carry restarts t (cycles ++ before) k opened run clear below four,
         ),
       )
+
+      -- a stop, by the phase
+      told : (x : Stop) → (behind_mdt r jobs carry restarts t.sent (cycles ++ before)).stop ≡ Some x → HasTold x (t ∷ cycles)
+      told x is = told_since (t ∷ cycles) before x starts (record { run = run; clear = clear; sparse = sparse })
+          (stop_after r jobs carry restarts t (cycles ++ before) (borne t cycles before run clear starts sparse).stays ∙ is)
+
+      cause : (x : Stop) → (behind_mdt r jobs carry restarts t.sent (cycles ++ before)).stop ≡ Some x → StopsForCause r x
+      cause x is = caused r jobs carry restarts t (cycles ++ before) x (elim (cases_lt t.phase 2) [
+        | inl early ↦ absurd (never_early (omega (arith, early)))
+        | inr later ↦ elim (cases_eq t.phase 2) [
+          | inl is_two ↦ elim (in_two r jobs carry restarts t (cycles ++ before) x opened run clear is_two is) [
+            | inl plan ↦ inl plan
+            | inr cycle ↦ inr (inl cycle)
+          ]
+          | inr other ↦ elim (cases_eq t.phase 3) [
+            | inl is_three ↦ inr (inr (in_three r jobs carry restarts t (cycles ++ before) x opened run clear is_three is))
+            | inr more_than ↦ absurd (none_some x (sym (in_four r jobs carry restarts t (cycles ++ before) opened run clear
+                (let most = high in omega (arith, later, other, more_than, most))) ∙ is))
+          ]
+        ]
+      ])
+
+      by : (o : Option Stop) → (behind_mdt r jobs carry restarts t.sent (cycles ++ before)).stop ≡ o → IsUpOrStopped r t cycles
+      by (Some x) is = inr (x, told x is, cause x is)
+      by None none = elim (cases_lt t.phase 4) [
+        | inr four ↦ up (let most = high in omega (arith, four, most))
+        | inl low ↦ absurd (never_late (omega (arith, low)) none)
+      ]
+
+  -- THE END
+  pub ends_sparse : (t : CycleView) (cycles before : List CycleView) → IsRun r jobs carry restarts (t ∷ (cycles ++ before))
+      → IsClear (t ∷ (cycles ++ before)) → StartsEpoch r jobs carry restarts before → AreSparse r carry restarts (t ∷ cycles) before
+      → startup_bound r + 41 * (slowest r.drives + 2) + start_costs r jobs carry restarts cycles before ≤ length cycles
+      → IsUpOrStopped r t cycles
+  ends_sparse t cycles before run clear starts sparse long = end_by t cycles before run clear starts sparse never_early
+      (λ low none. never_so_late low none (not_yet laws more turn comes_up to_zero goes counts r jobs carry restarts opened t cycles before
+      run clear starts sparse low (λ is_three. none)))
+    where
+      with_costs : t.phase ≤ 3 → startup_bound r + 41 * (slowest r.drives + 2) +
+          (early_costs r jobs carry restarts cycles before + disturbances r carry restarts cycles before) ≤ length cycles
+      with_costs low = let same = same_costs laws more turn comes_up to_zero goes counts r jobs carry restarts opened t cycles before run
+          clear starts sparse low in omega (arith, same, long)
+
+      -- neither phase 0 nor 1 is commanded any more
+      never_early : t.phase ≤ 1 → ⊥
+      never_early early =
+          let le = early_sparse laws more turn comes_up to_zero goes counts r jobs carry restarts opened t cycles before run clear starts
+          sparse early in
+          let bound = within_bound started r in
+          let costs = with_costs (omega (arith, early)) in omega (arith, le, bound, costs)
 
       -- phase 3 has had its time
       in_three_long : (u : CycleView) (rest : List CycleView) → Epoch (u ∷ rest) before → u.phase ≡ 3
@@ -262,33 +298,3 @@ module _ (laws : Laws) (more : MoreLaws) (turn : WorkInTurn) (two : WorksInTwo) 
           none_then last
           (subst (λ (l : List CycleView). startup_bound r + 41 * (slowest r.drives + 2) + (early_costs r jobs carry restarts l before +
           disturbances r carry restarts l before) ≤ length l) is (with_costs low))
-
-      -- a stop, by the phase
-      told : (x : Stop) → (behind_mdt r jobs carry restarts t.sent (cycles ++ before)).stop ≡ Some x → HasTold x (t ∷ cycles)
-      told x is = told_since (t ∷ cycles) before x starts (record { run = run; clear = clear; sparse = sparse })
-          (stop_after r jobs carry restarts t (cycles ++ before) (borne t cycles before run clear starts sparse).stays ∙ is)
-
-      cause : (x : Stop) → (behind_mdt r jobs carry restarts t.sent (cycles ++ before)).stop ≡ Some x → StopsForCause r x
-      cause x is = caused r jobs carry restarts t (cycles ++ before) x (elim (cases_lt t.phase 2) [
-        | inl early ↦ absurd (never_early (omega (arith, early)))
-        | inr later ↦ elim (cases_eq t.phase 2) [
-          | inl is_two ↦ elim (in_two r jobs carry restarts t (cycles ++ before) x opened run clear is_two is) [
-            | inl plan ↦ inl plan
-            | inr cycle ↦ inr (inl cycle)
-          ]
-          | inr other ↦ elim (cases_eq t.phase 3) [
-            | inl is_three ↦ inr (inr (in_three r jobs carry restarts t (cycles ++ before) x opened run clear is_three is))
-            | inr more_than ↦ absurd (none_some x (sym (in_four r jobs carry restarts t (cycles ++ before) opened run clear
-                (let most = high in omega (arith, later, other, more_than, most))) ∙ is))
-          ]
-        ]
-      ])
-
-      by : (o : Option Stop) → (behind_mdt r jobs carry restarts t.sent (cycles ++ before)).stop ≡ o → IsUpOrStopped r t cycles
-      by (Some x) is = inr (x, told x is, cause x is)
-      by None none = elim (cases_lt t.phase 4) [
-        | inr four ↦ up (let most = high in omega (arith, four, most))
-        | inl low ↦ absurd (never_so_late (omega (arith, low)) none (not_yet laws more turn comes_up to_zero goes counts r jobs carry
-            restarts
-            opened t cycles before run clear starts sparse (omega (arith, low)) (λ is_three. none)))
-      ]

@@ -39,9 +39,10 @@ use Rattle.sercos_law_run.proofs.Undisturbed.ToldInTime.{IsQuiet, beyond, left_w
 use Rattle.sercos_law_run.proofs.Recovery.LateDown.{phase_now}
 use Rattle.sercos_law_run.specs.Tolerance.Reports.{cycles_in}
 use Rattle.sercos_law_run.specs.Tolerance.Sparse.{AreSparse}
-use Rattle.sercos_law_run.proofs.Tolerance.Borne.{IsBorne, all_borne, before_lost, calm_or_not, zero_is}
+use Rattle.sercos_law_run.proofs.Tolerance.Borne.{IsBorne, all_borne}
 use Rattle.sercos_law_run.proofs.Tolerance.EarlySparse.{start_is}
 use Rattle.sercos_law_run.proofs.Tolerance.InARow.{AreInARow, row_lasts}
+use Rattle.sercos_law_run.proofs.Tolerance.Spared.{spared_in}
 use Rattle.sercos_law_run.proofs.Tolerance.Steps.{IsYoung}
 
 one_more_time : (i c : ℕ) → (i + 1) * c ≡ suc i * c
@@ -83,36 +84,21 @@ module _ (laws : Laws) (more : MoreLaws) (turn : WorkInTurn) (comes_up : (busy :
           ⊎ (IsYoung (drive_at r k).busy 1 1 (views_of r jobs carry restarts k (t ∷ j))
           × IsYoung (drive_at r k).busy 0 0 (views_of r jobs carry restarts k j))
 
-    spared_in : (t : CycleView) (cycles before : List CycleView) → IsRun r jobs carry restarts (t ∷ (cycles ++ before))
+    spared_now : (t : CycleView) (cycles before : List CycleView) → IsRun r jobs carry restarts (t ∷ (cycles ++ before))
         → IsClear (t ∷ (cycles ++ before)) → StartsEpoch r jobs carry restarts before → AreSparse r carry restarts (t ∷ cycles) before
         → IsSpared t (cycles ++ before)
-    spared_in t cycles before run clear starts sparse = record {
+    spared_now t cycles before run clear starts sparse = record {
       goes_on = going_in t (cycles ++ before) run (borne t cycles before run clear starts sparse);
-      spared = by cycles run clear sparse;
+      spared = λ late. spared_in laws more turn comes_up to_zero goes counts r jobs carry restarts opened t cycles before run clear starts
+          sparse late k below;
     }
-      where
-        by : (l : List CycleView) → IsRun r jobs carry restarts (t ∷ (l ++ before)) → IsClear (t ∷ (l ++ before))
-            → AreSparse r carry restarts (t ∷ l) before → 3 ≤ t.phase
-            → IsYoung (drive_at r k).busy 0 0 (views_of r jobs carry restarts k (t ∷ (l ++ before)))
-            ⊎ (IsYoung (drive_at r k).busy 1 1 (views_of r jobs carry restarts k (t ∷ (l ++ before)))
-            × IsYoung (drive_at r k).busy 0 0 (views_of r jobs carry restarts k (l ++ before)))
-        by [] run_l clear_l sparse_l late = let none = zero_is laws more turn comes_up to_zero goes counts r jobs carry restarts opened t
-            before run_l clear_l starts (sparse_l.1.goes_on 0 (omega arith)) in absurd (omega (arith, none, late))
-        by (u ∷ rest) run_l clear_l sparse_l late = elim (calm_or_not r carry restarts t (u ∷ (rest ++ before))) [
-          | inr calm ↦ inl (((borne t (u ∷ rest) before run_l clear_l starts sparse_l).aged k below).calm calm (inl late))
-          | inl disturbed ↦ inr (
-            ((borne t (u ∷ rest) before run_l clear_l starts sparse_l).aged k below).lost disturbed,
-            before_lost laws more turn comes_up to_zero goes counts r jobs carry restarts opened t u (rest ++ before) run_l clear_l
-                (borne u rest before run_l.0 clear_l.0 starts sparse_l.0) sparse_l.1 k below disturbed (omega (arith, late)),
-          )
-        ]
 
     spared_all : (cycles before : List CycleView) → IsRun r jobs carry restarts (cycles ++ before) → IsClear (cycles ++ before)
         → StartsEpoch r jobs carry restarts before → AreSparse r carry restarts cycles before → AreAll IsSpared cycles before
     spared_all [] before run clear starts sparse = tt
     spared_all (t ∷ cycles) before run clear starts sparse = (
       spared_all cycles before run.0 clear.0 starts sparse.0,
-      spared_in t cycles before run clear starts sparse,
+      spared_now t cycles before run clear starts sparse,
     )
 
     goes_so : (t : CycleView) (j : List CycleView) → IsSpared t j → IsGoing r jobs carry restarts t j

@@ -68,7 +68,7 @@ module _ (laws : Laws) (more : MoreLaws) (turn : WorkInTurn) (two : WorksInTwo) 
       cycles before run clear starts sparse
 
   -- A RING THAT IS RIGHT has no stop.
-  none_in_two : (t : CycleView) (j : List CycleView) → IsRun r jobs carry restarts (t ∷ j) → IsClear (t ∷ j) → t.phase ≡ 2 → IsRight r
+  pub none_in_two : (t : CycleView) (j : List CycleView) → IsRun r jobs carry restarts (t ∷ j) → IsClear (t ∷ j) → t.phase ≡ 2 → IsRight r
       → (o : Option Stop) → (behind_mdt r jobs carry restarts t.sent j).stop ≡ o → o ≡ None
   none_in_two t j run clear is_two right None is = refl
   none_in_two t j run clear is_two right (Some x) is = absurd (elim (in_two r jobs carry restarts t j x opened run clear is_two is) [
@@ -81,7 +81,7 @@ module _ (laws : Laws) (more : MoreLaws) (turn : WorkInTurn) (two : WorksInTwo) 
     ]
   ])
 
-  none_in_three : (t : CycleView) (j : List CycleView) → IsRun r jobs carry restarts (t ∷ j) → IsClear (t ∷ j) → t.phase ≡ 3 → IsRight r
+  pub none_in_three : (t : CycleView) (j : List CycleView) → IsRun r jobs carry restarts (t ∷ j) → IsClear (t ∷ j) → t.phase ≡ 3 → IsRight r
       → (o : Option Stop) → (behind_mdt r jobs carry restarts t.sent j).stop ≡ o → o ≡ None
   none_in_three t j run clear is_three right None is = refl
   none_in_three t j run clear is_three right (Some x) is =
@@ -89,7 +89,7 @@ module _ (laws : Laws) (more : MoreLaws) (turn : WorkInTurn) (two : WorksInTwo) 
       absurd (false≢true (sym (right.1 check.failed.place check.there) ∙ check.outside))
 
   -- PHASE 4 IN TIME
-  few_in : (u : CycleView) (j : List CycleView) → IsRun r jobs carry restarts (u ∷ j) → IsClear (u ∷ j) → Borne u j → IsRight r
+  pub few_in : (u : CycleView) (j : List CycleView) → IsRun r jobs carry restarts (u ∷ j) → IsClear (u ∷ j) → Borne u j → IsRight r
       → (k : ℕ) → k < length r.drives → is_ready (member (known_of r) k) (outcomes_in (epoch_begun (views_of r jobs carry restarts k
       (u ∷ j)))) ≡ false
       → length (outcomes_in (epoch_begun (views_of r jobs carry restarts k (u ∷ j)))) ≤ reads_count (member (known_of r) k) + 12

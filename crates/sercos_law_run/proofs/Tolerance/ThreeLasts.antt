@@ -88,6 +88,13 @@ without_most k j f g h le = by (j == k)
     by true = omega arith
     by false = le
 
+pub without_mono : (k j : ℕ) (f g : ℕ → ℕ) → f j ≤ g j → without k f j ≤ without k g j
+without_mono k j f g le = by (j == k)
+  where
+    by : (b : Bool) → (let n : ℕ = if b then 0 else f j in n) ≤ (let n : ℕ = if b then 0 else g j in n)
+    by true = omega arith
+    by false = le
+
 grown : (b : Bool) (n : ℕ) → n + 1 ≤ one_more b n → b ≡ true
 grown true n le = refl
 grown false n le = absurd (omega (arith, le))
@@ -132,7 +139,7 @@ module _ (laws : Laws) (more : MoreLaws) (turn : WorkInTurn) (two : WorksInTwo) 
   abbrev others : ℕ → ℕ
   others k = sum_below (length r.drives) (without k sec)
 
-  abbrev is_unready : ℕ → List CycleView → Type 0
+  abbrev pub is_unready : ℕ → List CycleView → Type 0
   is_unready k j = is_ready (member (known_of r) k) (outcomes_in (epoch_begun (views_of r jobs carry restarts k j))) ≡ false
 
   borne : (t : CycleView) (cycles before : List CycleView) → IsRun r jobs carry restarts (t ∷ (cycles ++ before))
@@ -189,7 +196,7 @@ module _ (laws : Laws) (more : MoreLaws) (turn : WorkInTurn) (two : WorksInTwo) 
           (cycles ++ before) run clear (borne t cycles before run clear starts sparse) low j j_low in omega (arith, cost, fits)
 
   -- a drive that isn't ready at the end of a cycle wasn't before
-  unready_start : (t : CycleView) (j : List CycleView) → Borne t j → (k : ℕ) → is_unready k (t ∷ j)
+  pub unready_start : (t : CycleView) (j : List CycleView) → Borne t j → (k : ℕ) → is_unready k (t ∷ j)
       → (run : IsRun r jobs carry restarts (t ∷ j)) → (clear : IsClear (t ∷ j)) → is_unready k j
   unready_start t j is k unready run clear = unready_before (member (known_of r) k)
       (outcomes_in (epoch_begun (views_of r jobs carry restarts k j)))
@@ -219,6 +226,25 @@ module _ (laws : Laws) (more : MoreLaws) (turn : WorkInTurn) (two : WorksInTwo) 
       (held.0, held.1.now)
 
   -- IN PHASE 3 a drive that isn't ready has an open step in each cycle.
+  pub opens_in_three : (t : CycleView) (j : List CycleView) → IsRun r jobs carry restarts (t ∷ j) → IsClear (t ∷ j) → Borne t j
+      → t.phase ≡ 3 → (behind_mdt r jobs carry restarts t.sent j).stop ≡ None → (k : ℕ) → k < length r.drives → is_unready k (t ∷ j)
+      → is_some (open_in (begun_in (view_of r jobs carry restarts k t j) (views_of r jobs carry restarts k j))) ≡ true
+  opens_in_three t j run clear is is_three none k below unready =
+      grown (is_some (open_in (begun_in (view_of r jobs carry restarts k t j) (views_of r jobs carry restarts k j)))) 0 idle
+    where
+      goes_on : GoesOnInThree r (behind_mdt r jobs carry restarts t.sent j) k
+      goes_on = record {
+        phase = phase_now r jobs carry restarts t j run.1 ∙ is_three;
+        goes_on = none;
+        planned = ap (λ (o : Option PlanView). is_some o) (planned t j run clear is_three k below).1;
+        unready = ap (λ (l : List Begun). is_ready (member (known_of r) k) (outcomes_in l))
+            (begun_now laws more r jobs carry restarts opened t j run clear is.stays k below) ∙ unready;
+      }
+
+      idle : 1 ≤ one_more
+          (is_some (open_in (begun_in (view_of r jobs carry restarts k t j) (views_of r jobs carry restarts k j)))) 0
+      idle = never_idle laws more three r jobs carry restarts opened k below (t ∷ []) j run clear (tt, goes_on)
+
   at_work : (t : CycleView) (cycles before : List CycleView) → IsRun r jobs carry restarts (t ∷ (cycles ++ before))
       → IsClear (t ∷ (cycles ++ before)) → Borne t (cycles ++ before) → t.phase ≡ 3
       → (behind_mdt r jobs carry restarts t.sent (cycles ++ before)).stop ≡ None
@@ -229,22 +255,7 @@ module _ (laws : Laws) (more : MoreLaws) (turn : WorkInTurn) (two : WorksInTwo) 
       (views_since r jobs carry restarts k cycles before ++ views_of r jobs carry restarts k before)))) (opens_of cycles before k)
       (subst (λ (l : List View). is_some (open_in (begun_in (view_of r jobs carry restarts k t (cycles ++ before)) l)) ≡ true)
       (views_split r jobs carry restarts k cycles before)
-      (grown (is_some (open_in (begun_in (view_of r jobs carry restarts k t (cycles ++ before))
-      (views_of r jobs carry restarts k (cycles ++ before))))) 0 idle))
-    where
-      goes_on : GoesOnInThree r (behind_mdt r jobs carry restarts t.sent (cycles ++ before)) k
-      goes_on = record {
-        phase = phase_now r jobs carry restarts t (cycles ++ before) run.1 ∙ is_three;
-        goes_on = none;
-        planned = ap (λ (o : Option PlanView). is_some o) (planned t (cycles ++ before) run clear is_three k below).1;
-        unready = ap (λ (l : List Begun). is_ready (member (known_of r) k) (outcomes_in l))
-            (begun_now laws more r jobs carry restarts opened t (cycles ++ before) run clear is.stays k below) ∙ unready;
-      }
-
-      idle : 1 ≤ one_more
-          (is_some (open_in (begun_in (view_of r jobs carry restarts k t (cycles ++ before))
-          (views_of r jobs carry restarts k (cycles ++ before))))) 0
-      idle = never_idle laws more three r jobs carry restarts opened k below (t ∷ []) (cycles ++ before) run clear (tt, goes_on)
+      (opens_in_three t (cycles ++ before) run clear is is_three none k below unready))
 
   pub three_counts : (t : CycleView) (cycles before : List CycleView) → IsRun r jobs carry restarts (t ∷ (cycles ++ before))
       → IsClear (t ∷ (cycles ++ before)) → StartsEpoch r jobs carry restarts before → AreSparse r carry restarts (t ∷ cycles) before
@@ -300,7 +311,7 @@ module _ (laws : Laws) (more : MoreLaws) (turn : WorkInTurn) (two : WorksInTwo) 
           (borne u cycles before run.0 clear.0 starts sparse.0) (let same = same_phase in omega (arith, same, t_two))
 
   -- WHAT THE REQUESTS to a drive cost as long as its check for phase 4 hasn't ended
-  check_fit : (t : CycleView) (j : List CycleView) → IsRun r jobs carry restarts (t ∷ j) → IsClear (t ∷ j) → Borne t j → t.phase ≡ 3
+  pub check_fit : (t : CycleView) (j : List CycleView) → IsRun r jobs carry restarts (t ∷ j) → IsClear (t ∷ j) → Borne t j → t.phase ≡ 3
       → (k : ℕ) → k < length r.drives
       → length (outcomes_in (epoch_begun (views_of r jobs carry restarts k (t ∷ j)))) ≤ reads_count (member (known_of r) k) + 12
       → cost_in (cost_of (drive_at r k).busy (drive_at r k).command (λ raw. 512) (store_of (drive_at r k)))

@@ -39,7 +39,7 @@ use Rattle.sercos_law_run.proofs.Tolerance.Borne.{IsBorne, all_borne}
 use Rattle.sercos_law_run.proofs.Tolerance.CostsShared.{costs_shared}
 use Rattle.sercos_law_run.proofs.Tolerance.EarlySparse.{early_sparse, phase_is, phase_next, start_is}
 
-two_phase : (done : Bool) (n : ℕ) → (if done then n + 1 else n) ≡ 2 → ((done ≡ true) × (n ≡ 1)) ⊎ ((done ≡ false) × (n ≡ 2))
+pub two_phase : (done : Bool) (n : ℕ) → (if done then n + 1 else n) ≡ 2 → ((done ≡ true) × (n ≡ 1)) ⊎ ((done ≡ false) × (n ≡ 2))
 two_phase true n is = inl (refl, omega (arith, is))
 two_phase false n is = inr (refl, is)
 

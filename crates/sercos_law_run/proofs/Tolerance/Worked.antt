@@ -6,6 +6,7 @@ use Rattle.sercos_telegram.specs.declared.layout.Kind.TheVariants as kinds
 use Rattle.sercos_script.specs.declared.fault.Damage.TheVariants.{Deaf}
 use Rattle.sercos_script.specs.declared.fault.Fault.{Fault}
 use Rattle.sercos_script.specs.Scripts.{carried, restarts_at, acts}
+use Rattle.sercos_block.specs.Startup.{startup_bound}
 use Rattle.sercos_trace.specs.Views.{CycleView}
 use Rattle.sercos_trace.specs.declared.events.Fall.{Fall}
 use Rattle.sercos_trace.specs.declared.events.Fall.TheVariants as fall
@@ -13,6 +14,7 @@ use Rattle.sercos_law_run.specs.Journal.Runs.{is_disturbed_in, run_of}
 use Rattle.sercos_law_run.proofs.Journal.Worked.{fault, read, ring}
 use Rattle.sercos_law_run.specs.Undisturbed.Reports.{left_after}
 use Rattle.sercos_law_run.specs.Tolerance.Ends.{IsUpOrStopped}
+use Rattle.sercos_law_run.specs.Tolerance.Many.{own_costs, slow_bound}
 use Rattle.sercos_law_run.specs.Tolerance.Reports.{cycles_in}
 use Rattle.sercos_law_run.specs.Tolerance.Sparse.{IsSparse}
 use Rattle.sercos_law_run.specs.Journal.Arrivals as Arrivals
@@ -127,3 +129,26 @@ three_is_no_end : (t : CycleView) → IsUpOrStopped ring (in_three t) [] → ⊥
 three_is_no_end t (inl (four, right)) = absurd (omega (arith, four))
 three_is_no_end t (inr (x, inl told, cause)) = cc
 three_is_no_end t (inr (x, inr none, cause)) = none
+
+-- HOWEVER MANY. Where the drive misses the MST in 11, 14 and each third cycle from there on, phase 4 isn't commanded in any of the first
+-- 202 cycles, the bound of a start-up. The bound with a busier drive is 292.
+abbrev each_third : List Fault
+each_third = (record { cycle = 11; last = 300; every = 3; kind = kinds.Mst; from = 0; damage = Deaf 1 }) ∷ []
+
+abbrev own_lost : List Fault
+own_lost = misses 9 kinds.Mst 0 0 ∷ misses 12 kinds.Mst 0 1 ∷ misses 15 kinds.Mst 0 1 ∷ []
+
+abbrev bound_and_four : ℕ × ℕ
+bound_and_four = (startup_bound ring, cycles_in 4 (run each_third 202))
+
+third_is_late : bound_and_four ≡ (202, 0)
+unfolding carried restarts_at acts Bits.bits_of Bits.low_bits Bits.is_odd Bits.number_of Bits.bytes_of CheckSequence.fcs_of CheckSequence.divided CheckSequence.added CheckSequence.sum_of Arrivals.content_in Arrivals.is_unseen Reason.begins_with_six Reason.is_five Reason.ends_in_five Reason.six_place Reason.unstuffed Reason.given Reason.unclosed Reason.unreadable Reason.reason_of Stuffed.stuffed Stuffed.frame_of Faults.mst_fault Faults.head_fault Spells.word_bytes Spells.word_at Spells.fields Words.control_of Words.status_of Codes.attribute_fault Attributes.attribute_of Blocks.element_of BuiltIns.built_in Rings.attribute_in Valid.is_cycle Stores.inserted Stores.with_own Stores.store_of Checks.number_at Checks.idns_at Checks.carried_len Checks.breaks_1 Checks.breaks_2 Checks.breaks_6 Checks.breaks_7 Checks.breaks_8 Checks.breaks_9 Checks.breaks_10 Checks.breaks_15 Checks.breaks_list Checks.breaks_89 Checks.unfit_for_phase_3 Checks.unfit_for_phase_4 Settings.with_write Settings.with_lists Replies.data_in Replies.element_words Replies.bytes_written Replies.write_cause ChainOf.chain_of LeastTimes.least_plan LeastTimes.least_t2 LeastTimes.least_t3 Heard.mst_in Heard.single_in Heard.joint_in Says.value_in
+third_is_late = refl
+
+slow_is : slow_bound ring ≡ 292
+slow_is = refl
+
+-- The own MST of cycle 9 costs ten cycles, and those that the drive misses from 11 on cost none.
+own_is : own_costs ring [] (carried 1 own_lost) (restarts_at own_lost) (run own_lost 20) [] ≡ 10
+unfolding carried restarts_at acts Bits.bits_of Bits.low_bits Bits.is_odd Bits.number_of Bits.bytes_of CheckSequence.fcs_of CheckSequence.divided CheckSequence.added CheckSequence.sum_of Arrivals.content_in Arrivals.is_unseen Reason.begins_with_six Reason.is_five Reason.ends_in_five Reason.six_place Reason.unstuffed Reason.given Reason.unclosed Reason.unreadable Reason.reason_of Stuffed.stuffed Stuffed.frame_of Faults.mst_fault Faults.head_fault Spells.word_bytes Spells.word_at Spells.fields Words.control_of Words.status_of Codes.attribute_fault Attributes.attribute_of Blocks.element_of BuiltIns.built_in Rings.attribute_in Valid.is_cycle Stores.inserted Stores.with_own Stores.store_of Checks.number_at Checks.idns_at Checks.carried_len Checks.breaks_1 Checks.breaks_2 Checks.breaks_6 Checks.breaks_7 Checks.breaks_8 Checks.breaks_9 Checks.breaks_10 Checks.breaks_15 Checks.breaks_list Checks.breaks_89 Checks.unfit_for_phase_3 Checks.unfit_for_phase_4 Settings.with_write Settings.with_lists Replies.data_in Replies.element_words Replies.bytes_written Replies.write_cause ChainOf.chain_of LeastTimes.least_plan LeastTimes.least_t2 LeastTimes.least_t3 Heard.mst_in Heard.single_in Heard.joint_in Says.value_in
+own_is = refl

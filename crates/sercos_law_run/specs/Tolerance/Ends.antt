@@ -21,8 +21,7 @@ abbrev pub IsUpOrStopped : RingView → CycleView → List CycleView → Type 0
 IsUpOrStopped r t cycles = ((t.phase ≡ 4) × IsRight r) ⊎ ((x : Stop) × HasTold x (t ∷ cycles) × StopsForCause r x)
 
 -- HOW A START-UP ENDS. From 41 steps of the slowest drive after the bound of a start-up on, and what the cycles of the epoch cost so far,
--- this
--- holds, as long as its disturbed cycles are sparse. The stop may name another drive than it does without faults.
+-- this holds, as long as its disturbed cycles are sparse. The stop may name another drive than it does without faults.
 abbrev pub EndsSparse : Type 0
 EndsSparse = (r : RingView) (jobs : List Job) (carry : Carry) (restarts : Restarts) (t : CycleView) (cycles before : List CycleView) →
     IsOpened r jobs → IsRun r jobs carry restarts (t ∷ (cycles ++ before)) → IsClear (t ∷ (cycles ++ before)) →

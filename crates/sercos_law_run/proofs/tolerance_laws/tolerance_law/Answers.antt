@@ -7,6 +7,7 @@ use Rattle.sercos_law_run.proofs.Undisturbed.RefusedRuns.{SaysShape}
 use Rattle.sercos_law_run.proofs.Undisturbed.StartUpEnds.{ReadyIfEnded, inside}
 use Rattle.sercos_law_run.specs.Tolerance.Bears.{BearsSparse}
 use Rattle.sercos_law_run.specs.Tolerance.Ends.{EndsSparse}
+use Rattle.sercos_law_run.specs.Tolerance.Many.{EndsAnyway, RisesAnyway}
 use Rattle.sercos_law_run.specs.Tolerance.Reports.{ReportsSparse}
 use Rattle.sercos_law_run.specs.Tolerance.Rises.{RisesSparse}
 use Rattle.sercos_law_run.proofs.Tolerance.Rises.{rises_sparse}
@@ -16,6 +17,7 @@ use Rattle.sercos_law_run.proofs.Tolerance.CostsSparse.{costs_sparse}
 use Rattle.sercos_law_run.proofs.Tolerance.EarlySparse.{early_sparse}
 use Rattle.sercos_law_run.proofs.Tolerance.Ends.{ends_sparse}
 use Rattle.sercos_law_run.proofs.Tolerance.Losses.{takes_time_and_losses}
+use Rattle.sercos_law_run.proofs.Tolerance.Many.{ends_anyway, rises_anyway}
 use Rattle.sercos_law_run.proofs.Tolerance.Reported.{reports_sparse}
 use Rattle.sercos_law_run.proofs.Tolerance.TwoLasts.{two_sparse}
 use Rattle.sercos_law_run.proofs.Tolerance.Tolerates.{one_of_three, tolerates}
@@ -115,9 +117,23 @@ returns c =
     c.bound_law.ensures.greatest c.undisturbed_law.ensures.stops_two c.undisturbed_law.ensures.stops_three
     c.undisturbed_law.ensures.none_four c.undisturbed_law.ensures.fit c.undisturbed_law.ensures.own r jobs carry restarts opened t cycles
     before run clear starts sparse long in
+    let rises_anyway_so : RisesAnyway = λ r jobs carry restarts t cycles before opened run clear starts sparse right long.
+    rises_anyway laws more c.agenda_law.ensures.turn c.agenda_law.ensures.two c.agenda_law.ensures.three c.run_law.ensures.up
+    c.run_law.ensures.zero c.calls_law.ensures.stays c.calls_law.ensures.before c.cost_law.ensures.in_cost c.cost_law.ensures.timed
+    c.jobs_law.ensures.reads c.jobs_law.ensures.writes c.jobs_law.ensures.list_read c.bound_law.ensures.started
+    c.bound_law.ensures.greatest c.undisturbed_law.ensures.stops_two c.undisturbed_law.ensures.stops_three
+    c.undisturbed_law.ensures.none_four c.undisturbed_law.ensures.fit c.undisturbed_law.ensures.own ready r jobs carry restarts opened t
+    cycles before run clear starts sparse right long in
+    let ends_anyway_so : EndsAnyway = λ r jobs carry restarts t cycles before opened run clear starts sparse long.
+    ends_anyway laws more c.agenda_law.ensures.turn c.agenda_law.ensures.two c.agenda_law.ensures.three c.run_law.ensures.up
+    c.run_law.ensures.zero c.calls_law.ensures.stays c.calls_law.ensures.before c.cost_law.ensures.in_cost c.cost_law.ensures.timed
+    c.jobs_law.ensures.reads c.jobs_law.ensures.writes c.jobs_law.ensures.list_read c.bound_law.ensures.started
+    c.bound_law.ensures.greatest c.undisturbed_law.ensures.stops_two c.undisturbed_law.ensures.stops_three
+    c.undisturbed_law.ensures.none_four c.undisturbed_law.ensures.fit c.undisturbed_law.ensures.own ready r jobs carry restarts opened t
+    cycles before run clear starts sparse long in
     let bears : BearsSparse = λ r jobs carry restarts t cycles before opened run clear starts sparse.
     bears_sparse laws more c.agenda_law.ensures.turn c.run_law.ensures.up c.run_law.ensures.zero c.calls_law.ensures.stays
-    c.calls_law.ensures.before rises reports ends r jobs carry restarts opened t cycles before run clear starts sparse in
+    c.calls_law.ensures.before rises reports ends rises_anyway_so ends_anyway_so r jobs carry restarts opened t cycles before run clear starts sparse in
     record {
       calm = calm_is_sparse;
       spaced = one_of_three;
@@ -138,6 +154,8 @@ returns c =
       rises = rises;
       reports = reports;
       ends = ends;
+      rises_anyway = rises_anyway_so;
+      ends_anyway = ends_anyway_so;
       two = λ r jobs carry restarts t cycles before opened run clear starts sparse is_two none.
           two_sparse laws more c.agenda_law.ensures.turn c.agenda_law.ensures.two c.run_law.ensures.up c.run_law.ensures.zero
           c.calls_law.ensures.stays c.calls_law.ensures.before r jobs carry restarts opened c.cost_law.ensures.in_cost
