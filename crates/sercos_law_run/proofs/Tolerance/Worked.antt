@@ -102,8 +102,7 @@ unfolding carried restarts_at acts Bits.bits_of Bits.low_bits Bits.is_odd Bits.n
 sparse_in_four = refl
 
 -- A REQUEST. Phase 4 begins in 100, and the drive misses the MDT in 101, 103 and each second cycle from there on. After nine cycles of
--- phase 4
--- the read isn't reported, so no such number of cycles is enough for it; after ten it is.
+-- phase 4 the read isn't reported, so no such number of cycles is enough for it; after ten it is.
 abbrev each_mdt : List Fault
 each_mdt = (record { cycle = 101; last = 200; every = 2; kind = kinds.Mdt; from = 0; damage = Deaf 1 }) ∷ []
 

@@ -42,13 +42,16 @@ pub record IsOn (r : RingView) (jobs : List Job) (carry : Carry) (restarts : Res
 abbrev pub AreOn : RingView → List Job → Carry → Restarts → List CycleView → List CycleView → Type 0
 AreOn r jobs carry restarts cycles rest = AreAll (IsOn r jobs carry restarts) cycles rest
 
-pub going : (r : RingView) (jobs : List Job) (carry : Carry) (restarts : Restarts) (t : CycleView) (j : List CycleView) → IsOn r jobs carry restarts t j
+pub going : (r : RingView) (jobs : List Job) (carry : Carry) (restarts : Restarts) (t : CycleView) (j : List CycleView)
+    → IsOn r jobs carry restarts t j
     → IsGoing r jobs carry restarts t j
 going r jobs carry restarts t j on = record { now = on.now; stays = on.stays; quiet = on.quiet; starts = on.starts }
 
-pub goings : (r : RingView) (jobs : List Job) (carry : Carry) (restarts : Restarts) (cycles rest : List CycleView) → AreOn r jobs carry restarts cycles rest
+pub goings : (r : RingView) (jobs : List Job) (carry : Carry) (restarts : Restarts) (cycles rest : List CycleView)
+    → AreOn r jobs carry restarts cycles rest
     → AreGoing r jobs carry restarts cycles rest
-goings r jobs carry restarts cycles rest are = all_so (IsOn r jobs carry restarts) (IsGoing r jobs carry restarts) (going r jobs carry restarts) cycles rest are
+goings r jobs carry restarts cycles rest are = all_so (IsOn r jobs carry restarts) (IsGoing r jobs carry restarts)
+    (going r jobs carry restarts) cycles rest are
 
 -- the cycles of an epoch, cut before the newest n: the newest of the others is `one`
 pub record IsCut (r : RingView) (jobs : List Job) (carry : Carry) (restarts : Restarts) (n : ℕ) (cycles before : List CycleView) : Type 0 where
@@ -95,12 +98,15 @@ wholes r jobs carry restarts (t ∷ cycles) rest are k below = (
 -- what goes on from one to the next
 pub none_along : (r : RingView) (jobs : List Job) (carry : Carry) (restarts : Restarts) (cycles rest : List CycleView) → AreOn r jobs carry restarts cycles rest → (looks_back r jobs (master_calls r carry restarts (cycles ++ rest))).stop ≡ None
     → (looks_back r jobs (master_calls r carry restarts rest)).stop ≡ None
-none_along r jobs carry restarts cycles rest are none = none_since r jobs carry restarts cycles rest (goings r jobs carry restarts cycles rest are) none
+none_along r jobs carry restarts cycles rest are none = none_since r jobs carry restarts cycles rest
+    (goings r jobs carry restarts cycles rest are) none
 
 module _ (laws : Laws) (more : MoreLaws) (r : RingView) (jobs : List Job) (carry : Carry) (restarts : Restarts) (opened : IsOpened r jobs) where
-  pub outcomes_extend : (t : CycleView) (j : List CycleView) → IsRun r jobs carry restarts (t ∷ j) → IsClear (t ∷ j) → IsOn r jobs carry restarts t j → (k : ℕ) → k < length r.drives
+  pub outcomes_extend : (t : CycleView) (j : List CycleView) → IsRun r jobs carry restarts (t ∷ j) → IsClear (t ∷ j)
+      → IsOn r jobs carry restarts t j → (k : ℕ) → k < length r.drives
       → Extends (outcomes (looks_back r jobs (master_calls r carry restarts j)) k) (outcomes (behind_mdt r jobs carry restarts t.sent j) k)
-  outcomes_extend t j run clear on k below = outcomes_grow laws more r jobs carry restarts opened t j run clear (going r jobs carry restarts t j on) k below
+  outcomes_extend t j run clear on k below = outcomes_grow laws more r jobs carry restarts opened t j run clear
+      (going r jobs carry restarts t j on) k below
 
   pub outcomes_after : (t : CycleView) (j : List CycleView) → IsOn r jobs carry restarts t j → (k : ℕ)
       → outcomes (looks_back r jobs (master_calls r carry restarts (t ∷ j))) k ≡ outcomes (behind_mdt r jobs carry restarts t.sent j) k

@@ -121,7 +121,8 @@ module _ (said : SaysShape) (busy time : ℕ) (blocks : List Block) (small : Are
     read_few idn e asks = read_ends idn e b.answers (subst (λ (r : Request). AreAnswers r b.answers) asks turn_now.1.1)
 
     -- The steps that were begun are at most 518 more than the answers to the older requests, if these have ended; or it is a command.
-    pub steps_few : open_in old ≡ None → (length (steps_in (epoch_begun all)) ≤ 518 + length (answers_in old)) ⊎ ((idn : Idn) × (b.request ≡ request.Command idn))
+    pub steps_few : open_in old ≡ None → (length (steps_in (epoch_begun all)) ≤ 518 + length (answers_in old)) ⊎ ((idn : Idn)
+        × (b.request ≡ request.Command idn))
     steps_few shut = by b.request refl
       where
         few : length b.answers ≤ 517 → length (steps_in (epoch_begun all)) ≤ 518 + length (answers_in old)
@@ -132,7 +133,8 @@ module _ (said : SaysShape) (busy time : ℕ) (blocks : List Block) (small : Are
             ap (λ (l : List Begun). length (steps_in l)) split ∙ length-append (steps_begun b.request b.answers) (steps_in old) in
             omega (arith, most, answers, older, long)
 
-        by : (r : Request) → b.request ≡ r → (length (steps_in (epoch_begun all)) ≤ 518 + length (answers_in old)) ⊎ ((idn : Idn) × (b.request ≡ request.Command idn))
+        by : (r : Request) → b.request ≡ r → (length (steps_in (epoch_begun all)) ≤ 518 + length (answers_in old)) ⊎ ((idn : Idn)
+            × (b.request ≡ request.Command idn))
         by (request.Read idn e) asks = inl (few (read_few idn e asks))
         by (request.Write idn e bytes) asks = inl (few (write_few idn e bytes asks))
         by (request.Command idn) asks = inr (idn, asks)
@@ -142,23 +144,28 @@ module _ (said : SaysShape) (busy time : ℕ) (blocks : List Block) (small : Are
   pub one_lasts : RecoversInTime busy → RecoversSince busy → (cycles : List View) (first : View) (past : List View) (b : Begun) (old : List Begun) → IsViewRun busy (cycles ++ first ∷ past) → AreSound blocks (cycles ++ first ∷ past) → AreTimed time (cycles ++ first ∷ past)
       → AreListed (λ raw. 512) (cycles ++ first ∷ past) → IsWhole first past → AreWhole cycles (first ∷ past) → ((standing (cycles ++ first ∷ past)).ended ≡ 0 → ⊥) → epoch_begun (cycles ++ first ∷ past) ≡ b ∷ old → open_in old ≡ None
       → length (answers_in old) ≤ length (answers_in (epoch_begun (first ∷ past))) → open_since cycles (first ∷ past) < (busy + 2) * (520 + time)
-  one_lasts recovers since cycles first past b old run sound timed listed whole wholes stands split shut few = elim (steps_few (cycles ++ first ∷ past) run sound b old split shut) [
-    | inl steps ↦ by_steps steps (recovers cycles first past run whole wholes)
-    | inr (idn, asks) ↦ which idn asks (since time (λ raw. 512) blocks cycles first past (b ∷ []) old small run sound timed listed whole wholes split shut few)
-  ]
+  one_lasts recovers since cycles first past b old run sound timed listed whole wholes stands split shut few = elim (steps_few
+      (cycles ++ first ∷ past) run sound b old split shut) [
+        | inl steps ↦ by_steps steps (recovers cycles first past run whole wholes)
+        | inr (idn, asks) ↦ which idn asks (since time (λ raw. 512) blocks cycles first past
+            (b ∷ []) old small run sound timed listed whole wholes split shut few)
+      ]
     where
       by_steps : length (steps_in (epoch_begun (cycles ++ first ∷ past))) ≤ 518 + length (answers_in old)
           → ((standing (cycles ++ first ∷ past)).ended ≡ 0)
-          ⊎ (open_since cycles (first ∷ past) + (busy + 1) * length (answers_in (epoch_begun (first ∷ past))) ≤ (busy + 1) * length (steps_in (epoch_begun (cycles ++ first ∷ past))))
+          ⊎ (open_since cycles (first ∷ past) + (busy + 1) * length (answers_in (epoch_begun (first ∷ past)))
+          ≤ (busy + 1) * length (steps_in (epoch_begun (cycles ++ first ∷ past))))
           → open_since cycles (first ∷ past) < (busy + 2) * (520 + time)
       by_steps steps (inl down) = absurd (stands down)
       by_steps steps (inr le) =
-          let most = times_le (busy + 1) (length (steps_in (epoch_begun (cycles ++ first ∷ past)))) (518 + length (answers_in (epoch_begun (first ∷ past)))) (omega (arith, steps, few)) in
+          let most = times_le (busy + 1) (length (steps_in (epoch_begun (cycles ++ first ∷ past)))) (518 + length (answers_in
+          (epoch_begun (first ∷ past)))) (omega (arith, steps, few)) in
           let sum = times_sum (busy + 1) 518 (length (answers_in (epoch_begun (first ∷ past)))) in
           let fits = few_fit busy time 518 (omega arith) in
           omega (arith, le, most, sum, fits)
 
-      which : (idn : Idn) → b.request ≡ request.Command idn → ((standing (cycles ++ first ∷ past)).ended ≡ 0) ⊎ (open_since cycles (first ∷ past) ≤ cost_in (cost_of busy time (λ raw. 512) blocks) (b ∷ []))
+      which : (idn : Idn) → b.request ≡ request.Command idn → ((standing (cycles ++ first ∷ past)).ended ≡ 0)
+          ⊎ (open_since cycles (first ∷ past) ≤ cost_in (cost_of busy time (λ raw. 512) blocks) (b ∷ []))
           → open_since cycles (first ∷ past) < (busy + 2) * (520 + time)
       which idn asks (inl down) = absurd (stands down)
       which idn asks (inr le) =

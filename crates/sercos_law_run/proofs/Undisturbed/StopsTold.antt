@@ -92,7 +92,8 @@ module _ (r : RingView) (jobs : List Job) (carry : Carry) (restarts : Restarts) 
       says = ap (λ (b : Bool). if b then (behind_mdt r jobs carry restarts t.sent j).stop else None) stops ∙ is
 
   -- a stop that was there before, or one of this cycle
-  pub stop_at : (t : CycleView) (j : List CycleView) (x : Stop) (Before : Type 0) → IsNext r jobs carry restarts t j → ((looks_back r jobs (master_calls r carry restarts j)).stop ≡ Some x → Before)
+  pub stop_at : (t : CycleView) (j : List CycleView) (x : Stop) (Before : Type 0) → IsNext r jobs carry restarts t j
+      → ((looks_back r jobs (master_calls r carry restarts j)).stop ≡ Some x → Before)
       → (behind_mdt r jobs carry restarts t.sent j).stop ≡ Some x → (t.events.stop ≡ Some x) ⊎ Before
   stop_at t j x Before next before is = by (at_start r jobs carry restarts j).stop refl
     where

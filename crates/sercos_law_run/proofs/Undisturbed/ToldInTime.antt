@@ -156,9 +156,14 @@ beyond (suc a) (suc b) le = let d = beyond a b (omega (arith, le)) in (d.0, let 
 abbrev pub IsQuiet : Restarts → CycleView → List CycleView → Type 0
 IsQuiet restarts t j = restarts (length j) 0 ≡ false
 
-quiet_since : (r : RingView) (carry : Carry) (restarts : Restarts) (cycles before : List CycleView) → AreUndisturbed r carry restarts cycles before → AreAll (IsQuiet restarts) cycles before
+quiet_since : (r : RingView) (carry : Carry) (restarts : Restarts) (cycles before : List CycleView)
+    → AreUndisturbed r carry restarts cycles before → AreAll (IsQuiet restarts) cycles before
 quiet_since r carry restarts [] before calm = tt
-quiet_since r carry restarts (t ∷ cycles) before calm = (quiet_since r carry restarts cycles before calm.0, (calm_in r carry restarts t (cycles ++ before) calm.1).stays 0 (omega arith))
+quiet_since r carry restarts (t ∷ cycles) before calm = (
+  quiet_since r carry restarts cycles before calm.0,
+  (calm_in r carry restarts t
+      (cycles ++ before) calm.1).stays 0 (omega arith),
+)
 
 module _ (laws : Laws) (more : MoreLaws) (r : RingView) (jobs : List Job) (carry : Carry) (restarts : Restarts) (opened : IsOpened r jobs) (k : ℕ) (below : k < length r.drives) where
   abbrev told_by : List CycleView → List Report
@@ -224,7 +229,8 @@ module _ (laws : Laws) (more : MoreLaws) (r : RingView) (jobs : List Job) (carry
     pub all : AllTold cycles numbers
     pub is : numbers ++ left (cycles ++ before) ≡ left before
 
-  pub told_along : (cycles before : List CycleView) → IsRun r jobs carry restarts (cycles ++ before) → IsClear (cycles ++ before) → AreAll (IsQuiet restarts) cycles before → IsTold cycles before
+  pub told_along : (cycles before : List CycleView) → IsRun r jobs carry restarts (cycles ++ before) → IsClear (cycles ++ before)
+      → AreAll (IsQuiet restarts) cycles before → IsTold cycles before
   told_along [] before run clear quiet = record { numbers = []; all = tt; is = refl }
   told_along (t ∷ cycles) before run clear quiet =
       let earlier = told_along cycles before run.0 clear.0 quiet.0 in
@@ -237,14 +243,18 @@ module _ (laws : Laws) (more : MoreLaws) (r : RingView) (jobs : List Job) (carry
             ∙ ap (λ (l : List (Option ℕ)). earlier.numbers ++ l) (left_next t (cycles ++ before) quiet.1) ∙ earlier.is;
       }
 
-  pub told_since : (cycles before : List CycleView) → IsRun r jobs carry restarts (cycles ++ before) → IsClear (cycles ++ before) → AreUndisturbed r carry restarts cycles before → IsTold cycles before
+  pub told_since : (cycles before : List CycleView) → IsRun r jobs carry restarts (cycles ++ before) → IsClear (cycles ++ before)
+      → AreUndisturbed r carry restarts cycles before → IsTold cycles before
   told_since cycles before run clear calm = told_along cycles before run clear (quiet_since r carry restarts cycles before calm)
 
   -- A REQUEST IS REPORTED if it isn't left.
-  pub told_if_few : (cycles before : List CycleView) → IsTold cycles before → StartsEpoch r jobs carry restarts before → (i : ℕ) (x : Task) → slice_get (waiting_after r jobs carry restarts before k) i ≡ Some x
-      → ((n : ℕ) → length (waiting_after r jobs carry restarts before k) ≤ n + suc i → length (left (cycles ++ before)) ≤ n) → (number : ℕ) × (x.number ≡ Some number) × HaveTold cycles number
+  pub told_if_few : (cycles before : List CycleView) → IsTold cycles before → StartsEpoch r jobs carry restarts before
+      → (i : ℕ) (x : Task) → slice_get (waiting_after r jobs carry restarts before k) i ≡ Some x
+      → ((n : ℕ) → length (waiting_after r jobs carry restarts before k) ≤ n + suc i → length (left (cycles ++ before)) ≤ n)
+      → (number : ℕ) × (x.number ≡ Some number) × HaveTold cycles number
   told_if_few cycles before is_told starts i x got few =
-      told_there cycles is_told.numbers i x.number is_told.all (sym (get_left is_told.numbers (left (cycles ++ before)) i early) ∙ ap (λ (l : List (Option ℕ)). slice_get l i) is ∙ there)
+      told_there cycles is_told.numbers i x.number is_told.all (sym (get_left is_told.numbers (left (cycles ++ before)) i early)
+      ∙ ap (λ (l : List (Option ℕ)). slice_get l i) is ∙ there)
     where
       low : i < length (waiting_after r jobs carry restarts before k)
       low = slice_get_within (waiting_after r jobs carry restarts before k) i x got
@@ -256,7 +266,8 @@ module _ (laws : Laws) (more : MoreLaws) (r : RingView) (jobs : List Job) (carry
       is = is_told.is ∙ left_first before starts
 
       there : slice_get (task_numbers (waiting_after r jobs carry restarts before k)) i ≡ Some x.number
-      there = get_map (λ (y : Task). y.number) (waiting_after r jobs carry restarts before k) i ∙ ap (option_map (λ (y : Task). y.number)) got
+      there = get_map (λ (y : Task). y.number) (waiting_after r jobs carry restarts before k) i
+          ∙ ap (option_map (λ (y : Task). y.number)) got
 
       early : i < length is_told.numbers
       early =
@@ -267,7 +278,9 @@ module _ (laws : Laws) (more : MoreLaws) (r : RingView) (jobs : List Job) (carry
           let least = few rest.0 (omega (arith, count)) in omega (arith, least, count, all, parts, numbers)
 
   -- HOW MANY ARE LEFT after a cycle of phase 4
-  module _ (comes_up : (busy : ℕ) → ComesUp busy) (works : WorksInFour) (t : CycleView) (j : List CycleView) (run : IsRun r jobs carry restarts (t ∷ j)) (clear : IsClear (t ∷ j)) (on : IsGoing r jobs carry restarts t j) (four : t.phase ≡ 4) where
+  module _ (comes_up : (busy : ℕ) → ComesUp busy) (works : WorksInFour) (t : CycleView) (j : List CycleView)
+      (run : IsRun r jobs carry restarts (t ∷ j)) (clear : IsClear (t ∷ j)) (on : IsGoing r jobs carry restarts t j)
+      (four : t.phase ≡ 4) where
     abbrev now : Past
     now = behind_mdt r jobs carry restarts t.sent j
 
@@ -344,10 +357,13 @@ module _ (laws : Laws) (more : MoreLaws) (r : RingView) (jobs : List Job) (carry
 -- HOW MANY ARE LEFT so late: i + 1 fewer than after a cycle of phase 4, or none, if no request lasts longer.
 module _ (laws : Laws) (more : MoreLaws) (comes_up : (busy : ℕ) → ComesUp busy) (works : WorksInFour)
     (r : RingView) (jobs : List Job) (carry : Carry) (restarts : Restarts) (opened : IsOpened r jobs) (k : ℕ) (below : k < length r.drives)
-    (P : CycleView → List CycleView → Type 0) (goes : (t : CycleView) (j : List CycleView) → P t j → IsGoing r jobs carry restarts t j) (lasts : LastsShort r jobs carry restarts k P)
+    (P : CycleView → List CycleView → Type 0) (goes : (t : CycleView) (j : List CycleView) → P t j
+    → IsGoing r jobs carry restarts t j) (lasts : LastsShort r jobs carry restarts k P)
     (no_stop : NoStopInFour) (t : CycleView) (cycles : List CycleView) (one : CycleView) (old : List CycleView)
-    (run : IsRun r jobs carry restarts (t ∷ (cycles ++ one ∷ old))) (clear : IsClear (t ∷ (cycles ++ one ∷ old))) (those : AreAll P (t ∷ cycles) (one ∷ old))
-    (one_is : P one old) (one_four : one.phase ≡ 4) (four : t.phase ≡ 4) (i : ℕ) (long : suc i * request_cycles r k ≤ suc (length cycles)) where
+    (run : IsRun r jobs carry restarts (t ∷ (cycles ++ one ∷ old))) (clear : IsClear (t ∷ (cycles ++ one ∷ old))) (those : AreAll P
+    (t ∷ cycles) (one ∷ old))
+    (one_is : P one old) (one_four : one.phase ≡ 4) (four : t.phase ≡ 4) (i : ℕ) (long : suc i * request_cycles r k
+    ≤ suc (length cycles)) where
   rest_run : IsRun r jobs carry restarts (one ∷ old) × IsClear (one ∷ old)
   rest_run = run_rest r jobs carry restarts (t ∷ cycles) (one ∷ old) run clear
 
@@ -375,32 +391,42 @@ module _ (laws : Laws) (more : MoreLaws) (comes_up : (busy : ℕ) → ComesUp bu
 
   few : (x : ℕ) → x ≤ m.0 + suc i → x ≤ waits → length (left_after r jobs carry restarts (t ∷ (cycles ++ one ∷ old)) k) + x ≤ waits
   few x most low =
-      let ended = have_ended laws more comes_up works r jobs carry restarts opened k below P goes lasts no_stop one old one_is one_four m.0 (let is = m.1 in omega (arith, is)) (suc i) t cycles run clear those long x most low in
+      let ended = have_ended laws more comes_up works r jobs carry restarts opened k below P goes lasts no_stop one old one_is one_four m.0
+      (let is = m.1 in omega (arith, is)) (suc i) t cycles run clear those long x most low in
       let same = waits_t in
       let left_is = left_few laws more r jobs carry restarts opened k below comes_up works t (cycles ++ one ∷ old) run clear on.1 four x ended (omega (arith, same, low)) in
       omega (arith, left_is, same)
 
-  pub left_later : (n : ℕ) → length (left_after r jobs carry restarts (one ∷ old) k) ≤ n + suc i → length (left_after r jobs carry restarts (t ∷ (cycles ++ one ∷ old)) k) ≤ n
+  pub left_later : (n : ℕ) → length (left_after r jobs carry restarts (one ∷ old) k) ≤ n + suc i
+      → length (left_after r jobs carry restarts (t ∷ (cycles ++ one ∷ old)) k) ≤ n
   left_later n enough = elim (cases_lt waits (m.0 + suc i)) [
     | inl less ↦ let none = few waits (omega (arith, less)) (omega arith) in omega (arith, none)
     | inr more_wait ↦ let some = few (m.0 + suc i) (omega arith) (omega (arith, more_wait)) in let least = many in omega (arith, some, least, enough)
   ]
 
   -- and i + 1 fewer than wait
-  pub left_waiting : (n : ℕ) → length ((looks_back r jobs (master_calls r carry restarts old)).waiting k) ≤ n + suc i → length (left_after r jobs carry restarts (t ∷ (cycles ++ one ∷ old)) k) ≤ n
+  pub left_waiting : (n : ℕ) → length ((looks_back r jobs (master_calls r carry restarts old)).waiting k) ≤ n + suc i
+      → length (left_after r jobs carry restarts (t ∷ (cycles ++ one ∷ old)) k) ≤ n
   left_waiting n enough = elim (cases_lt waits (suc i)) [
     | inl less ↦ let none = few waits (omega (arith, less)) (omega arith) in omega (arith, none)
     | inr most ↦ let some = few (suc i) (omega arith) (omega (arith, most)) in omega (arith, some, enough)
   ]
 
 -- So it is in undisturbed cycles.
-module _ (laws : Laws) (more : MoreLaws) (comes_up : (busy : ℕ) → ComesUp busy) (works : WorksInFour) (always : OpensAlways) (said : SaysShape) (timed : ComesTimed) (recovers : (busy : ℕ) → RecoversInTime busy) (since : (busy : ℕ) → RecoversSince busy)
-    (no_stop : NoStopInFour) (r : RingView) (jobs : List Job) (carry : Carry) (restarts : Restarts) (opened : IsOpened r jobs) (k : ℕ) (below : k < length r.drives) (t : CycleView) (cycles : List CycleView) (one : CycleView) (old : List CycleView)
-    (run : IsRun r jobs carry restarts (t ∷ (cycles ++ one ∷ old))) (clear : IsClear (t ∷ (cycles ++ one ∷ old))) (on : AreOn r jobs carry restarts (t ∷ cycles) (one ∷ old)) (calm : AreUndisturbed r carry restarts cycles (one ∷ old))
-    (first : IsOn r jobs carry restarts one old) (one_four : one.phase ≡ 4) (four : t.phase ≡ 4) (n i : ℕ) (long : suc i * request_cycles r k ≤ suc (length cycles)) where
-  pub left_in_time : length (left_after r jobs carry restarts (one ∷ old) k) ≤ n + suc i → length (left_after r jobs carry restarts (t ∷ (cycles ++ one ∷ old)) k) ≤ n
-  left_in_time enough = left_later laws more comes_up works r jobs carry restarts opened k below (IsOn r jobs carry restarts) (going r jobs carry restarts)
-      (lasts_undisturbed laws more always said timed recovers since r jobs carry restarts opened k below) no_stop t cycles one old run clear on first one_four four i long n enough
+module _ (laws : Laws) (more : MoreLaws) (comes_up : (busy : ℕ) → ComesUp busy) (works : WorksInFour) (always : OpensAlways)
+    (said : SaysShape) (timed : ComesTimed) (recovers : (busy : ℕ) → RecoversInTime busy) (since : (busy : ℕ) → RecoversSince busy)
+    (no_stop : NoStopInFour) (r : RingView) (jobs : List Job) (carry : Carry) (restarts : Restarts) (opened : IsOpened r jobs) (k : ℕ)
+    (below : k < length r.drives) (t : CycleView) (cycles : List CycleView) (one : CycleView) (old : List CycleView)
+    (run : IsRun r jobs carry restarts (t ∷ (cycles ++ one ∷ old))) (clear : IsClear (t ∷ (cycles ++ one ∷ old)))
+    (on : AreOn r jobs carry restarts (t ∷ cycles) (one ∷ old)) (calm : AreUndisturbed r carry restarts cycles (one ∷ old))
+    (first : IsOn r jobs carry restarts one old) (one_four : one.phase ≡ 4) (four : t.phase ≡ 4) (n i : ℕ)
+    (long : suc i * request_cycles r k ≤ suc (length cycles)) where
+  pub left_in_time : length (left_after r jobs carry restarts (one ∷ old) k) ≤ n + suc i → length (left_after r jobs carry restarts (t ∷
+      (cycles ++ one ∷ old)) k) ≤ n
+  left_in_time enough = left_later laws more comes_up works r jobs carry restarts opened k below (IsOn r jobs carry restarts)
+      (going r jobs carry restarts)
+      (lasts_undisturbed laws more always said timed recovers since r jobs carry restarts opened k below) no_stop t cycles one old run
+      clear on first one_four four i long n enough
 
 -- THE REQUESTS ARE REPORTED IN TIME.
 module _ (laws : Laws) (more : MoreLaws) (turn : WorkInTurn) (comes_up : (busy : ℕ) → ComesUp busy) (late : (busy : ℕ) → NoneLate busy) (stand : (busy : ℕ) → StandsThroughout busy) (hear : (busy : ℕ) → HearsThroughout busy)
@@ -437,18 +463,24 @@ module _ (laws : Laws) (more : MoreLaws) (turn : WorkInTurn) (comes_up : (busy :
 
     one_four : c.one.phase ≡ 4
     one_four = four_since laws more comes_up reaches no_stop r jobs carry restarts opened t c.newer c.one c.older before run_cut clear_cut
-        (goings r jobs carry restarts (t ∷ c.newer) (c.one ∷ (c.older ++ before)) on_cut) (going r jobs carry restarts c.one (c.older ++ before) c.on_older.1) starts c.calm (let is = later.1 in let rest = c.rest in omega (arith, is, rest)) four
+        (goings r jobs carry restarts (t ∷ c.newer) (c.one ∷ (c.older ++ before)) on_cut) (going r jobs carry restarts c.one
+        (c.older ++ before) c.on_older.1) starts c.calm (let is = later.1 in let rest = c.rest in omega (arith, is, rest)) four
 
     pub left_in_epoch : length (waiting_after r jobs carry restarts before k) ≤ n + suc i → length (left_after r jobs carry restarts (t ∷ (cycles ++ before)) k) ≤ n
     left_in_epoch enough = subst (λ (l : List CycleView). length (left_after r jobs carry restarts (t ∷ l) k) ≤ n) (sym c.is)
-        (left_waiting laws more comes_up works r jobs carry restarts opened k below (IsOn r jobs carry restarts) (going r jobs carry restarts)
-        (lasts_undisturbed laws more always said timed recovers since r jobs carry restarts opened k below) no_stop t c.newer c.one (c.older ++ before) run_cut clear_cut on_cut c.on_older.1 one_four four i
+        (left_waiting laws more comes_up works r jobs carry restarts opened k below (IsOn r jobs carry restarts)
+        (going r jobs carry restarts)
+        (lasts_undisturbed laws more always said timed recovers since r jobs carry restarts opened k below) no_stop t c.newer c.one
+        (c.older ++ before) run_cut clear_cut on_cut c.on_older.1 one_four four i
         (let is = later.1 in let count = c.long in omega (arith, is, count, long)) n
-        (subst (λ (l : List Task). length l ≤ n + suc i) (sym (waits_along r jobs carry restarts c.older before (goings r jobs carry restarts c.older before c.on_older.0) k)) enough))
+        (subst (λ (l : List Task). length l ≤ n + suc i) (sym (waits_along r jobs carry restarts c.older before
+        (goings r jobs carry restarts c.older before c.on_older.0) k)) enough))
 
   pub reports_in_time : (t : CycleView) (cycles before : List CycleView) → IsRun r jobs carry restarts (t ∷ (cycles ++ before)) → IsClear (t ∷ (cycles ++ before)) → StartsEpoch r jobs carry restarts before → AreUndisturbed r carry restarts (t ∷ cycles) before
       → t.phase ≡ 4 → (k i : ℕ) (x : Task) → k < length r.drives → slice_get (waiting_after r jobs carry restarts before k) i ≡ Some x → startup_bound r + (i + 1) * request_cycles r k ≤ length cycles
       → (number : ℕ) × (x.number ≡ Some number) × HaveTold (t ∷ cycles) number
-  reports_in_time t cycles before run clear starts calm four k i x below got long = told_if_few laws more r jobs carry restarts opened k below (t ∷ cycles) before
+  reports_in_time t cycles before run clear starts calm four k i x below got long = told_if_few laws more r jobs carry restarts opened k
+      below (t ∷ cycles) before
       (told_since laws more r jobs carry restarts opened k below (t ∷ cycles) before run clear calm) starts i x got
-      (λ n enough. left_in_epoch t cycles before run clear starts calm four k below n i (let same = one_more_time i (request_cycles r k) in omega (arith, same, long)) enough)
+      (λ n enough. left_in_epoch t cycles before run clear starts calm four k below n i (let same = one_more_time i
+      (request_cycles r k) in omega (arith, same, long)) enough)
