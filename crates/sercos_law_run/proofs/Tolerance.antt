@@ -4,6 +4,7 @@ pub mod FirstCycles
 pub mod Losses
 pub mod NoFallSo
 pub mod Borne
+pub mod Settles
 pub mod CostsSparse
 pub mod CostsShared
 pub mod EarlySparse
@@ -19,6 +20,8 @@ pub mod Many
 pub mod Spared
 pub mod InARow
 pub mod Reported
+pub mod DownSparse
 pub mod BearsSparse
 pub mod Tolerates
+pub mod Returns
 pub mod Worked

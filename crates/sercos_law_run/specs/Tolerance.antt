@@ -8,3 +8,4 @@ pub mod Rises
 pub mod Reports
 pub mod Ends
 pub mod Many
+pub mod Returns

@@ -6,6 +6,7 @@ ghost use Rattle.sercos_law_run.specs.Tolerance.Ends.{EndsSparse};
 ghost use Rattle.sercos_law_run.specs.Tolerance.Losses.{CostsShared, CostsSparse, TakesTimeAndLosses};
 ghost use Rattle.sercos_law_run.specs.Tolerance.Many.{EndsAnyway, RisesAnyway};
 ghost use Rattle.sercos_law_run.specs.Tolerance.Reports.{ReportsSparse};
+ghost use Rattle.sercos_law_run.specs.Tolerance.Returns.{ReturnsWhileSparse};
 ghost use Rattle.sercos_law_run.specs.Tolerance.Rises.{RisesSparse};
 ghost use Rattle.sercos_law_run.specs.Tolerance.Sparse.{CalmIsSparse, OneOfThreeIsSparse};
 ghost use Rattle.sercos_law_run.specs.Tolerance.TwoLasts.{TwoSparse};
@@ -22,7 +23,8 @@ use sercos_drive::drive_law;
 use sercos_hdlc::framing_law;
 use sercos_idn::attribute_law;
 use sercos_law_channel::{
-    calls_law, cost_law, exact_law, jobs_law, parts_law, run_law, transfer_law, values_law,
+    calls_law, cost_law, exact_law, jobs_law, parts_law, passage_law, run_law, transfer_law,
+    values_law,
 };
 use sercos_master::master_law;
 use sercos_service_drive::writes_law;
@@ -47,7 +49,11 @@ use sercos_service_drive::writes_law;
 /// on, phase 4 is commanded, or a stop for its cause has been reported. In phase 4 the requests to a drive that waited when the epoch began
 /// are reported one after the other, each within the cycles that this profile gives a request: as many as without faults. Underneath, in
 /// any cycles without a fall and without a restart of the master, a step costs busy time and one, and each cycle in which its record or its
-/// answer is lost one more. Cycles in which nothing is disturbed are sparse, and those of which at most one of any three in a row is.
+/// answer is lost one more. Cycles in which nothing is disturbed are sparse, and those of which at most one of any three in a row is. And
+/// after faults that aren't sparse: at most one fall comes after the last cycle that isn't, and no request is reported as broken after that
+/// fall; and from twice the bound of a start-up and 200 cycles after it on, and what the disturbed cycles since cost a start-up, phase 4 is
+/// commanded if the ring is right; in any ring, from 41 steps of the slowest drive later on, phase 4 is commanded, or the master is at a
+/// stop for its cause. From then on no fall is reported any more, nor a request as broken.
 pub fn tolerance_law()
     ensures calm { CalmIsSparse }
     ensures spaced { OneOfThreeIsSparse }
@@ -63,6 +69,7 @@ pub fn tolerance_law()
     ensures ends { EndsSparse }
     ensures rises_anyway { RisesAnyway }
     ensures ends_anyway { EndsAnyway }
+    ensures returns { ReturnsWhileSparse }
 {
     agenda_law();
     report_law();
@@ -89,6 +96,7 @@ pub fn tolerance_law()
     cost_law();
     jobs_law();
     parts_law();
+    passage_law();
     bound_law();
     undisturbed_law();
 }

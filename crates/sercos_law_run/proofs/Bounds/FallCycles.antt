@@ -1,5 +1,5 @@
 -- In how many cycles a ring falls, if it does: what the sum over all drives but one says, and that this is within the fixed bound.
-use Rattle.std.proofs.Common.{◌≡◌, ◌⊎◌, inl, inr, ℕ, ◌+◌, ◌*◌, ◌≤◌, List, [], ◌∷◌, ◌++◌, length, refl, sym, ap, ◌∙◌, subst, arith, max, min, length-append}
+use Rattle.std.proofs.Common.{◌≡◌, inl, inr, ℕ, ◌+◌, ◌*◌, ◌≤◌, List, [], ◌∷◌, ◌++◌, length, refl, sym, ap, ◌∙◌, subst, arith, length-append}
 use Rattle.std.specs.List.{sum_by}
 use Rattle.std.proofs.lemmas.Bool.{cases_lt}
 use Rattle.std.proofs.lemmas.List.Sums.{sum_by-cons}
@@ -55,7 +55,8 @@ many_sections (d ∷ drives) =
 
 -- ALL DRIVES BUT ONE
 spared_sum : (earlier later : List DriveView) (one : DriveView) →
-    sum_by section_cycles (earlier ++ later) + least section_cycles (earlier ++ one ∷ later) ≤ sum_by section_cycles (earlier ++ one ∷ later)
+    sum_by section_cycles (earlier ++ later) + least section_cycles (earlier ++ one ∷ later) ≤ sum_by section_cycles
+    (earlier ++ one ∷ later)
 spared_sum earlier later one =
     let middle = sum_by-middle section_cycles earlier later one in
     let most = least_most section_cycles earlier later one in omega (arith, middle, most)
@@ -63,7 +64,8 @@ spared_sum earlier later one =
 pub spared_few : (r : RingView) (n : ℕ) → IsSpared r 65 n → n + 3 ≤ fall_cycles r
 spared_few r n is =
     let few = is.few in
-    let all = subst (λ (l : List DriveView). sum_by section_cycles (is.earlier ++ is.later) + least section_cycles l ≤ sum_by section_cycles l)
+    let all = subst (λ (l : List DriveView). sum_by section_cycles (is.earlier ++ is.later) + least section_cycles l
+    ≤ sum_by section_cycles l)
     (sym is.are) (spared_sum is.earlier is.later is.one) in omega (arith, few, all)
 
 -- THE NUMBER of these cycles has room for phase 1, and for the time that a step needs.

@@ -1,5 +1,5 @@
 -- So the ring returns in time after the last disturbed cycle: by the numbers of its drives, and within the fixed bound.
-use Rattle.std.proofs.Common.{◌≡◌, inl, inr, ℕ, ◌+◌, ◌*◌, ◌<◌, ◌≤◌, true, List, ◌∷◌, ◌++◌, length, Option, Some, sym, ap, ◌∙◌, subst, arith}
+use Rattle.std.proofs.Common.{◌≡◌, inl, inr, ℕ, ◌+◌, ◌*◌, ◌<◌, ◌≤◌, List, ◌∷◌, ◌++◌, length, Option, Some, sym, ap, ◌∙◌, subst, arith}
 use Rattle.std.specs.Prelude.{slice_get}
 use Rattle.std.proofs.lemmas.Bool.{false≢true}
 use Rattle.sercos_step.specs.declared.request.Job.{Job}
@@ -41,7 +41,7 @@ use Rattle.sercos_law_run.proofs.Recovery.UpInThree.{lasts_if_right, lasts_with_
 use Rattle.sercos_law_run.proofs.Undisturbed.StartUpEnds.{ReadyIfEnded}
 
 -- A ring that is right has no stop.
-right_four : (r : RingView) (t : CycleView) (j : List CycleView) → IsRight r → IsBack r t j → t.phase ≡ 4
+pub right_four : (r : RingView) (t : CycleView) (j : List CycleView) → IsRight r → IsBack r t j → t.phase ≡ 4
 right_four r t j right (inl four) = four.0
 right_four r t j right (inr (x, stands, inl plan)) = absurd (plan.none right.0.plan right.0.fits)
 right_four r t j right (inr (x, stands, inr (inl cycle))) = absurd (elim cycle.refuses.outside [
@@ -50,11 +50,15 @@ right_four r t j right (inr (x, stands, inr (inl cycle))) = absurd (elim cycle.r
 ])
 right_four r t j right (inr (x, stands, inr (inr check))) = absurd (false≢true (sym (right.1 check.place check.there) ∙ check.outside))
 
-module _ (laws : Laws) (more : MoreLaws) (turn : WorkInTurn) (early : BeginsNoneEarly) (works : WorksInTwo) (works_three : WorksInThree) (comes_up : (busy : ℕ) → ComesUp busy)
+module _ (laws : Laws) (more : MoreLaws) (turn : WorkInTurn) (early : BeginsNoneEarly) (works : WorksInTwo) (works_three : WorksInThree)
+    (comes_up : (busy : ℕ) → ComesUp busy)
     (r : RingView) (jobs : List Job) (carry : Carry) (restarts : Restarts) (opened : IsOpened r jobs)
-    (dead : (busy : ℕ) → StaysDead busy) (ages : (busy : ℕ) → AgesWhereDead busy) (counts : (busy : ℕ) → AgesBeforeEnd busy) (recovers : (busy : ℕ) → RecoversInCost busy) (since : (busy : ℕ) → RecoversSince busy) (timed : ComesTimed)
-    (sections : AreSections) (reads_cost : (busy : ℕ) → ReadsCost busy) (writes_cost : (busy : ℕ) → WritesCost busy) (list_costs : (busy : ℕ) → ListReadCosts busy) (started : IsStarted) (below_greatest : IsBelowGreatest)
-    (stops_two : StopsInTwo) (stops_three : StopsInThree) (none_four : NoStopInFour) (fit : FitsInThree) (own : OwnFitsInFour) (outcome : EndsStartUp) (rises : RisesIfRight) (ready : ReadyIfEnded) (stays_up : StaysUpUndisturbed) (at_fall : StartsAtFall) where
+    (dead : (busy : ℕ) → StaysDead busy) (ages : (busy : ℕ) → AgesWhereDead busy) (counts : (busy : ℕ) → AgesBeforeEnd busy)
+    (recovers : (busy : ℕ) → RecoversInCost busy) (since : (busy : ℕ) → RecoversSince busy) (timed : ComesTimed)
+    (sections : AreSections) (reads_cost : (busy : ℕ) → ReadsCost busy) (writes_cost : (busy : ℕ) → WritesCost busy)
+    (list_costs : (busy : ℕ) → ListReadCosts busy) (started : IsStarted) (below_greatest : IsBelowGreatest)
+    (stops_two : StopsInTwo) (stops_three : StopsInThree) (none_four : NoStopInFour) (fit : FitsInThree) (own : OwnFitsInFour)
+    (outcome : EndsStartUp) (rises : RisesIfRight) (ready : ReadyIfEnded) (stays_up : StaysUpUndisturbed) (at_fall : StartsAtFall) where
   some_drive : 1 ≤ length r.drives
   some_drive = (laws.ring r opened.valid).some
 
@@ -73,7 +77,8 @@ module _ (laws : Laws) (more : MoreLaws) (turn : WorkInTurn) (early : BeginsNone
 
   comes_refused : ComesIn r jobs carry restarts (41 * (slowest r.drives + 2))
   comes_refused first before late up t cycles run clear stretch long =
-      comes_back laws more turn early works r jobs carry restarts opened dead ages counts recovers since timed sections reads_cost writes_cost
+      comes_back laws more turn early works r jobs carry restarts opened dead ages counts recovers since timed sections reads_cost
+      writes_cost
       started below_greatest first before late up refusal
       (lasts_with_list laws more turn early works_three r jobs carry restarts opened since timed list_costs below_greatest)
       t cycles run clear stretch long
@@ -85,17 +90,22 @@ module _ (laws : Laws) (more : MoreLaws) (turn : WorkInTurn) (early : BeginsNone
 
   comes_right : IsRight r → ComesIn r jobs carry restarts 0
   comes_right right first before late up t cycles run clear stretch long =
-      comes_back laws more turn early works r jobs carry restarts opened dead ages counts recovers since timed sections reads_cost writes_cost
+      comes_back laws more turn early works r jobs carry restarts opened dead ages counts recovers since timed sections reads_cost
+      writes_cost
       started below_greatest first before late up 0
       (lasts_if_right laws more turn early works_three r jobs carry restarts opened since timed ready right)
       t cycles run clear stretch long
 
   -- phase 4 says that the ring is right
   right_in : (t : CycleView) (j : List CycleView) → IsRun r jobs carry restarts (t ∷ j) → IsClear (t ∷ j) → t.phase ≡ 4 → IsRight r
-  right_in t j run clear four =
-      (fit r jobs carry restarts t j opened run clear (omega (arith, four)), λ k below. own r jobs carry restarts t j k opened run clear below four)
+  right_in t j run clear four = (
+    fit r jobs carry restarts t j opened run clear (omega (arith, four)),
+    λ k below. own r jobs carry restarts t j k opened run clear
+        below four,
+  )
 
-  module _ (t : CycleView) (j : List CycleView) (run : IsRun r jobs carry restarts (t ∷ j)) (clear : IsClear (t ∷ j)) (cycles before : List CycleView)
+  module _ (t : CycleView) (j : List CycleView) (run : IsRun r jobs carry restarts (t ∷ j)) (clear : IsClear (t ∷ j))
+      (cycles before : List CycleView)
       (lost : CycleView) (is : j ≡ cycles ++ lost ∷ before) (calm : AreUndisturbed r carry restarts (t ∷ cycles) (lost ∷ before)) where
     run_is : IsRun r jobs carry restarts (t ∷ (cycles ++ lost ∷ before))
     run_is = subst (λ (l : List CycleView). IsRun r jobs carry restarts (t ∷ l)) is run
@@ -107,25 +117,37 @@ module _ (laws : Laws) (more : MoreLaws) (turn : WorkInTurn) (early : BeginsNone
     same_length = ap (λ (l : List CycleView). length l) is
 
     tells_now : length before + fall_cycles r ≤ length j → TellsNoFall t
-    tells_now long = tells_after laws more turn early works comes_up r jobs carry restarts opened dead ages counts recovers since timed sections reads_cost writes_cost started below_greatest stops_two stops_three none_four fit own stays_up at_fall (fall_cycles r) refusal room (spared_few r) ends_refused comes_refused
+    tells_now long = tells_after laws more turn early works comes_up r jobs carry restarts opened dead ages counts recovers since timed
+        sections reads_cost writes_cost started below_greatest stops_two stops_three none_four fit own stays_up at_fall (fall_cycles r)
+        refusal room (spared_few r) ends_refused comes_refused
         lost before (t ∷ cycles) run_is clear_is calm (subst (λ (l : List CycleView). length before + fall_cycles r ≤ length l) is long)
 
     back_now : length before + fall_cycles r + startup_bound r + 41 * (slowest r.drives + 2) ≤ length j → IsBack r t j
-    back_now long = subst (λ (l : List CycleView). IsBack r t l) (sym is) (back_after laws more turn early works comes_up r jobs carry restarts opened dead ages counts recovers since timed sections reads_cost writes_cost started below_greatest stops_two stops_three none_four fit own stays_up at_fall (fall_cycles r) refusal room (spared_few r) ends_refused comes_refused
+    back_now long = subst (λ (l : List CycleView). IsBack r t l) (sym is) (back_after laws more turn early works comes_up r jobs carry
+        restarts opened dead ages counts recovers since timed sections reads_cost writes_cost started below_greatest stops_two stops_three
+        none_four fit own stays_up at_fall (fall_cycles r) refusal room (spared_few r) ends_refused comes_refused
         lost before (t ∷ cycles) run_is clear_is calm
         (subst (λ (l : List CycleView). length before + fall_cycles r + startup_bound r + 41 * (slowest r.drives + 2) ≤ length l) is long))
 
     rises_now : length before + return_cycles r ≤ length j → IsRight r → t.phase ≡ 4
-    rises_now long right = right_four r t (cycles ++ lost ∷ before) right (back_after laws more turn early works comes_up r jobs carry restarts opened dead ages counts recovers since timed sections reads_cost writes_cost started below_greatest stops_two stops_three none_four fit own stays_up at_fall (fall_cycles r) 0 room (spared_few r) (ends_right right) (comes_right right)
+    rises_now long right = right_four r t (cycles ++ lost ∷ before) right (back_after laws more turn early works comes_up r jobs carry
+        restarts opened dead ages counts recovers since timed sections reads_cost writes_cost started below_greatest stops_two stops_three
+        none_four fit own stays_up at_fall (fall_cycles r) 0 room (spared_few r) (ends_right right) (comes_right right)
         lost before (t ∷ cycles) run_is clear_is calm (let same = same_length in omega (arith, long, same)))
 
-    module _ (works_four : WorksInFour) (always : OpensAlways) (said : SaysShape) (ends_in : (busy : ℕ) → RecoversInTime busy) (late_answers : (busy : ℕ) → NoneLate busy)
+    module _ (works_four : WorksInFour) (always : OpensAlways) (said : SaysShape) (ends_in : (busy : ℕ) → RecoversInTime busy)
+        (late_answers : (busy : ℕ) → NoneLate busy)
         (stand : (busy : ℕ) → StandsThroughout busy) (hear : (busy : ℕ) → HearsThroughout busy) (reaches : ComesToPhaseFour) where
-      reports_soon : t.phase ≡ 4 → (k i : ℕ) (x : Option ℕ) → k < length r.drives → slice_get (left_after r jobs carry restarts (lost ∷ before) k) i ≡ Some x
-          → length before + return_cycles r + (i + 1) * request_cycles r k ≤ length j → (number : ℕ) × (x ≡ Some number) × HaveTold (t ∷ cycles) number
+      reports_soon : t.phase ≡ 4 → (k i : ℕ) (x : Option ℕ) → k < length r.drives
+          → slice_get (left_after r jobs carry restarts (lost ∷ before) k) i ≡ Some x
+          → length before + return_cycles r + (i + 1) * request_cycles r k ≤ length j → (number : ℕ) × (x ≡ Some number)
+          × HaveTold (t ∷ cycles) number
       reports_soon four k i x below got long =
-          reports_now laws more turn early works comes_up r jobs carry restarts opened dead ages counts recovers since timed sections reads_cost writes_cost started below_greatest stops_two stops_three none_four fit own stays_up at_fall (fall_cycles r) 0 room (spared_few r) (ends_right right) (comes_right right)
-          works_four always said ends_in late_answers stand hear reaches lost before t j cycles run clear is calm four k i x below got (omega (arith, long))
+          reports_now laws more turn early works comes_up r jobs carry restarts opened dead ages counts recovers since timed sections
+          reads_cost writes_cost started below_greatest stops_two stops_three none_four fit own stays_up at_fall (fall_cycles r) 0 room
+          (spared_few r) (ends_right right) (comes_right right)
+          works_four always said ends_in late_answers stand hear reaches lost before t j cycles run clear is calm four k i x below got
+          (omega (arith, long))
         where
           right : IsRight r
           right = right_in t j run clear four
@@ -134,19 +156,25 @@ module _ (laws : Laws) (more : MoreLaws) (turn : WorkInTurn) (early : BeginsNone
   fixed : fall_cycles r + startup_bound r + 41 * (slowest r.drives + 2) ≤ recovery_bound r
   fixed = fixed_room r some_drive slow
 
-  pub recovers_in : AfterFall → WorksInFour → OpensAlways → SaysShape → ((busy : ℕ) → RecoversInTime busy) → ((busy : ℕ) → NoneLate busy) → ((busy : ℕ) → StandsThroughout busy) → ((busy : ℕ) → HearsThroughout busy) → ComesToPhaseFour
+  pub recovers_in : AfterFall → WorksInFour → OpensAlways → SaysShape → ((busy : ℕ) → RecoversInTime busy) → ((busy : ℕ) → NoneLate busy)
+      → ((busy : ℕ) → StandsThroughout busy) → ((busy : ℕ) → HearsThroughout busy) → ComesToPhaseFour
       → (t : CycleView) (j : List CycleView) → IsRun r jobs carry restarts (t ∷ j) → IsClear (t ∷ j) → RecoversIn r jobs carry restarts t j
   recovers_in again works_four always said ends_in late_answers stand hear reaches t j run clear = record {
-    after_fall = λ cycles before f x is calm told. again r jobs carry restarts t f cycles before x opened (subst (λ (l : List CycleView). IsRun r jobs carry restarts (t ∷ l)) is run) (subst (λ (l : List CycleView). IsClear (t ∷ l)) is clear) calm told;
+    after_fall = λ cycles before f x is calm told. again r jobs carry restarts t f cycles before x opened
+        (subst (λ (l : List CycleView). IsRun r jobs carry restarts (t ∷ l)) is run) (subst (λ (l : List CycleView). IsClear (t ∷ l)) is
+        clear) calm told;
     back = λ cycles before lost is calm long. back_now t j run clear cycles before lost is calm (longer (length before) (length j) long);
-    tells = λ cycles before lost is calm long. tells_now t j run clear cycles before lost is calm (let most = longer (length before) (length j) long in omega (arith, most));
-    reports = λ cycles before lost is calm four k i x below got long. reports_soon t j run clear cycles before lost is calm works_four always said ends_in late_answers stand hear reaches four k i x below got
+    tells = λ cycles before lost is calm long. tells_now t j run clear cycles before lost is calm
+        (let most = longer (length before) (length j) long in omega (arith, most));
+    reports = λ cycles before lost is calm four k i x below got long. reports_soon t j run clear cycles before lost is calm works_four
+        always said ends_in late_answers stand hear reaches four k i x below got
         (let least = fixed in omega (arith, least, long));
     sooner = record {
       tells = λ cycles before lost is calm long. tells_now t j run clear cycles before lost is calm long;
       rises = λ cycles before lost is calm long right. rises_now t j run clear cycles before lost is calm long right;
       back = λ cycles before lost is calm long. back_now t j run clear cycles before lost is calm (omega (arith, long));
-      reports = λ cycles before lost is calm four k i x below got long. reports_soon t j run clear cycles before lost is calm works_four always said ends_in late_answers stand hear reaches four k i x below got long;
+      reports = λ cycles before lost is calm four k i x below got long. reports_soon t j run clear cycles before lost is calm works_four
+          always said ends_in late_answers stand hear reaches four k i x below got long;
     };
   }
     where

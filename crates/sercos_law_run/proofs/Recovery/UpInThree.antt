@@ -76,8 +76,10 @@ module _ (laws : Laws) (more : MoreLaws) (turn : WorkInTurn) (early : BeginsNone
       ∙ all_checked_in (known_of r) (tasks_for (known_of r) jobs) (master_calls r carry restarts (first ∷ before)) (omega (arith, phase)) k (omega (arith, count, below))
   checked_first t (u ∷ cycles) first before run stretch three = checked_first u cycles first before run.0 (shorter laws more turn r jobs carry restarts opened t (u ∷ cycles) first before stretch) three.0
 
-  module _ (t : CycleView) (cycles : List CycleView) (first : CycleView) (before : List CycleView) (run : IsRun r jobs carry restarts (t ∷ (cycles ++ first ∷ before))) (clear : IsClear (t ∷ (cycles ++ first ∷ before)))
-      (stretch : IsStretch r jobs carry restarts (t ∷ cycles) first before) (three : AreInThree r jobs carry restarts k (t ∷ cycles) (first ∷ before)) (up : IsDown r jobs carry restarts k (first ∷ before) → ⊥) where
+  module _ (t : CycleView) (cycles : List CycleView) (first : CycleView) (before : List CycleView)
+      (run : IsRun r jobs carry restarts (t ∷ (cycles ++ first ∷ before))) (clear : IsClear (t ∷ (cycles ++ first ∷ before)))
+      (stretch : IsStretch r jobs carry restarts (t ∷ cycles) first before) (three : AreInThree r jobs carry restarts k (t ∷ cycles)
+      (first ∷ before)) (up : IsDown r jobs carry restarts k (first ∷ before) → ⊥) where
     first_run : IsRun r jobs carry restarts (first ∷ before)
     first_run = rest_runs r jobs carry restarts (t ∷ cycles) (first ∷ before) run
 
@@ -115,62 +117,84 @@ module _ (laws : Laws) (more : MoreLaws) (turn : WorkInTurn) (early : BeginsNone
 
     -- what the requests cost that were begun since, if a bound on what they cost is known from their places
     costs_few : (longest : ℕ → ℕ) (most : ℕ) → AreListed longest (views_of r jobs carry restarts k (t ∷ (cycles ++ first ∷ before)))
-        → ((recent old : List Begun) → epoch_begun (views_of r jobs carry restarts k (t ∷ (cycles ++ first ∷ before))) ≡ recent ++ old → length old ≡ reads_count (member (known_of r) k) + 12
-        → cost_in (cost_of (drive_at r k).busy (drive_at r k).command longest (store_of (drive_at r k))) recent ≤ most) → suc (length cycles) ≤ most
+        → ((recent old : List Begun) → epoch_begun (views_of r jobs carry restarts k (t ∷ (cycles ++ first ∷ before))) ≡ recent ++ old
+        → length old ≡ reads_count (member (known_of r) k) + 12
+        → cost_in (cost_of (drive_at r k).busy (drive_at r k).command longest (store_of (drive_at r k))) recent ≤ most)
+        → suc (length cycles) ≤ most
     costs_few longest most listed within = by cut
       where
-        by : (newer old : List Begun) × (epoch_begun (views_of r jobs carry restarts k (first ∷ before)) ≡ newer ++ old) × (length old ≡ reads_count (member (known_of r) k) + 12) × (open_in old ≡ None) → suc (length cycles) ≤ most
+        by : (newer old : List Begun) × (epoch_begun (views_of r jobs carry restarts k (first ∷ before)) ≡ newer ++ old)
+            × (length old ≡ reads_count (member (known_of r) k) + 12) × (open_in old ≡ None) → suc (length cycles) ≤ most
         by (newer, old, is, long, rests) =
             let split = views_split r jobs carry restarts k (t ∷ cycles) (first ∷ before) in
             let recently : Follow old (epoch_begun (views_of r jobs carry restarts k (t ∷ (cycles ++ first ∷ before)))) = subst (λ (l : List View). Follow old (epoch_begun l)) (sym split)
             (follow_since (views_since r jobs carry restarts k (t ∷ cycles) (first ∷ before)) (views_of r jobs carry restarts k (first ∷ before)) old
             (whole_all laws more turn r jobs carry restarts opened (t ∷ cycles) (first ∷ before) run clear stretch.calm stretch.stays k below) rests (newer, is)) in
-            elim (costs_since laws more turn r jobs carry restarts opened (t ∷ cycles) first before run clear stretch k below since timed longest recently.0 old listed recently.1 rests
+            elim (costs_since laws more turn r jobs carry restarts opened (t ∷ cycles) first before run clear stretch k below since timed
+            longest recently.0 old listed recently.1 rests
             (subst (λ (l : List Begun). length (answers_in old) ≤ length (answers_in l)) (sym is) (answers_more newer old))) [
               | inl is_down ↦ absurd (never_down is_down)
               | inr few ↦ let cost = within recently.0 old recently.1 long in let all = counted in omega (arith, all, few, cost)
             ]
 
-    places_of : (recent old : List Begun) → epoch_begun (views_of r jobs carry restarts k (t ∷ (cycles ++ first ∷ before))) ≡ recent ++ old → AreAt (jobs_of (known_of r) (Some plan.0) k) (recent ++ old)
+    places_of : (recent old : List Begun) → epoch_begun (views_of r jobs carry restarts k (t ∷ (cycles ++ first ∷ before))) ≡ recent ++ old
+        → AreAt (jobs_of (known_of r) (Some plan.0) k) (recent ++ old)
     places_of recent old is = subst (λ (l : List Begun). AreAt (jobs_of (known_of r) (Some plan.0) k) l) is places
 
     pub with_list : ((busy : ℕ) → ListReadCosts busy) → suc (length cycles) ≤ command_cycles (drive_at r k) + ((drive_at r k).busy + 1) * 42
     with_list list_costs = costs_few longest_list (command_cycles (drive_at r k) + ((drive_at r k).busy + 1) * 42)
-        (lists_short more.keep more.allows more.those r jobs carry restarts k rules (few_blocks r k opened.valid below) (first_store laws more r jobs carry restarts opened k below).ascending (t ∷ (cycles ++ first ∷ before)))
-        (λ recent old is long. list_fits longest_list (drive_at r k) rules (list_costs (drive_at r k).busy) (known_of r) plan.0 k recent old (places_of recent old is) long)
+        (lists_short more.keep more.allows more.those r jobs carry restarts k rules (few_blocks r k opened.valid below)
+        (first_store laws more r jobs carry restarts opened k below).ascending (t ∷ (cycles ++ first ∷ before)))
+        (λ recent old is long. list_fits longest_list (drive_at r k) rules (list_costs (drive_at r k).busy) (known_of r) plan.0 k recent old
+        (places_of recent old is) long)
 
     -- Its check hasn't ended: if it had, it would have ended well.
-    few_begun : ReadyIfEnded → list_any is_outside (drive_at r k).blocks ≡ false → length (epoch_begun (views_of r jobs carry restarts k (t ∷ (cycles ++ first ∷ before)))) ≤ reads_count (member (known_of r) k) + 13
-    few_begun ready inside = let most = begun_few (known_of r) k now.plan (now.waiting k) now.now.phase (reads_count (member (known_of r) k) + 12) (epoch_begun (views_of r jobs carry restarts k (t ∷ (cycles ++ first ∷ before)))) (now.tasks k)
+    few_begun : ReadyIfEnded → list_any is_outside (drive_at r k).blocks ≡ false
+        → length (epoch_begun (views_of r jobs carry restarts k (t ∷ (cycles ++ first ∷ before))))
+        ≤ reads_count (member (known_of r) k) + 13
+    few_begun ready inside = let most = begun_few (known_of r) k now.plan (now.waiting k) now.now.phase
+        (reads_count (member (known_of r) k) + 12) (epoch_begun (views_of r jobs carry restarts k (t ∷ (cycles ++ first ∷ before))))
+        (now.tasks k)
         (tasks_now laws more r jobs carry restarts opened t (cycles ++ first ∷ before) run clear stretch.stays.1 k below)
-        (subst (λ (l : List Begun). length (outcomes_in l) ≤ reads_count (member (known_of r) k) + 12) (begun_now laws more r jobs carry restarts opened t (cycles ++ first ∷ before) run clear stretch.stays.1 k below) few) in omega (arith, most)
+        (subst (λ (l : List Begun). length (outcomes_in l) ≤ reads_count (member (known_of r) k) + 12)
+        (begun_now laws more r jobs carry restarts opened t (cycles ++ first ∷ before) run clear stretch.stays.1 k below) few) in omega
+        (arith, most)
       where
         now : Past
         now = behind_mdt r jobs carry restarts t.sent (cycles ++ first ∷ before)
 
-        few : length (outcomes (behind_mdt r jobs carry restarts t.sent (cycles ++ first ∷ before)) k) ≤ reads_count (member (known_of r) k) + 12
-        few = elim (cases_lt (reads_count (member (known_of r) k) + 12) (length (outcomes (behind_mdt r jobs carry restarts t.sent (cycles ++ first ∷ before)) k))) [
-          | inl ended ↦ absurd (false≢true (sym three.1.unready ∙ ready r jobs carry restarts opened t (cycles ++ first ∷ before) run clear k below inside ended))
-          | inr less ↦ omega (arith, less)
-        ]
+        few : length (outcomes (behind_mdt r jobs carry restarts t.sent (cycles ++ first ∷ before)) k)
+            ≤ reads_count (member (known_of r) k) + 12
+        few = elim (cases_lt (reads_count (member (known_of r) k) + 12)
+            (length (outcomes (behind_mdt r jobs carry restarts t.sent (cycles ++ first ∷ before)) k))) [
+              | inl ended ↦ absurd (false≢true (sym three.1.unready ∙ ready r jobs carry restarts opened t (cycles ++ first ∷ before) run clear
+                  k below inside ended))
+              | inr less ↦ omega (arith, less)
+            ]
 
-    pub without_list : ReadyIfEnded → list_any is_outside (drive_at r k).blocks ≡ false → suc (length cycles) ≤ command_cycles (drive_at r k)
-    without_list ready inside = costs_few (λ raw. 512) (command_cycles (drive_at r k)) (listed_all (views_of r jobs carry restarts k (t ∷ (cycles ++ first ∷ before))))
+    pub without_list : ReadyIfEnded → list_any is_outside (drive_at r k).blocks ≡ false → suc (length cycles)
+        ≤ command_cycles (drive_at r k)
+    without_list ready inside = costs_few (λ raw. 512) (command_cycles (drive_at r k)) (listed_all
+        (views_of r jobs carry restarts k (t ∷ (cycles ++ first ∷ before))))
         (λ recent old is long. check_fits (λ raw. 512) (drive_at r k) rules (known_of r) plan.0 k recent old (places_of recent old is) long
         (subst (λ (l : List Begun). length l ≤ reads_count (member (known_of r) k) + 13) is (few_begun ready inside)))
 
 -- Phase 3 lasts no longer than the check of a drive takes that isn't in phase 0, and a number of cycles more.
 abbrev pub LastsInThree : RingView → List Job → Carry → Restarts → ℕ → Type 0
-LastsInThree r jobs carry restarts tail = (k : ℕ) → k < length r.drives → (cycles : List CycleView) (first : CycleView) (before : List CycleView) → IsRun r jobs carry restarts (cycles ++ first ∷ before) → IsClear (cycles ++ first ∷ before)
-    → IsStretch r jobs carry restarts cycles first before → AreInThree r jobs carry restarts k cycles (first ∷ before) → (IsDown r jobs carry restarts k (first ∷ before) → ⊥) → length cycles ≤ command_cycles (drive_at r k) + tail
+LastsInThree r jobs carry restarts tail = (k : ℕ) → k < length r.drives → (cycles : List CycleView) (first : CycleView)
+    (before : List CycleView) → IsRun r jobs carry restarts (cycles ++ first ∷ before) → IsClear (cycles ++ first ∷ before)
+    → IsStretch r jobs carry restarts cycles first before → AreInThree r jobs carry restarts k cycles (first ∷ before)
+    → (IsDown r jobs carry restarts k (first ∷ before) → ⊥) → length cycles ≤ command_cycles (drive_at r k) + tail
 
 module _ (laws : Laws) (more : MoreLaws) (turn : WorkInTurn) (early : BeginsNoneEarly) (works : WorksInThree) (r : RingView) (jobs : List Job) (carry : Carry) (restarts : Restarts) (opened : IsOpened r jobs)
     (since : (busy : ℕ) → RecoversSince busy) (timed : ComesTimed) where
   -- these are 41 steps of the slowest drive, in which a check's list is read,
-  pub lasts_with_list : ((busy : ℕ) → ListReadCosts busy) → IsBelowGreatest → LastsInThree r jobs carry restarts (41 * (slowest r.drives + 2))
+  pub lasts_with_list : ((busy : ℕ) → ListReadCosts busy) → IsBelowGreatest → LastsInThree r jobs carry restarts
+      (41 * (slowest r.drives + 2))
   lasts_with_list list_costs below_greatest k below [] first before run clear stretch three up = omega arith
   lasts_with_list list_costs below_greatest k below (t ∷ cycles) first before run clear stretch three up =
-      let lasts = with_list laws more turn early works r jobs carry restarts opened since timed k below t cycles first before run clear stretch three up list_costs in
+      let lasts = with_list laws more turn early works r jobs carry restarts opened since timed k below t cycles first before run clear
+      stretch three up list_costs in
       let busy = busy_low r k opened.valid below in
       let slow = busy_slowest below_greatest r k below in omega (arith, lasts, busy, slow)
 
@@ -178,4 +202,5 @@ module _ (laws : Laws) (more : MoreLaws) (turn : WorkInTurn) (early : BeginsNone
   pub lasts_if_right : ReadyIfEnded → IsRight r → LastsInThree r jobs carry restarts 0
   lasts_if_right ready right k below [] first before run clear stretch three up = omega arith
   lasts_if_right ready right k below (t ∷ cycles) first before run clear stretch three up =
-      let lasts = without_list laws more turn early works r jobs carry restarts opened since timed k below t cycles first before run clear stretch three up ready (right.1 k below) in omega (arith, lasts)
+      let lasts = without_list laws more turn early works r jobs carry restarts opened since timed k below t cycles first before run clear
+      stretch three up ready (right.1 k below) in omega (arith, lasts)

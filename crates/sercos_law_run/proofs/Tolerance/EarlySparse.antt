@@ -19,7 +19,7 @@ use Rattle.sercos_law_run.proofs.Views.ViewRuns.{started}
 use Rattle.sercos_law_run.specs.Held.Opened.{IsOpened}
 use Rattle.sercos_law_run.proofs.Held.Runs.{Laws}
 use Rattle.sercos_law_run.proofs.Headline.HeadlineRuns.{MoreLaws}
-use Rattle.sercos_law_run.specs.Undisturbed.EpochStarts.{StartsEpoch, came_back}
+use Rattle.sercos_law_run.specs.Undisturbed.EpochStarts.{came_back}
 use Rattle.sercos_law_run.specs.Undisturbed.Undisturbed.{IsUndisturbed}
 use Rattle.sercos_law_run.proofs.Undisturbed.ChannelsKept.{ats_leave}
 use Rattle.sercos_law_run.proofs.Undisturbed.Identified.{heard_next}
@@ -30,7 +30,7 @@ use Rattle.sercos_law_run.proofs.Undisturbed.PhaseZero.{few_back}
 use Rattle.sercos_law_run.proofs.Undisturbed.StaysUp.{addressed_first, found_passes, phase_now, stands_so, turns_now}
 use Rattle.sercos_law_run.specs.Tolerance.Early.{early_cost, early_costs}
 use Rattle.sercos_law_run.specs.Tolerance.Sparse.{AreSparse}
-use Rattle.sercos_law_run.proofs.Tolerance.Borne.{IsBorne, all_borne, calm_or_not}
+use Rattle.sercos_law_run.proofs.Tolerance.Borne.{IsBase, IsBorne, borne_on, calm_or_not}
 
 -- COUNTS of places that pass a test
 abbrev pub one_if : Bool → ℕ
@@ -92,6 +92,10 @@ ten_unless whole = if whole then 0 else 10
 abbrev pub two_if : Bool → ℕ
 two_if disturbed = if disturbed then 2 else 0
 
+one_at_most : (b : Bool) → one_if b ≤ 1
+one_at_most true = omega arith
+one_at_most false = omega arith
+
 pub zero_cost : (n : ℕ) (whole disturbed : Bool) → n ≡ 0 → cost_by n whole disturbed ≡ ten_unless whole
 zero_cost n whole disturbed is = ap (λ (m : ℕ). cost_by m whole disturbed) is
 
@@ -124,6 +128,9 @@ module _ (laws : Laws) (more : MoreLaws) (turn : WorkInTurn) (comes_up : (busy :
 
   abbrev Borne : CycleView → List CycleView → Type 0
   Borne t j = IsBorne laws more turn comes_up to_zero goes counts r jobs carry restarts opened t j
+
+  abbrev Base : List CycleView → Type 0
+  Base before = IsBase laws more turn comes_up to_zero goes counts r jobs carry restarts opened before
 
   abbrev pub known : List Turn → ℕ
   known turns = count (length (known_of r).drives) (λ k. has_identified k turns)
@@ -172,7 +179,7 @@ module _ (laws : Laws) (more : MoreLaws) (turn : WorkInTurn) (comes_up : (busy :
 
   -- PHASE 0
   pub zero_lasts : (cycles before : List CycleView) → IsRun r jobs carry restarts (cycles ++ before) → IsClear (cycles ++ before)
-      → StartsEpoch r jobs carry restarts before → AreSparse r carry restarts cycles before
+      → Base before → AreSparse r carry restarts cycles before
       → (back (cycles ++ before)).now.phase ≡ 0 → length cycles ≤ came_back r jobs carry restarts (cycles ++ before) + early_costs r jobs
       carry restarts cycles before
   zero_lasts [] before run clear starts sparse at_zero = omega arith
@@ -180,7 +187,7 @@ module _ (laws : Laws) (more : MoreLaws) (turn : WorkInTurn) (comes_up : (busy :
       by (zero_lasts cycles before run.0 clear.0 starts sparse.0 (sym (phase_is t (cycles ++ before) run is) ∙ t_zero))
     where
       is : Borne t (cycles ++ before)
-      is = all_borne laws more turn comes_up to_zero goes counts r jobs carry restarts opened t cycles before run clear starts sparse
+      is = borne_on laws more turn comes_up to_zero goes counts r jobs carry restarts opened t cycles before run clear starts sparse
 
       t_zero : t.phase ≡ 0
       t_zero = zero_phase (is_done (known_of r) (now t (cycles ++ before))) t.phase (sym (phase_next t (cycles ++ before) run is) ∙ at_zero)
@@ -259,21 +266,20 @@ module _ (laws : Laws) (more : MoreLaws) (turn : WorkInTurn) (comes_up : (busy :
 
   -- PHASE 1: at its start, and after each cycle of it
   pub risen : (t : CycleView) (cycles before : List CycleView) → IsRun r jobs carry restarts (t ∷ (cycles ++ before))
-      → IsClear (t ∷ (cycles ++ before)) → StartsEpoch r jobs carry restarts before → AreSparse r carry restarts (t ∷ cycles) before
+      → IsClear (t ∷ (cycles ++ before)) → Base before → AreSparse r carry restarts (t ∷ cycles) before
       → t.phase ≡ 0 → suc (length cycles) ≤ 10 + early_costs r jobs carry restarts (t ∷ cycles) before
   risen t cycles before run clear starts sparse t_zero =
-      let is = all_borne laws more turn comes_up to_zero goes counts r jobs carry restarts opened t cycles before run clear starts sparse in
+      let is = borne_on laws more turn comes_up to_zero goes counts r jobs carry restarts opened t cycles before run clear starts sparse in
       let at_zero = sym (phase_is t (cycles ++ before) run is) ∙ t_zero in
       let few = few_back r jobs carry restarts (cycles ++ before) at_zero in
       let le = zero_lasts cycles before run.0 clear.0 starts sparse.0 at_zero in omega (arith, few, le)
 
   one_lasts : (t : CycleView) (cycles before : List CycleView) → IsRun r jobs carry restarts (t ∷ (cycles ++ before))
-      → IsClear (t ∷ (cycles ++ before)) → StartsEpoch r jobs carry restarts before → AreSparse r carry restarts (t ∷ cycles) before
+      → IsClear (t ∷ (cycles ++ before)) → Base before → AreSparse r carry restarts (t ∷ cycles) before
       → t.phase ≡ 1 → suc (length cycles) + spare t (cycles ++ before) ≤ 11 + known (back (t ∷ (cycles ++ before))).turns + early_costs r
       jobs carry restarts (t ∷ cycles) before
   one_lasts t [] before run clear starts sparse one =
-      let is = all_borne laws more turn comes_up to_zero goes counts r jobs carry restarts opened t [] before run clear starts sparse in
-      let none : t.phase ≡ 0 = phase_is t before run is ∙ starts in absurd (omega (arith, none, one))
+      let few = one_at_most (is_disturbed_in r carry restarts (length before) t.sent) in omega (arith, few)
   one_lasts t (u ∷ cycles) before run clear starts sparse one =
       elim (one_phase (is_done (known_of r) (now u (cycles ++ before))) u.phase
       (sym (phase_next u (cycles ++ before) run.0 was) ∙ sym (phase_is t (u ∷ (cycles ++ before)) run is) ∙ one)) [
@@ -282,10 +288,10 @@ module _ (laws : Laws) (more : MoreLaws) (turn : WorkInTurn) (comes_up : (busy :
       ]
     where
       was : Borne u (cycles ++ before)
-      was = all_borne laws more turn comes_up to_zero goes counts r jobs carry restarts opened u cycles before run.0 clear.0 starts sparse.0
+      was = borne_on laws more turn comes_up to_zero goes counts r jobs carry restarts opened u cycles before run.0 clear.0 starts sparse.0
 
       is : Borne t (u ∷ (cycles ++ before))
-      is = all_borne laws more turn comes_up to_zero goes counts r jobs carry restarts opened t (u ∷ cycles) before run clear starts sparse
+      is = borne_on laws more turn comes_up to_zero goes counts r jobs carry restarts opened t (u ∷ cycles) before run clear starts sparse
 
       cost : early_cost r jobs carry restarts t (u ∷ (cycles ++ before)) ≡ two_if
           (is_disturbed_in r carry restarts (length (u ∷ (cycles ++ before))) t.sent)
@@ -352,7 +358,7 @@ module _ (laws : Laws) (more : MoreLaws) (turn : WorkInTurn) (comes_up : (busy :
 
   -- BOTH PHASES
   pub early_sparse : (t : CycleView) (cycles before : List CycleView) → IsRun r jobs carry restarts (t ∷ (cycles ++ before))
-      → IsClear (t ∷ (cycles ++ before)) → StartsEpoch r jobs carry restarts before → AreSparse r carry restarts (t ∷ cycles) before
+      → IsClear (t ∷ (cycles ++ before)) → Base before → AreSparse r carry restarts (t ∷ cycles) before
       → t.phase ≤ 1 → length cycles ≤ 10 + length r.drives + early_costs r jobs carry restarts cycles before
   early_sparse t [] before run clear starts sparse low = omega arith
   early_sparse t (u ∷ cycles) before run clear starts sparse low = elim (cases_eq t.phase 0) [
@@ -371,7 +377,7 @@ module _ (laws : Laws) (more : MoreLaws) (turn : WorkInTurn) (comes_up : (busy :
   ]
     where
       was : Borne u (cycles ++ before)
-      was = all_borne laws more turn comes_up to_zero goes counts r jobs carry restarts opened u cycles before run.0 clear.0 starts sparse.0
+      was = borne_on laws more turn comes_up to_zero goes counts r jobs carry restarts opened u cycles before run.0 clear.0 starts sparse.0
 
       is : Borne t (u ∷ (cycles ++ before))
-      is = all_borne laws more turn comes_up to_zero goes counts r jobs carry restarts opened t (u ∷ cycles) before run clear starts sparse
+      is = borne_on laws more turn comes_up to_zero goes counts r jobs carry restarts opened t (u ∷ cycles) before run clear starts sparse

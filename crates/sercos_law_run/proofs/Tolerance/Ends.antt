@@ -1,5 +1,5 @@
 -- How a start-up ends while disturbed cycles are sparse.
-use Rattle.std.proofs.Common.{◌≡◌, inl, inr, ℕ, suc, ◌+◌, ◌*◌, ◌<◌, ◌≤◌, false, List, [], ◌∷◌, ◌++◌, length, Option, None, Some, refl, sym, ap, ◌∙◌, subst, arith}
+use Rattle.std.proofs.Common.{◌≡◌, ◌⊎◌, inl, inr, ℕ, suc, ◌+◌, ◌*◌, ◌<◌, ◌≤◌, false, List, [], ◌∷◌, ◌++◌, length, Option, None, Some, refl, sym, ap, ◌∙◌, subst, arith}
 use Rattle.std.specs.List.{sum_by}
 use Rattle.std.proofs.lemmas.Bool.{cases_eq, cases_lt}
 use Rattle.sercos_step.specs.declared.request.Job.{Job}
@@ -34,7 +34,7 @@ use Rattle.sercos_law_run.specs.Undisturbed.EpochStarts.{StartsEpoch}
 use Rattle.sercos_law_run.specs.Undisturbed.Fit.{FitsInThree, OwnFitsInFour}
 use Rattle.sercos_law_run.specs.Undisturbed.Jobs.{AreAt, jobs_of}
 use Rattle.sercos_law_run.specs.Undisturbed.StopsInTwo.{StopsInTwo}
-use Rattle.sercos_law_run.specs.Undisturbed.StopsLater.{NoStopInFour, StopsInThree}
+use Rattle.sercos_law_run.specs.Undisturbed.StopsLater.{IsRight, NoStopInFour, StopsInThree}
 use Rattle.sercos_law_run.specs.Undisturbed.WholeRuns.{HasTold, StopsForCause}
 use Rattle.sercos_law_run.proofs.Undisturbed.InTime.{steps_fit, within_bound}
 use Rattle.sercos_law_run.proofs.Undisturbed.JobsBegun.{places_now}
@@ -53,7 +53,7 @@ use Rattle.sercos_law_run.specs.Tolerance.Ends.{IsUpOrStopped}
 use Rattle.sercos_law_run.specs.Tolerance.Losses.{disturbances}
 use Rattle.sercos_law_run.specs.Tolerance.Rises.{start_costs}
 use Rattle.sercos_law_run.specs.Tolerance.Sparse.{AreSparse}
-use Rattle.sercos_law_run.proofs.Tolerance.Borne.{IsBorne, all_borne}
+use Rattle.sercos_law_run.proofs.Tolerance.Borne.{IsBase, IsBorne, borne_on}
 use Rattle.sercos_law_run.proofs.Tolerance.CostsSparse.{opens_so}
 use Rattle.sercos_law_run.proofs.Tolerance.EarlySparse.{early_sparse, phase_is}
 use Rattle.sercos_law_run.proofs.Tolerance.NotYet.{AtRise, InEarly, InThree, InTwo, IsEpoch, IsUnready, NotYet, epoch_before, not_yet, same_costs}
@@ -93,13 +93,16 @@ module _ (laws : Laws) (more : MoreLaws) (turn : WorkInTurn) (two : WorksInTwo) 
   abbrev Borne : CycleView → List CycleView → Type 0
   Borne t j = IsBorne laws more turn comes_up to_zero goes counts r jobs carry restarts opened t j
 
+  abbrev Base : List CycleView → Type 0
+  Base before = IsBase laws more turn comes_up to_zero goes counts r jobs carry restarts opened before
+
   abbrev Epoch : List CycleView → List CycleView → Type 0
   Epoch cycles before = IsEpoch laws more turn comes_up to_zero goes counts r jobs carry restarts opened cycles before
 
   borne : (t : CycleView) (cycles before : List CycleView) → IsRun r jobs carry restarts (t ∷ (cycles ++ before))
-      → IsClear (t ∷ (cycles ++ before)) → StartsEpoch r jobs carry restarts before → AreSparse r carry restarts (t ∷ cycles) before
+      → IsClear (t ∷ (cycles ++ before)) → Base before → AreSparse r carry restarts (t ∷ cycles) before
       → Borne t (cycles ++ before)
-  borne t cycles before run clear starts sparse = all_borne laws more turn comes_up to_zero goes counts r jobs carry restarts opened t
+  borne t cycles before run clear starts sparse = borne_on laws more turn comes_up to_zero goes counts r jobs carry restarts opened t
       cycles before run clear starts sparse
 
   -- A STOP of an epoch was told in it.
@@ -108,7 +111,7 @@ module _ (laws : Laws) (more : MoreLaws) (turn : WorkInTurn) (two : WorksInTwo) 
   told_since [] before x starts e is = absurd (none_some x (sym (in_zero r jobs carry restarts before starts).stop ∙ is))
   told_since (t ∷ cycles) before x starts e is = stop_at r jobs carry restarts t (cycles ++ before) x (HasTold x cycles) e.run.1
       (λ had. told_since cycles before x starts (record { run = e.run.0; clear = e.clear.0; sparse = e.sparse.0 }) had)
-      (sym (stop_after r jobs carry restarts t (cycles ++ before) (borne t cycles before e.run e.clear starts e.sparse).stays) ∙ is)
+      (sym (stop_after r jobs carry restarts t (cycles ++ before) (borne t cycles before e.run e.clear (inl starts) e.sparse).stays) ∙ is)
 
   -- WHAT THE REQUESTS of phases 2 and 3 to a drive cost, its list included
   pub all_fit : (t : CycleView) (j : List CycleView) → IsRun r jobs carry restarts (t ∷ j) → IsClear (t ∷ j) → Borne t j → t.phase ≡ 3
@@ -161,7 +164,7 @@ module _ (laws : Laws) (more : MoreLaws) (turn : WorkInTurn) (two : WorksInTwo) 
               (store_of (drive_at r k))) c.recent c.old in omega (arith, old, recent, both)
 
   -- HOW LONG PHASE 3 LASTS, as long as a drive isn't ready, and there is no stop
-  three_any : (t : CycleView) (cycles before : List CycleView) → Epoch (t ∷ cycles) before → StartsEpoch r jobs carry restarts before
+  three_any : (t : CycleView) (cycles before : List CycleView) → Epoch (t ∷ cycles) before → Base before
       → t.phase ≡ 3 → (looks_back r jobs (master_calls r carry restarts (t ∷ (cycles ++ before)))).now.phase ≡ 3
       → (looks_back r jobs (master_calls r carry restarts (t ∷ (cycles ++ before)))).stop ≡ None → (k : ℕ) → k < length r.drives
       → is_ready (member (known_of r) k) (outcomes_in (epoch_begun (views_of r jobs carry restarts k (t ∷ (cycles ++ before))))) ≡ false
@@ -180,11 +183,12 @@ module _ (laws : Laws) (more : MoreLaws) (turn : WorkInTurn) (two : WorksInTwo) 
       omega (arith, counted, opens, cost, split, sums)
 
   -- HOW IT ENDS, if neither phase 0 nor 1 is commanded any more, and 2 and 3 only at a stop
-  pub end_by : (t : CycleView) (cycles before : List CycleView) → IsRun r jobs carry restarts (t ∷ (cycles ++ before))
-      → IsClear (t ∷ (cycles ++ before)) → StartsEpoch r jobs carry restarts before → AreSparse r carry restarts (t ∷ cycles) before
+  end_so_by : (t : CycleView) (cycles before : List CycleView) → IsRun r jobs carry restarts (t ∷ (cycles ++ before))
+      → IsClear (t ∷ (cycles ++ before)) → Base before → AreSparse r carry restarts (t ∷ cycles) before
       → (t.phase ≤ 1 → ⊥) → (t.phase ≤ 3 → (behind_mdt r jobs carry restarts t.sent (cycles ++ before)).stop ≡ None → ⊥)
-      → IsUpOrStopped r t cycles
-  end_by t cycles before run clear starts sparse never_early never_late = by
+      → ((t.phase ≡ 4) × IsRight r)
+      ⊎ ((x : Stop) × ((behind_mdt r jobs carry restarts t.sent (cycles ++ before)).stop ≡ Some x) × StopsForCause r x)
+  end_so_by t cycles before run clear starts sparse never_early never_late = by
       (behind_mdt r jobs carry restarts t.sent (cycles ++ before)).stop refl
     where
       high : t.phase ≤ 4
@@ -193,7 +197,8 @@ module _ (laws : Laws) (more : MoreLaws) (turn : WorkInTurn) (two : WorksInTwo) 
           let same = phase_is laws more turn comes_up to_zero goes counts r jobs carry restarts opened t (cycles ++ before) run
           (borne t cycles before run clear starts sparse) in omega (arith, low, same)
 
-      up : t.phase ≡ 4 → IsUpOrStopped r t cycles
+      up : t.phase ≡ 4 → ((t.phase ≡ 4) × IsRight r)
+          ⊎ ((x : Stop) × ((behind_mdt r jobs carry restarts t.sent (cycles ++ before)).stop ≡ Some x) × StopsForCause r x)
       up four = inl (
         four,
         (
@@ -203,10 +208,6 @@ module _ (laws : Laws) (more : MoreLaws) (turn : WorkInTurn) (two : WorksInTwo) 
       )
 
       -- a stop, by the phase
-      told : (x : Stop) → (behind_mdt r jobs carry restarts t.sent (cycles ++ before)).stop ≡ Some x → HasTold x (t ∷ cycles)
-      told x is = told_since (t ∷ cycles) before x starts (record { run = run; clear = clear; sparse = sparse })
-          (stop_after r jobs carry restarts t (cycles ++ before) (borne t cycles before run clear starts sparse).stays ∙ is)
-
       cause : (x : Stop) → (behind_mdt r jobs carry restarts t.sent (cycles ++ before)).stop ≡ Some x → StopsForCause r x
       cause x is = caused r jobs carry restarts t (cycles ++ before) x (elim (cases_lt t.phase 2) [
         | inl early ↦ absurd (never_early (omega (arith, early)))
@@ -223,21 +224,45 @@ module _ (laws : Laws) (more : MoreLaws) (turn : WorkInTurn) (two : WorksInTwo) 
         ]
       ])
 
-      by : (o : Option Stop) → (behind_mdt r jobs carry restarts t.sent (cycles ++ before)).stop ≡ o → IsUpOrStopped r t cycles
-      by (Some x) is = inr (x, told x is, cause x is)
+      by : (o : Option Stop) → (behind_mdt r jobs carry restarts t.sent (cycles ++ before)).stop ≡ o
+          → ((t.phase ≡ 4) × IsRight r)
+          ⊎ ((x : Stop) × ((behind_mdt r jobs carry restarts t.sent (cycles ++ before)).stop ≡ Some x) × StopsForCause r x)
+      by (Some x) is = inr (x, is, cause x is)
       by None none = elim (cases_lt t.phase 4) [
         | inr four ↦ up (let most = high in omega (arith, four, most))
         | inl low ↦ absurd (never_late (omega (arith, low)) none)
       ]
 
-  -- THE END
-  pub ends_sparse : (t : CycleView) (cycles before : List CycleView) → IsRun r jobs carry restarts (t ∷ (cycles ++ before))
+  -- What it ends with was told in the epoch.
+  since_told : (t : CycleView) (cycles before : List CycleView) → IsRun r jobs carry restarts (t ∷ (cycles ++ before))
       → IsClear (t ∷ (cycles ++ before)) → StartsEpoch r jobs carry restarts before → AreSparse r carry restarts (t ∷ cycles) before
-      → startup_bound r + 41 * (slowest r.drives + 2) + start_costs r jobs carry restarts cycles before ≤ length cycles
+      → (((t.phase ≡ 4) × IsRight r)
+      ⊎ ((x : Stop) × ((behind_mdt r jobs carry restarts t.sent (cycles ++ before)).stop ≡ Some x) × StopsForCause r x))
       → IsUpOrStopped r t cycles
-  ends_sparse t cycles before run clear starts sparse long = end_by t cycles before run clear starts sparse never_early
+  since_told t cycles before run clear starts sparse (inl four) = inl four
+  since_told t cycles before run clear starts sparse (inr stop) = inr (
+    stop.0,
+    told_since (t ∷ cycles) before stop.0 starts (record { run = run; clear = clear; sparse = sparse })
+        (stop_after r jobs carry restarts t (cycles ++ before) (borne t cycles before run clear (inl starts) sparse).stays ∙ stop.1),
+    stop.2,
+  )
+
+  pub end_by : (t : CycleView) (cycles before : List CycleView) → IsRun r jobs carry restarts (t ∷ (cycles ++ before))
+      → IsClear (t ∷ (cycles ++ before)) → StartsEpoch r jobs carry restarts before → AreSparse r carry restarts (t ∷ cycles) before
+      → (t.phase ≤ 1 → ⊥) → (t.phase ≤ 3 → (behind_mdt r jobs carry restarts t.sent (cycles ++ before)).stop ≡ None → ⊥)
+      → IsUpOrStopped r t cycles
+  end_by t cycles before run clear starts sparse never_early never_late = since_told t cycles before run clear starts sparse
+      (end_so_by t cycles before run clear (inl starts) sparse never_early never_late)
+
+  -- THE END
+  pub ends_so : (t : CycleView) (cycles before : List CycleView) → IsRun r jobs carry restarts (t ∷ (cycles ++ before))
+      → IsClear (t ∷ (cycles ++ before)) → Base before → AreSparse r carry restarts (t ∷ cycles) before
+      → startup_bound r + 41 * (slowest r.drives + 2) + start_costs r jobs carry restarts cycles before ≤ length cycles
+      → ((t.phase ≡ 4) × IsRight r)
+      ⊎ ((x : Stop) × ((behind_mdt r jobs carry restarts t.sent (cycles ++ before)).stop ≡ Some x) × StopsForCause r x)
+  ends_so t cycles before run clear starts sparse long = end_so_by t cycles before run clear starts sparse never_early
       (λ low none. never_so_late low none (not_yet laws more turn comes_up to_zero goes counts r jobs carry restarts opened t cycles before
-      run clear starts sparse low (λ is_three. none)))
+      run clear starts sparse (let bound = within_bound started r in omega (arith, bound, long)) low (λ is_three. none)))
     where
       with_costs : t.phase ≤ 3 → startup_bound r + 41 * (slowest r.drives + 2) +
           (early_costs r jobs carry restarts cycles before + disturbances r carry restarts cycles before) ≤ length cycles
@@ -298,3 +323,11 @@ module _ (laws : Laws) (more : MoreLaws) (turn : WorkInTurn) (two : WorksInTwo) 
           none_then last
           (subst (λ (l : List CycleView). startup_bound r + 41 * (slowest r.drives + 2) + (early_costs r jobs carry restarts l before +
           disturbances r carry restarts l before) ≤ length l) is (with_costs low))
+
+  -- THE END
+  pub ends_sparse : (t : CycleView) (cycles before : List CycleView) → IsRun r jobs carry restarts (t ∷ (cycles ++ before))
+      → IsClear (t ∷ (cycles ++ before)) → StartsEpoch r jobs carry restarts before → AreSparse r carry restarts (t ∷ cycles) before
+      → startup_bound r + 41 * (slowest r.drives + 2) + start_costs r jobs carry restarts cycles before ≤ length cycles
+      → IsUpOrStopped r t cycles
+  ends_sparse t cycles before run clear starts sparse long = since_told t cycles before run clear starts sparse
+      (ends_so t cycles before run clear (inl starts) sparse long)

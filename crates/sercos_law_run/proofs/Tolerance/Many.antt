@@ -261,7 +261,7 @@ module _ (laws : Laws) (more : MoreLaws) (turn : WorkInTurn) (two : WorksInTwo) 
     | inl low ↦ absurd (never_so_late 0 0 (λ k below. omega arith) t cycles before starts epoch few (omega (arith, long))
         (λ is_two. stop_two is_two) (not_yet laws more turn comes_up to_zero goes counts r jobs carry restarts opened t cycles before run
         clear
-        starts sparse (omega (arith, low)) (λ is_three. stop_three is_three)))
+        (inl starts) sparse (omega (arith, long)) (omega (arith, low)) (λ is_three. stop_three is_three)))
   ]
     where
       epoch : Epoch (t ∷ cycles) before
@@ -293,7 +293,7 @@ module _ (laws : Laws) (more : MoreLaws) (turn : WorkInTurn) (two : WorksInTwo) 
       clear starts sparse
       (λ early. early_long 42 (41 * (slowest r.drives + 2)) room t cycles before starts epoch few long early)
       (λ low none. never_so_late 42 (41 * (slowest r.drives + 2)) room t cycles before starts epoch few long (λ is_two. none)
-      (not_yet laws more turn comes_up to_zero goes counts r jobs carry restarts opened t cycles before run clear starts sparse low
+      (not_yet laws more turn comes_up to_zero goes counts r jobs carry restarts opened t cycles before run clear (inl starts) sparse (omega (arith, long)) low
       (λ is_three. none)))
     where
       epoch : Epoch (t ∷ cycles) before

@@ -111,7 +111,7 @@ module _ (laws : Laws) (more : MoreLaws) (turn : WorkInTurn) (comes_up : (busy :
       by_first : u.phase ≡ 0 → IsInOne t (u ∷ (cycles ++ before)) (suc (suc (length cycles)))
           (own_costs r jobs carry restarts (t ∷ u ∷ cycles) before) (found (t ∷ u ∷ (cycles ++ before)))
       by_first u_zero =
-          let le = risen laws more turn comes_up to_zero goes counts r jobs carry restarts opened u cycles before run.0 clear.0 starts
+          let le = risen laws more turn comes_up to_zero goes counts r jobs carry restarts opened u cycles before run.0 clear.0 (inl starts)
           sparse.0
           u_zero in
           let same = zero_costs u cycles before run.0 clear.0 starts sparse.0 u_zero in
@@ -165,7 +165,7 @@ module _ (laws : Laws) (more : MoreLaws) (turn : WorkInTurn) (comes_up : (busy :
       → t.phase ≤ 1 → suc (length cycles) ≤ 13 + 3 * length r.drives + own_costs r jobs carry restarts (t ∷ cycles) before
   early_many t cycles before run clear starts sparse low = elim (cases_eq t.phase 0) [
     | inl at_zero ↦ (
-        let le = risen laws more turn comes_up to_zero goes counts r jobs carry restarts opened t cycles before run clear starts sparse
+        let le = risen laws more turn comes_up to_zero goes counts r jobs carry restarts opened t cycles before run clear (inl starts) sparse
         at_zero
         in
         let same = zero_costs t cycles before run clear starts sparse at_zero in omega (arith, le, same))

@@ -357,7 +357,7 @@ module _ (laws : Laws) (more : MoreLaws) (turn : WorkInTurn) (two : WorksInTwo) 
       (small laws r jobs carry restarts opened (first_store laws more r jobs carry restarts opened) k below) stands.sees.run
       stands.sound (costs_in (t ∷ j) run clear k below) (listed_all (views_of r jobs carry restarts k (t ∷ j))) in
       let fits = each_fits laws more turn two comes_up to_zero goes counts r jobs carry restarts opened reads_cost writes_cost t j run
-      clear is
+      clear is.stays
       low k below in
       few_steps (drive_at r k).busy (length (epoch_log (views_of r jobs carry restarts k (t ∷ j)))) (74 + 4 * listed (drive_at r k))
       (drive_at r k).command (omega (arith, cost, fits))

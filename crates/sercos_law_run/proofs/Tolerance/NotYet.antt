@@ -21,13 +21,12 @@ use Rattle.sercos_law_run.proofs.Views.Members.{members_count}
 use Rattle.sercos_law_run.specs.Held.Opened.{IsOpened}
 use Rattle.sercos_law_run.proofs.Held.Runs.{Laws, s_known}
 use Rattle.sercos_law_run.proofs.Headline.HeadlineRuns.{MoreLaws, first_store}
-use Rattle.sercos_law_run.specs.Undisturbed.EpochStarts.{StartsEpoch}
 use Rattle.sercos_law_run.proofs.Undisturbed.JobsBegun.{begun_now}
 use Rattle.sercos_law_run.proofs.Undisturbed.PhaseThree.{comes_three, is_false}
 use Rattle.sercos_law_run.proofs.Undisturbed.StopStays.{none_before, stop_after}
 use Rattle.sercos_law_run.proofs.Recovery.LateDown.{phase_now, no_lower}
 use Rattle.sercos_law_run.specs.Tolerance.Sparse.{AreSparse}
-use Rattle.sercos_law_run.proofs.Tolerance.Borne.{IsBorne, all_borne, zero_is}
+use Rattle.sercos_law_run.proofs.Tolerance.Borne.{IsBase, IsBorne, borne_on}
 use Rattle.sercos_law_run.proofs.Tolerance.EarlySparse.{phase_is, phase_next, start_is}
 use Rattle.std.specs.Prelude.{◌==◌, nat_le}
 use Rattle.std.proofs.lemmas.Bool.Decides.{nat_tests}
@@ -36,10 +35,10 @@ use Rattle.sercos_law_run.specs.Tolerance.Losses.{cycles_for, disturbances}
 use Rattle.sercos_law_run.specs.Tolerance.Rises.{start_costs}
 
 -- What a disturbed cycle costs a channel is what it costs a start-up, up to phase 3.
-abbrev start_for : ℕ → ℕ
+abbrev pub start_for : ℕ → ℕ
 start_for phase = if phase == 2 then 2 else (if phase == 3 then 1 else 0)
 
-same_for : (n : ℕ) → n ≤ 3 → cycles_for n ≡ start_for n
+pub same_for : (n : ℕ) → n ≤ 3 → cycles_for n ≡ start_for n
 same_for n low = elim (cases_lt n 2) [
   | inl early ↦ (
       let is : nat_le n 1 ≡ true = grind (arith, nat_tests, early) in
@@ -65,10 +64,13 @@ module _ (laws : Laws) (more : MoreLaws) (turn : WorkInTurn) (comes_up : (busy :
   abbrev Borne : CycleView → List CycleView → Type 0
   Borne t j = IsBorne laws more turn comes_up to_zero goes counts r jobs carry restarts opened t j
 
+  abbrev Base : List CycleView → Type 0
+  Base before = IsBase laws more turn comes_up to_zero goes counts r jobs carry restarts opened before
+
   borne : (t : CycleView) (cycles before : List CycleView) → IsRun r jobs carry restarts (t ∷ (cycles ++ before))
-      → IsClear (t ∷ (cycles ++ before)) → StartsEpoch r jobs carry restarts before → AreSparse r carry restarts (t ∷ cycles) before
+      → IsClear (t ∷ (cycles ++ before)) → Base before → AreSparse r carry restarts (t ∷ cycles) before
       → Borne t (cycles ++ before)
-  borne t cycles before run clear starts sparse = all_borne laws more turn comes_up to_zero goes counts r jobs carry restarts opened t
+  borne t cycles before run clear starts sparse = borne_on laws more turn comes_up to_zero goes counts r jobs carry restarts opened t
       cycles before run clear starts sparse
 
   some_drive : 0 < length r.drives
@@ -77,7 +79,7 @@ module _ (laws : Laws) (more : MoreLaws) (turn : WorkInTurn) (comes_up : (busy :
 
   -- what the cycles cost, as long as phase 4 hasn't been commanded
   pub same_costs : (t : CycleView) (cycles before : List CycleView) → IsRun r jobs carry restarts (t ∷ (cycles ++ before))
-      → IsClear (t ∷ (cycles ++ before)) → StartsEpoch r jobs carry restarts before → AreSparse r carry restarts (t ∷ cycles) before
+      → IsClear (t ∷ (cycles ++ before)) → Base before → AreSparse r carry restarts (t ∷ cycles) before
       → t.phase ≤ 3
       → start_costs r jobs carry restarts cycles before ≡ early_costs r jobs carry restarts cycles before + disturbances r carry restarts
       cycles before
@@ -138,12 +140,10 @@ module _ (laws : Laws) (more : MoreLaws) (turn : WorkInTurn) (comes_up : (busy :
         → NotYet t cycles before
 
   in_three : (t : CycleView) (cycles before : List CycleView) → IsRun r jobs carry restarts (t ∷ (cycles ++ before))
-      → IsClear (t ∷ (cycles ++ before)) → StartsEpoch r jobs carry restarts before → AreSparse r carry restarts (t ∷ cycles) before
-      → t.phase ≡ 3 → (behind_mdt r jobs carry restarts t.sent (cycles ++ before)).stop ≡ None → NotYet t cycles before
-  in_three t [] before run clear starts sparse three none =
-      let zero = zero_is laws more turn comes_up to_zero goes counts r jobs carry restarts opened t before run clear starts
-      (sparse.1.goes_on 0 (omega arith)) in absurd (omega (arith, zero, three))
-  in_three t (u ∷ rest) before run clear starts sparse three none = elim (comes_three (is_done (known_of r) (now u
+      → IsClear (t ∷ (cycles ++ before)) → Base before → AreSparse r carry restarts (t ∷ cycles) before
+      → 1 ≤ length cycles → t.phase ≡ 3 → (behind_mdt r jobs carry restarts t.sent (cycles ++ before)).stop ≡ None → NotYet t cycles before
+  in_three t [] before run clear starts sparse some three none = absurd (omega (arith, some))
+  in_three t (u ∷ rest) before run clear starts sparse some three none = elim (comes_three (is_done (known_of r) (now u
       (rest ++ before))) u.phase
       (sym (phase_next laws more turn comes_up to_zero goes counts r jobs carry restarts opened u (rest ++ before) run.0 was)
       ∙ back_three)) [
@@ -153,10 +153,10 @@ module _ (laws : Laws) (more : MoreLaws) (turn : WorkInTurn) (comes_up : (busy :
       ]
     where
       was : Borne u (rest ++ before)
-      was = all_borne laws more turn comes_up to_zero goes counts r jobs carry restarts opened u rest before run.0 clear.0 starts sparse.0
+      was = borne_on laws more turn comes_up to_zero goes counts r jobs carry restarts opened u rest before run.0 clear.0 starts sparse.0
 
       is : Borne t (u ∷ (rest ++ before))
-      is = all_borne laws more turn comes_up to_zero goes counts r jobs carry restarts opened t (u ∷ rest) before run clear starts sparse
+      is = borne_on laws more turn comes_up to_zero goes counts r jobs carry restarts opened t (u ∷ rest) before run clear starts sparse
 
       back_three : (looks_back r jobs (master_calls r carry restarts (u ∷ (rest ++ before)))).now.phase ≡ 3
       back_three = sym (phase_is laws more turn comes_up to_zero goes counts r jobs carry restarts opened t (u ∷ (rest ++ before)) run is)
@@ -167,14 +167,15 @@ module _ (laws : Laws) (more : MoreLaws) (turn : WorkInTurn) (comes_up : (busy :
           (start_is laws more turn comes_up to_zero goes counts r jobs carry restarts opened t (u ∷ (rest ++ before)) run is) none
 
   pub not_yet : (t : CycleView) (cycles before : List CycleView) → IsRun r jobs carry restarts (t ∷ (cycles ++ before))
-      → IsClear (t ∷ (cycles ++ before)) → StartsEpoch r jobs carry restarts before → AreSparse r carry restarts (t ∷ cycles) before
-      → t.phase ≤ 3 → (t.phase ≡ 3 → (behind_mdt r jobs carry restarts t.sent (cycles ++ before)).stop ≡ None) → NotYet t cycles before
-  not_yet t cycles before run clear starts sparse low none = elim (cases_lt t.phase 2) [
+      → IsClear (t ∷ (cycles ++ before)) → Base before → AreSparse r carry restarts (t ∷ cycles) before
+      → 1 ≤ length cycles → t.phase ≤ 3 → (t.phase ≡ 3 → (behind_mdt r jobs carry restarts t.sent (cycles ++ before)).stop ≡ None)
+      → NotYet t cycles before
+  not_yet t cycles before run clear starts sparse some low none = elim (cases_lt t.phase 2) [
     | inl early ↦ InEarly (omega (arith, early))
     | inr later ↦ elim (cases_eq t.phase 2) [
       | inl two ↦ InTwo two
       | inr other ↦ (let three : t.phase ≡ 3 = omega (arith, low, later, other) in
-          in_three t cycles before run clear starts sparse three (none three))
+          in_three t cycles before run clear starts sparse some three (none three))
     ]
   ]
 

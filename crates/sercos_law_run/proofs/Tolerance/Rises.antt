@@ -26,7 +26,6 @@ use Rattle.sercos_law_run.specs.Held.Opened.{IsOpened}
 use Rattle.sercos_law_run.proofs.Held.Runs.{Laws, drive_got}
 use Rattle.sercos_law_run.proofs.Headline.HeadlineRuns.{MoreLaws}
 use Rattle.sercos_law_run.proofs.Typed.Mdts.{phase_low}
-use Rattle.sercos_law_run.specs.Undisturbed.EpochStarts.{StartsEpoch}
 use Rattle.sercos_law_run.specs.Undisturbed.StopsInTwo.{StopsInTwo}
 use Rattle.sercos_law_run.specs.Undisturbed.StopsLater.{IsRight, StopsInThree}
 use Rattle.sercos_law_run.proofs.Undisturbed.InTime.{within_bound}
@@ -36,7 +35,7 @@ use Rattle.sercos_law_run.specs.Tolerance.Early.{early_costs}
 use Rattle.sercos_law_run.specs.Tolerance.Losses.{disturbances}
 use Rattle.sercos_law_run.specs.Tolerance.Rises.{start_costs}
 use Rattle.sercos_law_run.specs.Tolerance.Sparse.{AreSparse}
-use Rattle.sercos_law_run.proofs.Tolerance.Borne.{IsBorne, all_borne}
+use Rattle.sercos_law_run.proofs.Tolerance.Borne.{IsBase, IsBorne, borne_on}
 use Rattle.sercos_law_run.proofs.Tolerance.EarlySparse.{early_sparse, phase_is}
 use Rattle.sercos_law_run.proofs.Tolerance.NotYet.{AtRise, InEarly, InThree, InTwo, IsEpoch, IsUnready, NotYet, epoch_before, not_yet, same_costs}
 use Rattle.sercos_law_run.proofs.Tolerance.ThreeLasts.{three_sparse}
@@ -58,13 +57,16 @@ module _ (laws : Laws) (more : MoreLaws) (turn : WorkInTurn) (two : WorksInTwo) 
   abbrev Borne : CycleView → List CycleView → Type 0
   Borne t j = IsBorne laws more turn comes_up to_zero goes counts r jobs carry restarts opened t j
 
+  abbrev Base : List CycleView → Type 0
+  Base before = IsBase laws more turn comes_up to_zero goes counts r jobs carry restarts opened before
+
   abbrev Epoch : List CycleView → List CycleView → Type 0
   Epoch cycles before = IsEpoch laws more turn comes_up to_zero goes counts r jobs carry restarts opened cycles before
 
   borne : (t : CycleView) (cycles before : List CycleView) → IsRun r jobs carry restarts (t ∷ (cycles ++ before))
-      → IsClear (t ∷ (cycles ++ before)) → StartsEpoch r jobs carry restarts before → AreSparse r carry restarts (t ∷ cycles) before
+      → IsClear (t ∷ (cycles ++ before)) → Base before → AreSparse r carry restarts (t ∷ cycles) before
       → Borne t (cycles ++ before)
-  borne t cycles before run clear starts sparse = all_borne laws more turn comes_up to_zero goes counts r jobs carry restarts opened t
+  borne t cycles before run clear starts sparse = borne_on laws more turn comes_up to_zero goes counts r jobs carry restarts opened t
       cycles before run clear starts sparse
 
   -- A RING THAT IS RIGHT has no stop.
@@ -105,14 +107,15 @@ module _ (laws : Laws) (more : MoreLaws) (turn : WorkInTurn) (two : WorksInTwo) 
       begun = begun_now laws more r jobs carry restarts opened u j run clear is.stays k there
 
   pub rises_sparse : (t : CycleView) (cycles before : List CycleView) → IsRun r jobs carry restarts (t ∷ (cycles ++ before))
-      → IsClear (t ∷ (cycles ++ before)) → StartsEpoch r jobs carry restarts before → AreSparse r carry restarts (t ∷ cycles) before
+      → IsClear (t ∷ (cycles ++ before)) → Base before → AreSparse r carry restarts (t ∷ cycles) before
       → IsRight r → startup_bound r + start_costs r jobs carry restarts cycles before ≤ length cycles → t.phase ≡ 4
   rises_sparse t cycles before run clear starts sparse right long = elim (cases_lt t.phase 4) [
     | inr high ↦ (let low = phase_low (known_of r) (tasks_for (known_of r) jobs) (master_calls r carry restarts (cycles ++ before)) in
         let same = phase_is laws more turn comes_up to_zero goes counts r jobs carry restarts opened t (cycles ++ before) run
         (borne t cycles before run clear starts sparse) in omega (arith, high, low, same))
     | inl low ↦ absurd (late (omega (arith, low)) (not_yet laws more turn comes_up to_zero goes counts r jobs carry restarts opened t cycles
-        before run clear starts sparse (omega (arith, low)) (λ is_three. none_in_three t
+        before run clear starts sparse (let bound = within_bound started r in omega (arith, bound, long)) (omega (arith, low))
+        (λ is_three. none_in_three t
         (cycles ++ before) run clear is_three right _ refl)))
   ]
     where

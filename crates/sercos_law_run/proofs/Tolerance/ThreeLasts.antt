@@ -32,7 +32,6 @@ use Rattle.sercos_law_run.proofs.Held.Extended.{heard_more}
 use Rattle.sercos_law_run.specs.Held.Opened.{IsOpened}
 use Rattle.sercos_law_run.proofs.Held.Runs.{Laws, drive_got, holding}
 use Rattle.sercos_law_run.proofs.Headline.HeadlineRuns.{MoreLaws, all_stand, first_store, spelled_in, stored_in}
-use Rattle.sercos_law_run.specs.Undisturbed.EpochStarts.{StartsEpoch}
 use Rattle.sercos_law_run.specs.Undisturbed.Jobs.{jobs_of, AreAt}
 use Rattle.sercos_law_run.specs.Undisturbed.Sections.{GoesOnInThree}
 use Rattle.sercos_law_run.specs.Undisturbed.ViewsSince.{views_since}
@@ -48,9 +47,9 @@ use Rattle.sercos_law_run.proofs.Recovery.LateDown.{phase_now}
 use Rattle.sercos_law_run.specs.Tolerance.Early.{early_costs}
 use Rattle.sercos_law_run.specs.Tolerance.Losses.{cycles_for, disturbances, is_lost, lost_since}
 use Rattle.sercos_law_run.specs.Tolerance.Sparse.{AreSparse}
-use Rattle.sercos_law_run.proofs.Tolerance.Borne.{IsBorne, all_borne, calm_or_not}
+use Rattle.sercos_law_run.proofs.Tolerance.Borne.{IsBase, IsBorne, borne_on, calm_or_not}
 use Rattle.sercos_law_run.proofs.Tolerance.CostsShared.{all_few, sum_both, sum_most}
-use Rattle.sercos_law_run.proofs.Tolerance.CostsSparse.{calm_next, disturbed_more, opens_so, spare_for}
+use Rattle.sercos_law_run.proofs.Tolerance.CostsSparse.{calm_next, disturbed_more, lost_few, opens_so, spare_for}
 use Rattle.sercos_law_run.proofs.Tolerance.EarlySparse.{phase_is, phase_next, start_is}
 use Rattle.sercos_law_run.proofs.Tolerance.FirstCycles.{begun_outcomes}
 use Rattle.sercos_law_run.proofs.Tolerance.TwoLasts.{each_fits, low_before, two_counts}
@@ -121,6 +120,9 @@ module _ (laws : Laws) (more : MoreLaws) (turn : WorkInTurn) (two : WorksInTwo) 
   abbrev Borne : CycleView → List CycleView → Type 0
   Borne t j = IsBorne laws more turn comes_up to_zero goes counts r jobs carry restarts opened t j
 
+  abbrev Base : List CycleView → Type 0
+  Base before = IsBase laws more turn comes_up to_zero goes counts r jobs carry restarts opened before
+
   abbrev spare : CycleView → List CycleView → ℕ
   spare t j = if is_disturbed_in r carry restarts (length j) t.sent then spare_for t.phase else 0
 
@@ -143,14 +145,14 @@ module _ (laws : Laws) (more : MoreLaws) (turn : WorkInTurn) (two : WorksInTwo) 
   is_unready k j = is_ready (member (known_of r) k) (outcomes_in (epoch_begun (views_of r jobs carry restarts k j))) ≡ false
 
   borne : (t : CycleView) (cycles before : List CycleView) → IsRun r jobs carry restarts (t ∷ (cycles ++ before))
-      → IsClear (t ∷ (cycles ++ before)) → StartsEpoch r jobs carry restarts before → AreSparse r carry restarts (t ∷ cycles) before
+      → IsClear (t ∷ (cycles ++ before)) → Base before → AreSparse r carry restarts (t ∷ cycles) before
       → Borne t (cycles ++ before)
-  borne t cycles before run clear starts sparse = all_borne laws more turn comes_up to_zero goes counts r jobs carry restarts opened t
+  borne t cycles before run clear starts sparse = borne_on laws more turn comes_up to_zero goes counts r jobs carry restarts opened t
       cycles before run clear starts sparse
 
   -- WHAT A CYCLE MORE LOSES of one channel
   lost_more : (t u : CycleView) (cycles before : List CycleView) → IsRun r jobs carry restarts (t ∷ u ∷ (cycles ++ before))
-      → IsClear (t ∷ u ∷ (cycles ++ before)) → StartsEpoch r jobs carry restarts before → AreSparse r carry restarts (t ∷ u ∷ cycles) before
+      → IsClear (t ∷ u ∷ (cycles ++ before)) → Base before → AreSparse r carry restarts (t ∷ u ∷ cycles) before
       → (k : ℕ) → k < length r.drives → lost_of (t ∷ u ∷ cycles) before k + spare t (u ∷ (cycles ++ before)) ≤ lost_of (u ∷ cycles) before
       k + spare u (cycles ++ before) + costs t (u ∷ (cycles ++ before))
   lost_more t u cycles before run clear starts sparse k below = subst
@@ -169,7 +171,7 @@ module _ (laws : Laws) (more : MoreLaws) (turn : WorkInTurn) (two : WorksInTwo) 
 
   -- UP TO THE RISE, by the cycles of one drive and the sections of the others
   at_rise : (t : CycleView) (cycles before : List CycleView) → IsRun r jobs carry restarts (t ∷ (cycles ++ before))
-      → IsClear (t ∷ (cycles ++ before)) → StartsEpoch r jobs carry restarts before → AreSparse r carry restarts (t ∷ cycles) before
+      → IsClear (t ∷ (cycles ++ before)) → Base before → AreSparse r carry restarts (t ∷ cycles) before
       → (back (t ∷ (cycles ++ before))).now.phase ≡ 2 → (back (t ∷ (cycles ++ before))).stop ≡ None → t.phase ≤ 2 → (k : ℕ)
       → k < length r.drives
       → suc (length cycles) + lost_of (t ∷ cycles) before k + spare t (cycles ++ before)
@@ -193,7 +195,7 @@ module _ (laws : Laws) (more : MoreLaws) (turn : WorkInTurn) (two : WorksInTwo) 
           let cost = opens_so laws more turn comes_up to_zero goes counts r jobs carry restarts opened in_cost timed (t ∷ cycles) before run
           clear starts sparse j (λ raw. 512) j_low (listed_all (views_of r jobs carry restarts j (t ∷ (cycles ++ before)))) in
           let fits = each_fits laws more turn two comes_up to_zero goes counts r jobs carry restarts opened reads_cost writes_cost t
-          (cycles ++ before) run clear (borne t cycles before run clear starts sparse) low j j_low in omega (arith, cost, fits)
+          (cycles ++ before) run clear (borne t cycles before run clear starts sparse).stays low j j_low in omega (arith, cost, fits)
 
   -- a drive that isn't ready at the end of a cycle wasn't before
   pub unready_start : (t : CycleView) (j : List CycleView) → Borne t j → (k : ℕ) → is_unready k (t ∷ j)
@@ -258,22 +260,15 @@ module _ (laws : Laws) (more : MoreLaws) (turn : WorkInTurn) (two : WorksInTwo) 
       (opens_in_three t (cycles ++ before) run clear is is_three none k below unready))
 
   pub three_counts : (t : CycleView) (cycles before : List CycleView) → IsRun r jobs carry restarts (t ∷ (cycles ++ before))
-      → IsClear (t ∷ (cycles ++ before)) → StartsEpoch r jobs carry restarts before → AreSparse r carry restarts (t ∷ cycles) before
+      → IsClear (t ∷ (cycles ++ before)) → Base before → AreSparse r carry restarts (t ∷ cycles) before
       → (back (t ∷ (cycles ++ before))).now.phase ≡ 3 → (back (t ∷ (cycles ++ before))).stop ≡ None → (k : ℕ) → k < length r.drives
       → is_unready k (t ∷ (cycles ++ before))
       → suc (length cycles) + lost_of (t ∷ cycles) before k + spare t (cycles ++ before)
       ≤ 12 + length r.drives + early_costs r jobs carry restarts (t ∷ cycles) before + others k + opens_of (t ∷ cycles) before k +
       disturbances r carry restarts (t ∷ cycles) before
   three_counts t [] before run clear starts sparse is_three none k below unready =
-      let is = borne t [] before run clear starts sparse in
-      let t_zero : t.phase ≡ 0 = phase_is laws more turn comes_up to_zero goes counts r jobs carry restarts opened t before run is
-      ∙ starts in
-      let next = phase_next laws more turn comes_up to_zero goes counts r jobs carry restarts opened t before run is in
-      absurd (by (is_done (known_of r) (now t before)) (sym next ∙ is_three) t_zero)
-    where
-      by : (done : Bool) → (if done then t.phase + 1 else t.phase) ≡ 3 → t.phase ≡ 0 → ⊥
-      by true three_is t_zero = omega (arith, three_is, t_zero)
-      by false three_is t_zero = omega (arith, three_is, t_zero)
+      let lost = lost_few laws more turn comes_up to_zero goes counts r jobs carry restarts opened k below t [] before run clear starts
+      sparse in omega (arith, lost)
   three_counts t (u ∷ cycles) before run clear starts sparse is_three none k below unready =
       elim (comes_three (is_done (known_of r) (now t (u ∷ (cycles ++ before)))) t.phase
       (sym (phase_next laws more turn comes_up to_zero goes counts r jobs carry restarts opened t (u ∷ (cycles ++ before)) run is)
@@ -352,7 +347,7 @@ module _ (laws : Laws) (more : MoreLaws) (turn : WorkInTurn) (two : WorksInTwo) 
 
   -- HOW LONG PHASE 3 LASTS, as long as the check of a drive for phase 4 hasn't ended
   pub three_sparse : (t : CycleView) (cycles before : List CycleView) → IsRun r jobs carry restarts (t ∷ (cycles ++ before))
-      → IsClear (t ∷ (cycles ++ before)) → StartsEpoch r jobs carry restarts before → AreSparse r carry restarts (t ∷ cycles) before
+      → IsClear (t ∷ (cycles ++ before)) → Base before → AreSparse r carry restarts (t ∷ cycles) before
       → t.phase ≡ 3 → (back (t ∷ (cycles ++ before))).now.phase ≡ 3 → (back (t ∷ (cycles ++ before))).stop ≡ None → (k : ℕ)
       → k < length r.drives → is_unready k (t ∷ (cycles ++ before))
       → length (outcomes_in (epoch_begun (views_of r jobs carry restarts k (t ∷ (cycles ++ before))))) ≤ reads_count

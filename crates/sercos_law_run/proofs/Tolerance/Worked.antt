@@ -1,5 +1,5 @@
 -- Worked runs whose disturbed cycles are sparse, and some whose are not, computed from the definitions.
-use Rattle.std.proofs.Common.{◌≡◌, inl, inr, ℕ, true, List, [], ◌∷◌, length, Option, Some, None, refl, sym, ◌∙◌, if◌then◌else◌, arith}
+use Rattle.std.proofs.Common.{◌≡◌, inl, inr, ℕ, true, List, [], ◌∷◌, ◌++◌, length, ◌+◌, ◌≤◌, Option, Some, None, refl, sym, ◌∙◌, if◌then◌else◌, arith, ◌*◌}
 use Rattle.std.proofs.lemmas.Bool.{false≢true}
 use Rattle.sercos_telegram.specs.declared.layout.Kind.{Kind}
 use Rattle.sercos_telegram.specs.declared.layout.Kind.TheVariants as kinds
@@ -10,13 +10,17 @@ use Rattle.sercos_block.specs.Startup.{startup_bound}
 use Rattle.sercos_trace.specs.Views.{CycleView}
 use Rattle.sercos_trace.specs.declared.events.Fall.{Fall}
 use Rattle.sercos_trace.specs.declared.events.Fall.TheVariants as fall
-use Rattle.sercos_law_run.specs.Journal.Runs.{is_disturbed_in, run_of}
+use Rattle.sercos_law_run.specs.Bounds.Bounds.{recovery_bound, slowest}
+use Rattle.sercos_law_run.specs.Journal.Runs.{is_disturbed_in, run_of, IsDisturbed}
 use Rattle.sercos_law_run.proofs.Journal.Worked.{fault, read, ring}
 use Rattle.sercos_law_run.specs.Undisturbed.Reports.{left_after}
+use Rattle.sercos_law_run.specs.Undisturbed.StopsLater.{IsRight}
 use Rattle.sercos_law_run.specs.Tolerance.Ends.{IsUpOrStopped}
 use Rattle.sercos_law_run.specs.Tolerance.Many.{own_costs, slow_bound}
 use Rattle.sercos_law_run.specs.Tolerance.Reports.{cycles_in}
-use Rattle.sercos_law_run.specs.Tolerance.Sparse.{IsSparse}
+use Rattle.sercos_law_run.specs.Tolerance.Returns.{HasFallen, ReturnsSparse}
+use Rattle.sercos_law_run.specs.Tolerance.Rises.{start_costs}
+use Rattle.sercos_law_run.specs.Tolerance.Sparse.{AreSparse, IsSparse}
 use Rattle.sercos_law_run.specs.Journal.Arrivals as Arrivals
 use Rattle.sercos_model.specs.Bits as Bits
 use Rattle.sercos_model.specs.CheckSequence as CheckSequence
@@ -39,6 +43,8 @@ use Rattle.sercos_plan.specs.ChainOf as ChainOf
 use Rattle.sercos_plan.specs.LeastTimes as LeastTimes
 use Rattle.sercos_drive.specs.Heard as Heard
 use Rattle.sercos_drive.specs.Says as Says
+use Rattle.sercos_trace.specs.declared.events.Stop.{Stop}
+use Rattle.sercos_law_run.specs.Recovery.Recovers.{StandsAt}
 
 -- What a run shows, the newest first: which cycles are disturbed, and which falls are reported.
 abbrev disturbed : List Fault → List CycleView → List ℕ
@@ -151,3 +157,53 @@ slow_is = refl
 own_is : own_costs ring [] (carried 1 own_lost) (restarts_at own_lost) (run own_lost 20) [] ≡ 10
 unfolding carried restarts_at acts Bits.bits_of Bits.low_bits Bits.is_odd Bits.number_of Bits.bytes_of CheckSequence.fcs_of CheckSequence.divided CheckSequence.added CheckSequence.sum_of Arrivals.content_in Arrivals.is_unseen Reason.begins_with_six Reason.is_five Reason.ends_in_five Reason.six_place Reason.unstuffed Reason.given Reason.unclosed Reason.unreadable Reason.reason_of Stuffed.stuffed Stuffed.frame_of Faults.mst_fault Faults.head_fault Spells.word_bytes Spells.word_at Spells.fields Words.control_of Words.status_of Codes.attribute_fault Attributes.attribute_of Blocks.element_of BuiltIns.built_in Rings.attribute_in Valid.is_cycle Stores.inserted Stores.with_own Stores.store_of Checks.number_at Checks.idns_at Checks.carried_len Checks.breaks_1 Checks.breaks_2 Checks.breaks_6 Checks.breaks_7 Checks.breaks_8 Checks.breaks_9 Checks.breaks_10 Checks.breaks_15 Checks.breaks_list Checks.breaks_89 Checks.unfit_for_phase_3 Checks.unfit_for_phase_4 Settings.with_write Settings.with_lists Replies.data_in Replies.element_words Replies.bytes_written Replies.write_cause ChainOf.chain_of LeastTimes.least_plan LeastTimes.least_t2 LeastTimes.least_t3 Heard.mst_in Heard.single_in Heard.joint_in Says.value_in
 own_is = refl
+
+-- RETURNS. After such a fall, in 106, the drive misses the MST in each third cycle from 120 to 138, in phases 1 and 2: there is no second
+-- fall, and phase 4 comes again.
+abbrev again : List Fault
+again = misses 105 kinds.At 1 0 ∷ misses 106 kinds.At 1 0 ∷
+    record { cycle = 120; last = 138; every = 3; kind = kinds.Mst; from = 0; damage = Deaf 1 } ∷ []
+
+abbrev newest_phase : List CycleView → ℕ
+newest_phase [] = 0
+newest_phase (t ∷ j) = t.phase
+
+abbrev shows_newest : List Fault → ℕ → List (ℕ × Fall) × ℕ
+shows_newest faults n = (falls (run faults n), newest_phase (run faults n))
+
+returns_again : shows_newest again 225 ≡ ((106, fall.AtLost 1) ∷ [], 4)
+unfolding carried restarts_at acts Bits.bits_of Bits.low_bits Bits.is_odd Bits.number_of Bits.bytes_of CheckSequence.fcs_of CheckSequence.divided CheckSequence.added CheckSequence.sum_of Arrivals.content_in Arrivals.is_unseen Reason.begins_with_six Reason.is_five Reason.ends_in_five Reason.six_place Reason.unstuffed Reason.given Reason.unclosed Reason.unreadable Reason.reason_of Stuffed.stuffed Stuffed.frame_of Faults.mst_fault Faults.head_fault Spells.word_bytes Spells.word_at Spells.fields Words.control_of Words.status_of Codes.attribute_fault Attributes.attribute_of Blocks.element_of BuiltIns.built_in Rings.attribute_in Valid.is_cycle Stores.inserted Stores.with_own Stores.store_of Checks.number_at Checks.idns_at Checks.carried_len Checks.breaks_1 Checks.breaks_2 Checks.breaks_6 Checks.breaks_7 Checks.breaks_8 Checks.breaks_9 Checks.breaks_10 Checks.breaks_15 Checks.breaks_list Checks.breaks_89 Checks.unfit_for_phase_3 Checks.unfit_for_phase_4 Settings.with_write Settings.with_lists Replies.data_in Replies.element_words Replies.bytes_written Replies.write_cause ChainOf.chain_of LeastTimes.least_plan LeastTimes.least_t2 LeastTimes.least_t3 Heard.mst_in Heard.single_in Heard.joint_in Says.value_in
+returns_again = refl
+
+-- A second fall after the last cycle that isn't sparse is rejected, and so is phase 3 from the bound on.
+abbrev fallen : CycleView → CycleView
+fallen t = record t { events = record t.events { fall = Some fall.MstLost } }
+
+second_fall_is_rejected : (t lost : CycleView) (cycles before : List CycleView) → ReturnsSparse ring [] (carried 1 again)
+    (restarts_at again)
+    (fallen t) (cycles ++ lost ∷ before) → AreSparse ring (carried 1 again) (restarts_at again) (fallen t ∷ cycles) (lost ∷ before)
+    → HasFallen cycles → ⊥
+second_fall_is_rejected t lost cycles before is sparse fell =
+    let none : Some fall.MstLost ≡ None = (is.once cycles before lost refl sparse fell).fall in cc
+
+third_phase_is_rejected : (t lost : CycleView) (cycles before : List CycleView) → ReturnsSparse ring [] (carried 1 again)
+    (restarts_at again)
+    (record t { phase = 3 }) (cycles ++ lost ∷ before)
+    → AreSparse ring (carried 1 again) (restarts_at again) (record t { phase = 3 } ∷ cycles) (lost ∷ before)
+    → IsDisturbed ring (carried 1 again) (restarts_at again) lost before → IsRight ring
+    → length before + recovery_bound ring + start_costs ring [] (carried 1 again) (restarts_at again) cycles (lost ∷ before)
+    ≤ length (cycles ++ lost ∷ before) → ⊥
+third_phase_is_rejected t lost cycles before is sparse disturbed right long =
+    let same : 3 ≡ 4 = is.rises cycles before lost refl sparse disturbed right long in omega (arith, same)
+
+stopless_is_rejected : (t lost : CycleView) (cycles before : List CycleView) → ReturnsSparse ring [] (carried 1 again) (restarts_at again)
+    (record t { phase = 3 }) (cycles ++ lost ∷ before)
+    → AreSparse ring (carried 1 again) (restarts_at again) (record t { phase = 3 } ∷ cycles) (lost ∷ before)
+    → IsDisturbed ring (carried 1 again) (restarts_at again) lost before
+    → length before + recovery_bound ring + 41 * (slowest ring.drives + 2)
+    + start_costs ring [] (carried 1 again) (restarts_at again) cycles (lost ∷ before) ≤ length (cycles ++ lost ∷ before)
+    → ((x : Stop) → StandsAt x (record t { phase = 3 } ∷ (cycles ++ lost ∷ before)) → ⊥) → ⊥
+stopless_is_rejected t lost cycles before is sparse disturbed long never = elim (is.back cycles before lost refl sparse disturbed long) [
+  | inl four ↦ (let same : 3 ≡ 4 = four.0 in omega (arith, same))
+  | inr stop ↦ never stop.0 stop.1
+]

@@ -27,8 +27,9 @@ IsBack r t j = ((t.phase ≡ 4) × IsRight r) ⊎ ((x : Stop) × StandsAt x (t �
 
 -- SOONER, by the numbers of the ring's drives. If none is disturbed after the cycle `lost`, then no fall is reported, nor a request as
 -- broken, once the ring has had its time to fall. From a start-up later on, phase 4 is commanded if the ring is right; and from 41 steps
--- more of the slowest drive on, the ring is back anyway. And if phase 4 is commanded, the request to a drive at place i of those that weren't
--- reported after `lost`, counted from 0, has been reported since: at the latest i + 1 times the cycles of one request after that start-up.
+-- more of the slowest drive on, the ring is back anyway. And if phase 4 is commanded, the request to a drive at place i of those that
+-- weren't reported after `lost`, counted from 0, has been reported since: at the latest i + 1 times the cycles of one request after that
+-- start-up.
 pub record ReturnsIn (r : RingView) (jobs : List Job) (carry : Carry) (restarts : Restarts) (t : CycleView) (j : List CycleView) :
     Type 0 where
   pub tells : (cycles before : List CycleView) (lost : CycleView) → j ≡ cycles ++ lost ∷ before →

@@ -1,5 +1,5 @@
 -- How a start-up ends while disturbed cycles are sparse. The newest cycle of a journal comes first.
-use Rattle.std.specs.Prelude.{◌≡◌, ◌⊎◌, ℕ, ◌+◌, ◌*◌, ◌≤◌, List, ◌∷◌, ◌++◌, length}
+use Rattle.std.specs.Prelude.{◌≡◌, ◌⊎◌, ◌+◌, ◌*◌, ◌≤◌, List, ◌∷◌, ◌++◌, length}
 use Rattle.sercos_step.specs.declared.request.Job.{Job}
 use Rattle.sercos_block.specs.Startup.{startup_bound}
 use Rattle.sercos_block.specs.Views.{RingView}

@@ -128,7 +128,8 @@ returns c =
       recovers = λ r jobs carry restarts t j opened run clear.
           recovers_in laws more c.agenda_law.ensures.turn c.agenda_law.ensures.none c.agenda_law.ensures.two c.agenda_law.ensures.three c.run_law.ensures.up r jobs carry restarts opened c.passage_law.ensures.dead c.passage_law.ensures.ages
           c.calls_law.ensures.before c.cost_law.ensures.recovers c.cost_law.ensures.since c.cost_law.ensures.timed c.bound_law.ensures.sections c.jobs_law.ensures.reads c.jobs_law.ensures.writes c.jobs_law.ensures.list_read c.bound_law.ensures.started
-          c.bound_law.ensures.greatest calm.stops_two calm.stops_three calm.none_four calm.fit calm.own calm.outcome calm.rises ready calm.stays calm.fall
+          c.bound_law.ensures.greatest calm.stops_two calm.stops_three calm.none_four calm.fit calm.own calm.outcome calm.rises ready
+          calm.stays calm.fall
           (after_fall calm.fall calm.restart calm.tells calm.rises calm.fit calm.own calm.at_end calm.outcome calm.ages calm.answers calm.reports calm.stays)
           c.agenda_law.ensures.four c.stretch_law.ensures.always said c.passage_law.ensures.recovers c.calls_law.ensures.late c.passage_law.ensures.throughout c.passage_law.ensures.hears calm.four t j run clear;
     }
