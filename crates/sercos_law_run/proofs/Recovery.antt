@@ -22,4 +22,5 @@ pub mod EarlyPhases
 pub mod SpareStops
 pub mod Predicts
 pub mod Recovers
+pub mod Returns
 pub mod Worked

@@ -65,6 +65,7 @@ pub mod WellGiven
 pub mod Small
 pub mod StaysClear
 pub mod AfterAt
+pub mod GoingCycles
 pub mod EpochCycles
 pub mod LongWrites
 pub mod OneRequest

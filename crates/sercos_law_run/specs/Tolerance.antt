@@ -5,3 +5,7 @@ pub mod Losses
 pub mod Early
 pub mod TwoLasts
 pub mod Rises
+pub mod Reports
+pub mod Ends
+pub mod Many
+pub mod Returns

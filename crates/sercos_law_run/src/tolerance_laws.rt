@@ -2,7 +2,11 @@
 ghost use Rattle.std.specs.Prelude.{ℕ};
 ghost use Rattle.sercos_law_run.specs.Tolerance.Bears.{BearsSparse, Tolerates};
 ghost use Rattle.sercos_law_run.specs.Tolerance.Early.{EarlySparse};
+ghost use Rattle.sercos_law_run.specs.Tolerance.Ends.{EndsSparse};
 ghost use Rattle.sercos_law_run.specs.Tolerance.Losses.{CostsShared, CostsSparse, TakesTimeAndLosses};
+ghost use Rattle.sercos_law_run.specs.Tolerance.Many.{EndsAnyway, RisesAnyway};
+ghost use Rattle.sercos_law_run.specs.Tolerance.Reports.{ReportsSparse};
+ghost use Rattle.sercos_law_run.specs.Tolerance.Returns.{ReturnsWhileSparse};
 ghost use Rattle.sercos_law_run.specs.Tolerance.Rises.{RisesSparse};
 ghost use Rattle.sercos_law_run.specs.Tolerance.Sparse.{CalmIsSparse, OneOfThreeIsSparse};
 ghost use Rattle.sercos_law_run.specs.Tolerance.TwoLasts.{TwoSparse};
@@ -17,31 +21,39 @@ use crate::undisturbed_laws::undisturbed_law;
 use sercos_block::{ring_law, store_law};
 use sercos_drive::drive_law;
 use sercos_hdlc::framing_law;
+use sercos_idn::attribute_law;
 use sercos_law_channel::{
-    calls_law, cost_law, exact_law, jobs_law, parts_law, run_law, transfer_law, values_law,
+    calls_law, cost_law, exact_law, jobs_law, parts_law, passage_law, run_law, transfer_law,
+    values_law,
 };
 use sercos_master::master_law;
 use sercos_service_drive::writes_law;
 
 /// A law over every run of a ring without undetected damage, over every link. Take any point at which phase 0 is commanded next: the
-/// opening, a fall, a restart of the master. Losses and restarts before it don't matter. From there on, as long as no station restarts and the
-/// disturbed cycles are sparse, the ring bears them, however many they are. They are sparse if neither of the two cycles before a disturbed
-/// one is disturbed where phase 1 or 2 is commanded in it, and the one before it isn't where phase 3 or 4 is; in phase 0 any cycle may be
-/// disturbed. A disturbed cycle may lose any number of telegrams, at any stations. Then no record has a fall or reports a request as
-/// broken. From the second cycle on each drive is in the commanded phase, or one below it, in the first cycle commanded this phase, if it
-/// missed the MST of it. No step is open for longer than the busy time of its drive and four cycles, or three in phases 3 and 4, and its
-/// answer arrives at most that long after the cycle in which it was begun, and first sent. So it is in each cycle of a run, from its
-/// opening on or since one whose record has a fall. The cycles of such an epoch in which a step to a drive is open are at most the cost of
-/// the requests to it, and what the disturbed cycles cost: two cycles each in phase 2, one in 3 and 4. Up to phase 2, where one channel
+/// opening, a fall, a restart of the master. Losses and restarts before it don't matter. From there on, as long as no station restarts and
+/// the disturbed cycles are sparse, the ring bears them, however many they are. They are sparse if neither of the two cycles before a
+/// disturbed one is disturbed where phase 1 or 2 is commanded in it, and the one before it isn't where phase 3 or 4 is; in phase 0 any
+/// cycle may be disturbed. A disturbed cycle may lose any number of telegrams, at any stations. Then no record has a fall or reports a
+/// request as broken. From the second cycle on each drive is in the commanded phase, or one below it, in the first cycle commanded this
+/// phase, if it missed the MST of it. No step is open for longer than the busy time of its drive and four cycles, or three in phases 3 and
+/// 4, and its answer arrives at most that long after the cycle in which it was begun, and first sent. So it is in each cycle of a run, from
+/// its opening on or since one whose record has a fall. The cycles of such an epoch in which a step to a drive is open are at most the cost
+/// of the requests to it, and what the disturbed cycles cost: two cycles each in phase 2, one in 3 and 4. Up to phase 2, where one channel
 /// works after the other, a disturbed cycle counts once for all of them. Phases 0 and 1 last for eleven cycles and one for each drive at
 /// most, and ten for each cycle of phase 0 in which the own MST was lost, and two for each disturbed one of phase 1. Phases 0 to 2 together
-/// last for that, the reads and the writes of each drive, and two cycles for each disturbed one of phase 2 at most, unless there is a
-/// stop. So if a plan fits the ring's
-/// requirements, the cycle time lies within each drive's limits, and no own block of a drive was outside its limits at opening, phase 4 is
-/// commanded within the bound of a start-up and these costs, with one cycle for each disturbed one of phase 3; and once commanded, it
-/// stays. Underneath, in any cycles without a fall and without a restart of the master, a step costs busy time and one, and each cycle in
-/// which its record or its answer is lost one more. Cycles in which nothing is disturbed are sparse, and those of which at most one of any
-/// three in a row is.
+/// last for that, the reads and the writes of each drive, and two cycles for each disturbed one of phase 2 at most, unless there is a stop.
+/// So if a plan fits the ring's requirements, the cycle time lies within each drive's limits, and no own block of a drive was outside its
+/// limits at opening, phase 4 is commanded within the bound of a start-up and these costs, with one cycle for each disturbed one of phase
+/// 3; and once commanded, it stays. However many cycles are disturbed, it is commanded within the bound of a start-up with each drive busy
+/// for one cycle more, and ten cycles for each own MST that was lost in phase 0. From 41 steps of the slowest drive after either of these
+/// on, phase 4 is commanded, or a stop for its cause has been reported. In phase 4 the requests to a drive that waited when the epoch began
+/// are reported one after the other, each within the cycles that this profile gives a request: as many as without faults. Underneath, in
+/// any cycles without a fall and without a restart of the master, a step costs busy time and one, and each cycle in which its record or its
+/// answer is lost one more. Cycles in which nothing is disturbed are sparse, and those of which at most one of any three in a row is. And
+/// after faults that aren't sparse: at most one fall comes after the last cycle that isn't, and no request is reported as broken after that
+/// fall; and from twice the bound of a start-up and 200 cycles after it on, and what the disturbed cycles since cost a start-up, phase 4 is
+/// commanded if the ring is right; in any ring, from 41 steps of the slowest drive later on, phase 4 is commanded, or the master is at a
+/// stop for its cause. From then on no fall is reported any more, nor a request as broken.
 pub fn tolerance_law()
     ensures calm { CalmIsSparse }
     ensures spaced { OneOfThreeIsSparse }
@@ -53,6 +65,11 @@ pub fn tolerance_law()
     ensures early { EarlySparse }
     ensures two { TwoSparse }
     ensures rises { RisesSparse }
+    ensures reports { ReportsSparse }
+    ensures ends { EndsSparse }
+    ensures rises_anyway { RisesAnyway }
+    ensures ends_anyway { EndsAnyway }
+    ensures returns { ReturnsWhileSparse }
 {
     agenda_law();
     report_law();
@@ -65,6 +82,7 @@ pub fn tolerance_law()
     transfer_law();
     values_law();
     framing_law();
+    attribute_law();
     master_law();
     writes_law();
     answer_law();
@@ -78,6 +96,7 @@ pub fn tolerance_law()
     cost_law();
     jobs_law();
     parts_law();
+    passage_law();
     bound_law();
     undisturbed_law();
 }

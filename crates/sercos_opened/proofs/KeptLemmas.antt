@@ -17,11 +17,12 @@ use Rattle.sercos_law_run.specs.Stations.Cycles.{AlwaysPlain}
 use Rattle.sercos_law_run.specs.Stations.Senders.{SendsAlone}
 use Rattle.sercos_law_run.specs.Stations.Falls.{FallsHaveCause}
 use Rattle.sercos_law_run.specs.Tolerance.Bears.{Tolerates}
+use Rattle.sercos_law_run.specs.Tolerance.Returns.{ReturnsWhileSparse}
 use Rattle.sercos_law_run.specs.Journal.Harmless.{IsHarmlessAfterCuts}
 use Rattle.sercos_law_run.specs.Journal.Runs.{IsClear, IsNext, IsRun, next_record, run_of}
 use Rattle.sercos_law_run.proofs.Theorems.{both_are_harmless, cuts_are_harmless}
 use Rattle.sercos_config.specs.Views.{DocumentView}
-use Rattle.sercos_opened.specs.Kept.{document_run, script_carry, script_run, AloneThroughout, BearsThroughout, FallsThroughout, IsDocumentRun, IsScriptRun, KeepsThroughout, OnceThroughout, PredictsThroughout, RecoversThroughout, StartsThroughout, OpenedIsKept}
+use Rattle.sercos_opened.specs.Kept.{document_run, script_carry, script_run, AloneThroughout, BearsThroughout, FallsThroughout, IsDocumentRun, IsScriptRun, KeepsThroughout, OnceThroughout, PredictsThroughout, RecoversThroughout, ReturnsThroughout, StartsThroughout, OpenedIsKept}
 
 -- each cycle that the function gives is the next one
 abbrev pub AreNext : Type 0
@@ -85,8 +86,16 @@ run_bears next law r jobs carry restarts n opened later t j is clear =
     law r jobs carry restarts t j opened (run_before r jobs carry restarts later (t ∷ j)
     (subst (λ (run : List CycleView). IsRun r jobs carry restarts run) is (run_is next r jobs carry restarts n))) clear
 
-pub opened_is_kept : AreNext → HarmlessIsClear → OnceAlways → Headline → Predicts → StartsUndisturbed → Recovers → Tolerates → AlwaysPlain → FallsHaveCause → SendsAlone → OpenedIsKept
-opened_is_kept next clear once law predicts starts back tolerates plain causes alone r jobs carry restarts cycles opened = record {
+-- and it returns after others
+pub run_returns : AreNext → ReturnsWhileSparse → (r : RingView) (jobs : List Job) (carry : Carry) (restarts : Restarts) (n : ℕ)
+    → IsOpened r jobs → ReturnsThroughout r jobs carry restarts (run_of r jobs carry restarts n)
+run_returns next law r jobs carry restarts n opened later t j is clear =
+    law r jobs carry restarts t j opened (run_before r jobs carry restarts later (t ∷ j)
+    (subst (λ (run : List CycleView). IsRun r jobs carry restarts run) is (run_is next r jobs carry restarts n))) clear
+
+pub opened_is_kept : AreNext → HarmlessIsClear → OnceAlways → Headline → Predicts → StartsUndisturbed → Recovers → Tolerates
+    → ReturnsWhileSparse → AlwaysPlain → FallsHaveCause → SendsAlone → OpenedIsKept
+opened_is_kept next clear once law predicts starts back tolerates returns plain causes alone r jobs carry restarts cycles opened = record {
   run = run_is next r jobs carry restarts cycles;
   clear = λ harmless. clear r jobs carry restarts (run_of r jobs carry restarts cycles) opened.valid opened.typed opened.jobs_typed harmless (run_is next r jobs carry restarts cycles);
   once = run_once next once r jobs carry restarts cycles opened;
@@ -98,6 +107,7 @@ opened_is_kept next clear once law predicts starts back tolerates plain causes a
   falls = run_falls next causes r jobs carry restarts cycles opened;
   alone = run_alone next alone r jobs carry restarts cycles opened;
   bears = run_bears next tolerates r jobs carry restarts cycles opened;
+  returns = run_returns next returns r jobs carry restarts cycles opened;
 }
 
 -- Nothing is unseen in the run of a document whose script has no flip, if the link handed in is harmless after cuts; nor in its run over

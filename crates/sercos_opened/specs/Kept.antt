@@ -16,6 +16,7 @@ use Rattle.sercos_law_run.specs.Stations.Cycles.{DrivesArePlain}
 use Rattle.sercos_law_run.specs.Stations.Senders.{IsAlone}
 use Rattle.sercos_law_run.specs.Stations.Falls.{FallsForCause}
 use Rattle.sercos_law_run.specs.Tolerance.Bears.{BearsIn}
+use Rattle.sercos_law_run.specs.Tolerance.Returns.{ReturnsSparse}
 use Rattle.sercos_law_run.specs.Held.Opened.{IsOpened}
 use Rattle.sercos_config.specs.Views.{DocumentView}
 
@@ -58,6 +59,12 @@ abbrev pub BearsThroughout : RingView → List Job → Carry → Restarts → Li
 BearsThroughout r jobs carry restarts run = (later : List CycleView) (t : CycleView) (j : List CycleView) → run ≡ later ++ t ∷ j →
     IsClear (t ∷ j) → BearsIn r jobs carry restarts t j
 
+-- And after faults that aren't sparse, while sparse ones go on: at most one fall comes after the last of them, and the ring is back in
+-- time.
+abbrev pub ReturnsThroughout : RingView → List Job → Carry → Restarts → List CycleView → Type 0
+ReturnsThroughout r jobs carry restarts run = (later : List CycleView) (t : CycleView) (j : List CycleView) → run ≡ later ++ t ∷ j →
+    IsClear (t ∷ j) → ReturnsSparse r jobs carry restarts t j
+
 -- And in each such cycle the planner's answer to the ring's requirements predicts the run: the plan or the chain that is reported, how far
 -- the ring may rise, and the cause of a stop.
 abbrev pub PredictsThroughout : RingView → List CycleView → Type 0
@@ -90,6 +97,7 @@ pub record IsKept (r : RingView) (jobs : List Job) (carry : Carry) (restarts : R
   pub starts : StartsThroughout r jobs carry restarts journal
   pub recovers : RecoversThroughout r jobs carry restarts journal
   pub bears : BearsThroughout r jobs carry restarts journal
+  pub returns : ReturnsThroughout r jobs carry restarts journal
   pub drives : DrivesThroughout r carry restarts journal
   pub falls : FallsThroughout r jobs carry restarts journal
   pub alone : AloneThroughout journal

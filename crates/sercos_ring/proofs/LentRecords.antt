@@ -6,10 +6,11 @@ use Rattle.sercos_law_run.specs.Headline.Headline.{Headline}
 use Rattle.sercos_law_run.specs.Undisturbed.WholeRuns.{StartsUndisturbed}
 use Rattle.sercos_law_run.specs.Recovery.Recovers.{Recovers}
 use Rattle.sercos_law_run.specs.Tolerance.Bears.{Tolerates}
+use Rattle.sercos_law_run.specs.Tolerance.Returns.{ReturnsWhileSparse}
 use Rattle.sercos_law_run.specs.Stations.Cycles.{AlwaysPlain}
 use Rattle.sercos_law_run.specs.Stations.Senders.{SendsAlone}
 use Rattle.sercos_law_run.specs.Stations.Falls.{FallsHaveCause}
-use Rattle.sercos_ring.specs.Kept.{BearsOf, IsNextOf, KeepsAllOf, RecoversOf, StartsUpOf, StationsOf}
+use Rattle.sercos_ring.specs.Kept.{BearsOf, IsNextOf, KeepsAllOf, RecoversOf, ReturnsOf, StartsUpOf, StationsOf}
 use Rattle.sercos_ring.specs.declared.ring.Ring.{Ring}
 
 -- what is lent is what the ring keeps
@@ -43,5 +44,12 @@ pub bears_lent : {L : Type 0} (carry_of : L → Carry) (restart_of : L → Resta
     → IsNextOf carry_of restart_of ring lent → BearsOf carry_of restart_of ring lent
 bears_lent carry_of restart_of ring lent law next = record {
   bears = λ r jobs carry restarts j stands opened clear.
+      law r jobs carry restarts lent j opened (stands.run, next.next r jobs carry restarts j stands) clear;
+}
+
+pub returns_lent : {L : Type 0} (carry_of : L → Carry) (restart_of : L → Restarts) (ring : Ring L) (lent : CycleView) → ReturnsWhileSparse
+    → IsNextOf carry_of restart_of ring lent → ReturnsOf carry_of restart_of ring lent
+returns_lent carry_of restart_of ring lent law next = record {
+  returns = λ r jobs carry restarts j stands opened clear.
       law r jobs carry restarts lent j opened (stands.run, next.next r jobs carry restarts j stands) clear;
 }

@@ -18,6 +18,7 @@ use Rattle.sercos_law_run.specs.Stations.Cycles.{DrivesArePlain}
 use Rattle.sercos_law_run.specs.Stations.Senders.{IsAlone}
 use Rattle.sercos_law_run.specs.Stations.Falls.{FallsForCause}
 use Rattle.sercos_law_run.specs.Tolerance.Bears.{BearsIn}
+use Rattle.sercos_law_run.specs.Tolerance.Returns.{ReturnsSparse}
 use Rattle.sercos_ring.specs.Stations.{AllStand, addresses_below}
 use Rattle.sercos_ring.specs.declared.ring.Ring.{Ring}
 
@@ -99,3 +100,10 @@ pub record StationsOf {L : Type 0} (carry_of : L → Carry) (restart_of : L → 
 pub record BearsOf {L : Type 0} (carry_of : L → Carry) (restart_of : L → Restarts) (ring : Ring L) (made : CycleView) : Type 0 where
   pub bears : (r : RingView) (jobs : List Job) (carry : Carry) (restarts : Restarts) (j : List CycleView)
       → RingStandsFor carry_of restart_of ring r jobs carry restarts j → IsOpened r jobs → IsClear (made ∷ j) → BearsIn r jobs carry restarts made j
+
+-- And after faults that aren't sparse, while sparse ones go on: at most one fall comes after the last of them, and the ring is back in
+-- time.
+pub record ReturnsOf {L : Type 0} (carry_of : L → Carry) (restart_of : L → Restarts) (ring : Ring L) (made : CycleView) : Type 0 where
+  pub returns : (r : RingView) (jobs : List Job) (carry : Carry) (restarts : Restarts) (j : List CycleView)
+      → RingStandsFor carry_of restart_of ring r jobs carry restarts j → IsOpened r jobs → IsClear (made ∷ j)
+      → ReturnsSparse r jobs carry restarts made j

@@ -5,6 +5,7 @@ ghost use Rattle.sercos_law_run.specs.Stations.Cycles.{AlwaysPlain};
 ghost use Rattle.sercos_law_run.specs.Stations.Falls.{FallsHaveCause};
 ghost use Rattle.sercos_law_run.specs.Stations.Senders.{SendsAlone};
 ghost use Rattle.sercos_law_run.specs.Tolerance.Bears.{Tolerates};
+ghost use Rattle.sercos_law_run.specs.Tolerance.Returns.{ReturnsWhileSparse};
 ghost use Rattle.sercos_law_run.specs.Undisturbed.WholeRuns.{StartsUndisturbed};
 
 use sercos_law_run::{
@@ -17,6 +18,7 @@ pub fn cycle_laws()
     ensures undisturbed { StartsUndisturbed }
     ensures recovers { Recovers }
     ensures bears { Tolerates }
+    ensures returns { ReturnsWhileSparse }
     ensures plain { AlwaysPlain }
     ensures falls { FallsHaveCause }
     ensures alone { SendsAlone }

@@ -210,7 +210,7 @@ impl<L: BitLink> Ring<L> {
     ghost use Rattle.std.specs.Borrow.{follows_so};
     ghost use mathlib.Core.Option.{none};
     ghost use Rattle.sercos_ring.specs.contracts.ring.Ring.{the_row};
-    ghost use Rattle.sercos_ring.specs.Kept.{AfterCycle, BearsOf, IsNextOf, KeepsAllOf, RecoversOf, RingStandsFor, StartsUpOf, StationsOf, cycles_made, drives_in, newest};
+    ghost use Rattle.sercos_ring.specs.Kept.{AfterCycle, BearsOf, IsNextOf, KeepsAllOf, RecoversOf, ReturnsOf, RingStandsFor, StartsUpOf, StationsOf, cycles_made, drives_in, newest};
 
     /// Opens a ring of a valid setup that has made no cycle, over a link, with at most 4,096 requests, each of an element that a
     /// transfer takes. A request to an address that no drive of the setup has is never begun. `AllocError` is returned if memory
@@ -286,7 +286,9 @@ impl<L: BitLink> Ring<L> {
     /// broken, if no station restarts and the disturbed cycles are sparse. In phases 1 and 2 neither of the two cycles before a
     /// disturbed one is disturbed then, in 3 and 4 not the one before. From the second cycle on each drive is in the commanded phase, or
     /// one below it in that phase's first cycle; a step is answered at most busy time and four cycles after it was first sent; and if
-    /// nothing is in its way, phase 4 comes within `startup_bound` and the costs of the disturbed cycles, and stays.
+    /// nothing is in its way, phase 4 comes within `startup_bound` and the costs of the disturbed cycles, and stays. After faults that
+    /// aren't sparse, at most one fall comes while sparse ones go on; and if nothing is in its way, phase 4 is commanded from
+    /// `recovery_bound` and these costs on; else the master is at a stop for its cause, 41 steps of the slowest drive later at most.
     ///
     /// Whatever arrives, undetected damage too: in phases 3 and 4 each drive's data keep its T1min, TATMT and T4min, its data record
     /// lies within the MDT, and in phase 4 the data keep their limits too; each drive rises, and goes to phase 0, for its causes alone; and a fall that is reported
@@ -300,6 +302,7 @@ impl<L: BitLink> Ring<L> {
         ensures undisturbed { StartsUpOf L.carry L.restart self.old result.now }
         ensures recovers { RecoversOf L.carry L.restart self.old result.now }
         ensures bears { BearsOf L.carry L.restart self.old result.now }
+        ensures returns { ReturnsOf L.carry L.restart self.old result.now }
         ensures stations { StationsOf L.carry L.restart self.old result.now }
     {
         cycle_laws();

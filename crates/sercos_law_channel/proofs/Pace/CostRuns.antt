@@ -265,14 +265,23 @@ module _ (said : (b : Block) → b.attribute.factor < 2 ^ 16 → shape_of 7 (low
       let opens = opens_in_log cycles past run clean in
       let cost = stays_in_cost (cycles ++ past) run sound timed listed in omega (arith, opens, cost)
 
+  -- The steps accepted cost no more than the recent requests, and those before them, if these have ended.
+  pub stays_in_cost_since : (past : List View) (recent old : List Begun) → IsRun busy past → AreSound blocks past → AreTimed time past
+      → AreListed longest past →
+      epoch_begun past ≡ recent ++ old → open_in old ≡ None → (busy + 1) * length (epoch_log past)
+          ≤ cost_in (cost_of busy time longest blocks) recent + (busy + 1) * length (answers_in old)
+  stays_in_cost_since past recent old run sound timed listed split shut =
+      let is = epoch blocks busy past run sound in
+      let parts = fall_into_parts (epoch_begun past) (epoch_log past) is.in_turn (in_step busy past run) in
+      parts_since (writes_ago past) recent old (epoch_log past) (subst (λ (l : List Begun). AreParts l (epoch_log past)) split parts)
+          (subst AreInTurn split is.in_turn) shut
+      (answered_replies (accepted (epoch_taken past))) is.alike (spaces_steps busy past run) (timed_in past run timed)
+          (listed_in past listed)
+
   -- the recent requests
   pub opens_since_cost : (cycles past : List View) (recent old : List Begun) → IsRun busy (cycles ++ past) → AreSound blocks (cycles ++ past) → AreTimed time (cycles ++ past) → AreListed longest (cycles ++ past) → AreClean cycles past →
       epoch_begun (cycles ++ past) ≡ recent ++ old → open_in old ≡ None → length (answers_in old) ≤ length (answers_in (epoch_begun past)) → open_since cycles past ≤ cost_in (cost_of busy time longest blocks) recent
   opens_since_cost cycles past recent old run sound timed listed clean split shut few =
-      let all = cycles ++ past in
-      let is = epoch blocks busy all run sound in
-      let parts = fall_into_parts (epoch_begun all) (epoch_log all) is.in_turn (in_step busy all run) in
-      let cost = parts_since (writes_ago all) recent old (epoch_log all) (subst (λ (l : List Begun). AreParts l (epoch_log all)) split parts) (subst AreInTurn split is.in_turn) shut
-      (answered_replies (accepted (epoch_taken all))) is.alike (spaces_steps busy all run) (timed_in all run timed) (listed_in all listed) in
+      let cost = stays_in_cost_since (cycles ++ past) recent old run sound timed listed split shut in
       let opens = opens_in_log cycles past run clean in
       let le = times_le (busy + 1) (length (answers_in old)) (length (answers_in (epoch_begun past))) few in omega (arith, opens, cost, le)

@@ -100,7 +100,7 @@ pub is_back_at_once : IsBackAtOnce
 is_back_at_once r lost cycle at some = let sum = slow_startup r.drives some in omega (arith, sum)
 
 -- The drive that was in phase 0, among the others.
-sum_by-middle : (f : DriveView → ℕ) (before after : List DriveView) (d : DriveView) → sum_by f (before ++ d ∷ after) ≡ f d + sum_by f (before ++ after)
+pub sum_by-middle : (f : DriveView → ℕ) (before after : List DriveView) (d : DriveView) → sum_by f (before ++ d ∷ after) ≡ f d + sum_by f (before ++ after)
 sum_by-middle f [] after d = sum_by-cons f d after
 sum_by-middle f (e ∷ before) after d =
     let more = sum_by-middle f before after d in omega (arith, more, sum_by-cons f e (before ++ d ∷ after), sum_by-cons f e (before ++ after))

@@ -37,7 +37,7 @@ use Rattle.sercos_law_run.proofs.Undisturbed.Sections.{none_idle}
 use Rattle.sercos_law_run.proofs.Undisturbed.Small.{some_is}
 use Rattle.sercos_law_run.specs.Recovery.FallsInTime.{IsSpared}
 use Rattle.sercos_law_run.specs.Recovery.Stretches.{IsDown, IsStretch}
-use Rattle.sercos_law_run.proofs.Recovery.DownSince.{down_all, in_two, never_open, open_at_most}
+use Rattle.sercos_law_run.proofs.Recovery.DownSince.{calm_quiet, down_all, in_two, never_open, open_at_most}
 use Rattle.sercos_law_run.proofs.Recovery.LateDown.{not_true}
 use Rattle.sercos_law_run.proofs.Recovery.Turns.{opens_in_turn, works_in_turn}
 use Rattle.sercos_law_run.proofs.Recovery.UpSections.{up_section}
@@ -91,7 +91,7 @@ module _ (laws : Laws) (more : MoreLaws) (turn : WorkInTurn) (early : BeginsNone
     none_of_others : (k : ℕ) → k < length r.drives → (k ≡ its.0 → ⊥) → IsDown r jobs carry restarts k (first ∷ before) → opened_in (t ∷ cycles) (first ∷ before) k ≡ 0
     none_of_others k below other is_down =
         let same = ap (λ (l : List Begun). is_some (open_in l)) (begun_end laws more r jobs carry restarts opened t (cycles ++ first ∷ before) run clear stretch.stays.1 k) in
-        never_open laws more turn r jobs carry restarts opened dead ages (t ∷ cycles) (first ∷ before) run clear stretch.calm stretch.stays two k below is_down
+        never_open laws more turn r jobs carry restarts opened dead ages (t ∷ cycles) (first ∷ before) run clear (calm_quiet r carry restarts (t ∷ cycles) (first ∷ before) stretch.calm) stretch.stays two k below is_down
         (same ∙ not_true (is_some (open_in (begun_in (view_of r jobs carry restarts k t (cycles ++ first ∷ before)) (views_of r jobs carry restarts k (cycles ++ first ∷ before))))) (λ opens.
         other (some_is k its.0 (sym (opens_in_turn laws more turn r jobs carry restarts opened t (cycles ++ first ∷ before) run clear (in_two laws more turn r jobs carry restarts opened t (cycles ++ first ∷ before) run two.1) k below opens) ∙ its.2))))
 
@@ -101,7 +101,7 @@ module _ (laws : Laws) (more : MoreLaws) (turn : WorkInTurn) (early : BeginsNone
         place = its.0;
         there = its.1;
         most =
-            let few = open_at_most laws more turn r jobs carry restarts opened dead ages (t ∷ cycles) (first ∷ before) run clear stretch.calm stretch.stays two its.0 its.1 is_down in
+            let few = open_at_most laws more turn r jobs carry restarts opened dead ages (t ∷ cycles) (first ∷ before) run clear (calm_quiet r carry restarts (t ∷ cycles) (first ∷ before) stretch.calm) stretch.stays two its.0 its.1 is_down in
             let old = aged its.0 its.1 (down_all laws more turn r jobs carry restarts opened dead (t ∷ cycles) (first ∷ before) run clear two its.0 its.1 is_down)
             (ap (λ (l : List Begun). is_some (open_in l)) (begun_end laws more r jobs carry restarts opened t (cycles ++ first ∷ before) run clear stretch.stays.1 its.0) ∙ its.3) in
             omega (arith, few, old);

@@ -1,5 +1,5 @@
 -- If no drive is in phase 0 and the ring doesn't fall, the start-up ends in time.
-use Rattle.std.proofs.Common.{◌≡◌, ◌⊎◌, inl, inr, ℕ, suc, ◌+◌, ◌*◌, ◌<◌, ◌≤◌, Bool, true, false, not, List, [], ◌∷◌, ◌++◌, length, Option, Some, None, refl, sym, ap, ◌∙◌, subst, arith, if◌then◌else◌}
+use Rattle.std.proofs.Common.{◌≡◌, ◌⊎◌, inl, inr, ℕ, suc, ◌+◌, ◌<◌, ◌≤◌, Bool, true, false, not, List, [], ◌∷◌, ◌++◌, length, Option, Some, None, refl, sym, ap, ◌∙◌, subst, arith, if◌then◌else◌}
 use Rattle.std.specs.Prelude.{is_some}
 use Rattle.std.specs.List.{sum_by}
 use Rattle.std.proofs.lemmas.Bool.{cases_eq, cases_lt, false≢true}
@@ -8,7 +8,7 @@ use Rattle.sercos_step.specs.declared.request.Outcome.{Outcome}
 use Rattle.sercos_timing.specs.Views.{PlanView}
 use Rattle.sercos_block.specs.Startup.{startup_bound}
 use Rattle.sercos_block.specs.Views.{RingView}
-use Rattle.sercos_law_run.specs.Bounds.Bounds.{command_cycles, greatest, slowest, AreSections, IsBelowGreatest, IsStarted}
+use Rattle.sercos_law_run.specs.Bounds.Bounds.{command_cycles, greatest, AreSections, IsBelowGreatest, IsStarted}
 use Rattle.sercos_trace.specs.Views.{CycleView}
 use Rattle.sercos_trace.specs.declared.events.Stop.{Stop}
 use Rattle.sercos_seat.specs.Agenda.{is_ready}
@@ -18,12 +18,12 @@ use Rattle.sercos_script.specs.Links.{Carry, Restarts}
 use Rattle.sercos_law_channel.specs.Pace.Ages.{AgesWhereDead}
 use Rattle.sercos_law_channel.specs.Pace.ChannelCalls.{AgesBeforeEnd}
 use Rattle.sercos_law_channel.specs.Pace.Costs.{ComesTimed}
-use Rattle.sercos_law_channel.specs.Pace.Jobs.{ListReadCosts, ReadsCost, WritesCost}
+use Rattle.sercos_law_channel.specs.Pace.Jobs.{ReadsCost, WritesCost}
 use Rattle.sercos_law_channel.specs.Pace.Passages.{StaysDead}
 use Rattle.sercos_law_channel.specs.Pace.StartCosts.{RecoversInCost, RecoversSince}
 use Rattle.sercos_law_run.specs.Journal.Runs.{drive_at, looks_back, master_calls, IsClear, IsRun}
 use Rattle.sercos_law_run.specs.Agenda.Tasks.{BeginsNoneEarly}
-use Rattle.sercos_law_run.specs.Agenda.Turns.{WorkInTurn, WorksInThree, WorksInTwo}
+use Rattle.sercos_law_run.specs.Agenda.Turns.{WorkInTurn, WorksInTwo}
 use Rattle.sercos_law_run.proofs.Agenda.AtWork.{IsFound, found_some, not_so}
 use Rattle.sercos_law_run.proofs.Typed.Mdts.{phase_low}
 use Rattle.sercos_law_run.specs.Views.RingViews.{at_start, behind_mdt}
@@ -37,7 +37,6 @@ use Rattle.sercos_law_run.specs.Undisturbed.Undisturbed.{IsUndisturbed}
 use Rattle.sercos_law_run.proofs.Undisturbed.Comes.{calm_in}
 use Rattle.sercos_law_run.proofs.Undisturbed.EpochCycles.{IsOn, outcomes_after, outcomes_extend}
 use Rattle.sercos_law_run.proofs.Undisturbed.InTime.{within_bound}
-use Rattle.sercos_law_run.proofs.Undisturbed.NeverFalls.{busy_low}
 use Rattle.sercos_law_run.proofs.Undisturbed.PhaseCounts.{end_kept}
 use Rattle.sercos_law_run.proofs.Undisturbed.PhaseThree.{ready_stays}
 use Rattle.sercos_law_run.proofs.Undisturbed.PhaseTwo.{section_two}
@@ -46,10 +45,9 @@ use Rattle.sercos_law_run.specs.Recovery.Stretches.{IsDown, IsStretch}
 use Rattle.sercos_law_run.proofs.Recovery.DownSince.{shorter, up_all}
 use Rattle.sercos_law_run.proofs.Recovery.EarlyStops.{no_less}
 use Rattle.sercos_law_run.proofs.Recovery.EpochStops.{same_start}
-use Rattle.sercos_law_run.proofs.Recovery.FallsSoon.{busy_slowest}
 use Rattle.sercos_law_run.proofs.Recovery.LateDown.{not_true, phase_now}
 use Rattle.sercos_law_run.proofs.Recovery.Stretches.{whole_at}
-use Rattle.sercos_law_run.proofs.Recovery.UpInThree.{up_in_three}
+use Rattle.sercos_law_run.proofs.Recovery.UpInThree.{LastsInThree}
 use Rattle.sercos_law_run.proofs.Recovery.UpInTwo.{up_in_two}
 use Rattle.sercos_law_run.proofs.Recovery.UpSections.{no_lower_since}
 
@@ -61,9 +59,9 @@ stays_so : (done : Bool) (n : ℕ) → (if done then n + 1 else n) ≡ n → don
 stays_so true n same = absurd (omega (arith, same))
 stays_so false n same = refl
 
-module _ (laws : Laws) (more : MoreLaws) (turn : WorkInTurn) (early : BeginsNoneEarly) (works : WorksInTwo) (works_three : WorksInThree) (r : RingView) (jobs : List Job) (carry : Carry) (restarts : Restarts) (opened : IsOpened r jobs)
+module _ (laws : Laws) (more : MoreLaws) (turn : WorkInTurn) (early : BeginsNoneEarly) (works : WorksInTwo) (r : RingView) (jobs : List Job) (carry : Carry) (restarts : Restarts) (opened : IsOpened r jobs)
     (dead : (busy : ℕ) → StaysDead busy) (ages : (busy : ℕ) → AgesWhereDead busy) (counts : (busy : ℕ) → AgesBeforeEnd busy) (recovers : (busy : ℕ) → RecoversInCost busy) (since : (busy : ℕ) → RecoversSince busy) (timed : ComesTimed)
-    (sections : AreSections) (reads_cost : (busy : ℕ) → ReadsCost busy) (writes_cost : (busy : ℕ) → WritesCost busy) (list_costs : (busy : ℕ) → ListReadCosts busy) (started : IsStarted) (below_greatest : IsBelowGreatest) where
+    (sections : AreSections) (reads_cost : (busy : ℕ) → ReadsCost busy) (writes_cost : (busy : ℕ) → WritesCost busy) (started : IsStarted) (below_greatest : IsBelowGreatest) where
   -- the cycles of phase 3, cut off: those before them are few
   record IsCut (k n : ℕ) (j : List CycleView) : Type 0 where
     newer : List CycleView
@@ -179,70 +177,70 @@ module _ (laws : Laws) (more : MoreLaws) (turn : WorkInTurn) (early : BeginsNone
         unready_now : is_ready (member (known_of r) k) (outcomes (behind_mdt r jobs carry restarts t.sent (cycles ++ first ∷ before)) k) ≡ false
         unready_now = sym (ap (is_ready (member (known_of r) k)) (outcomes_after laws more r jobs carry restarts opened t (cycles ++ first ∷ before) (on_now t cycles run clear stretch) k)) ∙ unready
 
-    -- the cycles of phase 3 and those before them
-    both_few : (k : ℕ) → k < length r.drives → (n : ℕ) (j : List CycleView) → IsRun r jobs carry restarts j → IsClear j → IsCut k n j → n ≤ sum_by section_two r.drives + 1 + greatest command_cycles r.drives + 41 * (slowest r.drives + 2)
-    both_few k below n j run clear f =
-        let lasts = up_in_three laws more turn early works_three r jobs carry restarts opened since timed list_costs k below f.newer f.one f.older (subst (λ (l : List CycleView). IsRun r jobs carry restarts l) f.is run)
-        (subst (λ (l : List CycleView). IsClear l) f.is clear) f.stretch f.three f.up in
-        let few = f.few in
-        let busy = busy_low r k opened.valid below in
-        let slow = busy_slowest below_greatest r k below in
-        let most = below_greatest command_cycles r.drives k (drive_at r k) (command_cycles (drive_at r k)) (drive_got r k below) (omega arith) in
-        omega (arith, lasts, few, busy, slow, most)
+    -- Phase 3 may last for some cycles more than the check of a drive takes.
+    module _ (tail : ℕ) (lasts : LastsInThree r jobs carry restarts tail) where
+      -- the cycles of phase 3 and those before them
+      both_few : (k : ℕ) → k < length r.drives → (n : ℕ) (j : List CycleView) → IsRun r jobs carry restarts j → IsClear j → IsCut k n j → n ≤ sum_by section_two r.drives + 1 + greatest command_cycles r.drives + tail
+      both_few k below n j run clear f =
+          let lasting = lasts k below f.newer f.one f.older (subst (λ (l : List CycleView). IsRun r jobs carry restarts l) f.is run)
+          (subst (λ (l : List CycleView). IsClear l) f.is clear) f.stretch f.three f.up in
+          let few = f.few in
+          let most = below_greatest command_cycles r.drives k (drive_at r k) (command_cycles (drive_at r k)) (drive_got r k below) (omega arith) in
+          omega (arith, lasting, few, most)
 
-    three_few : (t : CycleView) (cycles : List CycleView) → IsRun r jobs carry restarts (t ∷ (cycles ++ first ∷ before)) → IsClear (t ∷ (cycles ++ first ∷ before)) → IsStretch r jobs carry restarts (t ∷ cycles) first before → t.phase ≡ 3
-        → (behind_mdt r jobs carry restarts t.sent (cycles ++ first ∷ before)).stop ≡ None → length cycles ≤ sum_by section_two r.drives + 1 + greatest command_cycles r.drives + 41 * (slowest r.drives + 2)
-    three_few t [] run clear stretch is_three none = omega arith
-    three_few t (u ∷ cycles) run clear stretch is_three none = elim (cases_lt 2 u.phase) [
-      | inr low ↦ let least = late_too u cycles run.0 clear.0 earlier in let few = two_few u cycles run.0 clear.0 earlier (omega (arith, least, low)) none_then in omega (arith, few)
-      | inl high ↦ in_three (let same = phase_is u cycles run.0 clear.0 earlier in let next = phase_after u cycles run.0 clear.0 earlier in
-          let least = no_less (is_done (known_of r) newest) newest.now.phase in let after = phase_then in omega (arith, same, next, least, after, high))
-    ]
-      where
-        newest : Past
-        newest = behind_mdt r jobs carry restarts u.sent (cycles ++ first ∷ before)
+      three_few : (t : CycleView) (cycles : List CycleView) → IsRun r jobs carry restarts (t ∷ (cycles ++ first ∷ before)) → IsClear (t ∷ (cycles ++ first ∷ before)) → IsStretch r jobs carry restarts (t ∷ cycles) first before → t.phase ≡ 3
+          → (behind_mdt r jobs carry restarts t.sent (cycles ++ first ∷ before)).stop ≡ None → length cycles ≤ sum_by section_two r.drives + 1 + greatest command_cycles r.drives + tail
+      three_few t [] run clear stretch is_three none = omega arith
+      three_few t (u ∷ cycles) run clear stretch is_three none = elim (cases_lt 2 u.phase) [
+        | inr low ↦ let least = late_too u cycles run.0 clear.0 earlier in let few = two_few u cycles run.0 clear.0 earlier (omega (arith, least, low)) none_then in omega (arith, few)
+        | inl high ↦ in_three (let same = phase_is u cycles run.0 clear.0 earlier in let next = phase_after u cycles run.0 clear.0 earlier in
+            let least = no_less (is_done (known_of r) newest) newest.now.phase in let after = phase_then in omega (arith, same, next, least, after, high))
+      ]
+        where
+          newest : Past
+          newest = behind_mdt r jobs carry restarts u.sent (cycles ++ first ∷ before)
 
-        earlier : IsStretch r jobs carry restarts (u ∷ cycles) first before
-        earlier = shorter laws more turn r jobs carry restarts opened t (u ∷ cycles) first before stretch
+          earlier : IsStretch r jobs carry restarts (u ∷ cycles) first before
+          earlier = shorter laws more turn r jobs carry restarts opened t (u ∷ cycles) first before stretch
 
-        none_then : (looks_back r jobs (master_calls r carry restarts (u ∷ (cycles ++ first ∷ before)))).stop ≡ None
-        none_then = none_before r jobs carry restarts t (u ∷ (cycles ++ first ∷ before)) (start t (u ∷ cycles) run clear stretch) none
+          none_then : (looks_back r jobs (master_calls r carry restarts (u ∷ (cycles ++ first ∷ before)))).stop ≡ None
+          none_then = none_before r jobs carry restarts t (u ∷ (cycles ++ first ∷ before)) (start t (u ∷ cycles) run clear stretch) none
 
-        phase_then : (looks_back r jobs (master_calls r carry restarts (u ∷ (cycles ++ first ∷ before)))).now.phase ≡ 3
-        phase_then = phase_before t (u ∷ cycles) run clear stretch ∙ is_three
+          phase_then : (looks_back r jobs (master_calls r carry restarts (u ∷ (cycles ++ first ∷ before)))).now.phase ≡ 3
+          phase_then = phase_before t (u ∷ cycles) run clear stretch ∙ is_three
 
-        in_three : (behind_mdt r jobs carry restarts u.sent (cycles ++ first ∷ before)).now.phase ≡ 3 → suc (length cycles) ≤ sum_by section_two r.drives + 1 + greatest command_cycles r.drives + 41 * (slowest r.drives + 2)
-        in_three now_three = both_few last.place low (suc (length cycles)) (u ∷ (cycles ++ first ∷ before)) run.0 clear.0
-            (cut_at last.place low (u ∷ cycles) run.0 clear.0 earlier none_then (let is = phase_then in omega (arith, is))
-            (ap (is_ready (member (known_of r) last.place)) (outcomes_after laws more r jobs carry restarts opened u (cycles ++ first ∷ before) (on_now u cycles run.0 clear.0 earlier) last.place) ∙ not_so _ last.passes))
-          where
-            undone : all_ready (known_of r) (behind_mdt r jobs carry restarts u.sent (cycles ++ first ∷ before)) ≡ false
-            undone = sym (ap (λ (m : ℕ). is_done_in m (known_of r) (behind_mdt r jobs carry restarts u.sent (cycles ++ first ∷ before))) now_three)
-                ∙ stays_so (is_done (known_of r) (behind_mdt r jobs carry restarts u.sent (cycles ++ first ∷ before))) (behind_mdt r jobs carry restarts u.sent (cycles ++ first ∷ before)).now.phase
-                (sym (phase_after u cycles run.0 clear.0 earlier) ∙ phase_then ∙ sym now_three)
+          in_three : (behind_mdt r jobs carry restarts u.sent (cycles ++ first ∷ before)).now.phase ≡ 3 → suc (length cycles) ≤ sum_by section_two r.drives + 1 + greatest command_cycles r.drives + tail
+          in_three now_three = both_few last.place low (suc (length cycles)) (u ∷ (cycles ++ first ∷ before)) run.0 clear.0
+              (cut_at last.place low (u ∷ cycles) run.0 clear.0 earlier none_then (let is = phase_then in omega (arith, is))
+              (ap (is_ready (member (known_of r) last.place)) (outcomes_after laws more r jobs carry restarts opened u (cycles ++ first ∷ before) (on_now u cycles run.0 clear.0 earlier) last.place) ∙ not_so _ last.passes))
+            where
+              undone : all_ready (known_of r) (behind_mdt r jobs carry restarts u.sent (cycles ++ first ∷ before)) ≡ false
+              undone = sym (ap (λ (m : ℕ). is_done_in m (known_of r) (behind_mdt r jobs carry restarts u.sent (cycles ++ first ∷ before))) now_three)
+                  ∙ stays_so (is_done (known_of r) (behind_mdt r jobs carry restarts u.sent (cycles ++ first ∷ before))) (behind_mdt r jobs carry restarts u.sent (cycles ++ first ∷ before)).now.phase
+                  (sym (phase_after u cycles run.0 clear.0 earlier) ∙ phase_then ∙ sym now_three)
 
-            last : IsFound 0 (length (known_of r).drives) (λ k. not (is_ready (member (known_of r) k) (outcomes (behind_mdt r jobs carry restarts u.sent (cycles ++ first ∷ before)) k)))
-            last = found_some 0 (length (known_of r).drives) (λ k. not (is_ready (member (known_of r) k) (outcomes (behind_mdt r jobs carry restarts u.sent (cycles ++ first ∷ before)) k))) undone
+              last : IsFound 0 (length (known_of r).drives) (λ k. not (is_ready (member (known_of r) k) (outcomes (behind_mdt r jobs carry restarts u.sent (cycles ++ first ∷ before)) k)))
+              last = found_some 0 (length (known_of r).drives) (λ k. not (is_ready (member (known_of r) k) (outcomes (behind_mdt r jobs carry restarts u.sent (cycles ++ first ∷ before)) k))) undone
 
-            low : last.place < length r.drives
-            low = let below = last.below in let count = members_count r in omega (arith, below, count)
+              low : last.place < length r.drives
+              low = let below = last.below in let count = members_count r in omega (arith, below, count)
 
-    -- PHASE 4 COMES, or a stop.
-    pub comes_back : (t : CycleView) (cycles : List CycleView) → IsRun r jobs carry restarts (t ∷ (cycles ++ first ∷ before)) → IsClear (t ∷ (cycles ++ first ∷ before)) → IsStretch r jobs carry restarts (t ∷ cycles) first before
-        → startup_bound r + 41 * (slowest r.drives + 2) ≤ length cycles + 1 → (t.phase ≡ 4) ⊎ (is_some (behind_mdt r jobs carry restarts t.sent (cycles ++ first ∷ before)).stop ≡ true)
-    comes_back t cycles run clear stretch long = by (behind_mdt r jobs carry restarts t.sent (cycles ++ first ∷ before)).stop refl
-      where
-        by : (o : Option Stop) → (behind_mdt r jobs carry restarts t.sent (cycles ++ first ∷ before)).stop ≡ o → (t.phase ≡ 4) ⊎ (is_some (behind_mdt r jobs carry restarts t.sent (cycles ++ first ∷ before)).stop ≡ true)
-        by (Some x) is = inr (ap (λ (o : Option Stop). is_some o) is)
-        by None none =
-            let bound = within_bound started r in
-            let least = late_too t cycles run clear stretch in
-            let most = phase_low (known_of r) (tasks_for (known_of r) jobs) (master_calls r carry restarts (cycles ++ first ∷ before)) in
-            let same = phase_before t cycles run clear stretch in
-            elim (cases_eq t.phase 2) [
-              | inl two ↦ let few = two_few t cycles run clear stretch two (stop_after r jobs carry restarts t (cycles ++ first ∷ before) stretch.stays.1 ∙ none) in absurd (omega (arith, few, bound, long))
-              | inr not_two ↦ elim (cases_eq t.phase 3) [
-                | inl three ↦ let few = three_few t cycles run clear stretch three none in absurd (omega (arith, few, bound, long))
-                | inr not_three ↦ inl (omega (arith, least, most, same, not_two, not_three))
+      -- PHASE 4 COMES, or a stop.
+      pub comes_back : (t : CycleView) (cycles : List CycleView) → IsRun r jobs carry restarts (t ∷ (cycles ++ first ∷ before)) → IsClear (t ∷ (cycles ++ first ∷ before)) → IsStretch r jobs carry restarts (t ∷ cycles) first before
+          → startup_bound r + tail ≤ length cycles + 1 → (t.phase ≡ 4) ⊎ (is_some (behind_mdt r jobs carry restarts t.sent (cycles ++ first ∷ before)).stop ≡ true)
+      comes_back t cycles run clear stretch long = by (behind_mdt r jobs carry restarts t.sent (cycles ++ first ∷ before)).stop refl
+        where
+          by : (o : Option Stop) → (behind_mdt r jobs carry restarts t.sent (cycles ++ first ∷ before)).stop ≡ o → (t.phase ≡ 4) ⊎ (is_some (behind_mdt r jobs carry restarts t.sent (cycles ++ first ∷ before)).stop ≡ true)
+          by (Some x) is = inr (ap (λ (o : Option Stop). is_some o) is)
+          by None none =
+              let bound = within_bound started r in
+              let least = late_too t cycles run clear stretch in
+              let most = phase_low (known_of r) (tasks_for (known_of r) jobs) (master_calls r carry restarts (cycles ++ first ∷ before)) in
+              let same = phase_before t cycles run clear stretch in
+              elim (cases_eq t.phase 2) [
+                | inl two ↦ let few = two_few t cycles run clear stretch two (stop_after r jobs carry restarts t (cycles ++ first ∷ before) stretch.stays.1 ∙ none) in absurd (omega (arith, few, bound, long))
+                | inr not_two ↦ elim (cases_eq t.phase 3) [
+                  | inl three ↦ let few = three_few t cycles run clear stretch three none in absurd (omega (arith, few, bound, long))
+                  | inr not_three ↦ inl (omega (arith, least, most, same, not_two, not_three))
+                ]
               ]
-            ]

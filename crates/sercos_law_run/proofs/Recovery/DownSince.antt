@@ -44,6 +44,17 @@ one_at_most : (b : Bool) (n : ℕ) → one_more b n ≤ n + 1
 one_at_most true n = omega arith
 one_at_most false n = omega arith
 
+-- the master restarts in none of these cycles, which are later than the others
+abbrev pub NeverRestarts : Restarts → List CycleView → List CycleView → Type 0
+NeverRestarts restarts [] rest = Unit {0}
+NeverRestarts restarts (t ∷ cycles) rest = NeverRestarts restarts cycles rest × (restarts (length (cycles ++ rest)) 0 ≡ false)
+
+pub calm_quiet : (r : RingView) (carry : Carry) (restarts : Restarts) (cycles rest : List CycleView)
+    → AreUndisturbed r carry restarts cycles rest → NeverRestarts restarts cycles rest
+calm_quiet r carry restarts [] rest calm = tt
+calm_quiet r carry restarts (t ∷ cycles) rest calm =
+    (calm_quiet r carry restarts cycles rest calm.0, (calm_in r carry restarts t (cycles ++ rest) calm.1).stays 0 (omega arith))
+
 module _ (laws : Laws) (more : MoreLaws) (turn : WorkInTurn) (r : RingView) (jobs : List Job) (carry : Carry) (restarts : Restarts) (opened : IsOpened r jobs) where
   pub in_two : (t : CycleView) (j : List CycleView) → IsRun r jobs carry restarts (t ∷ j) → GoesOnInTwo r (behind_mdt r jobs carry restarts t.sent j) → t.phase ≡ 2
   in_two t j run goes = sym (phase_now r jobs carry restarts t j run.1) ∙ goes.phase
@@ -97,31 +108,31 @@ module _ (laws : Laws) (more : MoreLaws) (turn : WorkInTurn) (r : RingView) (job
         ∙ ap (λ (l : List Begun). is_some (open_in l)) (sym (begun_end laws more r jobs carry restarts opened t (cycles ++ rest) run clear stays.1 k))
 
     module _ (ages : (busy : ℕ) → AgesWhereDead busy) where
-      older : (t : CycleView) (cycles rest : List CycleView) → IsRun r jobs carry restarts (t ∷ (cycles ++ rest)) → IsClear (t ∷ (cycles ++ rest)) → AreUndisturbed r carry restarts (t ∷ cycles) rest → NoneFalls r jobs carry restarts (t ∷ cycles) rest
+      older : (t : CycleView) (cycles rest : List CycleView) → IsRun r jobs carry restarts (t ∷ (cycles ++ rest)) → IsClear (t ∷ (cycles ++ rest)) → NeverRestarts restarts (t ∷ cycles) rest → NoneFalls r jobs carry restarts (t ∷ cycles) rest
           → AreInTwo r jobs carry restarts (t ∷ cycles) rest → (k : ℕ) → k < length r.drives → IsDown r jobs carry restarts k rest → is_some (open_in (epoch_begun (views_of r jobs carry restarts k (cycles ++ rest)))) ≡ true
           → (age_in (views_of r jobs carry restarts k (t ∷ (cycles ++ rest))) ≡ age_in (views_of r jobs carry restarts k (cycles ++ rest)) + 1)
           × (is_some (open_in (epoch_begun (views_of r jobs carry restarts k (t ∷ (cycles ++ rest))))) ≡ true)
-      older t cycles rest run clear calm stays two k below down opens =
+      older t cycles rest run clear quiet stays two k below down opens =
           ages_down_in laws more turn r jobs carry restarts opened ages t (cycles ++ rest) run clear k below (down_all cycles rest run.0 clear.0 two.0 k below down)
-          (let is = in_two t (cycles ++ rest) run two.1 in omega (arith, is)) stays.1 ((calm_in r carry restarts t (cycles ++ rest) calm.1).stays 0 (omega arith)) opens
+          (let is = in_two t (cycles ++ rest) run two.1 in omega (arith, is)) stays.1 quiet.1 opens
 
       -- If no step to it is open now, none was.
-      pub never_open : (cycles rest : List CycleView) → IsRun r jobs carry restarts (cycles ++ rest) → IsClear (cycles ++ rest) → AreUndisturbed r carry restarts cycles rest → NoneFalls r jobs carry restarts cycles rest
+      pub never_open : (cycles rest : List CycleView) → IsRun r jobs carry restarts (cycles ++ rest) → IsClear (cycles ++ rest) → NeverRestarts restarts cycles rest → NoneFalls r jobs carry restarts cycles rest
           → AreInTwo r jobs carry restarts cycles rest → (k : ℕ) → k < length r.drives → IsDown r jobs carry restarts k rest → is_some (open_in (epoch_begun (views_of r jobs carry restarts k (cycles ++ rest)))) ≡ false
           → open_since (views_since r jobs carry restarts k cycles rest) (views_of r jobs carry restarts k rest) ≡ 0
-      never_open [] rest run clear calm stays two k below down off = refl
-      never_open (t ∷ cycles) rest run clear calm stays two k below down off =
-          let off_before = not_true (is_some (open_in (epoch_begun (views_of r jobs carry restarts k (cycles ++ rest))))) (λ opens. false≢true (sym off ∙ (older t cycles rest run clear calm stays two k below down opens).1)) in
-          ap₂ one_more (opens_at t cycles rest run clear stays k ∙ off) (never_open cycles rest run.0 clear.0 calm.0 stays.0 two.0 k below down off_before)
+      never_open [] rest run clear quiet stays two k below down off = refl
+      never_open (t ∷ cycles) rest run clear quiet stays two k below down off =
+          let off_before = not_true (is_some (open_in (epoch_begun (views_of r jobs carry restarts k (cycles ++ rest))))) (λ opens. false≢true (sym off ∙ (older t cycles rest run clear quiet stays two k below down opens).1)) in
+          ap₂ one_more (opens_at t cycles rest run clear stays k ∙ off) (never_open cycles rest run.0 clear.0 quiet.0 stays.0 two.0 k below down off_before)
 
       -- Else it was open in no more cycles than its age says.
-      pub open_at_most : (cycles rest : List CycleView) → IsRun r jobs carry restarts (cycles ++ rest) → IsClear (cycles ++ rest) → AreUndisturbed r carry restarts cycles rest → NoneFalls r jobs carry restarts cycles rest
+      pub open_at_most : (cycles rest : List CycleView) → IsRun r jobs carry restarts (cycles ++ rest) → IsClear (cycles ++ rest) → NeverRestarts restarts cycles rest → NoneFalls r jobs carry restarts cycles rest
           → AreInTwo r jobs carry restarts cycles rest → (k : ℕ) → k < length r.drives → IsDown r jobs carry restarts k rest
           → open_since (views_since r jobs carry restarts k cycles rest) (views_of r jobs carry restarts k rest) ≤ age_in (views_of r jobs carry restarts k (cycles ++ rest))
-      open_at_most [] rest run clear calm stays two k below down = omega arith
-      open_at_most (t ∷ cycles) rest run clear calm stays two k below down =
+      open_at_most [] rest run clear quiet stays two k below down = omega arith
+      open_at_most (t ∷ cycles) rest run clear quiet stays two k below down =
           by (is_some (open_in (epoch_begun (views_of r jobs carry restarts k (t ∷ (cycles ++ rest)))))) refl (is_some (open_in (epoch_begun (views_of r jobs carry restarts k (cycles ++ rest))))) refl
-          (open_at_most cycles rest run.0 clear.0 calm.0 stays.0 two.0 k below down)
+          (open_at_most cycles rest run.0 clear.0 quiet.0 stays.0 two.0 k below down)
         where
           one : one_more (is_some (open_in (begun_in (view_of r jobs carry restarts k t (cycles ++ rest)) (views_since r jobs carry restarts k cycles rest ++ views_of r jobs carry restarts k rest))))
               (open_since (views_since r jobs carry restarts k cycles rest) (views_of r jobs carry restarts k rest))
@@ -133,9 +144,9 @@ module _ (laws : Laws) (more : MoreLaws) (turn : WorkInTurn) (r : RingView) (job
               → open_since (views_since r jobs carry restarts k cycles rest) (views_of r jobs carry restarts k rest) ≤ age_in (views_of r jobs carry restarts k (cycles ++ rest))
               → one_more (is_some (open_in (begun_in (view_of r jobs carry restarts k t (cycles ++ rest)) (views_since r jobs carry restarts k cycles rest ++ views_of r jobs carry restarts k rest))))
               (open_since (views_since r jobs carry restarts k cycles rest) (views_of r jobs carry restarts k rest)) ≤ age_in (views_of r jobs carry restarts k (t ∷ (cycles ++ rest)))
-          by false off was before few = let none = never_open (t ∷ cycles) rest run clear calm stays two k below down off in omega (arith, none)
-          by true on true before few = let more_old = (older t cycles rest run clear calm stays two k below down before).0 in let most = one in omega (arith, more_old, few, most)
+          by false off was before few = let none = never_open (t ∷ cycles) rest run clear quiet stays two k below down off in omega (arith, none)
+          by true on true before few = let more_old = (older t cycles rest run clear quiet stays two k below down before).0 in let most = one in omega (arith, more_old, few, most)
           by true on false before few =
-              let none = never_open cycles rest run.0 clear.0 calm.0 stays.0 two.0 k below down before in
+              let none = never_open cycles rest run.0 clear.0 quiet.0 stays.0 two.0 k below down before in
               let least = open_age (views_of r jobs carry restarts k (t ∷ (cycles ++ rest))) on in
               let most = one in omega (arith, none, least, most)

@@ -74,10 +74,10 @@ module _ (laws : Laws) (more : MoreLaws) (turn : WorkInTurn) (early : BeginsNone
     start : at_start r jobs carry restarts (t ∷ j) ≡ looks_back r jobs (master_calls r carry restarts (t ∷ j))
     start = same_start r jobs carry restarts (t ∷ j) on
 
-    stop_before : (behind_mdt r jobs carry restarts u.sent (t ∷ j)).stop ≡ None → (behind_mdt r jobs carry restarts t.sent j).stop ≡ None
+    pub stop_before : (behind_mdt r jobs carry restarts u.sent (t ∷ j)).stop ≡ None → (behind_mdt r jobs carry restarts t.sent j).stop ≡ None
     stop_before none = sym (stop_after r jobs carry restarts t j stays) ∙ none_before r jobs carry restarts u (t ∷ j) start none
 
-    goes_on_in_two : u.phase ≡ 2 → t.phase ≡ 2 → (behind_mdt r jobs carry restarts u.sent (t ∷ j)).stop ≡ None → GoesOnInTwo r (behind_mdt r jobs carry restarts t.sent j)
+    pub goes_on_in_two : u.phase ≡ 2 → t.phase ≡ 2 → (behind_mdt r jobs carry restarts u.sent (t ∷ j)).stop ≡ None → GoesOnInTwo r (behind_mdt r jobs carry restarts t.sent j)
     goes_on_in_two u_two t_two none =
         let p : Past = behind_mdt r jobs carry restarts t.sent j in
         let phase : p.now.phase ≡ 2 = phase_now r jobs carry restarts t j run.0.1 ∙ t_two in

@@ -1,14 +1,12 @@
 -- So the ring is back in time after the last disturbed cycle.
 use Rattle.std.proofs.Common.{◌≡◌, ◌⊎◌, inl, inr, ℕ, suc, ◌+◌, ◌*◌, ◌<◌, ◌≤◌, true, List, [], ◌∷◌, ◌++◌, length, Option, Some, None, refl, sym, ap, ◌∙◌, subst, arith, length-append}
 use Rattle.std.specs.Prelude.{is_some, slice_get}
-use Rattle.std.specs.List.{sum_by}
 use Rattle.std.proofs.lemmas.Bool.{cases_eq, cases_lt, false≢true}
-use Rattle.std.proofs.lemmas.List.Sums.{sum_by-cons}
 use Rattle.std.proofs.lemmas.Option.{slice_get_within}
 use Rattle.sercos_step.specs.declared.request.Job.{Job}
 use Rattle.sercos_block.specs.Startup.{startup_bound}
-use Rattle.sercos_block.specs.Views.{DriveView, RingView}
-use Rattle.sercos_law_run.specs.Bounds.Bounds.{listed, recovery_bound, section_cycles, slowest, AreSections, IsBackLater, IsBelowGreatest, IsStarted}
+use Rattle.sercos_block.specs.Views.{RingView}
+use Rattle.sercos_law_run.specs.Bounds.Bounds.{slowest, AreSections, IsBelowGreatest, IsStarted}
 use Rattle.sercos_trace.specs.Views.{CycleView}
 use Rattle.sercos_trace.specs.declared.events.Fall.{Fall}
 use Rattle.sercos_trace.specs.declared.events.Stop.{Stop}
@@ -21,12 +19,12 @@ use Rattle.sercos_law_channel.specs.Handshake.Views.{standing}
 use Rattle.sercos_law_channel.specs.Pace.Ages.{AgesWhereDead, OpensAlways}
 use Rattle.sercos_law_channel.specs.Pace.ChannelCalls.{AgesBeforeEnd, NoneLate}
 use Rattle.sercos_law_channel.specs.Pace.Costs.{ComesTimed}
-use Rattle.sercos_law_channel.specs.Pace.Jobs.{ListReadCosts, ReadsCost, WritesCost}
+use Rattle.sercos_law_channel.specs.Pace.Jobs.{ReadsCost, WritesCost}
 use Rattle.sercos_law_channel.specs.Pace.Passages.{HearsThroughout, RecoversInTime, StandsThroughout, StaysDead}
 use Rattle.sercos_law_channel.specs.Pace.StartCosts.{RecoversInCost, RecoversSince}
 use Rattle.sercos_law_run.specs.Journal.Runs.{begins, IsClear, IsRun}
 use Rattle.sercos_law_run.specs.Agenda.Tasks.{BeginsNoneEarly}
-use Rattle.sercos_law_run.specs.Agenda.Turns.{WorkInTurn, WorksInFour, WorksInThree, WorksInTwo}
+use Rattle.sercos_law_run.specs.Agenda.Turns.{WorkInTurn, WorksInFour, WorksInTwo}
 use Rattle.sercos_law_run.proofs.Typed.Mdts.{phase_low}
 use Rattle.sercos_law_run.specs.Views.RingViews.{behind_mdt, views_of}
 use Rattle.sercos_law_run.specs.Held.Opened.{IsOpened}
@@ -38,29 +36,26 @@ use Rattle.sercos_law_run.specs.Undisturbed.Fit.{FitsInThree, OwnFitsInFour}
 use Rattle.sercos_law_run.specs.Undisturbed.Reports.{HaveTold, left_after, request_cycles, waiting_after}
 use Rattle.sercos_law_run.specs.Undisturbed.StartUps.{NoneFalls, StaysUpUndisturbed, TellsNoFall}
 use Rattle.sercos_law_run.specs.Undisturbed.StopsInTwo.{StopsForTheCycleTime, StopsForThePlan, StopsInTwo}
-use Rattle.sercos_law_run.specs.Undisturbed.StopsLater.{EndsStartUp, IsRight, NoStopInFour, StopsForTheCheck, StopsInThree}
+use Rattle.sercos_law_run.specs.Undisturbed.StopsLater.{IsRight, NoStopInFour, StopsForTheCheck, StopsInThree}
 use Rattle.sercos_law_run.specs.Undisturbed.Undisturbed.{AreUndisturbed, IsUndisturbed}
 use Rattle.sercos_law_run.proofs.Undisturbed.Answered.{tells_in}
 use Rattle.sercos_law_run.proofs.Undisturbed.Comes.{calm_in}
 use Rattle.sercos_law_run.proofs.Undisturbed.EpochCycles.{AreOn, IsCut, IsOn, cut, none_along, run_rest}
 use Rattle.sercos_law_run.proofs.Undisturbed.InTime.{within_bound}
-use Rattle.sercos_law_run.proofs.Undisturbed.NeverFalls.{busy_low}
-use Rattle.sercos_law_run.proofs.Undisturbed.PhaseTwo.{section_two}
 use Rattle.sercos_law_run.proofs.Undisturbed.RefusedRuns.{SaysShape}
 use Rattle.sercos_law_run.proofs.Undisturbed.Small.{first_is}
 use Rattle.sercos_law_run.proofs.Undisturbed.StopStays.{stop_after}
 use Rattle.sercos_law_run.proofs.Undisturbed.ToldInTime.{IsTold, beyond, left_first, left_in_epoch, left_in_time, numbers_long, told_since, told_there}
 use Rattle.sercos_law_run.proofs.Undisturbed.WholeRuns.{caused}
-use Rattle.sercos_law_run.specs.Recovery.AfterFalls.{AfterFall}
 use Rattle.sercos_law_run.specs.Recovery.FallsInTime.{IsSpared}
-use Rattle.sercos_law_run.specs.Recovery.Recovers.{IsBack, RecoversIn}
+use Rattle.sercos_law_run.specs.Recovery.Recovers.{IsBack}
 use Rattle.sercos_law_run.specs.Recovery.Stretches.{IsDown, IsStretch}
-use Rattle.sercos_law_run.proofs.Recovery.ComesBack.{comes_back, on_now}
+use Rattle.sercos_law_run.proofs.Recovery.ComesBack.{on_now}
 use Rattle.sercos_law_run.proofs.Recovery.DownSince.{shorter, up_all}
 use Rattle.sercos_law_run.proofs.Recovery.EarlyPhases.{early_or_entered}
 use Rattle.sercos_law_run.proofs.Recovery.EarlyStops.{stands_at}
 use Rattle.sercos_law_run.proofs.Recovery.EpochStops.{same_start}
-use Rattle.sercos_law_run.proofs.Recovery.FallsInTime.{falls_in_time, greatest_low, late_now}
+use Rattle.sercos_law_run.proofs.Recovery.FallsInTime.{falls_in_time, late_now}
 use Rattle.sercos_law_run.proofs.Recovery.FallsSoon.{down_or_up, falls_soon}
 use Rattle.sercos_law_run.proofs.Recovery.LateDown.{no_lower}
 use Rattle.sercos_law_run.proofs.Recovery.SpareStops.{falls_anyway}
@@ -77,32 +72,33 @@ suffix r carry restarts xs base [] rest is long calm = record { mid = xs; is = s
 suffix r carry restarts [] base (y ∷ ys) rest is long calm = let all = ap (λ (l : List CycleView). length l) is in let parts = length-append ys rest in absurd (omega (arith, all, parts, long))
 suffix r carry restarts (x ∷ xs) base (y ∷ ys) rest is long calm = suffix r carry restarts xs base ys rest (first_is x y (xs ++ base) (ys ++ rest) is).1 long calm.0
 
--- THE BOUND has room for phase 1, and for the time that a step needs, beside a whole start-up and a refusal.
-two_share : (b m t : ℕ) → 74 * b + 74 ≤ (b + 1) * (24 + 3 * m) + ((b + 1) * (50 + m) + t)
-two_share b m t =
-    let reads : (b + 1) * (24 + 3 * m) ≡ 24 * b + 24 + 3 * (b * m) + 3 * m = grind arith in
-    let writes : (b + 1) * (50 + m) ≡ 50 * b + 50 + b * m + m = grind arith in omega (arith, reads, writes)
+-- HOW A START-UP ENDS, from some cycles after its bound on
+abbrev pub EndsIn : RingView → List Job → Carry → Restarts → ℕ → Type 0
+EndsIn r jobs carry restarts tail = (t : CycleView) (cycles before : List CycleView) → IsRun r jobs carry restarts (t ∷ (cycles ++ before)) →
+    IsClear (t ∷ (cycles ++ before)) → StartsEpoch r jobs carry restarts before → AreUndisturbed r carry restarts (t ∷ cycles) before →
+    startup_bound r + tail ≤ length cycles →
+    ((t.phase ≡ 4) × ((behind_mdt r jobs carry restarts t.sent (cycles ++ before)).stop ≡ None) × IsRight r)
+    ⊎ ((x : Stop) × ((behind_mdt r jobs carry restarts t.sent (cycles ++ before)).stop ≡ Some x)
+    × (StopsForThePlan r x ⊎ (StopsForTheCycleTime r x
+    ⊎ StopsForTheCheck r (behind_mdt r jobs carry restarts t.sent (cycles ++ before)) x)))
 
-slow_two : (drives : List DriveView) → 1 ≤ length drives → 74 * slowest drives + 74 ≤ sum_by section_two drives
-slow_two [] some = absurd (omega arith)
-slow_two (d ∷ []) some = let one = two_share d.busy (listed d) d.command in omega (arith, one)
-slow_two (d ∷ e ∷ drives) some =
-    let one = two_share d.busy (listed d) d.command in
-    let more = slow_two (e ∷ drives) (omega arith) in omega (arith, one, more, sum_by-cons section_two d (e ∷ drives))
+-- and what is left of one, if no drive is in phase 0
+abbrev pub ComesIn : RingView → List Job → Carry → Restarts → ℕ → Type 0
+ComesIn r jobs carry restarts tail = (first : CycleView) (before : List CycleView) → 2 ≤ first.phase →
+    ((k : ℕ) → k < length r.drives → IsDown r jobs carry restarts k (first ∷ before) → ⊥) → (t : CycleView) (cycles : List CycleView) →
+    IsRun r jobs carry restarts (t ∷ (cycles ++ first ∷ before)) → IsClear (t ∷ (cycles ++ first ∷ before)) →
+    IsStretch r jobs carry restarts (t ∷ cycles) first before → startup_bound r + tail ≤ length cycles + 1 →
+    (t.phase ≡ 4) ⊎ (is_some (behind_mdt r jobs carry restarts t.sent (cycles ++ first ∷ before)).stop ≡ true)
 
-room : IsStarted → (r : RingView) → 1 ≤ length r.drives → startup_bound r + 41 * (slowest r.drives + 2) + slowest r.drives + length r.drives + 200 ≤ recovery_bound r
-room started r some = let within = within_bound started r in let slow = slow_two r.drives some in omega (arith, within, slow)
-
-module _ (laws : Laws) (more : MoreLaws) (turn : WorkInTurn) (early : BeginsNoneEarly) (works : WorksInTwo) (works_three : WorksInThree) (comes_up : (busy : ℕ) → ComesUp busy)
+module _ (laws : Laws) (more : MoreLaws) (turn : WorkInTurn) (early : BeginsNoneEarly) (works : WorksInTwo) (comes_up : (busy : ℕ) → ComesUp busy)
     (r : RingView) (jobs : List Job) (carry : Carry) (restarts : Restarts) (opened : IsOpened r jobs)
     (dead : (busy : ℕ) → StaysDead busy) (ages : (busy : ℕ) → AgesWhereDead busy) (counts : (busy : ℕ) → AgesBeforeEnd busy) (recovers : (busy : ℕ) → RecoversInCost busy) (since : (busy : ℕ) → RecoversSince busy) (timed : ComesTimed)
-    (sections : AreSections) (reads_cost : (busy : ℕ) → ReadsCost busy) (writes_cost : (busy : ℕ) → WritesCost busy) (list_costs : (busy : ℕ) → ListReadCosts busy) (started : IsStarted) (below_greatest : IsBelowGreatest) (later : IsBackLater)
-    (stops_two : StopsInTwo) (stops_three : StopsInThree) (none_four : NoStopInFour) (fit : FitsInThree) (own : OwnFitsInFour) (outcome : EndsStartUp) (stays_up : StaysUpUndisturbed) (at_fall : StartsAtFall) where
+    (sections : AreSections) (reads_cost : (busy : ℕ) → ReadsCost busy) (writes_cost : (busy : ℕ) → WritesCost busy) (started : IsStarted) (below_greatest : IsBelowGreatest)
+    (stops_two : StopsInTwo) (stops_three : StopsInThree) (none_four : NoStopInFour) (fit : FitsInThree) (own : OwnFitsInFour) (stays_up : StaysUpUndisturbed) (at_fall : StartsAtFall)
+    (fall tail : ℕ) (room : slowest r.drives + length r.drives + 47 ≤ fall) (spared : (n : ℕ) → IsSpared r 65 n → n + 3 ≤ fall)
+    (ends : EndsIn r jobs carry restarts tail) (comes : ComesIn r jobs carry restarts tail) where
   some_drive : 1 ≤ length r.drives
   some_drive = (laws.ring r opened.valid).some
-
-  slow : slowest r.drives ≤ 20
-  slow = greatest_low (λ x. x.busy) 20 r.drives (λ k low. busy_low r k opened.valid low)
 
   -- phase 4 says that the ring is right
   right : (t : CycleView) (j : List CycleView) → IsRun r jobs carry restarts (t ∷ j) → IsClear (t ∷ j) → t.phase ≡ 4 → IsRight r
@@ -136,8 +132,8 @@ module _ (laws : Laws) (more : MoreLaws) (turn : WorkInTurn) (early : BeginsNone
 
   -- AN EPOCH without disturbance
   after_start : (t : CycleView) (cycles before : List CycleView) → IsRun r jobs carry restarts (t ∷ (cycles ++ before)) → IsClear (t ∷ (cycles ++ before)) → StartsEpoch r jobs carry restarts before → AreUndisturbed r carry restarts (t ∷ cycles) before
-      → startup_bound r + 41 * (slowest r.drives + 2) ≤ length cycles → IsBack r t (cycles ++ before)
-  after_start t cycles before run clear starts calm long = elim (outcome r jobs carry restarts t cycles before opened run clear starts calm long) [
+      → startup_bound r + tail ≤ length cycles → IsBack r t (cycles ++ before)
+  after_start t cycles before run clear starts calm long = elim (ends t cycles before run clear starts calm long) [
     | inl four ↦ inl (four.0, four.2)
     | inr stop ↦ stands t (cycles ++ before) stop.0 run (stays_up r jobs carry restarts (t ∷ cycles) before opened run clear starts calm).stays.1 stop.1 stop.2
   ]
@@ -153,7 +149,7 @@ module _ (laws : Laws) (more : MoreLaws) (turn : WorkInTurn) (early : BeginsNone
 
   -- WITHOUT A FALL, from a first cycle of phase 2 or later on
   late_back : (t : CycleView) (cycles : List CycleView) (first : CycleView) (before : List CycleView) → IsRun r jobs carry restarts (t ∷ (cycles ++ first ∷ before)) → IsClear (t ∷ (cycles ++ first ∷ before)) → IsStretch r jobs carry restarts (t ∷ cycles) first before
-      → 2 ≤ first.phase → startup_bound r + 41 * (slowest r.drives + 2) ≤ length cycles + 1 → ((d : ℕ) → d < length r.drives → IsDown r jobs carry restarts d (first ∷ before) → IsSpared r 65 (suc (length cycles)) → ⊥) → IsBack r t (cycles ++ first ∷ before)
+      → 2 ≤ first.phase → startup_bound r + tail ≤ length cycles + 1 → ((d : ℕ) → d < length r.drives → IsDown r jobs carry restarts d (first ∷ before) → IsSpared r 65 (suc (length cycles)) → ⊥) → IsBack r t (cycles ++ first ∷ before)
   late_back t cycles first before run clear stretch late long never = by (behind_mdt r jobs carry restarts t.sent (cycles ++ first ∷ before)).stop refl
     where
       late_too : 2 ≤ t.phase
@@ -164,7 +160,7 @@ module _ (laws : Laws) (more : MoreLaws) (turn : WorkInTurn) (early : BeginsNone
       by None none = elim (down_or_up r jobs carry restarts (first ∷ before)) [
         | inl down ↦ absurd (never down.0 down.1 down.2 (falls_in_time laws more turn early works r jobs carry restarts opened dead ages counts recovers since timed sections reads_cost writes_cost down.0 down.1 (t ∷ cycles) first before
             run clear stretch late (stop_after r jobs carry restarts t (cycles ++ first ∷ before) stretch.stays.1 ∙ none) down.2))
-        | inr up ↦ elim (comes_back laws more turn early works works_three r jobs carry restarts opened dead ages counts recovers since timed sections reads_cost writes_cost list_costs started below_greatest first before late up t cycles run clear stretch long) [
+        | inr up ↦ elim (comes first before late up t cycles run clear stretch long) [
           | inl four ↦ inl (four, right t (cycles ++ first ∷ before) run clear four)
           | inr stop ↦ absurd (false≢true (sym (ap (λ (o : Option Stop). is_some o) none) ∙ stop))
         ]
@@ -224,7 +220,7 @@ module _ (laws : Laws) (more : MoreLaws) (turn : WorkInTurn) (early : BeginsNone
     -- A FALL in the cycle f comes in time
     module _ (f : CycleView) where
       abbrev IsInTime : List CycleView → Type 0
-      IsInTime j = length j + 1 + startup_bound r + 41 * (slowest r.drives + 2) ≤ length before + recovery_bound r
+      IsInTime j = length j + 1 ≤ length before + fall
 
       abbrev Falls : List CycleView → Type 0
       Falls j = is_some (fall_of (known_of r) (behind_mdt r jobs carry restarts f.sent j)) ≡ true
@@ -234,14 +230,12 @@ module _ (laws : Laws) (more : MoreLaws) (turn : WorkInTurn) (early : BeginsNone
       after_two cycles first run clear stretch calm falls late = elim (down_or_up r jobs carry restarts (first ∷ lost ∷ before)) [
         | inl down ↦
             let is = in_time f cycles first (lost ∷ before) run clear stretch calm falls late down.0 down.1 down.2 in
-            let few = is.few in
             let long = length-append cycles (first ∷ lost ∷ before) in
-            later r is.earlier is.later is.one (length before) (length (cycles ++ first ∷ lost ∷ before)) (length (cycles ++ first ∷ lost ∷ before) + 1 + startup_bound r + 41 * (slowest r.drives + 2)) is.are slow
-            (omega (arith, few, long)) (omega arith)
+            let most = spared (length cycles) is in omega (arith, most, long)
         | inr up ↦
             let few = soon f cycles first (lost ∷ before) run clear stretch calm falls late up in
             let long = length-append cycles (first ∷ lost ∷ before) in
-            let room_is = room started r some_drive in omega (arith, few, long, room_is)
+            omega (arith, few, long, room)
       ]
 
       entered : (cycles : List CycleView) (two : CycleView) (older : List CycleView) → IsRun r jobs carry restarts (f ∷ (cycles ++ two ∷ older)) → IsClear (f ∷ (cycles ++ two ∷ older)) → IsStretch r jobs carry restarts cycles two older
@@ -250,19 +244,19 @@ module _ (laws : Laws) (more : MoreLaws) (turn : WorkInTurn) (early : BeginsNone
       entered cycles two older run clear stretch calm falls is_two most up =
           let few = soon f cycles two older run clear stretch calm falls (omega (arith, is_two)) up in
           let long = length-append cycles (two ∷ older) in
-          let room_is = room started r some_drive in omega (arith, few, long, most, room_is)
+          omega (arith, few, long, most, room)
 
       after_one : (cycles : List CycleView) (first : CycleView) → IsRun r jobs carry restarts (f ∷ (cycles ++ first ∷ lost ∷ before)) → IsClear (f ∷ (cycles ++ first ∷ lost ∷ before)) → IsStretch r jobs carry restarts cycles first (lost ∷ before)
           → IsUndisturbed r carry restarts f (cycles ++ first ∷ lost ∷ before) → Falls (cycles ++ first ∷ lost ∷ before) → first.phase ≡ 1 → IsInTime (cycles ++ first ∷ lost ∷ before)
       after_one cycles first run clear stretch calm falls one = elim (early_or_entered laws more turn comes_up r jobs carry restarts opened first (lost ∷ before) one cycles run.0 clear.0 stretch) [
-        | inl few ↦ let long = length-append cycles (first ∷ lost ∷ before) in let room_is = room started r some_drive in omega (arith, few, long, room_is)
+        | inl few ↦ let long = length-append cycles (first ∷ lost ∷ before) in omega (arith, few, long, room)
         | inr e ↦ subst IsInTime (sym e.is) (entered e.newer e.two e.older (subst (λ (l : List CycleView). IsRun r jobs carry restarts (f ∷ l)) e.is run) (subst (λ (l : List CycleView). IsClear (f ∷ l)) e.is clear) e.stretch
             (subst (λ (l : List CycleView). IsUndisturbed r carry restarts f l) e.is calm) (subst Falls e.is falls) e.phase_is (let most = e.few in omega (arith, most)) e.up)
       ]
 
       falls_in : (cycles : List CycleView) → IsRun r jobs carry restarts (f ∷ (cycles ++ lost ∷ before)) → IsClear (f ∷ (cycles ++ lost ∷ before)) → AreUndisturbed r carry restarts (f ∷ cycles) (lost ∷ before)
           → NoneFalls r jobs carry restarts cycles (lost ∷ before) → Falls (cycles ++ lost ∷ before) → IsInTime (cycles ++ lost ∷ before)
-      falls_in [] run clear calm stays falls = let room_is = room started r some_drive in omega (arith, room_is)
+      falls_in [] run clear calm stays falls = omega (arith, room)
       falls_in (u ∷ cycles) run clear calm stays falls = by (first_of u cycles calm.0 stays)
         where
           never : StartsEpoch r jobs carry restarts (lost ∷ before) → ⊥
@@ -285,25 +279,20 @@ module _ (laws : Laws) (more : MoreLaws) (turn : WorkInTurn) (early : BeginsNone
     -- WITHOUT A FALL
     abbrev pub BackAt : List CycleView → Type 0
     BackAt [] = Unit {0}
-    BackAt (t ∷ j) = length before + recovery_bound r ≤ length j → IsBack r t j
+    BackAt (t ∷ j) = length before + fall + startup_bound r + tail ≤ length j → IsBack r t j
 
     late_at : (cycles : List CycleView) (first : CycleView) → IsRun r jobs carry restarts (cycles ++ first ∷ lost ∷ before) → IsClear (cycles ++ first ∷ lost ∷ before) → IsStretch r jobs carry restarts cycles first (lost ∷ before) → 2 ≤ first.phase
         → BackAt (cycles ++ first ∷ lost ∷ before)
-    late_at [] first run clear stretch late = λ long. absurd (let room_is = room started r some_drive in omega (arith, long, room_is))
+    late_at [] first run clear stretch late = λ long. absurd (omega (arith, long, room))
     late_at (t ∷ cycles) first run clear stretch late = λ long. late_back t cycles first (lost ∷ before) run clear stretch late
-        (let length_is = length-append cycles (first ∷ lost ∷ before) in let room_is = room started r some_drive in omega (arith, long, length_is, room_is))
-        (λ d there down is.
-        let few = is.few in
-        let length_is = length-append cycles (first ∷ lost ∷ before) in
-        let most = later r is.earlier is.later is.one (length before) (length before + 67 + sum_by section_cycles (is.earlier ++ is.later))
-        (length before + 67 + sum_by section_cycles (is.earlier ++ is.later) + 1 + startup_bound r + 41 * (slowest r.drives + 2)) is.are slow (omega arith) (omega arith) in
-        omega (arith, few, length_is, most, long))
+        (let length_is = length-append cycles (first ∷ lost ∷ before) in omega (arith, long, length_is, room))
+        (λ d there down is. let most = spared (suc (length cycles)) is in let length_is = length-append cycles (first ∷ lost ∷ before) in omega (arith, most, length_is, long))
 
     entered_at : (cycles : List CycleView) (two : CycleView) (older : List CycleView) → IsRun r jobs carry restarts (cycles ++ two ∷ older) → IsClear (cycles ++ two ∷ older) → IsStretch r jobs carry restarts cycles two older → two.phase ≡ 2
         → length older ≤ length before + 2 + length r.drives → ((k : ℕ) → k < length r.drives → IsDown r jobs carry restarts k (two ∷ older) → ⊥) → BackAt (cycles ++ two ∷ older)
-    entered_at [] two older run clear stretch is_two most up = λ long. absurd (let room_is = room started r some_drive in omega (arith, long, most, room_is))
+    entered_at [] two older run clear stretch is_two most up = λ long. absurd (omega (arith, long, most, room))
     entered_at (t ∷ cycles) two older run clear stretch is_two most up = λ long. late_back t cycles two older run clear stretch (omega (arith, is_two))
-        (let length_is = length-append cycles (two ∷ older) in let room_is = room started r some_drive in omega (arith, long, length_is, most, room_is))
+        (let length_is = length-append cycles (two ∷ older) in omega (arith, long, length_is, most, room))
         (λ d there down is. up d there down)
 
     one_at : (cycles : List CycleView) (first : CycleView) → IsRun r jobs carry restarts (cycles ++ first ∷ lost ∷ before) → IsClear (cycles ++ first ∷ lost ∷ before) → IsStretch r jobs carry restarts cycles first (lost ∷ before) → first.phase ≡ 1
@@ -314,18 +303,18 @@ module _ (laws : Laws) (more : MoreLaws) (turn : WorkInTurn) (early : BeginsNone
     ]
       where
         short : (l : List CycleView) → length l ≤ length r.drives → BackAt (l ++ first ∷ lost ∷ before)
-        short [] few = λ long. absurd (let room_is = room started r some_drive in omega (arith, long, room_is))
-        short (t ∷ l) few = λ long. absurd (let room_is = room started r some_drive in let length_is = length-append l (first ∷ lost ∷ before) in omega (arith, long, few, room_is, length_is))
+        short [] few = λ long. absurd (omega (arith, long, room))
+        short (t ∷ l) few = λ long. absurd (let length_is = length-append l (first ∷ lost ∷ before) in omega (arith, long, few, room, length_is))
 
     from_start : (cycles : List CycleView) → IsRun r jobs carry restarts (cycles ++ lost ∷ before) → IsClear (cycles ++ lost ∷ before) → StartsEpoch r jobs carry restarts (lost ∷ before) → AreUndisturbed r carry restarts cycles (lost ∷ before)
         → BackAt (cycles ++ lost ∷ before)
-    from_start [] run clear starts calm = λ long. absurd (let room_is = room started r some_drive in omega (arith, long, room_is))
+    from_start [] run clear starts calm = λ long. absurd (omega (arith, long, room))
     from_start (t ∷ cycles) run clear starts calm = λ long. after_start t cycles (lost ∷ before) run clear starts calm
-        (let length_is = length-append cycles (lost ∷ before) in let room_is = room started r some_drive in omega (arith, long, length_is, room_is))
+        (let length_is = length-append cycles (lost ∷ before) in omega (arith, long, length_is, room))
 
     none_falls_at : (cycles : List CycleView) → IsRun r jobs carry restarts (cycles ++ lost ∷ before) → IsClear (cycles ++ lost ∷ before) → AreUndisturbed r carry restarts cycles (lost ∷ before) → NoneFalls r jobs carry restarts cycles (lost ∷ before)
         → BackAt (cycles ++ lost ∷ before)
-    none_falls_at [] run clear calm stays = λ long. absurd (let room_is = room started r some_drive in omega (arith, long, room_is))
+    none_falls_at [] run clear calm stays = λ long. absurd (omega (arith, long, room))
     none_falls_at (u ∷ cycles) run clear calm stays = by (first_of u cycles calm stays)
       where
         by : IsOpenedBy (u ∷ (cycles ++ lost ∷ before)) → BackAt (u ∷ (cycles ++ lost ∷ before))
@@ -392,13 +381,13 @@ module _ (laws : Laws) (more : MoreLaws) (turn : WorkInTurn) (early : BeginsNone
     -- NO FALL, AND NOTHING BROKEN, from the bound of a recovery on
     abbrev pub TellsAt : List CycleView → Type 0
     TellsAt [] = Unit {0}
-    TellsAt (t ∷ j) = length before + recovery_bound r ≤ length j → TellsNoFall t
+    TellsAt (t ∷ j) = length before + fall ≤ length j → TellsNoFall t
 
     pub tells_after : (cycles : List CycleView) → IsRun r jobs carry restarts (cycles ++ lost ∷ before) → IsClear (cycles ++ lost ∷ before) → AreUndisturbed r carry restarts cycles (lost ∷ before) → TellsAt (cycles ++ lost ∷ before)
     tells_after cycles run clear calm = by (fell_or_not cycles calm)
       where
         stays_at : (l : List CycleView) → IsRun r jobs carry restarts (l ++ lost ∷ before) → IsClear (l ++ lost ∷ before) → AreUndisturbed r carry restarts l (lost ∷ before) → NoneFalls r jobs carry restarts l (lost ∷ before) → TellsAt (l ++ lost ∷ before)
-        stays_at [] run clear calm stays = λ long. absurd (let room_is = room started r some_drive in omega (arith, long, room_is))
+        stays_at [] run clear calm stays = λ long. absurd (omega (arith, long, room))
         stays_at (t ∷ l) run clear calm stays = λ long. tells_in laws more r jobs carry restarts opened t (l ++ lost ∷ before) run clear calm.1 stays.1
 
         fell_then : (newer : List CycleView) (one : CycleView) (older : List CycleView) → IsRun r jobs carry restarts (newer ++ one ∷ (older ++ lost ∷ before)) → IsClear (newer ++ one ∷ (older ++ lost ∷ before))
@@ -437,7 +426,7 @@ module _ (laws : Laws) (more : MoreLaws) (turn : WorkInTurn) (early : BeginsNone
       on_since [] run clear stretch = tt
       on_since (u ∷ newer) run clear stretch = (
         on_since newer run.0 clear.0 (shorter laws more turn r jobs carry restarts opened u newer first older stretch),
-        on_now laws more turn early works works_three r jobs carry restarts opened dead ages counts recovers since timed sections reads_cost writes_cost list_costs started below_greatest first older late up u newer run clear stretch,
+        on_now laws more turn early works r jobs carry restarts opened dead ages counts recovers since timed sections reads_cost writes_cost started below_greatest first older late up u newer run clear stretch,
       )
 
       stays_since : (cycles rest : List CycleView) → AreOn r jobs carry restarts cycles rest → NoneFalls r jobs carry restarts cycles rest
@@ -445,12 +434,12 @@ module _ (laws : Laws) (more : MoreLaws) (turn : WorkInTurn) (early : BeginsNone
       stays_since (u ∷ cycles) rest on = (stays_since cycles rest on.0, on.1.stays)
 
       module _ (t : CycleView) (newer : List CycleView) (run : IsRun r jobs carry restarts (t ∷ (newer ++ first ∷ older))) (clear : IsClear (t ∷ (newer ++ first ∷ older))) (stretch : IsStretch r jobs carry restarts (t ∷ newer) first older)
-          (four : t.phase ≡ 4) (base : List CycleView) (most : length older ≤ length base + 1 + length r.drives) (long : length base + recovery_bound r + suc i * request_cycles r k ≤ suc (length (newer ++ first ∷ older))) where
+          (four : t.phase ≡ 4) (base : List CycleView) (most : length older ≤ length base + 1 + length r.drives) (long : length base + fall + startup_bound r + tail + suc i * request_cycles r k ≤ suc (length (newer ++ first ∷ older))) where
         on : AreOn r jobs carry restarts (t ∷ newer) (first ∷ older)
         on = on_since (t ∷ newer) run clear stretch
 
-        long_newer : startup_bound r + 41 * (slowest r.drives + 2) + suc i * request_cycles r k ≤ length newer
-        long_newer = let parts = length-append newer (first ∷ older) in let room_is = room started r some_drive in omega (arith, parts, room_is, most, long)
+        long_newer : startup_bound r + tail + suc i * request_cycles r k ≤ length newer
+        long_newer = let parts = length-append newer (first ∷ older) in omega (arith, parts, room, most, long)
 
         c : IsCut r jobs carry restarts (suc i * request_cycles r k) newer (first ∷ older)
         c = cut r jobs carry restarts newer (first ∷ older) (suc i * request_cycles r k) (let enough = long_newer in let some = within_bound started r in omega (arith, enough, some)) on.0 stretch.calm.0
@@ -474,7 +463,7 @@ module _ (laws : Laws) (more : MoreLaws) (turn : WorkInTurn) (early : BeginsNone
             (stop_after r jobs carry restarts t (c.newer ++ c.one ∷ (c.older ++ first ∷ older)) on_cut.1.stays ∙ none_four r jobs carry restarts t (c.newer ++ c.one ∷ (c.older ++ first ∷ older)) opened run_cut clear_cut four)
 
         one_four : c.one.phase ≡ 4
-        one_four = elim (comes_back laws more turn early works works_three r jobs carry restarts opened dead ages counts recovers since timed sections reads_cost writes_cost list_costs started below_greatest first older late up c.one c.older one_run.0 one_run.1
+        one_four = elim (comes first older late up c.one c.older one_run.0 one_run.1
             (record { calm = c.calm; stays = stays_since (c.one ∷ c.older) (first ∷ older) c.on_older; first_calm = stretch.first_calm; first_stays = stretch.first_stays })
             (let rest = c.rest in let enough = long_newer in omega (arith, rest, enough))) [
               | inl is ↦ is
@@ -484,7 +473,7 @@ module _ (laws : Laws) (more : MoreLaws) (turn : WorkInTurn) (early : BeginsNone
         -- the cycles up to it that come after others
         before_it : (xs : List CycleView) → xs ++ base ≡ t ∷ (newer ++ first ∷ older) → AreUndisturbed r carry restarts xs base → IsSuffix r carry restarts base (c.one ∷ (c.older ++ first ∷ older))
         before_it xs is calm = suffix r carry restarts xs base (t ∷ c.newer) (c.one ∷ (c.older ++ first ∷ older)) (is ∙ ap (λ (l : List CycleView). t ∷ l) c.is)
-            (let rest = c.rest in let parts = length-append newer (first ∷ older) in let parts_older = length-append c.older (first ∷ older) in let room_is = room started r some_drive in omega (arith, rest, parts, parts_older, room_is, long)) calm
+            (let rest = c.rest in let parts = length-append newer (first ∷ older) in let parts_older = length-append c.older (first ∷ older) in omega (arith, rest, parts, parts_older, room, long)) calm
 
         left_then : (xs : List CycleView) → xs ++ base ≡ t ∷ (newer ++ first ∷ older) → AreUndisturbed r carry restarts xs base → left_now (c.one ∷ (c.older ++ first ∷ older)) ≤ left_now base
         left_then xs is calm = by (before_it xs is calm)
@@ -503,36 +492,33 @@ module _ (laws : Laws) (more : MoreLaws) (turn : WorkInTurn) (early : BeginsNone
       -- in the newest cycle, if it is commanded phase 4 and that late
       abbrev LeftAt : List CycleView → Type 0
       LeftAt [] = Unit {0}
-      LeftAt (t ∷ j) = t.phase ≡ 4 → length before + recovery_bound r + suc i * request_cycles r k ≤ length j → left_now (lost ∷ before) ≤ n + suc i → left_now (t ∷ j) ≤ n
+      LeftAt (t ∷ j) = t.phase ≡ 4 → length before + fall + startup_bound r + tail + suc i * request_cycles r k ≤ length j → left_now (lost ∷ before) ≤ n + suc i → left_now (t ∷ j) ≤ n
 
       start_left : (cycles : List CycleView) → IsRun r jobs carry restarts (cycles ++ lost ∷ before) → IsClear (cycles ++ lost ∷ before) → StartsEpoch r jobs carry restarts (lost ∷ before) → AreUndisturbed r carry restarts cycles (lost ∷ before)
           → LeftAt (cycles ++ lost ∷ before)
-      start_left [] run clear starts calm = λ four long enough. absurd (let room_is = room started r some_drive in omega (arith, long, room_is))
+      start_left [] run clear starts calm = λ four long enough. absurd (omega (arith, long, room))
       start_left (t ∷ cycles) run clear starts calm = λ four long enough.
           left_in_epoch laws more turn comes_up late_answers stand hear works_four always said timed ends_in since reaches none_four r jobs carry restarts opened t cycles (lost ∷ before) run clear starts calm four k below n i
-          (let parts = length-append cycles (lost ∷ before) in let room_is = room started r some_drive in omega (arith, parts, room_is, long)) (waiting_few (lost ∷ before) starts enough)
+          (let parts = length-append cycles (lost ∷ before) in omega (arith, parts, room, long)) (waiting_few (lost ∷ before) starts enough)
 
       -- with the first undisturbed cycle
       late_left : (newer : List CycleView) (first : CycleView) → IsRun r jobs carry restarts (newer ++ first ∷ lost ∷ before) → IsClear (newer ++ first ∷ lost ∷ before) → IsStretch r jobs carry restarts newer first (lost ∷ before) → 2 ≤ first.phase
           → (xs : List CycleView) → xs ++ lost ∷ before ≡ newer ++ first ∷ lost ∷ before → AreUndisturbed r carry restarts xs (lost ∷ before) → LeftAt (newer ++ first ∷ lost ∷ before)
-      late_left [] first run clear stretch late xs is calm = λ four long enough. absurd (let room_is = room started r some_drive in omega (arith, long, room_is))
+      late_left [] first run clear stretch late xs is calm = λ four long enough. absurd (omega (arith, long, room))
       late_left (t ∷ newer) first run clear stretch late xs is calm = λ four long enough.
           left_up first (lost ∷ before) late (never four long) t newer run clear stretch four (lost ∷ before) (omega arith) (omega (arith, long)) xs is calm enough
         where
-          never : t.phase ≡ 4 → length before + recovery_bound r + suc i * request_cycles r k ≤ length (newer ++ first ∷ lost ∷ before) → (d : ℕ) → d < length r.drives → IsDown r jobs carry restarts d (first ∷ lost ∷ before) → ⊥
+          never : t.phase ≡ 4 → length before + fall + startup_bound r + tail + suc i * request_cycles r k ≤ length (newer ++ first ∷ lost ∷ before) → (d : ℕ) → d < length r.drives → IsDown r jobs carry restarts d (first ∷ lost ∷ before) → ⊥
           never four long d there down =
-              let spared = falls_in_time laws more turn early works r jobs carry restarts opened dead ages counts recovers since timed sections reads_cost writes_cost d there (t ∷ newer) first (lost ∷ before) run clear stretch late
+              let is = falls_in_time laws more turn early works r jobs carry restarts opened dead ages counts recovers since timed sections reads_cost writes_cost d there (t ∷ newer) first (lost ∷ before) run clear stretch late
               (stop_after r jobs carry restarts t (newer ++ first ∷ lost ∷ before) stretch.stays.1 ∙ none_four r jobs carry restarts t (newer ++ first ∷ lost ∷ before) opened run clear four) down in
-              let few = spared.few in
-              let parts = length-append newer (first ∷ lost ∷ before) in
-              let most = later r spared.earlier spared.later spared.one (length before) (length before + 67 + sum_by section_cycles (spared.earlier ++ spared.later))
-              (length before + 67 + sum_by section_cycles (spared.earlier ++ spared.later) + 1 + startup_bound r + 41 * (slowest r.drives + 2)) spared.are slow (omega arith) (omega arith) in
-              omega (arith, few, parts, most, long)
+              let most = spared (suc (length newer)) is in
+              let parts = length-append newer (first ∷ lost ∷ before) in omega (arith, parts, most, long)
 
       entered_left : (newer : List CycleView) (two : CycleView) (older : List CycleView) → IsRun r jobs carry restarts (newer ++ two ∷ older) → IsClear (newer ++ two ∷ older) → IsStretch r jobs carry restarts newer two older → two.phase ≡ 2
           → length older ≤ length before + 2 + length r.drives → ((d : ℕ) → d < length r.drives → IsDown r jobs carry restarts d (two ∷ older) → ⊥)
           → (xs : List CycleView) → xs ++ lost ∷ before ≡ newer ++ two ∷ older → AreUndisturbed r carry restarts xs (lost ∷ before) → LeftAt (newer ++ two ∷ older)
-      entered_left [] two older run clear stretch is_two most up xs is calm = λ four long enough. absurd (let room_is = room started r some_drive in omega (arith, long, most, room_is))
+      entered_left [] two older run clear stretch is_two most up xs is calm = λ four long enough. absurd (omega (arith, long, most, room))
       entered_left (t ∷ newer) two older run clear stretch is_two most up xs is calm = λ four long enough.
           left_up two older (omega (arith, is_two)) up t newer run clear stretch four (lost ∷ before) (omega (arith, most)) (omega (arith, long)) xs is calm enough
 
@@ -545,12 +531,12 @@ module _ (laws : Laws) (more : MoreLaws) (turn : WorkInTurn) (early : BeginsNone
       ]
         where
           short : (l : List CycleView) → length l ≤ length r.drives → LeftAt (l ++ first ∷ lost ∷ before)
-          short [] few = λ four long enough. absurd (let room_is = room started r some_drive in omega (arith, long, room_is))
-          short (t ∷ l) few = λ four long enough. absurd (let room_is = room started r some_drive in let length_is = length-append l (first ∷ lost ∷ before) in omega (arith, long, few, room_is, length_is))
+          short [] few = λ four long enough. absurd (omega (arith, long, room))
+          short (t ∷ l) few = λ four long enough. absurd (let length_is = length-append l (first ∷ lost ∷ before) in omega (arith, long, few, room, length_is))
 
       none_falls_left : (cycles : List CycleView) → IsRun r jobs carry restarts (cycles ++ lost ∷ before) → IsClear (cycles ++ lost ∷ before) → AreUndisturbed r carry restarts cycles (lost ∷ before) → NoneFalls r jobs carry restarts cycles (lost ∷ before)
           → LeftAt (cycles ++ lost ∷ before)
-      none_falls_left [] run clear calm stays = λ four long enough. absurd (let room_is = room started r some_drive in omega (arith, long, room_is))
+      none_falls_left [] run clear calm stays = λ four long enough. absurd (omega (arith, long, room))
       none_falls_left (u ∷ cycles) run clear calm stays = by (first_of lost before u cycles calm stays)
         where
           by : IsOpenedBy lost before (u ∷ (cycles ++ lost ∷ before)) → LeftAt (u ∷ (cycles ++ lost ∷ before))
@@ -591,7 +577,7 @@ module _ (laws : Laws) (more : MoreLaws) (turn : WorkInTurn) (early : BeginsNone
   module _ (works_four : WorksInFour) (always : OpensAlways) (said : SaysShape) (ends_in : (busy : ℕ) → RecoversInTime busy) (late_answers : (busy : ℕ) → NoneLate busy) (stand : (busy : ℕ) → StandsThroughout busy) (hear : (busy : ℕ) → HearsThroughout busy)
       (reaches : ComesToPhaseFour) (lost : CycleView) (before : List CycleView) where
     reports_after : (t : CycleView) (cycles : List CycleView) → IsRun r jobs carry restarts (t ∷ (cycles ++ lost ∷ before)) → IsClear (t ∷ (cycles ++ lost ∷ before)) → AreUndisturbed r carry restarts (t ∷ cycles) (lost ∷ before) → t.phase ≡ 4
-        → (k i : ℕ) (x : Option ℕ) → k < length r.drives → slice_get (left_after r jobs carry restarts (lost ∷ before) k) i ≡ Some x → length before + recovery_bound r + (i + 1) * request_cycles r k ≤ length (cycles ++ lost ∷ before)
+        → (k i : ℕ) (x : Option ℕ) → k < length r.drives → slice_get (left_after r jobs carry restarts (lost ∷ before) k) i ≡ Some x → length before + fall + startup_bound r + tail + (i + 1) * request_cycles r k ≤ length (cycles ++ lost ∷ before)
         → (number : ℕ) × (x ≡ Some number) × HaveTold (t ∷ cycles) number
     reports_after t cycles run clear calm four k i x below got long =
         told_there (t ∷ cycles) told.numbers i x told.all (sym (get_left told.numbers (left_after r jobs carry restarts (t ∷ (cycles ++ lost ∷ before)) k) i early_is) ∙ ap (λ (l : List (Option ℕ)). slice_get l i) told.is ∙ got)
@@ -616,19 +602,8 @@ module _ (laws : Laws) (more : MoreLaws) (turn : WorkInTurn) (early : BeginsNone
             let count = rest.1 in let least = few in omega (arith, least, count, all, parts)
 
     pub reports_now : (t : CycleView) (j cycles : List CycleView) → IsRun r jobs carry restarts (t ∷ j) → IsClear (t ∷ j) → j ≡ cycles ++ lost ∷ before → AreUndisturbed r carry restarts (t ∷ cycles) (lost ∷ before) → t.phase ≡ 4
-        → (k i : ℕ) (x : Option ℕ) → k < length r.drives → slice_get (left_after r jobs carry restarts (lost ∷ before) k) i ≡ Some x → length before + recovery_bound r + (i + 1) * request_cycles r k ≤ length j
+        → (k i : ℕ) (x : Option ℕ) → k < length r.drives → slice_get (left_after r jobs carry restarts (lost ∷ before) k) i ≡ Some x → length before + fall + startup_bound r + tail + (i + 1) * request_cycles r k ≤ length j
         → (number : ℕ) × (x ≡ Some number) × HaveTold (t ∷ cycles) number
     reports_now t j cycles run clear is calm four k i x below got long =
         reports_after t cycles (subst (λ (l : List CycleView). IsRun r jobs carry restarts (t ∷ l)) is run) (subst (λ (l : List CycleView). IsClear (t ∷ l)) is clear) calm four k i x below got
-        (subst (λ (l : List CycleView). length before + recovery_bound r + (i + 1) * request_cycles r k ≤ length l) is long)
-
-  pub recovers_in : AfterFall → WorksInFour → OpensAlways → SaysShape → ((busy : ℕ) → RecoversInTime busy) → ((busy : ℕ) → NoneLate busy) → ((busy : ℕ) → StandsThroughout busy) → ((busy : ℕ) → HearsThroughout busy) → ComesToPhaseFour
-      → (t : CycleView) (j : List CycleView) → IsRun r jobs carry restarts (t ∷ j) → IsClear (t ∷ j) → RecoversIn r jobs carry restarts t j
-  recovers_in again works_four always said ends_in late_answers stand hear reaches t j run clear = record {
-    after_fall = λ cycles before f x is calm told. again r jobs carry restarts t f cycles before x opened (subst (λ (l : List CycleView). IsRun r jobs carry restarts (t ∷ l)) is run) (subst (λ (l : List CycleView). IsClear (t ∷ l)) is clear) calm told;
-    back = λ cycles before lost is calm long. subst (λ (l : List CycleView). IsBack r t l) (sym is)
-        (back_after lost before (t ∷ cycles) (subst (λ (l : List CycleView). IsRun r jobs carry restarts (t ∷ l)) is run) (subst (λ (l : List CycleView). IsClear (t ∷ l)) is clear) calm (subst (λ (l : List CycleView). length before + recovery_bound r ≤ length l) is long));
-    tells = λ cycles before lost is calm long. tells_after lost before (t ∷ cycles) (subst (λ (l : List CycleView). IsRun r jobs carry restarts (t ∷ l)) is run) (subst (λ (l : List CycleView). IsClear (t ∷ l)) is clear) calm
-        (subst (λ (l : List CycleView). length before + recovery_bound r ≤ length l) is long);
-    reports = λ cycles before lost is calm four k i x below got long. reports_now works_four always said ends_in late_answers stand hear reaches lost before t j cycles run clear is calm four k i x below got long;
-  }
+        (subst (λ (l : List CycleView). length before + fall + startup_bound r + tail + (i + 1) * request_cycles r k ≤ length l) is long)

@@ -60,7 +60,7 @@ use Rattle.sercos_law_run.proofs.Recovery.Stretches.{ages_down_in, newest_up, re
 use Rattle.sercos_law_run.proofs.Recovery.Turns.{opens_in_turn}
 
 -- A STEP WITH AN AGE is open.
-open_of_age : (past : List View) → 1 ≤ age_in past → is_some (open_in (epoch_begun past)) ≡ true
+pub open_of_age : (past : List View) → 1 ≤ age_in past → is_some (open_in (epoch_begun past)) ≡ true
 open_of_age [] old = absurd (omega (arith, old))
 open_of_age (v ∷ past) old = by v.falls old
   where
@@ -74,14 +74,15 @@ open_of_age (v ∷ past) old = by v.falls old
     by false old = opens (is_some (open_in (begun_in v past))) (length (steps_in (begun_in v past)) == length (steps_in (unless_restart v (epoch_begun past)))) old
 
 -- what a cycle leaves in which nothing is heard and nothing begins
-nothing_new : (o : Option Heard) (n : Option Request) (b : Bool) (begun : List Begun) → o ≡ None → n ≡ None → b ≡ false → with_begun n (with_heard o (if b then [] else begun)) ≡ begun
+pub nothing_new : (o : Option Heard) (n : Option Request) (b : Bool) (begun : List Begun) → o ≡ None → n ≡ None → b ≡ false
+    → with_begun n (with_heard o (if b then [] else begun)) ≡ begun
 nothing_new None None false begun quiet none on = refl
 nothing_new (Some a) n b begun quiet none on = absurd (cc)
 nothing_new None (Some q) b begun quiet none on = absurd (cc)
 nothing_new None None true begun quiet none on = absurd (cc)
 
 -- a number above a limit, or none
-some_above : (f : ℕ → ℕ) (limit n : ℕ) → ((k : ℕ) × (k < n) × (limit < f k)) ⊎ ((k : ℕ) → k < n → f k ≤ limit)
+pub some_above : (f : ℕ → ℕ) (limit n : ℕ) → ((k : ℕ) × (k < n) × (limit < f k)) ⊎ ((k : ℕ) → k < n → f k ≤ limit)
 some_above f limit zero = inr (λ k below. absurd (omega (arith, below)))
 some_above f limit (suc n) = elim (cases_lt limit (f n)) [
   | inl above ↦ inl (n, omega arith, above)
@@ -120,7 +121,8 @@ module _ (laws : Laws) (more : MoreLaws) (turn : WorkInTurn) (early : BeginsNone
     (dead : (busy : ℕ) → StaysDead busy) (ages : (busy : ℕ) → AgesWhereDead busy) (counts : (busy : ℕ) → AgesBeforeEnd busy) (recovers : (busy : ℕ) → RecoversInCost busy) (since : (busy : ℕ) → RecoversSince busy) (timed : ComesTimed)
     (sections : AreSections) (reads_cost : (busy : ℕ) → ReadsCost busy) (writes_cost : (busy : ℕ) → WritesCost busy) where
   -- with a stop no request begins
-  begins_none : (t : CycleView) (j : List CycleView) (k : ℕ) → is_some (behind_mdt r jobs carry restarts t.sent j).stop ≡ true → (view_of r jobs carry restarts k t j).begins ≡ None
+  pub begins_none : (t : CycleView) (j : List CycleView) (k : ℕ) → is_some (behind_mdt r jobs carry restarts t.sent j).stop ≡ true
+      → (view_of r jobs carry restarts k t j).begins ≡ None
   begins_none t j k some = ap (λ (b : Bool). request_of (if b && (is_idle q k && has_turn (known_of r) q k) then of_phase q.now.phase (next_task (known_of r) q k) else None)) (off q.stop some)
     where
       q : Past

@@ -1,6 +1,6 @@
 -- What a worked run reports of the plan, and of the requests that are left; and altered cycles that are rejected, computed from the
 -- definitions.
-use Rattle.std.proofs.Common.{◌≡◌, inl, inr, ℕ, List, [], ◌∷◌, Option, Some, None, Result, Ok, Err, refl, sym, ap, ◌∙◌, arith}
+use Rattle.std.proofs.Common.{◌≡◌, inl, inr, ℕ, ◌+◌, ◌≤◌, List, [], ◌∷◌, ◌++◌, length, Option, Some, None, Result, Ok, Err, refl, sym, ap, ◌∙◌, arith}
 use Rattle.std.specs.Option.{option_or}
 use Rattle.sercos_telegram.specs.declared.layout.Kind.TheVariants as kinds
 use Rattle.sercos_step.specs.declared.request.Outcome.TheVariants as outcome
@@ -14,11 +14,15 @@ use Rattle.sercos_script.specs.Scripts.{carried, restarts_at, acts}
 use Rattle.sercos_trace.specs.Views.{CycleView}
 use Rattle.sercos_trace.specs.declared.events.Fall.TheVariants as fall
 use Rattle.sercos_trace.specs.declared.events.Stop.TheVariants as stop
+use Rattle.sercos_law_run.specs.Bounds.Bounds.{fall_cycles, return_cycles}
 use Rattle.sercos_law_run.specs.Journal.Runs.{run_of}
 use Rattle.sercos_law_run.proofs.Journal.Worked.{ring, fault, write, read}
 use Rattle.sercos_law_run.specs.Undisturbed.Reports.{HaveTold, left_after}
 use Rattle.sercos_law_run.specs.Undisturbed.StartUps.{TellsNoFall}
+use Rattle.sercos_law_run.specs.Undisturbed.StopsLater.{IsRight}
+use Rattle.sercos_law_run.specs.Undisturbed.Undisturbed.{AreUndisturbed}
 use Rattle.sercos_law_run.specs.Recovery.Predicts.{IsPredicted}
+use Rattle.sercos_law_run.specs.Recovery.Recovers.{ReturnsIn}
 use Rattle.sercos_law_run.specs.Journal.Arrivals as Arrivals
 use Rattle.sercos_model.specs.Bits as Bits
 use Rattle.sercos_model.specs.CheckSequence as CheckSequence
@@ -115,3 +119,19 @@ fall_is_rejected t is = let none : Some fall.MstLost ≡ None = is.fall in cc
 
 broken_is_rejected : (t : CycleView) → TellsNoFall (only t (1 ∷ [])) → ⊥
 broken_is_rejected t is = is.unbroken 1 (inl (refl, refl))
+
+-- From the sooner bound on, a cycle of phase 3 is rejected if the ring is right; and one with a fall, once the ring has had its time to fall.
+sooner_phase_is_rejected : (t last : CycleView) (cycles before : List CycleView)
+    → ReturnsIn ring [] (carried 1 lost) (restarts_at lost) (record t { phase = 3 }) (cycles ++ last ∷ before)
+    → AreUndisturbed ring (carried 1 lost) (restarts_at lost) (record t { phase = 3 } ∷ cycles) (last ∷ before)
+    → length before + return_cycles ring ≤ length (cycles ++ last ∷ before) → IsRight ring → ⊥
+sooner_phase_is_rejected t last cycles before is calm long right =
+    let same : 3 ≡ 4 = is.rises cycles before last refl calm long right in omega (arith, same)
+
+sooner_fall_is_rejected : (t last : CycleView) (cycles before : List CycleView)
+    → ReturnsIn ring [] (carried 1 lost) (restarts_at lost) (record t { events = record t.events { fall = Some fall.MstLost } })
+    (cycles ++ last ∷ before)
+    → AreUndisturbed ring (carried 1 lost) (restarts_at lost) (record t { events = record t.events { fall = Some fall.MstLost } } ∷ cycles)
+    (last ∷ before) → length before + fall_cycles ring ≤ length (cycles ++ last ∷ before) → ⊥
+sooner_fall_is_rejected t last cycles before is calm long =
+    let none : Some fall.MstLost ≡ None = (is.tells cycles before last refl calm long).fall in cc

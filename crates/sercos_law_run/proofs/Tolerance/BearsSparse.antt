@@ -26,6 +26,9 @@ use Rattle.sercos_law_run.proofs.Undisturbed.Comes.{calm_in}
 use Rattle.sercos_law_run.proofs.Undisturbed.NeverFalls.{begins_so}
 use Rattle.sercos_law_run.proofs.Recovery.LateDown.{no_lower, phase_after}
 use Rattle.sercos_law_run.specs.Tolerance.Bears.{Bears, IsBehind}
+use Rattle.sercos_law_run.specs.Tolerance.Ends.{EndsSparse}
+use Rattle.sercos_law_run.specs.Tolerance.Many.{EndsAnyway, RisesAnyway}
+use Rattle.sercos_law_run.specs.Tolerance.Reports.{ReportsSparse}
 use Rattle.sercos_law_run.specs.Tolerance.Rises.{RisesSparse}
 use Rattle.sercos_law_run.specs.Tolerance.Sparse.{AreSparse, CalmIsSparse}
 use Rattle.sercos_law_run.proofs.Tolerance.Borne.{IsBorne, all_borne, calm_or_not, late_age}
@@ -47,7 +50,8 @@ calm_is_sparse r carry restarts t j calm = record {
 
 module _ (laws : Laws) (more : MoreLaws) (turn : WorkInTurn) (comes_up : (busy : ℕ) → ComesUp busy)
     (to_zero : (busy : ℕ) → ComesToZero busy) (goes : (busy : ℕ) → StaysARun busy) (counts : (busy : ℕ) → AgesBeforeEnd busy)
-    (rises : RisesSparse)
+    (rises : RisesSparse) (reports : ReportsSparse) (ends : EndsSparse)
+    (rises_anyway : RisesAnyway) (ends_anyway : EndsAnyway)
     (r : RingView) (jobs : List Job) (carry : Carry) (restarts : Restarts) (opened : IsOpened r jobs) where
   abbrev Borne : CycleView → List CycleView → Type 0
   Borne t j = IsBorne laws more turn comes_up to_zero goes counts r jobs carry restarts opened t j
@@ -162,6 +166,10 @@ module _ (laws : Laws) (more : MoreLaws) (turn : WorkInTurn) (comes_up : (busy :
     late_answers = λ late k a below hears fits. late_before t before starts cycles run clear sparse late k below;
     rises = λ right long. rises r jobs carry restarts t cycles before opened run clear starts sparse right long;
     stays = four_stays t before starts cycles run clear sparse;
+    rises_anyway = λ right long. rises_anyway r jobs carry restarts t cycles before opened run clear starts sparse right long;
+    ends_anyway = λ long. ends_anyway r jobs carry restarts t cycles before opened run clear starts sparse long;
+    ends = λ long. ends r jobs carry restarts t cycles before opened run clear starts sparse long;
+    reports = λ k i x below got long. reports r jobs carry restarts t cycles before opened run clear starts sparse k i x below got long;
   }
     where
       is : Borne t (cycles ++ before)

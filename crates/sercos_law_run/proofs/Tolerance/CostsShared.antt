@@ -27,7 +27,6 @@ use Rattle.sercos_law_run.proofs.Views.Members.{members_count}
 use Rattle.sercos_law_run.specs.Held.Opened.{IsOpened}
 use Rattle.sercos_law_run.proofs.Held.Runs.{Laws, s_known}
 use Rattle.sercos_law_run.proofs.Headline.HeadlineRuns.{MoreLaws, all_stand, first_store}
-use Rattle.sercos_law_run.specs.Undisturbed.EpochStarts.{StartsEpoch}
 use Rattle.sercos_law_run.specs.Undisturbed.Undisturbed.{IsUndisturbed}
 use Rattle.sercos_law_run.specs.Undisturbed.ViewsSince.{views_since}
 use Rattle.sercos_law_run.proofs.Undisturbed.PassedCycles.{views_split}
@@ -35,8 +34,8 @@ use Rattle.sercos_law_run.proofs.Undisturbed.Small.{some_is}
 use Rattle.sercos_law_run.proofs.Recovery.LateDown.{no_lower, not_true, phase_after}
 use Rattle.sercos_law_run.proofs.Recovery.Turns.{opens_in_turn}
 use Rattle.sercos_law_run.specs.Tolerance.Losses.{cycles_for, disturbances, is_lost, lost_since}
-use Rattle.sercos_law_run.specs.Tolerance.Sparse.{AreSparse}
-use Rattle.sercos_law_run.proofs.Tolerance.Borne.{IsBorne, all_borne, calm_or_not, rests, zero_is}
+use Rattle.sercos_law_run.specs.Tolerance.Sparse.{AreSparse, IsSparse}
+use Rattle.sercos_law_run.proofs.Tolerance.Borne.{IsBase, IsBorne, IsHeld, borne_on, calm_or_not, rests_then, zero_is}
 use Rattle.sercos_law_run.proofs.Tolerance.CostsSparse.{early_for, opens_so, spare_for, two_for}
 use Rattle.sercos_law_run.proofs.Tolerance.Losses.{early_kept}
 
@@ -56,10 +55,6 @@ sum_most (suc n) f g most =
 pub sum_both : (n : ℕ) (f g : ℕ → ℕ) → sum_below n (λ k. f k + g k) ≡ sum_below n f + sum_below n g
 sum_both zero f g = refl
 sum_both (suc n) f g = let rest = sum_both n f g in omega (arith, rest)
-
-sum_zero : (n : ℕ) → sum_below n (λ k. 0) ≡ 0
-sum_zero zero = refl
-sum_zero (suc n) = let rest = sum_zero n in omega (arith, rest)
 
 same_if : (b : Bool) (n : ℕ) → b ≡ false → one_more b n ≡ n
 same_if b n off = ap (λ (x : Bool). one_more x n) off
@@ -123,6 +118,12 @@ module _ (laws : Laws) (more : MoreLaws) (turn : WorkInTurn) (comes_up : (busy :
   abbrev Borne : CycleView → List CycleView → Type 0
   Borne t j = IsBorne laws more turn comes_up to_zero goes counts r jobs carry restarts opened t j
 
+  abbrev Held : (ℕ → Type 0) → ℕ → CycleView → List CycleView → Type 0
+  Held among since t j = IsHeld laws more turn comes_up to_zero goes counts r jobs carry restarts opened among since t j
+
+  abbrev Base : List CycleView → Type 0
+  Base before = IsBase laws more turn comes_up to_zero goes counts r jobs carry restarts opened before
+
   abbrev spare : CycleView → List CycleView → ℕ
   spare t j = if is_disturbed_in r carry restarts (length j) t.sent then spare_for t.phase else 0
 
@@ -150,9 +151,6 @@ module _ (laws : Laws) (more : MoreLaws) (turn : WorkInTurn) (comes_up : (busy :
   abbrev lost_of : List CycleView → List CycleView → ℕ → ℕ
   lost_of cycles before k = lost_since (views_since r jobs carry restarts k cycles before) (views_of r jobs carry restarts k before)
 
-  abbrev all_lost : List CycleView → List CycleView → ℕ
-  all_lost cycles before = sum_below (length r.drives) (lost_of cycles before)
-
   is_run : (j : List CycleView) → IsRun r jobs carry restarts j → IsClear j → (k : ℕ) → k < length r.drives
       → IsViewRun (drive_at r k).busy (views_of r jobs carry restarts k j)
   is_run j run clear k below = (all_stand laws more r jobs carry restarts opened j run clear k below).sees.run
@@ -161,118 +159,209 @@ module _ (laws : Laws) (more : MoreLaws) (turn : WorkInTurn) (comes_up : (busy :
   some_drive = let count = members_count r in let some = (s_known laws r jobs carry restarts opened
       (first_store laws more r jobs carry restarts opened)).some in omega (arith, count, some)
 
-  lost_next : (t : CycleView) (cycles before : List CycleView) → all_lost (t ∷ cycles) before ≡ sum_below (length r.drives)
-      (λ k. one_more (lost_at k t (cycles ++ before)) (lost_of cycles before k))
-  lost_next t cycles before = sum_same (length r.drives) (lost_of (t ∷ cycles) before)
-      (λ k. one_more (lost_at k t (cycles ++ before)) (lost_of cycles before k))
-      (λ k low. ap (λ (l : List View). one_more (is_lost (view_of r jobs carry restarts k t (cycles ++ before)) l)
-      (lost_of cycles before k)) (sym (views_split r jobs carry restarts k cycles before)))
+  -- THE CHANNELS OF SOME DRIVES: all but those that are down
+  module _ (down : ℕ → Bool) where
+    abbrev pub kept_lost : List CycleView → List CycleView → ℕ → ℕ
+    kept_lost cycles before k = if down k then 0 else lost_of cycles before k
 
-  -- nothing more is lost, or of one channel
-  none_lost : (t : CycleView) (cycles before : List CycleView) → ((k : ℕ) → k < length r.drives → lost_at k t (cycles ++ before) ≡ false)
-      → all_lost (t ∷ cycles) before ≡ all_lost cycles before
-  none_lost t cycles before none = lost_next t cycles before ∙ sum_same (length r.drives)
-      (λ k. one_more (lost_at k t (cycles ++ before)) (lost_of cycles before k)) (lost_of cycles before)
-      (λ k low. same_if (lost_at k t (cycles ++ before)) (lost_of cycles before k) (none k low))
+    abbrev pub all_lost : List CycleView → List CycleView → ℕ
+    all_lost cycles before = sum_below (length r.drives) (kept_lost cycles before)
 
-  early_lost : (t : CycleView) (cycles before : List CycleView) → IsRun r jobs carry restarts (t ∷ (cycles ++ before))
-      → IsClear (t ∷ (cycles ++ before)) → t.phase ≤ 1 → all_lost (t ∷ cycles) before ≡ all_lost cycles before
-  early_lost t cycles before run clear early = none_lost t cycles before
-      (λ k low. early_kept (drive_at r k).busy (view_of r jobs carry restarts k t (cycles ++ before))
-      (views_of r jobs carry restarts k (cycles ++ before)) (is_run (t ∷ (cycles ++ before)) run clear k low) early)
+    abbrev lost_too : ℕ → CycleView → List CycleView → Bool
+    lost_too k t j = not (down k) && lost_at k t j
 
-  one_lost : (t : CycleView) (cycles before : List CycleView) → IsRun r jobs carry restarts (t ∷ (cycles ++ before))
-      → IsClear (t ∷ (cycles ++ before)) → t.phase ≤ 2 → all_lost (t ∷ cycles) before ≤ all_lost cycles before + 1
-  one_lost t cycles before run clear low = elim (cases_lt t.phase 2) [
-    | inl early ↦ (let same = early_lost t cycles before run clear (omega (arith, early)) in omega (arith, same))
-    | inr two ↦ (
-        let same = lost_next t cycles before in
-        let most = sum_one (length r.drives) (λ k. lost_at k t (cycles ++ before)) (lost_of cycles before) (λ i j i_low j_low i_lost j_lost.
-        some_is i j (sym (in_turn_of two i i_low i_lost) ∙ in_turn_of two j j_low j_lost)) in omega (arith, same, most))
-  ]
-    where
-      in_turn_of : 2 ≤ t.phase → (k : ℕ) → k < length r.drives → lost_at k t (cycles ++ before) ≡ true
-          → in_turn (known_of r) (behind_mdt r jobs carry restarts t.sent (cycles ++ before)) ≡ Some k
-      in_turn_of two k below lost = opens_in_turn laws more turn r jobs carry restarts opened t (cycles ++ before) run clear
-          (omega (arith, two, low)) k below
-          (lost_opens (drive_at r k).busy (view_of r jobs carry restarts k t (cycles ++ before))
-          (views_of r jobs carry restarts k (cycles ++ before)) (is_run (t ∷ (cycles ++ before)) run clear k below) lost)
+    lost_next : (t : CycleView) (cycles before : List CycleView) → all_lost (t ∷ cycles) before ≡ sum_below (length r.drives)
+        (λ k. one_more (lost_too k t (cycles ++ before)) (kept_lost cycles before k))
+    lost_next t cycles before = sum_same (length r.drives) (kept_lost (t ∷ cycles) before)
+        (λ k. one_more (lost_too k t (cycles ++ before)) (kept_lost cycles before k))
+        (λ k low. by (down k) (lost_of (t ∷ cycles) before k) (lost_of cycles before k) (lost_at k t (cycles ++ before))
+        (ap (λ (l : List View). one_more (is_lost (view_of r jobs carry restarts k t (cycles ++ before)) l) (lost_of cycles before k))
+        (sym (views_split r jobs carry restarts k cycles before))))
+      where
+        by : (is_down : Bool) (new old : ℕ) (lost : Bool) → new ≡ one_more lost old
+            → (let n : ℕ = if is_down then 0 else new in n) ≡ one_more (not is_down && lost) (let n : ℕ = if is_down then 0 else old in n)
+        by true new old lost same = refl
+        by false new old lost same = same
 
-  -- a disturbed cycle
-  disturbed_more : (t : CycleView) (cycles before : List CycleView) → IsRun r jobs carry restarts (t ∷ (cycles ++ before))
-      → IsClear (t ∷ (cycles ++ before)) → t.phase ≤ 2 → IsDisturbed r carry restarts t (cycles ++ before)
-      → (dist : ℕ) → all_lost cycles before ≤ dist → all_lost (t ∷ cycles) before + spare t (cycles ++ before) ≤ dist + costs t
-      (cycles ++ before)
-  disturbed_more t cycles before run clear low on dist le = elim (cases_lt t.phase 2) [
-    | inl early ↦ (
-        let same = early_lost t cycles before run clear (omega (arith, early)) in
-        let (a, b) = early_for t.phase (omega (arith, early)) in
-        let (c, d) = on_so t (cycles ++ before) on in omega (arith, same, a, b, c, d, le))
-    | inr later ↦ (
-        let most = one_lost t cycles before run clear low in
-        let (a, b) = two_for t.phase (omega (arith, later, low)) in
-        let (c, d) = on_so t (cycles ++ before) on in omega (arith, most, a, b, c, d, le))
-  ]
+    -- nothing more is lost, or of one channel
+    none_lost : (t : CycleView) (cycles before : List CycleView)
+        → ((k : ℕ) → k < length r.drives → down k ≡ false → lost_at k t (cycles ++ before) ≡ false)
+        → all_lost (t ∷ cycles) before ≡ all_lost cycles before
+    none_lost t cycles before none = lost_next t cycles before ∙ sum_same (length r.drives)
+        (λ k. one_more (lost_too k t (cycles ++ before)) (kept_lost cycles before k)) (kept_lost cycles before)
+        (λ k low. same_if (lost_too k t (cycles ++ before)) (kept_lost cycles before k) (by (down k) (lost_at k t (cycles ++ before))
+        (none k low)))
+      where
+        by : (is_down lost : Bool) → (is_down ≡ false → lost ≡ false) → (not is_down && lost) ≡ false
+        by true lost never = refl
+        by false lost never = never refl
+
+    early_lost : (t : CycleView) (cycles before : List CycleView) → IsRun r jobs carry restarts (t ∷ (cycles ++ before))
+        → IsClear (t ∷ (cycles ++ before)) → t.phase ≤ 1 → all_lost (t ∷ cycles) before ≡ all_lost cycles before
+    early_lost t cycles before run clear early = none_lost t cycles before
+        (λ k low off. early_kept (drive_at r k).busy (view_of r jobs carry restarts k t (cycles ++ before))
+        (views_of r jobs carry restarts k (cycles ++ before)) (is_run (t ∷ (cycles ++ before)) run clear k low) early)
+
+    one_lost : (t : CycleView) (cycles before : List CycleView) → IsRun r jobs carry restarts (t ∷ (cycles ++ before))
+        → IsClear (t ∷ (cycles ++ before)) → t.phase ≤ 2 → all_lost (t ∷ cycles) before ≤ all_lost cycles before + 1
+    one_lost t cycles before run clear low = elim (cases_lt t.phase 2) [
+      | inl early ↦ (let same = early_lost t cycles before run clear (omega (arith, early)) in omega (arith, same))
+      | inr two ↦ (
+          let same = lost_next t cycles before in
+          let most = sum_one (length r.drives) (λ k. lost_too k t (cycles ++ before)) (kept_lost cycles before)
+          (λ i j i_low j_low i_lost j_lost. some_is i j (sym (in_turn_of two i i_low (too i i_lost))
+          ∙ in_turn_of two j j_low (too j j_lost))) in
+          omega (arith, same, most))
+    ]
+      where
+        too : (k : ℕ) → lost_too k t (cycles ++ before) ≡ true → lost_at k t (cycles ++ before) ≡ true
+        too k on = by (down k) (lost_at k t (cycles ++ before)) on
+          where
+            by : (is_down lost : Bool) → (not is_down && lost) ≡ true → lost ≡ true
+            by true lost on = absurd (false≢true on)
+            by false lost on = on
+
+        in_turn_of : 2 ≤ t.phase → (k : ℕ) → k < length r.drives → lost_at k t (cycles ++ before) ≡ true
+            → in_turn (known_of r) (behind_mdt r jobs carry restarts t.sent (cycles ++ before)) ≡ Some k
+        in_turn_of two k below lost = opens_in_turn laws more turn r jobs carry restarts opened t (cycles ++ before) run clear
+            (omega (arith, two, low)) k below
+            (lost_opens (drive_at r k).busy (view_of r jobs carry restarts k t (cycles ++ before))
+            (views_of r jobs carry restarts k (cycles ++ before)) (is_run (t ∷ (cycles ++ before)) run clear k below) lost)
+
+    -- a disturbed cycle
+    disturbed_more : (t : CycleView) (cycles before : List CycleView) → IsRun r jobs carry restarts (t ∷ (cycles ++ before))
+        → IsClear (t ∷ (cycles ++ before)) → t.phase ≤ 2 → IsDisturbed r carry restarts t (cycles ++ before)
+        → (dist : ℕ) → all_lost cycles before ≤ dist → all_lost (t ∷ cycles) before + spare t (cycles ++ before) ≤ dist + costs t
+        (cycles ++ before)
+    disturbed_more t cycles before run clear low on dist le = elim (cases_lt t.phase 2) [
+      | inl early ↦ (
+          let same = early_lost t cycles before run clear (omega (arith, early)) in
+          let (a, b) = early_for t.phase (omega (arith, early)) in
+          let (c, d) = on_so t (cycles ++ before) on in omega (arith, same, a, b, c, d, le))
+      | inr later ↦ (
+          let most = one_lost t cycles before run clear low in
+          let (a, b) = two_for t.phase (omega (arith, later, low)) in
+          let (c, d) = on_so t (cycles ++ before) on in omega (arith, most, a, b, c, d, le))
+    ]
+
+    none_at_first : (n : ℕ) → sum_below n (λ k. if down k then 0 else 0) ≡ 0
+    none_at_first zero = refl
+    none_at_first (suc n) = let rest = none_at_first n in let last = by (down n) in omega (arith, rest, last)
+      where
+        by : (is_down : Bool) → (let m : ℕ = if is_down then 0 else 0 in m) ≡ 0
+        by true = refl
+        by false = refl
+
+    -- WHAT IS LOST of these channels, in cycles that the ring bears as far as these drives go, if nothing is lost in the first of them
+    -- that is undisturbed
+    module _ (among : ℕ → Type 0) (within : (k : ℕ) → among k → k < length r.drives) (since : ℕ)
+        (those : (k : ℕ) → k < length r.drives → down k ≡ false → among k) (before : List CycleView)
+        (start : (t : CycleView) → IsRun r jobs carry restarts (t ∷ before) → IsClear (t ∷ before) → Held among since t before
+        → IsSparse r carry restarts t before → IsUndisturbed r carry restarts t before → (k : ℕ) → k < length r.drives → down k ≡ false
+        → lost_at k t before ≡ false) where
+      abbrev pub AreHeld : List CycleView → Type 0
+      AreHeld [] = Unit {0}
+      AreHeld (t ∷ cycles) = AreHeld cycles × Held among since t (cycles ++ before)
+
+      pub few_lost : (t : CycleView) (cycles : List CycleView) → IsRun r jobs carry restarts (t ∷ (cycles ++ before))
+          → IsClear (t ∷ (cycles ++ before)) → AreHeld (t ∷ cycles) → AreSparse r carry restarts (t ∷ cycles) before → t.phase ≤ 2
+          → all_lost (t ∷ cycles) before + spare t (cycles ++ before) ≤ disturbances r carry restarts (t ∷ cycles) before
+      few_lost t [] run clear held sparse low =
+          let none : all_lost [] before ≡ 0 = none_at_first (length r.drives) in elim (calm_or_not r carry restarts t before) [
+            | inl on ↦ (let more_is = disturbed_more t [] before run clear low on 0 (omega (arith, none)) in omega (arith, more_is))
+            | inr off ↦ (
+                let same = none_lost t [] before (start t run clear held.1 sparse.1 off) in
+                let (c, d) = off_so t before off in omega (arith, same, none, c, d))
+          ]
+      few_lost t (u ∷ cycles) run clear held sparse low = by (calm_or_not r carry restarts t (u ∷ (cycles ++ before)))
+          (few_lost u cycles run.0 clear.0 held.0 sparse.0 (omega (arith, u_low, low)))
+        where
+          was : Held among since u (cycles ++ before)
+          was = held.0.1
+
+          is : Held among since t (u ∷ (cycles ++ before))
+          is = held.1
+
+          still : restarts (length (u ∷ (cycles ++ before))) 0 ≡ false
+          still = sparse.1.goes_on 0 (omega arith)
+
+          u_low : u.phase ≤ t.phase
+          u_low = no_lower laws more turn r jobs carry restarts opened t u (cycles ++ before) run clear was.stays still 0 some_drive
+
+          calm_more : IsUndisturbed r carry restarts t (u ∷ (cycles ++ before))
+              → all_lost (u ∷ cycles) before + spare u (cycles ++ before) ≤ disturbances r carry restarts (u ∷ cycles) before
+              → all_lost (t ∷ u ∷ cycles) before ≤ disturbances r carry restarts (u ∷ cycles) before
+          calm_more off few = elim (cases_lt t.phase 2) [
+            | inl early ↦ (let same = early_lost t (u ∷ cycles) before run clear (omega (arith, early)) in omega (arith, same, few))
+            | inr two ↦ elim (calm_or_not r carry restarts u (cycles ++ before)) [
+              | inr calm ↦ (let same = none_lost t (u ∷ cycles) before (λ k below off_k. is.kept off (inr (tt, calm)) k
+                  (those k below off_k))
+                  in omega (arith, same, few))
+              | inl disturbed ↦ elim (phase_after laws more turn r jobs carry restarts opened t u (cycles ++ before) run clear was.stays
+                  still
+                  0 some_drive) [
+                    | inr up ↦ (
+                        let same = none_lost t (u ∷ cycles) before (λ k below off_k. is.rested_kept off k (those k below off_k)
+                        (rests_then laws more turn comes_up to_zero goes counts r jobs carry restarts opened among within since t u
+                        (cycles ++ before) run clear was sparse.1 k below up)) in omega (arith, same, few))
+                    | inl equal ↦ (
+                        let most = one_lost t (u ∷ cycles) before run clear low in
+                        let (a, b) = two_for u.phase (omega (arith, equal, two, low)) in
+                        let (e, f) = on_so u (cycles ++ before) disturbed in omega (arith, most, a, b, e, f, few))
+                  ]
+            ]
+          ]
+
+          by : IsDisturbed r carry restarts t (u ∷ (cycles ++ before)) ⊎ IsUndisturbed r carry restarts t (u ∷ (cycles ++ before))
+              → all_lost (u ∷ cycles) before + spare u (cycles ++ before) ≤ disturbances r carry restarts (u ∷ cycles) before
+              → all_lost (t ∷ u ∷ cycles) before + spare t (u ∷ (cycles ++ before)) ≤ disturbances r carry restarts (t ∷ u ∷ cycles) before
+          by (inl on) few = disturbed_more t (u ∷ cycles) before run clear low on (disturbances r carry restarts (u ∷ cycles) before)
+              (omega (arith, few))
+          by (inr off) few = let most = calm_more off few in let (c, d) = off_so t (u ∷ (cycles ++ before)) off in omega (arith, most, c, d)
+
+  -- THOSE OF ALL DRIVES
+  abbrev none_down : ℕ → Bool
+  none_down k = false
+
+  abbrev every : (k : ℕ) → k < length r.drives → k < length r.drives
+  every k below = below
+
+  -- in the first of the cycles nothing is lost, if it is undisturbed
+  first_lost : (before : List CycleView) → Base before → (t : CycleView) → IsRun r jobs carry restarts (t ∷ before) → IsClear (t ∷ before)
+      → Borne t before → IsSparse r carry restarts t before → IsUndisturbed r carry restarts t before → (k : ℕ) → k < length r.drives
+      → lost_at k t before ≡ false
+  first_lost before (inl starts) t run clear is sparse off k below =
+      let at_zero = zero_is laws more turn comes_up to_zero goes counts r jobs carry restarts opened t before run clear starts
+      (sparse.goes_on 0 (omega arith)) in
+      early_kept (drive_at r k).busy (view_of r jobs carry restarts k t before) (views_of r jobs carry restarts k before)
+      (is_run (t ∷ before) run clear k below) (omega (arith, at_zero))
+  first_lost [] (inr none) t run clear is sparse off k below = absurd none
+  first_lost (f ∷ before) (inr stood) t run clear is sparse off k below = is.kept off (inr (tt, stood.1)) k below
+
+  held_on : (before : List CycleView) (base : Base before) (cycles : List CycleView) → IsRun r jobs carry restarts (cycles ++ before)
+      → IsClear (cycles ++ before) → AreSparse r carry restarts cycles before
+      → AreHeld none_down (λ k. k < length r.drives) every 0 (λ k below off. below) before
+      (λ t run clear is sparse off k below down. first_lost before base t run clear is sparse off k below) cycles
+  held_on before base [] run clear sparse = tt
+  held_on before base (t ∷ cycles) run clear sparse = (
+    held_on before base cycles run.0 clear.0 sparse.0,
+    borne_on laws more turn comes_up to_zero goes counts r jobs carry restarts opened t cycles before run clear base sparse,
+  )
 
   -- WHAT IS LOST of all channels
   pub all_few : (t : CycleView) (cycles before : List CycleView) → IsRun r jobs carry restarts (t ∷ (cycles ++ before))
-      → IsClear (t ∷ (cycles ++ before)) → StartsEpoch r jobs carry restarts before → AreSparse r carry restarts (t ∷ cycles) before
+      → IsClear (t ∷ (cycles ++ before)) → Base before → AreSparse r carry restarts (t ∷ cycles) before
       → t.phase ≤ 2
-      → all_lost (t ∷ cycles) before + spare t (cycles ++ before) ≤ disturbances r carry restarts (t ∷ cycles) before
-  all_few t [] before run clear starts sparse low =
-      let none : all_lost [] before ≡ 0 = sum_zero (length r.drives) in
-      let at_zero = zero_is laws more turn comes_up to_zero goes counts r jobs carry restarts opened t before run clear starts
-      (sparse.1.goes_on 0 (omega arith)) in
-      let same = early_lost t [] before run clear (omega (arith, at_zero)) in elim (calm_or_not r carry restarts t before) [
-        | inl on ↦ (let more_is = disturbed_more t [] before run clear low on 0 (omega (arith, none)) in omega (arith, more_is))
-        | inr off ↦ (let (c, d) = off_so t before off in omega (arith, same, none, c, d))
-      ]
-  all_few t (u ∷ cycles) before run clear starts sparse low = by (calm_or_not r carry restarts t (u ∷ (cycles ++ before)))
-      (all_few u cycles before run.0 clear.0 starts sparse.0 (omega (arith, u_low, low)))
-    where
-      was : Borne u (cycles ++ before)
-      was = all_borne laws more turn comes_up to_zero goes counts r jobs carry restarts opened u cycles before run.0 clear.0 starts sparse.0
-
-      is : Borne t (u ∷ (cycles ++ before))
-      is = all_borne laws more turn comes_up to_zero goes counts r jobs carry restarts opened t (u ∷ cycles) before run clear starts sparse
-
-      still : restarts (length (u ∷ (cycles ++ before))) 0 ≡ false
-      still = sparse.1.goes_on 0 (omega arith)
-
-      u_low : u.phase ≤ t.phase
-      u_low = no_lower laws more turn r jobs carry restarts opened t u (cycles ++ before) run clear was.stays still 0 some_drive
-
-      calm_more : IsUndisturbed r carry restarts t (u ∷ (cycles ++ before))
-          → all_lost (u ∷ cycles) before + spare u (cycles ++ before) ≤ disturbances r carry restarts (u ∷ cycles) before
-          → all_lost (t ∷ u ∷ cycles) before ≤ disturbances r carry restarts (u ∷ cycles) before
-      calm_more off few = elim (cases_lt t.phase 2) [
-        | inl early ↦ (let same = early_lost t (u ∷ cycles) before run clear (omega (arith, early)) in omega (arith, same, few))
-        | inr two ↦ elim (calm_or_not r carry restarts u (cycles ++ before)) [
-          | inr calm ↦ (let same = none_lost t (u ∷ cycles) before (is.kept off (inr (tt, calm))) in omega (arith, same, few))
-          | inl disturbed ↦ elim (phase_after laws more turn r jobs carry restarts opened t u (cycles ++ before) run clear was.stays still 0
-              some_drive) [
-                | inr up ↦ (
-                    let same = none_lost t (u ∷ cycles) before (λ k below. is.rested_kept off k below
-                    (rests laws more turn comes_up to_zero goes counts r jobs carry restarts opened t u (cycles ++ before) run clear was
-                    sparse.1 k below up)) in omega (arith, same, few))
-                | inl equal ↦ (
-                    let most = one_lost t (u ∷ cycles) before run clear low in
-                    let (a, b) = two_for u.phase (omega (arith, equal, two, low)) in
-                    let (e, f) = on_so u (cycles ++ before) disturbed in omega (arith, most, a, b, e, f, few))
-              ]
-        ]
-      ]
-
-      by : IsDisturbed r carry restarts t (u ∷ (cycles ++ before)) ⊎ IsUndisturbed r carry restarts t (u ∷ (cycles ++ before))
-          → all_lost (u ∷ cycles) before + spare u (cycles ++ before) ≤ disturbances r carry restarts (u ∷ cycles) before
-          → all_lost (t ∷ u ∷ cycles) before + spare t (u ∷ (cycles ++ before)) ≤ disturbances r carry restarts (t ∷ u ∷ cycles) before
-      by (inl on) few = disturbed_more t (u ∷ cycles) before run clear low on (disturbances r carry restarts (u ∷ cycles) before)
-          (omega (arith, few))
-      by (inr off) few = let most = calm_more off few in let (c, d) = off_so t (u ∷ (cycles ++ before)) off in omega (arith, most, c, d)
+      → sum_below (length r.drives) (lost_of (t ∷ cycles) before) + spare t (cycles ++ before)
+      ≤ disturbances r carry restarts (t ∷ cycles) before
+  all_few t cycles before run clear base sparse low =
+      few_lost none_down (λ k. k < length r.drives) every 0 (λ k below off. below) before
+      (λ u run clear is sparse off k below down. first_lost before base u run clear is sparse off k below) t cycles run clear
+      (held_on before base (t ∷ cycles) run clear sparse) sparse low
 
   -- THE SUM OVER THE DRIVES
   pub costs_shared : ((busy : ℕ) → StaysInCost busy) → ComesTimed → (t : CycleView) (cycles before : List CycleView)
-      → IsRun r jobs carry restarts (t ∷ (cycles ++ before)) → IsClear (t ∷ (cycles ++ before)) → StartsEpoch r jobs carry restarts before
+      → IsRun r jobs carry restarts (t ∷ (cycles ++ before)) → IsClear (t ∷ (cycles ++ before)) → Base before
       → AreSparse r carry restarts (t ∷ cycles) before → t.phase ≤ 2 → (longest : ℕ → ℕ)
       → ((k : ℕ) → k < length r.drives → AreListed longest (views_of r jobs carry restarts k (t ∷ (cycles ++ before))))
       → sum_below (length r.drives) (λ k. open_since (views_since r jobs carry restarts k (t ∷ cycles) before)

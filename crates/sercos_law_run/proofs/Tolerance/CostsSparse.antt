@@ -24,7 +24,6 @@ use Rattle.sercos_law_run.specs.Views.RingViews.{view_of, views_of}
 use Rattle.sercos_law_run.specs.Held.Opened.{IsOpened}
 use Rattle.sercos_law_run.proofs.Held.Runs.{Laws, small}
 use Rattle.sercos_law_run.proofs.Headline.HeadlineRuns.{MoreLaws, all_stand, first_store}
-use Rattle.sercos_law_run.specs.Undisturbed.EpochStarts.{StartsEpoch}
 use Rattle.sercos_law_run.specs.Undisturbed.Undisturbed.{IsUndisturbed}
 use Rattle.sercos_law_run.specs.Undisturbed.ViewsSince.{views_since}
 use Rattle.sercos_law_run.proofs.Undisturbed.Carried.{are_carried}
@@ -35,7 +34,7 @@ use Rattle.sercos_law_run.proofs.Undisturbed.PassedRuns.{commands_so}
 use Rattle.sercos_law_run.proofs.Recovery.LateDown.{phase_after}
 use Rattle.sercos_law_run.specs.Tolerance.Losses.{GoesOn, cycles_for, disturbances, is_lost, lost_since}
 use Rattle.sercos_law_run.specs.Tolerance.Sparse.{AreSparse, IsSparse}
-use Rattle.sercos_law_run.proofs.Tolerance.Borne.{IsBorne, all_borne, calm_or_not, rests, zero_is}
+use Rattle.sercos_law_run.proofs.Tolerance.Borne.{IsBase, IsBorne, borne_on, calm_or_not, rests, zero_is}
 use Rattle.sercos_law_run.proofs.Tolerance.Losses.{early_kept, takes_time_and_losses}
 
 -- What a disturbed cycle costs, and what of it is left for the next.
@@ -70,6 +69,9 @@ module _ (laws : Laws) (more : MoreLaws) (turn : WorkInTurn) (comes_up : (busy :
     (r : RingView) (jobs : List Job) (carry : Carry) (restarts : Restarts) (opened : IsOpened r jobs) where
   abbrev Borne : CycleView → List CycleView → Type 0
   Borne t j = IsBorne laws more turn comes_up to_zero goes counts r jobs carry restarts opened t j
+
+  abbrev Base : List CycleView → Type 0
+  Base before = IsBase laws more turn comes_up to_zero goes counts r jobs carry restarts opened before
 
   is_run : (j : List CycleView) → IsRun r jobs carry restarts j → IsClear j → (k : ℕ) → k < length r.drives
       → IsViewRun (drive_at r k).busy (views_of r jobs carry restarts k j)
@@ -158,20 +160,31 @@ module _ (laws : Laws) (more : MoreLaws) (turn : WorkInTurn) (comes_up : (busy :
       ]
     ]
 
-    -- WHAT IS LOST of the cycles of an epoch
-    lost_few : (t : CycleView) (cycles before : List CycleView) → IsRun r jobs carry restarts (t ∷ (cycles ++ before))
-        → IsClear (t ∷ (cycles ++ before)) → StartsEpoch r jobs carry restarts before → AreSparse r carry restarts (t ∷ cycles) before
+    -- the first of them, if it is undisturbed
+    lost_first : (t : CycleView) (before : List CycleView) → IsRun r jobs carry restarts (t ∷ before) → IsClear (t ∷ before) → Base before
+        → IsSparse r carry restarts t before → IsUndisturbed r carry restarts t before
+        → one_more (is_lost (view_of r jobs carry restarts k t before) (views_of r jobs carry restarts k before)) 0 + spare t before
+        ≤ 0 + costs t before
+    lost_first t before run clear (inl starts) sparse off =
+        let at_zero = zero_is laws more turn comes_up to_zero goes counts r jobs carry restarts opened t before run clear starts
+        (sparse.goes_on 0 (omega arith)) in
+        calm_more t before off (early_kept (drive_at r k).busy (view_of r jobs carry restarts k t before)
+        (views_of r jobs carry restarts k before) (is_run (t ∷ before) run clear k below) (omega (arith, at_zero))) 0 0 (omega arith)
+    lost_first t [] run clear (inr none) sparse off = absurd none
+    lost_first t (f ∷ before) run clear (inr stood) sparse off =
+        calm_next t f before run clear stood.0 sparse (borne_on laws more turn comes_up to_zero goes counts r jobs carry restarts opened t
+        []
+        (f ∷ before) run clear (inr stood) (tt, sparse)) off 0 0 (let none = (off_so f before stood.1).1 in omega (arith, none))
+
+    -- WHAT IS LOST of the cycles
+    pub lost_few : (t : CycleView) (cycles before : List CycleView) → IsRun r jobs carry restarts (t ∷ (cycles ++ before))
+        → IsClear (t ∷ (cycles ++ before)) → Base before → AreSparse r carry restarts (t ∷ cycles) before
         → lost_since (views_since r jobs carry restarts k (t ∷ cycles) before) (views_of r jobs carry restarts k before) + spare t
         (cycles ++ before) ≤ disturbances r carry restarts (t ∷ cycles) before
     lost_few t [] before run clear starts sparse = elim (calm_or_not r carry restarts t before) [
       | inl on ↦ disturbed_more t before run clear on 0 0 (omega arith)
-      | inr off ↦ calm_more t before off (early_kept (drive_at r k).busy (view_of r jobs carry restarts k t before)
-          (views_of r jobs carry restarts k before) (is_run (t ∷ before) run clear k below) (omega (arith, at_zero))) 0 0 (omega arith)
+      | inr off ↦ lost_first t before run clear starts sparse.1 off
     ]
-      where
-        at_zero : t.phase ≡ 0
-        at_zero = zero_is laws more turn comes_up to_zero goes counts r jobs carry restarts opened t before run clear starts
-            (sparse.1.goes_on 0 (omega arith))
     lost_few t (u ∷ cycles) before run clear starts sparse = subst
         (λ (l : List View). one_more (is_lost (view_of r jobs carry restarts k t (u ∷ (cycles ++ before))) l)
         (lost_since (views_since r jobs carry restarts k (u ∷ cycles) before) (views_of r jobs carry restarts k before))
@@ -184,32 +197,31 @@ module _ (laws : Laws) (more : MoreLaws) (turn : WorkInTurn) (comes_up : (busy :
         ])
       where
         was : Borne u (cycles ++ before)
-        was = all_borne laws more turn comes_up to_zero goes counts r jobs carry restarts opened u cycles before run.0 clear.0 starts
+        was = borne_on laws more turn comes_up to_zero goes counts r jobs carry restarts opened u cycles before run.0 clear.0 starts
             sparse.0
 
         is : Borne t (u ∷ (cycles ++ before))
-        is = all_borne laws more turn comes_up to_zero goes counts r jobs carry restarts opened t (u ∷ cycles) before run clear starts
+        is = borne_on laws more turn comes_up to_zero goes counts r jobs carry restarts opened t (u ∷ cycles) before run clear starts
             sparse
 
     pub goes_since : (cycles before : List CycleView) → IsRun r jobs carry restarts (cycles ++ before) → IsClear (cycles ++ before)
-        → StartsEpoch r jobs carry restarts before → AreSparse r carry restarts cycles before
+        → Base before → AreSparse r carry restarts cycles before
         → GoesOn (views_since r jobs carry restarts k cycles before)
     goes_since [] before run clear starts sparse = tt
     goes_since (t ∷ cycles) before run clear starts sparse =
-        let is = all_borne laws more turn comes_up to_zero goes counts r jobs carry restarts opened t cycles before run clear starts sparse
+        let is = borne_on laws more turn comes_up to_zero goes counts r jobs carry restarts opened t cycles before run clear starts sparse
         in
         (goes_since cycles before run.0 clear.0 starts sparse.0, ap (λ (o : Option Fall). is_some o) is.stays, is.goes_on)
 
   -- THE CYCLES WITH AN OPEN STEP, by what was lost,
-  pub opens_so : ((busy : ℕ) → StaysInCost busy) → ComesTimed → (cycles before : List CycleView)
-      → IsRun r jobs carry restarts (cycles ++ before) → IsClear (cycles ++ before) → StartsEpoch r jobs carry restarts before
-      → AreSparse r carry restarts cycles before → (k : ℕ) (longest : ℕ → ℕ) → k < length r.drives
-      → AreListed longest (views_of r jobs carry restarts k (cycles ++ before))
+  pub opens_if : ((busy : ℕ) → StaysInCost busy) → ComesTimed → (cycles before : List CycleView)
+      → IsRun r jobs carry restarts (cycles ++ before) → IsClear (cycles ++ before) → (k : ℕ) (longest : ℕ → ℕ) → k < length r.drives
+      → AreListed longest (views_of r jobs carry restarts k (cycles ++ before)) → GoesOn (views_since r jobs carry restarts k cycles before)
       → open_since (views_since r jobs carry restarts k cycles before) (views_of r jobs carry restarts k before)
       ≤ cost_in (cost_of (drive_at r k).busy (drive_at r k).command longest (store_of (drive_at r k)))
       (epoch_begun (views_of r jobs carry restarts k (cycles ++ before)))
       + lost_since (views_since r jobs carry restarts k cycles before) (views_of r jobs carry restarts k before)
-  opens_so in_cost timed cycles before run clear starts sparse k longest below listed =
+  opens_if in_cost timed cycles before run clear k longest below listed going =
       let split = views_split r jobs carry restarts k cycles before in
       let stands = all_stand laws more r jobs carry restarts opened (cycles ++ before) run clear k below in
       let follow = (commands_so laws more r jobs carry restarts opened (cycles ++ before) run clear k below).follow in
@@ -226,12 +238,23 @@ module _ (laws : Laws) (more : MoreLaws) (turn : WorkInTurn) (comes_up : (busy :
       + lost_since (views_since r jobs carry restarts k cycles before) (views_of r jobs carry restarts k before)) (sym split)
       (takes_time_and_losses (drive_at r k).busy (views_since r jobs carry restarts k cycles before)
       (views_of r jobs carry restarts k before) (runs_split laws more r jobs carry restarts opened cycles before run clear k below)
-      (goes_since k below cycles before run clear starts sparse)) in
+      going) in
       omega (arith, cost, time)
+
+  pub opens_so : ((busy : ℕ) → StaysInCost busy) → ComesTimed → (cycles before : List CycleView)
+      → IsRun r jobs carry restarts (cycles ++ before) → IsClear (cycles ++ before) → Base before
+      → AreSparse r carry restarts cycles before → (k : ℕ) (longest : ℕ → ℕ) → k < length r.drives
+      → AreListed longest (views_of r jobs carry restarts k (cycles ++ before))
+      → open_since (views_since r jobs carry restarts k cycles before) (views_of r jobs carry restarts k before)
+      ≤ cost_in (cost_of (drive_at r k).busy (drive_at r k).command longest (store_of (drive_at r k)))
+      (epoch_begun (views_of r jobs carry restarts k (cycles ++ before)))
+      + lost_since (views_since r jobs carry restarts k cycles before) (views_of r jobs carry restarts k before)
+  opens_so in_cost timed cycles before run clear starts sparse k longest below listed =
+      opens_if in_cost timed cycles before run clear k longest below listed (goes_since k below cycles before run clear starts sparse)
 
   -- and by the disturbed cycles
   pub costs_sparse : ((busy : ℕ) → StaysInCost busy) → ComesTimed → (cycles before : List CycleView)
-      → IsRun r jobs carry restarts (cycles ++ before) → IsClear (cycles ++ before) → StartsEpoch r jobs carry restarts before
+      → IsRun r jobs carry restarts (cycles ++ before) → IsClear (cycles ++ before) → Base before
       → AreSparse r carry restarts cycles before → (k : ℕ) (longest : ℕ → ℕ) → k < length r.drives
       → AreListed longest (views_of r jobs carry restarts k (cycles ++ before))
       → open_since (views_since r jobs carry restarts k cycles before) (views_of r jobs carry restarts k before)

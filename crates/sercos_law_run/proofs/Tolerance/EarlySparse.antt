@@ -19,7 +19,7 @@ use Rattle.sercos_law_run.proofs.Views.ViewRuns.{started}
 use Rattle.sercos_law_run.specs.Held.Opened.{IsOpened}
 use Rattle.sercos_law_run.proofs.Held.Runs.{Laws}
 use Rattle.sercos_law_run.proofs.Headline.HeadlineRuns.{MoreLaws}
-use Rattle.sercos_law_run.specs.Undisturbed.EpochStarts.{StartsEpoch, came_back}
+use Rattle.sercos_law_run.specs.Undisturbed.EpochStarts.{came_back}
 use Rattle.sercos_law_run.specs.Undisturbed.Undisturbed.{IsUndisturbed}
 use Rattle.sercos_law_run.proofs.Undisturbed.ChannelsKept.{ats_leave}
 use Rattle.sercos_law_run.proofs.Undisturbed.Identified.{heard_next}
@@ -30,14 +30,14 @@ use Rattle.sercos_law_run.proofs.Undisturbed.PhaseZero.{few_back}
 use Rattle.sercos_law_run.proofs.Undisturbed.StaysUp.{addressed_first, found_passes, phase_now, stands_so, turns_now}
 use Rattle.sercos_law_run.specs.Tolerance.Early.{early_cost, early_costs}
 use Rattle.sercos_law_run.specs.Tolerance.Sparse.{AreSparse}
-use Rattle.sercos_law_run.proofs.Tolerance.Borne.{IsBorne, all_borne, calm_or_not}
+use Rattle.sercos_law_run.proofs.Tolerance.Borne.{IsBase, IsBorne, borne_on, calm_or_not}
 
 -- COUNTS of places that pass a test
-abbrev one_if : Bool → ℕ
+abbrev pub one_if : Bool → ℕ
 one_if true = 1
 one_if false = 0
 
-abbrev count : ℕ → (ℕ → Bool) → ℕ
+abbrev pub count : ℕ → (ℕ → Bool) → ℕ
 count zero test = 0
 count (suc n) test = count n test + one_if (test n)
 
@@ -45,7 +45,7 @@ no_less : (a b : Bool) → (a ≡ true → b ≡ true) → one_if a ≤ one_if b
 no_less true b more = let on : one_if b ≡ 1 = ap one_if (more refl) in omega (arith, on)
 no_less false b more = omega arith
 
-count_most : (n : ℕ) (f g : ℕ → Bool) → ((k : ℕ) → f k ≡ true → g k ≡ true) → count n f ≤ count n g
+pub count_most : (n : ℕ) (f g : ℕ → Bool) → ((k : ℕ) → f k ≡ true → g k ≡ true) → count n f ≤ count n g
 count_most zero f g more = omega arith
 count_most (suc n) f g more = let rest = count_most n f g more in let last = no_less (f n) (g n) (more n) in omega (arith, rest, last)
 
@@ -60,7 +60,7 @@ count_more (suc n) k f g more low off on = elim (cases_eq k n) [
       omega (arith, rest, last))
 ]
 
-count_all : (n : ℕ) → count n (λ k. true) ≡ n
+pub count_all : (n : ℕ) → count n (λ k. true) ≡ n
 count_all zero = refl
 count_all (suc n) = let rest = count_all n in omega (arith, rest)
 
@@ -83,19 +83,23 @@ unknown_off true on = absurd (false≢true on)
 unknown_off false on = refl
 
 -- what tests of a phase choose
-abbrev cost_by : ℕ → Bool → Bool → ℕ
+abbrev pub cost_by : ℕ → Bool → Bool → ℕ
 cost_by n whole disturbed = if n == 0 then (if whole then 0 else 10) else (if n == 1 then (if disturbed then 2 else 0) else 0)
 
-abbrev ten_unless : Bool → ℕ
+abbrev pub ten_unless : Bool → ℕ
 ten_unless whole = if whole then 0 else 10
 
-abbrev two_if : Bool → ℕ
+abbrev pub two_if : Bool → ℕ
 two_if disturbed = if disturbed then 2 else 0
 
-zero_cost : (n : ℕ) (whole disturbed : Bool) → n ≡ 0 → cost_by n whole disturbed ≡ ten_unless whole
+one_at_most : (b : Bool) → one_if b ≤ 1
+one_at_most true = omega arith
+one_at_most false = omega arith
+
+pub zero_cost : (n : ℕ) (whole disturbed : Bool) → n ≡ 0 → cost_by n whole disturbed ≡ ten_unless whole
 zero_cost n whole disturbed is = ap (λ (m : ℕ). cost_by m whole disturbed) is
 
-one_cost : (n : ℕ) (whole disturbed : Bool) → n ≡ 1 → cost_by n whole disturbed ≡ two_if disturbed
+pub one_cost : (n : ℕ) (whole disturbed : Bool) → n ≡ 1 → cost_by n whole disturbed ≡ two_if disturbed
 one_cost n whole disturbed is = ap (λ (m : ℕ). cost_by m whole disturbed) is
 
 -- one cycle of phase 0 more
@@ -104,11 +108,11 @@ row_next : (whole : Bool) (len row costs : ℕ) → len ≤ row + costs → row 
 row_next true len row costs le few = omega (arith, le)
 row_next false len row costs le few = omega (arith, le, few)
 
-zero_phase : (done : Bool) (n : ℕ) → (if done then n + 1 else n) ≡ 0 → n ≡ 0
+pub zero_phase : (done : Bool) (n : ℕ) → (if done then n + 1 else n) ≡ 0 → n ≡ 0
 zero_phase true n is = absurd (omega (arith, is))
 zero_phase false n is = is
 
-one_phase : (done : Bool) (n : ℕ) → (if done then n + 1 else n) ≡ 1 → ((done ≡ true) × (n ≡ 0)) ⊎ ((done ≡ false) × (n ≡ 1))
+pub one_phase : (done : Bool) (n : ℕ) → (if done then n + 1 else n) ≡ 1 → ((done ≡ true) × (n ≡ 0)) ⊎ ((done ≡ false) × (n ≡ 1))
 one_phase true n is = inl (refl, omega (arith, is))
 one_phase false n is = inr (refl, is)
 
@@ -125,7 +129,10 @@ module _ (laws : Laws) (more : MoreLaws) (turn : WorkInTurn) (comes_up : (busy :
   abbrev Borne : CycleView → List CycleView → Type 0
   Borne t j = IsBorne laws more turn comes_up to_zero goes counts r jobs carry restarts opened t j
 
-  abbrev known : List Turn → ℕ
+  abbrev Base : List CycleView → Type 0
+  Base before = IsBase laws more turn comes_up to_zero goes counts r jobs carry restarts opened before
+
+  abbrev pub known : List Turn → ℕ
   known turns = count (length (known_of r).drives) (λ k. has_identified k turns)
 
   abbrev spare : CycleView → List CycleView → ℕ
@@ -159,7 +166,7 @@ module _ (laws : Laws) (more : MoreLaws) (turn : WorkInTurn) (comes_up : (busy :
     row_after = ap whole_row turns_after ∙ ap (λ (b : Bool). if b then whole_row (back j).turns + 1 else 0) whole_is
 
     -- the drives that are identified stay so
-    known_after : known (back j).turns ≤ known (back (t ∷ j)).turns
+    pub known_after : known (back j).turns ≤ known (back (t ∷ j)).turns
     known_after = count_most (length (known_of r).drives) (λ k. has_identified k (back j).turns)
         (λ k. has_identified k (back (t ∷ j)).turns)
         (λ k on. ap (has_identified k) turns_after ∙ still ((now t j).now.phase == 1) ((now t j).now.heard k)
@@ -171,8 +178,8 @@ module _ (laws : Laws) (more : MoreLaws) (turn : WorkInTurn) (comes_up : (busy :
         still false b c on = on
 
   -- PHASE 0
-  zero_lasts : (cycles before : List CycleView) → IsRun r jobs carry restarts (cycles ++ before) → IsClear (cycles ++ before)
-      → StartsEpoch r jobs carry restarts before → AreSparse r carry restarts cycles before
+  pub zero_lasts : (cycles before : List CycleView) → IsRun r jobs carry restarts (cycles ++ before) → IsClear (cycles ++ before)
+      → Base before → AreSparse r carry restarts cycles before
       → (back (cycles ++ before)).now.phase ≡ 0 → length cycles ≤ came_back r jobs carry restarts (cycles ++ before) + early_costs r jobs
       carry restarts cycles before
   zero_lasts [] before run clear starts sparse at_zero = omega arith
@@ -180,7 +187,7 @@ module _ (laws : Laws) (more : MoreLaws) (turn : WorkInTurn) (comes_up : (busy :
       by (zero_lasts cycles before run.0 clear.0 starts sparse.0 (sym (phase_is t (cycles ++ before) run is) ∙ t_zero))
     where
       is : Borne t (cycles ++ before)
-      is = all_borne laws more turn comes_up to_zero goes counts r jobs carry restarts opened t cycles before run clear starts sparse
+      is = borne_on laws more turn comes_up to_zero goes counts r jobs carry restarts opened t cycles before run clear starts sparse
 
       t_zero : t.phase ≡ 0
       t_zero = zero_phase (is_done (known_of r) (now t (cycles ++ before))) t.phase (sym (phase_next t (cycles ++ before) run is) ∙ at_zero)
@@ -198,7 +205,7 @@ module _ (laws : Laws) (more : MoreLaws) (turn : WorkInTurn) (comes_up : (busy :
           omega (arith, row, cost, step)
 
   -- A DRIVE MORE is identified, if two cycles of phase 1 in a row are undisturbed.
-  one_more : (t u : CycleView) (j : List CycleView) → IsRun r jobs carry restarts (t ∷ u ∷ j) → IsClear (t ∷ u ∷ j) → Borne t (u ∷ j)
+  pub one_more : (t u : CycleView) (j : List CycleView) → IsRun r jobs carry restarts (t ∷ u ∷ j) → IsClear (t ∷ u ∷ j) → Borne t (u ∷ j)
       → Borne u j → IsUndisturbed r carry restarts t (u ∷ j) → IsUndisturbed r carry restarts u j
       → t.phase ≡ 1 → u.phase ≡ 1 → is_done (known_of r) (now u j) ≡ false → known (back (u ∷ j)).turns + 1 ≤ known (back (t ∷ u ∷ j)).turns
   one_more t u j run clear is was calm calm_before one was_one unfinished =
@@ -258,22 +265,21 @@ module _ (laws : Laws) (more : MoreLaws) (turn : WorkInTurn) (comes_up : (busy :
           still false b c on = on
 
   -- PHASE 1: at its start, and after each cycle of it
-  risen : (t : CycleView) (cycles before : List CycleView) → IsRun r jobs carry restarts (t ∷ (cycles ++ before))
-      → IsClear (t ∷ (cycles ++ before)) → StartsEpoch r jobs carry restarts before → AreSparse r carry restarts (t ∷ cycles) before
+  pub risen : (t : CycleView) (cycles before : List CycleView) → IsRun r jobs carry restarts (t ∷ (cycles ++ before))
+      → IsClear (t ∷ (cycles ++ before)) → Base before → AreSparse r carry restarts (t ∷ cycles) before
       → t.phase ≡ 0 → suc (length cycles) ≤ 10 + early_costs r jobs carry restarts (t ∷ cycles) before
   risen t cycles before run clear starts sparse t_zero =
-      let is = all_borne laws more turn comes_up to_zero goes counts r jobs carry restarts opened t cycles before run clear starts sparse in
+      let is = borne_on laws more turn comes_up to_zero goes counts r jobs carry restarts opened t cycles before run clear starts sparse in
       let at_zero = sym (phase_is t (cycles ++ before) run is) ∙ t_zero in
       let few = few_back r jobs carry restarts (cycles ++ before) at_zero in
       let le = zero_lasts cycles before run.0 clear.0 starts sparse.0 at_zero in omega (arith, few, le)
 
   one_lasts : (t : CycleView) (cycles before : List CycleView) → IsRun r jobs carry restarts (t ∷ (cycles ++ before))
-      → IsClear (t ∷ (cycles ++ before)) → StartsEpoch r jobs carry restarts before → AreSparse r carry restarts (t ∷ cycles) before
+      → IsClear (t ∷ (cycles ++ before)) → Base before → AreSparse r carry restarts (t ∷ cycles) before
       → t.phase ≡ 1 → suc (length cycles) + spare t (cycles ++ before) ≤ 11 + known (back (t ∷ (cycles ++ before))).turns + early_costs r
       jobs carry restarts (t ∷ cycles) before
   one_lasts t [] before run clear starts sparse one =
-      let is = all_borne laws more turn comes_up to_zero goes counts r jobs carry restarts opened t [] before run clear starts sparse in
-      let none : t.phase ≡ 0 = phase_is t before run is ∙ starts in absurd (omega (arith, none, one))
+      let few = one_at_most (is_disturbed_in r carry restarts (length before) t.sent) in omega (arith, few)
   one_lasts t (u ∷ cycles) before run clear starts sparse one =
       elim (one_phase (is_done (known_of r) (now u (cycles ++ before))) u.phase
       (sym (phase_next u (cycles ++ before) run.0 was) ∙ sym (phase_is t (u ∷ (cycles ++ before)) run is) ∙ one)) [
@@ -282,10 +288,10 @@ module _ (laws : Laws) (more : MoreLaws) (turn : WorkInTurn) (comes_up : (busy :
       ]
     where
       was : Borne u (cycles ++ before)
-      was = all_borne laws more turn comes_up to_zero goes counts r jobs carry restarts opened u cycles before run.0 clear.0 starts sparse.0
+      was = borne_on laws more turn comes_up to_zero goes counts r jobs carry restarts opened u cycles before run.0 clear.0 starts sparse.0
 
       is : Borne t (u ∷ (cycles ++ before))
-      is = all_borne laws more turn comes_up to_zero goes counts r jobs carry restarts opened t (u ∷ cycles) before run clear starts sparse
+      is = borne_on laws more turn comes_up to_zero goes counts r jobs carry restarts opened t (u ∷ cycles) before run clear starts sparse
 
       cost : early_cost r jobs carry restarts t (u ∷ (cycles ++ before)) ≡ two_if
           (is_disturbed_in r carry restarts (length (u ∷ (cycles ++ before))) t.sent)
@@ -326,7 +332,7 @@ module _ (laws : Laws) (more : MoreLaws) (turn : WorkInTurn) (comes_up : (busy :
       ]
 
   -- not all drives are identified while phase 1 goes on
-  known_few : (t : CycleView) (j : List CycleView) → IsRun r jobs carry restarts (t ∷ j) → Borne t j → t.phase ≡ 1
+  pub known_few : (t : CycleView) (j : List CycleView) → IsRun r jobs carry restarts (t ∷ j) → Borne t j → t.phase ≡ 1
       → is_done (known_of r) (now t j) ≡ false → known (back (t ∷ j)).turns + 1 ≤ length r.drives
   known_few t j run is one unfinished =
       let all = count_all (length (known_of r).drives) in
@@ -352,7 +358,7 @@ module _ (laws : Laws) (more : MoreLaws) (turn : WorkInTurn) (comes_up : (busy :
 
   -- BOTH PHASES
   pub early_sparse : (t : CycleView) (cycles before : List CycleView) → IsRun r jobs carry restarts (t ∷ (cycles ++ before))
-      → IsClear (t ∷ (cycles ++ before)) → StartsEpoch r jobs carry restarts before → AreSparse r carry restarts (t ∷ cycles) before
+      → IsClear (t ∷ (cycles ++ before)) → Base before → AreSparse r carry restarts (t ∷ cycles) before
       → t.phase ≤ 1 → length cycles ≤ 10 + length r.drives + early_costs r jobs carry restarts cycles before
   early_sparse t [] before run clear starts sparse low = omega arith
   early_sparse t (u ∷ cycles) before run clear starts sparse low = elim (cases_eq t.phase 0) [
@@ -371,7 +377,7 @@ module _ (laws : Laws) (more : MoreLaws) (turn : WorkInTurn) (comes_up : (busy :
   ]
     where
       was : Borne u (cycles ++ before)
-      was = all_borne laws more turn comes_up to_zero goes counts r jobs carry restarts opened u cycles before run.0 clear.0 starts sparse.0
+      was = borne_on laws more turn comes_up to_zero goes counts r jobs carry restarts opened u cycles before run.0 clear.0 starts sparse.0
 
       is : Borne t (u ∷ (cycles ++ before))
-      is = all_borne laws more turn comes_up to_zero goes counts r jobs carry restarts opened t (u ∷ cycles) before run clear starts sparse
+      is = borne_on laws more turn comes_up to_zero goes counts r jobs carry restarts opened t (u ∷ cycles) before run clear starts sparse

@@ -65,16 +65,20 @@ closed_age (v ∷ past) none = by v.falls none
         (steps_in (unless_restart v (epoch_begun past)))) (age_in past)) none
 
 -- An open step that the drive hasn't accepted is at most `fresh` cycles old. One that it has accepted was begun at most a cycle before,
--- and is open for at most busy time and `late` cycles since.
-pub record IsYoung (busy fresh late : ℕ) (all : List View) : Type 0 where
+-- unless it was accepted before the cycle `since`; and it is open for at most busy time and `late` cycles since it was accepted.
+pub record IsYoungSince (since busy fresh late : ℕ) (all : List View) : Type 0 where
   pub new : is_some (open_in (epoch_begun all)) ≡ true → length (steps_in (epoch_begun all)) ≡ suc (length (epoch_log all))
       → age_in all ≤ fresh
   pub old : (e : Entry) (log : List Entry) → epoch_log all ≡ e ∷ log → is_some (open_in (epoch_begun all)) ≡ true
       → length (steps_in (epoch_begun all)) ≡ length (epoch_log all)
-      → (age_in all + e.taken.cycle ≤ length all + 1) × (length all ≤ e.taken.cycle + (busy + 1) + late)
+      → ((age_in all + e.taken.cycle ≤ length all + 1) ⊎ (e.taken.cycle < since)) × (length all ≤ e.taken.cycle + (busy + 1) + late)
 
-pub older : (busy f l fresh late : ℕ) (all : List View) → f ≤ fresh → l ≤ late → IsYoung busy f l all → IsYoung busy fresh late all
-older busy f l fresh late all more longer y = record {
+abbrev pub IsYoung : ℕ → ℕ → ℕ → List View → Type 0
+IsYoung busy fresh late all = IsYoungSince 0 busy fresh late all
+
+pub older : (since busy f l fresh late : ℕ) (all : List View) → f ≤ fresh → l ≤ late → IsYoungSince since busy f l all
+    → IsYoungSince since busy fresh late all
+older since busy f l fresh late all more longer y = record {
   new = λ some is. let young = y.new some is in omega (arith, young, more);
   old = λ e log those some is. let (a, b) = y.old e log those some is in (a, omega (arith, b, longer));
 }
@@ -82,8 +86,17 @@ older busy f l fresh late all more longer y = record {
 pub never_some : {A : Type 0} (o : Option A) → o ≡ None → is_some o ≡ true → ⊥
 never_some o none some = false≢true (sym (ap (λ (x : Option _). is_some x) none) ∙ some)
 
-pub rested : (busy : ℕ) (all : List View) → open_in (epoch_begun all) ≡ None → IsYoung busy 0 0 all
-rested busy all none = record {
+-- Once that long has passed, no such step is open.
+pub young_at_last : (since busy fresh late : ℕ) (all : List View) → since + (busy + 1) + late ≤ length all
+    → IsYoungSince since busy fresh late all → IsYoung busy fresh late all
+young_at_last since busy fresh late all long y = record {
+  new = y.new;
+  old = λ e log those some is.
+      let (a, b) = y.old e log those some is in (elim a [ inl begun ↦ inl begun | inr early ↦ absurd (omega (arith, early, b, long)) ], b);
+}
+
+pub rested : (since busy : ℕ) (all : List View) → open_in (epoch_begun all) ≡ None → IsYoungSince since busy 0 0 all
+rested since busy all none = record {
   new = λ some is. absurd (never_some (open_in (epoch_begun all)) none some);
   old = λ e log those some is. absurd (never_some (open_in (epoch_begun all)) none some);
 }
@@ -97,7 +110,9 @@ oldest busy fresh late all run few y = by (open_in (epoch_begun all)) refl
         → length (steps_in (epoch_begun all)) ≡ length (epoch_log all)
         → suc (length (answers_in (epoch_begun all))) ≡ length (epoch_log all) → age_in all ≤ busy + 2 + late
     accepted [] those some steps answers = let none = ap length those in absurd (omega (arith, none, answers))
-    accepted (e ∷ log) those some steps answers = let (a, b) = y.old e log those some steps in omega (arith, a, b)
+    accepted (e ∷ log) those some steps answers =
+        let (a, b) = y.old e log those some steps in
+        elim a [ inl begun ↦ omega (arith, begun, b) | inr early ↦ absurd (omega (arith, early)) ]
 
     which : is_some (open_in (epoch_begun all)) ≡ true → Counts (epoch_begun all) (epoch_log all) → age_in all ≤ busy + 2 + late
     which some (NoneOpen none s a) = absurd (never_some (open_in (epoch_begun all)) none some)
@@ -178,12 +193,13 @@ module _ (busy : ℕ) (v : View) (past : List View) (run : IsRun busy (v ∷ pas
   same_head e f log rest same = let one : e ≡ f = cc in ap (λ (x : Entry). x.taken.cycle) one
 
   -- A STEP THAT THE DRIVE HAS ACCEPTED: since when it is open,
-  begun_by : (fresh late : ℕ) → fresh ≤ 1 → IsYoung busy fresh late past → (e : Entry) (log : List Entry) → epoch_log (v ∷ past) ≡ e ∷ log
+  begun_by : (since fresh late : ℕ) → fresh ≤ 1 → IsYoungSince since busy fresh late past → (e : Entry) (log : List Entry)
+      → epoch_log (v ∷ past) ≡ e ∷ log
       → is_some (open_in (epoch_begun (v ∷ past))) ≡ true
       → length (steps_in (epoch_begun (v ∷ past))) ≡ length (epoch_log (v ∷ past))
-      → age_in (v ∷ past) + e.taken.cycle ≤ length (v ∷ past) + 1
-  begun_by fresh late few y e log those some steps = elim (aged some) [
-    | inr one ↦ let less = soon e log those in omega (arith, one, less)
+      → (age_in (v ∷ past) + e.taken.cycle ≤ length (v ∷ past) + 1) ⊎ (e.taken.cycle < since)
+  begun_by since fresh late few y e log those some steps = elim (aged some) [
+    | inr one ↦ let less = soon e log those in inl (omega (arith, one, less))
     | inl (same, age) ↦ elim grows [
       | inl stayed ↦ old same age stayed then_
       | inr (x, is, at) ↦ new same age x is at then_
@@ -192,20 +208,25 @@ module _ (busy : ℕ) (v : View) (past : List View) (run : IsRun busy (v ∷ pas
     where
       old : length (steps_in (epoch_begun (v ∷ past))) ≡ length (steps_in (epoch_begun past)) → age_in (v ∷ past) ≡ age_in past + 1
           → epoch_log (v ∷ past) ≡ epoch_log past
-          → Counts (epoch_begun past) (epoch_log past) → age_in (v ∷ past) + e.taken.cycle ≤ length (v ∷ past) + 1
+          → Counts (epoch_begun past) (epoch_log past) → (age_in (v ∷ past) + e.taken.cycle ≤ length (v ∷ past) + 1)
+          ⊎ (e.taken.cycle < since)
       old same age stayed (NoneOpen none s a) = let zero = closed_age past none in let less = soon e log those in
-          omega (arith, age, zero, less)
+          inl (omega (arith, age, zero, less))
       old same age stayed (NotTaken s a) = let long = ap length stayed in absurd (omega (arith, same, steps, s, long))
       old same age stayed (NotAnswered s a) = by (open_in (epoch_begun past)) refl
         where
-          by : (o : Option Step) → open_in (epoch_begun past) ≡ o → age_in (v ∷ past) + e.taken.cycle ≤ length (v ∷ past) + 1
-          by None none = let zero = closed_age past none in let less = soon e log those in omega (arith, age, zero, less)
-          by (Some z) opened = let was = (y.old e log (sym stayed ∙ those) (ap (λ (o : Option Step). is_some o) opened) s).0 in
-              omega (arith, age, was)
+          by : (o : Option Step) → open_in (epoch_begun past) ≡ o → (age_in (v ∷ past) + e.taken.cycle ≤ length (v ∷ past) + 1)
+              ⊎ (e.taken.cycle < since)
+          by None none = let zero = closed_age past none in let less = soon e log those in inl (omega (arith, age, zero, less))
+          by (Some z) opened = elim ((y.old e log (sym stayed ∙ those) (ap (λ (o : Option Step). is_some o) opened) s).0) [
+            | inl was ↦ inl (omega (arith, age, was))
+            | inr early ↦ inr early
+          ]
 
       new : length (steps_in (epoch_begun (v ∷ past))) ≡ length (steps_in (epoch_begun past)) → age_in (v ∷ past) ≡ age_in past + 1
           → (x : Entry) → epoch_log (v ∷ past) ≡ x ∷ epoch_log past → x.taken.cycle ≡ length past
-          → Counts (epoch_begun past) (epoch_log past) → age_in (v ∷ past) + e.taken.cycle ≤ length (v ∷ past) + 1
+          → Counts (epoch_begun past) (epoch_log past) → (age_in (v ∷ past) + e.taken.cycle ≤ length (v ∷ past) + 1)
+          ⊎ (e.taken.cycle < since)
       new same age x is at (NoneOpen none s a) = let long = ap length is in absurd (omega (arith, same, steps, s, long))
       new same age x is at (NotAnswered s a) = let long = ap length is in absurd (omega (arith, same, steps, s, long))
       new same age x is at (NotTaken s a) = by (open_in (epoch_begun past)) refl
@@ -213,9 +234,11 @@ module _ (busy : ℕ) (v : View) (past : List View) (run : IsRun busy (v ∷ pas
           cycle : e.taken.cycle ≡ length past
           cycle = same_head e x log (epoch_log past) (sym those ∙ is) ∙ at
 
-          by : (o : Option Step) → open_in (epoch_begun past) ≡ o → age_in (v ∷ past) + e.taken.cycle ≤ length (v ∷ past) + 1
-          by None none = let zero = closed_age past none in omega (arith, age, zero, cycle)
-          by (Some z) opened = let young = y.new (ap (λ (o : Option Step). is_some o) opened) s in omega (arith, age, young, few, cycle)
+          by : (o : Option Step) → open_in (epoch_begun past) ≡ o → (age_in (v ∷ past) + e.taken.cycle ≤ length (v ∷ past) + 1)
+              ⊎ (e.taken.cycle < since)
+          by None none = let zero = closed_age past none in inl (omega (arith, age, zero, cycle))
+          by (Some z) opened = let young = y.new (ap (λ (o : Option Step). is_some o) opened) s in inl
+              (omega (arith, age, young, few, cycle))
 
   -- and until when
   unanswered : (e : Entry) (log : List Entry) → epoch_log (v ∷ past) ≡ e ∷ log
@@ -242,11 +265,12 @@ module _ (busy : ℕ) (v : View) (past : List View) (run : IsRun busy (v ∷ pas
       by (NotTaken s a) = let long = ap length stayed in let more = answers_more in absurd (omega (arith, last, a, long, more))
       by (NotAnswered s a) = a
 
-  open_late_by : (fresh late : ℕ) → IsYoung busy fresh late past → (e : Entry) (log : List Entry) → epoch_log (v ∷ past) ≡ e ∷ log
+  open_late_by : (since fresh late : ℕ) → IsYoungSince since busy fresh late past → (e : Entry) (log : List Entry) → epoch_log (v ∷ past)
+      ≡ e ∷ log
       → is_some (open_in (epoch_begun (v ∷ past))) ≡ true
       → length (steps_in (epoch_begun (v ∷ past))) ≡ length (epoch_log (v ∷ past))
       → length (v ∷ past) ≤ e.taken.cycle + (busy + 1) + (late + 1)
-  open_late_by fresh late y e log those some steps = elim grows [
+  open_late_by since fresh late y e log those some steps = elim grows [
     | inl stayed ↦ by (was_open e log those steps some stayed) then_ (open_in (epoch_begun past)) refl stayed
     | inr (x, is, at) ↦ let cycle = same_head e x log (epoch_log past) (sym those ∙ is) in omega (arith, cycle, at)
   ]
@@ -386,9 +410,9 @@ module _ (busy : ℕ) (v : View) (past : List View) (run : IsRun busy (v ∷ pas
               (said_of busy v past run.1.sent s got) e) in omega (arith, count, same, steps, more)
 
   -- else it is a cycle old, if it wasn't there before.
-  young_new : (late : ℕ) → IsYoung busy 0 late past → is_some (open_in (epoch_begun (v ∷ past))) ≡ true
+  young_new : (since late : ℕ) → IsYoungSince since busy 0 late past → is_some (open_in (epoch_begun (v ∷ past))) ≡ true
       → length (steps_in (epoch_begun (v ∷ past))) ≡ suc (length (epoch_log (v ∷ past))) → age_in (v ∷ past) ≤ 1
-  young_new late y some steps = elim (aged some) [
+  young_new since late y some steps = elim (aged some) [
     | inr one ↦ omega (arith, one)
     | inl (same, age) ↦ elim grows [
       | inl stayed ↦ (let long = ap length stayed in by same age long then_ (open_in (epoch_begun past)) refl)
@@ -412,23 +436,39 @@ module _ (busy : ℕ) (v : View) (past : List View) (run : IsRun busy (v ∷ pas
       never same long (NotAnswered s a) = omega (arith, same, steps, long, s)
 
   -- AFTER A CYCLE that is heard and processed; that is processed; and any other.
-  pub young_both : (late : ℕ) → IsYoung busy 1 late past → (is_some (open_in (begun_in v past)) ≡ true
+  pub young_both : (since late : ℕ) → IsYoungSince since busy 1 late past → (is_some (open_in (begun_in v past)) ≡ true
       → is_some (processed_in v past) ≡ true) → (is_some (open_in (epoch_begun past)) ≡ true → is_some v.heard ≡ true)
-      → IsYoung busy 0 0 (v ∷ past)
-  young_both late y takes hears = record {
+      → IsYoungSince since busy 0 0 (v ∷ past)
+  young_both since late y takes hears = record {
     new = λ some steps. absurd (none_new takes some steps);
-    old = λ e log those some steps. (begun_by 1 late (omega arith) y e log those some steps, busy_still hears e log those some steps);
+    old = λ e log those some steps. (begun_by since 1 late (omega arith) y e log those some steps, busy_still hears e log those some steps);
   }
 
-  pub young_taken : (late : ℕ) → IsYoung busy 1 late past → (is_some (open_in (begun_in v past)) ≡ true
-      → is_some (processed_in v past) ≡ true) → IsYoung busy 0 (late + 1) (v ∷ past)
-  young_taken late y takes = record {
+  pub young_taken : (since late : ℕ) → IsYoungSince since busy 1 late past → (is_some (open_in (begun_in v past)) ≡ true
+      → is_some (processed_in v past) ≡ true) → IsYoungSince since busy 0 (late + 1) (v ∷ past)
+  young_taken since late y takes = record {
     new = λ some steps. absurd (none_new takes some steps);
-    old = λ e log those some steps. (begun_by 1 late (omega arith) y e log those some steps, open_late_by 1 late y e log those some steps);
+    old = λ e log those some steps. (
+      begun_by since 1 late (omega arith) y e log those some steps,
+      open_late_by since 1 late y e log those
+          some steps,
+    );
   }
 
-  pub young_lost : (late : ℕ) → IsYoung busy 0 late past → IsYoung busy 1 (late + 1) (v ∷ past)
-  young_lost late y = record {
-    new = λ some steps. young_new late y some steps;
-    old = λ e log those some steps. (begun_by 0 late (omega arith) y e log those some steps, open_late_by 0 late y e log those some steps);
+  pub young_lost : (since late : ℕ) → IsYoungSince since busy 0 late past → IsYoungSince since busy 1 (late + 1) (v ∷ past)
+  young_lost since late y = record {
+    new = λ some steps. young_new since late y some steps;
+    old = λ e log those some steps. (
+      begun_by since 0 late (omega arith) y e log those some steps,
+      open_late_by since 0 late y e log those
+          some steps,
+    );
+  }
+
+  -- And where a step is that was begun at any time, after a cycle that is heard and processed: it was accepted up to this one.
+  pub young_first : (is_some (open_in (begun_in v past)) ≡ true → is_some (processed_in v past) ≡ true)
+      → (is_some (open_in (epoch_begun past)) ≡ true → is_some v.heard ≡ true) → IsYoungSince (length (v ∷ past)) busy 0 0 (v ∷ past)
+  young_first takes hears = record {
+    new = λ some steps. absurd (none_new takes some steps);
+    old = λ e log those some steps. (inr (soon e log those), busy_still hears e log those some steps);
   }

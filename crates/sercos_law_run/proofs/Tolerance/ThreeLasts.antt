@@ -32,7 +32,6 @@ use Rattle.sercos_law_run.proofs.Held.Extended.{heard_more}
 use Rattle.sercos_law_run.specs.Held.Opened.{IsOpened}
 use Rattle.sercos_law_run.proofs.Held.Runs.{Laws, drive_got, holding}
 use Rattle.sercos_law_run.proofs.Headline.HeadlineRuns.{MoreLaws, all_stand, first_store, spelled_in, stored_in}
-use Rattle.sercos_law_run.specs.Undisturbed.EpochStarts.{StartsEpoch}
 use Rattle.sercos_law_run.specs.Undisturbed.Jobs.{jobs_of, AreAt}
 use Rattle.sercos_law_run.specs.Undisturbed.Sections.{GoesOnInThree}
 use Rattle.sercos_law_run.specs.Undisturbed.ViewsSince.{views_since}
@@ -48,15 +47,15 @@ use Rattle.sercos_law_run.proofs.Recovery.LateDown.{phase_now}
 use Rattle.sercos_law_run.specs.Tolerance.Early.{early_costs}
 use Rattle.sercos_law_run.specs.Tolerance.Losses.{cycles_for, disturbances, is_lost, lost_since}
 use Rattle.sercos_law_run.specs.Tolerance.Sparse.{AreSparse}
-use Rattle.sercos_law_run.proofs.Tolerance.Borne.{IsBorne, all_borne, calm_or_not}
+use Rattle.sercos_law_run.proofs.Tolerance.Borne.{IsBase, IsBorne, borne_on, calm_or_not}
 use Rattle.sercos_law_run.proofs.Tolerance.CostsShared.{all_few, sum_both, sum_most}
-use Rattle.sercos_law_run.proofs.Tolerance.CostsSparse.{calm_next, disturbed_more, opens_so, spare_for}
+use Rattle.sercos_law_run.proofs.Tolerance.CostsSparse.{calm_next, disturbed_more, lost_few, opens_so, spare_for}
 use Rattle.sercos_law_run.proofs.Tolerance.EarlySparse.{phase_is, phase_next, start_is}
 use Rattle.sercos_law_run.proofs.Tolerance.FirstCycles.{begun_outcomes}
 use Rattle.sercos_law_run.proofs.Tolerance.TwoLasts.{each_fits, low_before, two_counts}
 
 -- SUMS without one place
-abbrev without : ℕ → (ℕ → ℕ) → ℕ → ℕ
+abbrev pub without : ℕ → (ℕ → ℕ) → ℕ → ℕ
 without k f j = if j == k then 0 else f j
 
 without_all : (n k : ℕ) (f : ℕ → ℕ) → n ≤ k → sum_below n (without k f) ≡ sum_below n f
@@ -66,7 +65,7 @@ without_all (suc n) k f high =
     let other : (n == k) ≡ false = ne_eqb n k (λ same. omega (arith, same, high)) in
     let last : without k f n ≡ f n = cond-false (n == k) 0 (f n) other in omega (arith, rest, last)
 
-sum_split : (n k : ℕ) (f : ℕ → ℕ) → k < n → sum_below n f ≡ sum_below n (without k f) + f k
+pub sum_split : (n k : ℕ) (f : ℕ → ℕ) → k < n → sum_below n f ≡ sum_below n (without k f) + f k
 sum_split zero k f low = absurd (omega (arith, low))
 sum_split (suc n) k f low = elim (cases_eq n k) [
   | inl same ↦ (
@@ -85,6 +84,13 @@ without_most k j f g h le = by (j == k)
   where
     by : (b : Bool) → (let n : ℕ = if b then 0 else f j in n) ≤ (let n : ℕ = if b then 0 else g j in n) +
         (let n : ℕ = if b then 0 else h j in n)
+    by true = omega arith
+    by false = le
+
+pub without_mono : (k j : ℕ) (f g : ℕ → ℕ) → f j ≤ g j → without k f j ≤ without k g j
+without_mono k j f g le = by (j == k)
+  where
+    by : (b : Bool) → (let n : ℕ = if b then 0 else f j in n) ≤ (let n : ℕ = if b then 0 else g j in n)
     by true = omega arith
     by false = le
 
@@ -114,6 +120,9 @@ module _ (laws : Laws) (more : MoreLaws) (turn : WorkInTurn) (two : WorksInTwo) 
   abbrev Borne : CycleView → List CycleView → Type 0
   Borne t j = IsBorne laws more turn comes_up to_zero goes counts r jobs carry restarts opened t j
 
+  abbrev Base : List CycleView → Type 0
+  Base before = IsBase laws more turn comes_up to_zero goes counts r jobs carry restarts opened before
+
   abbrev spare : CycleView → List CycleView → ℕ
   spare t j = if is_disturbed_in r carry restarts (length j) t.sent then spare_for t.phase else 0
 
@@ -132,18 +141,18 @@ module _ (laws : Laws) (more : MoreLaws) (turn : WorkInTurn) (two : WorksInTwo) 
   abbrev others : ℕ → ℕ
   others k = sum_below (length r.drives) (without k sec)
 
-  abbrev is_unready : ℕ → List CycleView → Type 0
+  abbrev pub is_unready : ℕ → List CycleView → Type 0
   is_unready k j = is_ready (member (known_of r) k) (outcomes_in (epoch_begun (views_of r jobs carry restarts k j))) ≡ false
 
   borne : (t : CycleView) (cycles before : List CycleView) → IsRun r jobs carry restarts (t ∷ (cycles ++ before))
-      → IsClear (t ∷ (cycles ++ before)) → StartsEpoch r jobs carry restarts before → AreSparse r carry restarts (t ∷ cycles) before
+      → IsClear (t ∷ (cycles ++ before)) → Base before → AreSparse r carry restarts (t ∷ cycles) before
       → Borne t (cycles ++ before)
-  borne t cycles before run clear starts sparse = all_borne laws more turn comes_up to_zero goes counts r jobs carry restarts opened t
+  borne t cycles before run clear starts sparse = borne_on laws more turn comes_up to_zero goes counts r jobs carry restarts opened t
       cycles before run clear starts sparse
 
   -- WHAT A CYCLE MORE LOSES of one channel
   lost_more : (t u : CycleView) (cycles before : List CycleView) → IsRun r jobs carry restarts (t ∷ u ∷ (cycles ++ before))
-      → IsClear (t ∷ u ∷ (cycles ++ before)) → StartsEpoch r jobs carry restarts before → AreSparse r carry restarts (t ∷ u ∷ cycles) before
+      → IsClear (t ∷ u ∷ (cycles ++ before)) → Base before → AreSparse r carry restarts (t ∷ u ∷ cycles) before
       → (k : ℕ) → k < length r.drives → lost_of (t ∷ u ∷ cycles) before k + spare t (u ∷ (cycles ++ before)) ≤ lost_of (u ∷ cycles) before
       k + spare u (cycles ++ before) + costs t (u ∷ (cycles ++ before))
   lost_more t u cycles before run clear starts sparse k below = subst
@@ -162,7 +171,7 @@ module _ (laws : Laws) (more : MoreLaws) (turn : WorkInTurn) (two : WorksInTwo) 
 
   -- UP TO THE RISE, by the cycles of one drive and the sections of the others
   at_rise : (t : CycleView) (cycles before : List CycleView) → IsRun r jobs carry restarts (t ∷ (cycles ++ before))
-      → IsClear (t ∷ (cycles ++ before)) → StartsEpoch r jobs carry restarts before → AreSparse r carry restarts (t ∷ cycles) before
+      → IsClear (t ∷ (cycles ++ before)) → Base before → AreSparse r carry restarts (t ∷ cycles) before
       → (back (t ∷ (cycles ++ before))).now.phase ≡ 2 → (back (t ∷ (cycles ++ before))).stop ≡ None → t.phase ≤ 2 → (k : ℕ)
       → k < length r.drives
       → suc (length cycles) + lost_of (t ∷ cycles) before k + spare t (cycles ++ before)
@@ -186,10 +195,10 @@ module _ (laws : Laws) (more : MoreLaws) (turn : WorkInTurn) (two : WorksInTwo) 
           let cost = opens_so laws more turn comes_up to_zero goes counts r jobs carry restarts opened in_cost timed (t ∷ cycles) before run
           clear starts sparse j (λ raw. 512) j_low (listed_all (views_of r jobs carry restarts j (t ∷ (cycles ++ before)))) in
           let fits = each_fits laws more turn two comes_up to_zero goes counts r jobs carry restarts opened reads_cost writes_cost t
-          (cycles ++ before) run clear (borne t cycles before run clear starts sparse) low j j_low in omega (arith, cost, fits)
+          (cycles ++ before) run clear (borne t cycles before run clear starts sparse).stays low j j_low in omega (arith, cost, fits)
 
   -- a drive that isn't ready at the end of a cycle wasn't before
-  unready_start : (t : CycleView) (j : List CycleView) → Borne t j → (k : ℕ) → is_unready k (t ∷ j)
+  pub unready_start : (t : CycleView) (j : List CycleView) → Borne t j → (k : ℕ) → is_unready k (t ∷ j)
       → (run : IsRun r jobs carry restarts (t ∷ j)) → (clear : IsClear (t ∷ j)) → is_unready k j
   unready_start t j is k unready run clear = unready_before (member (known_of r) k)
       (outcomes_in (epoch_begun (views_of r jobs carry restarts k j)))
@@ -209,7 +218,7 @@ module _ (laws : Laws) (more : MoreLaws) (turn : WorkInTurn) (two : WorksInTwo) 
           (cond-false (restarts (length j) 0) [] (epoch_begun (views_of r jobs carry restarts k j)) is.goes_on)
 
   -- in phase 3 there is a plan
-  planned : (t : CycleView) (j : List CycleView) → IsRun r jobs carry restarts (t ∷ j) → IsClear (t ∷ j) → t.phase ≡ 3 → (k : ℕ)
+  pub planned : (t : CycleView) (j : List CycleView) → IsRun r jobs carry restarts (t ∷ j) → IsClear (t ∷ j) → t.phase ≡ 3 → (k : ℕ)
       → k < length r.drives → (plan : PlanView) × ((behind_mdt r jobs carry restarts t.sent j).plan ≡ Some plan)
   planned t j (run, next) (before, clear) is_three k below =
       let at_three : (at_start r jobs carry restarts j).now.phase ≡ 3 = sym next.phase ∙ is_three in
@@ -219,6 +228,25 @@ module _ (laws : Laws) (more : MoreLaws) (turn : WorkInTurn) (two : WorksInTwo) 
       (held.0, held.1.now)
 
   -- IN PHASE 3 a drive that isn't ready has an open step in each cycle.
+  pub opens_in_three : (t : CycleView) (j : List CycleView) → IsRun r jobs carry restarts (t ∷ j) → IsClear (t ∷ j) → Borne t j
+      → t.phase ≡ 3 → (behind_mdt r jobs carry restarts t.sent j).stop ≡ None → (k : ℕ) → k < length r.drives → is_unready k (t ∷ j)
+      → is_some (open_in (begun_in (view_of r jobs carry restarts k t j) (views_of r jobs carry restarts k j))) ≡ true
+  opens_in_three t j run clear is is_three none k below unready =
+      grown (is_some (open_in (begun_in (view_of r jobs carry restarts k t j) (views_of r jobs carry restarts k j)))) 0 idle
+    where
+      goes_on : GoesOnInThree r (behind_mdt r jobs carry restarts t.sent j) k
+      goes_on = record {
+        phase = phase_now r jobs carry restarts t j run.1 ∙ is_three;
+        goes_on = none;
+        planned = ap (λ (o : Option PlanView). is_some o) (planned t j run clear is_three k below).1;
+        unready = ap (λ (l : List Begun). is_ready (member (known_of r) k) (outcomes_in l))
+            (begun_now laws more r jobs carry restarts opened t j run clear is.stays k below) ∙ unready;
+      }
+
+      idle : 1 ≤ one_more
+          (is_some (open_in (begun_in (view_of r jobs carry restarts k t j) (views_of r jobs carry restarts k j)))) 0
+      idle = never_idle laws more three r jobs carry restarts opened k below (t ∷ []) j run clear (tt, goes_on)
+
   at_work : (t : CycleView) (cycles before : List CycleView) → IsRun r jobs carry restarts (t ∷ (cycles ++ before))
       → IsClear (t ∷ (cycles ++ before)) → Borne t (cycles ++ before) → t.phase ≡ 3
       → (behind_mdt r jobs carry restarts t.sent (cycles ++ before)).stop ≡ None
@@ -229,40 +257,18 @@ module _ (laws : Laws) (more : MoreLaws) (turn : WorkInTurn) (two : WorksInTwo) 
       (views_since r jobs carry restarts k cycles before ++ views_of r jobs carry restarts k before)))) (opens_of cycles before k)
       (subst (λ (l : List View). is_some (open_in (begun_in (view_of r jobs carry restarts k t (cycles ++ before)) l)) ≡ true)
       (views_split r jobs carry restarts k cycles before)
-      (grown (is_some (open_in (begun_in (view_of r jobs carry restarts k t (cycles ++ before))
-      (views_of r jobs carry restarts k (cycles ++ before))))) 0 idle))
-    where
-      goes_on : GoesOnInThree r (behind_mdt r jobs carry restarts t.sent (cycles ++ before)) k
-      goes_on = record {
-        phase = phase_now r jobs carry restarts t (cycles ++ before) run.1 ∙ is_three;
-        goes_on = none;
-        planned = ap (λ (o : Option PlanView). is_some o) (planned t (cycles ++ before) run clear is_three k below).1;
-        unready = ap (λ (l : List Begun). is_ready (member (known_of r) k) (outcomes_in l))
-            (begun_now laws more r jobs carry restarts opened t (cycles ++ before) run clear is.stays k below) ∙ unready;
-      }
+      (opens_in_three t (cycles ++ before) run clear is is_three none k below unready))
 
-      idle : 1 ≤ one_more
-          (is_some (open_in (begun_in (view_of r jobs carry restarts k t (cycles ++ before))
-          (views_of r jobs carry restarts k (cycles ++ before))))) 0
-      idle = never_idle laws more three r jobs carry restarts opened k below (t ∷ []) (cycles ++ before) run clear (tt, goes_on)
-
-  three_counts : (t : CycleView) (cycles before : List CycleView) → IsRun r jobs carry restarts (t ∷ (cycles ++ before))
-      → IsClear (t ∷ (cycles ++ before)) → StartsEpoch r jobs carry restarts before → AreSparse r carry restarts (t ∷ cycles) before
+  pub three_counts : (t : CycleView) (cycles before : List CycleView) → IsRun r jobs carry restarts (t ∷ (cycles ++ before))
+      → IsClear (t ∷ (cycles ++ before)) → Base before → AreSparse r carry restarts (t ∷ cycles) before
       → (back (t ∷ (cycles ++ before))).now.phase ≡ 3 → (back (t ∷ (cycles ++ before))).stop ≡ None → (k : ℕ) → k < length r.drives
       → is_unready k (t ∷ (cycles ++ before))
       → suc (length cycles) + lost_of (t ∷ cycles) before k + spare t (cycles ++ before)
       ≤ 12 + length r.drives + early_costs r jobs carry restarts (t ∷ cycles) before + others k + opens_of (t ∷ cycles) before k +
       disturbances r carry restarts (t ∷ cycles) before
   three_counts t [] before run clear starts sparse is_three none k below unready =
-      let is = borne t [] before run clear starts sparse in
-      let t_zero : t.phase ≡ 0 = phase_is laws more turn comes_up to_zero goes counts r jobs carry restarts opened t before run is
-      ∙ starts in
-      let next = phase_next laws more turn comes_up to_zero goes counts r jobs carry restarts opened t before run is in
-      absurd (by (is_done (known_of r) (now t before)) (sym next ∙ is_three) t_zero)
-    where
-      by : (done : Bool) → (if done then t.phase + 1 else t.phase) ≡ 3 → t.phase ≡ 0 → ⊥
-      by true three_is t_zero = omega (arith, three_is, t_zero)
-      by false three_is t_zero = omega (arith, three_is, t_zero)
+      let lost = lost_few laws more turn comes_up to_zero goes counts r jobs carry restarts opened k below t [] before run clear starts
+      sparse in omega (arith, lost)
   three_counts t (u ∷ cycles) before run clear starts sparse is_three none k below unready =
       elim (comes_three (is_done (known_of r) (now t (u ∷ (cycles ++ before)))) t.phase
       (sym (phase_next laws more turn comes_up to_zero goes counts r jobs carry restarts opened t (u ∷ (cycles ++ before)) run is)
@@ -300,7 +306,7 @@ module _ (laws : Laws) (more : MoreLaws) (turn : WorkInTurn) (two : WorksInTwo) 
           (borne u cycles before run.0 clear.0 starts sparse.0) (let same = same_phase in omega (arith, same, t_two))
 
   -- WHAT THE REQUESTS to a drive cost as long as its check for phase 4 hasn't ended
-  check_fit : (t : CycleView) (j : List CycleView) → IsRun r jobs carry restarts (t ∷ j) → IsClear (t ∷ j) → Borne t j → t.phase ≡ 3
+  pub check_fit : (t : CycleView) (j : List CycleView) → IsRun r jobs carry restarts (t ∷ j) → IsClear (t ∷ j) → Borne t j → t.phase ≡ 3
       → (k : ℕ) → k < length r.drives
       → length (outcomes_in (epoch_begun (views_of r jobs carry restarts k (t ∷ j)))) ≤ reads_count (member (known_of r) k) + 12
       → cost_in (cost_of (drive_at r k).busy (drive_at r k).command (λ raw. 512) (store_of (drive_at r k)))
@@ -341,7 +347,7 @@ module _ (laws : Laws) (more : MoreLaws) (turn : WorkInTurn) (two : WorksInTwo) 
 
   -- HOW LONG PHASE 3 LASTS, as long as the check of a drive for phase 4 hasn't ended
   pub three_sparse : (t : CycleView) (cycles before : List CycleView) → IsRun r jobs carry restarts (t ∷ (cycles ++ before))
-      → IsClear (t ∷ (cycles ++ before)) → StartsEpoch r jobs carry restarts before → AreSparse r carry restarts (t ∷ cycles) before
+      → IsClear (t ∷ (cycles ++ before)) → Base before → AreSparse r carry restarts (t ∷ cycles) before
       → t.phase ≡ 3 → (back (t ∷ (cycles ++ before))).now.phase ≡ 3 → (back (t ∷ (cycles ++ before))).stop ≡ None → (k : ℕ)
       → k < length r.drives → is_unready k (t ∷ (cycles ++ before))
       → length (outcomes_in (epoch_begun (views_of r jobs carry restarts k (t ∷ (cycles ++ before))))) ≤ reads_count

@@ -6,7 +6,7 @@ use Rattle.sercos_block.specs.Stores.{store_of}
 use Rattle.sercos_block.specs.Views.{RingView}
 use Rattle.sercos_trace.specs.Views.{CycleView}
 use Rattle.sercos_seat.specs.Ring.{known_of}
-use Rattle.sercos_master.specs.Annals.{Past, is_done, is_done_in}
+use Rattle.sercos_master.specs.Annals.{Past, fall_of, is_done, is_done_in}
 use Rattle.sercos_script.specs.Links.{Carry, Restarts}
 use Rattle.sercos_law_channel.specs.Handshake.Epochs.{epoch_begun}
 use Rattle.sercos_law_channel.specs.Handshake.RunLaws.{ComesToZero, ComesUp}
@@ -23,7 +23,6 @@ use Rattle.sercos_law_run.proofs.Views.Members.{member_is}
 use Rattle.sercos_law_run.specs.Held.Opened.{IsOpened}
 use Rattle.sercos_law_run.proofs.Held.Runs.{Laws, drive_got}
 use Rattle.sercos_law_run.proofs.Headline.HeadlineRuns.{MoreLaws}
-use Rattle.sercos_law_run.specs.Undisturbed.EpochStarts.{StartsEpoch}
 use Rattle.sercos_law_run.specs.Undisturbed.Sections.{GoesOnInTwo}
 use Rattle.sercos_law_run.specs.Undisturbed.ViewsSince.{views_since}
 use Rattle.sercos_law_run.proofs.Undisturbed.JobsBegun.{few_now, places_now, planned_now}
@@ -35,11 +34,11 @@ use Rattle.sercos_law_run.proofs.Recovery.LateDown.{phase_now}
 use Rattle.sercos_law_run.specs.Tolerance.Early.{early_costs}
 use Rattle.sercos_law_run.specs.Tolerance.Losses.{disturbances}
 use Rattle.sercos_law_run.specs.Tolerance.Sparse.{AreSparse}
-use Rattle.sercos_law_run.proofs.Tolerance.Borne.{IsBorne, all_borne}
+use Rattle.sercos_law_run.proofs.Tolerance.Borne.{IsBase, IsBorne, borne_on}
 use Rattle.sercos_law_run.proofs.Tolerance.CostsShared.{costs_shared}
 use Rattle.sercos_law_run.proofs.Tolerance.EarlySparse.{early_sparse, phase_is, phase_next, start_is}
 
-two_phase : (done : Bool) (n : ℕ) → (if done then n + 1 else n) ≡ 2 → ((done ≡ true) × (n ≡ 1)) ⊎ ((done ≡ false) × (n ≡ 2))
+pub two_phase : (done : Bool) (n : ℕ) → (if done then n + 1 else n) ≡ 2 → ((done ≡ true) × (n ≡ 1)) ⊎ ((done ≡ false) × (n ≡ 2))
 two_phase true n is = inl (refl, omega (arith, is))
 two_phase false n is = inr (refl, is)
 
@@ -60,13 +59,16 @@ module _ (laws : Laws) (more : MoreLaws) (turn : WorkInTurn) (two : WorksInTwo) 
   abbrev Borne : CycleView → List CycleView → Type 0
   Borne t j = IsBorne laws more turn comes_up to_zero goes counts r jobs carry restarts opened t j
 
+  abbrev Base : List CycleView → Type 0
+  Base before = IsBase laws more turn comes_up to_zero goes counts r jobs carry restarts opened before
+
   abbrev opens_in : List CycleView → List CycleView → ℕ
   opens_in cycles before = sum_below (length r.drives) (λ k. open_since (views_since r jobs carry restarts k cycles before)
       (views_of r jobs carry restarts k before))
 
   -- each cycle of phase 2 has an open step
   pub two_counts : (cycles before : List CycleView) → IsRun r jobs carry restarts (cycles ++ before) → IsClear (cycles ++ before)
-      → StartsEpoch r jobs carry restarts before → AreSparse r carry restarts cycles before
+      → Base before → AreSparse r carry restarts cycles before
       → (back (cycles ++ before)).now.phase ≡ 2 → (back (cycles ++ before)).stop ≡ None
       → length cycles ≤ 11 + length r.drives + early_costs r jobs carry restarts cycles before + opens_in cycles before
   two_counts [] before run clear starts sparse is_two none = omega arith
@@ -82,7 +84,7 @@ module _ (laws : Laws) (more : MoreLaws) (turn : WorkInTurn) (two : WorksInTwo) 
       ]
     where
       is : Borne t (cycles ++ before)
-      is = all_borne laws more turn comes_up to_zero goes counts r jobs carry restarts opened t cycles before run clear starts sparse
+      is = borne_on laws more turn comes_up to_zero goes counts r jobs carry restarts opened t cycles before run clear starts sparse
 
       stop_none : (behind_mdt r jobs carry restarts t.sent (cycles ++ before)).stop ≡ None
       stop_none = sym (stop_after r jobs carry restarts t (cycles ++ before) is.stays) ∙ none
@@ -115,43 +117,44 @@ module _ (laws : Laws) (more : MoreLaws) (turn : WorkInTurn) (two : WorksInTwo) 
       (phase_next laws more turn comes_up to_zero goes counts r jobs carry restarts opened t j run is) low)
 
   pub each_fits : ((busy : ℕ) → ReadsCost busy) → ((busy : ℕ) → WritesCost busy) → (t : CycleView) (j : List CycleView)
-      → IsRun r jobs carry restarts (t ∷ j) → IsClear (t ∷ j) → Borne t j → t.phase ≤ 2 → (k : ℕ) → k < length r.drives
+      → IsRun r jobs carry restarts (t ∷ j) → IsClear (t ∷ j) → fall_of (known_of r) (now t j) ≡ None → t.phase ≤ 2 → (k : ℕ)
+      → k < length r.drives
       → cost_in (cost_of (drive_at r k).busy (drive_at r k).command (λ raw. 512) (store_of (drive_at r k)))
       (epoch_begun (views_of r jobs carry restarts k (t ∷ j))) ≤ section_two (drive_at r k)
-  each_fits reads_cost writes_cost t j run clear is low k below =
+  each_fits reads_cost writes_cost t j run clear stays low k below =
       let rules = (ring_drive r k (drive_at r k) opened.valid (drive_got r k below)).blocks in
       let same = phase_now r jobs carry restarts t j run.1 in
       two_fits (λ raw. 512) (drive_at r k) rules (reads_cost (drive_at r k).busy) (writes_cost (drive_at r k).busy) (known_of r)
       (behind_mdt r jobs carry restarts t.sent j).plan k (epoch_begun (views_of r jobs carry restarts k (t ∷ j))) (member_is r k)
-      (places_now laws more r jobs carry restarts opened t j run clear is.stays k below (omega (arith, same, low)))
-      (few_now laws more r jobs carry restarts opened t j run clear is.stays k below (omega (arith, same, low)))
+      (places_now laws more r jobs carry restarts opened t j run clear stays k below (omega (arith, same, low)))
+      (few_now laws more r jobs carry restarts opened t j run clear stays k below (omega (arith, same, low)))
 
   two_fit : ((busy : ℕ) → StaysInCost busy) → ComesTimed → ((busy : ℕ) → ReadsCost busy) → ((busy : ℕ) → WritesCost busy)
       → (cycles before : List CycleView) → IsRun r jobs carry restarts (cycles ++ before) → IsClear (cycles ++ before)
-      → StartsEpoch r jobs carry restarts before → AreSparse r carry restarts cycles before → (back (cycles ++ before)).now.phase ≤ 2
+      → Base before → AreSparse r carry restarts cycles before → (back (cycles ++ before)).now.phase ≤ 2
       → opens_in cycles before ≤ sum_by section_two r.drives + disturbances r carry restarts cycles before
   two_fit in_cost timed reads_cost writes_cost [] before run clear starts sparse low = let none = none_in (length r.drives) in
       omega (arith, none)
   two_fit in_cost timed reads_cost writes_cost (t ∷ cycles) before run clear starts sparse low =
-      let is = all_borne laws more turn comes_up to_zero goes counts r jobs carry restarts opened t cycles before run clear starts sparse in
+      let is = borne_on laws more turn comes_up to_zero goes counts r jobs carry restarts opened t cycles before run clear starts sparse in
       let t_low = low_before t (cycles ++ before) run is low in
       let shared = costs_shared laws more turn comes_up to_zero goes counts r jobs carry restarts opened in_cost timed t cycles before run
       clear starts sparse t_low (λ raw. 512) (λ k below. listed_all (views_of r jobs carry restarts k (t ∷ (cycles ++ before)))) in
       let sums = sum_within (λ k. cost_in (cost_of (drive_at r k).busy (drive_at r k).command (λ raw. 512) (store_of (drive_at r k)))
       (epoch_begun (views_of r jobs carry restarts k (t ∷ (cycles ++ before))))) section_two r.drives
-      (each_fits reads_cost writes_cost t (cycles ++ before) run clear is t_low) in
+      (each_fits reads_cost writes_cost t (cycles ++ before) run clear is.stays t_low) in
       omega (arith, shared, sums)
 
   -- HOW LONG PHASE 2 LASTS
   pub two_sparse : ((busy : ℕ) → StaysInCost busy) → ComesTimed → ((busy : ℕ) → ReadsCost busy) → ((busy : ℕ) → WritesCost busy)
       → (t : CycleView) (cycles before : List CycleView) → IsRun r jobs carry restarts (t ∷ (cycles ++ before))
       → IsClear (t ∷ (cycles ++ before))
-      → StartsEpoch r jobs carry restarts before → AreSparse r carry restarts (t ∷ cycles) before → t.phase ≡ 2
+      → Base before → AreSparse r carry restarts (t ∷ cycles) before → t.phase ≡ 2
       → (behind_mdt r jobs carry restarts t.sent (cycles ++ before)).stop ≡ None
       → length cycles ≤ 11 + length r.drives + sum_by section_two r.drives + early_costs r jobs carry restarts cycles before + disturbances
       r carry restarts cycles before
   two_sparse in_cost timed reads_cost writes_cost t cycles before run clear starts sparse t_two none =
-      let is = all_borne laws more turn comes_up to_zero goes counts r jobs carry restarts opened t cycles before run clear starts sparse in
+      let is = borne_on laws more turn comes_up to_zero goes counts r jobs carry restarts opened t cycles before run clear starts sparse in
       let phase = sym (phase_is laws more turn comes_up to_zero goes counts r jobs carry restarts opened t (cycles ++ before) run is)
       ∙ t_two in
       let stop = none_before r jobs carry restarts t (cycles ++ before)

@@ -8,6 +8,7 @@ use Rattle.sercos_law_channel.specs.Handshake.Views.{Heard, View}
 use Rattle.sercos_law_channel.specs.Handshake.Epochs.{with_heard, with_begun, epoch_begun, begun_in}
 use Rattle.sercos_law_run.proofs.Agenda.OneTurn.{idle_hears}
 use Rattle.sercos_law_channel.specs.Pace.Passages.{AreWhole}
+use Rattle.sercos_law_run.specs.Tolerance.Losses.{GoesOn}
 
 -- these requests were begun first, and the recent ones after them
 abbrev pub Follow : List Begun → List Begun → Type 0
@@ -34,10 +35,21 @@ follow_in v past old stays rests (recent, is) = by v.master_restarts stays
     by true on = absurd (cc)
     by false off = begun_behind v.begins old (with_heard v.heard (epoch_begun past)) (subst (λ (l : List Begun). Follow old (with_heard v.heard l)) (sym is) (heard_behind v.heard recent old rests))
 
-pub follow_since : (cycles past : List View) (old : List Begun) → AreWhole cycles past → open_in old ≡ None → Follow old (epoch_begun past) → Follow old (epoch_begun (cycles ++ past))
-follow_since [] past old whole rests is = is
-follow_since (v ∷ cycles) past old whole rests is = by v.falls whole.1.stays (follow_in v (cycles ++ past) old whole.1.master rests (follow_since cycles past old whole.0 rests is))
+-- .. and neither falls in any of several
+pub follow_on : (cycles past : List View) (old : List Begun) → GoesOn cycles → open_in old ≡ None → Follow old (epoch_begun past)
+    → Follow old (epoch_begun (cycles ++ past))
+follow_on [] past old goes rests is = is
+follow_on (v ∷ cycles) past old goes rests is = by v.falls goes.1 (follow_in v (cycles ++ past) old goes.2 rests
+    (follow_on cycles past old goes.0 rests is))
   where
     by : (b : Bool) → b ≡ false → Follow old (begun_in v (cycles ++ past)) → Follow old (if b then [] else begun_in v (cycles ++ past))
     by true on follow = absurd (cc)
     by false off follow = follow
+
+whole_goes_on : (cycles past : List View) → AreWhole cycles past → GoesOn cycles
+whole_goes_on [] past whole = tt
+whole_goes_on (v ∷ cycles) past whole = (whole_goes_on cycles past whole.0, whole.1.stays, whole.1.master)
+
+pub follow_since : (cycles past : List View) (old : List Begun) → AreWhole cycles past → open_in old ≡ None
+    → Follow old (epoch_begun past) → Follow old (epoch_begun (cycles ++ past))
+follow_since cycles past old whole rests is = follow_on cycles past old (whole_goes_on cycles past whole) rests is

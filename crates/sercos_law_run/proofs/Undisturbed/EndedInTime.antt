@@ -1,4 +1,5 @@
--- In phase 4 of undisturbed cycles the requests to a drive end one after the other, each within the cycles that this profile gives a request.
+-- In phase 4 the requests to a drive end one after the other, each within the cycles that this profile gives a request, if none lasts
+-- longer; and in undisturbed cycles none does.
 use Rattle.std.proofs.Common.{◌≡◌, inl, inr, ℕ, zero, suc, ◌+◌, ◌*◌, ◌<◌, ◌≤◌, false, List, [], ◌∷◌, ◌++◌, length, Option, Some, None, refl, sym, ap, ◌∙◌, subst, arith, if◌then◌else◌, length-append}
 use Rattle.std.specs.Prelude.{is_none, is_some}
 use Rattle.std.proofs.lemmas.Bool.{cases_lt, false≢true}
@@ -10,6 +11,7 @@ use Rattle.sercos_block.specs.Stores.{store_of}
 use Rattle.sercos_block.specs.Views.{RingView}
 use Rattle.sercos_service_master.specs.Begun.{Begun, open_in, answers_in}
 use Rattle.sercos_trace.specs.Views.{CycleView}
+use Rattle.sercos_trace.specs.declared.events.Fall.{Fall}
 use Rattle.sercos_seat.specs.Agenda.{reads_count}
 use Rattle.sercos_seat.specs.Channel.{outcomes_in, with_outcome}
 use Rattle.sercos_seat.specs.Ring.{Known, Task, known_of, member}
@@ -20,7 +22,7 @@ use Rattle.sercos_law_channel.specs.Handshake.Epochs.{epoch_begun}
 use Rattle.sercos_law_channel.specs.Handshake.RunLaws.{ComesUp}
 use Rattle.sercos_law_channel.specs.Handshake.Views.{View, standing}
 use Rattle.sercos_law_channel.specs.Handshake.WholeRun.{AreSound}
-use Rattle.sercos_law_channel.specs.Pace.Ages.{OpensAlways}
+use Rattle.sercos_law_channel.specs.Pace.Ages.{AreAtWork, OpensAlways}
 use Rattle.sercos_law_channel.specs.Pace.Costs.{AreTimed, ComesTimed}
 use Rattle.sercos_law_channel.specs.Pace.Passages.{RecoversInTime}
 use Rattle.sercos_law_channel.specs.Pace.StartCosts.{RecoversSince}
@@ -34,12 +36,13 @@ use Rattle.sercos_law_run.proofs.Held.Runs.{Laws, small}
 use Rattle.sercos_law_run.proofs.Headline.HeadlineRuns.{MoreLaws, all_stand, first_store}
 use Rattle.sercos_law_run.specs.Undisturbed.Reports.{request_cycles}
 use Rattle.sercos_law_run.specs.Undisturbed.StopsLater.{NoStopInFour}
-use Rattle.sercos_law_run.specs.Undisturbed.Undisturbed.{AreUndisturbed}
+use Rattle.sercos_law_run.specs.Tolerance.Losses.{GoesOn}
 use Rattle.sercos_law_run.specs.Undisturbed.ViewsSince.{views_since}
-use Rattle.sercos_law_run.proofs.Undisturbed.BehindRests.{Follow, follow_since}
+use Rattle.sercos_law_run.proofs.Undisturbed.BehindRests.{Follow, follow_on}
 use Rattle.sercos_law_run.proofs.Undisturbed.Carried.{are_carried}
 use Rattle.sercos_law_run.proofs.Undisturbed.CommandRuns.{first_commands}
-use Rattle.sercos_law_run.proofs.Undisturbed.EpochCycles.{IsOn, AreOn, IsCut, cut, run_rest, wholes, none_along, waits_now, waits_along, outcomes_after, more_along, phase_before, four_along}
+use Rattle.sercos_law_run.proofs.Undisturbed.EpochCycles.{IsOn, wholes}
+use Rattle.sercos_law_run.proofs.Undisturbed.GoingCycles.{AreAll, AreGoing, IsGoing, IsSplit, all_so, four_along, more_along, none_since, outcomes_kept, phase_before, run_rest, split_before, waits_along, waits_now}
 use Rattle.sercos_law_run.proofs.Undisturbed.InFour.{busy_now, at_work}
 use Rattle.sercos_law_run.proofs.Undisturbed.JobsBegun.{begun_now, tasks_now}
 use Rattle.sercos_law_run.proofs.Undisturbed.NeverFalls.{runs_split}
@@ -87,7 +90,8 @@ same_older (c ∷ d ∷ recent) old b older is long =
     let all = ap (λ (l : List Begun). length l) is in
     let parts = length-append recent old in absurd (omega (arith, all, parts, long))
 
-length_since : (r : RingView) (jobs : List Job) (carry : Carry) (restarts : Restarts) (k : ℕ) (cycles rest : List CycleView) → length (views_since r jobs carry restarts k cycles rest) ≡ length cycles
+pub length_since : (r : RingView) (jobs : List Job) (carry : Carry) (restarts : Restarts) (k : ℕ) (cycles rest : List CycleView)
+    → length (views_since r jobs carry restarts k cycles rest) ≡ length cycles
 length_since r jobs carry restarts k [] rest = refl
 length_since r jobs carry restarts k (t ∷ cycles) rest = ap suc (length_since r jobs carry restarts k cycles rest)
 
@@ -98,10 +102,46 @@ some_cycles (suc n) some = (n, refl)
 pub one_time_more : (i c : ℕ) → suc i * c ≡ i * c + c
 one_time_more i c = grind arith
 
-module _ (laws : Laws) (more : MoreLaws) (comes_up : (busy : ℕ) → ComesUp busy) (works : WorksInFour) (always : OpensAlways) (said : SaysShape) (timed : ComesTimed) (recovers : (busy : ℕ) → RecoversInTime busy) (since : (busy : ℕ) → RecoversSince busy)
-    (r : RingView) (jobs : List Job) (carry : Carry) (restarts : Restarts) (opened : IsOpened r jobs) (k : ℕ) (below : k < length r.drives) where
+zero_times : (i c : ℕ) → 1 ≤ c → i * c ≤ 0 → i ≡ 0
+zero_times zero c some none = refl
+zero_times (suc i) c some none = let times = one_time_more i c in absurd (omega (arith, times, some, none))
+
+-- NONE LASTS LONGER: in cycles of phase 4 at whose ends a step to a drive is open, of one request, which was begun after all others had
+-- ended, there are fewer of them than this profile gives a request.
+abbrev pub LastsShort : RingView → List Job → Carry → Restarts → ℕ → (CycleView → List CycleView → Type 0) → Type 0
+LastsShort r jobs carry restarts k P = (t : CycleView) (newer : List CycleView) (one : CycleView) (old : List CycleView) (b : Begun)
+    (older : List Begun)
+    → IsRun r jobs carry restarts (t ∷ (newer ++ one ∷ old)) → IsClear (t ∷ (newer ++ one ∷ old)) → AreAll P (t ∷ newer) (one ∷ old)
+    → P one old
+    → t.phase ≡ 4 → (looks_back r jobs (master_calls r carry restarts (one ∷ old))).now.phase ≡ 4
+    → AreAtWork (views_since r jobs carry restarts k (t ∷ newer) (one ∷ old)) (views_of r jobs carry restarts k (one ∷ old))
+    → epoch_begun (views_since r jobs carry restarts k (t ∷ newer) (one ∷ old) ++ views_of r jobs carry restarts k
+    (one ∷ old)) ≡ b ∷ older → open_in older ≡ None
+    → length (answers_in older) ≤ length (answers_in (epoch_begun (views_of r jobs carry restarts k (one ∷ old))))
+    → length (t ∷ newer) < request_cycles r k
+
+-- such cycles, as a drive sees them
+goes_on_since : (r : RingView) (jobs : List Job) (carry : Carry) (restarts : Restarts) (k : ℕ) (cycles rest : List CycleView)
+    → AreGoing r jobs carry restarts cycles rest
+    → GoesOn (views_since r jobs carry restarts k cycles rest)
+goes_on_since r jobs carry restarts k [] rest are = tt
+goes_on_since r jobs carry restarts k (t ∷ cycles) rest are = (
+  goes_on_since r jobs carry restarts k cycles rest are.0,
+  ap (λ
+      (o : Option Fall). is_some o) are.1.stays,
+  are.1.quiet,
+)
+
+module _ (laws : Laws) (more : MoreLaws) (comes_up : (busy : ℕ) → ComesUp busy) (works : WorksInFour)
+    (r : RingView) (jobs : List Job) (carry : Carry) (restarts : Restarts) (opened : IsOpened r jobs) (k : ℕ) (below : k < length r.drives)
+    (P : CycleView → List CycleView → Type 0) (going : (t : CycleView) (j : List CycleView) → P t j
+    → IsGoing r jobs carry restarts t j) (lasts : LastsShort r jobs carry restarts k P) where
+  goings : (cycles rest : List CycleView) → AreAll P cycles rest → AreGoing r jobs carry restarts cycles rest
+  goings cycles rest are = all_so P (IsGoing r jobs carry restarts) going cycles rest are
+
   -- what is open is alone
-  alone_in : (t : CycleView) (j : List CycleView) → IsRun r jobs carry restarts (t ∷ j) → IsClear (t ∷ j) → IsOn r jobs carry restarts t j → is_idle (behind_mdt r jobs carry restarts t.sent j) k ≡ false
+  alone_in : (t : CycleView) (j : List CycleView) → IsRun r jobs carry restarts (t ∷ j) → IsClear (t ∷ j)
+      → IsGoing r jobs carry restarts t j → is_idle (behind_mdt r jobs carry restarts t.sent j) k ≡ false
       → IsAlone (length (outcomes (behind_mdt r jobs carry restarts t.sent j) k)) (epoch_begun (views_of r jobs carry restarts k (t ∷ j)))
   alone_in t j run clear on busy =
       let p = behind_mdt r jobs carry restarts t.sent j in
@@ -112,9 +152,16 @@ module _ (laws : Laws) (more : MoreLaws) (comes_up : (busy : ℕ) → ComesUp bu
 
   -- NO REQUEST LASTS so long: after a cycle of phase 4 in which those before it had ended.
   module _ (i : ℕ) (t : CycleView) (newer : List CycleView) (one : CycleView) (old : List CycleView) (run : IsRun r jobs carry restarts (t ∷ (newer ++ one ∷ old))) (clear : IsClear (t ∷ (newer ++ one ∷ old)))
-      (on : AreOn r jobs carry restarts (t ∷ newer) (one ∷ old)) (first : IsOn r jobs carry restarts one old) (one_four : one.phase ≡ 4) (t_four : t.phase ≡ 4) (none : (behind_mdt r jobs carry restarts t.sent (newer ++ one ∷ old)).stop ≡ None)
+      (all : AreAll P (t ∷ newer) (one ∷ old)) (one_is : P one old) (one_four : one.phase ≡ 4) (t_four : t.phase ≡ 4) (none :
+      (behind_mdt r jobs carry restarts t.sent (newer ++ one ∷ old)).stop ≡ None)
       (low : i < length ((looks_back r jobs (master_calls r carry restarts old)).waiting k)) (enough : reads_count (member (known_of r) k) + (13 + i) ≤ length (outcomes (behind_mdt r jobs carry restarts one.sent old) k))
       (few : length (outcomes (behind_mdt r jobs carry restarts t.sent (newer ++ one ∷ old)) k) ≤ reads_count (member (known_of r) k) + (13 + i)) where
+    on : AreGoing r jobs carry restarts (t ∷ newer) (one ∷ old)
+    on = goings (t ∷ newer) (one ∷ old) all
+
+    first : IsGoing r jobs carry restarts one old
+    first = going one old one_is
+
     rest_run : IsRun r jobs carry restarts (one ∷ old) × IsClear (one ∷ old)
     rest_run = run_rest r jobs carry restarts (t ∷ newer) (one ∷ old) run clear
 
@@ -123,7 +170,8 @@ module _ (laws : Laws) (more : MoreLaws) (comes_up : (busy : ℕ) → ComesUp bu
     none_end = stop_after r jobs carry restarts t (newer ++ one ∷ old) on.1.stays ∙ none
 
     few_end : length (outcomes (looks_back r jobs (master_calls r carry restarts (t ∷ (newer ++ one ∷ old)))) k) ≤ reads_count (member (known_of r) k) + (13 + i)
-    few_end = subst (λ (l : List Outcome). length l ≤ reads_count (member (known_of r) k) + (13 + i)) (sym (outcomes_after laws more r jobs carry restarts opened t (newer ++ one ∷ old) on.1 k)) few
+    few_end = subst (λ (l : List Outcome). length l ≤ reads_count (member (known_of r) k) + (13 + i)) (sym
+        (outcomes_kept laws more r jobs carry restarts opened t (newer ++ one ∷ old) on.1 k)) few
 
     four_then : (looks_back r jobs (master_calls r carry restarts (one ∷ old))).now.phase ≡ 4
     four_then = four_along laws more comes_up r jobs carry restarts opened (one ∷ []) old rest_run.0 (tt, first) (sym (phase_before laws more comes_up r jobs carry restarts opened one old rest_run.0 first) ∙ one_four)
@@ -135,13 +183,15 @@ module _ (laws : Laws) (more : MoreLaws) (comes_up : (busy : ℕ) → ComesUp bu
     grown : length (outcomes (behind_mdt r jobs carry restarts one.sent old) k) ≤ length (outcomes (behind_mdt r jobs carry restarts t.sent (newer ++ one ∷ old)) k)
     grown =
         let along = more_along laws more r jobs carry restarts opened (t ∷ newer) (one ∷ old) run clear on k below in
-        let before = ap (λ (l : List Outcome). length l) (outcomes_after laws more r jobs carry restarts opened one old first k) in
-        let after = ap (λ (l : List Outcome). length l) (outcomes_after laws more r jobs carry restarts opened t (newer ++ one ∷ old) on.1 k) in
+        let before = ap (λ (l : List Outcome). length l) (outcomes_kept laws more r jobs carry restarts opened one old first k) in
+        let after = ap (λ (l : List Outcome). length l) (outcomes_kept laws more r jobs carry restarts opened t
+        (newer ++ one ∷ old) on.1 k) in
         omega (arith, along, before, after)
 
     busy_first : is_idle (behind_mdt r jobs carry restarts one.sent old) k ≡ false
     busy_first = busy_now laws more comes_up works r jobs carry restarts opened k below one old rest_run.0 rest_run.1 first one_four i (subst (λ (l : List Task). i < length l) (sym (waits_now r jobs carry restarts one old first k)) low)
-        (sym (stop_after r jobs carry restarts one old first.stays) ∙ none_along r jobs carry restarts (t ∷ newer) (one ∷ old) on none_end) (let grows = grown in omega (arith, grows, few))
+        (sym (stop_after r jobs carry restarts one old first.stays) ∙ none_since r jobs carry restarts (t ∷ newer)
+        (one ∷ old) on none_end) (let grows = grown in omega (arith, grows, few))
 
     alone_first : IsAlone (length (outcomes (behind_mdt r jobs carry restarts one.sent old) k)) (epoch_begun (views_of r jobs carry restarts k (one ∷ old)))
     alone_first = alone_in one old rest_run.0 rest_run.1 first busy_first
@@ -159,7 +209,8 @@ module _ (laws : Laws) (more : MoreLaws) (comes_up : (busy : ℕ) → ComesUp bu
     split = views_split r jobs carry restarts k (t ∷ newer) (one ∷ old)
 
     follows : Follow alone_first.older (epoch_begun (views_since r jobs carry restarts k (t ∷ newer) (one ∷ old) ++ views_of r jobs carry restarts k (one ∷ old)))
-    follows = follow_since (views_since r jobs carry restarts k (t ∷ newer) (one ∷ old)) (views_of r jobs carry restarts k (one ∷ old)) alone_first.older (wholes r jobs carry restarts (t ∷ newer) (one ∷ old) on k below) alone_first.shut
+    follows = follow_on (views_since r jobs carry restarts k (t ∷ newer) (one ∷ old)) (views_of r jobs carry restarts k
+        (one ∷ old)) alone_first.older (goes_on_since r jobs carry restarts k (t ∷ newer) (one ∷ old) on) alone_first.shut
         (alone_first.one ∷ [], alone_first.split)
 
     begun_last : epoch_begun (views_since r jobs carry restarts k (t ∷ newer) (one ∷ old) ++ views_of r jobs carry restarts k (one ∷ old)) ≡ alone_last.one ∷ alone_first.older
@@ -176,107 +227,156 @@ module _ (laws : Laws) (more : MoreLaws) (comes_up : (busy : ℕ) → ComesUp bu
         let all = ap (λ (l : List Begun). length (answers_in l)) alone_first.split in
         let parts = length-append alone_first.one.answers (answers_in alone_first.older) in omega (arith, all, parts)
 
-    lasts : open_since (views_since r jobs carry restarts k (t ∷ newer) (one ∷ old)) (views_of r jobs carry restarts k (one ∷ old)) < request_cycles r k
-    lasts = one_lasts said (drive_at r k).busy (drive_at r k).command (store_of (drive_at r k)) (small laws r jobs carry restarts opened (first_store laws more r jobs carry restarts opened) k below) (first_store laws more r jobs carry restarts opened k below)
-        (recovers (drive_at r k).busy) (since (drive_at r k).busy) (views_since r jobs carry restarts k (t ∷ newer) (one ∷ old)) (view_of r jobs carry restarts k one old) (views_of r jobs carry restarts k old) alone_last.one alone_first.older
-        (runs_split laws more r jobs carry restarts opened (t ∷ newer) (one ∷ old) run clear k below) (subst (λ (l : List View). AreSound (store_of (drive_at r k)) l) split (all_stand laws more r jobs carry restarts opened (t ∷ (newer ++ one ∷ old)) run clear k below).sound)
-        (subst (λ (l : List View). AreTimed (drive_at r k).command l) split in_time) (listed_all (views_since r jobs carry restarts k (t ∷ newer) (one ∷ old) ++ views_of r jobs carry restarts k (one ∷ old)))
-        (first.whole k below) (wholes r jobs carry restarts (t ∷ newer) (one ∷ old) on k below) stands begun_last alone_first.shut answered
-      where
-        in_time : AreTimed (drive_at r k).command (views_of r jobs carry restarts k (t ∷ (newer ++ one ∷ old)))
-        in_time = timed (drive_at r k).command (views_of r jobs carry restarts k (t ∷ (newer ++ one ∷ old)))
-            (are_carried (drive_at r k).command (first_commands r k) refl refl (views_of r jobs carry restarts k (t ∷ (newer ++ one ∷ old))) (commands_so laws more r jobs carry restarts opened (t ∷ (newer ++ one ∷ old)) run clear k below).follow)
-
-        stands : (standing (views_since r jobs carry restarts k (t ∷ newer) (one ∷ old) ++ views_of r jobs carry restarts k (one ∷ old))).ended ≡ 0 → ⊥
-        stands down = let both : 4 ≡ 0 = sym t_four ∙ sym (on.1.up k below) ∙ ap (λ (l : List View). (standing l).ended) split ∙ down in omega (arith, both)
-
     pub never_so_long : length (t ∷ newer) ≡ request_cycles r k → ⊥
     never_so_long long =
-        let all = always (views_since r jobs carry restarts k (t ∷ newer) (one ∷ old)) (views_of r jobs carry restarts k (one ∷ old))
-        (at_work laws more comes_up works r jobs carry restarts opened k below i (t ∷ newer) (one ∷ old) run clear on four_then low_then none_end few_end) in
-        let count = length_since r jobs carry restarts k (t ∷ newer) (one ∷ old) in
-        let less = lasts in omega (arith, all, count, less, long)
+        let less = lasts t newer one old alone_last.one alone_first.older run clear all one_is t_four four_then
+        (at_work laws more comes_up works r jobs carry restarts opened k below i (t ∷ newer)
+        (one ∷ old) run clear on four_then low_then none_end few_end)
+        begun_last alone_first.shut answered in
+        omega (arith, less, long)
 
-zero_times : (i c : ℕ) → 1 ≤ c → i * c ≤ 0 → i ≡ 0
-zero_times zero c some none = refl
-zero_times (suc i) c some none = let times = one_time_more i c in absurd (omega (arith, times, some, none))
+  -- SO THE REQUESTS END IN TIME, from a cycle of phase 4 on: of those that waited when the epoch began, the first m have ended in it.
+  module _ (no_stop : NoStopInFour) (one : CycleView) (old : List CycleView) (one_is : P one old) (one_four : one.phase ≡ 4) (m : ℕ)
+      (at_one : reads_count (member (known_of r) k) + (13 + m) ≤ length (outcomes (behind_mdt r jobs carry restarts one.sent old) k)) where
+    first_one : IsGoing r jobs carry restarts one old
+    first_one = going one old one_is
 
--- SO THE REQUESTS END IN TIME, from a cycle of phase 4 on, if each later one is as in an undisturbed epoch: of those that waited when the
--- epoch began, the first m have ended in it.
-module _ (laws : Laws) (more : MoreLaws) (comes_up : (busy : ℕ) → ComesUp busy) (works : WorksInFour) (always : OpensAlways) (said : SaysShape) (timed : ComesTimed) (recovers : (busy : ℕ) → RecoversInTime busy) (since : (busy : ℕ) → RecoversSince busy)
-    (no_stop : NoStopInFour) (r : RingView) (jobs : List Job) (carry : Carry) (restarts : Restarts) (opened : IsOpened r jobs) (k : ℕ) (below : k < length r.drives) (one : CycleView) (old : List CycleView) (first : IsOn r jobs carry restarts one old)
-    (one_four : one.phase ≡ 4) (m : ℕ) (at_one : reads_count (member (known_of r) k) + (13 + m) ≤ length (outcomes (behind_mdt r jobs carry restarts one.sent old) k)) where
-  -- in each cycle that is so late, i more
-  abbrev pub HaveEnded : ℕ → Type 0
-  HaveEnded i = (t : CycleView) (cycles : List CycleView) → IsRun r jobs carry restarts (t ∷ (cycles ++ one ∷ old)) → IsClear (t ∷ (cycles ++ one ∷ old)) → AreOn r jobs carry restarts (t ∷ cycles) (one ∷ old)
-      → AreUndisturbed r carry restarts cycles (one ∷ old) → i * request_cycles r k ≤ suc (length cycles) → (x : ℕ) → x ≤ m + i → x ≤ length ((looks_back r jobs (master_calls r carry restarts old)).waiting k)
-      → reads_count (member (known_of r) k) + (13 + x) ≤ length (outcomes (behind_mdt r jobs carry restarts t.sent (cycles ++ one ∷ old)) k)
+    -- in each cycle that is so late, i more
+    abbrev pub HaveEnded : ℕ → Type 0
+    HaveEnded i = (t : CycleView) (cycles : List CycleView) → IsRun r jobs carry restarts (t ∷ (cycles ++ one ∷ old))
+        → IsClear (t ∷ (cycles ++ one ∷ old)) → AreAll P (t ∷ cycles) (one ∷ old)
+        → i * request_cycles r k ≤ suc (length cycles) → (x : ℕ) → x ≤ m + i → x ≤ length ((looks_back r jobs
+        (master_calls r carry restarts old)).waiting k)
+        → reads_count (member (known_of r) k) + (13 + x) ≤ length (outcomes (behind_mdt r jobs carry restarts t.sent
+        (cycles ++ one ∷ old)) k)
 
-  four_after : IsRun r jobs carry restarts (one ∷ old) → (looks_back r jobs (master_calls r carry restarts (one ∷ old))).now.phase ≡ 4
-  four_after run = four_along laws more comes_up r jobs carry restarts opened (one ∷ []) old run (tt, first) (sym (phase_before laws more comes_up r jobs carry restarts opened one old run first) ∙ one_four)
+    four_after : IsRun r jobs carry restarts (one ∷ old) → (looks_back r jobs (master_calls r carry restarts (one ∷ old))).now.phase ≡ 4
+    four_after run = four_along laws more comes_up r jobs carry restarts opened (one ∷ []) old run (tt, first_one) (sym
+        (phase_before laws more comes_up r jobs carry restarts opened one old run first_one) ∙ one_four)
 
-  four_in : (t : CycleView) (cycles : List CycleView) → IsRun r jobs carry restarts (t ∷ (cycles ++ one ∷ old)) → IsRun r jobs carry restarts (one ∷ old) → AreOn r jobs carry restarts (t ∷ cycles) (one ∷ old) → t.phase ≡ 4
-  four_in t cycles run rest on = phase_before laws more comes_up r jobs carry restarts opened t (cycles ++ one ∷ old) run on.1 ∙ four_along laws more comes_up r jobs carry restarts opened cycles (one ∷ old) run.0 on.0 (four_after rest)
+    four_in : (t : CycleView) (cycles : List CycleView) → IsRun r jobs carry restarts (t ∷ (cycles ++ one ∷ old))
+        → IsRun r jobs carry restarts (one ∷ old) → AreGoing r jobs carry restarts (t ∷ cycles) (one ∷ old) → t.phase ≡ 4
+    four_in t cycles run rest on = phase_before laws more comes_up r jobs carry restarts opened t (cycles ++ one ∷ old) run on.1
+        ∙ four_along laws more comes_up r jobs carry restarts opened cycles (one ∷ old) run.0 on.0 (four_after rest)
 
-  one_more : (i : ℕ) → HaveEnded i → HaveEnded (suc i)
-  one_more i earlier t cycles run clear on calm long x few low = elim (cases_lt x (suc (m + i))) [
-    | inl less ↦ earlier t cycles run clear on calm (let times = one_time_more i (request_cycles r k) in omega (arith, times, long)) x (omega (arith, less)) low
-    | inr most ↦ elim (cases_lt (length (outcomes (behind_mdt r jobs carry restarts t.sent (cycles ++ one ∷ old)) k)) (reads_count (member (known_of r) k) + (13 + x))) [
-      | inl less ↦ absurd (elim (cases_lt (length cycles) (request_cycles r k)) [
-        | inl short ↦ at_first (omega (arith, less, few)) (omega (arith, low, most)) short
-        | inr enough ↦ never (omega (arith, less, few)) (omega (arith, low, most)) enough
-      ])
-      | inr enough ↦ enough
+    one_more : (i : ℕ) → HaveEnded i → HaveEnded (suc i)
+    one_more i earlier t cycles run clear all long x few low = elim (cases_lt x (suc (m + i))) [
+      | inl less ↦ earlier t cycles run clear all (let times = one_time_more i (request_cycles r k) in omega (arith, times, long)) x
+          (omega (arith, less)) low
+      | inr most ↦ elim (cases_lt (length (outcomes (behind_mdt r jobs carry restarts t.sent (cycles ++ one ∷ old)) k)) (reads_count
+          (member (known_of r) k) + (13 + x))) [
+            | inl less ↦ absurd (elim (cases_lt (length cycles) (request_cycles r k)) [
+              | inl short ↦ at_first (omega (arith, less, few)) (omega (arith, low, most)) short
+              | inr enough ↦ never (omega (arith, less, few)) (omega (arith, low, most)) enough
+            ])
+            | inr enough ↦ enough
+          ]
     ]
-  ]
-    where
-      old_run : IsRun r jobs carry restarts (one ∷ old) × IsClear (one ∷ old)
-      old_run = run_rest r jobs carry restarts (t ∷ cycles) (one ∷ old) run clear
+      where
+        old_run : IsRun r jobs carry restarts (one ∷ old) × IsClear (one ∷ old)
+        old_run = run_rest r jobs carry restarts (t ∷ cycles) (one ∷ old) run clear
 
-      t_four : t.phase ≡ 4
-      t_four = four_in t cycles run old_run.0 on
+        on : AreGoing r jobs carry restarts (t ∷ cycles) (one ∷ old)
+        on = goings (t ∷ cycles) (one ∷ old) all
 
-      -- one request after the first cycle
-      at_first : length (outcomes (behind_mdt r jobs carry restarts t.sent (cycles ++ one ∷ old)) k) ≤ reads_count (member (known_of r) k) + (13 + (m + i)) → m + i < length ((looks_back r jobs (master_calls r carry restarts old)).waiting k)
-          → length cycles < request_cycles r k → ⊥
-      at_first few_ended waits short =
-          let times = one_time_more i (request_cycles r k) in
-          let none = zero_times i (request_cycles r k) (omega (arith, short)) (omega (arith, times, long, short)) in
-          never_so_long laws more comes_up works always said timed recovers since r jobs carry restarts opened k below (m + i) t cycles one old run clear on first one_four t_four
-          (no_stop r jobs carry restarts t (cycles ++ one ∷ old) opened run clear t_four) waits (let ended = at_one in omega (arith, ended, none)) few_ended (omega (arith, times, long, short))
+        t_four : t.phase ≡ 4
+        t_four = four_in t cycles run old_run.0 on
 
-      -- and after a later one
-      never : length (outcomes (behind_mdt r jobs carry restarts t.sent (cycles ++ one ∷ old)) k) ≤ reads_count (member (known_of r) k) + (13 + (m + i)) → m + i < length ((looks_back r jobs (master_calls r carry restarts old)).waiting k)
-          → request_cycles r k ≤ length cycles → ⊥
-      never few_ended waits enough =
-          never_so_long laws more comes_up works always said timed recovers since r jobs carry restarts opened k below (m + i) t c.newer c.one (c.older ++ one ∷ old) run_cut clear_cut on_cut c.on_older.1
-          (four_in c.one c.older cut_run.0 old_run.0 c.on_older) t_four (no_stop r jobs carry restarts t (c.newer ++ c.one ∷ (c.older ++ one ∷ old)) opened run_cut clear_cut t_four)
-          (subst (λ (l : List Task). m + i < length l) (sym (waits_along r jobs carry restarts c.older (one ∷ old) c.on_older.0 k ∙ waits_along r jobs carry restarts (one ∷ []) old (tt, first) k)) waits)
-          (earlier c.one c.older cut_run.0 cut_run.1 c.on_older c.calm.0 (let is = some.1 in let times = one_time_more i (request_cycles r k) in let rest = c.rest in omega (arith, is, times, rest, long)) (m + i) (omega arith) (omega (arith, waits)))
-          (subst (λ (l : List CycleView). length (outcomes (behind_mdt r jobs carry restarts t.sent l) k) ≤ reads_count (member (known_of r) k) + (13 + (m + i))) c.is few_ended) (let is = some.1 in let count = c.long in omega (arith, is, count))
-        where
-          some : (n : ℕ) × (request_cycles r k ≡ suc n)
-          some = some_cycles (request_cycles r k) (let all = room (drive_at r k).busy (drive_at r k).command in omega (arith, all))
+        -- one request after the first cycle
+        at_first : length (outcomes (behind_mdt r jobs carry restarts t.sent (cycles ++ one ∷ old)) k)
+            ≤ reads_count (member (known_of r) k) + (13 + (m + i)) → m + i < length ((looks_back r jobs
+            (master_calls r carry restarts old)).waiting k)
+            → length cycles < request_cycles r k → ⊥
+        at_first few_ended waits short =
+            let times = one_time_more i (request_cycles r k) in
+            let none = zero_times i (request_cycles r k) (omega (arith, short)) (omega (arith, times, long, short)) in
+            never_so_long (m + i) t cycles one old run clear all one_is one_four t_four
+            (no_stop r jobs carry restarts t (cycles ++ one ∷ old) opened run clear t_four) waits (let ended = at_one in omega
+            (arith, ended, none)) few_ended (omega (arith, times, long, short))
 
-          c : IsCut r jobs carry restarts some.0 cycles (one ∷ old)
-          c = cut r jobs carry restarts cycles (one ∷ old) some.0 (let is = some.1 in omega (arith, is, enough)) on.0 calm
+        -- and after a later one
+        never : length (outcomes (behind_mdt r jobs carry restarts t.sent (cycles ++ one ∷ old)) k)
+            ≤ reads_count (member (known_of r) k) + (13 + (m + i)) → m + i < length ((looks_back r jobs
+            (master_calls r carry restarts old)).waiting k)
+            → request_cycles r k ≤ length cycles → ⊥
+        never few_ended waits enough =
+            never_so_long (m + i) t c.newer c.one (c.older ++ one ∷ old) run_cut clear_cut all_cut c.those_older.1
+            (four_in c.one c.older cut_run.0 old_run.0 on_older) t_four (no_stop r jobs carry restarts t (c.newer ++ c.one ∷
+            (c.older ++ one ∷ old)) opened run_cut clear_cut t_four)
+            (subst (λ (l : List Task). m + i < length l) (sym (waits_along r jobs carry restarts c.older (one ∷ old) on_older.0 k
+            ∙ waits_along r jobs carry restarts (one ∷ []) old (tt, first_one) k)) waits)
+            (earlier c.one c.older cut_run.0 cut_run.1 c.those_older (let is = some.1 in let times = one_time_more i
+            (request_cycles r k) in let rest = c.rest in omega (arith, is, times, rest, long)) (m + i) (omega arith) (omega
+            (arith, waits)))
+            (subst (λ (l : List CycleView). length (outcomes (behind_mdt r jobs carry restarts t.sent l) k)
+            ≤ reads_count (member (known_of r) k) + (13 + (m + i))) c.is few_ended) (let is = some.1 in let count = c.long in omega
+            (arith, is, count))
+          where
+            some : (n : ℕ) × (request_cycles r k ≡ suc n)
+            some = some_cycles (request_cycles r k) (let all = room (drive_at r k).busy (drive_at r k).command in omega (arith, all))
 
-          run_cut : IsRun r jobs carry restarts (t ∷ (c.newer ++ c.one ∷ (c.older ++ one ∷ old)))
-          run_cut = subst (λ (l : List CycleView). IsRun r jobs carry restarts (t ∷ l)) c.is run
+            c : IsSplit P some.0 cycles (one ∷ old)
+            c = split_before P cycles (one ∷ old) some.0 (let is = some.1 in omega (arith, is, enough)) all.0
 
-          clear_cut : IsClear (t ∷ (c.newer ++ c.one ∷ (c.older ++ one ∷ old)))
-          clear_cut = subst (λ (l : List CycleView). IsClear (t ∷ l)) c.is clear
+            on_older : AreGoing r jobs carry restarts (c.one ∷ c.older) (one ∷ old)
+            on_older = goings (c.one ∷ c.older) (one ∷ old) c.those_older
 
-          on_cut : AreOn r jobs carry restarts (t ∷ c.newer) (c.one ∷ (c.older ++ one ∷ old))
-          on_cut = (c.on, subst (λ (l : List CycleView). IsOn r jobs carry restarts t l) c.is on.1)
+            run_cut : IsRun r jobs carry restarts (t ∷ (c.newer ++ c.one ∷ (c.older ++ one ∷ old)))
+            run_cut = subst (λ (l : List CycleView). IsRun r jobs carry restarts (t ∷ l)) c.is run
 
-          cut_run : IsRun r jobs carry restarts (c.one ∷ (c.older ++ one ∷ old)) × IsClear (c.one ∷ (c.older ++ one ∷ old))
-          cut_run = run_rest r jobs carry restarts (t ∷ c.newer) (c.one ∷ (c.older ++ one ∷ old)) run_cut clear_cut
+            clear_cut : IsClear (t ∷ (c.newer ++ c.one ∷ (c.older ++ one ∷ old)))
+            clear_cut = subst (λ (l : List CycleView). IsClear (t ∷ l)) c.is clear
 
-  pub have_ended : (i : ℕ) → HaveEnded i
-  have_ended zero = λ t cycles run clear on calm long x few low.
-      let along = more_along laws more r jobs carry restarts opened (t ∷ cycles) (one ∷ old) run clear on k below in
-      let before = ap (λ (l : List Outcome). length l) (outcomes_after laws more r jobs carry restarts opened one old first k) in
-      let after = ap (λ (l : List Outcome). length l) (outcomes_after laws more r jobs carry restarts opened t (cycles ++ one ∷ old) on.1 k) in
-      let ended = at_one in omega (arith, along, before, after, ended, few)
-  have_ended (suc i) = one_more i (have_ended i)
+            all_cut : AreAll P (t ∷ c.newer) (c.one ∷ (c.older ++ one ∷ old))
+            all_cut = (c.those, subst (λ (l : List CycleView). P t l) c.is all.1)
+
+            cut_run : IsRun r jobs carry restarts (c.one ∷ (c.older ++ one ∷ old)) × IsClear (c.one ∷ (c.older ++ one ∷ old))
+            cut_run = run_rest r jobs carry restarts (t ∷ c.newer) (c.one ∷ (c.older ++ one ∷ old)) run_cut clear_cut
+
+    pub have_ended : (i : ℕ) → HaveEnded i
+    have_ended zero = λ t cycles run clear all long x few low.
+        let on = goings (t ∷ cycles) (one ∷ old) all in
+        let along = more_along laws more r jobs carry restarts opened (t ∷ cycles) (one ∷ old) run clear on k below in
+        let before = ap (λ (l : List Outcome). length l) (outcomes_kept laws more r jobs carry restarts opened one old first_one k) in
+        let after = ap (λ (l : List Outcome). length l) (outcomes_kept laws more r jobs carry restarts opened t
+        (cycles ++ one ∷ old) on.1 k) in
+        let ended = at_one in omega (arith, along, before, after, ended, few)
+    have_ended (suc i) = one_more i (have_ended i)
+
+-- IN UNDISTURBED CYCLES none lasts longer.
+pub lasts_undisturbed : (laws : Laws) (more : MoreLaws) (always : OpensAlways) (said : SaysShape) (timed : ComesTimed) (recovers :
+    (busy : ℕ) → RecoversInTime busy) (since : (busy : ℕ) → RecoversSince busy)
+    (r : RingView) (jobs : List Job) (carry : Carry) (restarts : Restarts) (opened : IsOpened r jobs) (k : ℕ)
+    (below : k < length r.drives) → LastsShort r jobs carry restarts k (IsOn r jobs carry restarts)
+lasts_undisturbed laws more always said timed recovers since r jobs carry restarts opened k below t newer one old b older run clear on
+    first t_four four_then works begun_last shut answered =
+    let all = always (views_since r jobs carry restarts k (t ∷ newer) (one ∷ old)) (views_of r jobs carry restarts k (one ∷ old)) works in
+    let count = length_since r jobs carry restarts k (t ∷ newer) (one ∷ old) in
+    let less = lasts in omega (arith, all, count, less)
+  where
+    split_views : views_of r jobs carry restarts k (t ∷ (newer ++ one ∷ old)) ≡ views_since r jobs carry restarts k (t ∷ newer)
+        (one ∷ old) ++ views_of r jobs carry restarts k (one ∷ old)
+    split_views = views_split r jobs carry restarts k (t ∷ newer) (one ∷ old)
+
+    in_time : AreTimed (drive_at r k).command (views_of r jobs carry restarts k (t ∷ (newer ++ one ∷ old)))
+    in_time = timed (drive_at r k).command (views_of r jobs carry restarts k (t ∷ (newer ++ one ∷ old)))
+        (are_carried (drive_at r k).command (first_commands r k) refl refl (views_of r jobs carry restarts k (t ∷ (newer ++ one ∷ old)))
+        (commands_so laws more r jobs carry restarts opened (t ∷ (newer ++ one ∷ old)) run clear k below).follow)
+
+    stands : (standing (views_since r jobs carry restarts k (t ∷ newer) (one ∷ old) ++ views_of r jobs carry restarts k
+        (one ∷ old))).ended ≡ 0 → ⊥
+    stands down = let both : 4 ≡ 0 = sym t_four ∙ sym (on.1.up k below) ∙ ap (λ (l : List View). (standing l).ended) split_views
+        ∙ down in omega (arith, both)
+
+    lasts : open_since (views_since r jobs carry restarts k (t ∷ newer) (one ∷ old)) (views_of r jobs carry restarts k
+        (one ∷ old)) < request_cycles r k
+    lasts = one_lasts said (drive_at r k).busy (drive_at r k).command (store_of (drive_at r k)) (small laws r jobs carry restarts opened
+        (first_store laws more r jobs carry restarts opened) k below) (first_store laws more r jobs carry restarts opened k below)
+        (recovers (drive_at r k).busy) (since (drive_at r k).busy) (views_since r jobs carry restarts k (t ∷ newer) (one ∷ old))
+        (view_of r jobs carry restarts k one old) (views_of r jobs carry restarts k old) b older
+        (runs_split laws more r jobs carry restarts opened (t ∷ newer) (one ∷ old) run clear k below)
+        (subst (λ (l : List View). AreSound (store_of (drive_at r k)) l) split_views (all_stand laws more r jobs carry restarts opened
+        (t ∷ (newer ++ one ∷ old)) run clear k below).sound)
+        (subst (λ (l : List View). AreTimed (drive_at r k).command l) split_views in_time) (listed_all
+        (views_since r jobs carry restarts k (t ∷ newer) (one ∷ old) ++ views_of r jobs carry restarts k (one ∷ old)))
+        (first.whole k below) (wholes r jobs carry restarts (t ∷ newer) (one ∷ old) on k below) stands begun_last shut answered

@@ -1,33 +1,24 @@
--- A cycle of an undisturbed epoch, and what goes on from one to the next: outcomes and a stop stay, and so do the requests that wait.
-use Rattle.std.proofs.Common.{◌≡◌, ℕ, zero, suc, ◌+◌, ◌<◌, ◌≤◌, Bool, true, false, if◌then◌else◌, List, [], ◌∷◌, ◌++◌, length, Option, Some, None, refl, sym, ap, ◌∙◌, subst, arith, length-append}
-use Rattle.std.specs.Prelude.{slice_index}
+-- The cycles of an undisturbed epoch, one by one.
+pub use Rattle.sercos_law_run.proofs.Undisturbed.GoingCycles.{longer, run_rest, stays_four}
+use Rattle.sercos_law_run.proofs.Undisturbed.GoingCycles.{AreAll, AreGoing, IsGoing, all_so, none_since, outcomes_grow, outcomes_kept}
+use Rattle.std.proofs.Common.{◌≡◌, ℕ, zero, suc, ◌+◌, ◌<◌, false, List, [], ◌∷◌, ◌++◌, length, None, refl, sym, ap, subst, arith}
 use Rattle.sercos_step.specs.declared.request.Job.{Job}
-use Rattle.sercos_step.specs.declared.request.Outcome.{Outcome}
 use Rattle.sercos_block.specs.Views.{RingView}
-use Rattle.sercos_service_master.specs.Begun.{Begun}
-use Rattle.sercos_service_master.specs.Calls.{begun_by}
 use Rattle.sercos_trace.specs.Views.{CycleView}
-use Rattle.sercos_seat.specs.Agenda.{reads_count, is_ready}
-use Rattle.sercos_seat.specs.Channel.{outcomes_in, with_outcome}
-use Rattle.sercos_seat.specs.Ring.{MemberView, Task, known_of, member, tasks_for}
-use Rattle.sercos_seat.proofs.Queues.{ready_stays}
-use Rattle.sercos_master.specs.Annals.{Past, Call, outcomes, fall_of, is_done, place_of}
-use Rattle.sercos_master.proofs.Laws.{waiting_at, waiting_settled}
+use Rattle.sercos_seat.specs.Ring.{known_of}
+use Rattle.sercos_master.specs.Annals.{outcomes, fall_of}
 use Rattle.sercos_script.specs.Links.{Carry, Restarts}
-use Rattle.sercos_law_channel.specs.Handshake.Epochs.{with_heard, with_begun, epoch_begun}
 use Rattle.sercos_law_channel.specs.Handshake.RunLaws.{ComesUp}
 use Rattle.sercos_law_channel.specs.Handshake.Views.{View, standing}
 use Rattle.sercos_law_channel.specs.Pace.Passages.{IsWhole, AreWhole, StandsThroughout, HearsThroughout}
 use Rattle.sercos_law_channel.specs.Pace.ChannelCalls.{NoneLate}
-use Rattle.sercos_law_run.specs.Journal.Records.{mst_in, ats_in}
-use Rattle.sercos_law_run.specs.Journal.Runs.{at_calls, own_mst, begins, master_calls, looks_back, IsRun, IsClear}
+use Rattle.sercos_law_run.specs.Journal.Runs.{master_calls, looks_back, IsRun, IsClear}
 use Rattle.sercos_law_run.specs.Agenda.Turns.{WorkInTurn}
-use Rattle.sercos_law_run.proofs.Typed.Mdts.{phase_low}
-use Rattle.sercos_law_run.specs.Views.RingViews.{at_start, behind_ats, behind_mdt, view_of, views_of}
+use Rattle.sercos_law_run.specs.Views.RingViews.{at_start, behind_mdt, view_of, views_of}
 use Rattle.sercos_law_run.specs.Held.Opened.{IsOpened}
-use Rattle.sercos_law_run.proofs.Held.Extended.{Extends, heard_more, begun_same}
+use Rattle.sercos_law_run.proofs.Held.Extended.{Extends}
 use Rattle.sercos_law_run.proofs.Held.Runs.{Laws}
-use Rattle.sercos_law_run.proofs.Headline.HeadlineRuns.{MoreLaws, all_stand}
+use Rattle.sercos_law_run.proofs.Headline.HeadlineRuns.{MoreLaws}
 use Rattle.sercos_law_run.specs.Undisturbed.Undisturbed.{AreUndisturbed, IsUndisturbed}
 use Rattle.sercos_law_run.specs.Undisturbed.EpochStarts.{StartsEpoch}
 use Rattle.sercos_law_run.specs.Undisturbed.StartUps.{StaysUp}
@@ -36,11 +27,7 @@ use Rattle.sercos_law_run.proofs.Undisturbed.Comes.{calm_in}
 use Rattle.sercos_law_run.proofs.Undisturbed.Identified.{starts_so}
 use Rattle.sercos_law_run.proofs.Undisturbed.StaysUp.{phase_now}
 use Rattle.sercos_law_run.proofs.Undisturbed.PassedCycles.{views_split}
-use Rattle.sercos_law_run.proofs.Undisturbed.PhaseCounts.{end_kept}
-use Rattle.sercos_law_run.proofs.Undisturbed.PhasesRise.{phase_after}
 use Rattle.sercos_law_run.proofs.Undisturbed.NeverFalls.{stays_throughout}
-use Rattle.sercos_law_run.proofs.Undisturbed.StopStays.{ats_same, none_before, stop_after}
-use Rattle.sercos_law_run.proofs.Undisturbed.JobsBegun.{begun_end, begun_now}
 
 -- A CYCLE in which nothing is disturbed, in an epoch in which nothing was: the ring doesn't fall, the master doesn't restart, the cycle
 -- is whole for each drive, and each drive ends it in the commanded phase.
@@ -53,8 +40,18 @@ pub record IsOn (r : RingView) (jobs : List Job) (carry : Carry) (restarts : Res
   pub up : (k : ℕ) → k < length r.drives → (standing (views_of r jobs carry restarts k (t ∷ j))).ended ≡ t.phase
 
 abbrev pub AreOn : RingView → List Job → Carry → Restarts → List CycleView → List CycleView → Type 0
-AreOn r jobs carry restarts [] rest = Unit {0}
-AreOn r jobs carry restarts (t ∷ cycles) rest = AreOn r jobs carry restarts cycles rest × IsOn r jobs carry restarts t (cycles ++ rest)
+AreOn r jobs carry restarts cycles rest = AreAll (IsOn r jobs carry restarts) cycles rest
+
+pub going : (r : RingView) (jobs : List Job) (carry : Carry) (restarts : Restarts) (t : CycleView) (j : List CycleView)
+    → IsOn r jobs carry restarts t j
+    → IsGoing r jobs carry restarts t j
+going r jobs carry restarts t j on = record { now = on.now; stays = on.stays; quiet = on.quiet; starts = on.starts }
+
+pub goings : (r : RingView) (jobs : List Job) (carry : Carry) (restarts : Restarts) (cycles rest : List CycleView)
+    → AreOn r jobs carry restarts cycles rest
+    → AreGoing r jobs carry restarts cycles rest
+goings r jobs carry restarts cycles rest are = all_so (IsOn r jobs carry restarts) (IsGoing r jobs carry restarts)
+    (going r jobs carry restarts) cycles rest are
 
 -- the cycles of an epoch, cut before the newest n: the newest of the others is `one`
 pub record IsCut (r : RingView) (jobs : List Job) (carry : Carry) (restarts : Restarts) (n : ℕ) (cycles before : List CycleView) : Type 0 where
@@ -89,10 +86,6 @@ cut r jobs carry restarts (t ∷ cycles) before (suc n) low on calm =
       calm_newer = (c.calm_newer, subst (λ (l : List CycleView). IsUndisturbed r carry restarts t l) c.is calm.1);
     }
 
-pub run_rest : (r : RingView) (jobs : List Job) (carry : Carry) (restarts : Restarts) (cycles rest : List CycleView) → IsRun r jobs carry restarts (cycles ++ rest) → IsClear (cycles ++ rest) → IsRun r jobs carry restarts rest × IsClear rest
-run_rest r jobs carry restarts [] rest run clear = (run, clear)
-run_rest r jobs carry restarts (t ∷ cycles) rest run clear = run_rest r jobs carry restarts cycles rest run.0 clear.0
-
 -- such cycles are whole
 pub wholes : (r : RingView) (jobs : List Job) (carry : Carry) (restarts : Restarts) (cycles rest : List CycleView) → AreOn r jobs carry restarts cycles rest → (k : ℕ) → k < length r.drives
     → AreWhole (views_since r jobs carry restarts k cycles rest) (views_of r jobs carry restarts k rest)
@@ -102,102 +95,22 @@ wholes r jobs carry restarts (t ∷ cycles) rest are k below = (
   subst (λ (l : List View). IsWhole (view_of r jobs carry restarts k t (cycles ++ rest)) l) (views_split r jobs carry restarts k cycles rest) (are.1.whole k below),
 )
 
--- no stop comes and goes
+-- what goes on from one to the next
 pub none_along : (r : RingView) (jobs : List Job) (carry : Carry) (restarts : Restarts) (cycles rest : List CycleView) → AreOn r jobs carry restarts cycles rest → (looks_back r jobs (master_calls r carry restarts (cycles ++ rest))).stop ≡ None
     → (looks_back r jobs (master_calls r carry restarts rest)).stop ≡ None
-none_along r jobs carry restarts [] rest are none = none
-none_along r jobs carry restarts (t ∷ cycles) rest are none =
-    none_along r jobs carry restarts cycles rest are.0 (none_before r jobs carry restarts t (cycles ++ rest) are.1.starts (sym (stop_after r jobs carry restarts t (cycles ++ rest) are.1.stays) ∙ none))
-
--- WHAT WAITS
-ats_waiting : (r : RingView) (jobs : List Job) (carry : Carry) (cycle : ℕ) (ats : List (List ℕ)) (h : List Call) → (looks_back r jobs (at_calls r carry cycle ats h)).waiting ≡ (looks_back r jobs h).waiting
-ats_waiting r jobs = ats_same (λ (p : Past). p.waiting) (λ s content p. waiting_at s (place_of s (slice_index content 0)) content p) r jobs
-
-pub waits_now : (r : RingView) (jobs : List Job) (carry : Carry) (restarts : Restarts) (t : CycleView) (j : List CycleView) → IsOn r jobs carry restarts t j → (k : ℕ)
-    → (behind_mdt r jobs carry restarts t.sent j).waiting k ≡ (looks_back r jobs (master_calls r carry restarts j)).waiting k
-waits_now r jobs carry restarts t j on k = ap (λ (w : ℕ → List Task). w k) (waiting_settled (known_of r) (behind_ats r jobs carry restarts t.sent j) ∙ ats_waiting r jobs carry (length j) (ats_in t.sent) (own_mst carry (length j) (mst_in t.sent) (begins r carry restarts j)))
-    ∙ ap (λ (p : Past). p.waiting k) on.starts
-
-pub waits_after : (r : RingView) (jobs : List Job) (carry : Carry) (restarts : Restarts) (t : CycleView) (j : List CycleView) → IsOn r jobs carry restarts t j → (k : ℕ)
-    → (looks_back r jobs (master_calls r carry restarts (t ∷ j))).waiting k ≡ (behind_mdt r jobs carry restarts t.sent j).waiting k
-waits_after r jobs carry restarts t j on k = ap (λ (p : Past). p.waiting k) (end_kept (known_of r) (behind_mdt r jobs carry restarts t.sent j) on.stays)
-
-pub waits_along : (r : RingView) (jobs : List Job) (carry : Carry) (restarts : Restarts) (cycles rest : List CycleView) → AreOn r jobs carry restarts cycles rest → (k : ℕ)
-    → (looks_back r jobs (master_calls r carry restarts (cycles ++ rest))).waiting k ≡ (looks_back r jobs (master_calls r carry restarts rest)).waiting k
-waits_along r jobs carry restarts [] rest are k = refl
-waits_along r jobs carry restarts (t ∷ cycles) rest are k =
-    waits_after r jobs carry restarts t (cycles ++ rest) are.1 k ∙ waits_now r jobs carry restarts t (cycles ++ rest) are.1 k ∙ waits_along r jobs carry restarts cycles rest are.0 k
-
--- OUTCOMES only come to those that are there.
-pub longer : (o : Option Outcome) (outs : List Outcome) → length outs ≤ length (with_outcome o outs)
-longer None outs = omega arith
-longer (Some o) outs = let long = length-append outs (o ∷ []) in omega (arith, long)
-
--- a check for phase 4 that has ended, and not well, stays so
-unready_more : (m : MemberView) (o : Option Outcome) (outs : List Outcome) → reads_count m + 12 < length outs → is_ready m outs ≡ false → is_ready m (with_outcome o outs) ≡ false
-unready_more m None outs many unready = unready
-unready_more m (Some o) outs many unready = ready_stays m outs o many ∙ unready
-
-abbrev pub HasEndedBadly : MemberView → List Outcome → Type 0
-HasEndedBadly m outs = (reads_count m + 12 < length outs) × (is_ready m outs ≡ false)
-
-pub badly_more : (m : MemberView) (old new : List Outcome) → Extends old new → HasEndedBadly m old → HasEndedBadly m new
-badly_more m old new (o, is) (many, unready) = subst (HasEndedBadly m) (sym is) (let long = longer o old in omega (arith, many, long), unready_more m o old many unready)
-
-pub longer_so : (old new : List Outcome) → Extends old new → length old ≤ length new
-longer_so old new (o, is) = subst (λ (l : List Outcome). length old ≤ length l) (sym is) (longer o old)
+none_along r jobs carry restarts cycles rest are none = none_since r jobs carry restarts cycles rest
+    (goings r jobs carry restarts cycles rest are) none
 
 module _ (laws : Laws) (more : MoreLaws) (r : RingView) (jobs : List Job) (carry : Carry) (restarts : Restarts) (opened : IsOpened r jobs) where
-  abbrev back : List CycleView → Past
-  back j = looks_back r jobs (master_calls r carry restarts j)
+  pub outcomes_extend : (t : CycleView) (j : List CycleView) → IsRun r jobs carry restarts (t ∷ j) → IsClear (t ∷ j)
+      → IsOn r jobs carry restarts t j → (k : ℕ) → k < length r.drives
+      → Extends (outcomes (looks_back r jobs (master_calls r carry restarts j)) k) (outcomes (behind_mdt r jobs carry restarts t.sent j) k)
+  outcomes_extend t j run clear on k below = outcomes_grow laws more r jobs carry restarts opened t j run clear
+      (going r jobs carry restarts t j on) k below
 
-  abbrev now_in : CycleView → List CycleView → Past
-  now_in t j = behind_mdt r jobs carry restarts t.sent j
-
-  pub outcomes_extend : (t : CycleView) (j : List CycleView) → IsRun r jobs carry restarts (t ∷ j) → IsClear (t ∷ j) → IsOn r jobs carry restarts t j → (k : ℕ) → k < length r.drives → Extends (outcomes (back j) k) (outcomes (now_in t j) k)
-  outcomes_extend t j run clear on k below = (more_is.0, ap outcomes_in now_are ∙ begun_same v.begins (with_heard v.heard (epoch_begun (views_of r jobs carry restarts k j))) ∙ more_is.1 ∙ ap (λ (l : List Begun). with_outcome more_is.0 (outcomes_in l)) (sym before_are))
-    where
-      v : View
-      v = view_of r jobs carry restarts k t j
-
-      before_are : begun_by ((back j).calls k) ≡ epoch_begun (views_of r jobs carry restarts k j)
-      before_are = (all_stand laws more r jobs carry restarts opened j run.0 clear.0 k below).sees.master.begun_are
-
-      unrestarted : (b : Bool) → b ≡ false → (if b then [] else epoch_begun (views_of r jobs carry restarts k j)) ≡ epoch_begun (views_of r jobs carry restarts k j)
-      unrestarted true on = absurd (cc)
-      unrestarted false off = refl
-
-      now_are : begun_by ((now_in t j).calls k) ≡ with_begun v.begins (with_heard v.heard (epoch_begun (views_of r jobs carry restarts k j)))
-      now_are = begun_now laws more r jobs carry restarts opened t j run clear on.stays k below ∙ begun_end laws more r jobs carry restarts opened t j run clear on.stays k
-          ∙ ap (λ (l : List Begun). with_begun v.begins (with_heard v.heard l)) (unrestarted v.master_restarts (on.whole k below).master)
-
-      more_is : Extends (outcomes_in (epoch_begun (views_of r jobs carry restarts k j))) (outcomes_in (with_heard v.heard (epoch_begun (views_of r jobs carry restarts k j))))
-      more_is = heard_more v.heard (epoch_begun (views_of r jobs carry restarts k j))
-
-  pub outcomes_after : (t : CycleView) (j : List CycleView) → IsOn r jobs carry restarts t j → (k : ℕ) → outcomes (back (t ∷ j)) k ≡ outcomes (now_in t j) k
-  outcomes_after t j on k = ap (λ (p : Past). outcomes p k) (end_kept (known_of r) (now_in t j) on.stays)
-
-  extend_next : (t : CycleView) (j : List CycleView) → IsRun r jobs carry restarts (t ∷ j) → IsClear (t ∷ j) → IsOn r jobs carry restarts t j → (k : ℕ) → k < length r.drives → Extends (outcomes (back j) k) (outcomes (back (t ∷ j)) k)
-  extend_next t j run clear on k below = subst (λ (l : List Outcome). Extends (outcomes (back j) k) l) (sym (outcomes_after t j on k)) (outcomes_extend t j run clear on k below)
-
-  pub more_along : (cycles rest : List CycleView) → IsRun r jobs carry restarts (cycles ++ rest) → IsClear (cycles ++ rest) → AreOn r jobs carry restarts cycles rest → (k : ℕ) → k < length r.drives
-      → length (outcomes (back rest) k) ≤ length (outcomes (back (cycles ++ rest)) k)
-  more_along [] rest run clear are k below = omega arith
-  more_along (t ∷ cycles) rest run clear are k below =
-      let earlier = more_along cycles rest run.0 clear.0 are.0 k below in
-      let next = longer_so _ _ (extend_next t (cycles ++ rest) run clear are.1 k below) in
-      omega (arith, earlier, next)
-
-  pub badly_along : (cycles rest : List CycleView) → IsRun r jobs carry restarts (cycles ++ rest) → IsClear (cycles ++ rest) → AreOn r jobs carry restarts cycles rest → (k : ℕ) → k < length r.drives
-      → HasEndedBadly (member (known_of r) k) (outcomes (back rest) k) → HasEndedBadly (member (known_of r) k) (outcomes (back (cycles ++ rest)) k)
-  badly_along [] rest run clear are k below badly = badly
-  badly_along (t ∷ cycles) rest run clear are k below badly =
-      badly_more (member (known_of r) k) _ _ (extend_next t (cycles ++ rest) run clear are.1 k below) (badly_along cycles rest run.0 clear.0 are.0 k below badly)
-
--- no phase comes after 4
-pub stays_four : (done : Bool) (n : ℕ) → n ≡ 4 → (if done then n + 1 else n) ≤ 4 → (if done then n + 1 else n) ≡ 4
-stays_four true n is low = absurd (omega (arith, is, low))
-stays_four false n is low = is
+  pub outcomes_after : (t : CycleView) (j : List CycleView) → IsOn r jobs carry restarts t j → (k : ℕ)
+      → outcomes (looks_back r jobs (master_calls r carry restarts (t ∷ j))) k ≡ outcomes (behind_mdt r jobs carry restarts t.sent j) k
+  outcomes_after t j on k = outcomes_kept laws more r jobs carry restarts opened t j (going r jobs carry restarts t j on) k
 
 module _ (laws : Laws) (more : MoreLaws) (turn : WorkInTurn) (comes_up : (busy : ℕ) → ComesUp busy) (late : (busy : ℕ) → NoneLate busy) (r : RingView) (jobs : List Job) (carry : Carry) (restarts : Restarts) (opened : IsOpened r jobs)
     (stand : (busy : ℕ) → StandsThroughout busy) (hear : (busy : ℕ) → HearsThroughout busy) where
@@ -219,17 +132,3 @@ module _ (laws : Laws) (more : MoreLaws) (turn : WorkInTurn) (comes_up : (busy :
   pub are_on : (cycles before : List CycleView) → IsRun r jobs carry restarts (cycles ++ before) → IsClear (cycles ++ before) → StartsEpoch r jobs carry restarts before → AreUndisturbed r carry restarts cycles before → AreOn r jobs carry restarts cycles before
   are_on [] before run clear starts calm = tt
   are_on (t ∷ cycles) before run clear starts calm = (are_on cycles before run.0 clear.0 starts calm.0, on_in t cycles before run clear starts calm)
-
-module _ (laws : Laws) (more : MoreLaws) (comes_up : (busy : ℕ) → ComesUp busy) (r : RingView) (jobs : List Job) (carry : Carry) (restarts : Restarts) (opened : IsOpened r jobs) where
-  -- the phase of a cycle is that after the cycle before
-  pub phase_before : (t : CycleView) (j : List CycleView) → IsRun r jobs carry restarts (t ∷ j) → IsOn r jobs carry restarts t j → t.phase ≡ (looks_back r jobs (master_calls r carry restarts j)).now.phase
-  phase_before t j run on = run.1.phase ∙ ap (λ (p : Past). p.now.phase) on.starts
-
-  -- phase 4 stays
-  pub four_along : (cycles rest : List CycleView) → IsRun r jobs carry restarts (cycles ++ rest) → AreOn r jobs carry restarts cycles rest → (looks_back r jobs (master_calls r carry restarts rest)).now.phase ≡ 4
-      → (looks_back r jobs (master_calls r carry restarts (cycles ++ rest))).now.phase ≡ 4
-  four_along [] rest run are four = four
-  four_along (t ∷ cycles) rest run are four =
-      let low = phase_low (known_of r) (tasks_for (known_of r) jobs) (master_calls r carry restarts (t ∷ (cycles ++ rest))) in
-      let after = phase_after laws more comes_up r jobs carry restarts opened t (cycles ++ rest) run are.1.stays in
-      after ∙ stays_four (is_done (known_of r) (behind_mdt r jobs carry restarts t.sent (cycles ++ rest))) t.phase (phase_before t (cycles ++ rest) run are.1 ∙ four_along cycles rest run.0 are.0 four) (subst (λ (n : ℕ). n ≤ 4) after low)

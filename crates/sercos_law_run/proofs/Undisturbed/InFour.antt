@@ -1,5 +1,5 @@
--- In an undisturbed epoch in which phase 4 comes it is commanded from the bound of a start-up on; and in phase 4 a step to a drive is open in
--- each cycle until the first i + 1 of its requests have ended.
+-- In an undisturbed epoch in which phase 4 comes it is commanded from the bound of a start-up on; and in phase 4, disturbed or not, a step
+-- to a drive is open in each cycle until the first i + 1 of its requests have ended.
 use Rattle.std.proofs.Common.{◌≡◌, ◌⊎◌, inl, inr, ℕ, zero, suc, ◌+◌, ◌<◌, ◌≤◌, Bool, true, false, List, [], ◌∷◌, ◌++◌, drop, length, Option, None, refl, sym, ap, ◌∙◌, subst, arith}
 use Rattle.std.specs.Prelude.{is_none, is_some}
 use Rattle.std.proofs.lemmas.Bool.{false≢true}
@@ -41,7 +41,7 @@ use Rattle.sercos_law_run.specs.Undisturbed.Ends.{HasBadCheck, ComesToPhaseFour}
 use Rattle.sercos_law_run.specs.Undisturbed.StopsLater.{NoStopInFour}
 use Rattle.sercos_law_run.specs.Undisturbed.Undisturbed.{AreUndisturbed}
 use Rattle.sercos_law_run.specs.Undisturbed.ViewsSince.{views_since}
-use Rattle.sercos_law_run.proofs.Undisturbed.EpochCycles.{IsOn, AreOn, HasEndedBadly, run_rest, none_along, waits_now, waits_along, outcomes_extend, outcomes_after, badly_along, badly_more, longer_so, phase_before, four_along}
+use Rattle.sercos_law_run.proofs.Undisturbed.GoingCycles.{AreGoing, HasEndedBadly, IsGoing, badly_along, badly_more, four_along, longer_so, none_since, outcomes_grow, outcomes_kept, phase_before, run_rest, waits_along, waits_now}
 use Rattle.sercos_law_run.proofs.Undisturbed.PassedCycles.{views_split}
 use Rattle.sercos_law_run.proofs.Undisturbed.Reached.{all_ready_in}
 use Rattle.sercos_law_run.proofs.Undisturbed.Sections.{some_open}
@@ -58,7 +58,9 @@ dropped_all (x ∷ xs) (suc n) none = let less = dropped_all xs n none in omega 
 -- PHASE 4 IS COMMANDED from the bound of a start-up on, if it is in a later cycle of the epoch.
 module _ (laws : Laws) (more : MoreLaws) (comes_up : (busy : ℕ) → ComesUp busy) (reaches : ComesToPhaseFour) (no_stop : NoStopInFour) (r : RingView) (jobs : List Job) (carry : Carry) (restarts : Restarts) (opened : IsOpened r jobs)
     (t : CycleView) (newer : List CycleView) (one : CycleView) (older before : List CycleView) (run : IsRun r jobs carry restarts (t ∷ (newer ++ one ∷ (older ++ before)))) (clear : IsClear (t ∷ (newer ++ one ∷ (older ++ before))))
-    (on : AreOn r jobs carry restarts (t ∷ newer) (one ∷ (older ++ before))) (first : IsOn r jobs carry restarts one (older ++ before)) (starts : StartsEpoch r jobs carry restarts before) (calm : AreUndisturbed r carry restarts (one ∷ older) before) where
+    (on : AreGoing r jobs carry restarts (t ∷ newer) (one ∷ (older ++ before))) (first : IsGoing r jobs carry restarts one
+    (older ++ before)) (starts : StartsEpoch r jobs carry restarts before) (calm : AreUndisturbed r carry restarts
+    (one ∷ older) before) where
   rest_run : IsRun r jobs carry restarts (one ∷ (older ++ before)) × IsClear (one ∷ (older ++ before))
   rest_run = run_rest r jobs carry restarts (t ∷ newer) (one ∷ (older ++ before)) run clear
 
@@ -66,21 +68,26 @@ module _ (laws : Laws) (more : MoreLaws) (comes_up : (busy : ℕ) → ComesUp bu
   none_at four = stop_after r jobs carry restarts t (newer ++ one ∷ (older ++ before)) on.1.stays ∙ no_stop r jobs carry restarts t (newer ++ one ∷ (older ++ before)) opened run clear four
 
   none_then : t.phase ≡ 4 → (behind_mdt r jobs carry restarts one.sent (older ++ before)).stop ≡ None
-  none_then four = sym (stop_after r jobs carry restarts one (older ++ before) first.stays) ∙ none_along r jobs carry restarts (t ∷ newer) (one ∷ (older ++ before)) on (none_at four)
+  none_then four = sym (stop_after r jobs carry restarts one (older ++ before) first.stays)
+      ∙ none_since r jobs carry restarts (t ∷ newer) (one ∷ (older ++ before)) on (none_at four)
 
   never_bad : t.phase ≡ 4 → HasBadCheck r (looks_back r jobs (master_calls r carry restarts (older ++ before))) → ⊥
   never_bad four failed = never_both (is_ready (member (known_of r) failed.place) (outcomes (looks_back r jobs (master_calls r carry restarts (t ∷ (newer ++ one ∷ (older ++ before))))) failed.place)) ready badly.1
     where
       next : HasEndedBadly (member (known_of r) failed.place) (outcomes (looks_back r jobs (master_calls r carry restarts (one ∷ (older ++ before)))) failed.place)
       next = badly_more (member (known_of r) failed.place) _ _
-          (subst (λ (l : List Outcome). Extends (outcomes (looks_back r jobs (master_calls r carry restarts (older ++ before))) failed.place) l) (sym (outcomes_after laws more r jobs carry restarts opened one (older ++ before) first failed.place))
-          (outcomes_extend laws more r jobs carry restarts opened one (older ++ before) rest_run.0 rest_run.1 first failed.place failed.there)) (failed.ended, failed.badly)
+          (subst (λ (l : List Outcome). Extends (outcomes (looks_back r jobs (master_calls r carry restarts
+          (older ++ before))) failed.place) l) (sym (outcomes_kept laws more r jobs carry restarts opened one
+          (older ++ before) first failed.place))
+          (outcomes_grow laws more r jobs carry restarts opened one (older ++ before) rest_run.0 rest_run.1 first failed.place
+          failed.there)) (failed.ended, failed.badly)
 
       badly : HasEndedBadly (member (known_of r) failed.place) (outcomes (looks_back r jobs (master_calls r carry restarts (t ∷ (newer ++ one ∷ (older ++ before))))) failed.place)
       badly = badly_along laws more r jobs carry restarts opened (t ∷ newer) (one ∷ (older ++ before)) run clear on failed.place failed.there next
 
       ready : is_ready (member (known_of r) failed.place) (outcomes (looks_back r jobs (master_calls r carry restarts (t ∷ (newer ++ one ∷ (older ++ before))))) failed.place) ≡ true
-      ready = ap (is_ready (member (known_of r) failed.place)) (outcomes_after laws more r jobs carry restarts opened t (newer ++ one ∷ (older ++ before)) on.1 failed.place)
+      ready = ap (is_ready (member (known_of r) failed.place)) (outcomes_kept laws more r jobs carry restarts opened t (newer ++ one ∷
+          (older ++ before)) on.1 failed.place)
           ∙ all_ready_in (known_of r) (tasks_for (known_of r) jobs) (middle r carry restarts t.sent (newer ++ one ∷ (older ++ before))) (let now = on.1.now in omega (arith, now, four)) failed.place (inside r failed.place failed.there)
 
   pub four_since : startup_bound r ≤ length older → t.phase ≡ 4 → one.phase ≡ 4
@@ -99,7 +106,8 @@ module _ (laws : Laws) (more : MoreLaws) (comes_up : (busy : ℕ) → ComesUp bu
   now_in t j = behind_mdt r jobs carry restarts t.sent j
 
   -- A CYCLE of phase 4
-  module _ (t : CycleView) (j : List CycleView) (run : IsRun r jobs carry restarts (t ∷ j)) (clear : IsClear (t ∷ j)) (on : IsOn r jobs carry restarts t j) (four : t.phase ≡ 4) where
+  module _ (t : CycleView) (j : List CycleView) (run : IsRun r jobs carry restarts (t ∷ j)) (clear : IsClear (t ∷ j))
+      (on : IsGoing r jobs carry restarts t j) (four : t.phase ≡ 4) where
     four_now : (behind_mdt r jobs carry restarts t.sent j).now.phase ≡ 4
     four_now = on.now ∙ four
 
@@ -141,12 +149,15 @@ module _ (laws : Laws) (more : MoreLaws) (comes_up : (busy : ℕ) → ComesUp bu
             absurd (omega (arith, all, ended, count, low, few))
 
   -- SO IT IS IN EACH CYCLE from one after which phase 4 is commanded.
-  pub at_work : (i : ℕ) (cycles rest : List CycleView) → IsRun r jobs carry restarts (cycles ++ rest) → IsClear (cycles ++ rest) → AreOn r jobs carry restarts cycles rest → (looks_back r jobs (master_calls r carry restarts rest)).now.phase ≡ 4
+  pub at_work : (i : ℕ) (cycles rest : List CycleView) → IsRun r jobs carry restarts (cycles ++ rest) → IsClear (cycles ++ rest)
+      → AreGoing r jobs carry restarts cycles rest → (looks_back r jobs (master_calls r carry restarts rest)).now.phase ≡ 4
       → i < length ((looks_back r jobs (master_calls r carry restarts rest)).waiting k) → (looks_back r jobs (master_calls r carry restarts (cycles ++ rest))).stop ≡ None
       → length (outcomes (looks_back r jobs (master_calls r carry restarts (cycles ++ rest))) k) ≤ reads_count (member (known_of r) k) + (13 + i) → AreAtWork (views_since r jobs carry restarts k cycles rest) (views_of r jobs carry restarts k rest)
   at_work i [] rest run clear on four low none few = tt
   at_work i (t ∷ cycles) rest run clear on four low none few = (
-    at_work i cycles rest run.0 clear.0 on.0 four low (none_before r jobs carry restarts t (cycles ++ rest) on.1.starts stop_now) (let grows = longer_so _ _ (outcomes_extend laws more r jobs carry restarts opened t (cycles ++ rest) run clear on.1 k below) in let now = few_now in omega (arith, grows, now)),
+    at_work i cycles rest run.0 clear.0 on.0 four low (none_before r jobs carry restarts t (cycles ++ rest) on.1.starts stop_now)
+        (let grows = longer_so _ _ (outcomes_grow laws more r jobs carry restarts opened t
+        (cycles ++ rest) run clear on.1 k below) in let now = few_now in omega (arith, grows, now)),
     subst (λ (l : List View). is_some (open_in (begun_in (view_of r jobs carry restarts k t (cycles ++ rest)) l)) ≡ true) (views_split r jobs carry restarts k cycles rest)
         (some_open _ (ap (λ (l : List Begun). is_none (open_in l)) ((keeps_all laws more r jobs carry restarts opened t (cycles ++ rest) run clear).exact k below).begun_now ∙ works_now)),
   )
@@ -155,7 +166,8 @@ module _ (laws : Laws) (more : MoreLaws) (comes_up : (busy : ℕ) → ComesUp bu
       stop_now = sym (stop_after r jobs carry restarts t (cycles ++ rest) on.1.stays) ∙ none
 
       few_now : length (outcomes (behind_mdt r jobs carry restarts t.sent (cycles ++ rest)) k) ≤ reads_count (member (known_of r) k) + (13 + i)
-      few_now = subst (λ (l : List Outcome). length l ≤ reads_count (member (known_of r) k) + (13 + i)) (outcomes_after laws more r jobs carry restarts opened t (cycles ++ rest) on.1 k) few
+      few_now = subst (λ (l : List Outcome). length l ≤ reads_count (member (known_of r) k) + (13 + i))
+          (outcomes_kept laws more r jobs carry restarts opened t (cycles ++ rest) on.1 k) few
 
       low_now : i < length ((behind_mdt r jobs carry restarts t.sent (cycles ++ rest)).waiting k)
       low_now = subst (λ (l : List Task). i < length l) (sym (waits_now r jobs carry restarts t (cycles ++ rest) on.1 k ∙ waits_along r jobs carry restarts cycles rest on.0 k)) low

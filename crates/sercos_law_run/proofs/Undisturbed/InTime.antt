@@ -53,7 +53,7 @@ within_bound started r =
     let parts = both_sections r.drives in omega (arith, bound, parts)
 
 -- 42 steps are no more than 41 with a cycle more each, since no drive is busy for more than 20 cycles
-steps_fit : (busy most : ℕ) → busy ≤ 20 → busy ≤ most → (busy + 1) * 42 ≤ 41 * (most + 2)
+pub steps_fit : (busy most : ℕ) → busy ≤ 20 → busy ≤ most → (busy + 1) * 42 ≤ 41 * (most + 2)
 steps_fit busy most low within = omega (arith, low, within)
 
 module _ (laws : Laws) (more : MoreLaws) (turn : WorkInTurn) (comes_up : (busy : ℕ) → ComesUp busy) (late : (busy : ℕ) → NoneLate busy) (two : WorksInTwo) (three : WorksInThree) (started : IsStarted) (greatest_is : IsBelowGreatest)

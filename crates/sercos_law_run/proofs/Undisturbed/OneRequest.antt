@@ -29,12 +29,8 @@ use Rattle.sercos_law_run.proofs.Undisturbed.LongWrites.{ends_soon}
 use Rattle.sercos_law_run.proofs.Undisturbed.RefusedRuns.{SaysShape}
 
 -- NUMBERS
-times_sum : (p n k : ℕ) → p * (n + k) ≡ p * n + p * k
+pub times_sum : (p n k : ℕ) → p * (n + k) ≡ p * n + p * k
 times_sum p n k = grind arith
-
--- the time for the older answers taken off
-taken_off : (p opened before steps older : ℕ) → opened + p * before ≤ p * (steps + older) → older ≤ before → opened ≤ p * steps
-taken_off p opened before steps older le few = let more = times_le p older before few in let sum = times_sum p steps older in omega (arith, le, more, sum)
 
 pub room : (busy time : ℕ) → (busy + 2) * (520 + time) ≡ 520 * busy + 1040 + busy * time + 2 * time
 room busy time = grind arith
@@ -124,43 +120,55 @@ module _ (said : SaysShape) (busy time : ℕ) (blocks : List Block) (small : Are
     read_few : (idn : Idn) (e : ℕ) → b.request ≡ request.Read idn e → length b.answers ≤ 517
     read_few idn e asks = read_ends idn e b.answers (subst (λ (r : Request). AreAnswers r b.answers) asks turn_now.1.1)
 
+    -- The steps that were begun are at most 518 more than the answers to the older requests, if these have ended; or it is a command.
+    pub steps_few : open_in old ≡ None → (length (steps_in (epoch_begun all)) ≤ 518 + length (answers_in old)) ⊎ ((idn : Idn)
+        × (b.request ≡ request.Command idn))
+    steps_few shut = by b.request refl
+      where
+        few : length b.answers ≤ 517 → length (steps_in (epoch_begun all)) ≤ 518 + length (answers_in old)
+        few answers =
+            let most = length-steps_begun b.request b.answers in
+            let older = rest_steps old turn_now.0 shut in
+            let long : length (steps_in (epoch_begun all)) ≡ length (steps_begun b.request b.answers) + length (steps_in old) =
+            ap (λ (l : List Begun). length (steps_in l)) split ∙ length-append (steps_begun b.request b.answers) (steps_in old) in
+            omega (arith, most, answers, older, long)
+
+        by : (r : Request) → b.request ≡ r → (length (steps_in (epoch_begun all)) ≤ 518 + length (answers_in old)) ⊎ ((idn : Idn)
+            × (b.request ≡ request.Command idn))
+        by (request.Read idn e) asks = inl (few (read_few idn e asks))
+        by (request.Write idn e bytes) asks = inl (few (write_few idn e bytes asks))
+        by (request.Command idn) asks = inr (idn, asks)
+
   -- ONE REQUEST, which was begun after all others had ended: after a first cycle, in which they had all their answers, the cycles with an
   -- open step are fewer than this profile gives a request, as long as the drive isn't in phase 0.
   pub one_lasts : RecoversInTime busy → RecoversSince busy → (cycles : List View) (first : View) (past : List View) (b : Begun) (old : List Begun) → IsViewRun busy (cycles ++ first ∷ past) → AreSound blocks (cycles ++ first ∷ past) → AreTimed time (cycles ++ first ∷ past)
       → AreListed (λ raw. 512) (cycles ++ first ∷ past) → IsWhole first past → AreWhole cycles (first ∷ past) → ((standing (cycles ++ first ∷ past)).ended ≡ 0 → ⊥) → epoch_begun (cycles ++ first ∷ past) ≡ b ∷ old → open_in old ≡ None
       → length (answers_in old) ≤ length (answers_in (epoch_begun (first ∷ past))) → open_since cycles (first ∷ past) < (busy + 2) * (520 + time)
-  one_lasts recovers since cycles first past b old run sound timed listed whole wholes stands split shut few = by b.request refl
+  one_lasts recovers since cycles first past b old run sound timed listed whole wholes stands split shut few = elim (steps_few
+      (cycles ++ first ∷ past) run sound b old split shut) [
+        | inl steps ↦ by_steps steps (recovers cycles first past run whole wholes)
+        | inr (idn, asks) ↦ which idn asks (since time (λ raw. 512) blocks cycles first past
+            (b ∷ []) old small run sound timed listed whole wholes split shut few)
+      ]
     where
-      all : List View
-      all = cycles ++ first ∷ past
+      by_steps : length (steps_in (epoch_begun (cycles ++ first ∷ past))) ≤ 518 + length (answers_in old)
+          → ((standing (cycles ++ first ∷ past)).ended ≡ 0)
+          ⊎ (open_since cycles (first ∷ past) + (busy + 1) * length (answers_in (epoch_begun (first ∷ past)))
+          ≤ (busy + 1) * length (steps_in (epoch_begun (cycles ++ first ∷ past))))
+          → open_since cycles (first ∷ past) < (busy + 2) * (520 + time)
+      by_steps steps (inl down) = absurd (stands down)
+      by_steps steps (inr le) =
+          let most = times_le (busy + 1) (length (steps_in (epoch_begun (cycles ++ first ∷ past)))) (518 + length (answers_in
+          (epoch_begun (first ∷ past)))) (omega (arith, steps, few)) in
+          let sum = times_sum (busy + 1) 518 (length (answers_in (epoch_begun (first ∷ past)))) in
+          let fits = few_fit busy time 518 (omega arith) in
+          omega (arith, le, most, sum, fits)
 
-      by_steps : length b.answers ≤ 517 → open_since cycles (first ∷ past) < (busy + 2) * (520 + time)
-      by_steps answers = which (recovers cycles first past run whole wholes)
-        where
-          steps_few : length (steps_begun b.request b.answers) ≤ 518
-          steps_few = let most = length-steps_begun b.request b.answers in omega (arith, most, answers)
-
-          which : ((standing (cycles ++ first ∷ past)).ended ≡ 0)
-              ⊎ (open_since cycles (first ∷ past) + (busy + 1) * length (answers_in (epoch_begun (first ∷ past))) ≤ (busy + 1) * length (steps_in (epoch_begun (cycles ++ first ∷ past))))
-              → open_since cycles (first ∷ past) < (busy + 2) * (520 + time)
-          which (inl down) = absurd (stands down)
-          which (inr le) =
-              let older = rest_steps old (turn_now (cycles ++ first ∷ past) run sound b old split).0 shut in
-              let long : length (steps_in (epoch_begun (cycles ++ first ∷ past))) ≡ length (steps_begun b.request b.answers) + length (steps_in old) =
-              ap (λ (l : List Begun). length (steps_in l)) split ∙ length-append (steps_begun b.request b.answers) (steps_in old) in
-              let opened = taken_off (busy + 1) (open_since cycles (first ∷ past)) (length (answers_in (epoch_begun (first ∷ past)))) (length (steps_begun b.request b.answers)) (length (steps_in old))
-              (subst (λ (n : ℕ). open_since cycles (first ∷ past) + (busy + 1) * length (answers_in (epoch_begun (first ∷ past))) ≤ (busy + 1) * n) long le) (omega (arith, older, few)) in
-              let fits = few_fit busy time (length (steps_begun b.request b.answers)) steps_few in
-              omega (arith, opened, fits)
-
-      by : (r : Request) → b.request ≡ r → open_since cycles (first ∷ past) < (busy + 2) * (520 + time)
-      by (request.Read idn e) asks = by_steps (read_few (cycles ++ first ∷ past) run sound b old split idn e asks)
-      by (request.Write idn e bytes) asks = by_steps (write_few (cycles ++ first ∷ past) run sound b old split idn e bytes asks)
-      by (request.Command idn) asks = which (since time (λ raw. 512) blocks cycles first past (b ∷ []) old small run sound timed listed whole wholes split shut few)
-        where
-          which : ((standing (cycles ++ first ∷ past)).ended ≡ 0) ⊎ (open_since cycles (first ∷ past) ≤ cost_in (cost_of busy time (λ raw. 512) blocks) (b ∷ [])) → open_since cycles (first ∷ past) < (busy + 2) * (520 + time)
-          which (inl down) = absurd (stands down)
-          which (inr le) =
-              let cost = ap (λ (r : Request). cost_of busy time (λ raw. 512) blocks r + 0) asks in
-              let fits = command_fits busy time in
-              omega (arith, le, cost, fits)
+      which : (idn : Idn) → b.request ≡ request.Command idn → ((standing (cycles ++ first ∷ past)).ended ≡ 0)
+          ⊎ (open_since cycles (first ∷ past) ≤ cost_in (cost_of busy time (λ raw. 512) blocks) (b ∷ []))
+          → open_since cycles (first ∷ past) < (busy + 2) * (520 + time)
+      which idn asks (inl down) = absurd (stands down)
+      which idn asks (inr le) =
+          let cost = ap (λ (r : Request). cost_of busy time (λ raw. 512) blocks r + 0) asks in
+          let fits = command_fits busy time in
+          omega (arith, le, cost, fits)

@@ -60,21 +60,40 @@ module _ (laws : Laws) (more : MoreLaws) (two : WorksInTwo) (r : RingView) (jobs
   was cycles before k = open_since (views_since r jobs carry restarts k cycles before) (views_of r jobs carry restarts k before)
 
   -- In a cycle of phase 2 some drive has an open step.
-  pub one_works : (t : CycleView) (cycles before : List CycleView) → IsRun r jobs carry restarts (t ∷ (cycles ++ before)) → IsClear (t ∷ (cycles ++ before)) → GoesOnInTwo r (behind_mdt r jobs carry restarts t.sent (cycles ++ before))
-      → sum_below (length r.drives) (was cycles before) + 1 ≤ sum_below (length r.drives) (was (t ∷ cycles) before)
-  one_works t cycles before run clear goes =
-      sum_grows (length r.drives) (was cycles before) (λ k. one_more (opens t cycles before k) (was cycles before k)) at_work.0 low (λ k. more_or_same (opens t cycles before k) (was cycles before k)) (one_more_is (opens t cycles before at_work.0) (was cycles before at_work.0) is_open)
+  pub opens_in_two : (t : CycleView) (j : List CycleView) → IsRun r jobs carry restarts (t ∷ j) → IsClear (t ∷ j)
+      → GoesOnInTwo r (behind_mdt r jobs carry restarts t.sent j)
+      → (k : ℕ) × (k < length r.drives) × (is_some (open_in (begun_in (view_of r jobs carry restarts k t j)
+      (views_of r jobs carry restarts k j))) ≡ true)
+  opens_in_two t j run clear goes = (
+    at_work.0,
+    low,
+    some_open _ (ap (λ (l : List Begun). is_none (open_in l)) ((keeps_all laws more r jobs carry restarts opened t j run clear).exact
+        at_work.0 low).begun_now ∙ at_work.2),
+  )
     where
-      at_work : (k : ℕ) × (k < length (known_of r).drives) × (is_idle (behind_mdt r jobs carry restarts t.sent (cycles ++ before)) k ≡ false)
-      at_work = two (known_of r) (tasks_for (known_of r) jobs) (at_calls r carry (length (cycles ++ before)) (ats_in t.sent) (own_mst carry (length (cycles ++ before)) (mst_in t.sent) (begin_calls restarts (length (cycles ++ before)) (master_calls r carry restarts (cycles ++ before)))))
+      at_work : (k : ℕ) × (k < length (known_of r).drives) × (is_idle (behind_mdt r jobs carry restarts t.sent j) k ≡ false)
+      at_work = two (known_of r) (tasks_for (known_of r) jobs) (at_calls r carry (length j) (ats_in t.sent) (own_mst carry (length j)
+          (mst_in t.sent) (begin_calls restarts (length j) (master_calls r carry restarts j))))
           (λ k. (more.requests (known_of r) jobs k).0) (s_known laws r jobs carry restarts opened (first_store laws more r jobs carry restarts opened)).lists goes.phase goes.goes_on goes.planned goes.unchecked
 
       low : at_work.0 < length r.drives
       low = let count = members_count r in let inside = at_work.1 in omega (arith, count, inside)
 
+  pub one_works : (t : CycleView) (cycles before : List CycleView) → IsRun r jobs carry restarts (t ∷ (cycles ++ before))
+      → IsClear (t ∷ (cycles ++ before)) → GoesOnInTwo r (behind_mdt r jobs carry restarts t.sent (cycles ++ before))
+      → sum_below (length r.drives) (was cycles before) + 1 ≤ sum_below (length r.drives) (was (t ∷ cycles) before)
+  one_works t cycles before run clear goes =
+      sum_grows (length r.drives) (was cycles before) (λ k. one_more (opens t cycles before k) (was cycles before k)) at_work.0 at_work.1
+      (λ k. more_or_same (opens t cycles before k) (was cycles before k)) (one_more_is (opens t cycles before at_work.0)
+      (was cycles before at_work.0) is_open)
+    where
+      at_work : (k : ℕ) × (k < length r.drives) × (is_some (open_in (begun_in (view_of r jobs carry restarts k t (cycles ++ before))
+          (views_of r jobs carry restarts k (cycles ++ before)))) ≡ true)
+      at_work = opens_in_two t (cycles ++ before) run clear goes
+
       is_open : opens t cycles before at_work.0 ≡ true
-      is_open = subst (λ (l : List View). is_some (open_in (begun_in (view_of r jobs carry restarts at_work.0 t (cycles ++ before)) l)) ≡ true) (views_split r jobs carry restarts at_work.0 cycles before)
-          (some_open _ (ap (λ (l : List Begun). is_none (open_in l)) ((keeps_all laws more r jobs carry restarts opened t (cycles ++ before) run clear).exact at_work.0 low).begun_now ∙ at_work.2))
+      is_open = subst (λ (l : List View). is_some (open_in (begun_in (view_of r jobs carry restarts at_work.0 t
+          (cycles ++ before)) l)) ≡ true) (views_split r jobs carry restarts at_work.0 cycles before) at_work.2
 
   pub none_idle : (cycles before : List CycleView) → IsRun r jobs carry restarts (cycles ++ before) → IsClear (cycles ++ before) → AreInTwo r jobs carry restarts cycles before
       → length cycles ≤ sum_below (length r.drives) (λ k. open_since (views_since r jobs carry restarts k cycles before) (views_of r jobs carry restarts k before))

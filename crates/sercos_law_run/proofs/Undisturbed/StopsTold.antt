@@ -92,11 +92,12 @@ module _ (r : RingView) (jobs : List Job) (carry : Carry) (restarts : Restarts) 
       says = ap (λ (b : Bool). if b then (behind_mdt r jobs carry restarts t.sent j).stop else None) stops ∙ is
 
   -- a stop that was there before, or one of this cycle
-  stop_at : (t : CycleView) (j : List CycleView) (x : Stop) → IsNext r jobs carry restarts t j → ((looks_back r jobs (master_calls r carry restarts j)).stop ≡ Some x → HasTold x j)
-      → (behind_mdt r jobs carry restarts t.sent j).stop ≡ Some x → HasTold x (t ∷ j)
-  stop_at t j x next before is = by (at_start r jobs carry restarts j).stop refl
+  pub stop_at : (t : CycleView) (j : List CycleView) (x : Stop) (Before : Type 0) → IsNext r jobs carry restarts t j
+      → ((looks_back r jobs (master_calls r carry restarts j)).stop ≡ Some x → Before)
+      → (behind_mdt r jobs carry restarts t.sent j).stop ≡ Some x → (t.events.stop ≡ Some x) ⊎ Before
+  stop_at t j x Before next before is = by (at_start r jobs carry restarts j).stop refl
     where
-      by : (o : Option Stop) → (at_start r jobs carry restarts j).stop ≡ o → HasTold x (t ∷ j)
+      by : (o : Option Stop) → (at_start r jobs carry restarts j).stop ≡ o → (t.events.stop ≡ Some x) ⊎ Before
       by None none = inl (fresh t j x next none is)
       by (Some y) had =
           let there : is_some (behind_ats r jobs carry restarts t.sent j).stop ≡ true = ap (λ (o : Option Stop). is_some o) (ats_kept t j ∙ had) in
@@ -107,12 +108,12 @@ module _ (r : RingView) (jobs : List Job) (carry : Carry) (restarts : Restarts) 
   at_end (t ∷ j) x run is = by (fall_of (known_of r) (behind_mdt r jobs carry restarts t.sent j)) refl (at_end j x run.0)
     where
       by : (o : Option Fall) → fall_of (known_of r) (behind_mdt r jobs carry restarts t.sent j) ≡ o → ((looks_back r jobs (master_calls r carry restarts j)).stop ≡ Some x → HasTold x j) → HasTold x (t ∷ j)
-      by None stays before = stop_at t j x run.1 before (sym (stop_after r jobs carry restarts t j stays) ∙ is)
+      by None stays before = stop_at t j x (HasTold x j) run.1 before (sym (stop_after r jobs carry restarts t j stays) ∙ is)
       by (Some f) falls before = absurd (none_some x (sym (fallen_stop (known_of r) (behind_mdt r jobs carry restarts t.sent j) f falls) ∙ is))
 
   -- THE STOP after the MDT's place was told.
   pub stop_told_in : (t : CycleView) (j : List CycleView) (x : Stop) → IsRun r jobs carry restarts (t ∷ j) → (behind_mdt r jobs carry restarts t.sent j).stop ≡ Some x → HasTold x (t ∷ j)
-  stop_told_in t j x run is = stop_at t j x run.1 (at_end j x run.0) is
+  stop_told_in t j x run is = stop_at t j x (HasTold x j) run.1 (at_end j x run.0) is
 
 -- What is told is right.
 told_right : (laws : Laws) (more : MoreLaws) (r : RingView) (jobs : List Job) (carry : Carry) (restarts : Restarts) → IsOpened r jobs → (j : List CycleView) (x : Stop) → IsRun r jobs carry restarts j → IsClear j → HasTold x j → StopsRight r (Some x)

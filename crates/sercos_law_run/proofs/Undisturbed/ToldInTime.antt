@@ -47,9 +47,10 @@ use Rattle.sercos_law_run.specs.Undisturbed.EpochStarts.{StartsEpoch}
 use Rattle.sercos_law_run.specs.Undisturbed.Reports.{HaveTold, left_after, request_cycles, waiting_after}
 use Rattle.sercos_law_run.specs.Undisturbed.StopsLater.{NoStopInFour}
 use Rattle.sercos_law_run.specs.Undisturbed.Undisturbed.{AreUndisturbed}
-use Rattle.sercos_law_run.proofs.Undisturbed.EpochCycles.{AreOn, IsCut, IsOn, are_on, cut, run_rest, waits_along, waits_now}
+use Rattle.sercos_law_run.proofs.Undisturbed.EpochCycles.{AreOn, IsCut, IsOn, are_on, cut, going, goings}
+use Rattle.sercos_law_run.proofs.Undisturbed.GoingCycles.{AreAll, AreGoing, IsGoing, all_so, run_rest, waits_along, waits_now}
 use Rattle.sercos_law_run.proofs.Undisturbed.Comes.{calm_in}
-use Rattle.sercos_law_run.proofs.Undisturbed.EndedInTime.{have_ended, one_time_more}
+use Rattle.sercos_law_run.proofs.Undisturbed.EndedInTime.{LastsShort, have_ended, lasts_undisturbed, one_time_more}
 use Rattle.sercos_law_run.proofs.Undisturbed.InFour.{counted, four_since, numbered, ready_now}
 use Rattle.sercos_law_run.proofs.Undisturbed.OneRequest.{room}
 use Rattle.sercos_law_run.proofs.Undisturbed.PhaseCounts.{end_kept}
@@ -146,6 +147,24 @@ newest_waits s k plan waiting numbered phase (b ∷ older) (t ∷ tasks) are wor
     by None on ready many (Lists4 at failed is) = absurd (never_both (is_ready (member s k) (outcomes_in older)) ready failed)
     by None on ready many (OfWaiting j at is got) = (ap suc (sym are.1.ended), (j, at, slice_get_within waiting j t got), numbered j t got)
 
+pub beyond : (a b : ℕ) → a ≤ b → (d : ℕ) × (b ≡ a + d)
+beyond zero b le = (b, omega arith)
+beyond (suc a) zero le = absurd (omega (arith, le))
+beyond (suc a) (suc b) le = let d = beyond a b (omega (arith, le)) in (d.0, let is = d.1 in omega (arith, is))
+
+-- the master doesn't restart in a cycle, as in an undisturbed one
+abbrev pub IsQuiet : Restarts → CycleView → List CycleView → Type 0
+IsQuiet restarts t j = restarts (length j) 0 ≡ false
+
+quiet_since : (r : RingView) (carry : Carry) (restarts : Restarts) (cycles before : List CycleView)
+    → AreUndisturbed r carry restarts cycles before → AreAll (IsQuiet restarts) cycles before
+quiet_since r carry restarts [] before calm = tt
+quiet_since r carry restarts (t ∷ cycles) before calm = (
+  quiet_since r carry restarts cycles before calm.0,
+  (calm_in r carry restarts t
+      (cycles ++ before) calm.1).stays 0 (omega arith),
+)
+
 module _ (laws : Laws) (more : MoreLaws) (r : RingView) (jobs : List Job) (carry : Carry) (restarts : Restarts) (opened : IsOpened r jobs) (k : ℕ) (below : k < length r.drives) where
   abbrev told_by : List CycleView → List Report
   told_by j = told (known_of r) (tasks_for (known_of r) jobs) k (master_calls r carry restarts j)
@@ -210,21 +229,58 @@ module _ (laws : Laws) (more : MoreLaws) (r : RingView) (jobs : List Job) (carry
     pub all : AllTold cycles numbers
     pub is : numbers ++ left (cycles ++ before) ≡ left before
 
-  pub told_since : (cycles before : List CycleView) → IsRun r jobs carry restarts (cycles ++ before) → IsClear (cycles ++ before) → AreUndisturbed r carry restarts cycles before → IsTold cycles before
-  told_since [] before run clear calm = record { numbers = []; all = tt; is = refl }
-  told_since (t ∷ cycles) before run clear calm =
-      let earlier = told_since cycles before run.0 clear.0 calm.0 in
+  pub told_along : (cycles before : List CycleView) → IsRun r jobs carry restarts (cycles ++ before) → IsClear (cycles ++ before)
+      → AreAll (IsQuiet restarts) cycles before → IsTold cycles before
+  told_along [] before run clear quiet = record { numbers = []; all = tt; is = refl }
+  told_along (t ∷ cycles) before run clear quiet =
+      let earlier = told_along cycles before run.0 clear.0 quiet.0 in
       let now = numbers_told (falls_in t (cycles ++ before)) ((now_in t (cycles ++ before)).now.report k) (broken (now_in t (cycles ++ before)) k) in
       record {
         numbers = earlier.numbers ++ now;
         all = told_both (t ∷ cycles) earlier.numbers now (told_later t cycles earlier.numbers earlier.all)
             (all_told (t ∷ cycles) (falls_in t (cycles ++ before)) ((now_in t (cycles ++ before)).now.report k) (broken (now_in t (cycles ++ before)) k) (λ x has. inl (x.outcome, told_in t (cycles ++ before) run clear x has)));
         is = append_assoc earlier.numbers now (left (t ∷ (cycles ++ before)))
-            ∙ ap (λ (l : List (Option ℕ)). earlier.numbers ++ l) (left_next t (cycles ++ before) ((calm_in r carry restarts t (cycles ++ before) calm.1).stays 0 (omega arith))) ∙ earlier.is;
+            ∙ ap (λ (l : List (Option ℕ)). earlier.numbers ++ l) (left_next t (cycles ++ before) quiet.1) ∙ earlier.is;
       }
 
+  pub told_since : (cycles before : List CycleView) → IsRun r jobs carry restarts (cycles ++ before) → IsClear (cycles ++ before)
+      → AreUndisturbed r carry restarts cycles before → IsTold cycles before
+  told_since cycles before run clear calm = told_along cycles before run clear (quiet_since r carry restarts cycles before calm)
+
+  -- A REQUEST IS REPORTED if it isn't left.
+  pub told_if_few : (cycles before : List CycleView) → IsTold cycles before → StartsEpoch r jobs carry restarts before
+      → (i : ℕ) (x : Task) → slice_get (waiting_after r jobs carry restarts before k) i ≡ Some x
+      → ((n : ℕ) → length (waiting_after r jobs carry restarts before k) ≤ n + suc i → length (left (cycles ++ before)) ≤ n)
+      → (number : ℕ) × (x.number ≡ Some number) × HaveTold cycles number
+  told_if_few cycles before is_told starts i x got few =
+      told_there cycles is_told.numbers i x.number is_told.all (sym (get_left is_told.numbers (left (cycles ++ before)) i early)
+      ∙ ap (λ (l : List (Option ℕ)). slice_get l i) is ∙ there)
+    where
+      low : i < length (waiting_after r jobs carry restarts before k)
+      low = slice_get_within (waiting_after r jobs carry restarts before k) i x got
+
+      rest : (n : ℕ) × (length (waiting_after r jobs carry restarts before k) ≡ suc i + n)
+      rest = beyond (suc i) (length (waiting_after r jobs carry restarts before k)) (omega (arith, low))
+
+      is : is_told.numbers ++ left (cycles ++ before) ≡ task_numbers (waiting_after r jobs carry restarts before k)
+      is = is_told.is ∙ left_first before starts
+
+      there : slice_get (task_numbers (waiting_after r jobs carry restarts before k)) i ≡ Some x.number
+      there = get_map (λ (y : Task). y.number) (waiting_after r jobs carry restarts before k) i
+          ∙ ap (option_map (λ (y : Task). y.number)) got
+
+      early : i < length is_told.numbers
+      early =
+          let all = ap (λ (l : List (Option ℕ)). length l) is in
+          let parts = length-append is_told.numbers (left (cycles ++ before)) in
+          let numbers = numbers_long (waiting_after r jobs carry restarts before k) in
+          let count = rest.1 in
+          let least = few rest.0 (omega (arith, count)) in omega (arith, least, count, all, parts, numbers)
+
   -- HOW MANY ARE LEFT after a cycle of phase 4
-  module _ (comes_up : (busy : ℕ) → ComesUp busy) (works : WorksInFour) (t : CycleView) (j : List CycleView) (run : IsRun r jobs carry restarts (t ∷ j)) (clear : IsClear (t ∷ j)) (on : IsOn r jobs carry restarts t j) (four : t.phase ≡ 4) where
+  module _ (comes_up : (busy : ℕ) → ComesUp busy) (works : WorksInFour) (t : CycleView) (j : List CycleView)
+      (run : IsRun r jobs carry restarts (t ∷ j)) (clear : IsClear (t ∷ j)) (on : IsGoing r jobs carry restarts t j)
+      (four : t.phase ≡ 4) where
     abbrev now : Past
     now = behind_mdt r jobs carry restarts t.sent j
 
@@ -298,18 +354,24 @@ module _ (laws : Laws) (more : MoreLaws) (r : RingView) (jobs : List Job) (carry
     pub left_many : length (now.waiting k) + (reads_count (member (known_of r) k) + 13) ≤ length (left (t ∷ j)) + length (outcomes now k)
     left_many = subst (λ (p : Past). length (now.waiting k) + (reads_count (member (known_of r) k) + 13) ≤ length (still_to_tell (channel_at p k)) + length (outcomes now k)) (sym (end_kept (known_of r) now on.stays)) many_left
 
-pub beyond : (a b : ℕ) → a ≤ b → (d : ℕ) × (b ≡ a + d)
-beyond zero b le = (b, omega arith)
-beyond (suc a) zero le = absurd (omega (arith, le))
-beyond (suc a) (suc b) le = let d = beyond a b (omega (arith, le)) in (d.0, let is = d.1 in omega (arith, is))
-
--- HOW MANY ARE LEFT so late: i + 1 fewer than after a cycle of phase 4, or none, if each later one is as in an undisturbed epoch.
-module _ (laws : Laws) (more : MoreLaws) (comes_up : (busy : ℕ) → ComesUp busy) (works : WorksInFour) (always : OpensAlways) (said : SaysShape) (timed : ComesTimed) (recovers : (busy : ℕ) → RecoversInTime busy) (since : (busy : ℕ) → RecoversSince busy)
-    (no_stop : NoStopInFour) (r : RingView) (jobs : List Job) (carry : Carry) (restarts : Restarts) (opened : IsOpened r jobs) (k : ℕ) (below : k < length r.drives) (t : CycleView) (cycles : List CycleView) (one : CycleView) (old : List CycleView)
-    (run : IsRun r jobs carry restarts (t ∷ (cycles ++ one ∷ old))) (clear : IsClear (t ∷ (cycles ++ one ∷ old))) (on : AreOn r jobs carry restarts (t ∷ cycles) (one ∷ old)) (calm : AreUndisturbed r carry restarts cycles (one ∷ old))
-    (first : IsOn r jobs carry restarts one old) (one_four : one.phase ≡ 4) (four : t.phase ≡ 4) (n i : ℕ) (long : suc i * request_cycles r k ≤ suc (length cycles)) where
+-- HOW MANY ARE LEFT so late: i + 1 fewer than after a cycle of phase 4, or none, if no request lasts longer.
+module _ (laws : Laws) (more : MoreLaws) (comes_up : (busy : ℕ) → ComesUp busy) (works : WorksInFour)
+    (r : RingView) (jobs : List Job) (carry : Carry) (restarts : Restarts) (opened : IsOpened r jobs) (k : ℕ) (below : k < length r.drives)
+    (P : CycleView → List CycleView → Type 0) (goes : (t : CycleView) (j : List CycleView) → P t j
+    → IsGoing r jobs carry restarts t j) (lasts : LastsShort r jobs carry restarts k P)
+    (no_stop : NoStopInFour) (t : CycleView) (cycles : List CycleView) (one : CycleView) (old : List CycleView)
+    (run : IsRun r jobs carry restarts (t ∷ (cycles ++ one ∷ old))) (clear : IsClear (t ∷ (cycles ++ one ∷ old))) (those : AreAll P
+    (t ∷ cycles) (one ∷ old))
+    (one_is : P one old) (one_four : one.phase ≡ 4) (four : t.phase ≡ 4) (i : ℕ) (long : suc i * request_cycles r k
+    ≤ suc (length cycles)) where
   rest_run : IsRun r jobs carry restarts (one ∷ old) × IsClear (one ∷ old)
   rest_run = run_rest r jobs carry restarts (t ∷ cycles) (one ∷ old) run clear
+
+  on : AreGoing r jobs carry restarts (t ∷ cycles) (one ∷ old)
+  on = all_so P (IsGoing r jobs carry restarts) goes (t ∷ cycles) (one ∷ old) those
+
+  first : IsGoing r jobs carry restarts one old
+  first = goes one old one_is
 
   -- what has ended in the first cycle
   m : (d : ℕ) × (length (outcomes (behind_mdt r jobs carry restarts one.sent old) k) ≡ reads_count (member (known_of r) k) + 13 + d)
@@ -329,16 +391,42 @@ module _ (laws : Laws) (more : MoreLaws) (comes_up : (busy : ℕ) → ComesUp bu
 
   few : (x : ℕ) → x ≤ m.0 + suc i → x ≤ waits → length (left_after r jobs carry restarts (t ∷ (cycles ++ one ∷ old)) k) + x ≤ waits
   few x most low =
-      let ended = have_ended laws more comes_up works always said timed recovers since no_stop r jobs carry restarts opened k below one old first one_four m.0 (let is = m.1 in omega (arith, is)) (suc i) t cycles run clear on calm long x most low in
+      let ended = have_ended laws more comes_up works r jobs carry restarts opened k below P goes lasts no_stop one old one_is one_four m.0
+      (let is = m.1 in omega (arith, is)) (suc i) t cycles run clear those long x most low in
       let same = waits_t in
       let left_is = left_few laws more r jobs carry restarts opened k below comes_up works t (cycles ++ one ∷ old) run clear on.1 four x ended (omega (arith, same, low)) in
       omega (arith, left_is, same)
 
-  pub left_in_time : length (left_after r jobs carry restarts (one ∷ old) k) ≤ n + suc i → length (left_after r jobs carry restarts (t ∷ (cycles ++ one ∷ old)) k) ≤ n
-  left_in_time enough = elim (cases_lt waits (m.0 + suc i)) [
+  pub left_later : (n : ℕ) → length (left_after r jobs carry restarts (one ∷ old) k) ≤ n + suc i
+      → length (left_after r jobs carry restarts (t ∷ (cycles ++ one ∷ old)) k) ≤ n
+  left_later n enough = elim (cases_lt waits (m.0 + suc i)) [
     | inl less ↦ let none = few waits (omega (arith, less)) (omega arith) in omega (arith, none)
     | inr more_wait ↦ let some = few (m.0 + suc i) (omega arith) (omega (arith, more_wait)) in let least = many in omega (arith, some, least, enough)
   ]
+
+  -- and i + 1 fewer than wait
+  pub left_waiting : (n : ℕ) → length ((looks_back r jobs (master_calls r carry restarts old)).waiting k) ≤ n + suc i
+      → length (left_after r jobs carry restarts (t ∷ (cycles ++ one ∷ old)) k) ≤ n
+  left_waiting n enough = elim (cases_lt waits (suc i)) [
+    | inl less ↦ let none = few waits (omega (arith, less)) (omega arith) in omega (arith, none)
+    | inr most ↦ let some = few (suc i) (omega arith) (omega (arith, most)) in omega (arith, some, enough)
+  ]
+
+-- So it is in undisturbed cycles.
+module _ (laws : Laws) (more : MoreLaws) (comes_up : (busy : ℕ) → ComesUp busy) (works : WorksInFour) (always : OpensAlways)
+    (said : SaysShape) (timed : ComesTimed) (recovers : (busy : ℕ) → RecoversInTime busy) (since : (busy : ℕ) → RecoversSince busy)
+    (no_stop : NoStopInFour) (r : RingView) (jobs : List Job) (carry : Carry) (restarts : Restarts) (opened : IsOpened r jobs) (k : ℕ)
+    (below : k < length r.drives) (t : CycleView) (cycles : List CycleView) (one : CycleView) (old : List CycleView)
+    (run : IsRun r jobs carry restarts (t ∷ (cycles ++ one ∷ old))) (clear : IsClear (t ∷ (cycles ++ one ∷ old)))
+    (on : AreOn r jobs carry restarts (t ∷ cycles) (one ∷ old)) (calm : AreUndisturbed r carry restarts cycles (one ∷ old))
+    (first : IsOn r jobs carry restarts one old) (one_four : one.phase ≡ 4) (four : t.phase ≡ 4) (n i : ℕ)
+    (long : suc i * request_cycles r k ≤ suc (length cycles)) where
+  pub left_in_time : length (left_after r jobs carry restarts (one ∷ old) k) ≤ n + suc i → length (left_after r jobs carry restarts (t ∷
+      (cycles ++ one ∷ old)) k) ≤ n
+  left_in_time enough = left_later laws more comes_up works r jobs carry restarts opened k below (IsOn r jobs carry restarts)
+      (going r jobs carry restarts)
+      (lasts_undisturbed laws more always said timed recovers since r jobs carry restarts opened k below) no_stop t cycles one old run
+      clear on first one_four four i long n enough
 
 -- THE REQUESTS ARE REPORTED IN TIME.
 module _ (laws : Laws) (more : MoreLaws) (turn : WorkInTurn) (comes_up : (busy : ℕ) → ComesUp busy) (late : (busy : ℕ) → NoneLate busy) (stand : (busy : ℕ) → StandsThroughout busy) (hear : (busy : ℕ) → HearsThroughout busy)
@@ -353,9 +441,6 @@ module _ (laws : Laws) (more : MoreLaws) (turn : WorkInTurn) (comes_up : (busy :
       (calm : AreUndisturbed r carry restarts (t ∷ cycles) before) (four : t.phase ≡ 4) (k : ℕ) (below : k < length r.drives) (n i : ℕ) (long : startup_bound r + suc i * request_cycles r k ≤ length cycles) where
     on_epoch : AreOn r jobs carry restarts (t ∷ cycles) before
     on_epoch = are_on laws more turn comes_up late r jobs carry restarts opened stand hear (t ∷ cycles) before run clear starts calm
-
-    waits_same : length ((behind_mdt r jobs carry restarts t.sent (cycles ++ before)).waiting k) ≡ length (waiting_after r jobs carry restarts before k)
-    waits_same = ap (λ (l : List Task). length l) (waits_now r jobs carry restarts t (cycles ++ before) on_epoch.1 k ∙ waits_along r jobs carry restarts cycles before on_epoch.0 k)
 
     some : 1 ≤ suc i * request_cycles r k
     some = let all = room (drive_at r k).busy (drive_at r k).command in let parts = one_time_more i (request_cycles r k) in omega (arith, all, parts)
@@ -376,57 +461,26 @@ module _ (laws : Laws) (more : MoreLaws) (turn : WorkInTurn) (comes_up : (busy :
     on_cut : AreOn r jobs carry restarts (t ∷ c.newer) (c.one ∷ (c.older ++ before))
     on_cut = (c.on, subst (λ (l : List CycleView). IsOn r jobs carry restarts t l) c.is on_epoch.1)
 
-    cut_run : IsRun r jobs carry restarts (c.one ∷ (c.older ++ before)) × IsClear (c.one ∷ (c.older ++ before))
-    cut_run = run_rest r jobs carry restarts (t ∷ c.newer) (c.one ∷ (c.older ++ before)) run_cut clear_cut
-
     one_four : c.one.phase ≡ 4
-    one_four = four_since laws more comes_up reaches no_stop r jobs carry restarts opened t c.newer c.one c.older before run_cut clear_cut on_cut c.on_older.1 starts c.calm (let is = later.1 in let rest = c.rest in omega (arith, is, rest)) four
-
-    ended : (x : ℕ) → x ≤ suc i → x ≤ length (waiting_after r jobs carry restarts before k) → reads_count (member (known_of r) k) + (13 + x) ≤ length (outcomes (behind_mdt r jobs carry restarts t.sent (cycles ++ before)) k)
-    ended x few low = subst (λ (l : List CycleView). reads_count (member (known_of r) k) + (13 + x) ≤ length (outcomes (behind_mdt r jobs carry restarts t.sent l) k)) (sym c.is)
-        (have_ended laws more comes_up works always said timed recovers since no_stop r jobs carry restarts opened k below c.one (c.older ++ before) c.on_older.1 one_four 0
-        (let many = ended_now laws more r jobs carry restarts opened k below comes_up works c.one (c.older ++ before) cut_run.0 cut_run.1 c.on_older.1 one_four in omega (arith, many))
-        (suc i) t c.newer run_cut clear_cut on_cut c.calm_newer (let is = later.1 in let count = c.long in omega (arith, is, count, long)) x (omega (arith, few))
-        (subst (λ (l : List Task). x ≤ length l) (sym (waits_along r jobs carry restarts c.older before c.on_older.0 k)) low))
-
-    left_now : (x : ℕ) → x ≤ suc i → x ≤ length (waiting_after r jobs carry restarts before k) → length (left_after r jobs carry restarts (t ∷ (cycles ++ before)) k) + x ≤ length (waiting_after r jobs carry restarts before k)
-    left_now x few low =
-        let same = waits_same in
-        let is = left_few laws more r jobs carry restarts opened k below comes_up works t (cycles ++ before) run clear on_epoch.1 four x (ended x few low) (omega (arith, same, low)) in omega (arith, same, is)
+    one_four = four_since laws more comes_up reaches no_stop r jobs carry restarts opened t c.newer c.one c.older before run_cut clear_cut
+        (goings r jobs carry restarts (t ∷ c.newer) (c.one ∷ (c.older ++ before)) on_cut) (going r jobs carry restarts c.one
+        (c.older ++ before) c.on_older.1) starts c.calm (let is = later.1 in let rest = c.rest in omega (arith, is, rest)) four
 
     pub left_in_epoch : length (waiting_after r jobs carry restarts before k) ≤ n + suc i → length (left_after r jobs carry restarts (t ∷ (cycles ++ before)) k) ≤ n
-    left_in_epoch enough = elim (cases_lt (length (waiting_after r jobs carry restarts before k)) (suc i)) [
-      | inl less ↦ let none = left_now (length (waiting_after r jobs carry restarts before k)) (omega (arith, less)) (omega arith) in omega (arith, none)
-      | inr most ↦ let few = left_now (suc i) (omega arith) (omega (arith, most)) in omega (arith, few, enough)
-    ]
+    left_in_epoch enough = subst (λ (l : List CycleView). length (left_after r jobs carry restarts (t ∷ l) k) ≤ n) (sym c.is)
+        (left_waiting laws more comes_up works r jobs carry restarts opened k below (IsOn r jobs carry restarts)
+        (going r jobs carry restarts)
+        (lasts_undisturbed laws more always said timed recovers since r jobs carry restarts opened k below) no_stop t c.newer c.one
+        (c.older ++ before) run_cut clear_cut on_cut c.on_older.1 one_four four i
+        (let is = later.1 in let count = c.long in omega (arith, is, count, long)) n
+        (subst (λ (l : List Task). length l ≤ n + suc i) (sym (waits_along r jobs carry restarts c.older before
+        (goings r jobs carry restarts c.older before c.on_older.0) k)) enough))
 
   pub reports_in_time : (t : CycleView) (cycles before : List CycleView) → IsRun r jobs carry restarts (t ∷ (cycles ++ before)) → IsClear (t ∷ (cycles ++ before)) → StartsEpoch r jobs carry restarts before → AreUndisturbed r carry restarts (t ∷ cycles) before
       → t.phase ≡ 4 → (k i : ℕ) (x : Task) → k < length r.drives → slice_get (waiting_after r jobs carry restarts before k) i ≡ Some x → startup_bound r + (i + 1) * request_cycles r k ≤ length cycles
       → (number : ℕ) × (x.number ≡ Some number) × HaveTold (t ∷ cycles) number
-  reports_in_time t cycles before run clear starts calm four k i x below got long = told_there (t ∷ cycles) is_told.numbers i x.number is_told.all (sym (get_left is_told.numbers (left_after r jobs carry restarts (t ∷ (cycles ++ before)) k) i early) ∙ ap (λ (l : List (Option ℕ)). slice_get l i) is ∙ there)
-    where
-      low : i < length (waiting_after r jobs carry restarts before k)
-      low = slice_get_within (waiting_after r jobs carry restarts before k) i x got
-
-      rest : (n : ℕ) × (length (waiting_after r jobs carry restarts before k) ≡ suc i + n)
-      rest = beyond (suc i) (length (waiting_after r jobs carry restarts before k)) (omega (arith, low))
-
-      is_told : IsTold laws more r jobs carry restarts opened k below (t ∷ cycles) before
-      is_told = told_since laws more r jobs carry restarts opened k below (t ∷ cycles) before run clear calm
-
-      is : is_told.numbers ++ left_after r jobs carry restarts (t ∷ (cycles ++ before)) k ≡ task_numbers (waiting_after r jobs carry restarts before k)
-      is = is_told.is ∙ left_first laws more r jobs carry restarts opened k below before starts
-
-      there : slice_get (task_numbers (waiting_after r jobs carry restarts before k)) i ≡ Some x.number
-      there = get_map (λ (y : Task). y.number) (waiting_after r jobs carry restarts before k) i ∙ ap (option_map (λ (y : Task). y.number)) got
-
-      few : length (left_after r jobs carry restarts (t ∷ (cycles ++ before)) k) ≤ rest.0
-      few = left_in_epoch t cycles before run clear starts calm four k below rest.0 i (let same = one_more_time i (request_cycles r k) in omega (arith, same, long)) (let count = rest.1 in omega (arith, count))
-
-      early : i < length is_told.numbers
-      early =
-          let all = ap (λ (l : List (Option ℕ)). length l) is in
-          let parts = length-append is_told.numbers (left_after r jobs carry restarts (t ∷ (cycles ++ before)) k) in
-          let numbers = numbers_long (waiting_after r jobs carry restarts before k) in
-          let count = rest.1 in
-          let least = few in omega (arith, least, count, all, parts, numbers)
+  reports_in_time t cycles before run clear starts calm four k i x below got long = told_if_few laws more r jobs carry restarts opened k
+      below (t ∷ cycles) before
+      (told_since laws more r jobs carry restarts opened k below (t ∷ cycles) before run clear calm) starts i x got
+      (λ n enough. left_in_epoch t cycles before run clear starts calm four k below n i (let same = one_more_time i
+      (request_cycles r k) in omega (arith, same, long)) enough)

@@ -1,5 +1,5 @@
 -- The bounds on the cycles of a start-up, of a refusal, of requests and of a recovery, as sums over the drives of a ring.
-use Rattle.std.specs.Prelude.{◌≡◌, ℕ, ◌+◌, ◌*◌, ◌≤◌, ◌⊎◌, List, [], ◌∷◌, ◌++◌, length, max, Some, slice_get}
+use Rattle.std.specs.Prelude.{◌≡◌, ℕ, ◌+◌, ◌*◌, ◌≤◌, ◌-◌, ◌⊎◌, List, [], ◌∷◌, ◌++◌, length, max, min, Some, slice_get}
 use Rattle.std.specs.List.{sum_by, sum}
 use Rattle.sercos_block.specs.Views.{DriveView, RingView}
 use Rattle.sercos_block.specs.Startup.{startup_bound}
@@ -80,6 +80,21 @@ IsBackAtOnce = (r : RingView) (lost cycle : ℕ) → cycle ≤ lost + startup_bo
 -- the longer of the two sections that a drive has in phase 2
 abbrev pub section_cycles : DriveView → ℕ
 section_cycles d = (d.busy + 1) * max (24 + 3 * listed d) (50 + listed d) + d.command
+
+-- the least of a number of each drive, and 0 without drives
+abbrev pub least : (DriveView → ℕ) → List DriveView → ℕ
+least f [] = 0
+least f (d ∷ []) = f d
+least f (d ∷ e ∷ drives) = min (f d) (least f (e ∷ drives))
+
+-- In how many cycles after the last disturbed one a ring falls, if it falls at all: a section of each drive but one, for which that of the
+-- drive with the least isn't counted, and 68 cycles more.
+abbrev pub fall_cycles : RingView → ℕ
+fall_cycles r = 68 + (sum_by section_cycles r.drives - least section_cycles r.drives)
+
+-- .. and in how many phase 4 is commanded, if the ring is right: a whole start-up follows the fall
+abbrev pub return_cycles : RingView → ℕ
+return_cycles r = fall_cycles r + startup_bound r
 
 abbrev pub AreSections : Type 0
 AreSections = (d : DriveView) → (read_cycles d ≤ section_cycles d) × (write_cycles d ≤ section_cycles d)

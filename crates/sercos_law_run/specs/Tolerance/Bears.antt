@@ -1,22 +1,28 @@
 -- What becomes of a ring while disturbed cycles are sparse. The newest cycle of a journal comes first.
-use Rattle.std.specs.Prelude.{◌≡◌, ◌⊎◌, ℕ, ◌+◌, ◌<◌, ◌≤◌, true, false, List, [], ◌∷◌, ◌++◌, length, Some}
+use Rattle.std.specs.Prelude.{◌≡◌, ◌⊎◌, ℕ, ◌+◌, ◌*◌, ◌<◌, ◌≤◌, true, false, List, [], ◌∷◌, ◌++◌, length, Some, slice_get}
 use Rattle.sercos_step.specs.declared.request.Job.{Job}
 use Rattle.sercos_block.specs.Startup.{startup_bound}
 use Rattle.sercos_block.specs.Views.{RingView}
 use Rattle.sercos_service_master.specs.Begun.{answers_it}
 use Rattle.sercos_trace.specs.Views.{CycleView}
 use Rattle.sercos_trace.specs.declared.events.Fall.{Fall}
+use Rattle.sercos_seat.specs.Ring.{Task}
 use Rattle.sercos_script.specs.Links.{Carry, Restarts}
 use Rattle.sercos_law_channel.specs.Handshake.Epochs.{epoch_begun}
 use Rattle.sercos_law_channel.specs.Handshake.Views.{Heard, View, standing, stood_in}
 use Rattle.sercos_law_channel.specs.Pace.Ages.{age_in}
 use Rattle.sercos_law_channel.specs.Pace.Passages.{IsUp}
+use Rattle.sercos_law_run.specs.Bounds.Bounds.{slowest}
 use Rattle.sercos_law_run.specs.Journal.Runs.{drive_at, IsClear, IsRun}
 use Rattle.sercos_law_run.specs.Views.RingViews.{view_of, views_of}
 use Rattle.sercos_law_run.specs.Held.Opened.{IsOpened}
 use Rattle.sercos_law_run.specs.Undisturbed.EpochStarts.{StartsEpoch}
+use Rattle.sercos_law_run.specs.Undisturbed.Reports.{HaveTold, request_cycles, waiting_after}
 use Rattle.sercos_law_run.specs.Undisturbed.StartUps.{TellsNoFall}
 use Rattle.sercos_law_run.specs.Undisturbed.StopsLater.{IsRight}
+use Rattle.sercos_law_run.specs.Tolerance.Ends.{IsUpOrStopped}
+use Rattle.sercos_law_run.specs.Tolerance.Many.{own_costs, slow_bound}
+use Rattle.sercos_law_run.specs.Tolerance.Reports.{cycles_in}
 use Rattle.sercos_law_run.specs.Tolerance.Rises.{start_costs}
 use Rattle.sercos_law_run.specs.Tolerance.Sparse.{AreSparse}
 
@@ -42,6 +48,10 @@ StandsNear v past = IsUp v past ⊎ IsBehind v past
 -- first cycle commanded this phase, if it missed the MST of it. No step is open for longer than the busy time of its drive and four cycles,
 -- or three in phases 3 and 4; and its answer arrives at most that long after the cycle in which it was begun, and first sent. If the ring
 -- is right, phase 4 is commanded once the bound of a start-up and the costs of the cycles so far have passed; and once commanded, it stays.
+-- However many cycles were disturbed, it is commanded once the bound of a start-up with each drive busy for one cycle more has passed, and
+-- ten cycles for each own MST that was lost in phase 0. From 41 steps of the slowest drive after either of these on, phase 4 is commanded,
+-- and the ring is right; or a stop for its cause has been reported in the epoch. Of the requests to a drive that waited when the epoch
+-- began, the one at place i, counted from 0, has been reported once phase 4 was commanded in i + 1 times the cycles of one request.
 pub record Bears (r : RingView) (jobs : List Job) (carry : Carry) (restarts : Restarts) (t : CycleView)
     (cycles before : List CycleView) : Type 0 where
   pub tells : TellsNoFall t
@@ -59,6 +69,13 @@ pub record Bears (r : RingView) (jobs : List Job) (carry : Carry) (restarts : Re
       age_in (views_of r jobs carry restarts k (cycles ++ before)) ≤ (drive_at r k).busy + 3
   pub rises : IsRight r → startup_bound r + start_costs r jobs carry restarts cycles before ≤ length cycles → t.phase ≡ 4
   pub stays : (u : CycleView) (older : List CycleView) → cycles ≡ u ∷ older → u.phase ≡ 4 → t.phase ≡ 4
+  pub rises_anyway : IsRight r → slow_bound r + own_costs r jobs carry restarts cycles before ≤ length cycles → t.phase ≡ 4
+  pub ends : startup_bound r + 41 * (slowest r.drives + 2) + start_costs r jobs carry restarts cycles before ≤ length cycles →
+      IsUpOrStopped r t cycles
+  pub ends_anyway : slow_bound r + 41 * (slowest r.drives + 2) + own_costs r jobs carry restarts cycles before ≤ length cycles →
+      IsUpOrStopped r t cycles
+  pub reports : (k i : ℕ) (x : Task) → k < length r.drives → slice_get (waiting_after r jobs carry restarts before k) i ≡ Some x →
+      (i + 1) * request_cycles r k ≤ cycles_in 4 cycles → (number : ℕ) × (x.number ≡ Some number) × HaveTold (t ∷ cycles) number
 
 -- THE RING BEARS SPARSE FAULTS. Take any point of a run at which phase 0 is commanded next, regardless of losses before it, if nothing is
 -- undetected. From there on, and as long as the disturbed cycles are sparse, the ring doesn't fall, and each cycle is so.

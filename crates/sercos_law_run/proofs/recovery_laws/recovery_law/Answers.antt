@@ -9,9 +9,14 @@ use Rattle.sercos_law_run.proofs.Recovery.FallsSoon.{falls_soon}
 use Rattle.sercos_law_run.proofs.Recovery.LateDown.{falls_if_down}
 use Rattle.sercos_law_run.proofs.Recovery.Limits.{ages_to_limit}
 use Rattle.sercos_law_run.proofs.Recovery.Predicts.{is_predicted}
-use Rattle.sercos_law_run.proofs.Recovery.Recovers.{recovers_in}
+use Rattle.sercos_law_run.proofs.Recovery.Returns.{recovers_in}
 use Rattle.sercos_law_run.proofs.Recovery.SpareStops.{falls_anyway}
 use Rattle.sercos_law_run.proofs.Recovery.Stretches.{ages_down_in, keeps_up, stays_down_in}
+use Rattle.sercos_law_run.proofs.Recovery.UpInThree.{lasts_with_list}
+use Rattle.sercos_law_run.proofs.Undisturbed.LaterStops.{ready_if_ended}
+use Rattle.sercos_law_run.proofs.Undisturbed.StartUpEnds.{ReadyIfEnded, inside}
+use Rattle.sercos_law_run.specs.Bounds.Bounds.{slowest}
+use Rattle.std.proofs.Common.{◌+◌, ◌*◌}
 use Rattle.sercos_law_run.proofs.recovery_laws.recovery_law.Goals as goal
 
 pub returns : goal.returns
@@ -87,6 +92,10 @@ returns c =
     let calm = c.undisturbed_law.ensures in
     let law = c.attribute_law.ensures in
     let said : SaysShape = λ b fits. shape-attribute b.attribute (law.small b.attribute fits) (law.sound b.attribute fits) (law.back b.attribute fits) in
+    let ready : ReadyIfEnded = λ r jobs carry restarts opened t j run clear k below none ended.
+    ready_if_ended laws more c.run_law.ensures.up c.parts_law.ensures.replies c.parts_law.ensures.transfers c.run_law.ensures.in_phase
+    c.run_law.ensures.epoch c.run_law.ensures.cycle c.stop_law.ensures.refused c.stop_law.ensures.check128 r jobs carry restarts opened t j
+    run clear k below (inside r k below) none ended in
     record {
       up_or_down = λ r jobs carry restarts cycles first before opened run clear stretch k below.
           keeps_up laws more c.agenda_law.ensures.turn r jobs carry restarts opened c.passage_law.ensures.down cycles first before run clear stretch k below;
@@ -106,16 +115,21 @@ returns c =
           falls_soon laws more c.agenda_law.ensures.turn c.run_law.ensures.up r jobs carry restarts opened c.cost_law.ensures.recovers c.cost_law.ensures.timed c.calls_law.ensures.before c.bound_law.ensures.greatest t cycles first before
           run clear stretch calm late up falls;
       comes_back = λ r jobs carry restarts t cycles first before opened run clear stretch late up long.
-          comes_back laws more c.agenda_law.ensures.turn c.agenda_law.ensures.none c.agenda_law.ensures.two c.agenda_law.ensures.three r jobs carry restarts opened c.passage_law.ensures.dead c.passage_law.ensures.ages c.calls_law.ensures.before
-          c.cost_law.ensures.recovers c.cost_law.ensures.since c.cost_law.ensures.timed c.bound_law.ensures.sections c.jobs_law.ensures.reads c.jobs_law.ensures.writes c.jobs_law.ensures.list_read c.bound_law.ensures.started
-          c.bound_law.ensures.greatest first before late up t cycles run clear stretch long;
+          comes_back laws more c.agenda_law.ensures.turn c.agenda_law.ensures.none c.agenda_law.ensures.two r jobs carry restarts opened
+          c.passage_law.ensures.dead c.passage_law.ensures.ages c.calls_law.ensures.before c.cost_law.ensures.recovers
+          c.cost_law.ensures.since c.cost_law.ensures.timed c.bound_law.ensures.sections c.jobs_law.ensures.reads c.jobs_law.ensures.writes
+          c.bound_law.ensures.started c.bound_law.ensures.greatest first before late up (41 * (slowest r.drives + 2))
+          (lasts_with_list laws more c.agenda_law.ensures.turn c.agenda_law.ensures.none c.agenda_law.ensures.three r jobs carry restarts
+          opened c.cost_law.ensures.since c.cost_law.ensures.timed c.jobs_law.ensures.list_read c.bound_law.ensures.greatest)
+          t cycles run clear stretch long;
       after_fall = after_fall calm.fall calm.restart calm.tells calm.rises calm.fit calm.own calm.at_end calm.outcome calm.ages calm.answers calm.reports calm.stays;
       predicts = λ r jobs carry restarts t j opened run clear.
           is_predicted laws more c.agenda_law.ensures.none calm.stops_two calm.stops_three calm.none_four calm.fit calm.own r jobs carry restarts opened t j run clear;
       recovers = λ r jobs carry restarts t j opened run clear.
           recovers_in laws more c.agenda_law.ensures.turn c.agenda_law.ensures.none c.agenda_law.ensures.two c.agenda_law.ensures.three c.run_law.ensures.up r jobs carry restarts opened c.passage_law.ensures.dead c.passage_law.ensures.ages
           c.calls_law.ensures.before c.cost_law.ensures.recovers c.cost_law.ensures.since c.cost_law.ensures.timed c.bound_law.ensures.sections c.jobs_law.ensures.reads c.jobs_law.ensures.writes c.jobs_law.ensures.list_read c.bound_law.ensures.started
-          c.bound_law.ensures.greatest c.bound_law.ensures.later calm.stops_two calm.stops_three calm.none_four calm.fit calm.own calm.outcome calm.stays calm.fall
+          c.bound_law.ensures.greatest calm.stops_two calm.stops_three calm.none_four calm.fit calm.own calm.outcome calm.rises ready
+          calm.stays calm.fall
           (after_fall calm.fall calm.restart calm.tells calm.rises calm.fit calm.own calm.at_end calm.outcome calm.ages calm.answers calm.reports calm.stays)
           c.agenda_law.ensures.four c.stretch_law.ensures.always said c.passage_law.ensures.recovers c.calls_law.ensures.late c.passage_law.ensures.throughout c.passage_law.ensures.hears calm.four t j run clear;
     }

@@ -1,6 +1,6 @@
 use Rattle.std.proofs.Common.{refl}
 use Rattle.sercos_ring.specs.Kept.{IsNextOf, newest}
-use Rattle.sercos_ring.proofs.LentRecords.{next_lent, keeps_lent, starts_lent, recovers_lent, bears_lent, stations_lent}
+use Rattle.sercos_ring.proofs.LentRecords.{next_lent, keeps_lent, starts_lent, recovers_lent, bears_lent, returns_lent, stations_lent}
 use Rattle.sercos_ring.proofs.ring.Ring.cycle.Goals as goal
 
 pub returns : goal.returns
@@ -15,6 +15,7 @@ returns g c =
         undisturbed = starts_lent g.L.BitLink.carry g.L.BitLink.restart c.args.self.now c.deref.result.now c.cycle_laws.ensures.undisturbed next;
         recovers = recovers_lent g.L.BitLink.carry g.L.BitLink.restart c.args.self.now c.deref.result.now c.cycle_laws.ensures.recovers next;
         bears = bears_lent g.L.BitLink.carry g.L.BitLink.restart c.args.self.now c.deref.result.now c.cycle_laws.ensures.bears next;
+        returns = returns_lent g.L.BitLink.carry g.L.BitLink.restart c.args.self.now c.deref.result.now c.cycle_laws.ensures.returns next;
         stations = stations_lent g.L.BitLink.carry g.L.BitLink.restart c.args.self.now c.deref.result.now c.cycle_laws.ensures.plain c.cycle_laws.ensures.falls c.cycle_laws.ensures.alone next;
       },
     )

@@ -1,0 +1,269 @@
+-- How long steps in a row take on a channel, if no two cycles in a row lose a record or an answer.
+use Rattle.std.proofs.Common.{◌≡◌, ◌⊎◌, inl, inr, ℕ, suc, ◌+◌, ◌*◌, ◌<◌, ◌≤◌, Bool, true, false, if◌then◌else◌, List, [], ◌∷◌, ◌++◌, length, Option, None, sym, ap, ◌∙◌, subst, arith}
+use Rattle.std.specs.Prelude.{◌==◌, is_some}
+use Rattle.std.proofs.lemmas.Bool.{cases_lt, false≢true}
+use Rattle.sercos_step.specs.declared.request.Request.{Request}
+use Rattle.sercos_step.specs.declared.step.Step.{Step}
+use Rattle.sercos_step.proofs.AnswerCounts.{times_le}
+use Rattle.sercos_block.specs.Stores.{IsStore}
+use Rattle.sercos_block.specs.declared.block.Block.{Block}
+use Rattle.sercos_service_drive.specs.Log.{Entry}
+use Rattle.sercos_service_master.specs.Begun.{Begun, answers_in, open_in, steps_in}
+use Rattle.sercos_law_channel.specs.Handshake.Epochs.{begun_in, epoch_begun, epoch_log, epoch_taken, unless_restart}
+use Rattle.sercos_law_channel.specs.Handshake.InStep.{AreInStep, Idle, Kept, Sent}
+use Rattle.sercos_law_channel.specs.Handshake.Runs.{IsRun}
+use Rattle.sercos_law_channel.specs.Handshake.Views.{View}
+use Rattle.sercos_law_channel.specs.Handshake.WholeRun.{AreSmall, AreSound}
+use Rattle.sercos_law_channel.specs.Pace.Ages.{age_by, age_in}
+use Rattle.sercos_law_channel.specs.Pace.Costs.{AreListed, AreTimed, cost_of}
+use Rattle.sercos_law_channel.proofs.Theorems.{in_step, length-replies_of, length-steps_of}
+use Rattle.sercos_law_channel.proofs.Pace.CostRuns.{stays_in_cost_since}
+use Rattle.sercos_law_channel.proofs.Pace.LateRuns.{head_before, taken_before}
+use Rattle.sercos_law_run.proofs.Undisturbed.OneRequest.{room, steps_few, times_sum}
+use Rattle.sercos_law_run.proofs.Undisturbed.RefusedRuns.{SaysShape}
+use Rattle.sercos_law_run.proofs.Undisturbed.ToldInTime.{beyond}
+use Rattle.sercos_law_run.proofs.Tolerance.Steps.{IsYoung, answers_more, begun_is, grows, never_some, same_head}
+
+-- WHERE A STEP IS: none is open; one is, which the drive hasn't accepted; or one that it has accepted, and that has no answer.
+pub data StandsSo (begun : List Begun) (log : List Entry) : Type 0 where
+  Rests : open_in begun ≡ None → length (answers_in begun) ≡ length log → StandsSo begun log
+  New : is_some (open_in begun) ≡ true → length (steps_in begun) ≡ suc (length log) → length (answers_in begun) ≡ length log
+      → StandsSo begun log
+  Waits : (e : Entry) (rest : List Entry) → log ≡ e ∷ rest → is_some (open_in begun) ≡ true → length (steps_in begun) ≡ length log
+      → suc (length (answers_in begun)) ≡ length log → StandsSo begun log
+
+pub stands_so : (begun : List Begun) (log : List Entry) → AreInStep begun log → StandsSo begun log
+stands_so begun log (Idle none s a) = Rests none (ap length a ∙ length-replies_of log)
+stands_so begun log (Sent step opened s a) = New (ap (λ (o : Option Step). is_some o) opened)
+    (ap length s ∙ ap (λ (n : ℕ). suc n) (length-steps_of log)) (ap length a ∙ length-replies_of log)
+stands_so begun log (Kept e past opened those s a) = Waits e past those (ap (λ (o : Option Step). is_some o) opened)
+    (ap length s ∙ length-steps_of log) (ap (λ (n : ℕ). suc n) (ap length a ∙ length-replies_of past) ∙ sym (ap length those))
+
+-- the answers are at most the accepted steps, and these at most those begun
+pub few_answers : (begun : List Begun) (log : List Entry) → StandsSo begun log → length (answers_in begun) ≤ length log
+few_answers begun log (Rests none a) = omega (arith, a)
+few_answers begun log (New on s a) = omega (arith, a)
+few_answers begun log (Waits e rest those on s a) = omega (arith, a)
+
+pub few_accepted : (begun : List Begun) (log : List Entry) → AreInStep begun log → length log ≤ length (steps_in begun)
+few_accepted begun log (Idle none s a) = let long = ap length s ∙ length-steps_of log in omega (arith, long)
+few_accepted begun log (Sent step opened s a) = let long = ap length s ∙ ap (λ (n : ℕ). suc n) (length-steps_of log) in omega (arith, long)
+few_accepted begun log (Kept e past opened those s a) = let long = ap length s ∙ length-steps_of log in omega (arith, long)
+
+-- an open step is a cycle old at least
+aged_by : (on same : Bool) (n : ℕ) → on ≡ true → 1 ≤ age_by on same n
+aged_by true true n is = omega arith
+aged_by true false n is = omega arith
+aged_by false same n is = absurd (false≢true is)
+
+pub open_aged : (all : List View) → is_some (open_in (epoch_begun all)) ≡ true → 1 ≤ age_in all
+open_aged [] some = absurd (false≢true some)
+open_aged (v ∷ past) some = by v.falls some
+  where
+    by : (falls : Bool) → is_some (open_in (if falls then [] else begun_in v past)) ≡ true
+        → 1 ≤ (if falls then 0 else age_by (is_some (open_in (begun_in v past)))
+        (length (steps_in (begun_in v past)) == length (steps_in (unless_restart v (epoch_begun past)))) (age_in past))
+    by true is = absurd (false≢true is)
+    by false is = aged_by (is_some (open_in (begun_in v past)))
+        (length (steps_in (begun_in v past)) == length (steps_in (unless_restart v (epoch_begun past)))) (age_in past) is
+
+-- A step that waits for its answer waited in the cycle before, or was accepted in this one.
+pub waits_from : (busy : ℕ) (v : View) (past : List View) → IsRun busy (v ∷ past) → v.falls ≡ false → v.master_restarts ≡ false
+    → (e : Entry) (rest : List Entry) → epoch_log (v ∷ past) ≡ e ∷ rest
+    → suc (length (answers_in (epoch_begun (v ∷ past)))) ≡ length (epoch_log (v ∷ past))
+    → ((length (epoch_log (v ∷ past)) ≡ length (epoch_log past)) × (epoch_log past ≡ e ∷ rest)
+    × (suc (length (answers_in (epoch_begun past))) ≡ length (epoch_log past)))
+    ⊎ ((length (epoch_log (v ∷ past)) ≡ suc (length (epoch_log past))) × (e.taken.cycle ≡ length past))
+waits_from busy v past run stays goes_on e rest those a = elim (grows busy v past run stays goes_on) [
+  | inl same ↦ inl (ap length same, sym same ∙ those, by same (stands_so (epoch_begun past) (epoch_log past) (in_step busy past run.0)))
+  | inr (x, more, cycle) ↦ inr (
+    ap length more,
+    same_head busy v past run stays goes_on e x rest (epoch_log past) (sym those ∙ more)
+        ∙ cycle,
+  )
+]
+  where
+    by : epoch_log (v ∷ past) ≡ epoch_log past → StandsSo (epoch_begun past) (epoch_log past)
+        → suc (length (answers_in (epoch_begun past))) ≡ length (epoch_log past)
+    by same (Rests none b) = let long = ap length same in let least = answers_more busy v past run stays goes_on in
+        absurd (omega (arith, a, b, long, least))
+    by same (New on s b) = let long = ap length same in let least = answers_more busy v past run stays goes_on in
+        absurd (omega (arith, a, b, long, least))
+    by same (Waits f older those_then on s b) = b
+
+-- the log grows by one entry at most
+pub grows_one : (busy : ℕ) (v : View) (past : List View) → IsRun busy (v ∷ past) → v.falls ≡ false → v.master_restarts ≡ false
+    → length (epoch_log past) ≤ length (epoch_log (v ∷ past))
+grows_one busy v past run stays goes_on = elim (grows busy v past run stays goes_on) [
+  | inl same ↦ (let long = ap length same in omega (arith, long))
+  | inr (x, more, cycle) ↦ (let long = ap length more in omega (arith, long))
+]
+
+module _ (busy : ℕ) where
+  -- A CYCLE OF A ROW: the master neither falls nor restarts, a step is open at the end, and nothing is late; or something is, and nothing
+  -- was at the end of the cycle before.
+  pub record IsInARow (v : View) (past : List View) : Type 0 where
+    pub stays : v.falls ≡ false
+    pub goes_on : v.master_restarts ≡ false
+    pub opens : is_some (open_in (begun_in v past)) ≡ true
+    pub spared : IsYoung busy 0 0 (v ∷ past) ⊎ (IsYoung busy 1 1 (v ∷ past) × IsYoung busy 0 0 past)
+
+  abbrev pub AreInARow : List View → List View → Type 0
+  AreInARow [] past = Unit {0}
+  AreInARow (v ∷ cycles) past = AreInARow cycles past × IsInARow v (cycles ++ past)
+
+  few : (n k : ℕ) → n ≤ k → (busy + 2) * n ≤ (busy + 2) * k
+  few n k le = times_le (busy + 2) n k le
+
+  more : (n : ℕ) → (busy + 2) * suc n ≡ (busy + 2) * n + (busy + 2)
+  more n = grind arith
+
+  -- The cycles spent, by the steps accepted; where none is open; and where one waits for its answer, by the cycles since it was accepted.
+  pub record IsPaced (spent base : ℕ) (all : List View) : Type 0 where
+    pub total : spent ≤ base + (busy + 2) * length (epoch_log all) + 1
+    pub rests : open_in (epoch_begun all) ≡ None → spent ≤ base + (busy + 2) * length (epoch_log all)
+    pub waits : (e : Entry) (rest : List Entry) → epoch_log all ≡ e ∷ rest → suc (length (answers_in (epoch_begun all))) ≡ length
+        (epoch_log all)
+        → spent + e.taken.cycle + (busy + 2) ≤ base + (busy + 2) * length (epoch_log all) + length all + 1
+
+  -- ONE CYCLE MORE
+  module _ (spent base : ℕ) (v : View) (past : List View) (run : IsRun busy (v ∷ past)) (row : IsInARow v past)
+      (is : IsPaced spent base past) where
+    then_ : StandsSo (epoch_begun past) (epoch_log past)
+    then_ = stands_so (epoch_begun past) (epoch_log past) (in_step busy past run.0)
+
+    now : StandsSo (epoch_begun (v ∷ past)) (epoch_log (v ∷ past))
+    now = stands_so (epoch_begun (v ∷ past)) (epoch_log (v ∷ past)) (in_step busy (v ∷ past) run)
+
+    opens_now : is_some (open_in (epoch_begun (v ∷ past))) ≡ true
+    opens_now = ap (λ (l : List Begun). is_some (open_in l)) (begun_is busy v past run row.stays row.goes_on) ∙ row.opens
+
+    product : (busy + 2) * length (epoch_log past) ≤ (busy + 2) * length (epoch_log (v ∷ past))
+    product = few (length (epoch_log past)) (length (epoch_log (v ∷ past))) (grows_one busy v past run row.stays row.goes_on)
+
+    -- a step that the drive hasn't accepted: nothing was late at the end of the cycle before
+    new_next : length (steps_in (epoch_begun (v ∷ past))) ≡ suc (length (epoch_log (v ∷ past)))
+        → suc spent ≤ base + (busy + 2) * length (epoch_log (v ∷ past)) + 1
+    new_next steps = elim row.spared [
+      | inl y ↦ (let young = y.new opens_now steps in let old = open_aged (v ∷ past) opens_now in absurd (omega (arith, young, old)))
+      | inr both ↦ by both.1 then_
+    ]
+      where
+        by : IsYoung busy 0 0 past → StandsSo (epoch_begun past) (epoch_log past)
+            → suc spent ≤ base + (busy + 2) * length (epoch_log (v ∷ past)) + 1
+        by y (Rests none a) = let before = is.rests none in let least = product in omega (arith, before, least)
+        by y (New on s a) = let young = y.new on s in let old = open_aged past on in absurd (omega (arith, young, old))
+        by y (Waits e rest those on s a) =
+            let late = (y.old e rest those on s).1 in
+            let before = is.waits e rest those a in
+            let least = product in omega (arith, late, before, least)
+
+    waits_next : (e : Entry) (rest : List Entry) → epoch_log (v ∷ past) ≡ e ∷ rest
+        → suc (length (answers_in (epoch_begun (v ∷ past)))) ≡ length (epoch_log (v ∷ past))
+        → suc spent + e.taken.cycle + (busy + 2) ≤ base + (busy + 2) * length (epoch_log (v ∷ past)) + suc (length past) + 1
+    waits_next e rest those a = elim (waits_from busy v past run row.stays row.goes_on e rest those a) [
+      | inl (long, same, waited) ↦ (
+          let before = is.waits e rest same waited in
+          let product_is = ap (λ (n : ℕ). (busy + 2) * n) long in omega (arith, before, product_is))
+      | inr (long, cycle) ↦ (
+          let before = is.total in
+          let product_is = ap (λ (n : ℕ). (busy + 2) * n) long in
+          let up = more (length (epoch_log past)) in omega (arith, before, product_is, up, cycle))
+    ]
+
+    -- a step that waits was accepted no longer ago than this
+    not_late : (e : Entry) (rest : List Entry) → epoch_log (v ∷ past) ≡ e ∷ rest
+        → length (steps_in (epoch_begun (v ∷ past))) ≡ length (epoch_log (v ∷ past))
+        → suc (length past) ≤ e.taken.cycle + (busy + 1) + 1
+    not_late e rest those s = elim row.spared [
+      | inl y ↦ (let late = (y.old e rest those opens_now s).1 in omega (arith, late))
+      | inr both ↦ (let late = (both.0.old e rest those opens_now s).1 in omega (arith, late))
+    ]
+
+    total_next : suc spent ≤ base + (busy + 2) * length (epoch_log (v ∷ past)) + 1
+    total_next = by now
+      where
+        by : StandsSo (epoch_begun (v ∷ past)) (epoch_log (v ∷ past)) → suc spent ≤ base + (busy + 2) * length (epoch_log (v ∷ past)) + 1
+        by (Rests none a) = absurd (never_some (open_in (epoch_begun (v ∷ past))) none opens_now)
+        by (New on s a) = new_next s
+        by (Waits e rest those on s a) = let waits = waits_next e rest those a in let late = not_late e rest those s in
+            omega (arith, waits, late)
+
+    pub paced_next : IsPaced (suc spent) base (v ∷ past)
+    paced_next = record {
+      total = total_next;
+      rests = λ none. absurd (never_some (open_in (epoch_begun (v ∷ past))) none opens_now);
+      waits = waits_next;
+    }
+
+  -- a row from its start on
+  at_first : (past : List View) → IsRun busy past → IsPaced (0 + (busy + 2) * length (answers_in (epoch_begun past))) 0 past
+  at_first past run = record {
+    total = let le = all in omega (arith, le);
+    rests = λ none. let le = all in omega (arith, le);
+    waits = λ e rest those a.
+        let less = head_before (length past) (epoch_taken past) (taken_before past) e rest those in
+        let long = ap (λ (n : ℕ). (busy + 2) * n) (sym a) in
+        let up = more (length (answers_in (epoch_begun past))) in omega (arith, less, long, up);
+  }
+    where
+      all : (busy + 2) * length (answers_in (epoch_begun past)) ≤ (busy + 2) * length (epoch_log past)
+      all = few (length (answers_in (epoch_begun past))) (length (epoch_log past))
+          (few_answers (epoch_begun past) (epoch_log past) (stands_so (epoch_begun past) (epoch_log past) (in_step busy past run)))
+
+  are_paced : (cycles past : List View) → IsRun busy (cycles ++ past) → AreInARow cycles past
+      → IsPaced (length cycles + (busy + 2) * length (answers_in (epoch_begun past))) 0 (cycles ++ past)
+  are_paced [] past run row = at_first past run
+  are_paced (v ∷ cycles) past run row =
+      let same : suc (length cycles + (busy + 2) * length (answers_in (epoch_begun past))) ≡ suc (length cycles) + (busy + 2) * length
+      (answers_in (epoch_begun past)) = omega arith in
+      subst (λ (n : ℕ). IsPaced n 0 (v ∷ (cycles ++ past))) same
+      (paced_next (length cycles + (busy + 2) * length (answers_in (epoch_begun past))) 0 v (cycles ++ past) run row.1
+      (are_paced cycles past run.0 row.0))
+
+-- ONE REQUEST, which was begun after all others had ended: a row in which they have had all their answers before has fewer cycles than this
+-- profile gives a request.
+half : (busy d time : ℕ) → (busy + 1) * d ≤ time + 4 * (busy + 1) + 0 → (busy + 2) * d + 1 < (busy + 2) * (520 + time)
+half busy d time cost = omega (arith, cost)
+
+pub row_lasts : SaysShape → (busy time : ℕ) (blocks : List Block) → AreSmall blocks → IsStore blocks → (cycles past : List View) (b : Begun)
+    (old : List Begun) → IsRun busy (cycles ++ past) → AreSound blocks (cycles ++ past) → AreTimed time (cycles ++ past)
+    → AreListed (λ raw. 512) (cycles ++ past) → AreInARow busy cycles past → epoch_begun (cycles ++ past) ≡ b ∷ old → open_in old ≡ None
+    → length (answers_in old) ≤ length (answers_in (epoch_begun past)) → length cycles < (busy + 2) * (520 + time)
+row_lasts said busy time blocks small store cycles past b old run sound timed listed row split shut few_old = elim (steps_few said busy time
+    blocks small store (cycles ++ past) run sound b old split shut) [
+      | inl steps ↦ by_steps steps
+      | inr (idn, asks) ↦ by_cost (ap (λ (q : Request). cost_of busy time (λ raw. 512) blocks q + 0) asks)
+    ]
+  where
+    total : length cycles + (busy + 2) * length (answers_in (epoch_begun past)) ≤ (busy + 2) * length (epoch_log (cycles ++ past)) + 1
+    total = let is = (are_paced busy cycles past run row).total in omega (arith, is)
+
+    by_steps : length (steps_in (epoch_begun (cycles ++ past))) ≤ 518 + length (answers_in old) → length cycles < (busy + 2) * (520 + time)
+    by_steps steps =
+        let accepted = few_accepted (epoch_begun (cycles ++ past)) (epoch_log (cycles ++ past)) (in_step busy (cycles ++ past) run) in
+        let most = times_le (busy + 2) (length (epoch_log (cycles ++ past))) (518 + length (answers_in (epoch_begun past)))
+        (omega (arith, accepted, steps, few_old)) in
+        let sum = times_sum (busy + 2) 518 (length (answers_in (epoch_begun past))) in
+        let all = room busy time in
+        let is = total in omega (arith, most, sum, all, is)
+
+    by_cost : cost_of busy time (λ raw. 512) blocks b.request + 0 ≡ time + 4 * (busy + 1) + 0 → length cycles < (busy + 2) * (520 + time)
+    by_cost cost_is = elim (cases_lt (length (epoch_log (cycles ++ past))) (length (answers_in old))) [
+      | inl less ↦ (
+          let most = times_le (busy + 2) (length (epoch_log (cycles ++ past))) (length (answers_in (epoch_begun past))) (omega
+          (arith, less, few_old)) in
+          let all = room busy time in
+          let is = total in omega (arith, most, all, is))
+      | inr enough ↦ by_more (beyond (length (answers_in old)) (length (epoch_log (cycles ++ past))) enough)
+    ]
+      where
+        by_more : (d : ℕ) × (length (epoch_log (cycles ++ past)) ≡ length (answers_in old) + d) → length cycles < (busy + 2) * (520 + time)
+        by_more (d, is) =
+            let le = stays_in_cost_since said busy time (λ raw. 512) blocks small (cycles ++ past)
+            (b ∷ []) old run sound timed listed split shut in
+            let one = ap (λ (n : ℕ). (busy + 1) * n) is ∙ times_sum (busy + 1) (length (answers_in old)) d in
+            let two = ap (λ (n : ℕ). (busy + 2) * n) is ∙ times_sum (busy + 2) (length (answers_in old)) d in
+            let older = times_le (busy + 2) (length (answers_in old)) (length (answers_in (epoch_begun past))) few_old in
+            let fits = half busy d time (omega (arith, le, one, cost_is)) in
+            let all = total in omega (arith, two, older, fits, all)

@@ -1,0 +1,178 @@
+-- How long phases 0 and 1 last while disturbed cycles are sparse, however many they are.
+use Rattle.std.proofs.Common.{◌≡◌, inl, inr, ℕ, suc, ◌+◌, ◌*◌, ◌≤◌, Bool, true, false, List, [], ◌∷◌, ◌++◌, length, refl, sym, ap, ◌∙◌, arith, if◌then◌else◌}
+use Rattle.std.specs.Prelude.{◌==◌}
+use Rattle.std.proofs.lemmas.Bool.{cases_eq, cond-false}
+use Rattle.std.proofs.lemmas.Bool.Decides.{nat_tests}
+use Rattle.sercos_step.specs.declared.request.Job.{Job}
+use Rattle.sercos_block.specs.Views.{RingView}
+use Rattle.sercos_trace.specs.Views.{CycleView}
+use Rattle.sercos_seat.specs.Ring.{known_of}
+use Rattle.sercos_master.specs.Annals.{Past, has_identified, is_done}
+use Rattle.sercos_script.specs.Links.{Carry, Restarts}
+use Rattle.sercos_law_channel.specs.Handshake.RunLaws.{ComesToZero, ComesUp}
+use Rattle.sercos_law_channel.specs.Pace.ChannelCalls.{AgesBeforeEnd, StaysARun}
+use Rattle.sercos_law_run.specs.Journal.Runs.{is_disturbed_in, looks_back, master_calls, IsClear, IsDisturbed, IsRun}
+use Rattle.sercos_law_run.specs.Agenda.Turns.{WorkInTurn}
+use Rattle.sercos_law_run.specs.Views.RingViews.{behind_mdt, behind_mst}
+use Rattle.sercos_law_run.proofs.Views.Members.{members_count}
+use Rattle.sercos_law_run.specs.Held.Opened.{IsOpened}
+use Rattle.sercos_law_run.proofs.Held.Runs.{Laws}
+use Rattle.sercos_law_run.proofs.Headline.HeadlineRuns.{MoreLaws}
+use Rattle.sercos_law_run.specs.Undisturbed.EpochStarts.{StartsEpoch}
+use Rattle.sercos_law_run.specs.Undisturbed.Undisturbed.{IsUndisturbed}
+use Rattle.sercos_law_run.specs.Tolerance.Early.{early_costs}
+use Rattle.sercos_law_run.specs.Tolerance.Many.{own_costs}
+use Rattle.sercos_law_run.specs.Tolerance.Sparse.{AreCalm, AreSparse}
+use Rattle.sercos_law_run.proofs.Tolerance.Borne.{IsBorne, all_borne, calm_or_not}
+use Rattle.sercos_law_run.proofs.Tolerance.EarlySparse.{count_all, count_most, known, known_after, one_more, one_phase, phase_is, phase_next, risen, ten_unless, zero_cost, zero_phase}
+
+-- what a cycle costs by its phase
+abbrev own_by : ℕ → Bool → ℕ
+own_by n whole = if n == 0 then (if whole then 0 else 10) else 0
+
+own_zero : (n : ℕ) (whole : Bool) → n ≡ 0 → own_by n whole ≡ ten_unless whole
+own_zero n whole is = ap (λ (m : ℕ). own_by m whole) is
+
+pub own_none : (n : ℕ) (whole : Bool) → 1 ≤ n → own_by n whole ≡ 0
+own_none n whole some =
+    let off : (n == 0) ≡ false = grind (arith, nat_tests, some) in cond-false (n == 0) (if whole then 0 else 10) 0 off
+
+module _ (laws : Laws) (more : MoreLaws) (turn : WorkInTurn) (comes_up : (busy : ℕ) → ComesUp busy)
+    (to_zero : (busy : ℕ) → ComesToZero busy)
+    (goes : (busy : ℕ) → StaysARun busy) (counts : (busy : ℕ) → AgesBeforeEnd busy)
+    (r : RingView) (jobs : List Job) (carry : Carry) (restarts : Restarts) (opened : IsOpened r jobs) where
+  abbrev back : List CycleView → Past
+  back j = looks_back r jobs (master_calls r carry restarts j)
+
+  abbrev Borne : CycleView → List CycleView → Type 0
+  Borne t j = IsBorne laws more turn comes_up to_zero goes counts r jobs carry restarts opened t j
+
+  abbrev done_in : CycleView → List CycleView → Bool
+  done_in u j = is_done (known_of r) (behind_mdt r jobs carry restarts u.sent j)
+
+  abbrev found : List CycleView → ℕ
+  found j = known laws more turn comes_up to_zero goes counts r jobs carry restarts opened (back j).turns
+
+  borne : (t : CycleView) (cycles before : List CycleView) → IsRun r jobs carry restarts (t ∷ (cycles ++ before))
+      → IsClear (t ∷ (cycles ++ before)) → StartsEpoch r jobs carry restarts before → AreSparse r carry restarts (t ∷ cycles) before
+      → Borne t (cycles ++ before)
+  borne t cycles before run clear starts sparse = all_borne laws more turn comes_up to_zero goes counts r jobs carry restarts opened t
+      cycles before run clear starts sparse
+
+  -- in phase 0 the costs are those of the own MSTs
+  zero_costs : (t : CycleView) (cycles before : List CycleView) → IsRun r jobs carry restarts (t ∷ (cycles ++ before))
+      → IsClear (t ∷ (cycles ++ before)) → StartsEpoch r jobs carry restarts before → AreSparse r carry restarts (t ∷ cycles) before
+      → t.phase ≡ 0 → early_costs r jobs carry restarts (t ∷ cycles) before ≡ own_costs r jobs carry restarts (t ∷ cycles) before
+  zero_costs t [] before run clear starts sparse t_zero =
+      let a = zero_cost t.phase (behind_mst r jobs carry restarts t.sent before).now.whole
+      (is_disturbed_in r carry restarts (length before) t.sent) t_zero in
+      let b = own_zero t.phase (behind_mst r jobs carry restarts t.sent before).now.whole t_zero in omega (arith, a, b)
+  zero_costs t (u ∷ cycles) before run clear starts sparse t_zero =
+      let is = borne t (u ∷ cycles) before run clear starts sparse in
+      let was = borne u cycles before run.0 clear.0 starts sparse.0 in
+      let u_zero = zero_phase (done_in u (cycles ++ before)) u.phase
+      (sym (phase_next laws more turn comes_up to_zero goes counts r jobs carry restarts opened u (cycles ++ before) run.0 was)
+      ∙ sym (phase_is laws more turn comes_up to_zero goes counts r jobs carry restarts opened t (u ∷ (cycles ++ before)) run is)
+      ∙ t_zero) in
+      let rest = zero_costs u cycles before run.0 clear.0 starts sparse.0 u_zero in
+      let a = zero_cost t.phase (behind_mst r jobs carry restarts t.sent (u ∷ (cycles ++ before))).now.whole
+      (is_disturbed_in r carry restarts (length (u ∷ (cycles ++ before))) t.sent) t_zero in
+      let b = own_zero t.phase (behind_mst r jobs carry restarts t.sent (u ∷ (cycles ++ before))).now.whole t_zero in omega
+      (arith, rest, a, b)
+
+  -- PHASE 1: three cycles for each drive that is identified, and up to two since a disturbed one
+  record IsInOne (t : CycleView) (j : List CycleView) (len own identified : ℕ) : Type 0 where
+    any : len ≤ 13 + own + 3 * identified
+    lost : IsDisturbed r carry restarts t j → len ≤ 12 + own + 3 * identified
+    calm : IsUndisturbed r carry restarts t j → AreCalm r carry restarts 1 j → len ≤ 11 + own + 3 * identified
+
+  in_one : (t : CycleView) (cycles before : List CycleView) → IsRun r jobs carry restarts (t ∷ (cycles ++ before))
+      → IsClear (t ∷ (cycles ++ before)) → StartsEpoch r jobs carry restarts before → AreSparse r carry restarts (t ∷ cycles) before
+      → t.phase ≡ 1 → IsInOne t (cycles ++ before) (suc (length cycles)) (own_costs r jobs carry restarts (t ∷ cycles) before) (found
+      (t ∷ (cycles ++ before)))
+  in_one t [] before run clear starts sparse one =
+      let is = borne t [] before run clear starts sparse in
+      let none : t.phase ≡ 0 = phase_is laws more turn comes_up to_zero goes counts r jobs carry restarts opened t before run is ∙ starts in
+      absurd (omega (arith, none, one))
+  in_one t (u ∷ cycles) before run clear starts sparse one =
+      elim (one_phase (done_in u (cycles ++ before)) u.phase
+      (sym (phase_next laws more turn comes_up to_zero goes counts r jobs carry restarts opened u (cycles ++ before) run.0 was)
+      ∙ sym (phase_is laws more turn comes_up to_zero goes counts r jobs carry restarts opened t (u ∷ (cycles ++ before)) run is) ∙ one)) [
+        | inl first ↦ by_first first.1
+        | inr later ↦ by_later later.0 later.1 (in_one u cycles before run.0 clear.0 starts sparse.0 later.1)
+      ]
+    where
+      was : Borne u (cycles ++ before)
+      was = borne u cycles before run.0 clear.0 starts sparse.0
+
+      is : Borne t (u ∷ (cycles ++ before))
+      is = borne t (u ∷ cycles) before run clear starts sparse
+
+      by_first : u.phase ≡ 0 → IsInOne t (u ∷ (cycles ++ before)) (suc (suc (length cycles)))
+          (own_costs r jobs carry restarts (t ∷ u ∷ cycles) before) (found (t ∷ u ∷ (cycles ++ before)))
+      by_first u_zero =
+          let le = risen laws more turn comes_up to_zero goes counts r jobs carry restarts opened u cycles before run.0 clear.0 (inl starts)
+          sparse.0
+          u_zero in
+          let same = zero_costs u cycles before run.0 clear.0 starts sparse.0 u_zero in
+          record {
+            any = omega (arith, le, same);
+            lost = λ disturbed. omega (arith, le, same);
+            calm = λ calm before_it. omega (arith, le, same);
+          }
+
+      by_later : done_in u (cycles ++ before) ≡ false → u.phase ≡ 1
+          → IsInOne u (cycles ++ before) (suc (length cycles)) (own_costs r jobs carry restarts (u ∷ cycles) before) (found
+          (u ∷ (cycles ++ before)))
+          → IsInOne t (u ∷ (cycles ++ before)) (suc (suc (length cycles))) (own_costs r jobs carry restarts (t ∷ u ∷ cycles) before)
+          (found (t ∷ u ∷ (cycles ++ before)))
+      by_later unfinished was_one earlier = record {
+        any = elim (calm_or_not r carry restarts t (u ∷ (cycles ++ before))) [
+          | inl disturbed ↦ (let le = lost_now disturbed in omega (arith, le))
+          | inr calm ↦ elim (calm_or_not r carry restarts u (cycles ++ before)) [
+            | inl before_it ↦ (let le = earlier.lost before_it in let grows = more_found in omega (arith, le, grows))
+            | inr before_it ↦ (let le = calm_now calm before_it in omega (arith, le))
+          ]
+        ];
+        lost = lost_now;
+        calm = λ calm before_it. calm_now calm before_it.1;
+      }
+        where
+          more_found : found (u ∷ (cycles ++ before)) ≤ found (t ∷ u ∷ (cycles ++ before))
+          more_found = known_after laws more turn comes_up to_zero goes counts r jobs carry restarts opened t (u ∷
+              (cycles ++ before)) run is
+
+          lost_now : IsDisturbed r carry restarts t (u ∷ (cycles ++ before))
+              → suc (suc (length cycles)) ≤ 12 + own_costs r jobs carry restarts (t ∷ u ∷ cycles) before + 3 * found
+              (t ∷ u ∷ (cycles ++ before))
+          lost_now disturbed =
+              let are = sparse.1.early disturbed (omega (arith, one)) (omega (arith, one)) in
+              let le = earlier.calm are.1 are.0 in
+              let grows = more_found in omega (arith, le, grows)
+
+          calm_now : IsUndisturbed r carry restarts t (u ∷ (cycles ++ before)) → IsUndisturbed r carry restarts u (cycles ++ before)
+              → suc (suc (length cycles)) ≤ 11 + own_costs r jobs carry restarts (t ∷ u ∷ cycles) before + 3 * found
+              (t ∷ u ∷ (cycles ++ before))
+          calm_now calm before_it =
+              let le = earlier.any in
+              let grows = one_more laws more turn comes_up to_zero goes counts r jobs carry restarts opened t u
+              (cycles ++ before) run clear is
+              was calm before_it one was_one unfinished in omega (arith, le, grows)
+
+  -- BOTH PHASES
+  pub early_many : (t : CycleView) (cycles before : List CycleView) → IsRun r jobs carry restarts (t ∷ (cycles ++ before))
+      → IsClear (t ∷ (cycles ++ before)) → StartsEpoch r jobs carry restarts before → AreSparse r carry restarts (t ∷ cycles) before
+      → t.phase ≤ 1 → suc (length cycles) ≤ 13 + 3 * length r.drives + own_costs r jobs carry restarts (t ∷ cycles) before
+  early_many t cycles before run clear starts sparse low = elim (cases_eq t.phase 0) [
+    | inl at_zero ↦ (
+        let le = risen laws more turn comes_up to_zero goes counts r jobs carry restarts opened t cycles before run clear (inl starts) sparse
+        at_zero
+        in
+        let same = zero_costs t cycles before run clear starts sparse at_zero in omega (arith, le, same))
+    | inr later ↦ (
+        let le = (in_one t cycles before run clear starts sparse (omega (arith, low, later))).any in
+        let few = count_most (length (known_of r).drives) (λ k. has_identified k (back (t ∷ (cycles ++ before))).turns) (λ k. true)
+        (λ k on. refl) in
+        let all = count_all (length (known_of r).drives) in
+        let members = members_count r in omega (arith, le, few, all, members))
+  ]

@@ -1,0 +1,222 @@
+-- How long phase 3 lasts while disturbed cycles are sparse, however many they are.
+use Rattle.std.proofs.Common.{◌≡◌, inl, inr, ℕ, suc, ◌+◌, ◌*◌, ◌<◌, ◌≤◌, List, [], ◌∷◌, ◌++◌, length, Option, None, sym, ap, ◌∙◌, arith}
+use Rattle.std.specs.Prelude.{is_some}
+use Rattle.sercos_step.specs.declared.request.Job.{Job}
+use Rattle.sercos_step.proofs.AnswerCounts.{times_le}
+use Rattle.sercos_block.specs.Views.{DriveView, RingView}
+use Rattle.sercos_service_master.specs.Begun.{answers_in, open_in}
+use Rattle.sercos_trace.specs.Views.{CycleView}
+use Rattle.sercos_trace.specs.declared.events.Fall.{Fall}
+use Rattle.sercos_seat.specs.Ring.{known_of}
+use Rattle.sercos_master.specs.Annals.{Past, is_done}
+use Rattle.sercos_script.specs.Links.{Carry, Restarts}
+use Rattle.sercos_law_channel.specs.Handshake.Epochs.{epoch_begun, epoch_log}
+use Rattle.sercos_law_channel.specs.Handshake.RunLaws.{ComesToZero, ComesUp}
+use Rattle.sercos_law_channel.specs.Handshake.Runs.{IsRun as IsViewRun}
+use Rattle.sercos_law_channel.specs.Handshake.Views.{View}
+use Rattle.sercos_law_channel.specs.Pace.ChannelCalls.{AgesBeforeEnd, StaysARun}
+use Rattle.sercos_law_channel.specs.Pace.Costs.{ComesTimed, StaysInCost}
+use Rattle.sercos_law_channel.specs.Pace.Jobs.{ReadsCost, WritesCost}
+use Rattle.sercos_law_channel.proofs.Theorems.{in_step}
+use Rattle.sercos_law_run.specs.Journal.Arrivals.{sum_below}
+use Rattle.sercos_law_run.specs.Journal.Runs.{drive_at, looks_back, master_calls, IsClear, IsRun}
+use Rattle.sercos_law_run.specs.Agenda.Turns.{WorkInTurn, WorksInThree, WorksInTwo}
+use Rattle.sercos_law_run.specs.Views.RingViews.{behind_mdt, view_of, views_of}
+use Rattle.sercos_law_run.specs.Held.Opened.{IsOpened}
+use Rattle.sercos_law_run.proofs.Held.Runs.{Laws}
+use Rattle.sercos_law_run.proofs.Headline.HeadlineRuns.{MoreLaws, all_stand}
+use Rattle.sercos_law_run.specs.Undisturbed.EpochStarts.{StartsEpoch}
+use Rattle.sercos_law_run.proofs.Undisturbed.PhaseThree.{comes_three}
+use Rattle.sercos_law_run.proofs.Undisturbed.StopStays.{none_before, stop_after}
+use Rattle.sercos_law_run.specs.Tolerance.Many.{own_costs}
+use Rattle.sercos_law_run.specs.Tolerance.Sparse.{AreSparse}
+use Rattle.sercos_law_run.proofs.Tolerance.Borne.{IsBorne, all_borne, rests, zero_is}
+use Rattle.sercos_law_run.proofs.Tolerance.CostsShared.{sum_most}
+use Rattle.sercos_law_run.proofs.Tolerance.EarlySparse.{phase_is, phase_next, start_is}
+use Rattle.sercos_law_run.proofs.Tolerance.InARow.{IsInARow, IsPaced, New, Rests, StandsSo, Waits, paced_next, stands_so}
+use Rattle.sercos_law_run.proofs.Tolerance.ManyTwo.{steps_in_two, two_spent, two_steps, weigh_at, weight_at, weight_grows}
+use Rattle.sercos_law_run.proofs.Tolerance.Spared.{spared_in}
+use Rattle.sercos_law_run.proofs.Tolerance.Steps.{never_some}
+use Rattle.sercos_law_run.proofs.Tolerance.ThreeLasts.{is_unready, opens_in_three, sum_split, unready_start, without, without_mono}
+
+-- the cycles of phase 2 that a drive may take, and one
+abbrev pub two_cycles : DriveView → ℕ
+two_cycles d = (d.busy + 3) * two_steps d + 1
+
+more_steps : (busy n : ℕ) → (busy + 3) * n ≡ (busy + 2) * n + n
+more_steps busy n = grind arith
+
+wider : (busy spent base more_base : ℕ) (all : List View) → base ≤ more_base → IsPaced busy spent base all
+    → IsPaced busy spent more_base all
+wider busy spent base more_base all le is = record {
+  total = let before = is.total in omega (arith, before, le);
+  rests = λ none. let before = is.rests none in omega (arith, before, le);
+  waits = λ e rest those a. let before = is.waits e rest those a in omega (arith, before, le);
+}
+
+-- a channel at rest
+at_rest : (busy spent base : ℕ) (all : List View) → IsViewRun busy all → open_in (epoch_begun all) ≡ None
+    → spent ≤ base + (busy + 2) * length (epoch_log all) → IsPaced busy spent base all
+at_rest busy spent base all run none le = record {
+  total = omega (arith, le);
+  rests = λ off. le;
+  waits = λ e rest those a. absurd (by a (stands_so (epoch_begun all) (epoch_log all) (in_step busy all run)));
+}
+  where
+    by : suc (length (answers_in (epoch_begun all))) ≡ length (epoch_log all) → StandsSo (epoch_begun all) (epoch_log all) → ⊥
+    by a (Rests off b) = omega (arith, a, b)
+    by a (New on s b) = never_some (open_in (epoch_begun all)) none on
+    by a (Waits f older those_then on s b) = never_some (open_in (epoch_begun all)) none on
+
+module _ (laws : Laws) (more : MoreLaws) (turn : WorkInTurn) (two : WorksInTwo) (three : WorksInThree)
+    (comes_up : (busy : ℕ) → ComesUp busy)
+    (to_zero : (busy : ℕ) → ComesToZero busy) (goes : (busy : ℕ) → StaysARun busy) (counts : (busy : ℕ) → AgesBeforeEnd busy)
+    (in_cost : (busy : ℕ) → StaysInCost busy) (timed : ComesTimed) (reads_cost : (busy : ℕ) → ReadsCost busy)
+    (writes_cost : (busy : ℕ) → WritesCost busy)
+    (r : RingView) (jobs : List Job) (carry : Carry) (restarts : Restarts) (opened : IsOpened r jobs) where
+  abbrev back : List CycleView → Past
+  back j = looks_back r jobs (master_calls r carry restarts j)
+
+  abbrev Borne : CycleView → List CycleView → Type 0
+  Borne t j = IsBorne laws more turn comes_up to_zero goes counts r jobs carry restarts opened t j
+
+  abbrev Unready : ℕ → List CycleView → Type 0
+  Unready k j = is_unready laws more turn two three comes_up to_zero goes counts r jobs carry restarts opened in_cost timed reads_cost
+      writes_cost k j
+
+  borne : (t : CycleView) (cycles before : List CycleView) → IsRun r jobs carry restarts (t ∷ (cycles ++ before))
+      → IsClear (t ∷ (cycles ++ before)) → StartsEpoch r jobs carry restarts before → AreSparse r carry restarts (t ∷ cycles) before
+      → Borne t (cycles ++ before)
+  borne t cycles before run clear starts sparse = all_borne laws more turn comes_up to_zero goes counts r jobs carry restarts opened t
+      cycles before run clear starts sparse
+
+  -- the cycles that all drives but one may take in phase 2
+  abbrev pub others_two : ℕ → ℕ
+  others_two k = sum_below (length r.drives) (without k (λ j. two_cycles (drive_at r j)))
+
+  -- THE CYCLES up to the last of phase 2
+  pub at_rise : (u : CycleView) (cycles before : List CycleView) → IsRun r jobs carry restarts (u ∷ (cycles ++ before))
+      → IsClear (u ∷ (cycles ++ before)) → StartsEpoch r jobs carry restarts before → AreSparse r carry restarts (u ∷ cycles) before
+      → u.phase ≡ 2 → (behind_mdt r jobs carry restarts u.sent (cycles ++ before)).stop ≡ None
+      → suc (length cycles) ≤ 15 + 2 * length r.drives + own_costs r jobs carry restarts
+      (u ∷ cycles) before + weight_at r jobs carry restarts
+      (u ∷ (cycles ++ before))
+  at_rise u [] before run clear starts sparse u_two none =
+      let zero = zero_is laws more turn comes_up to_zero goes counts r jobs carry restarts opened u before run clear starts
+      (sparse.1.goes_on 0 (omega arith)) in absurd (omega (arith, zero, u_two))
+  at_rise u (v ∷ cycles) before run clear starts sparse u_two none =
+      let is = borne u (v ∷ cycles) before run clear starts sparse in
+      let le = two_spent laws more turn two comes_up to_zero goes counts in_cost timed reads_cost writes_cost r jobs carry restarts opened v
+      cycles before run.0 clear.0 starts sparse.0
+      (sym (phase_is laws more turn comes_up to_zero goes counts r jobs carry restarts opened u (v ∷ (cycles ++ before)) run is) ∙ u_two)
+      (none_before r jobs carry restarts u (v ∷ (cycles ++ before))
+      (start_is laws more turn comes_up to_zero goes counts r jobs carry restarts opened u (v ∷ (cycles ++ before)) run is) none) in
+      let grows = weight_grows laws more turn two comes_up to_zero goes counts in_cost timed reads_cost writes_cost r jobs carry restarts
+      opened u (v ∷ (cycles ++ before)) run clear is in
+      omega (arith, le, grows)
+
+  module _ (k : ℕ) (below : k < length r.drives) where
+    -- at the end of phase 2, by the steps to one drive
+    rise_base : (u : CycleView) (cycles before : List CycleView) → IsRun r jobs carry restarts (u ∷ (cycles ++ before))
+        → IsClear (u ∷ (cycles ++ before)) → StartsEpoch r jobs carry restarts before → AreSparse r carry restarts (u ∷ cycles) before
+        → u.phase ≡ 2 → (behind_mdt r jobs carry restarts u.sent (cycles ++ before)).stop ≡ None
+        → suc (length cycles) ≤ 16 + 2 * length r.drives + own_costs r jobs carry restarts (u ∷ cycles) before + others_two k + two_steps
+        (drive_at r k) + ((drive_at r k).busy + 2) * length (epoch_log (views_of r jobs carry restarts k (u ∷ (cycles ++ before))))
+    rise_base u cycles before run clear starts sparse u_two none =
+        let le = at_rise u cycles before run clear starts sparse u_two none in
+        let split = sum_split (length r.drives) k (weigh_at r jobs carry restarts (u ∷ (cycles ++ before))) below in
+        let most = sum_most (length r.drives) (without k (weigh_at r jobs carry restarts (u ∷ (cycles ++ before))))
+        (without k (λ j. two_cycles (drive_at r j)))
+        (λ j low. without_mono k j (weigh_at r jobs carry restarts (u ∷ (cycles ++ before))) (λ i. two_cycles (drive_at r i))
+        (each j low)) in
+        let mine = steps_so k below in
+        let parts = more_steps (drive_at r k).busy (length (epoch_log (views_of r jobs carry restarts k (u ∷ (cycles ++ before))))) in
+        omega (arith, le, split, most, mine, parts)
+      where
+        steps_so : (j : ℕ) → j < length r.drives
+            → length (epoch_log (views_of r jobs carry restarts j (u ∷ (cycles ++ before)))) ≤ two_steps (drive_at r j)
+        steps_so j low = steps_in_two laws more turn two comes_up to_zero goes counts in_cost timed reads_cost writes_cost r jobs carry
+            restarts opened u (cycles ++ before) run clear (borne u cycles before run clear starts sparse) (omega (arith, u_two)) j low
+
+        each : (j : ℕ) → j < length r.drives → weigh_at r jobs carry restarts (u ∷ (cycles ++ before)) j ≤ two_cycles (drive_at r j)
+        each j low =
+            let steps = steps_so j low in
+            let product = times_le ((drive_at r j).busy + 3) (length (epoch_log (views_of r jobs carry restarts j
+            (u ∷ (cycles ++ before))))) (two_steps (drive_at r j)) steps in omega (arith, product)
+
+    abbrev base : List CycleView → List CycleView → ℕ
+    base cycles before = 16 + 2 * length r.drives + own_costs r jobs carry restarts cycles before + others_two k + two_steps (drive_at r k)
+
+    -- PHASE 3, as long as the drive isn't ready
+    three_many : (t : CycleView) (cycles before : List CycleView) → IsRun r jobs carry restarts (t ∷ (cycles ++ before))
+        → IsClear (t ∷ (cycles ++ before)) → StartsEpoch r jobs carry restarts before → AreSparse r carry restarts (t ∷ cycles) before
+        → t.phase ≡ 3 → (back (t ∷ (cycles ++ before))).stop ≡ None → Unready k (t ∷ (cycles ++ before))
+        → IsPaced (drive_at r k).busy (suc (length cycles)) (base (t ∷ cycles) before) (views_of r jobs carry restarts k
+        (t ∷ (cycles ++ before)))
+    three_many t [] before run clear starts sparse t_three none unready =
+        let zero = zero_is laws more turn comes_up to_zero goes counts r jobs carry restarts opened t before run clear starts
+        (sparse.1.goes_on 0 (omega arith)) in absurd (omega (arith, zero, t_three))
+    three_many t (u ∷ cycles) before run clear starts sparse t_three none unready = paced_next (drive_at r k).busy (suc (length cycles))
+        (base (t ∷ u ∷ cycles) before) (view_of r jobs carry restarts k t (u ∷ (cycles ++ before)))
+        (views_of r jobs carry restarts k (u ∷ (cycles ++ before)))
+        (all_stand laws more r jobs carry restarts opened (t ∷ u ∷ (cycles ++ before)) run clear k below).sees.run row
+        (elim (comes_three (is_done (known_of r) (behind_mdt r jobs carry restarts u.sent (cycles ++ before))) u.phase
+        (sym (phase_next laws more turn comes_up to_zero goes counts r jobs carry restarts opened u (cycles ++ before) run.0 was)
+        ∙ back_three)) [
+          | inl rise ↦ first rise.1
+          | inr later ↦ wider (drive_at r k).busy (suc (length cycles)) (base (u ∷ cycles) before) (base (t ∷ u ∷ cycles) before)
+              (views_of r jobs carry restarts k (u ∷ (cycles ++ before))) (omega arith)
+              (three_many u cycles before run.0 clear.0 starts sparse.0 later.1 none_then
+              (unready_start laws more turn two three comes_up to_zero goes counts r jobs carry restarts opened in_cost timed reads_cost
+              writes_cost t (u ∷ (cycles ++ before)) is k unready run clear))
+        ])
+      where
+        was : Borne u (cycles ++ before)
+        was = borne u cycles before run.0 clear.0 starts sparse.0
+
+        is : Borne t (u ∷ (cycles ++ before))
+        is = borne t (u ∷ cycles) before run clear starts sparse
+
+        back_three : (back (u ∷ (cycles ++ before))).now.phase ≡ 3
+        back_three = sym (phase_is laws more turn comes_up to_zero goes counts r jobs carry restarts opened t (u ∷
+            (cycles ++ before)) run is)
+            ∙ t_three
+
+        stop_none : (behind_mdt r jobs carry restarts t.sent (u ∷ (cycles ++ before))).stop ≡ None
+        stop_none = sym (stop_after r jobs carry restarts t (u ∷ (cycles ++ before)) is.stays) ∙ none
+
+        none_then : (back (u ∷ (cycles ++ before))).stop ≡ None
+        none_then = none_before r jobs carry restarts t (u ∷ (cycles ++ before))
+            (start_is laws more turn comes_up to_zero goes counts r jobs carry restarts opened t (u ∷ (cycles ++ before)) run is) stop_none
+
+        row : IsInARow (drive_at r k).busy (view_of r jobs carry restarts k t (u ∷ (cycles ++ before))) (views_of r jobs carry restarts k
+            (u ∷ (cycles ++ before)))
+        row = record {
+          stays = ap (λ (o : Option Fall). is_some o) is.stays;
+          goes_on = is.goes_on;
+          opens = opens_in_three laws more turn two three comes_up to_zero goes counts r jobs carry restarts opened in_cost timed reads_cost
+              writes_cost t (u ∷ (cycles ++ before)) run clear is t_three stop_none k below unready;
+          spared = spared_in laws more turn comes_up to_zero goes counts r jobs carry restarts opened t (u ∷ cycles) before run clear starts
+              sparse (omega (arith, t_three)) k below;
+        }
+
+        first : u.phase ≡ 2 → IsPaced (drive_at r k).busy (suc (length cycles)) (base (t ∷ u ∷ cycles) before)
+            (views_of r jobs carry restarts
+            k (u ∷ (cycles ++ before)))
+        first u_two =
+            let le = rise_base u cycles before run.0 clear.0 starts sparse.0 u_two
+            (sym (stop_after r jobs carry restarts u (cycles ++ before) was.stays) ∙ none_then) in
+            at_rest (drive_at r k).busy (suc (length cycles)) (base (t ∷ u ∷ cycles) before)
+            (views_of r jobs carry restarts k (u ∷ (cycles ++ before)))
+            (all_stand laws more r jobs carry restarts opened (u ∷ (cycles ++ before)) run.0 clear.0 k below).sees.run
+            (rests laws more turn comes_up to_zero goes counts r jobs carry restarts opened t u
+            (cycles ++ before) run clear was sparse.1 k below
+            (omega (arith, u_two, t_three))) (omega (arith, le))
+
+    pub three_spent : (t : CycleView) (cycles before : List CycleView) → IsRun r jobs carry restarts (t ∷ (cycles ++ before))
+        → IsClear (t ∷ (cycles ++ before)) → StartsEpoch r jobs carry restarts before → AreSparse r carry restarts (t ∷ cycles) before
+        → t.phase ≡ 3 → (back (t ∷ (cycles ++ before))).stop ≡ None → Unready k (t ∷ (cycles ++ before))
+        → suc (length cycles) ≤ 17 + 2 * length r.drives + own_costs r jobs carry restarts (t ∷ cycles) before + others_two k + two_steps
+        (drive_at r k) + ((drive_at r k).busy + 2) * length (epoch_log (views_of r jobs carry restarts k (t ∷ (cycles ++ before))))
+    three_spent t cycles before run clear starts sparse t_three none unready =
+        let le = (three_many t cycles before run clear starts sparse t_three none unready).total in omega (arith, le)

@@ -1,0 +1,363 @@
+-- How long phase 2 lasts while disturbed cycles are sparse, however many they are.
+use Rattle.std.proofs.Common.{◌≡◌, inl, inr, ℕ, zero, suc, ◌+◌, ◌*◌, ◌<◌, ◌≤◌, true, false, List, [], ◌∷◌, ◌++◌, length, Option, None, refl, sym, ap, ◌∙◌, subst, arith}
+use Rattle.std.specs.Prelude.{is_some}
+use Rattle.std.proofs.lemmas.Bool.{cases_eq, cases_lt}
+use Rattle.sercos_step.specs.declared.request.Job.{Job}
+use Rattle.sercos_step.proofs.AnswerCounts.{times_le}
+use Rattle.sercos_block.specs.Stores.{store_of}
+use Rattle.sercos_block.specs.Views.{DriveView, RingView}
+use Rattle.sercos_service_drive.specs.Log.{Entry}
+use Rattle.sercos_service_master.specs.Begun.{Begun, answers_in, open_in, steps_in}
+use Rattle.sercos_trace.specs.Views.{CycleView}
+use Rattle.sercos_trace.specs.declared.events.Fall.{Fall}
+use Rattle.sercos_seat.specs.Ring.{known_of}
+use Rattle.sercos_master.specs.Annals.{Past, is_done, is_done_in}
+use Rattle.sercos_script.specs.Links.{Carry, Restarts}
+use Rattle.sercos_law_channel.specs.Handshake.Epochs.{begun_in, epoch_begun, epoch_log, epoch_taken}
+use Rattle.sercos_law_channel.specs.Handshake.RunLaws.{ComesToZero, ComesUp}
+use Rattle.sercos_law_channel.specs.Handshake.Runs.{IsRun as IsViewRun}
+use Rattle.sercos_law_channel.specs.Handshake.Views.{View}
+use Rattle.sercos_law_channel.specs.Pace.ChannelCalls.{AgesBeforeEnd, StaysARun}
+use Rattle.sercos_law_channel.specs.Pace.Costs.{AreTimed, ComesTimed, StaysInCost}
+use Rattle.sercos_law_channel.specs.Pace.Jobs.{ReadsCost, WritesCost}
+use Rattle.sercos_law_channel.proofs.Theorems.{in_step}
+use Rattle.sercos_law_channel.proofs.Pace.LateRuns.{head_before, taken_before}
+use Rattle.sercos_law_run.specs.Bounds.Bounds.{listed}
+use Rattle.sercos_law_run.specs.Journal.Arrivals.{sum_below}
+use Rattle.sercos_law_run.specs.Journal.Runs.{drive_at, looks_back, master_calls, IsClear, IsDisturbed, IsRun}
+use Rattle.sercos_law_run.specs.Agenda.Turns.{WorkInTurn, WorksInTwo}
+use Rattle.sercos_law_run.specs.Views.RingViews.{behind_mdt, view_of, views_of}
+use Rattle.sercos_law_run.specs.Held.Opened.{IsOpened}
+use Rattle.sercos_law_run.proofs.Held.Runs.{Laws, small}
+use Rattle.sercos_law_run.proofs.Headline.HeadlineRuns.{MoreLaws, all_stand, first_store}
+use Rattle.sercos_law_run.specs.Undisturbed.EpochStarts.{StartsEpoch}
+use Rattle.sercos_law_run.specs.Undisturbed.Sections.{GoesOnInTwo}
+use Rattle.sercos_law_run.specs.Undisturbed.Undisturbed.{IsUndisturbed}
+use Rattle.sercos_law_run.proofs.Undisturbed.Carried.{are_carried}
+use Rattle.sercos_law_run.proofs.Undisturbed.CommandRuns.{first_commands}
+use Rattle.sercos_law_run.proofs.Undisturbed.PassedRuns.{commands_so}
+use Rattle.sercos_law_run.proofs.Undisturbed.PhaseTwo.{listed_all}
+use Rattle.sercos_law_run.proofs.Undisturbed.JobsBegun.{planned_now}
+use Rattle.sercos_law_run.proofs.Undisturbed.Sections.{opens_in_two}
+use Rattle.sercos_law_run.proofs.Undisturbed.StopStays.{none_before, stop_after}
+use Rattle.sercos_law_run.proofs.Recovery.LateDown.{phase_now}
+use Rattle.sercos_law_run.proofs.Recovery.Stretches.{whole_at}
+use Rattle.sercos_law_run.specs.Tolerance.Many.{own_costs}
+use Rattle.sercos_law_run.specs.Tolerance.Sparse.{AreSparse, IsSparse}
+use Rattle.sercos_law_run.proofs.Tolerance.Borne.{IsBorne, all_borne, before_lost, calm_or_not}
+use Rattle.sercos_law_run.proofs.Tolerance.CostsShared.{sum_most}
+use Rattle.sercos_law_run.proofs.Tolerance.EarlySparse.{phase_is, phase_next, start_is}
+use Rattle.sercos_law_run.proofs.Tolerance.InARow.{New, Rests, StandsSo, Waits, grows_one, open_aged, stands_so, waits_from}
+use Rattle.sercos_law_run.proofs.Tolerance.ManyEarly.{early_many}
+use Rattle.sercos_law_run.proofs.Tolerance.Standing.{takes_whole}
+use Rattle.sercos_law_run.proofs.Tolerance.Steps.{IsYoung, begun_is, never_some, none_new}
+use Rattle.sercos_law_run.proofs.Tolerance.TwoLasts.{each_fits, two_phase}
+
+-- SUMS
+pub ones : (n : ℕ) → sum_below n (λ k. 1) ≡ n
+ones zero = refl
+ones (suc n) = let rest = ones n in omega (arith, rest)
+
+-- one of the numbers is larger by d
+sum_more : (n k d : ℕ) (f g : ℕ → ℕ) → k < n → ((j : ℕ) → j < n → f j ≤ g j) → f k + d ≤ g k → sum_below n f + d ≤ sum_below n g
+sum_more zero k d f g low most one = absurd (omega (arith, low))
+sum_more (suc n) k d f g low most one = elim (cases_eq n k) [
+  | inl same ↦ (
+      let rest = sum_most n f g (λ j j_low. most j (omega (arith, j_low))) in
+      let last : f n + d ≤ g n = subst (λ (m : ℕ). f m + d ≤ g m) (sym same) one in omega (arith, rest, last))
+  | inr other ↦ (
+      let rest = sum_more n k d f g (omega (arith, low, other)) (λ j j_low. most j (omega (arith, j_low))) one in
+      let last = most n (omega arith) in omega (arith, rest, last))
+]
+
+-- steps that cost no more than c of them and a command time are no more than both
+pub few_steps : (busy n c time : ℕ) → (busy + 1) * n ≤ (busy + 1) * c + time → n ≤ c + time
+few_steps busy n c time cost = elim (cases_lt (c + time) n) [
+  | inr few ↦ omega (arith, few)
+  | inl many ↦ (let most = times_le (busy + 1) (suc (c + time)) n (omega (arith, many)) in absurd (omega (arith, most, cost)))
+]
+
+one_more_step : (busy n : ℕ) → (busy + 3) * suc n ≡ (busy + 3) * n + (busy + 3)
+one_more_step busy n = grind arith
+
+-- WHAT THE STEPS SO FAR ALLOW: busy time and three cycles for each, and a cycle for each drive
+abbrev pub weigh_at : RingView → List Job → Carry → Restarts → List CycleView → ℕ → ℕ
+weigh_at r jobs carry restarts j k = ((drive_at r k).busy + 3) * length (epoch_log (views_of r jobs carry restarts k j)) + 1
+
+abbrev pub weight_at : RingView → List Job → Carry → Restarts → List CycleView → ℕ
+weight_at r jobs carry restarts j = sum_below (length r.drives) (weigh_at r jobs carry restarts j)
+
+-- the steps of phase 2 to a drive, at most
+abbrev pub two_steps : DriveView → ℕ
+two_steps d = 74 + 4 * listed d + d.command
+
+module _ (laws : Laws) (more : MoreLaws) (turn : WorkInTurn) (two : WorksInTwo) (comes_up : (busy : ℕ) → ComesUp busy)
+    (to_zero : (busy : ℕ) → ComesToZero busy) (goes : (busy : ℕ) → StaysARun busy) (counts : (busy : ℕ) → AgesBeforeEnd busy)
+    (in_cost : (busy : ℕ) → StaysInCost busy) (timed : ComesTimed) (reads_cost : (busy : ℕ) → ReadsCost busy)
+    (writes_cost : (busy : ℕ) → WritesCost busy)
+    (r : RingView) (jobs : List Job) (carry : Carry) (restarts : Restarts) (opened : IsOpened r jobs) where
+  abbrev back : List CycleView → Past
+  back j = looks_back r jobs (master_calls r carry restarts j)
+
+  abbrev Borne : CycleView → List CycleView → Type 0
+  Borne t j = IsBorne laws more turn comes_up to_zero goes counts r jobs carry restarts opened t j
+
+  abbrev views : ℕ → List CycleView → List View
+  views k j = views_of r jobs carry restarts k j
+
+  abbrev busy_of : ℕ → ℕ
+  busy_of k = (drive_at r k).busy
+
+  borne : (t : CycleView) (cycles before : List CycleView) → IsRun r jobs carry restarts (t ∷ (cycles ++ before))
+      → IsClear (t ∷ (cycles ++ before)) → StartsEpoch r jobs carry restarts before → AreSparse r carry restarts (t ∷ cycles) before
+      → Borne t (cycles ++ before)
+  borne t cycles before run clear starts sparse = all_borne laws more turn comes_up to_zero goes counts r jobs carry restarts opened t
+      cycles before run clear starts sparse
+
+  is_run : (j : List CycleView) → IsRun r jobs carry restarts j → IsClear j → (k : ℕ) → k < length r.drives
+      → IsViewRun (busy_of k) (views k j)
+  is_run j run clear k below = (all_stand laws more r jobs carry restarts opened j run clear k below).sees.run
+
+  abbrev weigh : List CycleView → ℕ → ℕ
+  weigh j k = weigh_at r jobs carry restarts j k
+
+  abbrev weight : List CycleView → ℕ
+  weight j = weight_at r jobs carry restarts j
+
+  pub some_weight : (j : List CycleView) → length r.drives ≤ weight j
+  some_weight j =
+      let all = ones (length r.drives) in
+      let most = sum_most (length r.drives) (λ k. 1) (weigh j) (λ k low. omega arith) in omega (arith, all, most)
+
+  -- one cycle more
+  module _ (t : CycleView) (j : List CycleView) (run : IsRun r jobs carry restarts (t ∷ j)) (clear : IsClear (t ∷ j)) (is : Borne t j) where
+    stays : (k : ℕ) → (view_of r jobs carry restarts k t j).falls ≡ false
+    stays k = ap (λ (o : Option Fall). is_some o) is.stays
+
+    each_grows : (k : ℕ) → k < length r.drives → weigh j k ≤ weigh (t ∷ j) k
+    each_grows k below =
+        let least = grows_one (busy_of k) (view_of r jobs carry restarts k t j) (views k j) (is_run (t ∷ j) run clear k below) (stays k)
+        is.goes_on in
+        let product = times_le (busy_of k + 3) (length (epoch_log (views k j))) (length (epoch_log (views k (t ∷ j)))) least in
+        omega (arith, product)
+
+    pub weight_grows : weight j ≤ weight (t ∷ j)
+    weight_grows = sum_most (length r.drives) (weigh j) (weigh (t ∷ j)) each_grows
+
+    weight_more : (k : ℕ) → k < length r.drives → length (epoch_log (views k (t ∷ j))) ≡ suc (length (epoch_log (views k j)))
+        → weight j + (busy_of k + 3) ≤ weight (t ∷ j)
+    weight_more k below long = sum_more (length r.drives) k (busy_of k + 3) (weigh j) (weigh (t ∷ j)) below each_grows
+        (let product = ap (λ (n : ℕ). (busy_of k + 3) * n) long ∙ one_more_step (busy_of k) (length (epoch_log (views k j))) in
+        omega (arith, product))
+
+    open_now : (k : ℕ) → k < length r.drives → is_some (open_in (begun_in (view_of r jobs carry restarts k t j) (views k j))) ≡ true
+        → is_some (open_in (epoch_begun (views k (t ∷ j)))) ≡ true
+    open_now k below on = ap (λ (l : List Begun). is_some (open_in l)) (begun_is (busy_of k) (view_of r jobs carry restarts k t j)
+        (views k j)
+        (is_run (t ∷ j) run clear k below) (stays k) is.goes_on) ∙ on
+
+    -- a step that the drive hasn't accepted is there only if the cycle is disturbed
+    new_lost : IsUndisturbed r carry restarts t j → (k : ℕ) → k < length r.drives
+        → is_some (open_in (epoch_begun (views k (t ∷ j)))) ≡ true
+        → length (steps_in (epoch_begun (views k (t ∷ j)))) ≡ suc (length (epoch_log (views k (t ∷ j)))) → ⊥
+    new_lost calm k below on steps = none_new (busy_of k) (view_of r jobs carry restarts k t j) (views k j)
+        (is_run (t ∷ j) run clear k below) (stays k) is.goes_on
+        (λ opens. takes_whole (busy_of k) (view_of r jobs carry restarts k t j) (views k j) (is_run (t ∷ j) run clear k below)
+        (whole_at laws more turn r jobs carry restarts opened t j run clear calm is.stays k below) (is.up calm k below) opens) on steps
+
+  -- PHASE 2 at the end of a cycle: the cycles spent, by what the steps so far allow; and where one waits for its answer, by the cycles
+  -- since it was accepted.
+  record IsTwo (j : List CycleView) (spent base : ℕ) : Type 0 where
+    total : spent ≤ base + weight j + 1
+    waits : (k : ℕ) → k < length r.drives → (e : Entry) (rest : List Entry) → epoch_log (views k j) ≡ e ∷ rest
+        → suc (length (answers_in (epoch_begun (views k j)))) ≡ length (epoch_log (views k j))
+        → spent + e.taken.cycle + (busy_of k + 3) ≤ base + weight j + length (views k j) + 1
+
+  at_first : (j : List CycleView) (spent base : ℕ) → spent ≤ base + length r.drives → IsTwo j (suc spent) base
+  at_first j spent base few = record {
+    total = let some = some_weight j in omega (arith, few, some);
+    waits = λ k below e rest those a.
+        let less = head_before (length (views k j)) (epoch_taken (views k j)) (taken_before (views k j)) e rest those in
+        let long = ap (λ (l : List Entry). length l) those in
+        let product = times_le (busy_of k + 3) 1 (length (epoch_log (views k j))) (omega (arith, long)) in
+        let all = ones (length r.drives) in
+        let most = sum_more (length r.drives) k (busy_of k + 3) (λ i. 1) (weigh j) below (λ i low. omega arith) (omega (arith, product)) in
+        omega (arith, few, less, all, most);
+  }
+
+  wider : (j : List CycleView) (spent base more_base : ℕ) → base ≤ more_base → IsTwo j spent base → IsTwo j spent more_base
+  wider j spent base more_base le is = record {
+    total = let before = is.total in omega (arith, before, le);
+    waits = λ k below e rest those a. let before = is.waits k below e rest those a in omega (arith, before, le);
+  }
+
+  -- ONE CYCLE MORE, t after u, in both of which a step is open at the end
+  module _ (t u : CycleView) (j : List CycleView) (run : IsRun r jobs carry restarts (t ∷ u ∷ j)) (clear : IsClear (t ∷ u ∷ j))
+      (was : Borne u j) (is : Borne t (u ∷ j)) (sparse : IsSparse r carry restarts t (u ∷ j)) (t_two : t.phase ≡ 2)
+      (d : ℕ) (d_low : d < length r.drives) (d_opens : is_some (open_in (epoch_begun (views d (u ∷ j)))) ≡ true)
+      (k : ℕ) (below : k < length r.drives) (opens : is_some (open_in (epoch_begun (views k (t ∷ u ∷ j)))) ≡ true)
+      (spent base : ℕ) (earlier : IsTwo (u ∷ j) spent base) where
+    waits_next : (i : ℕ) → i < length r.drives → (e : Entry) (rest : List Entry) → epoch_log (views i (t ∷ u ∷ j)) ≡ e ∷ rest
+        → suc (length (answers_in (epoch_begun (views i (t ∷ u ∷ j))))) ≡ length (epoch_log (views i (t ∷ u ∷ j)))
+        → suc spent + e.taken.cycle + (busy_of i + 3) ≤ base + weight (t ∷ u ∷ j) + suc (length (views i (u ∷ j))) + 1
+    waits_next i i_low e rest those a = elim (waits_from (busy_of i) (view_of r jobs carry restarts i t (u ∷ j)) (views i (u ∷ j))
+        (is_run (t ∷ u ∷ j) run clear i i_low) (stays t (u ∷ j) run clear is i) is.goes_on e rest those a) [
+          | inl (long, same, waited) ↦ (
+              let before = earlier.waits i i_low e rest same waited in
+              let grows = weight_grows t (u ∷ j) run clear is in omega (arith, before, grows))
+          | inr (long, cycle) ↦ (
+              let before = earlier.total in
+              let grows = weight_more t (u ∷ j) run clear is i i_low long in omega (arith, before, grows, cycle))
+        ]
+
+    -- a step that the drive hasn't accepted: nothing was late at the end of the cycle before
+    new_next : IsDisturbed r carry restarts t (u ∷ j) → suc spent ≤ base + weight (t ∷ u ∷ j)
+    new_next disturbed = by (stands_so (epoch_begun (views d (u ∷ j))) (epoch_log (views d (u ∷ j)))
+        (in_step (busy_of d) (views d (u ∷ j)) (is_run (u ∷ j) run.0 clear.0 d d_low)))
+      where
+        young : IsYoung (busy_of d) 0 0 (views d (u ∷ j))
+        young = before_lost laws more turn comes_up to_zero goes counts r jobs carry restarts opened t u j run clear was sparse d d_low
+            disturbed (omega (arith, t_two))
+
+        by : StandsSo (epoch_begun (views d (u ∷ j))) (epoch_log (views d (u ∷ j))) → suc spent ≤ base + weight (t ∷ u ∷ j)
+        by (Rests none a) = absurd (never_some (open_in (epoch_begun (views d (u ∷ j)))) none d_opens)
+        by (New on s a) = let few = young.new on s in let old = open_aged (views d (u ∷ j)) on in absurd (omega (arith, few, old))
+        by (Waits e rest those on s a) =
+            let late = (young.old e rest those on s).1 in
+            let before = earlier.waits d d_low e rest those a in
+            let grows = weight_grows t (u ∷ j) run clear is in omega (arith, late, before, grows)
+
+    total_next : suc spent ≤ base + weight (t ∷ u ∷ j) + 1
+    total_next = by (stands_so (epoch_begun (views k (t ∷ u ∷ j))) (epoch_log (views k (t ∷ u ∷ j)))
+        (in_step (busy_of k) (views k (t ∷ u ∷ j)) (is_run (t ∷ u ∷ j) run clear k below)))
+      where
+        by : StandsSo (epoch_begun (views k (t ∷ u ∷ j))) (epoch_log (views k (t ∷ u ∷ j))) → suc spent ≤ base + weight (t ∷ u ∷ j) + 1
+        by (Rests none a) = absurd (never_some (open_in (epoch_begun (views k (t ∷ u ∷ j)))) none opens)
+        by (New on s a) = elim (calm_or_not r carry restarts t (u ∷ j)) [
+          | inl disturbed ↦ (let le = new_next disturbed in omega (arith, le))
+          | inr calm ↦ absurd (new_lost t (u ∷ j) run clear is calm k below on s)
+        ]
+        by (Waits e rest those on s a) =
+            let le = waits_next k below e rest those a in
+            let late = ((is.aged k below).any.old e rest those on s).1 in omega (arith, le, late)
+
+    two_next : IsTwo (t ∷ u ∷ j) (suc spent) base
+    two_next = record { total = total_next; waits = waits_next }
+
+  -- in a cycle of phase 2 that isn't its last, without a stop
+  some_open : (t : CycleView) (j : List CycleView) → IsRun r jobs carry restarts (t ∷ j) → IsClear (t ∷ j) → Borne t j → t.phase ≡ 2
+      → (back (t ∷ j)).now.phase ≡ 2 → (back (t ∷ j)).stop ≡ None
+      → (k : ℕ) × (k < length r.drives) × (is_some (open_in (epoch_begun (views k (t ∷ j)))) ≡ true)
+  some_open t j run clear is t_two is_two none =
+      let o = opens_in_two laws more two r jobs carry restarts opened t j run clear goes_on in
+      (o.0, o.1, open_now t j run clear is o.0 o.1 o.2)
+    where
+      stop_none : (behind_mdt r jobs carry restarts t.sent j).stop ≡ None
+      stop_none = sym (stop_after r jobs carry restarts t j is.stays) ∙ none
+
+      phase : (behind_mdt r jobs carry restarts t.sent j).now.phase ≡ 2
+      phase = phase_now r jobs carry restarts t j run.1 ∙ t_two
+
+      unfinished : is_done (known_of r) (behind_mdt r jobs carry restarts t.sent j) ≡ false
+      unfinished = elim (two_phase (is_done (known_of r) (behind_mdt r jobs carry restarts t.sent j)) t.phase
+          (sym (phase_next laws more turn comes_up to_zero goes counts r jobs carry restarts opened t j run is) ∙ is_two)) [
+            | inl first ↦ (let one = first.1 in absurd (omega (arith, one, t_two)))
+            | inr later ↦ later.0
+          ]
+
+      goes_on : GoesOnInTwo r (behind_mdt r jobs carry restarts t.sent j)
+      goes_on = record {
+        phase = phase;
+        goes_on = stop_none;
+        planned = planned_now laws more r jobs carry restarts opened t j run clear phase stop_none;
+        unchecked = sym (ap (λ (n : ℕ). is_done_in n (known_of r) (behind_mdt r jobs carry restarts t.sent j)) phase) ∙ unfinished;
+      }
+
+  two_many : (t : CycleView) (cycles before : List CycleView) → IsRun r jobs carry restarts (t ∷ (cycles ++ before))
+      → IsClear (t ∷ (cycles ++ before)) → StartsEpoch r jobs carry restarts before → AreSparse r carry restarts (t ∷ cycles) before
+      → (back (t ∷ (cycles ++ before))).now.phase ≡ 2 → (back (t ∷ (cycles ++ before))).stop ≡ None → t.phase ≡ 2
+      → IsTwo (t ∷ (cycles ++ before)) (suc (length cycles)) (13 + 2 * length r.drives + own_costs r jobs carry restarts
+      (t ∷ cycles) before)
+  two_many t [] before run clear starts sparse is_two none t_two =
+      let is = borne t [] before run clear starts sparse in
+      let zero : t.phase ≡ 0 = phase_is laws more turn comes_up to_zero goes counts r jobs carry restarts opened t before run is ∙ starts in
+      absurd (omega (arith, zero, t_two))
+  two_many t (u ∷ cycles) before run clear starts sparse is_two none t_two =
+      elim (two_phase (is_done (known_of r) (behind_mdt r jobs carry restarts u.sent (cycles ++ before))) u.phase
+      (sym (phase_next laws more turn comes_up to_zero goes counts r jobs carry restarts opened u (cycles ++ before) run.0 was)
+      ∙ back_two)) [
+        | inl first ↦ (
+            let one = first.1 in
+            let le = early_many laws more turn comes_up to_zero goes counts r jobs carry restarts opened u cycles before run.0 clear.0
+            starts
+            sparse.0 (omega (arith, one)) in
+            at_first (t ∷ u ∷ (cycles ++ before)) (suc (length cycles))
+            (13 + 2 * length r.drives + own_costs r jobs carry restarts (t ∷ u ∷ cycles) before) (omega (arith, le)))
+        | inr later ↦ by later.1 (two_many u cycles before run.0 clear.0 starts sparse.0 back_two none_then later.1)
+      ]
+    where
+      was : Borne u (cycles ++ before)
+      was = borne u cycles before run.0 clear.0 starts sparse.0
+
+      is : Borne t (u ∷ (cycles ++ before))
+      is = borne t (u ∷ cycles) before run clear starts sparse
+
+      back_two : (back (u ∷ (cycles ++ before))).now.phase ≡ 2
+      back_two = sym (phase_is laws more turn comes_up to_zero goes counts r jobs carry restarts opened t (u ∷ (cycles ++ before)) run is)
+          ∙ t_two
+
+      none_then : (back (u ∷ (cycles ++ before))).stop ≡ None
+      none_then = none_before r jobs carry restarts t (u ∷ (cycles ++ before))
+          (start_is laws more turn comes_up to_zero goes counts r jobs carry restarts opened t (u ∷ (cycles ++ before)) run is)
+          (sym (stop_after r jobs carry restarts t (u ∷ (cycles ++ before)) is.stays) ∙ none)
+
+      by : u.phase ≡ 2 → IsTwo (u ∷ (cycles ++ before)) (suc (length cycles))
+          (13 + 2 * length r.drives + own_costs r jobs carry restarts (u ∷ cycles) before)
+          → IsTwo (t ∷ u ∷ (cycles ++ before)) (suc (suc (length cycles)))
+          (13 + 2 * length r.drives + own_costs r jobs carry restarts (t ∷ u ∷ cycles) before)
+      by u_two earlier =
+          let o = some_open u (cycles ++ before) run.0 clear.0 was u_two back_two none_then in
+          let p = some_open t (u ∷ (cycles ++ before)) run clear is t_two is_two none in
+          two_next t u (cycles ++ before) run clear was is sparse.1 t_two o.0 o.1 o.2 p.0 p.1 p.2 (suc (length cycles))
+          (13 + 2 * length r.drives + own_costs r jobs carry restarts (t ∷ u ∷ cycles) before)
+          (wider (u ∷ (cycles ++ before)) (suc (length cycles)) (13 + 2 * length r.drives + own_costs r jobs carry restarts (u ∷ cycles)
+          before) (13 + 2 * length r.drives + own_costs r jobs carry restarts (t ∷ u ∷ cycles) before) (omega arith) earlier)
+
+  -- THE CYCLES of an epoch up to one after which phase 2 is commanded
+  pub two_spent : (t : CycleView) (cycles before : List CycleView) → IsRun r jobs carry restarts (t ∷ (cycles ++ before))
+      → IsClear (t ∷ (cycles ++ before)) → StartsEpoch r jobs carry restarts before → AreSparse r carry restarts (t ∷ cycles) before
+      → (back (t ∷ (cycles ++ before))).now.phase ≡ 2 → (back (t ∷ (cycles ++ before))).stop ≡ None
+      → suc (length cycles) ≤ 13 + 2 * length r.drives + own_costs r jobs carry restarts (t ∷ cycles) before + weight
+      (t ∷ (cycles ++ before)) + 1
+  two_spent t cycles before run clear starts sparse is_two none =
+      elim (two_phase (is_done (known_of r) (behind_mdt r jobs carry restarts t.sent (cycles ++ before))) t.phase
+      (sym (phase_next laws more turn comes_up to_zero goes counts r jobs carry restarts opened t (cycles ++ before) run
+      (borne t cycles before run clear starts sparse)) ∙ is_two)) [
+        | inl first ↦ (
+            let one = first.1 in
+            let le = early_many laws more turn comes_up to_zero goes counts r jobs carry restarts opened t cycles before run clear starts
+            sparse (omega (arith, one)) in
+            let some = some_weight (t ∷ (cycles ++ before)) in omega (arith, le, some))
+        | inr later ↦ (let le = (two_many t cycles before run clear starts sparse is_two none later.1).total in omega (arith, le))
+      ]
+
+  -- the steps accepted so far, by what they cost
+  pub costs_in : (j : List CycleView) → IsRun r jobs carry restarts j → IsClear j → (k : ℕ) → k < length r.drives
+      → AreTimed (drive_at r k).command (views_of r jobs carry restarts k j)
+  costs_in j run clear k below = timed (drive_at r k).command (views_of r jobs carry restarts k j)
+      (are_carried (drive_at r k).command (first_commands r k) refl refl (views_of r jobs carry restarts k j)
+      (commands_so laws more r jobs carry restarts opened j run clear k below).follow)
+
+  pub steps_in_two : (t : CycleView) (j : List CycleView) → IsRun r jobs carry restarts (t ∷ j) → IsClear (t ∷ j) → Borne t j → t.phase ≤ 2
+      → (k : ℕ) → k < length r.drives → length (epoch_log (views_of r jobs carry restarts k (t ∷ j))) ≤ two_steps (drive_at r k)
+  steps_in_two t j run clear is low k below =
+      let stands = all_stand laws more r jobs carry restarts opened (t ∷ j) run clear k below in
+      let cost = in_cost (drive_at r k).busy (drive_at r k).command (λ raw. 512) (store_of (drive_at r k))
+      (views_of r jobs carry restarts k (t ∷ j))
+      (small laws r jobs carry restarts opened (first_store laws more r jobs carry restarts opened) k below) stands.sees.run
+      stands.sound (costs_in (t ∷ j) run clear k below) (listed_all (views_of r jobs carry restarts k (t ∷ j))) in
+      let fits = each_fits laws more turn two comes_up to_zero goes counts r jobs carry restarts opened reads_cost writes_cost t j run
+      clear is.stays
+      low k below in
+      few_steps (drive_at r k).busy (length (epoch_log (views_of r jobs carry restarts k (t ∷ j)))) (74 + 4 * listed (drive_at r k))
+      (drive_at r k).command (omega (arith, cost, fits))

@@ -1,0 +1,270 @@
+-- The requests to a drive are reported in time while disturbed cycles are sparse.
+use Rattle.std.proofs.Common.{◌≡◌, ◌⊎◌, inl, inr, ℕ, zero, suc, ◌+◌, ◌*◌, ◌<◌, ◌≤◌, Bool, true, false, List, [], ◌∷◌, ◌++◌, length, Option, Some, refl, sym, ap, ◌∙◌, subst, arith, if◌then◌else◌}
+use Rattle.std.specs.Prelude.{◌==◌, is_some, slice_get}
+use Rattle.std.proofs.lemmas.Bool.{cases_Bool, cond-false, eqb-true}
+use Rattle.sercos_step.specs.declared.request.Job.{Job}
+use Rattle.sercos_block.specs.Stores.{store_of}
+use Rattle.sercos_block.specs.Views.{RingView}
+use Rattle.sercos_trace.specs.Views.{CycleView}
+use Rattle.sercos_trace.specs.declared.events.Fall.{Fall}
+use Rattle.sercos_seat.specs.Ring.{Task}
+use Rattle.sercos_script.specs.Links.{Carry, Restarts}
+use Rattle.sercos_law_channel.specs.Handshake.RunLaws.{ComesToZero, ComesUp}
+use Rattle.sercos_law_channel.specs.Handshake.Views.{View}
+use Rattle.sercos_law_channel.specs.Handshake.WholeRun.{AreSound}
+use Rattle.sercos_law_channel.specs.Pace.Ages.{AreAtWork}
+use Rattle.sercos_law_channel.specs.Pace.ChannelCalls.{AgesBeforeEnd, StaysARun}
+use Rattle.sercos_law_channel.specs.Pace.Costs.{AreTimed, ComesTimed}
+use Rattle.sercos_law_run.specs.Journal.Runs.{drive_at, looks_back, master_calls, IsClear, IsRun}
+use Rattle.sercos_law_run.specs.Agenda.Turns.{WorkInTurn, WorksInFour}
+use Rattle.sercos_law_run.specs.Views.RingViews.{view_of, views_of}
+use Rattle.sercos_law_run.specs.Held.Opened.{IsOpened}
+use Rattle.sercos_law_run.proofs.Held.Runs.{Laws, small}
+use Rattle.sercos_law_run.proofs.Headline.HeadlineRuns.{MoreLaws, all_stand, first_store}
+use Rattle.sercos_law_run.specs.Undisturbed.EpochStarts.{StartsEpoch}
+use Rattle.sercos_law_run.specs.Undisturbed.Reports.{HaveTold, left_after, request_cycles, waiting_after}
+use Rattle.sercos_law_run.specs.Undisturbed.StopsLater.{NoStopInFour}
+use Rattle.sercos_law_run.specs.Undisturbed.ViewsSince.{views_since}
+use Rattle.sercos_law_run.proofs.Undisturbed.Carried.{are_carried}
+use Rattle.sercos_law_run.proofs.Undisturbed.CommandRuns.{first_commands}
+use Rattle.sercos_law_run.proofs.Undisturbed.EndedInTime.{LastsShort, length_since}
+use Rattle.sercos_law_run.proofs.Undisturbed.GoingCycles.{AreAll, AreGoing, IsGoing, all_so, four_along, phase_before, waits_along}
+use Rattle.sercos_law_run.proofs.Undisturbed.NeverFalls.{runs_split}
+use Rattle.sercos_law_run.proofs.Undisturbed.OneRequest.{room}
+use Rattle.sercos_law_run.proofs.Undisturbed.PassedCycles.{views_split}
+use Rattle.sercos_law_run.proofs.Undisturbed.PassedRuns.{commands_so}
+use Rattle.sercos_law_run.proofs.Undisturbed.PhaseTwo.{listed_all}
+use Rattle.sercos_law_run.proofs.Undisturbed.RefusedRuns.{SaysShape}
+use Rattle.sercos_law_run.proofs.Undisturbed.ToldInTime.{IsQuiet, beyond, left_waiting, told_along, told_if_few}
+use Rattle.sercos_law_run.proofs.Recovery.LateDown.{phase_now}
+use Rattle.sercos_law_run.specs.Tolerance.Reports.{cycles_in}
+use Rattle.sercos_law_run.specs.Tolerance.Sparse.{AreSparse}
+use Rattle.sercos_law_run.proofs.Tolerance.Borne.{IsBorne, all_borne}
+use Rattle.sercos_law_run.proofs.Tolerance.EarlySparse.{start_is}
+use Rattle.sercos_law_run.proofs.Tolerance.InARow.{AreInARow, row_lasts}
+use Rattle.sercos_law_run.proofs.Tolerance.Spared.{spared_in}
+use Rattle.sercos_law_run.proofs.Tolerance.Steps.{IsYoung}
+
+one_more_time : (i c : ℕ) → (i + 1) * c ≡ suc i * c
+one_more_time i c = grind arith
+
+fewer : (b : Bool) (n m : ℕ) → suc n < (if b then suc m else m) → n < m
+fewer true n m low = omega (arith, low)
+fewer false n m low = omega (arith, low)
+
+some_times : (i c : ℕ) → c ≤ suc i * c
+some_times i c = grind arith
+
+module _ (laws : Laws) (more : MoreLaws) (turn : WorkInTurn) (comes_up : (busy : ℕ) → ComesUp busy)
+    (to_zero : (busy : ℕ) → ComesToZero busy) (goes : (busy : ℕ) → StaysARun busy) (counts : (busy : ℕ) → AgesBeforeEnd busy)
+    (works : WorksInFour) (said : SaysShape) (timed : ComesTimed) (no_stop : NoStopInFour)
+    (r : RingView) (jobs : List Job) (carry : Carry) (restarts : Restarts) (opened : IsOpened r jobs) where
+  abbrev Borne : CycleView → List CycleView → Type 0
+  Borne t j = IsBorne laws more turn comes_up to_zero goes counts r jobs carry restarts opened t j
+
+  borne : (t : CycleView) (cycles before : List CycleView) → IsRun r jobs carry restarts (t ∷ (cycles ++ before))
+      → IsClear (t ∷ (cycles ++ before)) → StartsEpoch r jobs carry restarts before → AreSparse r carry restarts (t ∷ cycles) before
+      → Borne t (cycles ++ before)
+  borne t cycles before run clear starts sparse = all_borne laws more turn comes_up to_zero goes counts r jobs carry restarts opened t
+      cycles before run clear starts sparse
+
+  going_in : (t : CycleView) (j : List CycleView) → IsRun r jobs carry restarts (t ∷ j) → Borne t j → IsGoing r jobs carry restarts t j
+  going_in t j run is = record {
+    now = phase_now r jobs carry restarts t j run.1;
+    stays = is.stays;
+    quiet = is.goes_on;
+    starts = start_is laws more turn comes_up to_zero goes counts r jobs carry restarts opened t j run is;
+  }
+
+  module _ (k : ℕ) (below : k < length r.drives) where
+    -- A CYCLE OF PHASE 3 OR 4: nothing is late at its end; or something is, and nothing was at the end of the cycle before.
+    record IsSpared (t : CycleView) (j : List CycleView) : Type 0 where
+      goes_on : IsGoing r jobs carry restarts t j
+      spared : 3 ≤ t.phase → IsYoung (drive_at r k).busy 0 0 (views_of r jobs carry restarts k (t ∷ j))
+          ⊎ (IsYoung (drive_at r k).busy 1 1 (views_of r jobs carry restarts k (t ∷ j))
+          × IsYoung (drive_at r k).busy 0 0 (views_of r jobs carry restarts k j))
+
+    spared_now : (t : CycleView) (cycles before : List CycleView) → IsRun r jobs carry restarts (t ∷ (cycles ++ before))
+        → IsClear (t ∷ (cycles ++ before)) → StartsEpoch r jobs carry restarts before → AreSparse r carry restarts (t ∷ cycles) before
+        → IsSpared t (cycles ++ before)
+    spared_now t cycles before run clear starts sparse = record {
+      goes_on = going_in t (cycles ++ before) run (borne t cycles before run clear starts sparse);
+      spared = λ late. spared_in laws more turn comes_up to_zero goes counts r jobs carry restarts opened t cycles before run clear starts
+          sparse late k below;
+    }
+
+    spared_all : (cycles before : List CycleView) → IsRun r jobs carry restarts (cycles ++ before) → IsClear (cycles ++ before)
+        → StartsEpoch r jobs carry restarts before → AreSparse r carry restarts cycles before → AreAll IsSpared cycles before
+    spared_all [] before run clear starts sparse = tt
+    spared_all (t ∷ cycles) before run clear starts sparse = (
+      spared_all cycles before run.0 clear.0 starts sparse.0,
+      spared_now t cycles before run clear starts sparse,
+    )
+
+    goes_so : (t : CycleView) (j : List CycleView) → IsSpared t j → IsGoing r jobs carry restarts t j
+    goes_so t j is = is.goes_on
+
+    goings : (cycles rest : List CycleView) → AreAll IsSpared cycles rest → AreGoing r jobs carry restarts cycles rest
+    goings cycles rest are = all_so IsSpared (IsGoing r jobs carry restarts) goes_so cycles rest are
+
+    -- SUCH CYCLES OF PHASE 4 are a row for the drive, if a step to it is open in each.
+    in_a_row : (cycles rest : List CycleView) → IsRun r jobs carry restarts (cycles ++ rest) → AreAll IsSpared cycles rest
+        → (looks_back r jobs (master_calls r carry restarts rest)).now.phase ≡ 4
+        → AreAtWork (views_since r jobs carry restarts k cycles rest) (views_of r jobs carry restarts k rest)
+        → AreInARow (drive_at r k).busy (views_since r jobs carry restarts k cycles rest) (views_of r jobs carry restarts k rest)
+    in_a_row [] rest run are four works_in = tt
+    in_a_row (t ∷ cycles) rest run are four works_in = (
+      in_a_row cycles rest run.0 are.0 four works_in.0,
+      record {
+        stays = ap (λ (o : Option Fall). is_some o) are.1.goes_on.stays;
+        goes_on = are.1.goes_on.quiet;
+        opens = works_in.1;
+        spared = subst (λ (l : List View). IsYoung (drive_at r k).busy 0 0 (view_of r jobs carry restarts k t (cycles ++ rest) ∷ l)
+            ⊎ (IsYoung (drive_at r k).busy 1 1 (view_of r jobs carry restarts k t (cycles ++ rest) ∷ l)
+            × IsYoung (drive_at r k).busy 0 0 l))
+            (views_split r jobs carry restarts k cycles rest) (are.1.spared late);
+      },
+    )
+      where
+        late : 3 ≤ t.phase
+        late =
+            let four_now = phase_before laws more comes_up r jobs carry restarts opened t (cycles ++ rest) run are.1.goes_on
+            ∙ four_along laws more comes_up r jobs carry restarts opened cycles rest run.0 (goings cycles rest are.0) four in
+            omega (arith, four_now)
+
+    -- so a request lasts no longer than this profile allows
+    lasts_sparse : LastsShort r jobs carry restarts k IsSpared
+    lasts_sparse t newer one old b older run clear those one_is t_four four_then works_in begun shut answered =
+        let count = length_since r jobs carry restarts k (t ∷ newer) (one ∷ old) in
+        let less = lasts in omega (arith, count, less)
+      where
+        split : views_of r jobs carry restarts k (t ∷ (newer ++ one ∷ old)) ≡ views_since r jobs carry restarts k (t ∷ newer) (one ∷ old) ++
+            views_of r jobs carry restarts k (one ∷ old)
+        split = views_split r jobs carry restarts k (t ∷ newer) (one ∷ old)
+
+        in_time : AreTimed (drive_at r k).command (views_of r jobs carry restarts k (t ∷ (newer ++ one ∷ old)))
+        in_time = timed (drive_at r k).command (views_of r jobs carry restarts k (t ∷ (newer ++ one ∷ old)))
+            (are_carried (drive_at r k).command (first_commands r k) refl refl (views_of r jobs carry restarts k
+            (t ∷ (newer ++ one ∷ old)))
+            (commands_so laws more r jobs carry restarts opened (t ∷ (newer ++ one ∷ old)) run clear k below).follow)
+
+        lasts : length (views_since r jobs carry restarts k (t ∷ newer) (one ∷ old)) < request_cycles r k
+        lasts = row_lasts said (drive_at r k).busy (drive_at r k).command (store_of (drive_at r k))
+            (small laws r jobs carry restarts opened (first_store laws more r jobs carry restarts opened) k below)
+            (first_store laws more r jobs carry restarts opened k below)
+            (views_since r jobs carry restarts k (t ∷ newer) (one ∷ old)) (views_of r jobs carry restarts k (one ∷ old)) b older
+            (runs_split laws more r jobs carry restarts opened (t ∷ newer) (one ∷ old) run clear k below)
+            (subst (λ (l : List View). AreSound (store_of (drive_at r k)) l) split
+            (all_stand laws more r jobs carry restarts opened (t ∷ (newer ++ one ∷ old)) run clear k below).sound)
+            (subst (λ (l : List View). AreTimed (drive_at r k).command l) split in_time)
+            (listed_all (views_since r jobs carry restarts k (t ∷ newer) (one ∷ old) ++ views_of r jobs carry restarts k (one ∷ old)))
+            (in_a_row (t ∷ newer) (one ∷ old) run those four_then works_in) begun shut answered
+
+    -- WHERE PHASE 4 IS COMMANDED in some of these cycles, it is in the newest, and after it.
+    four_next : (t : CycleView) (j : List CycleView) → IsRun r jobs carry restarts (t ∷ j) → IsGoing r jobs carry restarts t j → t.phase ≡ 4
+        → (looks_back r jobs (master_calls r carry restarts (t ∷ j))).now.phase ≡ 4
+    four_next t j run going four = four_along laws more comes_up r jobs carry restarts opened (t ∷ []) j run (tt, going)
+        (sym (phase_before laws more comes_up r jobs carry restarts opened t j run going) ∙ four)
+
+    four_of : (t : CycleView) (cycles before : List CycleView) → IsRun r jobs carry restarts (t ∷ (cycles ++ before))
+        → IsGoing r jobs carry restarts t (cycles ++ before) → 1 ≤ cycles_in 4 (t ∷ cycles)
+        → (1 ≤ cycles_in 4 cycles → (looks_back r jobs (master_calls r carry restarts (cycles ++ before))).now.phase ≡ 4) → t.phase ≡ 4
+    four_of t cycles before run going some earlier = elim (cases_Bool (t.phase == 4)) [
+      | inl is ↦ eqb-true t.phase 4 is
+      | inr off ↦ phase_before laws more comes_up r jobs carry restarts opened t (cycles ++ before) run going
+          ∙ earlier (subst (λ (n : ℕ). 1 ≤ n) (cond-false (t.phase == 4) (suc (cycles_in 4 cycles)) (cycles_in 4 cycles) off) some)
+    ]
+
+    four_after : (cycles before : List CycleView) → IsRun r jobs carry restarts (cycles ++ before) → AreAll IsSpared cycles before
+        → 1 ≤ cycles_in 4 cycles → (looks_back r jobs (master_calls r carry restarts (cycles ++ before))).now.phase ≡ 4
+    four_after [] before run are some = absurd (omega (arith, some))
+    four_after (t ∷ cycles) before run are some = four_next t (cycles ++ before) run are.1.goes_on
+        (four_of t cycles before run are.1.goes_on some (four_after cycles before run.0 are.0))
+
+    -- these cycles, cut before the newest n: phase 4 is commanded in the newest of the others, if it is in more than n of all
+    record IsFour (n : ℕ) (cycles before : List CycleView) : Type 0 where
+      newer : List CycleView
+      one : CycleView
+      older : List CycleView
+      is : cycles ++ before ≡ newer ++ one ∷ (older ++ before)
+      long : length newer ≡ n
+      four : one.phase ≡ 4
+      those : AreAll IsSpared newer (one ∷ (older ++ before))
+      one_is : IsSpared one (older ++ before)
+      those_older : AreAll IsSpared older before
+
+    four_split : (cycles before : List CycleView) (n : ℕ) → n < cycles_in 4 cycles → IsRun r jobs carry restarts (cycles ++ before)
+        → AreAll IsSpared cycles before → IsFour n cycles before
+    four_split [] before n low run are = absurd (omega (arith, low))
+    four_split (t ∷ cycles) before zero low run are = record {
+      newer = [];
+      one = t;
+      older = cycles;
+      is = refl;
+      long = refl;
+      four = four_of t cycles before run are.1.goes_on (omega (arith, low)) (four_after cycles before run.0 are.0);
+      those = tt;
+      one_is = are.1;
+      those_older = are.0;
+    }
+    four_split (t ∷ cycles) before (suc n) low run are =
+        let c = four_split cycles before n (fewer (t.phase == 4) n (cycles_in 4 cycles) low) run.0 are.0 in
+        record {
+          newer = t ∷ c.newer;
+          one = c.one;
+          older = c.older;
+          is = ap (λ (l : List CycleView). t ∷ l) c.is;
+          long = ap suc c.long;
+          four = c.four;
+          those = (c.those, subst (λ (l : List CycleView). IsSpared t l) c.is are.1);
+          one_is = c.one_is;
+          those_older = c.those_older;
+        }
+
+  -- THE REQUESTS ARE REPORTED IN TIME.
+  pub reports_sparse : (t : CycleView) (cycles before : List CycleView) → IsRun r jobs carry restarts (t ∷ (cycles ++ before))
+      → IsClear (t ∷ (cycles ++ before)) → StartsEpoch r jobs carry restarts before → AreSparse r carry restarts (t ∷ cycles) before
+      → (k i : ℕ) (x : Task) → k < length r.drives → slice_get (waiting_after r jobs carry restarts before k) i ≡ Some x
+      → (i + 1) * request_cycles r k ≤ cycles_in 4 cycles → (number : ℕ) × (x.number ≡ Some number) × HaveTold (t ∷ cycles) number
+  reports_sparse t cycles before run clear starts sparse k i x below got long = told_if_few laws more r jobs carry restarts opened k below
+      (t ∷ cycles) before (told_along laws more r jobs carry restarts opened k below (t ∷ cycles) before run clear quiet) starts i x got few
+    where
+      those : AreAll (IsSpared k below) (t ∷ cycles) before
+      those = spared_all k below (t ∷ cycles) before run clear starts sparse
+
+      quiet : AreAll (IsQuiet restarts) (t ∷ cycles) before
+      quiet = all_so (IsSpared k below) (IsQuiet restarts) (λ u j is. is.goes_on.quiet) (t ∷ cycles) before those
+
+      some : 1 ≤ suc i * request_cycles r k
+      some =
+          let all = room (drive_at r k).busy (drive_at r k).command in
+          let least = some_times i (request_cycles r k) in omega (arith, all, least)
+
+      enough : suc i * request_cycles r k ≤ cycles_in 4 cycles
+      enough = let same = one_more_time i (request_cycles r k) in omega (arith, same, long)
+
+      n : (d : ℕ) × (suc i * request_cycles r k ≡ 1 + d)
+      n = beyond 1 (suc i * request_cycles r k) some
+
+      c : IsFour k below n.0 cycles before
+      c = four_split k below cycles before n.0 (let is = n.1 in let all = enough in omega (arith, is, all)) run.0 those.0
+
+      run_cut : IsRun r jobs carry restarts (t ∷ (c.newer ++ c.one ∷ (c.older ++ before)))
+      run_cut = subst (λ (l : List CycleView). IsRun r jobs carry restarts (t ∷ l)) c.is run
+
+      clear_cut : IsClear (t ∷ (c.newer ++ c.one ∷ (c.older ++ before)))
+      clear_cut = subst (λ (l : List CycleView). IsClear (t ∷ l)) c.is clear
+
+      four : t.phase ≡ 4
+      four = phase_before laws more comes_up r jobs carry restarts opened t (cycles ++ before) run those.1.goes_on
+          ∙ four_after k below cycles before run.0 those.0 (let one = some in let all = enough in omega (arith, one, all))
+
+      few : (m : ℕ) → length (waiting_after r jobs carry restarts before k) ≤ m + suc i
+          → length (left_after r jobs carry restarts (t ∷ (cycles ++ before)) k) ≤ m
+      few m most = subst (λ (l : List CycleView). length (left_after r jobs carry restarts (t ∷ l) k) ≤ m) (sym c.is)
+          (left_waiting laws more comes_up works r jobs carry restarts opened k below (IsSpared k below) (goes_so k below)
+          (lasts_sparse k below) no_stop t c.newer c.one (c.older ++ before) run_cut clear_cut
+          (c.those, subst (λ (l : List CycleView). IsSpared k below t l) c.is those.1) c.one_is c.four four i
+          (let is = n.1 in let count = c.long in omega (arith, is, count)) m
+          (subst (λ (l : List Task). length l ≤ m + suc i) (sym (waits_along r jobs carry restarts c.older before
+          (goings k below c.older before c.those_older) k)) most))
