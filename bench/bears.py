@@ -1,19 +1,28 @@
 #!/usr/bin/env python3
-"""Checks on random rings what is said of a ring under sparse faults (docs/PROTOCOL.md, 'What a ring bears').
+"""Checks on random rings what is said of a ring under sparse faults (docs/PROTOCOL.md, 'What a ring bears'), with the numbers
+that tools/ring-bears prints of each ring.
 
-Each seed makes a ring document by the generator of compare.py, without its script, and then a sparse script: in phase 0 any
-cycles, in 1 and 2 at most one of any three in a row, in 3 and 4 at most one of any two, up to the last cycle. A disturbed cycle
-loses one telegram or several. Some scripts are as dense as that allows, some at random, some hit one kind of telegram alone. Of
-each run:
+Each seed makes a ring document by the generator of compare.py, without its script, and then two scripts. The first is sparse:
+in phase 0 any cycles, in 1 and 2 at most one of any three in a row, in 3 and 4 at most one of any two, up to the last cycle. A
+disturbed cycle loses one telegram or several. Some scripts are periodic, as dense as that allows, some are at random, some hit
+one kind of telegram alone; some are greedy: each disturbed cycle loses the one telegram that delays the ring most. Of each run:
 
 - nothing falls, no request is broken, and nothing is unseen;
 - each drive ends each cycle in the commanded phase, or one below it in the first cycle commanded that phase;
-- if the ring reaches phase 4 without faults, it does so under them by the bound of the start-up and the costs: 10 cycles for
-  each one of phase 0 whose own MST is lost, 2 for each disturbed one of phases 1 and 2, 1 for each of phase 3. A cycle counts as
-  disturbed where the script has a fault, also if that hits no telegram.
+- if the ring comes to phase 4 without faults, it does so under them by the bound of the start-up and the costs: 10 cycles for
+  each one of phase 0 whose own MST is lost, 2 for each disturbed one of phases 1 and 2, 1 for each of phase 3; and by the bound
+  with the costs of all. If not, it stops as many cycles later as a stop takes. A cycle counts as disturbed where the script has
+  a fault, also if that hits no telegram;
+- the i-th request of a drive ends within i times the cycles of one, from phase 4 on.
+
+The second script hits any cycles and stations up to a cycle F, restarts among it, and is sparse, or empty, from then on:
+
+- the ring falls at most once after F;
+- it is in phase 4, or at a stop, within the bound of a recovery after F, with the costs since F;
+- if nothing is disturbed after F, also within the sharper bound.
 
 Prints each document of which this isn't so, with its seed, and at the end the numbers of what was run and the greatest part of
-the bound that a start-up took. Ends with 0 if all is so of each.
+each bound that was taken. Ends with 0 if all is so of each.
 """
 from __future__ import annotations
 
@@ -22,10 +31,12 @@ import collections
 import concurrent.futures
 import pathlib
 import random
+import re
 import subprocess
 import sys
 import time
 import tomllib
+from collections.abc import Iterator
 from typing import Any
 
 from random_rings import Rings, table
@@ -33,6 +44,7 @@ from random_rings import Rings, table
 TOP = pathlib.Path(__file__).resolve().parent.parent
 PROGRAM = TOP / "crates/sercos/out/sercos"
 SECONDS = 120
+MOST_FAULTS = 4096
 Fault = dict[str, Any]
 
 
@@ -43,19 +55,57 @@ class PlainRings(Rings):
         pass
 
 
-def trace_of(program: str, text: str) -> list[list[str]]:
-    """The words of each line that a run writes."""
-    run = subprocess.run([program, "run"], input=text.encode(), stdout=subprocess.PIPE, stderr=subprocess.DEVNULL, timeout=SECONDS)
-    return [line.split() for line in run.stdout.decode().splitlines()]
+class Promised:
+    """The numbers that tools/ring-bears prints of a ring."""
+
+    def __init__(self, program: str, text: str) -> None:
+        told = subprocess.run([TOP / "tools/ring-bears", "--program", program], input=text.encode(), check=True, stdout=subprocess.PIPE,
+                              timeout=SECONDS).stdout.decode()
+
+        def numbers(pattern: str) -> list[int]:
+            found = re.search(pattern, told)
+            if found is None:
+                raise ValueError(f"ring-bears doesn't print {pattern!r}: {told}")
+            return [int(number) for number in found.groups()]
+
+        self.start, stop = numbers(r"start +phase 4 by cycle (\d+), or a stop by cycle (\d+), if nothing")
+        self.stop = stop - self.start
+        [self.recovery] = numbers(r"back +phase 4, or at a stop, (\d+) cycles after")
+        [self.back] = numbers(r"back +phase 4 (\d+) cycles after")
+        [self.all_costs] = numbers(r"costs +of all in phases 1 to 3 together: (\d+) cycles")
+        self.requests = {int(drive): int(cycles) for drives, cycles in
+                         re.findall(r"request +to drives? ([\d, ]+): the i-th ends within i \* (\d+) cycles", told) for drive in drives.split(",")}
+        self.comes_up = re.search(r"started +phase 4 in cycle", told) is not None
 
 
-def phases_of(trace: list[list[str]]) -> list[int]:
-    """The phase that is commanded in each cycle."""
-    return [int(words[-1][2:], 16) for words in trace if words[0] == "m"]
+class Run:
+    """What a run of a document writes: the words of each line, and the phase that is commanded in each cycle."""
+
+    def __init__(self, program: str, text: str) -> None:
+        run = subprocess.run([program, "run"], input=text.encode(), stdout=subprocess.PIPE, stderr=subprocess.DEVNULL, timeout=SECONDS)
+        self.lines = [line.split() for line in run.stdout.decode().splitlines()]
+        self.phases = [int(words[-1][2:], 16) for words in self.lines if words[0] == "m"]
+
+    def of(self, word: str) -> Iterator[list[str]]:
+        return (words for words in self.lines if words[0] == word)
+
+    def ends_clear(self) -> bool:
+        return bool(self.lines) and self.lines[-1][-2:] == ["unseen", "0"]
+
+    def back(self) -> int:
+        """The first cycle from which on phase 4 is commanded in each, or the master stands at a stop."""
+        stops = {int(words[1]) for words in self.of("stop")}
+        falls = {int(words[1]) for words in self.of("fall")}
+        stands, back = False, 0
+        for cycle, phase in enumerate(self.phases):
+            stands = (stands or cycle in stops) and cycle not in falls
+            if not stands and phase != 4 or cycle in falls:
+                back = cycle + 1
+        return back
 
 
 class Script:
-    """A sparse script for a ring, made as the run under it goes on."""
+    """A script for a ring."""
 
     def __init__(self, seed: int, drives: list[int]) -> None:
         self.random = random.Random(seed)
@@ -65,15 +115,23 @@ class Script:
         self.faults: list[Fault] = []
         self.last = -10
 
+    def lost(self, kind: str, cycle: int, station: int) -> Fault:
+        """The loss of a telegram of this kind: of the drive at this place, the last one that is to receive it, or the master."""
+        fault: Fault = {"kind": "lose", "cycle": cycle, "telegram": "mst" if kind == "own" else kind}
+        link = len(self.drives) if kind == "own" else station
+        if kind == "at":
+            fault["from"] = self.drives[station]
+            link = len(self.drives)
+        return {**fault, "link": link}
+
     def loss(self, cycle: int) -> Fault:
         kind = self.random.choice(self.kinds)
-        fault: Fault = {"kind": "lose", "cycle": cycle, "telegram": "mst" if kind == "own" else kind}
-        link = len(self.drives) if kind == "own" else self.random.randint(0, len(self.drives))
+        fault = self.lost(kind, cycle, self.random.randrange(len(self.drives)))
         if kind == "at":
-            place = self.random.randrange(len(self.drives))
-            fault["from"] = self.drives[place]
-            link = self.random.randint(place + 1, len(self.drives))
-        return {**fault, "link": link}
+            fault["link"] = self.random.randint(self.drives.index(fault["from"]) + 1, len(self.drives))
+        elif kind != "own":
+            fault["link"] = self.random.randint(0, len(self.drives))
+        return fault
 
     def disturb(self, cycle: int, apart: int) -> None:
         """Disturbs a cycle, or not, if the last that may be disturbed is far enough."""
@@ -88,19 +146,26 @@ class Script:
                 self.faults.append(self.loss(cycle))
                 self.last = cycle
 
+    def break_up(self, first: int, last: int) -> None:
+        """Cycles in which any telegrams are lost, and stations restart; something does in the last of them."""
+        density = self.random.choice([1.0, 0.7, 0.3])
+        for cycle in range(first, last + 1):
+            if cycle == last or self.random.random() < density:
+                self.faults.extend(self.loss(cycle) for _ in range(self.random.choice([1, 1, 2, 4])))
+                if self.random.random() < 0.1:
+                    self.faults.append({"kind": "restart", "cycle": cycle, "station": self.random.choice([0, *self.drives])})
+        self.last = last
+
     def text(self) -> str:
         return "".join(table("fault", fault) for fault in self.faults)
 
 
-def script_for(program: str, plain: str, seed: int, cycles: int) -> Script:
-    """A script whose disturbed cycles are sparse in the run under it: each part is made once the phases before it are known."""
-    document = tomllib.loads(plain)
-    order = document["ring"].get("order", [drive["address"] for drive in document["drive"]])
-    script = Script(seed, order)
+def sparse_script(program: str, plain: str, script: Script, cycles: int) -> None:
+    """Makes a script whose disturbed cycles are sparse in the run under it: each part is made once the phases before it are known."""
     if script.random.random() < 0.3:
         script.disturb_zero(script.random.randint(1, 25))
     for part, apart in ((1, 3), (3, 2)):
-        first = next((cycle for cycle, phase in enumerate(phases_of(trace_of(program, plain + script.text()))) if phase >= part), None)
+        first = next((cycle for cycle, phase in enumerate(Run(program, plain + script.text()).phases) if phase >= part), None)
         if first is None:
             break
         # what was made for the phases before ends with them
@@ -108,66 +173,151 @@ def script_for(program: str, plain: str, seed: int, cycles: int) -> Script:
         script.last = max((fault["cycle"] for fault in script.faults), default=-10)
         for cycle in range(first, cycles):
             script.disturb(cycle, apart)
-    script.faults = script.faults[:4096]
-    return script
+    script.faults = script.faults[:MOST_FAULTS]
 
 
-def bound_of(document: dict[str, Any]) -> int:
-    """The bound of a start-up in which nothing is disturbed."""
-    drives = document["drive"]
-    listed = [len(drive.get("at", [])) + len(drive.get("mdt", [])) for drive in drives]
-    return 20 + 2 * len(drives) + sum((drive.get("busy", 0) + 2) * (82 + 4 * m + 2 * drive.get("command", 0)) for drive, m in zip(drives, listed))
+def greedy_script(program: str, plain: str, script: Script, cycles: int) -> None:
+    """Makes a sparse script in which each disturbed cycle loses the one telegram that keeps the ring longest from phase 4."""
+    cycle = next((cycle for cycle, phase in enumerate(Run(program, plain).phases) if phase >= 1), cycles)
+    tried = [(kind, place) for kind in ("mst", "at", "mdt") for place in range(len(script.drives))]
+    while cycle < cycles:
+        runs = []
+        for kind, place in tried:
+            fault = script.lost(kind, cycle, place)
+            phases = Run(program, plain + script.text() + table("fault", fault)).phases
+            runs.append((phases.index(4) if 4 in phases else len(phases), phases[cycle], fault))
+        latest = max(runs, key=lambda run: run[0])
+        if latest[1] == 4 or latest[0] == min(run[0] for run in runs) and latest[0] == cycles:
+            break
+        script.faults.append(latest[2])
+        cycle += 2 if latest[1] == 3 else 3
 
 
-def costs_of(phases: list[int], script: Script) -> int:
-    """What the disturbed cycles cost a start-up."""
-    costs = 0
-    for cycle in {fault["cycle"] for fault in script.faults if fault["cycle"] < len(phases)}:
-        own = any(fault["cycle"] == cycle and fault["telegram"] == "mst" for fault in script.faults)
-        costs += [10 * own, 2, 2, 1, 0][phases[cycle]]
-    return costs
-
-
-def wrong_in(trace: list[list[str]], drives: list[int]) -> list[str]:
-    """What is wrong of a run: a fall, a request broken, something unseen, or a drive in another phase."""
-    wrong = [" ".join(words) for words in trace if words[0] == "fall" or words[-1] == "broken"]
-    if not trace or trace[-1][-2:] != ["unseen", "0"]:
-        wrong.append(f"the run ends with {trace[-1:]}")
-    stands, phases = dict.fromkeys(drives, 0), phases_of(trace)
-    moves = collections.defaultdict(list)
-    for words in trace:
-        if words[0] == "p":
-            moves[int(words[1])].append((int(words[2]), int(words[3])))
+def costs_of(phases: list[int], script: Script, since: int = 0) -> list[int]:
+    """For each cycle, what the disturbed ones from the first on cost a start-up until then."""
+    hit = {fault["cycle"] for fault in script.faults}
+    own = {fault["cycle"] for fault in script.faults if fault.get("telegram") == "mst"}
+    costs, sums = 0, []
     for cycle, phase in enumerate(phases):
+        sums.append(costs)
+        if cycle >= since and cycle in hit:
+            costs += [10 * (cycle in own), 2, 2, 1, 0][phase]
+    return sums
+
+
+def wrong_stands(run: Run, drives: list[int]) -> Iterator[str]:
+    """A cycle in which a drive isn't in the commanded phase, nor just below it."""
+    stands = dict.fromkeys(drives, 0)
+    moves = collections.defaultdict(list)
+    for words in run.of("p"):
+        moves[int(words[1])].append((int(words[2]), int(words[3])))
+    for cycle, phase in enumerate(run.phases):
         stands.update(moves[cycle])
-        is_first = cycle > 0 and phases[cycle - 1] < phase
+        is_first = cycle > 0 and run.phases[cycle - 1] < phase
         for drive, stood in stands.items():
             if stood != phase and not (is_first and stood == phase - 1):
-                wrong.append(f"drive {drive} is in {stood} in cycle {cycle}, which is commanded {phase}")
-                break
-    return wrong[:3]
+                yield f"drive {drive} is in {stood} in cycle {cycle}, which is commanded {phase}"
 
 
-def checked(program: str, seed: int) -> tuple[int, list[str], set[str], float, str]:
-    """A seed, what is wrong of its ring, what occurred, the part of the bound that the start-up took, and the document."""
+class Judged:
+    """What is wrong of a ring, and the greatest part of each bound that was taken."""
+
+    def __init__(self, seed: int) -> None:
+        self.seed = seed
+        self.wrong: list[str] = []
+        self.occurred: set[str] = set()
+        self.parts: dict[str, float] = {}
+        self.texts: list[str] = []
+
+    def within(self, what: str, cycle: int, bound: int) -> None:
+        if cycle > bound:
+            self.wrong.append(f"{what}: {cycle}, bound {bound}")
+        self.parts[what] = max(self.parts.get(what, 0.0), cycle / max(bound, 1))
+
+    def judge_sparse(self, run: Run, script: Script, promised: Promised, document: dict[str, Any]) -> None:
+        self.wrong += [" ".join(words) for words in run.lines if words[0] == "fall" or words[-1] == "broken"]
+        self.wrong += [f"the run ends with {run.lines[-1:]}"] * (not run.ends_clear())
+        self.wrong += list(wrong_stands(run, [drive["address"] for drive in document["drive"]]))[:1]
+        if not run.phases:
+            return
+        costs, ends = costs_of(run.phases, script), run.back()
+        zeros = costs_of([0 if phase == 0 else 4 for phase in run.phases], script)
+        if promised.comes_up and 4 in run.phases:
+            up = run.phases.index(4)
+            self.within("phase 4, with the cost of each", up, promised.start + costs[up])
+            self.within("phase 4, with the costs of all", up, promised.start + promised.all_costs + zeros[up])
+            self.judge_requests(run, up, promised, document)
+        elif promised.comes_up:
+            self.wrong += ["phase 4 isn't commanded"] * (len(run.phases) > promised.start + costs[-1])
+        elif ends < len(run.phases):
+            self.within("a stop, with the cost of each", ends, promised.start + promised.stop + costs[ends])
+            self.within("a stop, with the costs of all", ends, promised.start + promised.stop + promised.all_costs + zeros[ends])
+        else:
+            self.wrong += ["the ring doesn't stop"] * (len(run.phases) > promised.start + promised.stop + costs[-1])
+
+    def judge_requests(self, run: Run, up: int, promised: Promised, document: dict[str, Any]) -> None:
+        reported = {int(words[2]): int(words[1]) for words in run.of("r")}
+        places: collections.Counter[int] = collections.Counter()
+        for number, request in enumerate(document.get("request", []), 1):
+            drive = request["drive"]
+            places[drive] += 1
+            latest = up + places[drive] * promised.requests[drive]
+            if number in reported:
+                self.within("a request", reported[number] - up, latest - up)
+            elif latest < len(run.phases):
+                self.wrong.append(f"request {number} isn't reported by cycle {latest}")
+
+    def judge_return(self, run: Run, script: Script, promised: Promised, last: int) -> None:
+        """What is right after the last cycle that isn't sparse."""
+        self.wrong += [f"the run ends with {run.lines[-1:]}"] * (not run.ends_clear())
+        falls = [int(words[1]) for words in run.of("fall") if int(words[1]) > last]
+        self.wrong += [f"{len(falls)} falls after cycle {last}"] * (len(falls) > 1)
+        costs, back = costs_of(run.phases, script, last + 1), run.back()
+        bound = last + promised.recovery
+        is_calm = script.faults[-1]["cycle"] <= last
+        if back < len(run.phases):
+            self.within("a return", back - last, bound + costs[back] - last)
+            if is_calm:
+                sharp = promised.back + promised.stop * (not promised.comes_up)
+                self.within("a return, by the sharper bound", back - last, sharp)
+        else:
+            self.wrong += [f"the ring isn't back by cycle {bound + costs[-1]}"] * (len(run.phases) > bound + costs[-1])
+        self.occurred.add(f"{len(falls)} falls after the last cycle that isn't sparse" + ", calm since" * is_calm)
+
+
+def checked(program: str, seed: int) -> Judged:
+    """What is wrong of the ring of a seed."""
+    judged = Judged(seed)
     plain = PlainRings(seed).document()
     document = tomllib.loads(plain)
-    before = trace_of(program, plain)
-    if not before or not phases_of(before):
-        return seed, [f"run answers {before[:1]}"], set(), 0.0, plain
-    script = script_for(program, plain, seed, document["ring"]["cycles"])
-    text = plain + script.text()
-    trace = trace_of(program, text)
-    phases = phases_of(trace)
-    wrong = wrong_in(trace, [drive["address"] for drive in document["drive"]])
-    occurred = {f"phase {max(phases)} with {'/'.join(script.kinds)}"}
-    part, bound = 0.0, bound_of(document) + costs_of(phases, script)
-    if 4 in phases_of(before):
-        if 4 in phases:
-            part = phases.index(4) / bound
-        if 4 not in phases[:bound + 1] and len(phases) > bound:
-            wrong.append(f"phase 4 isn't commanded by cycle {bound}")
-    return seed, wrong, occurred, part, text
+    if not Run(program, plain).phases:
+        judged.wrong.append("run refuses the document")
+        return judged
+    promised = Promised(program, plain)
+    cycles = document["ring"]["cycles"]
+    order = document["ring"].get("order", [drive["address"] for drive in document["drive"]])
+    script = Script(seed, order)
+    is_greedy = seed % 10 == 0 and len(order) <= 2 and promised.start <= 900
+    (greedy_script if is_greedy else sparse_script)(program, plain, script, cycles)
+    judged.texts.append(plain + script.text())
+    run = Run(program, judged.texts[0])
+    judged.judge_sparse(run, script, promised, document)
+    kind = "greedy" if is_greedy else "/".join(script.kinds) + (" periodic" if script.density == 1 else "")
+    judged.occurred.add(f"phase {max(run.phases, default=0)} with {kind}")
+    if promised.recovery <= 3000:
+        broken, last = Script(seed + 1, order), random.Random(seed).randint(1, promised.start + 50)
+        broken.break_up(random.Random(seed + 1).randint(max(last - 60, 0), last), last)
+        length = last + promised.recovery + promised.stop + 100
+        if seed % 2:
+            broken.density = broken.random.choice([0.5, 0.1, 0.02])
+            for cycle in range(last + 3, length):
+                broken.disturb(cycle, 3)
+        broken.faults = broken.faults[:MOST_FAULTS]
+        judged.texts.append(re.sub(r"(?m)^cycles = \d+", f"cycles = {length}", plain, count=1) + broken.text())
+        before = len(judged.wrong)
+        judged.judge_return(Run(program, judged.texts[1]), broken, promised, last)
+        judged.texts = judged.texts if len(judged.wrong) > before else judged.texts[:1]
+    return judged
 
 
 def main() -> int:
@@ -178,18 +328,22 @@ def main() -> int:
     parser.add_argument("--jobs", type=int, default=2, help="how many seeds at a time (%(default)s)")
     words = parser.parse_args()
     counts: collections.Counter[str] = collections.Counter()
-    wrong, most, start = 0, 0.0, time.monotonic()
+    parts: dict[str, float] = {}
+    wrong, start = 0, time.monotonic()
     with concurrent.futures.ThreadPoolExecutor(words.jobs) as pool:
         seeds = range(words.seed, words.seed + words.count)
-        for seed, faults, occurred, part, text in pool.map(lambda seed: checked(words.program, seed), seeds):
-            counts.update(occurred)
-            most = max(most, part)
-            if faults:
+        for judged in pool.map(lambda seed: checked(words.program, seed), seeds):
+            counts.update(judged.occurred)
+            for what, part in judged.parts.items():
+                parts[what] = max(parts.get(what, 0.0), part)
+            if judged.wrong:
                 wrong += 1
-                print(*(f"seed {seed}: {fault}" for fault in faults), text, sep="\n", flush=True)
+                print(*(f"seed {judged.seed}: {fault}" for fault in judged.wrong[:4]), *judged.texts, sep="\n", flush=True)
     for name in sorted(counts):
         print(f"{counts[name]:6} {name}")
-    print(f"{words.count} rings in {time.monotonic() - start:.0f} s, {wrong} wrong; the longest start-up took {most:.2f} of its bound")
+    for what in sorted(parts):
+        print(f"{parts[what]:6.2f} of its bound, at most, took {what}")
+    print(f"{words.count} rings in {time.monotonic() - start:.0f} s, {wrong} wrong")
     return 1 if wrong else 0
 
 
