@@ -1,3 +1,4 @@
 pub mod Handshake
 pub mod Pace
+pub mod Cited
 pub mod Theorems

@@ -1,3 +1,4 @@
+use Rattle.sercos_law_channel.proofs.Cited.{make_transfers}
 use Rattle.sercos_law_channel.proofs.Handshake.LogParts.{come_in_turn, fall_into_parts, have_replies}
 use Rattle.sercos_law_channel.proofs.handshake_laws.parts_law.Goals as goal
 
@@ -11,5 +12,4 @@ pub returns-clause-replies : goal.returns-clause-replies
 returns-clause-replies c = have_replies
 
 pub returns-clause-transfers : goal.returns-clause-transfers
-returns-clause-transfers c = λ b blocks e entries log row replies alike.
-    record { steps = row.steps; in_turn = row.in_turn; goes_on = row.goes_on; replies = replies; alike = alike }
+returns-clause-transfers c = make_transfers

@@ -1,5 +1,6 @@
+use Rattle.sercos_law_channel.proofs.Cited.{written_stays}
 use Rattle.sercos_law_channel.proofs.Handshake.ProtectedWrites.{stays_protected, stays_quiet, stays_fixed}
-use Rattle.sercos_law_channel.proofs.Handshake.StoredValues.{holds_newest, stays_written}
+use Rattle.sercos_law_channel.proofs.Handshake.StoredValues.{holds_newest}
 use Rattle.sercos_law_channel.proofs.handshake_laws.values_law.Goals as goal
 
 pub returns-clause-newest : goal.returns-clause-newest
@@ -12,7 +13,7 @@ pub returns-clause-quiet : goal.returns-clause-quiet
 returns-clause-quiet c = stays_quiet
 
 pub returns-clause-written : goal.returns-clause-written
-returns-clause-written c = λ busy. stays_written busy (c.exact_law.ensures busy)
+returns-clause-written c = written_stays
 
 pub returns-clause-fixed : goal.returns-clause-fixed
 returns-clause-fixed c = stays_fixed c.writes_law.ensures.allowed

@@ -1,0 +1,59 @@
+-- The theorems on one channel whose proofs cite those of the crates below, as the laws state them.
+use Rattle.std.proofs.Common.{◌≡◌, ℕ, ◌+◌, ◌*◌, ◌^◌, ◌<◌}
+use Rattle.sercos_idn.proofs.AttributeLemmas.{attribute_word-below, attribute_fault-attribute_word, attribute_of-attribute_word}
+use Rattle.sercos_block.specs.declared.block.Block.{Block}
+use Rattle.sercos_block.proofs.TypeLemmas.{types}
+use Rattle.sercos_step.specs.Words.{shape_by, shape_of}
+use Rattle.sercos_law_channel.specs.Handshake.Exact.{RunsAreExact}
+use Rattle.sercos_law_channel.specs.Handshake.Parts.{MakeTransfers}
+use Rattle.sercos_law_channel.specs.Handshake.ReadTransfers.{ReadsOnce}
+use Rattle.sercos_law_channel.specs.Handshake.Transfers.{WritesOnce}
+use Rattle.sercos_law_channel.specs.Handshake.Values.{StaysWritten}
+use Rattle.sercos_law_channel.specs.Pace.Costs.{StaysInCost}
+use Rattle.sercos_law_channel.specs.Pace.StartCosts.{RecoversInCost, RecoversSince, StartsInCost}
+use Rattle.sercos_law_channel.proofs.Handshake.AttributeReplies.{shape-attribute}
+use Rattle.sercos_law_channel.proofs.Handshake.ElementReads.{reads_once_by}
+use Rattle.sercos_law_channel.proofs.Handshake.ExactRuns.{runs_are_exact}
+use Rattle.sercos_law_channel.proofs.Handshake.StoredValues.{stays_written}
+use Rattle.sercos_law_channel.proofs.Handshake.ReadStages.{high_of, low_of}
+use Rattle.sercos_law_channel.proofs.Handshake.WriteStages.{writes_once_by}
+use Rattle.sercos_law_channel.proofs.Pace.CostRuns.{stays_in_cost}
+use Rattle.sercos_law_channel.proofs.Pace.StartCosts.{recovers_in_cost, recovers_since, starts_in_cost}
+
+-- the words of an attribute say how the operation data of its block is read
+pub says_shape : (b : Block) → b.attribute.factor < 2 ^ 16 → shape_of 7 (low_of b + 65536 * high_of b) ≡ shape_by b.attribute.length
+says_shape b fits =
+    shape-attribute b.attribute (attribute_word-below b.attribute fits) (attribute_fault-attribute_word b.attribute fits)
+    (attribute_of-attribute_word b.attribute fits)
+
+pub writes_once : WritesOnce
+writes_once idn bytes blocks b e entries log are found fits is =
+    writes_once_by idn bytes b (says_shape b fits) blocks found e entries log are is
+
+pub reads_once : ReadsOnce
+reads_once idn e bytes blocks b s entries log low high found fits is complete =
+    reads_once_by (λ others raw d store there. (types others raw d store there).1) idn e bytes blocks b s entries log (says_shape b fits) low
+    high found is complete
+
+pub runs_exact : (busy : ℕ) → RunsAreExact busy
+runs_exact = runs_are_exact (record { once = writes_once; reads = reads_once })
+
+pub written_stays : (busy : ℕ) → StaysWritten busy
+written_stays busy = stays_written busy (runs_exact busy)
+
+pub make_transfers : MakeTransfers
+make_transfers b blocks e entries log row replies alike =
+    record { steps = row.steps; in_turn = row.in_turn; goes_on = row.goes_on; replies = replies; alike = alike }
+
+pub in_cost : (busy : ℕ) → StaysInCost busy
+in_cost busy time longest blocks past small run sound timed listed =
+    stays_in_cost says_shape busy time longest blocks small past run sound timed listed
+
+pub start_in_cost : (busy : ℕ) → StartsInCost busy
+start_in_cost busy = starts_in_cost busy says_shape
+
+pub rest_in_cost : (busy : ℕ) → RecoversInCost busy
+rest_in_cost busy = recovers_in_cost busy says_shape
+
+pub rest_since : (busy : ℕ) → RecoversSince busy
+rest_since busy = recovers_since busy says_shape
