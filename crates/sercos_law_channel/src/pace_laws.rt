@@ -10,8 +10,6 @@ ghost use Rattle.sercos_law_channel.specs.Pace.StartCosts.{StartsInCost, Recover
 ghost use Rattle.sercos_law_channel.specs.Pace.ChannelCalls.{StaysARun, CallsBegin, AgesAreThose, AgesBeforeEnd, NoneLate};
 ghost use Rattle.sercos_law_channel.specs.Pace.Passes.{PassesBySetting, PassesLast, StaysPassed, StaysPassedLast};
 
-use sercos_idn::attribute_law;
-
 /// A law, without code, over an epoch in which nothing is lost. An answer arrives busy time and one cycle after the cycle in
 /// which the drive accepted its step. So the cycles in which a step was open are the busy time and one for each answer, and
 /// those since the open step was accepted: at most the busy time and one for each step.
@@ -62,10 +60,7 @@ pub fn cost_law()
     ensures starts { (busy : ℕ) → StartsInCost busy }
     ensures recovers { (busy : ℕ) → RecoversInCost busy }
     ensures since { (busy : ℕ) → RecoversSince busy }
-{
-    // what the master takes for the attribute is that of the block
-    attribute_law();
-}
+{}
 
 /// A law and no code: what the requests of a start-up cost, one by one and together, and each request after it.
 pub fn jobs_law()

@@ -1,3 +1,4 @@
+use Rattle.sercos_service_drive.proofs.AllowedWrites.{allowed}
 use Rattle.sercos_law_channel.proofs.Cited.{written_stays}
 use Rattle.sercos_law_channel.proofs.Handshake.ProtectedWrites.{stays_protected, stays_quiet, stays_fixed}
 use Rattle.sercos_law_channel.proofs.Handshake.StoredValues.{holds_newest}
@@ -16,4 +17,4 @@ pub returns-clause-written : goal.returns-clause-written
 returns-clause-written c = written_stays
 
 pub returns-clause-fixed : goal.returns-clause-fixed
-returns-clause-fixed c = stays_fixed c.writes_law.ensures.allowed
+returns-clause-fixed c = stays_fixed allowed
