@@ -1,4 +1,4 @@
-mod DriveLemmas
+pub mod DriveLemmas
 mod FeedbackLemmas
 pub mod RecordLemmas
 pub mod Worked

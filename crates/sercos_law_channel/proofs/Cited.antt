@@ -9,14 +9,17 @@ use Rattle.sercos_law_channel.specs.Handshake.Parts.{MakeTransfers}
 use Rattle.sercos_law_channel.specs.Handshake.ReadTransfers.{ReadsOnce}
 use Rattle.sercos_law_channel.specs.Handshake.Transfers.{WritesOnce}
 use Rattle.sercos_law_channel.specs.Handshake.Values.{StaysWritten}
+use Rattle.sercos_law_channel.specs.Pace.Ages.{OpensAlways}
 use Rattle.sercos_law_channel.specs.Pace.Costs.{StaysInCost}
 use Rattle.sercos_law_channel.specs.Pace.StartCosts.{RecoversInCost, RecoversSince, StartsInCost}
 use Rattle.sercos_law_channel.proofs.Handshake.AttributeReplies.{shape-attribute}
 use Rattle.sercos_law_channel.proofs.Handshake.ElementReads.{reads_once_by}
 use Rattle.sercos_law_channel.proofs.Handshake.ExactRuns.{runs_are_exact}
+use Rattle.sercos_law_channel.proofs.Handshake.ExactTransfers.{Laws}
 use Rattle.sercos_law_channel.proofs.Handshake.StoredValues.{stays_written}
 use Rattle.sercos_law_channel.proofs.Handshake.ReadStages.{high_of, low_of}
 use Rattle.sercos_law_channel.proofs.Handshake.WriteStages.{writes_once_by}
+use Rattle.sercos_law_channel.proofs.Pace.AgeRuns.{opens_always}
 use Rattle.sercos_law_channel.proofs.Pace.CostRuns.{stays_in_cost}
 use Rattle.sercos_law_channel.proofs.Pace.StartCosts.{recovers_in_cost, recovers_since, starts_in_cost}
 
@@ -35,8 +38,11 @@ reads_once idn e bytes blocks b s entries log low high found fits is complete =
     reads_once_by (λ others raw d store there. (types others raw d store there).1) idn e bytes blocks b s entries log (says_shape b fits) low
     high found is complete
 
+pub transfers : Laws
+transfers = record { once = writes_once; reads = reads_once }
+
 pub runs_exact : (busy : ℕ) → RunsAreExact busy
-runs_exact = runs_are_exact (record { once = writes_once; reads = reads_once })
+runs_exact = runs_are_exact transfers
 
 pub written_stays : (busy : ℕ) → StaysWritten busy
 written_stays busy = stays_written busy (runs_exact busy)
@@ -57,3 +63,6 @@ rest_in_cost busy = recovers_in_cost busy says_shape
 
 pub rest_since : (busy : ℕ) → RecoversSince busy
 rest_since busy = recovers_since busy says_shape
+
+pub always_opens : OpensAlways
+always_opens = opens_always 0

@@ -13,4 +13,5 @@ pub mod Recovery
 pub mod Totals
 pub mod Stations
 pub mod Tolerance
+pub mod Cited
 pub mod Theorems
