@@ -5,6 +5,7 @@ use Rattle.sercos_block.specs.declared.block.Block.{Block}
 use Rattle.sercos_block.proofs.TypeLemmas.{types}
 use Rattle.sercos_step.specs.Words.{shape_by, shape_of}
 use Rattle.sercos_law_channel.specs.Handshake.Exact.{RunsAreExact}
+use Rattle.sercos_law_channel.specs.Handshake.RunLaws.{BeginsEmpty}
 use Rattle.sercos_law_channel.specs.Handshake.Parts.{MakeTransfers}
 use Rattle.sercos_law_channel.specs.Handshake.ReadTransfers.{ReadsOnce}
 use Rattle.sercos_law_channel.specs.Handshake.Transfers.{WritesOnce}
@@ -14,6 +15,7 @@ use Rattle.sercos_law_channel.specs.Pace.Costs.{StaysInCost}
 use Rattle.sercos_law_channel.specs.Pace.StartCosts.{RecoversInCost, RecoversSince, StartsInCost}
 use Rattle.sercos_law_channel.proofs.Handshake.AttributeReplies.{shape-attribute}
 use Rattle.sercos_law_channel.proofs.Handshake.ElementReads.{reads_once_by}
+use Rattle.sercos_law_channel.proofs.Handshake.EpochRuns.{quiet}
 use Rattle.sercos_law_channel.proofs.Handshake.ExactRuns.{runs_are_exact}
 use Rattle.sercos_law_channel.proofs.Handshake.ExactTransfers.{Laws}
 use Rattle.sercos_law_channel.proofs.Handshake.StoredValues.{stays_written}
@@ -66,3 +68,6 @@ rest_since busy = recovers_since busy says_shape
 
 pub always_opens : OpensAlways
 always_opens = opens_always 0
+
+pub begins_empty : (busy : ℕ) → BeginsEmpty busy
+begins_empty = quiet
