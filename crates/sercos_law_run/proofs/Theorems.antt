@@ -24,11 +24,10 @@ pub use Rattle.sercos_law_run.proofs.Typed.Words.{AreWords, bytes_of_words, read
 pub use Rattle.sercos_law_run.proofs.Held.Agreed.{wishes_count}
 pub use Rattle.sercos_law_run.proofs.Held.OpenedLemmas.{IsSound, all_at, all_dropped, of_jobs, opened}
 pub use Rattle.sercos_law_run.proofs.Held.Rests.{rests_so}
-pub use Rattle.sercos_law_run.proofs.Held.Runs.{AllStand, IsPlannedIn, Laws, alike_so, drive_got, got_inside, holding, kept_at_mst, phase_same, rules, s_known, small}
+pub use Rattle.sercos_law_run.proofs.Held.Runs.{AllStand, IsPlannedIn, alike_so, drive_got, got_inside, holding, kept_at_mst, phase_same, rules, s_known, small}
 pub use Rattle.sercos_law_run.proofs.Held.StoreOf.{store_of_so}
 pub use Rattle.sercos_law_run.proofs.Headline.AtLengths.{carried_length}
-pub use Rattle.sercos_law_run.proofs.Headline.HeadlineRuns.{MoreLaws, all_stand, first_store, keeps_all, spelled_in, stored_in}
-pub use Rattle.sercos_law_run.proofs.Headline.WellRuns.{StopLaws}
+pub use Rattle.sercos_law_run.proofs.Headline.HeadlineRuns.{all_stand, first_store, keeps_all, spelled_in, stored_in}
 pub use Rattle.sercos_law_run.proofs.Undisturbed.StaysClear.{stays_clear}
 pub use Rattle.sercos_law_run.proofs.Totals.Bounds.{unseen_few}
 pub use Rattle.sercos_law_run.proofs.Totals.CountLemmas.{few_more, none_counted, none_few, room_for}

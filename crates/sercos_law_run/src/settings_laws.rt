@@ -3,7 +3,6 @@ ghost use Rattle.sercos_law_run.specs.Settings.SetByWrites.{IsSetByWrites, SetBy
 ghost use Rattle.sercos_law_run.specs.Settings.Checks.{StayWell, ChecksGive3};
 
 // Laws on the procedure commands that a drive was set to.
-use sercos_law_channel::transfer_law;
 
 /// A law on the settings of a drive's procedure commands in a run. At each MST's place they are what the records since the drive
 /// was last in phase 0 left; and a procedure command whose newest write since then isn't 0 is set. If each check for phase 3 was
@@ -13,6 +12,4 @@ pub fn settings_law()
     ensures set { IsSetByWrites }
     ensures well { StayWell }
     ensures three { (busy : ℕ) → ChecksGive3 busy }
-{
-    transfer_law();
-}
+{}

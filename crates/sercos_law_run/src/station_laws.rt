@@ -7,7 +7,6 @@ ghost use Rattle.sercos_law_run.specs.Stations.Cycles.{AlwaysPlain};
 ghost use Rattle.sercos_law_run.specs.Stations.Senders.{SendsAlone};
 
 use crate::typed_laws::typed_law;
-use sercos_drive::drive_law;
 
 /// In phases 3 and 4 the check for phase 3 finds nothing in the drive's store, whatever the drive was handed and
 /// whatever was written to it, and in phase 4 no block has operation data outside its limits. A store in which the check finds nothing
@@ -21,9 +20,7 @@ pub fn fit_law()
     ensures lies { AlwaysLies }
     ensures four { FitInFour }
     ensures lists { ListsAreFound }
-{
-    drive_law();
-}
+{}
 
 /// On the phase of a drive, whatever the drive was handed. If it isn't 0, it is that of the MST that the drive got in
 /// this cycle, or of the one in the cycle before if it got none in this one. It rises by one at a time, by an MST of the next phase, and
@@ -42,7 +39,6 @@ pub fn station_law()
     ensures plain { AlwaysPlain }
     ensures alone { SendsAlone }
 {
-    drive_law();
     typed_law();
 }
 

@@ -11,23 +11,7 @@ ghost use Rattle.sercos_law_run.specs.Tolerance.Rises.{RisesSparse};
 ghost use Rattle.sercos_law_run.specs.Tolerance.Sparse.{CalmIsSparse, OneOfThreeIsSparse};
 ghost use Rattle.sercos_law_run.specs.Tolerance.TwoLasts.{TwoSparse};
 
-use crate::agenda_laws::{agenda_law, report_law, stop_law};
-use crate::bounds_laws::bound_law;
-use crate::start_laws::{
-    answer_law, cause_law, held_values_law, ring_slot_law, start_up_law, store_of_law,
-};
-use crate::typed_laws::typed_law;
 use crate::undisturbed_laws::undisturbed_law;
-use sercos_block::{ring_law, store_law};
-use sercos_drive::drive_law;
-use sercos_hdlc::framing_law;
-use sercos_idn::attribute_law;
-use sercos_law_channel::{
-    calls_law, cost_law, exact_law, jobs_law, parts_law, passage_law, run_law, transfer_law,
-    values_law,
-};
-use sercos_master::master_law;
-use sercos_service_drive::writes_law;
 
 /// A law over every run of a ring without undetected damage, over every link. Take any point at which phase 0 is commanded next: the
 /// opening, a fall, a restart of the master. Losses and restarts before it don't matter. From there on, as long as no station restarts and
@@ -71,32 +55,5 @@ pub fn tolerance_law()
     ensures ends_anyway { EndsAnyway }
     ensures returns { ReturnsWhileSparse }
 {
-    agenda_law();
-    report_law();
-    stop_law();
-    ring_law();
-    store_law();
-    drive_law();
-    exact_law();
-    run_law();
-    transfer_law();
-    values_law();
-    framing_law();
-    attribute_law();
-    master_law();
-    writes_law();
-    answer_law();
-    cause_law();
-    held_values_law();
-    ring_slot_law();
-    start_up_law();
-    store_of_law();
-    typed_law();
-    calls_law();
-    cost_law();
-    jobs_law();
-    parts_law();
-    passage_law();
-    bound_law();
     undisturbed_law();
 }

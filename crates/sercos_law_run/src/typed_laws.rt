@@ -5,12 +5,6 @@ ghost use Rattle.sercos_law_run.specs.Typed.Clear.{HarmlessIsClear};
 ghost use Rattle.sercos_law_run.specs.Typed.Keeps.{KeepsAlways, KeepsWithin};
 ghost use Rattle.sercos_law_run.specs.Typed.Spelled.{SpelledNext};
 
-use sercos_block::{ring_law, store_law};
-use sercos_drive::drive_law;
-use sercos_hdlc::{frame_law, framing_law};
-use sercos_master::master_law;
-use sercos_service_drive::writes_law;
-
 /// A law over all runs of a ring that is typed at opening. The data blocks of each drive are a store, whatever arrives at it, and each
 /// record that it processed has an element of three bits and a word of sixteen. If the jobs of the master are typed too, then in each
 /// cycle MST, ATs and MDT are contents that their frames return, and what the master and the drives send fits into their records.
@@ -18,15 +12,7 @@ pub fn typed_law()
     ensures always { KeepsAlways }
     ensures within { KeepsWithin }
     ensures spelled { SpelledNext }
-{
-    framing_law();
-    frame_law();
-    store_law();
-    ring_law();
-    writes_law();
-    drive_law();
-    master_law();
-}
+{}
 
 /// A law over all runs of a ring that is typed at opening, with typed jobs: if its link is harmless, no arrival is unseen. A link is
 /// harmless if what arrives of a frame is this frame, nothing, or bits that are not a frame. A script without a flip only cuts frames

@@ -10,23 +10,6 @@ ghost use Rattle.sercos_law_run.specs.Undisturbed.StopsLater.{EndsStartUp, NoSto
 ghost use Rattle.sercos_law_run.specs.Undisturbed.Undisturbed.{StaysClear};
 ghost use Rattle.sercos_law_run.specs.Undisturbed.WholeRuns.{QuietIsUndisturbed, StartsUndisturbed};
 
-use crate::agenda_laws::{agenda_law, report_law, stop_law};
-use crate::bounds_laws::bound_law;
-use crate::start_laws::{
-    answer_law, cause_law, held_values_law, ring_slot_law, start_up_law, store_of_law,
-};
-use crate::typed_laws::typed_law;
-use sercos_block::{ring_law, store_law};
-use sercos_drive::drive_law;
-use sercos_hdlc::framing_law;
-use sercos_idn::attribute_law;
-use sercos_law_channel::{
-    calls_law, cost_law, exact_law, jobs_law, parts_law, passage_law, run_law, stretch_law,
-    transfer_law, values_law,
-};
-use sercos_master::master_law;
-use sercos_service_drive::writes_law;
-
 /// A law over every run of a ring without undetected damage, over every link and with every restart. Phase 0 is commanded next at the
 /// opening, after a fall, and after a cycle in which the master restarts. From any point on at which it is, regardless of losses before,
 /// and as long as every telegram that is sent arrives as it was sent and no station restarts: the ring doesn't fall; each drive is in the
@@ -71,33 +54,4 @@ pub fn undisturbed_law()
     ensures rises { RisesIfRight }
     ensures reports { ReportsInTime }
     ensures starts { StartsUndisturbed }
-{
-    agenda_law();
-    report_law();
-    stop_law();
-    ring_law();
-    store_law();
-    drive_law();
-    exact_law();
-    parts_law();
-    run_law();
-    transfer_law();
-    values_law();
-    framing_law();
-    attribute_law();
-    master_law();
-    writes_law();
-    answer_law();
-    cause_law();
-    held_values_law();
-    ring_slot_law();
-    start_up_law();
-    store_of_law();
-    typed_law();
-    calls_law();
-    passage_law();
-    stretch_law();
-    cost_law();
-    jobs_law();
-    bound_law();
-}
+{}

@@ -2,17 +2,8 @@
 ghost use Rattle.sercos_law_trace.specs.Clean.Ruled.{RunsFitLines, RunsKeepRules};
 ghost use Rattle.sercos_law_trace.specs.Clean.Traces.{RunsAreClean, RunsFitOthers, RunsFitReports, TracesAreClean};
 
-use sercos_block::{ring_law, store_law};
 use sercos_check::test_law;
-use sercos_drive::drive_law;
-use sercos_hdlc::framing_law;
-use sercos_law_channel::{exact_law, run_law, transfer_law, values_law};
-use sercos_law_run::{
-    agenda_law, answer_law, cause_law, held_values_law, report_law, ring_slot_law, start_up_law,
-    stop_law, store_of_law, totals_law, typed_law,
-};
-use sercos_master::master_law;
-use sercos_service_drive::writes_law;
+use sercos_law_run::totals_law;
 use sercos_step::counts_law;
 use sercos_trace::reading_law;
 
@@ -27,26 +18,6 @@ pub fn clean_law()
     ensures traces { TracesAreClean }
     ensures clean { RunsAreClean }
 {
-    agenda_law();
-    report_law();
-    stop_law();
-    ring_law();
-    store_law();
-    drive_law();
-    exact_law();
-    run_law();
-    transfer_law();
-    values_law();
-    framing_law();
-    master_law();
-    writes_law();
-    answer_law();
-    cause_law();
-    held_values_law();
-    ring_slot_law();
-    start_up_law();
-    store_of_law();
-    typed_law();
     test_law();
     reading_law();
     totals_law();

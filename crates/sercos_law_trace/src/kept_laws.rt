@@ -1,16 +1,9 @@
 // A law and no code.
 ghost use Rattle.sercos_law_trace.specs.Told.Writes.{WritesAreKept};
 
-use sercos_block::{ring_law, store_law};
-use sercos_drive::drive_law;
-use sercos_hdlc::framing_law;
-use sercos_law_channel::{exact_law, run_law, transfer_law, values_law};
-use sercos_law_run::{
-    agenda_law, answer_law, cause_law, channel_law, headline_law, held_values_law, report_law,
-    ring_slot_law, start_up_law, stop_law, store_of_law, typed_law,
-};
+use sercos_law_channel::{transfer_law, values_law};
+use sercos_law_run::{agenda_law, channel_law, headline_law, report_law};
 use sercos_master::master_law;
-use sercos_service_drive::writes_law;
 
 /// A law, without code. In a run without undetected damage, regardless of losses and restarts: if a write of operation data is reported
 /// as complete, and no later request to the drive writes to the same block, then the drive has the block, and after the last cycle its
@@ -23,22 +16,7 @@ pub fn kept_law()
     channel_law();
     agenda_law();
     report_law();
-    stop_law();
-    ring_law();
-    store_law();
-    drive_law();
-    exact_law();
-    run_law();
     transfer_law();
     values_law();
-    framing_law();
     master_law();
-    writes_law();
-    answer_law();
-    cause_law();
-    held_values_law();
-    ring_slot_law();
-    start_up_law();
-    store_of_law();
-    typed_law();
 }

@@ -269,14 +269,14 @@ module _ (said : (b : Block) → b.attribute.factor < 2 ^ 16 → shape_of 7 (low
   pub stays_in_cost_since : (past : List View) (recent old : List Begun) → IsRun busy past → AreSound blocks past → AreTimed time past
       → AreListed longest past →
       epoch_begun past ≡ recent ++ old → open_in old ≡ None → (busy + 1) * length (epoch_log past)
-          ≤ cost_in (cost_of busy time longest blocks) recent + (busy + 1) * length (answers_in old)
+      ≤ cost_in (cost_of busy time longest blocks) recent + (busy + 1) * length (answers_in old)
   stays_in_cost_since past recent old run sound timed listed split shut =
       let is = epoch blocks busy past run sound in
       let parts = fall_into_parts (epoch_begun past) (epoch_log past) is.in_turn (in_step busy past run) in
       parts_since (writes_ago past) recent old (epoch_log past) (subst (λ (l : List Begun). AreParts l (epoch_log past)) split parts)
-          (subst AreInTurn split is.in_turn) shut
+      (subst AreInTurn split is.in_turn) shut
       (answered_replies (accepted (epoch_taken past))) is.alike (spaces_steps busy past run) (timed_in past run timed)
-          (listed_in past listed)
+      (listed_in past listed)
 
   -- the recent requests
   pub opens_since_cost : (cycles past : List View) (recent old : List Begun) → IsRun busy (cycles ++ past) → AreSound blocks (cycles ++ past) → AreTimed time (cycles ++ past) → AreListed longest (cycles ++ past) → AreClean cycles past →

@@ -23,13 +23,12 @@ use Rattle.sercos_law_run.proofs.Slots.Places.{length_records}
 use Rattle.sercos_seat.specs.Ring.{Known, known_of}
 use Rattle.sercos_seat.proofs.Sends.{fields_length}
 use Rattle.sercos_law_run.specs.Start.StartUp.{IsStoreOf, start_up, Holds}
-use Rattle.sercos_law_run.specs.Start.RingSlots.{held_by, AreSent, AllHold, RingSendsApart}
+use Rattle.sercos_law_run.specs.Start.RingSlots.{held_by, AreSent, AllHold}
 use Rattle.sercos_law_run.proofs.Start.CheckPasses.{wish_is}
 use Rattle.sercos_master.specs.Annals.{Past}
 use Rattle.sercos_master.specs.Says.{Sent, records_from, joint, mdt_said}
 use Rattle.sercos_script.specs.Links.{Carry, Restarts}
 use Rattle.sercos_law_channel.specs.Handshake.Views.{standing, stood_in}
-use Rattle.sercos_law_channel.specs.Handshake.RunLaws.{StandsAsCommanded}
 use Rattle.sercos_law_run.specs.Journal.Runs.{drive_at, given_mst, sent_mdt, ats_said, mst_next, ats_next, mdt_next, IsNext}
 use Rattle.sercos_law_run.specs.Views.RingViews.{at_start, behind_mdt, after_mst, view_of, views_of}
 use Rattle.sercos_law_run.proofs.Views.Members.{members_count}
@@ -37,12 +36,14 @@ use Rattle.sercos_law_run.specs.Views.Spelled.{IsSaid, IsSpelled}
 use Rattle.sercos_law_run.specs.Held.Opened.{IsOpened}
 use Rattle.sercos_law_run.specs.Held.Stored.{IsStored}
 use Rattle.sercos_law_run.proofs.Held.Laid.{records_of, records_concat, records_lengths}
-use Rattle.sercos_law_run.proofs.Held.Runs.{Laws, AllStand, IsPlannedIn, drive_got, got_inside, s_known, holding, one_plan, phase_same, kept_at_mst}
+use Rattle.sercos_law_run.proofs.Held.Runs.{AllStand, IsPlannedIn, drive_got, got_inside, s_known, holding, one_plan, phase_same, kept_at_mst}
 use Rattle.sercos_law_run.specs.Headline.Cycles.{takes_part, store_in_cycle, AreApartIn}
 use Rattle.sercos_law_run.proofs.Headline.Placed.{Placed, placed_below, placed_said, IsPlaced, are_placed, are_ordered}
 use Rattle.sercos_law_run.proofs.Headline.AtLengths.{carried_length}
 use Rattle.sercos_law_run.proofs.Headline.ApartRuns.{ends_at_0, slot_of, all_slots, slots_ordered, Sends, sent_by, ats_sent}
 use Rattle.sercos_law_run.proofs.Held.Agreed.{wishes_count}
+use Rattle.sercos_law_channel.proofs.Handshake.RunFacts.{stands_as_commanded}
+use Rattle.sercos_law_run.proofs.Start.RingSlotLemmas.{ring_sends_apart}
 
 -- the ring's wishes
 record_lengths : (r : RingView) → map (λ (w : Wish). w.record_len) (wishes_of r).drives ≡ map record_len r.drives
@@ -69,17 +70,18 @@ joint_said s p plan late has =
 first_apart : {A : Type 0} (x : A) (xs ys : List A) → (x ∷ xs) ++ ys ≡ x ∷ (xs ++ ys)
 first_apart x xs ys = refl
 
-module _ (laws : Laws) (sends_apart : RingSendsApart) (commanded : StandsAsCommanded) (r : RingView) (jobs : List Job) (carry : Carry) (restarts : Restarts) (opened : IsOpened r jobs)
-    (first : (k : ℕ) → k < length r.drives → IsStore (store_of (drive_at r k))) (t : CycleView) (j : List CycleView) (next : IsNext r jobs carry restarts t j) (clear : t.unseen ≡ 0)
-    (spelled : IsSpelled r jobs carry restarts t j) (stored : (k : ℕ) → k < length r.drives → IsStored (drive_at r k) (blocks_in (drive_at r k) (after_mst r carry restarts t.sent j k)))
+module _ (r : RingView) (jobs : List Job) (carry : Carry) (restarts : Restarts) (opened : IsOpened r jobs)
+    (first : (k : ℕ) → k < length r.drives → IsStore (store_of (drive_at r k))) (t : CycleView) (j : List CycleView)
+    (next : IsNext r jobs carry restarts t j) (clear : t.unseen ≡ 0) (spelled : IsSpelled r jobs carry restarts t j)
+    (stored : (k : ℕ) → k < length r.drives → IsStored (drive_at r k) (blocks_in (drive_at r k) (after_mst r carry restarts t.sent j k)))
     (all : AllStand r jobs carry restarts j) (framed : AreFramed r jobs carry restarts t j) where
-  -- a drive that sends stands in the commanded phase
+  -- a drive that sends stands in the stands_as_commanded phase
   sender_phase : (k : ℕ) → k < length r.drives → (s : Said) → Sends (drive_at r k) r.rate (after_mst r carry restarts t.sent j k) s → phase_in (after_mst r carry restarts t.sent j k) ≡ t.phase
   sender_phase k below s sending =
-      let kept = kept_at_mst laws r jobs carry restarts opened first t j next clear spelled stored all k below in
+      let kept = kept_at_mst r jobs carry restarts opened first t j next clear spelled stored all k below in
       let comes : (view_of r jobs carry restarts k t j).mst_comes ≡ true = sym kept.got ∙ sending.got in
       let up = sending.stands in
-      by (commanded (view_of r jobs carry restarts k t j) (views_of r jobs carry restarts k j) comes) kept.ended up
+      by (stands_as_commanded (view_of r jobs carry restarts k t j) (views_of r jobs carry restarts k j) comes) kept.ended up
     where
       by : (stood_in (view_of r jobs carry restarts k t j) (standing (views_of r jobs carry restarts k j)) ≡ 0) ⊎ (stood_in (view_of r jobs carry restarts k t j) (standing (views_of r jobs carry restarts k j)) ≡ t.phase)
           → phase_in (after_mst r carry restarts t.sent j k) ≡ stood_in (view_of r jobs carry restarts k t j) (standing (views_of r jobs carry restarts k j)) → 1 ≤ phase_in (after_mst r carry restarts t.sent j k)
@@ -95,9 +97,10 @@ module _ (laws : Laws) (sends_apart : RingSendsApart) (commanded : StandsAsComma
   sending_of x (low, says) = sent_by (drive_at r x.place) r.rate (after_mst r carry restarts t.sent j x.place) x.says says
 
   -- with the plan
-  module _ (late : 3 ≤ (at_start r jobs carry restarts j).now.phase) (plan : PlanView) (planned : IsPlannedIn r jobs carry restarts t j plan) where
+  module _ (late : 3 ≤ (at_start r jobs carry restarts j).now.phase) (plan : PlanView)
+      (planned : IsPlannedIn r jobs carry restarts t j plan) where
     late_mdt : 3 ≤ (behind_mdt r jobs carry restarts t.sent j).now.phase
-    late_mdt = subst (λ n. 3 ≤ n) (sym (phase_same laws r jobs carry restarts opened first t j next clear spelled stored all)) late
+    late_mdt = subst (λ n. 3 ≤ n) (sym (phase_same r jobs carry restarts opened first t j next clear spelled stored all)) late
 
     said : mdt_said (known_of r) (behind_mdt r jobs carry restarts t.sent j) ≡ Some (joint (known_of r) (behind_mdt r jobs carry restarts t.sent j) plan)
     said = joint_said (known_of r) (behind_mdt r jobs carry restarts t.sent j) plan late_mdt planned.now
@@ -121,8 +124,8 @@ module _ (laws : Laws) (sends_apart : RingSendsApart) (commanded : StandsAsComma
     holds : AllHold r plan (takes_part r carry restarts t j) (store_in_cycle r carry restarts t j)
     holds k d got takes =
         let (low, same) = got_inside r.drives k d got in
-        let (made, by, there) = holding laws r jobs carry restarts opened first t j next clear spelled stored all late k low in
-        let one : made ≡ plan = one_plan laws r jobs carry restarts opened first t j next clear spelled stored all by.before planned.before in
+        let (made, by, there) = holding r jobs carry restarts opened first t j next clear spelled stored all late k low in
+        let one : made ≡ plan = one_plan r jobs carry restarts opened first t j next clear spelled stored all by.before planned.before in
         subst (λ (x : DriveView). IsStoreOf x (store_in_cycle r carry restarts t j k) × Holds (store_in_cycle r carry restarts t j k) (start_up r.control r.cycle plan k x.at x.mdt)) (sym same)
         ((stored k low).1, subst (λ (p : PlanView). Holds (store_in_cycle r carry restarts t j k) (start_up r.control r.cycle p k (drive_at r k).at (drive_at r k).mdt)) one there)
 
@@ -159,7 +162,7 @@ module _ (laws : Laws) (sends_apart : RingSendsApart) (commanded : StandsAsComma
           (λ x is. ap (λ (n : ℕ). r.rate * n) ((sending_of x is).start ∙ ap (λ (b : Bool). if b then number_at (store_in_cycle r carry restarts t j x.place) 6 else 300) (phase_of x is)));
       bits = all_slots (λ (a : AtSlot). a.bits ≤ wire_bits (1 + carried_len (store_in_cycle r carry restarts t j a.drive) 16)) r.rate (length r.drives) (drive_at r) (given_mst carry restarts t.sent j) placed
           (are_placed (length r.drives) (drive_at r) r.rate (given_mst carry restarts t.sent j)) framed_at;
-      in_order = slots_ordered r.rate (s_known laws r jobs carry restarts opened first).cycles.rate placed (are_ordered (length r.drives) (drive_at r) r.rate (given_mst carry restarts t.sent j));
+      in_order = slots_ordered r.rate (s_known r jobs carry restarts opened first).cycles.rate placed (are_ordered (length r.drives) (drive_at r) r.rate (given_mst carry restarts t.sent j));
       mdt_start = refl;
       mdt_bits = subst (λ (n : ℕ). length (frame_of content) ≤ wire_bits n) long (framed.mdt (joint (known_of r) (behind_mdt r jobs carry restarts t.sent j) plan) said);
       records = lengths ∙ record_lengths r;
@@ -184,15 +187,15 @@ module _ (laws : Laws) (sends_apart : RingSendsApart) (commanded : StandsAsComma
     apart_with = (
       records_of (known_of r) (behind_mdt r jobs carry restarts t.sent j) 0 (length (known_of r).drives),
       subst (λ (l : List SentView). IsApart (wishes_of r) (held_by (takes_part r carry restarts t j) (store_in_cycle r carry restarts t j)) (records_of (known_of r) (behind_mdt r jobs carry restarts t.sent j) 0 (length (known_of r).drives)) l) (sym sent_is)
-          (sends_apart r plan (takes_part r carry restarts t j) (store_in_cycle r carry restarts t j) ats mdt (mst_next r jobs carry restarts j) (ats_said r.rate (map (λ (x : Placed). x.says) placed)) last opened.valid planned.of.valid planned.of.least.fits
+          (ring_sends_apart r plan (takes_part r carry restarts t j) (store_in_cycle r carry restarts t j) ats mdt (mst_next r jobs carry restarts j) (ats_said r.rate (map (λ (x : Placed). x.says) placed)) last opened.valid planned.of.valid planned.of.least.fits
           holds sent sending),
     )
 
   some : 0 < length r.drives
-  some = let most = (s_known laws r jobs carry restarts opened first).some in let count = members_count r in omega (arith, most, count)
+  some = let most = (s_known r jobs carry restarts opened first).some in let count = members_count r in omega (arith, most, count)
 
   pub apart_in : AreApartIn r carry restarts t j
   apart_in late =
       let early : 3 ≤ (at_start r jobs carry restarts j).now.phase = subst (λ n. 3 ≤ n) next.phase late in
-      let (plan, planned, holds) = holding laws r jobs carry restarts opened first t j next clear spelled stored all early 0 some in
+      let (plan, planned, holds) = holding r jobs carry restarts opened first t j next clear spelled stored all early 0 some in
       apart_with early plan planned

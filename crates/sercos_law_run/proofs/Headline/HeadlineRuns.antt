@@ -2,8 +2,7 @@
 use Rattle.std.proofs.Common.{◌≡◌, ◌⊎◌, inl, inr, ℕ, ◌<◌, ◌≤◌, Bool, false, List, [], ◌∷◌, ◌++◌, length, Option, Some, None, refl, sym, ap, subst, arith, max}
 use Rattle.std.specs.Prelude.{IfSome}
 use Rattle.std.proofs.lemmas.List.Elements.{All-nil, All-cons}
-use Rattle.sercos_model.specs.Bits.{AreBytes}
-use Rattle.sercos_model.specs.Frames.{wire_bits, IsFrame}
+use Rattle.sercos_model.specs.Frames.{wire_bits}
 use Rattle.sercos_hdlc.specs.Stuffed.{frame_of}
 use Rattle.sercos_step.specs.declared.request.Job.{Job}
 use Rattle.sercos_step.specs.declared.request.Outcome.{Outcome}
@@ -13,26 +12,20 @@ use Rattle.sercos_service_drive.specs.Log.{Taken, Entry}
 use Rattle.sercos_service_drive.specs.Replies.{log_of}
 use Rattle.sercos_service_master.specs.Begun.{Begun}
 use Rattle.sercos_drive.specs.Annals.{accepted_at}
-use Rattle.sercos_drive.specs.Laws.{HandedThose}
 use Rattle.sercos_drive.specs.Moments.{blocks_in}
 use Rattle.sercos_drive.specs.Says.{Said}
 use Rattle.sercos_trace.specs.Views.{SentView, EventsView, CycleView}
 use Rattle.sercos_seat.specs.Ring.{known_of, tasks_for}
-use Rattle.sercos_law_run.specs.Start.Kept.{BlocksKeep}
-use Rattle.sercos_law_run.specs.Start.RingSlots.{RingSendsApart}
 use Rattle.sercos_master.specs.Says.{Sent, mst_said, mdt_said}
 use Rattle.sercos_script.specs.Links.{Carry, Restarts}
 use Rattle.sercos_law_channel.specs.Handshake.Views.{Heard, View, standing, stood_in}
 use Rattle.sercos_law_channel.specs.Handshake.Runs.{IsShown, IsNext as IsNextView}
 use Rattle.sercos_law_channel.specs.Handshake.Epochs.{begun_in}
 use Rattle.sercos_law_channel.specs.Handshake.InStep.{AreInStep}
-use Rattle.sercos_law_channel.specs.Handshake.RunLaws.{StandsNoLater as NoLaterInViews, StandsAsCommanded, Handshake, phase_commanded}
+use Rattle.sercos_law_channel.specs.Handshake.RunLaws.{phase_commanded}
 use Rattle.sercos_law_channel.specs.Handshake.WholeRun.{all_entries}
 use Rattle.sercos_law_run.specs.Journal.Runs.{drive_at, given_before, given_mst, master_calls, looks_back, no_events, restart_events, begins, sent_at, sent_mst, sent_mdt, ats_said, said_below, middle, IsNext, IsRun, IsClear}
-use Rattle.sercos_law_run.specs.Agenda.Events.{HasOutcome, AreTold, AreToldAtRestart}
-use Rattle.sercos_law_run.specs.Agenda.Reported.{AreRequests, TellsInOrder, TellsOnce, TellsRight}
-use Rattle.sercos_law_run.specs.Typed.Keeps.{KeepsAlways, KeepsWithin}
-use Rattle.sercos_law_run.specs.Typed.Spelled.{SpelledNext}
+use Rattle.sercos_law_run.specs.Agenda.Events.{HasOutcome}
 use Rattle.sercos_law_run.proofs.Typed.Ats.{IsContent, at_content}
 use Rattle.sercos_law_run.proofs.Typed.Mdts.{mdt_whole}
 use Rattle.sercos_law_run.specs.Views.RingViews.{behind_mdt, after_mst, view_of, views_of}
@@ -42,37 +35,23 @@ use Rattle.sercos_law_run.specs.Views.Spelled.{IsSpelled}
 use Rattle.sercos_law_run.specs.Held.Opened.{IsOpened}
 use Rattle.sercos_law_run.specs.Held.Stored.{IsStored}
 use Rattle.sercos_law_run.proofs.Held.AnsweredRuns.{EntriesStored, entries_stored}
-use Rattle.sercos_law_run.proofs.Held.StoreOf.{AllowsWrites, store_of_so}
-use Rattle.sercos_law_run.proofs.Held.Runs.{Laws, AllStand, all_first, all_next, s_known, small, kept_at_mst, begun_then}
+use Rattle.sercos_law_run.proofs.Held.StoreOf.{store_of_so}
+use Rattle.sercos_law_run.proofs.Held.Runs.{AllStand, all_first, all_next, s_known, small, kept_at_mst, begun_then}
 use Rattle.sercos_law_run.specs.Headline.Cycles.{HaveRealBits, phase_before, StandsNoLater}
 use Rattle.sercos_law_run.specs.Headline.Transfers.{OnStores, IsExactAt, IsToldAt, AreReportedIn, AreInStepAt}
 use Rattle.sercos_law_run.specs.Headline.Headline.{KeepsAll}
 use Rattle.sercos_law_run.proofs.Headline.ApartCycles.{AreFramed, apart_in}
-use Rattle.sercos_law_run.proofs.Headline.WellRuns.{StopLaws, AllWell, all_well, stops_in}
+use Rattle.sercos_law_run.proofs.Headline.WellRuns.{AllWell, all_well, stops_in}
 use Rattle.sercos_law_run.proofs.Settings.WellSets.{well_first}
 use Rattle.sercos_law_run.proofs.Headline.OnceRuns.{are_once, restarts_so}
-
--- and these laws
-pub record MoreLaws : Type 0 where
-  pub always : KeepsAlways
-  pub within : KeepsWithin
-  pub spelled : SpelledNext
-  pub sends_apart : RingSendsApart
-  pub commanded : StandsAsCommanded
-  pub no_later : NoLaterInViews
-  pub handshake : (busy : ℕ) → Handshake busy
-  pub requests : AreRequests
-  pub in_order : TellsInOrder
-  pub once : TellsOnce
-  pub right : TellsRight
-  pub told : AreTold
-  pub told_at_restart : AreToldAtRestart
-  pub stop_laws : StopLaws
-  pub keep : BlocksKeep
-  pub allows : AllowsWrites
-  pub those : HandedThose
-  pub frame : (content : List ℕ) → AreBytes content → 0 < length content → length content ≤ 2048 → IsFrame content (frame_of content)
-  pub wire : (content : List ℕ) (bits : List Bool) → IsFrame content bits → length bits ≤ wire_bits (length content)
+use Rattle.sercos_hdlc.proofs.FramingLemmas.{length-IsFrame}
+use Rattle.sercos_law_channel.proofs.Cited.{runs_exact}
+use Rattle.sercos_law_channel.proofs.Handshake.RunFacts.{handshake, stands_no_later}
+use Rattle.sercos_law_run.proofs.Agenda.Requests.{are_requests}
+use Rattle.sercos_law_run.proofs.Agenda.ToldEvents.{are_told, are_told_at_restart}
+use Rattle.sercos_law_run.proofs.Cited.{begins_tasks, is_framed, told_in_order, told_once, told_right}
+use Rattle.sercos_law_run.proofs.Typed.Spelled.{keeps_always, keeps_within, spelled_next}
+use Rattle.sercos_master.proofs.Planned.{is_planned}
 
 on_stores : (d : DriveView) (entries : List Entry) → EntriesStored d entries → OnStores entries
 on_stores d [] are = tt
@@ -114,51 +93,51 @@ real_ats rate (a ∷ ats) m = All-cons (λ (s : SentView). s.bits ≡ length (fr
 real_bits : (rate : ℕ) (mst : List ℕ) (ats : List Said) (m : Option Sent) → HaveRealBits ((sent_mst mst ∷ ats_said rate ats) ++ sent_mdt rate m)
 real_bits rate mst ats m = All-cons (λ (s : SentView). s.bits ≡ length (frame_of s.content)) (sent_mst mst) (ats_said rate ats ++ sent_mdt rate m) refl (real_ats rate ats m)
 
-module _ (laws : Laws) (more : MoreLaws) (r : RingView) (jobs : List Job) (carry : Carry) (restarts : Restarts) (opened : IsOpened r jobs) where
+module _ (r : RingView) (jobs : List Job) (carry : Carry) (restarts : Restarts) (opened : IsOpened r jobs) where
   pub first_store : (k : ℕ) → k < length r.drives → IsStore (store_of (drive_at r k))
-  first_store k below = (more.always r carry restarts [] k opened.valid opened.typed below).store
+  first_store k below = (keeps_always r carry restarts [] k opened.valid opened.typed below).store
 
   pub stored_in : (t : CycleView) (j : List CycleView) (k : ℕ) → k < length r.drives → IsStored (drive_at r k) (blocks_in (drive_at r k) (after_mst r carry restarts t.sent j k))
   stored_in t j k below = (
-    (more.within r carry restarts t.sent j k opened.valid opened.typed below).store,
-    (store_of_so more.keep more.allows more.those (drive_at r k) r.rate (given_mst carry restarts t.sent j k) (first_store k below).ascending).0,
+    (keeps_within r carry restarts t.sent j k opened.valid opened.typed below).store,
+    (store_of_so (drive_at r k) r.rate (given_mst carry restarts t.sent j k) (first_store k below).ascending).0,
   )
 
   pub spelled_in : (t : CycleView) (j : List CycleView) → IsNext r jobs carry restarts t j → IsSpelled r jobs carry restarts t j
-  spelled_in t j next = more.spelled r jobs carry restarts t j opened.valid opened.typed opened.jobs_typed next
+  spelled_in t j next = spelled_next r jobs carry restarts t j opened.valid opened.typed opened.jobs_typed next
 
   pub all_stand : (j : List CycleView) → IsRun r jobs carry restarts j → IsClear j → AllStand r jobs carry restarts j
   all_stand [] run clear = all_first r jobs carry restarts
   all_stand (t ∷ j) (run, next) (before, clear) =
-      all_next laws r jobs carry restarts opened first_store t j next clear (spelled_in t j next) (stored_in t j) (all_stand j run before)
+      all_next r jobs carry restarts opened first_store t j next clear (spelled_in t j next) (stored_in t j) (all_stand j run before)
 
-  pub well : (j : List CycleView) → IsRun r jobs carry restarts j → IsClear j → AllWell laws more.stop_laws r jobs carry restarts opened first_store j
+  pub well : (j : List CycleView) → IsRun r jobs carry restarts j → IsClear j → AllWell r jobs carry restarts opened first_store j
   well [] run clear = λ k below. well_first r jobs carry restarts k
   well (t ∷ j) (run, next) (before, clear) =
-      all_well laws more.stop_laws r jobs carry restarts opened first_store t j next clear (spelled_in t j next) (stored_in t j) (all_stand j run before) (all_stand (t ∷ j) (run, next) (before, clear)) (well j run before)
+      all_well r jobs carry restarts opened first_store t j next clear (spelled_in t j next) (stored_in t j) (all_stand j run before) (all_stand (t ∷ j) (run, next) (before, clear)) (well j run before)
 
   framed_so : (content : List ℕ) → IsContent content → length (frame_of content) ≤ wire_bits (length content)
-  framed_so content is = more.wire content (frame_of content) (more.frame content is.bytes is.some is.most)
+  framed_so content is = length-IsFrame content (frame_of content) (is_framed content is.bytes is.some is.most)
 
   framed_in : (t : CycleView) (j : List CycleView) → AreFramed r jobs carry restarts t j
   framed_in t j = record {
     ats = λ content is. framed_so content (subst IsContent (sym is.content_is) (let high = (address_of r is.place opened.valid is.inside).1 in
-        at_content (drive_at r is.place) r.rate (given_mst carry restarts t.sent j is.place) is.says (omega (arith, high)) (more.within r carry restarts t.sent j is.place opened.valid opened.typed is.inside) is.said));
-    mdt = λ m said. framed_so m.content (mdt_whole (known_of r) (behind_mdt r jobs carry restarts t.sent j) m (s_known laws r jobs carry restarts opened first_store)
-        (laws.planned (known_of r) (tasks_for (known_of r) jobs) (middle r carry restarts t.sent j)) said);
+        at_content (drive_at r is.place) r.rate (given_mst carry restarts t.sent j is.place) is.says (omega (arith, high)) (keeps_within r carry restarts t.sent j is.place opened.valid opened.typed is.inside) is.said));
+    mdt = λ m said. framed_so m.content (mdt_whole (known_of r) (behind_mdt r jobs carry restarts t.sent j) m (s_known r jobs carry restarts opened first_store)
+        (is_planned (known_of r) (tasks_for (known_of r) jobs) (middle r carry restarts t.sent j)) said);
   }
 
   pub keeps_all : (t : CycleView) (j : List CycleView) → IsRun r jobs carry restarts (t ∷ j) → IsClear (t ∷ j) → KeepsAll r jobs carry restarts t j
   keeps_all t j (run, next) (before, clear) = record {
-    apart = apart_in laws more.sends_apart more.commanded r jobs carry restarts opened first_store t j next clear (spelled_in t j next) (stored_in t j) (all_stand j run before) (framed_in t j);
+    apart = apart_in r jobs carry restarts opened first_store t j next clear (spelled_in t j next) (stored_in t j) (all_stand j run before) (framed_in t j);
     real = subst (λ (l : List SentView). HaveRealBits l) (sym next.sent) (real_bits r.rate (mst_said (looks_back r jobs (begins r carry restarts j))) (said_below (length r.drives) (drive_at r) r.rate (given_mst carry restarts t.sent j))
         (mdt_said (known_of r) (behind_mdt r jobs carry restarts t.sent j)));
     no_later = no_later_in;
     exact = exact_in;
     told = told_in;
-    once = are_once more.once more.in_order more.requests r jobs carry restarts opened.valid t j (run, next);
+    once = are_once r jobs carry restarts opened.valid t j (run, next);
     reported = reported_in;
-    stops = stops_in laws more.stop_laws r jobs carry restarts opened first_store t j next clear (spelled_in t j next) (stored_in t j) (all_stand j run before) at_end (well (t ∷ j) (run, next) (before, clear));
+    stops = stops_in r jobs carry restarts opened first_store t j next clear (spelled_in t j next) (stored_in t j) (all_stand j run before) at_end (well (t ∷ j) (run, next) (before, clear));
     in_step = in_step_in;
   }
     where
@@ -167,21 +146,21 @@ module _ (laws : Laws) (more : MoreLaws) (r : RingView) (jobs : List Job) (carry
 
       no_later_in : (k : ℕ) → k < length r.drives → StandsNoLater r carry restarts t j k
       no_later_in k below =
-          let kept = kept_at_mst laws r jobs carry restarts opened first_store t j next clear (spelled_in t j next) (stored_in t j) (all_stand j run before) k below in
-          let bound = more.no_later (view_of r jobs carry restarts k t j) (views_of r jobs carry restarts k j) in
+          let kept = kept_at_mst r jobs carry restarts opened first_store t j next clear (spelled_in t j next) (stored_in t j) (all_stand j run before) k below in
+          let bound = stands_no_later (view_of r jobs carry restarts k t j) (views_of r jobs carry restarts k j) in
           subst (λ (n : ℕ). n ≤ max t.phase (phase_before j)) (sym kept.ended) (subst (λ (n : ℕ). stood_in (view_of r jobs carry restarts k t j) (standing (views_of r jobs carry restarts k j)) ≤ max t.phase n) (before_is r jobs carry restarts k j) bound)
 
       exact_in : (k : ℕ) → k < length r.drives → IsExactAt r jobs carry restarts t j k
       exact_in k below =
           let stands = at_end k below in
           record {
-            exact = laws.exact (drive_at r k).busy (store_of (drive_at r k)) (views_of r jobs carry restarts k (t ∷ j)) (small laws r jobs carry restarts opened first_store k below) stands.sees.run stands.sound;
-            before = laws.exact (drive_at r k).busy (store_of (drive_at r k)) (without_mdt (view_of r jobs carry restarts k t j) ∷ views_of r jobs carry restarts k j) (small laws r jobs carry restarts opened first_store k below)
+            exact = runs_exact (drive_at r k).busy (store_of (drive_at r k)) (views_of r jobs carry restarts k (t ∷ j)) (small r jobs carry restarts opened first_store k below) stands.sees.run stands.sound;
+            before = runs_exact (drive_at r k).busy (store_of (drive_at r k)) (without_mdt (view_of r jobs carry restarts k t j) ∷ views_of r jobs carry restarts k j) (small r jobs carry restarts opened first_store k below)
                 (stands.sees.run.0, next_without (drive_at r k).busy (view_of r jobs carry restarts k t j) (views_of r jobs carry restarts k j) stands.sees.run.1) stands.sound;
             writes = sym stands.sees.drive.writes;
             accepted = ap log_of (sym stands.sees.drive.taken);
             begun = sym stands.sees.master.begun_are;
-            begun_now = sym (begun_then laws r jobs carry restarts opened first_store t j next clear (spelled_in t j next) (stored_in t j) (all_stand j run before) k below);
+            begun_now = sym (begun_then r jobs carry restarts opened first_store t j next clear (spelled_in t j next) (stored_in t j) (all_stand j run before) k below);
             stored = on_stores (drive_at r k) (all_entries (views_of r jobs carry restarts k (t ∷ j))) (entries_stored (drive_at r k) (views_of r jobs carry restarts k (t ∷ j)) stands.stored);
           }
 
@@ -190,8 +169,8 @@ module _ (laws : Laws) (more : MoreLaws) (r : RingView) (jobs : List Job) (carry
           let count = members_count r in
           let inside : k < length (known_of r).drives = omega (arith, below, count) in
           record {
-            in_order = more.in_order (known_of r) (tasks_for (known_of r) jobs) (master_calls r carry restarts (t ∷ j)) k (more.requests (known_of r) jobs k).1 inside (restarts_so r carry restarts (t ∷ j));
-            once = more.once (known_of r) jobs (master_calls r carry restarts (t ∷ j)) k inside (restarts_so r carry restarts (t ∷ j));
+            in_order = told_in_order (known_of r) (tasks_for (known_of r) jobs) (master_calls r carry restarts (t ∷ j)) k (are_requests (known_of r) jobs k).1 inside (restarts_so r carry restarts (t ∷ j));
+            once = told_once (known_of r) jobs (master_calls r carry restarts (t ∷ j)) k inside (restarts_so r carry restarts (t ∷ j));
           }
 
       -- nothing stands in the events before a restart
@@ -205,20 +184,20 @@ module _ (laws : Laws) (more : MoreLaws) (r : RingView) (jobs : List Job) (carry
       reported_in : AreReportedIn r jobs carry restarts t j
       reported_in = record {
         events = λ number o.
-            let same = more.told (known_of r) (behind_mdt r jobs carry restarts t.sent j) (restart_events r jobs restarts (length j) (master_calls r carry restarts j)) number o in
+            let same = are_told (known_of r) (behind_mdt r jobs carry restarts t.sent j) (restart_events r jobs restarts (length j) (master_calls r carry restarts j)) number o in
             let outcomes = ap (λ (e : EventsView). e.outcomes) next.events in
             (λ has. same.0 (subst (λ (l : List (ℕ × Outcome)). HasOutcome l number o) outcomes has), λ has. subst (λ (l : List (ℕ × Outcome)). HasOutcome l number o) (sym outcomes) (same.1 has));
         at_restart = λ number o.
-            let same = more.told_at_restart (known_of r) (looks_back r jobs (master_calls r carry restarts j)) no_events number o in
+            let same = are_told_at_restart (known_of r) (looks_back r jobs (master_calls r carry restarts j)) no_events number o in
             (λ has. only same.0 has, λ has. same.1 (inr has));
-        tasks = λ k below. let count = members_count r in laws.tasks (known_of r) (tasks_for (known_of r) jobs) (middle r carry restarts t.sent j) k (omega (arith, below, count));
-        right = λ k x below is. let count = members_count r in more.right (known_of r) (tasks_for (known_of r) jobs) (middle r carry restarts t.sent j) k x (omega (arith, below, count)) is;
+        tasks = λ k below. let count = members_count r in begins_tasks (known_of r) (tasks_for (known_of r) jobs) (middle r carry restarts t.sent j) k (omega (arith, below, count));
+        right = λ k x below is. let count = members_count r in told_right (known_of r) (tasks_for (known_of r) jobs) (middle r carry restarts t.sent j) k x (omega (arith, below, count)) is;
       }
 
       in_step_in : (k : ℕ) → k < length r.drives → AreInStepAt r jobs carry restarts t j k
       in_step_in k below two stands =
           let sees = (at_end k below).sees in
-          let joined = more.handshake (drive_at r k).busy (view_of r jobs carry restarts k t j) (views_of r jobs carry restarts k j) sees.run two (subst (λ (n : ℕ). 2 ≤ n) sees.drive.ended stands) in
+          let joined = handshake (drive_at r k).busy (view_of r jobs carry restarts k t j) (views_of r jobs carry restarts k j) sees.run two (subst (λ (n : ℕ). 2 ≤ n) sees.drive.ended stands) in
           subst (λ (l : List Begun). AreInStep l (accepted_at (drive_at r k) r.rate (given_before carry restarts (t ∷ j) k)))
-          (sym (begun_then laws r jobs carry restarts opened first_store t j next clear (spelled_in t j next) (stored_in t j) (all_stand j run before) k below))
+          (sym (begun_then r jobs carry restarts opened first_store t j next clear (spelled_in t j next) (stored_in t j) (all_stand j run before) k below))
           (subst (λ (h : List Taken). AreInStep (begun_in (view_of r jobs carry restarts k t j) (views_of r jobs carry restarts k j)) (log_of h)) (sym sees.drive.taken) joined)

@@ -18,11 +18,13 @@ use Rattle.sercos_law_run.specs.Journal.Records.{mst_in, ats_in}
 use Rattle.sercos_law_run.specs.Journal.Runs.{IsNext, IsRun, at_calls, begin_calls, drive_at, looks_back, master_calls, middle, no_events, own_mst, restart_events, station_of, with_at}
 use Rattle.sercos_law_run.specs.Agenda.Channels.{channel_at}
 use Rattle.sercos_law_run.specs.Agenda.Events.{HasOutcome, HasReport}
-use Rattle.sercos_law_run.specs.Agenda.Reported.{Ascend, AreRequests, Descend, IsAtStart, RestartsAtStart, TellsInOrder, TellsOnce, after_told, still_to_tell, task_numbers, told, told_at_end, with_told}
+use Rattle.sercos_law_run.specs.Agenda.Reported.{Ascend, Descend, IsAtStart, RestartsAtStart, after_told, still_to_tell, task_numbers, told, told_at_end, with_told}
 use Rattle.sercos_law_run.specs.Headline.Records.{AreOnce, HasEnded, NumbersAscend}
 use Rattle.sercos_law_run.proofs.Agenda.Requests.{ascend_from}
 use Rattle.sercos_law_run.proofs.Agenda.ToldEvents.{all_to}
 use Rattle.sercos_law_run.proofs.Views.Members.{member_is, members_count, same_drive}
+use Rattle.sercos_law_run.proofs.Agenda.Requests.{are_requests}
+use Rattle.sercos_law_run.proofs.Cited.{told_in_order, told_once}
 
 -- ---- the requests to two drives have no number in common
 
@@ -125,7 +127,8 @@ there_same n older reports others outcomes same there = record {
 }
 
 -- with a report of each drive
-module _ (n : ℕ) (older reports : ℕ → List Report) (report : ℕ → Option Report) (outcomes : List (ℕ × Outcome)) (right : AreRight n (λ k. with_told (report k) (reports k))) (there : AreThere n older reports outcomes) where
+module _ (n : ℕ) (older reports : ℕ → List Report) (report : ℕ → Option Report) (outcomes : List (ℕ × Outcome))
+    (right : AreRight n (λ k. with_told (report k) (reports k))) (there : AreThere n older reports outcomes) where
   reported_one : (i k m : ℕ) → i < n → k < n → Reported (with_told (report i) []) m → Reported (reports k) m → ⊥
   reported_one i k m low high now before =
       let same = right.one k i m high low (older_too (report k) (reports k) m before) (newer_too (report i) (reports i) m now) in
@@ -191,7 +194,7 @@ restarts_so r carry restarts (t ∷ j) = ats_start r carry (length j) (ats_in t.
     by true are at = (are, at)
     by false are at = are
 
-module _ (once : TellsOnce) (in_order : TellsInOrder) (requests : AreRequests) (r : RingView) (jobs : List Job) (carry : Carry) (restarts : Restarts) (valid : is_ring r ≡ true) where
+module _ (r : RingView) (jobs : List Job) (carry : Carry) (restarts : Restarts) (valid : is_ring r ≡ true) where
   abbrev n : ℕ
   n = length (known_of r).drives
 
@@ -200,8 +203,8 @@ module _ (once : TellsOnce) (in_order : TellsInOrder) (requests : AreRequests) (
 
   is_right : (h : List Call) → RestartsAtStart h → AreRight n (reports_at h)
   is_right h order = record {
-    some = λ k m below has. low_of 1 m (tasks_for (known_of r) jobs k) (requests (known_of r) jobs k).2 (number k m below has);
-    down = λ k below. once (known_of r) jobs h k below order;
+    some = λ k m below has. low_of 1 m (tasks_for (known_of r) jobs k) (are_requests (known_of r) jobs k).2 (number k m below has);
+    down = λ k below. told_once (known_of r) jobs h k below order;
     one = λ i k m low high a b.
         let count = members_count r in
         let same : (drive_at r i).address ≡ (drive_at r k).address =
@@ -211,7 +214,7 @@ module _ (once : TellsOnce) (in_order : TellsInOrder) (requests : AreRequests) (
     where
       number : (k m : ℕ) → k < n → Reported (reports_at h k) m → HasNumber (task_numbers (tasks_for (known_of r) jobs k)) m
       number k m below (o, has) =
-          subst (λ (l : List (Option ℕ)). HasNumber l m) (in_order (known_of r) (tasks_for (known_of r) jobs) h k (requests (known_of r) jobs k).1 below order)
+          subst (λ (l : List (Option ℕ)). HasNumber l m) (told_in_order (known_of r) (tasks_for (known_of r) jobs) h k (are_requests (known_of r) jobs k).1 below order)
           (number_of (reports_at h k) (still_to_tell (channel_at (looks_back r jobs h) k)) m o has)
 
   reports_ats : (k cycle : ℕ) (ats : List (List ℕ)) (h : List Call) → reports_at h k ≡ reports_at (at_calls r carry cycle ats h) k

@@ -20,10 +20,11 @@ use Rattle.sercos_seat.specs.Channel.{with_outcome, outcomes_in, last_outcome, t
 use Rattle.sercos_seat.proofs.Gets.{get_left}
 use Rattle.sercos_master.proofs.Planned.{Adds, at_adds}
 use Rattle.sercos_master.specs.Annals.{Call, HearMst, HearAt, Mdt, End, Restart, Past, outcomes, is_idle, trouble, first_trouble, is_taken, after_taken, after_at_of, after_at, place_of, all_read, with_stop, is_plan_due, with_plan, planned_by, with_due_plan, settled, has_turn, next_task, begins, with_begin, with_task, is_sent_to, addressed_in, ready_to_send, after_mdt, fall_of, next_phase, goes_on, new_epoch, still_waiting, after_end, past}
-use Rattle.sercos_law_run.specs.Agenda.Tasks.{BeginsTasks, HasBegunTasks}
+use Rattle.sercos_law_run.specs.Agenda.Tasks.{HasBegunTasks}
 use Rattle.sercos_law_run.proofs.Agenda.OneTurn.{AtHears, SameAt, HeardAt, idle_hears, elsewhere_same, here_hears, send_same}
 use Rattle.sercos_law_run.proofs.Agenda.ReadWell.{AllComplete, complete}
 use Rattle.sercos_law_run.proofs.Agenda.StopRuns.{ended_idle, found}
+use Rattle.sercos_law_run.proofs.Cited.{begins_tasks}
 
 pub data StopsSo (s : Known) (p : Past) (x : Stop) : Type 0 where
   OfOutcome : (k : ℕ) → k < length s.drives → trouble s p k ≡ Some x → StopsSo s p x
@@ -149,10 +150,10 @@ module _ (s : Known) where
       by true = λ x is. absurd (cc)
       by false = has_moved p (goes_on (next_phase s p) p) (λ k idle. refl) (λ k. refl) (λ j. (None, refl)) refl has
 
-  pub stops_so : BeginsTasks → (requests : ℕ → List Task) (h : List Call) → HasSo s (past s requests h)
-  stops_so begins_tasks requests [] = λ x is. absurd (cc)
-  stops_so begins_tasks requests (HearMst content ∷ h) = has_moved (past s requests h) (past s requests (HearMst content ∷ h)) (λ k idle. refl) (λ k. refl) (λ j. (None, refl)) refl (stops_so begins_tasks requests h)
-  stops_so begins_tasks requests (HearAt content ∷ h) = at_so content (past s requests h) (stops_so begins_tasks requests h)
-  stops_so begins_tasks requests (Mdt ∷ h) = mdt_so (past s requests h) (λ k there. begins_tasks s requests h k there) (stops_so begins_tasks requests h)
-  stops_so begins_tasks requests (End ∷ h) = end_so (past s requests h) (stops_so begins_tasks requests h)
-  stops_so begins_tasks requests (Restart ∷ h) = λ x is. absurd (cc)
+  pub stops_so : (requests : ℕ → List Task) (h : List Call) → HasSo s (past s requests h)
+  stops_so requests [] = λ x is. absurd (cc)
+  stops_so requests (HearMst content ∷ h) = has_moved (past s requests h) (past s requests (HearMst content ∷ h)) (λ k idle. refl) (λ k. refl) (λ j. (None, refl)) refl (stops_so requests h)
+  stops_so requests (HearAt content ∷ h) = at_so content (past s requests h) (stops_so requests h)
+  stops_so requests (Mdt ∷ h) = mdt_so (past s requests h) (λ k there. begins_tasks s requests h k there) (stops_so requests h)
+  stops_so requests (End ∷ h) = end_so (past s requests h) (stops_so requests h)
+  stops_so requests (Restart ∷ h) = λ x is. absurd (cc)

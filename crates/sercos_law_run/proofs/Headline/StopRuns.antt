@@ -29,8 +29,7 @@ use Rattle.sercos_seat.specs.Agenda.{idn, declared_times, reads, reads_count, as
 use Rattle.sercos_seat.specs.Channel.{with_outcome, outcomes_in, trouble_by, last_outcome}
 use Rattle.sercos_seat.specs.Ring.{Task, MemberView, member, member_of, known_of, tasks_for}
 use Rattle.sercos_seat.proofs.Agendas.{reads_length}
-use Rattle.sercos_law_run.specs.Start.Answers.{IsAnswer, AreAnswers, NoAttributeStops}
-use Rattle.sercos_law_run.specs.Start.Causes.{RingIsValid}
+use Rattle.sercos_law_run.specs.Start.Answers.{IsAnswer, AreAnswers}
 use Rattle.sercos_law_run.proofs.Start.CheckPasses.{ring_drive}
 use Rattle.sercos_master.specs.Annals.{Call, Past, outcomes, trouble}
 use Rattle.sercos_script.specs.Links.{carried_clean, never_restarts}
@@ -52,8 +51,13 @@ use Rattle.sercos_law_run.proofs.Views.Members.{member_is, members_count}
 use Rattle.sercos_law_run.specs.Held.Opened.{IsOpened}
 use Rattle.sercos_law_run.specs.Held.Stored.{AreStored}
 use Rattle.sercos_law_run.proofs.Held.AnsweredRuns.{is_read_request, as_read, read_of, read_answers, answered_by, entries_stored}
-use Rattle.sercos_law_run.proofs.Held.Runs.{Laws, drive_got, wishes_so}
+use Rattle.sercos_law_run.proofs.Held.Runs.{drive_got, wishes_so}
 use Rattle.sercos_law_run.proofs.Headline.StopReads.{StopsSo, OfOutcome, WithReads, stops_so}
+use Rattle.sercos_block.proofs.TypeLemmas.{types}
+use Rattle.sercos_law_channel.proofs.Cited.{runs_exact}
+use Rattle.sercos_law_run.proofs.Cited.{begins_tasks, left_of, tasks_end}
+use Rattle.sercos_law_run.proofs.Start.AnswerLemmas.{no_attribute_stops, typed_have_factors}
+use Rattle.sercos_law_run.proofs.Start.WellLemmas.{ring_is_valid}
 
 one_request : (x y : Request) → Some x ≡ Some y → x ≡ y
 one_request x y e = cc
@@ -96,8 +100,9 @@ pub record IsFollowed (r : RingView) (jobs : List Job) (h : List Call) (views : 
   pub stored : AreStored (drive_at r k) (views k)
   pub begun_are : begun_by ((looks_back r jobs h).calls k) ≡ epoch_begun (views k)
 
-module _ (laws : Laws) (ring_valid : RingIsValid) (no_stops : NoAttributeStops) (r : RingView) (jobs : List Job) (opened : IsOpened r jobs)
-    (first : (k : ℕ) → k < length r.drives → IsStore (store_of (drive_at r k))) (h : List Call) (views : ℕ → List View) (all : (k : ℕ) → k < length r.drives → IsFollowed r jobs h views k) where
+module _ (r : RingView) (jobs : List Job) (opened : IsOpened r jobs)
+    (first : (k : ℕ) → k < length r.drives → IsStore (store_of (drive_at r k))) (h : List Call) (views : ℕ → List View)
+    (all : (k : ℕ) → k < length r.drives → IsFollowed r jobs h views k) where
   abbrev now : Past
   now = looks_back r jobs h
 
@@ -111,7 +116,7 @@ module _ (laws : Laws) (ring_valid : RingIsValid) (no_stops : NoAttributeStops) 
   answer_of : (k n : ℕ) (x : Request) (bytes : List ℕ) → k < length r.drives → n < reads_count (member (known_of r) k) → slice_get (reads (member (known_of r) k)) n ≡ Some x →
       slice_get (outcomes now k) n ≡ Some (outcome.Complete bytes) → IsAnswer (drive_at r k) x (outcome.Complete bytes)
   answer_of k n x bytes below early got complete =
-      let at = laws.ends (known_of r) (tasks_for (known_of r) jobs) h k n (outcome.Complete bytes) (place_inside k below) complete in by at at.is.task
+      let at = tasks_end (known_of r) (tasks_for (known_of r) jobs) h k n (outcome.Complete bytes) (place_inside k below) complete in by at at.is.task
     where
       by : (at : HasEndedAt (known_of r) k now.plan (now.waiting k) now.now.phase (begun_by (now.calls k)) n (outcome.Complete bytes)) → IsTask (known_of r) k at.is.by_then (now.waiting k) (outcomes_in at.older) at.task →
           IsAnswer (drive_at r k) x (outcome.Complete bytes)
@@ -129,7 +134,7 @@ module _ (laws : Laws) (ring_valid : RingIsValid) (no_stops : NoAttributeStops) 
           (read_answers (drive_at r k) x i e bytes rules is is_read
           (read_of (drive_at r k) (store_of (drive_at r k)) (at.older ++ begun_ago (views k)) at.one i e bytes other asks at.ended at.newer (all_entries (views k)) (all_writes (views k))
           (subst (λ (l : List Begun). AreExact (store_of (drive_at r k)) l (all_entries (views k)) (all_writes (views k))) begun
-          (laws.exact (drive_at r k).busy (store_of (drive_at r k)) (views k) (λ raw b found. (laws.types (store_of (drive_at r k)) raw b (first k below) found).0) stands.run stands.sound))
+          (runs_exact (drive_at r k).busy (store_of (drive_at r k)) (views k) (λ raw b found. (types (store_of (drive_at r k)) raw b (first k below) found).0) stands.run stands.sound))
           (entries_stored (drive_at r k) (views k) stands.stored)))
       by at (OfWrites pl i y planned less at_i found same) = let a = at.is.ended in let b = at.place in absurd (omega (arith, a, b, at_i, early))
       by at (Checks3 pl planned at_i same) = let a = at.is.ended in let b = at.place in absurd (omega (arith, a, b, at_i, early))
@@ -151,17 +156,17 @@ module _ (laws : Laws) (ring_valid : RingIsValid) (no_stops : NoAttributeStops) 
           (outcome.Complete bytes, complete, answer_of k n x bytes below early got complete)
 
   asked : AllComplete (known_of r) now → wishes_given (known_of r) (outcomes now) ≡ wishes_of r
-  asked whole = wishes_so laws r jobs carried_clean never_restarts opened first (outcomes now) (answers whole)
+  asked whole = wishes_so r jobs carried_clean never_restarts opened first (outcomes now) (answers whole)
 
   pub valid_wishes : IsValid (wishes_of r)
-  valid_wishes = ring_valid r opened.valid (λ k d got.
+  valid_wishes = ring_is_valid r opened.valid (λ k d got.
       let low = slice_get_within r.drives k d got in
       subst (λ (x : DriveView). (length x.at ≤ 16) × (length x.mdt ≤ 16)) (get_or_from_slice_get r.drives k d no_drive got) ((opened.typed k low).at, (opened.typed k low).mdt))
 
   -- NO ATTRIBUTE THAT IS CONFIGURED STOPS.
   waits_numbered : (k : ℕ) → AreNumbered (now.waiting k)
   waits_numbered k =
-      let left = laws.left (known_of r) jobs h k in
+      let left = left_of (known_of r) jobs h k in
       subst AreNumbered (sym left.1) (numbered_drop left.0 (tasks_for (known_of r) jobs k) (are_requests (known_of r) jobs k).1)
 
   no_bad : (k : ℕ) (b : Begun) (older : List Begun) (t : Task) (tasks : List Task) (i : Idn) (bytes : List ℕ) → k < length r.drives → begun_by (now.calls k) ≡ b ∷ older → now.tasks k ≡ t ∷ tasks → t.number ≡ None →
@@ -171,7 +176,7 @@ module _ (laws : Laws) (ring_valid : RingIsValid) (no_stops : NoAttributeStops) 
       are : AreBegunTasks (known_of r) k now.plan (now.waiting k) now.now.phase (b ∷ older) (t ∷ tasks)
       are = subst (λ (l : List Begun). AreBegunTasks (known_of r) k now.plan (now.waiting k) now.now.phase l (t ∷ tasks)) begun
           (subst (AreBegunTasks (known_of r) k now.plan (now.waiting k) now.now.phase (begun_by (now.calls k))) tasks_are
-          (laws.tasks (known_of r) (tasks_for (known_of r) jobs) h k (place_inside k below)))
+          (begins_tasks (known_of r) (tasks_for (known_of r) jobs) h k (place_inside k below)))
 
       there : slice_get (outcomes now k) (length (outcomes_in older)) ≡ Some (outcome.Complete bytes)
       there =
@@ -189,7 +194,7 @@ module _ (laws : Laws) (ring_valid : RingIsValid) (no_stops : NoAttributeStops) 
           subst (λ (y : Request). IsAnswer (drive_at r k) y (outcome.Complete bytes)) reads_it (answer_of k (length (outcomes_in older)) x bytes below less got there) in
           let listed : list_any (λ (c : Idn). c.raw == i.raw) ((drive_at r k).at ++ (drive_at r k).mdt) ≡ true =
           subst (λ (m : MemberView). list_any (λ (c : Idn). c.raw == i.raw) (m.at ++ m.mdt) ≡ true) (member_is r k) (configured_read (member (known_of r) k) (length (outcomes_in older)) x i got reads_it) in
-          let quiet : attribute_stop 0 i (long_in bytes) ≡ None = no_stops r k (drive_at r k) 0 i (outcome.Complete bytes) opened.valid (drive_got r k below) (laws.factors (drive_at r k) (opened.typed k below).blocks) listed answer in
+          let quiet : attribute_stop 0 i (long_in bytes) ≡ None = no_attribute_stops r k (drive_at r k) 0 i (outcome.Complete bytes) opened.valid (drive_got r k below) (typed_have_factors (drive_at r k) (opened.typed k below).blocks) listed answer in
           let stopped : attribute_stop 0 i (long_in bytes) ≡ Some (stop.BadConfig 0 i (long_in bytes)) = ap (λ (o : Option ℕ). if is_none o then Some (stop.BadConfig 0 i (long_in bytes)) else None) none in
           let both : None ≡ Some (stop.BadConfig 0 i (long_in bytes)) = sym quiet ∙ stopped in cc
       by by_then (OfWrites p n x has less at got same) = written (all_data_writes (known_of r) p k n x got)
@@ -231,7 +236,7 @@ module _ (laws : Laws) (ring_valid : RingIsValid) (no_stops : NoAttributeStops) 
 
   -- At such a stop all reads are complete.
   whole_at : (x : Stop) → is_of_plan x ≡ true → now.stop ≡ Some x → AllComplete (known_of r) now
-  whole_at x of is = by (stops_so (known_of r) laws.tasks (tasks_for (known_of r) jobs) h x is)
+  whole_at x of is = by (stops_so (known_of r) (tasks_for (known_of r) jobs) h x is)
     where
       by : StopsSo (known_of r) now x → AllComplete (known_of r) now
       by (OfOutcome k there brought) = absurd (no_trouble x of k (place_outside k there) brought)

@@ -11,36 +11,22 @@ use Rattle.sercos_trace.specs.Views.{EventsView, CycleView}
 use Rattle.sercos_trace.specs.declared.events.Stop.{Stop}
 use Rattle.sercos_trace.specs.declared.events.Stop.TheVariants as stop
 use Rattle.sercos_seat.specs.Ring.{member, known_of, tasks_for}
-use Rattle.sercos_law_run.specs.Start.Answers.{NoAttributeStops}
-use Rattle.sercos_law_run.specs.Start.Causes.{RingIsValid}
 use Rattle.sercos_master.specs.Annals.{Past, outcomes}
 use Rattle.sercos_master.specs.Reports.{restart_told, stop_told}
 use Rattle.sercos_master.proofs.Laws.{tasks_wait}
 use Rattle.sercos_script.specs.Links.{Carry, Restarts}
-use Rattle.sercos_law_channel.specs.Handshake.CommandTransfers.{SetsAndCancels, EndsWithStatus}
 use Rattle.sercos_law_run.specs.Journal.Runs.{drive_at, master_calls, looks_back, middle, no_events, IsNext}
-use Rattle.sercos_law_run.specs.Agenda.Reported.{AreRequests}
-use Rattle.sercos_law_run.specs.Agenda.Stops.{Check127HasCause}
 use Rattle.sercos_law_run.specs.Views.RingViews.{behind_mdt, after_mst, view_of, views_of}
 use Rattle.sercos_law_run.specs.Views.Spelled.{IsSpelled}
-use Rattle.sercos_law_run.proofs.Settings.SetsWell.{LowerLaws}
 use Rattle.sercos_law_run.proofs.Settings.WellSets.{IsWellSet, well_next}
 use Rattle.sercos_law_run.proofs.Settings.NoCheck127.{stays, next_still, never_127_in}
 use Rattle.sercos_law_run.specs.Held.Opened.{IsOpened}
 use Rattle.sercos_law_run.specs.Held.Stored.{IsStored}
-use Rattle.sercos_law_run.proofs.Held.Runs.{Laws, AllStand, answers_at, wishes_so, plan_is, small, agrees, rests, begun_then}
+use Rattle.sercos_law_run.proofs.Held.Runs.{AllStand, answers_at, wishes_so, plan_is, small, agrees, rests, begun_then}
 use Rattle.sercos_law_run.specs.Headline.Stops.{StopsRight}
 use Rattle.sercos_law_run.proofs.Headline.StopRuns.{IsFollowed, valid_wishes, no_fit, no_bad_config}
-
--- what these stand on
-pub record StopLaws : Type 0 where
-  pub ring_valid : RingIsValid
-  pub no_stops : NoAttributeStops
-  pub lower : LowerLaws
-  pub sets : SetsAndCancels
-  pub ends_with_status : EndsWithStatus
-  pub cause127 : Check127HasCause
-  pub requests : AreRequests
+use Rattle.sercos_law_run.proofs.Agenda.Requests.{are_requests}
+use Rattle.sercos_master.proofs.Planned.{is_planned}
 
 -- the stop of a cycle's events is that of the master when its MDT is sent
 told_stop : (told : Bool) (o : Option Stop) (x : Stop) → (if told then o else None) ≡ Some x → o ≡ Some x
@@ -62,22 +48,24 @@ event_stop r jobs carry restarts t j x next is = by (restarts (length j) 0) (sym
     by true is = told_stop (behind_mdt r jobs carry restarts t.sent j).now.stops (behind_mdt r jobs carry restarts t.sent j).stop x (which (stop_told (behind_mdt r jobs carry restarts t.sent j)) is)
     by false is = told_stop (behind_mdt r jobs carry restarts t.sent j).now.stops (behind_mdt r jobs carry restarts t.sent j).stop x (which (stop_told (behind_mdt r jobs carry restarts t.sent j)) is)
 
-module _ (laws : Laws) (more : StopLaws) (r : RingView) (jobs : List Job) (carry : Carry) (restarts : Restarts) (opened : IsOpened r jobs) (first : (k : ℕ) → k < length r.drives → IsStore (store_of (drive_at r k))) where
+module _ (r : RingView) (jobs : List Job) (carry : Carry) (restarts : Restarts) (opened : IsOpened r jobs)
+    (first : (k : ℕ) → k < length r.drives → IsStore (store_of (drive_at r k))) where
   abbrev pub AllWell : List CycleView → Type 0
   AllWell j = (k : ℕ) → k < length r.drives → IsWellSet r jobs carry restarts k j
 
   wishes_valid : IsValid (wishes_of r)
-  wishes_valid = valid_wishes laws more.ring_valid more.no_stops r jobs opened first [] (λ k. []) (λ k below. record { run = tt; sound = tt; stored = tt; begun_are = refl })
+  wishes_valid = valid_wishes r jobs opened first [] (λ k. []) (λ k below. record { run = tt; sound = tt; stored = tt; begun_are = refl })
 
   -- from the end of a cycle to that of the next
   pub all_well : (t : CycleView) (j : List CycleView) (next : IsNext r jobs carry restarts t j) → t.unseen ≡ 0 → (spelled : IsSpelled r jobs carry restarts t j)
       → (stored : (k : ℕ) → k < length r.drives → IsStored (drive_at r k) (blocks_in (drive_at r k) (after_mst r carry restarts t.sent j k))) → (all : AllStand r jobs carry restarts j) → AllStand r jobs carry restarts (t ∷ j) → AllWell j → AllWell (t ∷ j)
   all_well t j next clear spelled stored all now well k below =
-      well_next more.lower laws.empty r jobs carry restarts opened.valid wishes_valid (λ i. tasks_wait (member (known_of r) i).address 1 jobs) t j next clear spelled k below (all k below).sees
-      (agrees laws r jobs carry restarts opened first t j next clear spelled stored all k below) (rests laws r jobs carry restarts opened first t j next clear spelled stored all k below)
-      (small laws r jobs carry restarts opened first k below) (now k below).sound (stored k below).0 (stored k below).1
-      (λ plan has. (plan_is laws r jobs carry restarts opened first (looks_back r jobs (master_calls r carry restarts j)) plan (laws.planned (known_of r) (tasks_for (known_of r) jobs) (master_calls r carry restarts j)) has
-      (wishes_so laws r jobs carry restarts opened first (outcomes (looks_back r jobs (master_calls r carry restarts j))) (answers_at laws r jobs carry restarts opened first j plan all has))).least.fits)
+      well_next r jobs carry restarts opened.valid wishes_valid (λ i. tasks_wait (member (known_of r) i).address 1 jobs) t j next clear spelled k below (all k below).sees
+      (agrees r jobs carry restarts opened first t j next clear spelled stored all k below) (rests r jobs carry restarts opened first t j next clear spelled stored all k below)
+      (small r jobs carry restarts opened first k below) (now k below).sound (stored k below).0 (stored k below).1
+      (λ plan has. (plan_is r jobs carry restarts opened first (looks_back r jobs (master_calls r carry restarts j)) plan
+      (is_planned (known_of r) (tasks_for (known_of r) jobs) (master_calls r carry restarts j)) has
+      (wishes_so r jobs carry restarts opened first (outcomes (looks_back r jobs (master_calls r carry restarts j))) (answers_at r jobs carry restarts opened first j plan all has))).least.fits)
       (well k below)
 
   -- the stops of a cycle
@@ -85,12 +73,16 @@ module _ (laws : Laws) (more : StopLaws) (r : RingView) (jobs : List Job) (carry
       (stored : (k : ℕ) → k < length r.drives → IsStored (drive_at r k) (blocks_in (drive_at r k) (after_mst r carry restarts t.sent j k))) (all : AllStand r jobs carry restarts j) → AllStand r jobs carry restarts (t ∷ j) → AllWell (t ∷ j)
       → StopsRight r t.events.stop
   stops_in t j next clear spelled stored all now well = record {
-    no_fit = λ chain is. no_fit laws more.ring_valid more.no_stops r jobs opened first (middle r carry restarts t.sent j) (λ k. stays (view_of r jobs carry restarts k t j) ∷ views_of r jobs carry restarts k j) followed chain
+    no_fit = λ chain is. no_fit r jobs opened first (middle r carry restarts t.sent j)
+        (λ k. stays (view_of r jobs carry restarts k t j) ∷ views_of r jobs carry restarts k j) followed chain
         (event_stop r jobs carry restarts t j (stop.NoFit chain) next is);
-    no_bad_config = λ address i word is. no_bad_config laws more.ring_valid more.no_stops r jobs opened first (middle r carry restarts t.sent j) (λ k. stays (view_of r jobs carry restarts k t j) ∷ views_of r jobs carry restarts k j) followed address i word
+    no_bad_config = λ address i word is. no_bad_config r jobs opened first (middle r carry restarts t.sent j)
+        (λ k. stays (view_of r jobs carry restarts k t j) ∷ views_of r jobs carry restarts k j) followed address i word
         (event_stop r jobs carry restarts t j (stop.BadConfig address i word) next is);
-    no_check127 = λ address list is. never_127_in more.sets more.ends_with_status laws.ends more.cause127 r jobs (λ i. (more.requests (known_of r) jobs i).1) carry restarts t j (λ k below. (now k below).sees) (λ k below. (now k below).sound) well
-        (λ k below. begun_then laws r jobs carry restarts opened first t j next clear spelled stored all k below) address list (event_stop r jobs carry restarts t j (stop.Check127 address (record { items = list })) next is);
+    no_check127 = λ address list is. never_127_in r jobs (λ i. (are_requests (known_of r) jobs i).1) carry restarts t j
+        (λ k below. (now k below).sees) (λ k below. (now k below).sound) well
+        (λ k below. begun_then r jobs carry restarts opened first t j next clear spelled stored all k below) address list
+        (event_stop r jobs carry restarts t j (stop.Check127 address (record { items = list })) next is);
   }
     where
       followed : (k : ℕ) → k < length r.drives → IsFollowed r jobs (middle r carry restarts t.sent j) (λ i. stays (view_of r jobs carry restarts i t j) ∷ views_of r jobs carry restarts i j) k
@@ -100,5 +92,5 @@ module _ (laws : Laws) (more : StopLaws) (r : RingView) (jobs : List Job) (carry
             run = (run.0, next_still (drive_at r k).busy (view_of r jobs carry restarts k t j) (views_of r jobs carry restarts k j) run.1);
             sound = (now k below).sound;
             stored = (now k below).stored;
-            begun_are = begun_then laws r jobs carry restarts opened first t j next clear spelled stored all k below;
+            begun_are = begun_then r jobs carry restarts opened first t j next clear spelled stored all k below;
           }

@@ -22,9 +22,9 @@ use Rattle.sercos_law_run.specs.Slots.OnPlan.{held_of}
 use Rattle.sercos_law_run.proofs.Slots.Places.{record_place_is, length_records}
 use Rattle.sercos_seat.specs.Agenda.{wishes_given, writes}
 use Rattle.sercos_seat.specs.Ring.{Known, known_of}
-use Rattle.sercos_law_run.specs.Start.StartUp.{IsStoreOf, start_up, Holds, AreAsLong}
-use Rattle.sercos_law_run.specs.Start.Held.{held_in, HoldsPlan, WritesStartUp, written_by}
-use Rattle.sercos_law_run.specs.Start.Later.{AreStoredWhole, StoresStartUpWhole}
+use Rattle.sercos_law_run.specs.Start.StartUp.{IsStoreOf, start_up, Holds}
+use Rattle.sercos_law_run.specs.Start.Held.{held_in, written_by}
+use Rattle.sercos_law_run.specs.Start.Later.{AreStoredWhole}
 use Rattle.sercos_law_run.proofs.Start.PlanNumbers.{HasNumbers, has_numbers}
 use Rattle.sercos_law_run.proofs.Start.CheckPasses.{wish_is}
 use Rattle.sercos_law_run.proofs.Start.LaterLemmas.{has_of}
@@ -33,14 +33,19 @@ use Rattle.sercos_master.specs.Says.{records_from}
 use Rattle.sercos_law_channel.specs.Handshake.Transfers.{stored}
 use Rattle.sercos_law_channel.specs.Handshake.Views.{View}
 use Rattle.sercos_law_channel.specs.Handshake.WholeRun.{all_writes}
-use Rattle.sercos_law_channel.specs.Handshake.Values.{store_in, is_plain, HoldsNewest}
-use Rattle.sercos_law_run.specs.Agenda.Writes.{start_numbers, WritesData}
+use Rattle.sercos_law_channel.specs.Handshake.Values.{store_in, is_plain}
+use Rattle.sercos_law_run.specs.Agenda.Writes.{start_numbers}
 use Rattle.sercos_law_run.proofs.Views.Members.{members_count}
 use Rattle.sercos_law_run.proofs.Views.Received.{Agrees}
 use Rattle.sercos_law_run.specs.Held.Held.{AreHeld}
 use Rattle.sercos_law_run.proofs.Held.HoldsRuns.{held_at}
 use Rattle.sercos_law_run.proofs.Held.Laid.{records_of, records_concat, records_take, records_lengths}
 use Rattle.std.proofs.lemmas.Option.{slice_get_within}
+use Rattle.sercos_law_channel.proofs.Handshake.StoredValues.{holds_newest}
+use Rattle.sercos_law_run.proofs.Agenda.WritesDone.{writes_data}
+use Rattle.sercos_law_run.proofs.Start.HeldLemmas.{holds_plan, writes_start_up}
+use Rattle.sercos_law_run.proofs.Start.LaterLemmas.{stores_start_up_whole}
+use Rattle.sercos_law_run.proofs.Start.Lengths.{are_as_long}
 
 -- a place of the ring has a wish
 pub wishes_count : (r : RingView) → length (wishes_of r).drives ≡ length r.drives
@@ -51,9 +56,11 @@ wishes_count r = by r.drives
     by [] = refl
     by (d ∷ drives) = ap suc (by drives)
 
-pub agrees_so : HoldsPlan → AreAsLong → (r : RingView) (p : Past) (plan : PlanView) (k : ℕ) (d : DriveView) (blocks : List Block) → IsValid (wishes_of r) → Fits (wishes_of r) plan → k < length r.drives → slice_get r.drives k ≡ Some d
-    → blocks_fault [] d.blocks ≡ None → IsStoreOf d blocks → Holds blocks (start_up r.control r.cycle plan k d.at d.mdt) → wishes_given (known_of r) (outcomes p) ≡ wishes_of r → Agrees (known_of r) p k blocks
-agrees_so holds_plan as_long r p plan k d blocks valid fits below at rules stored_so holds same =
+pub agrees_so : (r : RingView) (p : Past) (plan : PlanView) (k : ℕ) (d : DriveView) (blocks : List Block) → IsValid (wishes_of r)
+    → Fits (wishes_of r) plan → k < length r.drives → slice_get r.drives k ≡ Some d → blocks_fault [] d.blocks ≡ None → IsStoreOf d blocks
+    → Holds blocks (start_up r.control r.cycle plan k d.at d.mdt) → wishes_given (known_of r) (outcomes p) ≡ wishes_of r
+    → Agrees (known_of r) p k blocks
+agrees_so r p plan k d blocks valid fits below at rules stored_so holds same =
     let s : Known = known_of r in
     let n = length s.drives in
     let drives : List Wish = (wishes_of r).drives in
@@ -71,7 +78,7 @@ agrees_so holds_plan as_long r p plan k d blocks valid fits below at rules store
     let numbers : HasNumbers (wishes_of r) plan k = has_numbers (wishes_of r) plan k valid fits (omega (arith, below, wide)) in
     let ends = numbers.record_end in
     let asked : (wish (wishes_of r) k).record_len ≡ record_len d = ap (λ (w : Wish). w.record_len) (wish_is r k d at) in
-    let carried : carried_len blocks 24 ≡ record_len d = (as_long d blocks rules stored_so).1 holds.1.1.1.1.1.1.1.1.1.0 in
+    let carried : carried_len blocks 24 ≡ record_len d = (are_as_long d blocks rules stored_so).1 holds.1.1.1.1.1.1.1.1.1.0 in
     let total = fits.rule_12.1 in
     record {
       place = position ∙ there ∙ sym laid ∙ ap (λ (m : ℕ). 1 + m) first;
@@ -114,26 +121,28 @@ found_or : (o : Option Block) → is_some o ≡ true → (b : Block) × (o ≡ S
 found_or None some = cc
 found_or (Some b) some = (b, refl)
 
-pub held_holds : HoldsNewest → WritesData → WritesStartUp → StoresStartUpWhole → (r : RingView) (plan : PlanView) (k : ℕ) (d : DriveView) (views : List View) → is_ring r ≡ true → IsValid (wishes_of r) → Fits (wishes_of r) plan → slice_get r.drives k ≡ Some d
-    → blocks_fault [] d.blocks ≡ None → AreHeld (store_of d) (all_writes views) (writes (known_of r) plan k) → Holds (store_in (store_of d) views) (start_up r.control r.cycle plan k d.at d.mdt)
-held_holds newest write_data writes_start whole r plan k d views valid_ring valid fits at rules held =
+pub held_holds : (r : RingView) (plan : PlanView) (k : ℕ) (d : DriveView) (views : List View) → is_ring r ≡ true → IsValid (wishes_of r)
+    → Fits (wishes_of r) plan → slice_get r.drives k ≡ Some d → blocks_fault [] d.blocks ≡ None
+    → AreHeld (store_of d) (all_writes views) (writes (known_of r) plan k)
+    → Holds (store_in (store_of d) views) (start_up r.control r.cycle plan k d.at d.mdt)
+held_holds r plan k d views valid_ring valid fits at rules held =
     subst (λ (l : List (ℕ × List ℕ)). Holds (store_in (store_of d) views) l) same (holds_by (store_in (store_of d) views) (map written_by (writes (known_of r) plan k)) each)
   where
     same : map written_by (writes (known_of r) plan k) ≡ start_up r.control r.cycle plan k d.at d.mdt
-    same = writes_start r plan k d valid_ring valid fits at
+    same = writes_start_up r plan k d valid_ring valid fits at
 
     each : (i : ℕ) (v : ℕ × List ℕ) → slice_get (map written_by (writes (known_of r) plan k)) i ≡ Some v → data_at (store_in (store_of d) views) v.0 ≡ v.1
     each i v got =
         let (q, there, is) = got_mapped (writes (known_of r) plan k) i v got in
         let less = slice_get_within (writes (known_of r) plan k) i q there in
-        let (w, bytes, write, number) = write_data (known_of r) plan k i less in
+        let (w, bytes, write, number) = writes_data (known_of r) plan k i less in
         let one : q ≡ request.Write w 7 bytes = cc in
         let pair : v ≡ (w.raw, bytes) = is ∙ ap written_by one in
         let (b, found) = found_or (find_block w.raw (store_of d)) (numbered i w.raw number) in
         let holding : data_at (store_in (store_of d) views) w.raw ≡ stored b bytes =
-        newest (store_of d) views w.raw b (all_at is_plain start_numbers i w.raw refl number) found
+        holds_newest (store_of d) views w.raw b (all_at is_plain start_numbers i w.raw refl number) found
         ∙ ap (λ (o : Option (List ℕ)). unwrap_or o b.value) (held_at (store_of d) (all_writes views) (writes (known_of r) plan k) i (request.Write w 7 bytes) held write b found) in
-        let kept : stored b bytes ≡ bytes = whole_at (store_of d) (start_up r.control r.cycle plan k d.at d.mdt) i (w.raw, bytes) (whole d (store_of d) r.control r.cycle k plan rules refl)
+        let kept : stored b bytes ≡ bytes = whole_at (store_of d) (start_up r.control r.cycle plan k d.at d.mdt) i (w.raw, bytes) (stores_start_up_whole d (store_of d) r.control r.cycle k plan rules refl)
         (ap (λ (l : List (ℕ × List ℕ)). slice_get l i) (sym same) ∙ got ∙ ap (λ (x : ℕ × List ℕ). Some x) pair) b found in
         subst (λ (x : ℕ × List ℕ). data_at (store_in (store_of d) views) x.0 ≡ x.1) (sym pair) (holding ∙ kept)
       where

@@ -36,16 +36,17 @@ use Rattle.sercos_script.specs.Links.{Carry, Restarts}
 use Rattle.sercos_law_channel.specs.Handshake.ReadTransfers.{entry_behind, element_in}
 use Rattle.sercos_law_channel.specs.Handshake.Views.{View, standing, stood_in, record_in, kept_in}
 use Rattle.sercos_law_channel.specs.Handshake.WholeRun.{accepted_of, all_entries, all_writes, all_begun, begun_ago, AreSound, AreSmall}
-use Rattle.sercos_law_channel.specs.Handshake.Exact.{AreExact, RunsAreExact}
+use Rattle.sercos_law_channel.specs.Handshake.Exact.{AreExact}
 use Rattle.sercos_law_channel.proofs.Theorems.{Processes, Nothing, Record, processes}
 use Rattle.sercos_law_run.specs.Journal.Runs.{drive_at, master_calls, looks_back}
-use Rattle.sercos_law_run.specs.Agenda.Tasks.{IsTask, OfReads, OfWrites, Checks3, Lists3, Checks4, Lists4, OfWaiting, HasEndedAt, EndsTasks}
-use Rattle.sercos_law_run.specs.Agenda.Reads.{ReadsWell}
+use Rattle.sercos_law_run.specs.Agenda.Tasks.{IsTask, OfReads, OfWrites, Checks3, Lists3, Checks4, Lists4, OfWaiting, HasEndedAt}
 use Rattle.sercos_law_run.proofs.Agenda.AgendaTasks.{mapped}
 use Rattle.sercos_law_run.specs.Views.RingViews.{views_of}
 use Rattle.sercos_law_run.proofs.Views.ViewRuns.{Sees}
 use Rattle.sercos_law_run.specs.Held.Stored.{IsStored, AreStored}
 use Rattle.std.proofs.lemmas.Option.{slice_get_within}
+use Rattle.sercos_law_channel.proofs.Cited.{runs_exact}
+use Rattle.sercos_law_run.proofs.Cited.{reads_well, tasks_end}
 
 -- each accepted step was accepted on a store of the drive
 abbrev pub EntriesStored : DriveView → List Entry → Type 0
@@ -179,10 +180,10 @@ pub as_read : (r : Request) → IsRead r → (i : Idn) × (e : ℕ) × (r ≡ re
 as_read r (Time raw built is) = (idn raw, 7, is, refl)
 as_read r (Attribute i is) = (i, 3, is, refl)
 
-pub reads_answered : EndsTasks → ReadsWell → (r : RingView) (jobs : List Job) (carry : Carry) (restarts : Restarts) (k : ℕ) (j : List CycleView) (blocks : List Block) (plan : PlanView) → k < length (known_of r).drives
-    → ((busy : ℕ) → RunsAreExact busy) → AreSmall blocks → blocks_fault [] (drive_at r k).blocks ≡ None → Sees r jobs carry restarts k j → AreSound blocks (views_of r jobs carry restarts k j) → AreStored (drive_at r k) (views_of r jobs carry restarts k j)
+pub reads_answered : (r : RingView) (jobs : List Job) (carry : Carry) (restarts : Restarts) (k : ℕ) (j : List CycleView) (blocks : List Block) (plan : PlanView) → k < length (known_of r).drives
+    → AreSmall blocks → blocks_fault [] (drive_at r k).blocks ≡ None → Sees r jobs carry restarts k j → AreSound blocks (views_of r jobs carry restarts k j) → AreStored (drive_at r k) (views_of r jobs carry restarts k j)
     → (looks_back r jobs (master_calls r carry restarts j)).plan ≡ Some plan → AreAnswers (drive_at r k) (reads (member (known_of r) k)) (outcomes (looks_back r jobs (master_calls r carry restarts j)) k)
-reads_answered ends well r jobs carry restarts k j blocks plan below exact small rules sees sound have has = answered_by (drive_at r k) (reads (member (known_of r) k)) (outcomes p k) each
+reads_answered r jobs carry restarts k j blocks plan below small rules sees sound have has = answered_by (drive_at r k) (reads (member (known_of r) k)) (outcomes p k) each
   where
     p : Past
     p = looks_back r jobs (master_calls r carry restarts j)
@@ -195,8 +196,8 @@ reads_answered ends well r jobs carry restarts k j blocks plan below exact small
         let less = slice_get_within (reads m) n x got in
         let long = reads_length m in
         let early : n < reads_count m = omega (arith, less, long) in
-        let (bytes, complete) = well (known_of r) (tasks_for (known_of r) jobs) (master_calls r carry restarts j) plan has k below n early in
-        let at = ends (known_of r) (tasks_for (known_of r) jobs) (master_calls r carry restarts j) k n (outcome.Complete bytes) below complete in
+        let (bytes, complete) = reads_well (known_of r) (tasks_for (known_of r) jobs) (master_calls r carry restarts j) plan has k below n early in
+        let at = tasks_end (known_of r) (tasks_for (known_of r) jobs) (master_calls r carry restarts j) k n (outcome.Complete bytes) below complete in
         (outcome.Complete bytes, complete, by n x got early bytes at at.is.task)
       where
         by : (n : ℕ) (x : Request) → slice_get (reads (member (known_of r) k)) n ≡ Some x → n < reads_count (member (known_of r) k) → (bytes : List ℕ)
@@ -215,7 +216,7 @@ reads_answered ends well r jobs carry restarts k j blocks plan below exact small
             (read_answers (drive_at r k) x i e bytes rules is is_read
             (read_of (drive_at r k) blocks (at.older ++ begun_ago (views_of r jobs carry restarts k j)) at.one i e bytes other asks at.ended at.newer (all_entries (views_of r jobs carry restarts k j)) (all_writes (views_of r jobs carry restarts k j))
             (subst (λ (l : List Begun). AreExact blocks l (all_entries (views_of r jobs carry restarts k j)) (all_writes (views_of r jobs carry restarts k j))) all
-            (exact (drive_at r k).busy blocks (views_of r jobs carry restarts k j) small sees.run sound)) (entries_stored (drive_at r k) (views_of r jobs carry restarts k j) have)))
+            (runs_exact (drive_at r k).busy blocks (views_of r jobs carry restarts k j) small sees.run sound)) (entries_stored (drive_at r k) (views_of r jobs carry restarts k j) have)))
         by n x got early bytes at (OfWrites pl i y planned less at_i found same) = let a = at.is.ended in let b = at.place in absurd (omega (arith, a, b, at_i, early))
         by n x got early bytes at (Checks3 pl planned at_i same) = let a = at.is.ended in let b = at.place in absurd (omega (arith, a, b, at_i, early))
         by n x got early bytes at (Lists3 at_i failed same) = let a = at.is.ended in let b = at.place in absurd (omega (arith, a, b, at_i, early))

@@ -24,14 +24,17 @@ use Rattle.sercos_script.specs.Links.{Carry, Restarts}
 use Rattle.sercos_law_channel.specs.Handshake.Views.{View}
 use Rattle.sercos_law_channel.specs.Handshake.Epochs.{command}
 use Rattle.sercos_law_channel.specs.Handshake.WholeRun.{all_writes, AreSound, AreSmall}
-use Rattle.sercos_law_channel.specs.Handshake.Values.{StaysProtected, StaysWritten}
 use Rattle.sercos_law_run.specs.Journal.Runs.{drive_at, master_calls, looks_back, IsNext}
-use Rattle.sercos_law_run.specs.Agenda.Writes.{start_numbers, IsConfigured, WritesData, ConfiguresAtRise}
+use Rattle.sercos_law_run.specs.Agenda.Writes.{start_numbers, IsConfigured}
 use Rattle.sercos_law_run.specs.Views.RingViews.{at_start, behind_mdt, view_of, views_of}
 use Rattle.sercos_law_run.proofs.Views.ViewRuns.{Sees, command_below}
 use Rattle.sercos_law_run.specs.Held.Held.{AreHeld, AreProtected, HoldsThePlan, IsHeld}
 use Rattle.sercos_law_run.proofs.Held.PlanStays.{end_plan, plan_kept}
 use Rattle.std.proofs.lemmas.Option.{slice_get_within}
+use Rattle.sercos_law_channel.proofs.Cited.{written_stays}
+use Rattle.sercos_law_channel.proofs.Handshake.ProtectedWrites.{stays_protected}
+use Rattle.sercos_law_run.proofs.Agenda.WritesDone.{writes_data}
+use Rattle.sercos_law_run.proofs.Cited.{configures_rise}
 
 -- each of some requests, by its place
 pub held_by : (blocks : List Block) (own : List Write) (requests : List Request) → ((i : ℕ) (r : Request) → slice_get requests i ≡ Some r → IsHeld blocks own r) → AreHeld blocks own requests
@@ -55,38 +58,38 @@ same_request r x e = cc
 eleven : (s : Known) (plan : PlanView) (k : ℕ) → length (writes s plan k) ≡ 11
 eleven s plan k = refl
 
-each_write : WritesData → (s : Known) (plan : PlanView) (k : ℕ) (blocks : List Block) (own : List Write)
-    → ((i : ℕ) (w : Idn) (bytes : List ℕ) → slice_get (writes s plan k) i ≡ Some (request.Write w 7 bytes) → slice_get start_numbers i ≡ Some w.raw → IsHeld blocks own (request.Write w 7 bytes))
-    → AreHeld blocks own (writes s plan k)
-each_write write_data s plan k blocks own each = held_by blocks own (writes s plan k) one
+each_write : (s : Known) (plan : PlanView) (k : ℕ) (blocks : List Block) (own : List Write) → ((i : ℕ) (w : Idn) (bytes : List ℕ)
+    → slice_get (writes s plan k) i ≡ Some (request.Write w 7 bytes) → slice_get start_numbers i ≡ Some w.raw
+    → IsHeld blocks own (request.Write w 7 bytes)) → AreHeld blocks own (writes s plan k)
+each_write s plan k blocks own each = held_by blocks own (writes s plan k) one
   where
     one : (i : ℕ) (r : Request) → slice_get (writes s plan k) i ≡ Some r → IsHeld blocks own r
     one i r got =
         let less = slice_get_within (writes s plan k) i r got in
         let long = eleven s plan k in
-        let (w, bytes, there, number) = write_data s plan k i (omega (arith, less, long)) in
+        let (w, bytes, there, number) = writes_data s plan k i (omega (arith, less, long)) in
         subst (λ (x : Request). IsHeld blocks own x) (same_request (request.Write w 7 bytes) r (sym there ∙ got)) (each i w bytes there number)
 
-module _ (write_data : WritesData) (configures : ConfiguresAtRise) (stays_written : (busy : ℕ) → StaysWritten busy) (stays_protected : StaysProtected)
-    (r : RingView) (jobs : List Job) (carry : Carry) (restarts : Restarts) (waits : (i : ℕ) → AreWaiting (tasks_for (known_of r) jobs i)) (k : ℕ) (below : k < length (known_of r).drives)
-    (blocks : List Block) (small : AreSmall blocks) (guarded : AreProtected blocks start_numbers) where
+module _ (r : RingView) (jobs : List Job) (carry : Carry) (restarts : Restarts)
+    (waits : (i : ℕ) → AreWaiting (tasks_for (known_of r) jobs i)) (k : ℕ) (below : k < length (known_of r).drives) (blocks : List Block)
+    (small : AreSmall blocks) (guarded : AreProtected blocks start_numbers) where
   -- where phase 3 is commanded next
   rises_held : (j : List CycleView) → Sees r jobs carry restarts k j → AreSound blocks (views_of r jobs carry restarts k j) → (looks_back r jobs (master_calls r carry restarts j)).now.phase ≡ 3
       → HoldsThePlan (known_of r) k blocks (looks_back r jobs (master_calls r carry restarts j)) (all_writes (views_of r jobs carry restarts k j))
   rises_held j sees sound three late =
       let p = looks_back r jobs (master_calls r carry restarts j) in
       let done = configured (known_of r) (tasks_for (known_of r) jobs) (master_calls r carry restarts j) k below (grind (arith, nat_tests, late)) in
-      let c : IsConfigured (known_of r) k blocks p.plan (begun_by (p.calls k)) = configures (known_of r) (tasks_for (known_of r) jobs) (master_calls r carry restarts j) k blocks waits below (omega (arith, three)) done in (
+      let c : IsConfigured (known_of r) k blocks p.plan (begun_by (p.calls k)) = configures_rise (known_of r) (tasks_for (known_of r) jobs) (master_calls r carry restarts j) k blocks waits below (omega (arith, three)) done in (
         c.plan,
         c.plan_is,
-        each_write write_data (known_of r) c.plan k blocks (all_writes (views_of r jobs carry restarts k j)) (λ i w bytes got number b found.
+        each_write (known_of r) c.plan k blocks (all_writes (views_of r jobs carry restarts k j)) (λ i w bytes got number b found.
             let at = c.each i w bytes got in
-            stays_written (drive_at r k).busy blocks (views_of r jobs carry restarts k j) at.newer at.older at.one w bytes at.whole b small sees.run sound (sym sees.master.begun_are ∙ at.split) at.asks at.complete found at.away),
+            written_stays (drive_at r k).busy blocks (views_of r jobs carry restarts k j) at.newer at.older at.one w bytes at.whole b small sees.run sound (sym sees.master.begun_are ∙ at.split) at.asks at.complete found at.away),
       )
 
   -- a cycle commanded 3 or 4
   cycle_held : (v : View) (past : List View) (plan : PlanView) → AreSound blocks (v ∷ past) → 3 ≤ v.phase → v.phase ≤ 4 → AreHeld blocks (all_writes past) (writes (known_of r) plan k) → AreHeld blocks (all_writes (v ∷ past)) (writes (known_of r) plan k)
-  cycle_held v past plan sound low high held = each_write write_data (known_of r) plan k blocks (all_writes (v ∷ past)) (λ i w bytes got number b found.
+  cycle_held v past plan sound low high held = each_write (known_of r) plan k blocks (all_writes (v ∷ past)) (λ i w bytes got number b found.
       stays_protected blocks v past w.raw b found sound.1.0 (guard b (protected_at blocks start_numbers i w.raw guarded number b found)) ∙ held_at blocks (all_writes past) (writes (known_of r) plan k) i (request.Write w 7 bytes) held got b found)
     where
       guard : (b : Block) → (is_protected b.attribute 3 ≡ true) × (is_protected b.attribute 4 ≡ true) → is_protected b.attribute v.phase ≡ true

@@ -2,7 +2,6 @@
 -- phases 3 and 4 each drive holds the plan.
 use Rattle.std.proofs.Common.{◌≡◌, ℕ, zero, suc, ◌+◌, ◌^◌, ◌<◌, ◌≤◌, Bool, true, false, not, ◌&&◌, List, [], ◌∷◌, map, length, drop, Option, Some, None, refl, sym, ◌∙◌, ap, ap₂, subst, arith, if◌then◌else◌}
 use Rattle.std.specs.Prelude.{slice_get, slice_index_or, IfSome, option_map}
-use Rattle.sercos_model.specs.Bits.{AreBytes}
 use Rattle.sercos_idn.specs.declared.attribute.Attribute.{Attribute}
 use Rattle.sercos_step.specs.declared.request.Request.{Request}
 use Rattle.sercos_step.specs.declared.request.Outcome.{Outcome}
@@ -10,9 +9,8 @@ use Rattle.sercos_step.specs.declared.request.Job.{Job}
 use Rattle.sercos_timing.specs.Views.{WishesView, PlanView}
 use Rattle.sercos_block.specs.declared.block.Block.{Block}
 use Rattle.sercos_block.specs.Blocks.{is_fixed, is_protected}
-use Rattle.sercos_block.specs.Rings.{is_ring, wishes_of}
+use Rattle.sercos_block.specs.Rings.{wishes_of}
 use Rattle.sercos_block.specs.Rules.{blocks_fault}
-use Rattle.sercos_block.specs.ValidRings.{IsRing}
 use Rattle.sercos_block.specs.Stores.{IsStore, find_block, store_of}
 use Rattle.sercos_block.specs.Views.{DriveView, RingView}
 use Rattle.sercos_service_drive.specs.Writes.{AreAlike, without_data}
@@ -24,26 +22,23 @@ use Rattle.sercos_drive.specs.Annals.{annals}
 use Rattle.sercos_trace.specs.Views.{CycleView}
 use Rattle.sercos_seat.specs.Agenda.{reads, wishes_given}
 use Rattle.sercos_seat.specs.Channel.{outcomes_in}
-use Rattle.sercos_seat.specs.Ring.{Known, MemberView, Task, member, member_of, known_of, tasks_for, IsKnown}
-use Rattle.sercos_law_run.specs.Start.StartUp.{IsStoreOf, is_given, kept, start_up, Holds, AreAsLong}
-use Rattle.sercos_law_run.specs.Start.Answers.{AreAnswers, HaveFactors, AsksAsRing, TypedHaveFactors}
+use Rattle.sercos_seat.specs.Ring.{MemberView, Task, member, member_of, known_of, tasks_for, IsKnown}
+use Rattle.sercos_law_run.specs.Start.StartUp.{IsStoreOf, is_given, kept, start_up, Holds}
+use Rattle.sercos_law_run.specs.Start.Answers.{AreAnswers, HaveFactors}
 use Rattle.sercos_law_run.specs.Start.Held as held
-use Rattle.sercos_law_run.specs.Start.Later.{AreProtectedLater, StartUpIsProtected, StoresStartUpWhole}
+use Rattle.sercos_law_run.specs.Start.Later.{AreProtectedLater}
 use Rattle.sercos_law_run.proofs.Start.CheckPasses.{ring_drive}
-use Rattle.sercos_master.specs.Annals.{Past, Call, IsPlanned, outcomes, begins, settled, is_done, past}
+use Rattle.sercos_master.specs.Annals.{Past, IsPlanned, outcomes, begins, settled, is_done}
 use Rattle.sercos_master.proofs.Laws.{tasks_wait, jobs_waiting}
 use Rattle.sercos_script.specs.Links.{Carry, Restarts}
 use Rattle.sercos_law_channel.specs.Handshake.Views.{standing, before_mst, kept_in}
 use Rattle.sercos_law_channel.specs.Handshake.Epochs.{with_begun, begun_in}
-use Rattle.sercos_law_channel.specs.Handshake.RunLaws.{BeginsEmpty}
 use Rattle.sercos_law_channel.specs.Handshake.WholeRun.{all_writes, IsSound, AreSound, AreSmall}
-use Rattle.sercos_law_channel.specs.Handshake.Exact.{RunsAreExact}
-use Rattle.sercos_law_channel.specs.Handshake.Values.{store_in, HoldsNewest, StaysProtected, StaysWritten}
+use Rattle.sercos_law_channel.specs.Handshake.Values.{store_in}
 use Rattle.sercos_law_run.specs.Journal.Records.{ats_in}
 use Rattle.sercos_law_run.specs.Journal.Runs.{no_drive, drive_at, with_restart, given_before, master_calls, looks_back, middle, IsNext}
-use Rattle.sercos_law_run.specs.Agenda.Tasks.{BeginsTasks, EndsTasks, HasBegunTasks}
-use Rattle.sercos_law_run.specs.Agenda.Reads.{ReadsWell}
-use Rattle.sercos_law_run.specs.Agenda.Writes.{start_numbers, WritesData, ConfiguresAtRise}
+use Rattle.sercos_law_run.specs.Agenda.Tasks.{HasBegunTasks}
+use Rattle.sercos_law_run.specs.Agenda.Writes.{start_numbers}
 use Rattle.sercos_law_run.specs.Views.RingViews.{at_start, behind_mst, behind_ats, behind_mdt, heard_last, request_of, after_mst, view_of, views_of}
 use Rattle.sercos_law_run.proofs.Views.MasterSame.{AfterAts, ats_none, begun_cycle, begun_so, heard_so, same_started, turn_mdt}
 use Rattle.sercos_law_run.proofs.Views.Members.{AreHeardAs, member_is, members_count}
@@ -66,34 +61,16 @@ use Rattle.sercos_law_run.proofs.Held.Planned.{IsPlanOf, plan_of}
 use Rattle.sercos_law_run.proofs.Held.Sound.{newest_sound, got_behind}
 use Rattle.sercos_law_run.proofs.Held.Agreed.{agrees_so, held_holds}
 use Rattle.sercos_law_run.proofs.Held.Extended.{Extends, heard_more, begun_same, answers_stay}
+use Rattle.sercos_block.proofs.RingLemmas.{IsRing-is_ring}
+use Rattle.sercos_block.proofs.TypeLemmas.{types}
+use Rattle.sercos_law_run.proofs.Cited.{begins_tasks, left_of}
+use Rattle.sercos_law_run.proofs.Start.AnswerLemmas.{asks_as_ring, typed_have_factors}
+use Rattle.sercos_law_run.proofs.Start.LaterLemmas.{start_up_is_protected}
+use Rattle.sercos_master.proofs.Planned.{is_planned}
 
 -- a plan of zeros
 abbrev no_plan : PlanView
 no_plan = record { t1 = []; t2 = 0; t3 = 0; t4 = 0; position = []; mdt_len = 0 }
-
--- the laws below, of drive, master, channel, plans and stores
-pub record Laws : Type 0 where
-  pub empty : (busy : ℕ) → BeginsEmpty busy
-  pub exact : (busy : ℕ) → RunsAreExact busy
-  pub written : (busy : ℕ) → StaysWritten busy
-  pub protected : StaysProtected
-  pub newest : HoldsNewest
-  pub tasks : BeginsTasks
-  pub ends : EndsTasks
-  pub reads : ReadsWell
-  pub write_data : WritesData
-  pub configures : ConfiguresAtRise
-  pub planned : (s : Known) (requests : ℕ → List Task) (h : List Call) → IsPlanned s (past s requests h)
-  pub left : (s : Known) (jobs : List Job) (h : List Call) (k : ℕ) → (n : ℕ) × ((past s (tasks_for s jobs) h).waiting k ≡ drop n (tasks_for s jobs k))
-  pub ring : (r : RingView) → is_ring r ≡ true → IsRing r
-  pub types : (blocks : List Block) (raw : ℕ) (b : Block) → IsStore blocks → find_block raw blocks ≡ Some b → (b.attribute.factor < 2 ^ 16) × AreBytes b.value
-  pub holds_plan : held.HoldsPlan
-  pub as_long : AreAsLong
-  pub writes_start : held.WritesStartUp
-  pub whole : StoresStartUpWhole
-  pub asks : AsksAsRing
-  pub factors : TypedHaveFactors
-  pub guarded : StartUpIsProtected
 
 -- what is known of the drive at a place
 pub record Stands (r : RingView) (jobs : List Job) (carry : Carry) (restarts : Restarts) (j : List CycleView) (k : ℕ) : Type 0 where
@@ -159,9 +136,10 @@ pub record IsPlannedIn (r : RingView) (jobs : List Job) (carry : Carry) (restart
   pub asked : wishes_given (known_of r) (outcomes (behind_mdt r jobs carry restarts t.sent j)) ≡ wishes_of r
   pub of : IsPlanOf (wishes_of r) plan
 
-module _ (laws : Laws) (r : RingView) (jobs : List Job) (carry : Carry) (restarts : Restarts) (opened : IsOpened r jobs) (first : (k : ℕ) → k < length r.drives → IsStore (store_of (drive_at r k))) where
+module _ (r : RingView) (jobs : List Job) (carry : Carry) (restarts : Restarts) (opened : IsOpened r jobs)
+    (first : (k : ℕ) → k < length r.drives → IsStore (store_of (drive_at r k))) where
   pub s_known : IsKnown (known_of r)
-  s_known = ring_known laws.ring r opened.valid opened.typed
+  s_known = ring_known IsRing-is_ring r opened.valid opened.typed
 
   inside : (k : ℕ) → k < length r.drives → k < length (known_of r).drives
   inside k below = let count = members_count r in omega (arith, below, count)
@@ -171,12 +149,12 @@ module _ (laws : Laws) (r : RingView) (jobs : List Job) (carry : Carry) (restart
   plan_is p plan planned has same = subst (λ (w : WishesView). IsPlanOf w plan) same (plan_of (known_of r) p plan s_known planned has)
 
   pub wishes_so : (outs : ℕ → List Outcome) → ((k : ℕ) → k < length r.drives → AreAnswers (drive_at r k) (reads (member_of (drive_at r k))) (outs k)) → wishes_given (known_of r) outs ≡ wishes_of r
-  wishes_so outs answers = laws.asks r outs opened.valid (λ k d got.
+  wishes_so outs answers = asks_as_ring r outs opened.valid (λ k d got.
       let (low, same) = got_inside r.drives k d got in
-      subst (λ (x : DriveView). HaveFactors x × AreAnswers x (reads (member_of x)) (outs k)) (sym same) (laws.factors (drive_at r k) (opened.typed k low).blocks, answers k low))
+      subst (λ (x : DriveView). HaveFactors x × AreAnswers x (reads (member_of x)) (outs k)) (sym same) (typed_have_factors (drive_at r k) (opened.typed k low).blocks, answers k low))
 
   pub small : (k : ℕ) → k < length r.drives → AreSmall (store_of (drive_at r k))
-  small k below raw b found = (laws.types (store_of (drive_at r k)) raw b (first k below) found).0
+  small k below raw b found = (types (store_of (drive_at r k)) raw b (first k below) found).0
 
   -- at the end of a journal
   pub answers_at : (j : List CycleView) (plan : PlanView) → AllStand r jobs carry restarts j → (looks_back r jobs (master_calls r carry restarts j)).plan ≡ Some plan
@@ -185,11 +163,13 @@ module _ (laws : Laws) (r : RingView) (jobs : List Job) (carry : Carry) (restart
       let stands = all k below in
       let rules = (ring_drive r k (drive_at r k) opened.valid (drive_got r k below)).blocks in
       subst (λ (m : MemberView). AreAnswers (drive_at r k) (reads m) (outcomes (looks_back r jobs (master_calls r carry restarts j)) k)) (member_is r k)
-      (reads_answered laws.ends laws.reads r jobs carry restarts k j (store_of (drive_at r k)) plan (inside k below) laws.exact (small k below) rules stands.sees stands.sound stands.stored has)
+      (reads_answered r jobs carry restarts k j (store_of (drive_at r k)) plan (inside k below) (small k below) rules stands.sees stands.sound stands.stored has)
 
   -- A CYCLE
-  module _ (t : CycleView) (j : List CycleView) (next : IsNext r jobs carry restarts t j) (clear : t.unseen ≡ 0) (spelled : IsSpelled r jobs carry restarts t j)
-      (stored : (k : ℕ) → k < length r.drives → IsStored (drive_at r k) (blocks_in (drive_at r k) (after_mst r carry restarts t.sent j k))) (all : AllStand r jobs carry restarts j) where
+  module _ (t : CycleView) (j : List CycleView) (next : IsNext r jobs carry restarts t j) (clear : t.unseen ≡ 0)
+      (spelled : IsSpelled r jobs carry restarts t j)
+      (stored : (k : ℕ) → k < length r.drives → IsStored (drive_at r k) (blocks_in (drive_at r k) (after_mst r carry restarts t.sent j k)))
+      (all : AllStand r jobs carry restarts j) where
     at_first : at_start r jobs carry restarts j ≡ begun_cycle (restarts (length j) 0) (looks_back r jobs (master_calls r carry restarts j))
     at_first = started r jobs (restarts (length j) 0) (master_calls r carry restarts j)
 
@@ -233,7 +213,7 @@ module _ (laws : Laws) (r : RingView) (jobs : List Job) (carry : Carry) (restart
         let asked : wishes_given (known_of r) (outcomes p4) ≡ wishes_of r = wishes_so (outcomes p4) (λ k below.
         answers_stay (drive_at r k) (reads (member_of (drive_at r k))) _ (outcomes p4 k) (more k below) (answers_at j plan all has k below)) in
         let now : p4.plan ≡ Some plan = plan_kept r jobs carry restarts t j plan (omega (arith, late)) has in
-        record { before = has; now = now; asked = asked; of = plan_is p4 plan (laws.planned (known_of r) (tasks_for (known_of r) jobs) (middle r carry restarts t.sent j)) now asked }
+        record { before = has; now = now; asked = asked; of = plan_is p4 plan (is_planned (known_of r) (tasks_for (known_of r) jobs) (middle r carry restarts t.sent j)) now asked }
 
     -- what the drive's store is at the MDT's place
     pub store_is : (k : ℕ) → k < length r.drives → blocks_in (drive_at r k) (after_mst r carry restarts t.sent j k) ≡ store_in (store_of (drive_at r k)) (views_of r jobs carry restarts k j)
@@ -253,7 +233,7 @@ module _ (laws : Laws) (r : RingView) (jobs : List Job) (carry : Carry) (restart
           plan,
           planned,
           subst (λ (b : List Block). Holds b (start_up r.control r.cycle plan k (drive_at r k).at (drive_at r k).mdt)) (sym (store_is k below))
-              (held_holds laws.newest laws.write_data laws.writes_start laws.whole r plan k (drive_at r k) (views_of r jobs carry restarts k j) opened.valid planned.of.valid planned.of.least.fits (drive_got r k below) (rules k below) own),
+              (held_holds r plan k (drive_at r k) (views_of r jobs carry restarts k j) opened.valid planned.of.valid planned.of.least.fits (drive_got r k below) (rules k below) own),
         )
 
     pub one_plan : {o : Option PlanView} {a b : PlanView} → o ≡ Some a → o ≡ Some b → a ≡ b
@@ -263,21 +243,22 @@ module _ (laws : Laws) (r : RingView) (jobs : List Job) (carry : Carry) (restart
         → Agrees (known_of r) (behind_mdt r jobs carry restarts t.sent j) k (blocks_in (drive_at r k) (after_mst r carry restarts t.sent j k))
     agrees k below plan late stands has =
         let (made, planned, holds) = holding (subst (λ n. 3 ≤ n) phase_same late) k below in
-        agrees_so laws.holds_plan laws.as_long r (behind_mdt r jobs carry restarts t.sent j) made k (drive_at r k) (blocks_in (drive_at r k) (after_mst r carry restarts t.sent j k)) planned.of.valid planned.of.least.fits below (drive_got r k below)
-        (rules k below) (stored k below).1 holds planned.asked
+        agrees_so r (behind_mdt r jobs carry restarts t.sent j) made k (drive_at r k)
+        (blocks_in (drive_at r k) (after_mst r carry restarts t.sent j k)) planned.of.valid planned.of.least.fits below
+        (drive_got r k below) (rules k below) (stored k below).1 holds planned.asked
 
     -- the requests that begin
     tasks_then : (k : ℕ) → k < length r.drives → HasBegunTasks (known_of r) (behind_mdt r jobs carry restarts t.sent j) k
-    tasks_then k below = laws.tasks (known_of r) (tasks_for (known_of r) jobs) (middle r carry restarts t.sent j) k (inside k below)
+    tasks_then k below = begins_tasks (known_of r) (tasks_for (known_of r) jobs) (middle r carry restarts t.sent j) k (inside k below)
 
     -- and they are typed
     typed_then : IsTypedPast (behind_mdt r jobs carry restarts t.sent j)
-    typed_then = typed_past (known_of r) s_known (ring_timed r s_known opened.valid) (λ k. all_members r k opened.valid opened.typed) (tasks_for (known_of r) jobs) (λ h. laws.planned (known_of r) (tasks_for (known_of r) jobs) h)
+    typed_then = typed_past (known_of r) s_known (ring_timed r s_known opened.valid) (λ k. all_members r k opened.valid opened.typed) (tasks_for (known_of r) jobs) (λ h. is_planned (known_of r) (tasks_for (known_of r) jobs) h)
         (λ k. tasks_so (known_of r) jobs k opened.jobs_typed) (middle r carry restarts t.sent j)
 
     waits_sound : (k : ℕ) → k < length r.drives → (i : ℕ) (x : Task) → slice_get ((behind_mdt r jobs carry restarts t.sent j).waiting k) i ≡ Some x → IsSound (store_of (drive_at r k)) x.request
     waits_sound k below i x got =
-        let (n, is) = laws.left (known_of r) jobs (middle r carry restarts t.sent j) k in
+        let (n, is) = left_of (known_of r) jobs (middle r carry restarts t.sent j) k in
         let (m, there) = got_behind (tasks_for (known_of r) jobs k) n i x (ap (λ (l : List Task). slice_get l i) (sym is) ∙ got) in
         opened.requests k m x below there
 
@@ -289,9 +270,11 @@ module _ (laws : Laws) (r : RingView) (jobs : List Job) (carry : Carry) (restart
 
         by : (o : Option Request) → begun_by ((behind_mdt r jobs carry restarts t.sent j).calls k) ≡ with_begun o (begun_by ((behind_ats r jobs carry restarts t.sent j).calls k)) → IfSome o (λ q. IsSound (store_of (drive_at r k)) q)
         by None is = tt
-        by (Some q) is = newest_sound laws.write_data (known_of r) k (behind_mdt r jobs carry restarts t.sent j).now.phase (behind_mdt r jobs carry restarts t.sent j).plan ((behind_mdt r jobs carry restarts t.sent j).waiting k) (drive_at r k)
-            (begun_by ((behind_mdt r jobs carry restarts t.sent j).calls k)) ((behind_mdt r jobs carry restarts t.sent j).tasks k) (rules k below) (waits_sound k below) (tasks_then k below)
-            (record { request = q; answers = [] }) (begun_by ((behind_ats r jobs carry restarts t.sent j).calls k)) is (subst AreBegun is (typed_then.begun k)).0
+        by (Some q) is = newest_sound (known_of r) k (behind_mdt r jobs carry restarts t.sent j).now.phase
+            (behind_mdt r jobs carry restarts t.sent j).plan ((behind_mdt r jobs carry restarts t.sent j).waiting k) (drive_at r k)
+            (begun_by ((behind_mdt r jobs carry restarts t.sent j).calls k)) ((behind_mdt r jobs carry restarts t.sent j).tasks k)
+            (rules k below) (waits_sound k below) (tasks_then k below) (record { request = q; answers = [] })
+            (begun_by ((behind_ats r jobs carry restarts t.sent j).calls k)) is (subst AreBegun is (typed_then.begun k)).0
 
     pub rests : (k : ℕ) → k < length r.drives → is_done (known_of r) (behind_mdt r jobs carry restarts t.sent j) ≡ true → open_in (begun_by ((behind_mdt r jobs carry restarts t.sent j).calls k)) ≡ None
     rests k below = rests_so (known_of r) (behind_mdt r jobs carry restarts t.sent j) k (inside k below) (jobs_waiting (known_of r) jobs (middle r carry restarts t.sent j) k) (tasks_then k below)
@@ -300,24 +283,24 @@ module _ (laws : Laws) (r : RingView) (jobs : List Job) (carry : Carry) (restart
     pub kept_at_mst : (k : ℕ) → k < length r.drives → IsSame (drive_at r k) (after_mst r carry restarts t.sent j k)
         (standing_at (view_of r jobs carry restarts k t j) (before_mst (view_of r jobs carry restarts k t j) (standing (views_of r jobs carry restarts k j)))) (kept_in (view_of r jobs carry restarts k t j) (views_of r jobs carry restarts k j))
         (all_writes (views_of r jobs carry restarts k j)) (store_in (store_of (drive_at r k)) (views_of r jobs carry restarts k j))
-    kept_at_mst k below = at_mst laws.empty r jobs carry restarts opened.valid t j next clear spelled k below (all k below).sees (agrees k below) (rests k below)
+    kept_at_mst k below = at_mst r jobs carry restarts opened.valid t j next clear spelled k below (all k below).sees (agrees k below) (rests k below)
 
     -- what the channel has begun when the MDT is sent
     pub begun_then : (k : ℕ) → k < length r.drives → begun_by ((behind_mdt r jobs carry restarts t.sent j).calls k) ≡ begun_in (view_of r jobs carry restarts k t j) (views_of r jobs carry restarts k j)
-    begun_then k below = (behind laws.empty r jobs carry restarts opened.valid t j next clear spelled k below (all k below).sees (agrees k below) (rests k below)).begun_are
+    begun_then k below = (behind r jobs carry restarts opened.valid t j next clear spelled k below (all k below).sees (agrees k below) (rests k below)).begun_are
 
     -- THE NEXT CYCLE
     pub all_next : AllStand r jobs carry restarts (t ∷ j)
     all_next k below =
         let before = all k below in
-        let sees = sees_next laws.empty r jobs carry restarts opened.valid t j next clear spelled k below before.sees (agrees k below) (rests k below) in
+        let sees = sees_next r jobs carry restarts opened.valid t j next clear spelled k below before.sees (agrees k below) (rests k below) in
         let sound : AreSound (store_of (drive_at r k)) (views_of r jobs carry restarts k (t ∷ j)) = (before.sound, (alike_so (drive_at r k) _ (stored k below).1, begins_sound k below)) in
         let guard : AreProtected (store_of (drive_at r k)) start_numbers = guarded_so (store_of (drive_at r k)) (start_up 0 0 no_plan k (drive_at r k).at (drive_at r k).mdt)
-        (laws.guarded (drive_at r k) (store_of (drive_at r k)) 0 0 k no_plan (rules k below) refl) in
+        (start_up_is_protected (drive_at r k) (store_of (drive_at r k)) 0 0 k no_plan (rules k below) refl) in
         record {
           sees = sees;
           sound = sound;
           stored = (before.stored, stored k below);
-          holds = holds_next laws.write_data laws.configures laws.written laws.protected r jobs carry restarts (λ i. tasks_wait (member (known_of r) i).address 1 jobs) k (inside k below) (store_of (drive_at r k)) (small k below) guard
-              t j next before.sees sees sound before.holds;
+          holds = holds_next r jobs carry restarts (λ i. tasks_wait (member (known_of r) i).address 1 jobs) k (inside k below)
+              (store_of (drive_at r k)) (small k below) guard t j next before.sees sees sound before.holds;
         }

@@ -18,9 +18,9 @@ use Rattle.sercos_seat.specs.Ring.{Known, Task, member}
 use Rattle.sercos_law_run.proofs.Start.BlockFinds.{find_store_of}
 use Rattle.sercos_law_channel.specs.Handshake.WholeRun.{IsSound}
 use Rattle.sercos_law_run.specs.Agenda.Tasks.{IsTask, OfReads, OfWrites, Checks3, Lists3, Checks4, Lists4, OfWaiting, AreBegunTasks}
-use Rattle.sercos_law_run.specs.Agenda.Writes.{WritesData}
 use Rattle.sercos_law_run.specs.Typed.Typed.{IsTypedRequest}
 use Rattle.sercos_law_run.proofs.Held.AnsweredRuns.{IsRead, Time, Attribute, is_read_request}
+use Rattle.sercos_law_run.proofs.Agenda.WritesDone.{writes_data}
 
 -- a typed request is sound, but for what it sets
 typed_sound : (blocks : List Block) (r : Request) → IsTypedRequest r → ((i : Idn) → r ≡ request.Command i → IsSound blocks (request.Command i)) → IsSound blocks r
@@ -41,38 +41,39 @@ one_request : (r x : Request) → Some r ≡ Some x → r ≡ x
 one_request r x e = cc
 
 -- what a task sets
-sets_so : WritesData → (s : Known) (k : ℕ) (by_then : Option PlanView) (waiting : List Task) (outs : List Outcome) (t : Task) (d : DriveView) → blocks_fault [] d.blocks ≡ None
-    → ((j : ℕ) (x : Task) → slice_get waiting j ≡ Some x → IsSound (store_of d) x.request) → IsTask s k by_then waiting outs t → (i : Idn) → t.request ≡ request.Command i → IsSound (store_of d) (request.Command i)
-sets_so write_data s k by_then waiting outs t d rules waits (OfReads r less found is) i sets = by (is_read_request (member s k) _ r found)
+sets_so : (s : Known) (k : ℕ) (by_then : Option PlanView) (waiting : List Task) (outs : List Outcome) (t : Task) (d : DriveView)
+    → blocks_fault [] d.blocks ≡ None → ((j : ℕ) (x : Task) → slice_get waiting j ≡ Some x → IsSound (store_of d) x.request)
+    → IsTask s k by_then waiting outs t → (i : Idn) → t.request ≡ request.Command i → IsSound (store_of d) (request.Command i)
+sets_so s k by_then waiting outs t d rules waits (OfReads r less found is) i sets = by (is_read_request (member s k) _ r found)
   where
     by : IsRead r → IsSound (store_of d) (request.Command i)
     by (Time raw built e) = let wrong : request.Read (idn raw) 7 ≡ request.Command i = sym e ∙ sym (ap (λ (x : Task). x.request) is) ∙ sets in absurd (cc)
     by (Attribute x e) = let wrong : request.Read x 3 ≡ request.Command i = sym e ∙ sym (ap (λ (y : Task). y.request) is) ∙ sets in absurd (cc)
-sets_so write_data s k by_then waiting outs t d rules waits (OfWrites p n r planned less at found is) i sets =
-    let (w, bytes, got, number) = write_data s p k n less in
+sets_so s k by_then waiting outs t d rules waits (OfWrites p n r planned less at found is) i sets =
+    let (w, bytes, got, number) = writes_data s p k n less in
     let wrong : request.Write w 7 bytes ≡ request.Command i = one_request (request.Write w 7 bytes) r (sym got ∙ found) ∙ sym (ap (λ (x : Task). x.request) is) ∙ sets in
     absurd (cc)
-sets_so write_data s k by_then waiting outs t d rules waits (Checks3 p planned at is) i sets =
+sets_so s k by_then waiting outs t d rules waits (Checks3 p planned at is) i sets =
     subst (λ q. IsSound (store_of d) q) (sym (ap (λ (x : Task). x.request) is) ∙ sets) (check_127 d rules)
-sets_so write_data s k by_then waiting outs t d rules waits (Lists3 at failed is) i sets =
+sets_so s k by_then waiting outs t d rules waits (Lists3 at failed is) i sets =
     let wrong : request.Read (idn 21) 7 ≡ request.Command i = sym (ap (λ (x : Task). x.request) is) ∙ sets in absurd (cc)
-sets_so write_data s k by_then waiting outs t d rules waits (Checks4 at checked is) i sets =
+sets_so s k by_then waiting outs t d rules waits (Checks4 at checked is) i sets =
     subst (λ q. IsSound (store_of d) q) (sym (ap (λ (x : Task). x.request) is) ∙ sets) (check_128 d rules)
-sets_so write_data s k by_then waiting outs t d rules waits (Lists4 at failed is) i sets =
+sets_so s k by_then waiting outs t d rules waits (Lists4 at failed is) i sets =
     let wrong : request.Read (idn 22) 7 ≡ request.Command i = sym (ap (λ (x : Task). x.request) is) ∙ sets in absurd (cc)
-sets_so write_data s k by_then waiting outs t d rules waits (OfWaiting j at ready found) i sets = subst (λ q. IsSound (store_of d) q) sets (waits j t found)
+sets_so s k by_then waiting outs t d rules waits (OfWaiting j at ready found) i sets = subst (λ q. IsSound (store_of d) q) sets (waits j t found)
 
 -- the newest of the requests that were begun
-pub newest_sound : WritesData → (s : Known) (k phase : ℕ) (plan : Option PlanView) (waiting : List Task) (d : DriveView) (begun : List Begun) (tasks : List Task) → blocks_fault [] d.blocks ≡ None
+pub newest_sound : (s : Known) (k phase : ℕ) (plan : Option PlanView) (waiting : List Task) (d : DriveView) (begun : List Begun) (tasks : List Task) → blocks_fault [] d.blocks ≡ None
     → ((j : ℕ) (x : Task) → slice_get waiting j ≡ Some x → IsSound (store_of d) x.request) → AreBegunTasks s k plan waiting phase begun tasks
     → (b : Begun) (older : List Begun) → begun ≡ b ∷ older → IsTypedRequest b.request → IsSound (store_of d) b.request
-newest_sound write_data s k phase plan waiting d [] [] rules waits are b older is typed = cc
-newest_sound write_data s k phase plan waiting d [] (t ∷ tasks) rules waits are b older is typed = cc
-newest_sound write_data s k phase plan waiting d (c ∷ others) [] rules waits are b older is typed = absurd are
-newest_sound write_data s k phase plan waiting d (c ∷ others) (t ∷ tasks) rules waits are b older is typed =
+newest_sound s k phase plan waiting d [] [] rules waits are b older is typed = cc
+newest_sound s k phase plan waiting d [] (t ∷ tasks) rules waits are b older is typed = cc
+newest_sound s k phase plan waiting d (c ∷ others) [] rules waits are b older is typed = absurd are
+newest_sound s k phase plan waiting d (c ∷ others) (t ∷ tasks) rules waits are b older is typed =
     let same : c ≡ b = cc in
     let asks : b.request ≡ t.request = sym (ap (λ (x : Begun). x.request) same) ∙ are.1.asks in
-    typed_sound (store_of d) b.request typed (λ i sets. sets_so write_data s k are.1.by_then waiting _ t d rules waits are.1.task i (sym asks ∙ sets))
+    typed_sound (store_of d) b.request typed (λ i sets. sets_so s k are.1.by_then waiting _ t d rules waits are.1.task i (sym asks ∙ sets))
 
 pub got_behind : {A : Type 0} (xs : List A) (n j : ℕ) (x : A) → slice_get (drop n xs) j ≡ Some x → (i : ℕ) × (slice_get xs i ≡ Some x)
 got_behind xs zero j x got = (j, got)

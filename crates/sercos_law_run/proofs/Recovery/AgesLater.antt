@@ -12,14 +12,9 @@ use Rattle.sercos_script.specs.Links.{Carry, Restarts}
 use Rattle.sercos_law_channel.specs.Handshake.Epochs.{begun_in, epoch_begun, unless_restart}
 use Rattle.sercos_law_channel.specs.Handshake.Views.{View}
 use Rattle.sercos_law_channel.specs.Pace.Ages.{age_by, age_in}
-use Rattle.sercos_law_channel.specs.Pace.Costs.{ComesTimed}
-use Rattle.sercos_law_channel.specs.Pace.StartCosts.{RecoversInCost}
 use Rattle.sercos_law_run.specs.Journal.Runs.{drive_at, IsClear, IsRun}
-use Rattle.sercos_law_run.specs.Agenda.Turns.{WorkInTurn}
 use Rattle.sercos_law_run.specs.Views.RingViews.{behind_mdt, view_of, views_of}
 use Rattle.sercos_law_run.specs.Held.Opened.{IsOpened}
-use Rattle.sercos_law_run.proofs.Held.Runs.{Laws}
-use Rattle.sercos_law_run.proofs.Headline.HeadlineRuns.{MoreLaws}
 use Rattle.sercos_law_run.specs.Undisturbed.Undisturbed.{IsUndisturbed}
 use Rattle.sercos_law_run.proofs.Undisturbed.PhaseTwo.{listed_all}
 use Rattle.sercos_law_run.specs.Recovery.Stretches.{IsDown, IsStretch}
@@ -36,7 +31,8 @@ age_next v past stays = by v.falls (is_some (open_in (begun_in v past))) (length
     by false true true fell = inr refl
     by false true false fell = inl (omega arith)
 
-module _ (laws : Laws) (more : MoreLaws) (turn : WorkInTurn) (r : RingView) (jobs : List Job) (carry : Carry) (restarts : Restarts) (opened : IsOpened r jobs) (k : ℕ) (below : k < length r.drives) where
+module _ (r : RingView) (jobs : List Job) (carry : Carry) (restarts : Restarts) (opened : IsOpened r jobs) (k : ℕ)
+    (below : k < length r.drives) where
   -- somewhere in these cycles no step is older than a cycle
   record IsFresh (j : List CycleView) : Type 0 where
     newer : List CycleView
@@ -74,23 +70,24 @@ module _ (laws : Laws) (more : MoreLaws) (turn : WorkInTurn) (r : RingView) (job
           stretch = record { calm = tt; stays = tt; first_calm = stretch.calm.1; first_stays = stretch.stays.1 };
           young = young;
         })
-        | inr grows ↦ elim (fresh_or_old cycles first before (shorter laws more turn r jobs carry restarts opened t cycles first before stretch)) [
+        | inr grows ↦ elim (fresh_or_old cycles first before (shorter r jobs carry restarts opened t cycles first before stretch)) [
           | inl same ↦ inl (omega (arith, grows, same))
           | inr fresh ↦ inr (one_more t (cycles ++ first ∷ before) stretch.calm.1 stretch.stays.1 fresh)
         ]
       ]
 
-  pub ages_later : ((busy : ℕ) → RecoversInCost busy) → ComesTimed → (cycles : List CycleView) (first : CycleView) (before : List CycleView) → IsRun r jobs carry restarts (cycles ++ first ∷ before) → IsClear (cycles ++ first ∷ before)
+  pub ages_later : (cycles : List CycleView) (first : CycleView) (before : List CycleView) → IsRun r jobs carry restarts (cycles ++ first ∷ before) → IsClear (cycles ++ first ∷ before)
       → IsStretch r jobs carry restarts cycles first before → (drive_at r k).busy + 2 ≤ length cycles
       → IsDown r jobs carry restarts k (cycles ++ first ∷ before) ⊎ (age_in (views_of r jobs carry restarts k (cycles ++ first ∷ before)) ≤ (drive_at r k).busy + 2)
-  ages_later recovers timed cycles first before run clear stretch long = elim (fresh_or_old cycles first before stretch) [
-    | inl same ↦ elim (costs_again laws more turn r jobs carry restarts opened cycles first before run clear stretch k below recovers timed (λ raw. 512) (listed_all (views_of r jobs carry restarts k (cycles ++ first ∷ before)))) [
+  ages_later cycles first before run clear stretch long = elim (fresh_or_old cycles first before stretch) [
+    | inl same ↦ elim (costs_again r jobs carry restarts opened cycles first before run clear stretch k below (λ raw. 512) (listed_all (views_of r jobs carry restarts k (cycles ++ first ∷ before)))) [
       | inl down ↦ inl down
       | inr costs ↦ let most = costs.1 in absurd (omega (arith, same, most, long))
     ]
     | inr f ↦ subst (λ (l : List CycleView). IsDown r jobs carry restarts k l ⊎ (age_in (views_of r jobs carry restarts k l) ≤ (drive_at r k).busy + 2)) (sym f.is)
-        (elim (costs_again laws more turn r jobs carry restarts opened f.newer f.one f.older (subst (λ (l : List CycleView). IsRun r jobs carry restarts l) f.is run) (subst (λ (l : List CycleView). IsClear l) f.is clear) f.stretch k below recovers timed
-        (λ raw. 512) (listed_all (views_of r jobs carry restarts k (f.newer ++ f.one ∷ f.older)))) [
+        (elim (costs_again r jobs carry restarts opened f.newer f.one f.older
+        (subst (λ (l : List CycleView). IsRun r jobs carry restarts l) f.is run) (subst (λ (l : List CycleView). IsClear l) f.is clear)
+        f.stretch k below (λ raw. 512) (listed_all (views_of r jobs carry restarts k (f.newer ++ f.one ∷ f.older)))) [
           | inl down ↦ inl down
           | inr costs ↦ let most = costs.1 in let young = f.young in inr (omega (arith, most, young))
         ])

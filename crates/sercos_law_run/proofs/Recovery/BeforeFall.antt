@@ -6,7 +6,7 @@ use Rattle.std.proofs.lemmas.Bool.{cases_eq}
 use Rattle.std.proofs.lemmas.List.Sums.{sum_by-cons}
 use Rattle.sercos_step.specs.declared.request.Job.{Job}
 use Rattle.sercos_block.specs.Views.{DriveView, RingView}
-use Rattle.sercos_law_run.specs.Bounds.Bounds.{section_cycles, AreSections}
+use Rattle.sercos_law_run.specs.Bounds.Bounds.{section_cycles}
 use Rattle.sercos_service_master.specs.Begun.{Begun, open_in}
 use Rattle.sercos_trace.specs.Views.{CycleView}
 use Rattle.sercos_seat.specs.Ring.{known_of}
@@ -14,21 +14,12 @@ use Rattle.sercos_master.specs.Annals.{in_turn}
 use Rattle.sercos_script.specs.Links.{Carry, Restarts}
 use Rattle.sercos_law_channel.specs.Handshake.Epochs.{begun_in, epoch_begun}
 use Rattle.sercos_law_channel.specs.Handshake.Views.{standing}
-use Rattle.sercos_law_channel.specs.Pace.Ages.{age_in, AgesWhereDead}
-use Rattle.sercos_law_channel.specs.Pace.ChannelCalls.{AgesBeforeEnd}
-use Rattle.sercos_law_channel.specs.Pace.Costs.{ComesTimed}
-use Rattle.sercos_law_channel.specs.Pace.Jobs.{ReadsCost, WritesCost}
-use Rattle.sercos_law_channel.specs.Pace.Passages.{StaysDead}
-use Rattle.sercos_law_channel.specs.Pace.StartCosts.{RecoversInCost, RecoversSince}
+use Rattle.sercos_law_channel.specs.Pace.Ages.{age_in}
 use Rattle.sercos_law_channel.specs.Pace.Stretches.{open_since}
 use Rattle.sercos_law_run.specs.Journal.Arrivals.{sum_below}
 use Rattle.sercos_law_run.specs.Journal.Runs.{drive_at, no_drive, IsClear, IsRun}
-use Rattle.sercos_law_run.specs.Agenda.Tasks.{BeginsNoneEarly}
-use Rattle.sercos_law_run.specs.Agenda.Turns.{WorkInTurn, WorksInTwo}
 use Rattle.sercos_law_run.specs.Views.RingViews.{behind_mdt, view_of, views_of}
 use Rattle.sercos_law_run.specs.Held.Opened.{IsOpened}
-use Rattle.sercos_law_run.proofs.Held.Runs.{Laws}
-use Rattle.sercos_law_run.proofs.Headline.HeadlineRuns.{MoreLaws}
 use Rattle.sercos_law_run.specs.Undisturbed.Sections.{AreInTwo}
 use Rattle.sercos_law_run.specs.Undisturbed.ViewsSince.{views_since}
 use Rattle.sercos_law_run.proofs.Undisturbed.JobsBegun.{begun_end}
@@ -41,6 +32,7 @@ use Rattle.sercos_law_run.proofs.Recovery.DownSince.{calm_quiet, down_all, in_tw
 use Rattle.sercos_law_run.proofs.Recovery.LateDown.{not_true}
 use Rattle.sercos_law_run.proofs.Recovery.Turns.{opens_in_turn, works_in_turn}
 use Rattle.sercos_law_run.proofs.Recovery.UpSections.{up_section}
+use Rattle.sercos_law_run.proofs.Cited.{work_in_turn}
 
 -- A SUM over the places of all drives, with a limit of its own for one
 record AreAllBut (drives : List DriveView) (total limit : ℕ) (bound : DriveView → ℕ) : Type 0 where
@@ -65,73 +57,74 @@ all_but f bound limit (x ∷ drives) (suc d) there most within =
     let sum = sum_by-cons bound x (rest.earlier ++ rest.later) in
     record { earlier = x ∷ rest.earlier; one = rest.one; later = rest.later; are = ap (λ (l : List DriveView). x ∷ l) rest.are; few = omega (arith, first, few, parts, sum) }
 
-module _ (laws : Laws) (more : MoreLaws) (turn : WorkInTurn) (early : BeginsNoneEarly) (works : WorksInTwo) (r : RingView) (jobs : List Job) (carry : Carry) (restarts : Restarts) (opened : IsOpened r jobs)
-    (dead : (busy : ℕ) → StaysDead busy) (ages : (busy : ℕ) → AgesWhereDead busy) (counts : (busy : ℕ) → AgesBeforeEnd busy) (recovers : (busy : ℕ) → RecoversInCost busy) (since : (busy : ℕ) → RecoversSince busy) (timed : ComesTimed)
-    (sections : AreSections) (reads_cost : (busy : ℕ) → ReadsCost busy) (writes_cost : (busy : ℕ) → WritesCost busy) where
+module _ (r : RingView) (jobs : List Job) (carry : Carry) (restarts : Restarts) (opened : IsOpened r jobs) where
   -- the cycles in which a step to a drive was open
   abbrev opened_in : List CycleView → List CycleView → ℕ → ℕ
   opened_in cycles rest k = open_since (views_since r jobs carry restarts k cycles rest) (views_of r jobs carry restarts k rest)
 
-  -- the drive that is spared: the one in phase 0 that has the turn, or any in phase 0
+  -- the drive that is spared: the one in phase 0 that has the work_in_turn, or any in phase 0
   record IsOne (limit : ℕ) (cycles rest : List CycleView) : Type 0 where
     place : ℕ
     there : place < length r.drives
     most : opened_in cycles rest place ≤ limit
     others : (k : ℕ) → k < length r.drives → (k ≡ place → ⊥) → IsDown r jobs carry restarts k rest → opened_in cycles rest k ≡ 0
 
-  module _ (t : CycleView) (cycles : List CycleView) (first : CycleView) (before : List CycleView) (run : IsRun r jobs carry restarts (t ∷ (cycles ++ first ∷ before))) (clear : IsClear (t ∷ (cycles ++ first ∷ before)))
-      (stretch : IsStretch r jobs carry restarts (t ∷ cycles) first before) (two : AreInTwo r jobs carry restarts (t ∷ cycles) (first ∷ before)) (d : ℕ) (there : d < length r.drives) (down : IsDown r jobs carry restarts d (first ∷ before))
-      (limit : ℕ) (aged : (k : ℕ) → k < length r.drives → IsDown r jobs carry restarts k (t ∷ (cycles ++ first ∷ before)) → is_some (open_in (epoch_begun (views_of r jobs carry restarts k (t ∷ (cycles ++ first ∷ before))))) ≡ true
-      → age_in (views_of r jobs carry restarts k (t ∷ (cycles ++ first ∷ before))) ≤ limit) where
-    its : (k : ℕ) × (k < length r.drives) × (in_turn (known_of r) (behind_mdt r jobs carry restarts t.sent (cycles ++ first ∷ before)) ≡ Some k)
-        × (is_some (open_in (begun_in (view_of r jobs carry restarts k t (cycles ++ first ∷ before)) (views_of r jobs carry restarts k (cycles ++ first ∷ before)))) ≡ true)
-    its = works_in_turn laws more turn r jobs carry restarts opened works t (cycles ++ first ∷ before) run clear two.1
+  module _ (t : CycleView) (cycles : List CycleView) (first : CycleView) (before : List CycleView)
+      (run : IsRun r jobs carry restarts (t ∷ (cycles ++ first ∷ before))) (clear : IsClear (t ∷ (cycles ++ first ∷ before)))
+      (stretch : IsStretch r jobs carry restarts (t ∷ cycles) first before)
+      (two : AreInTwo r jobs carry restarts (t ∷ cycles) (first ∷ before)) (d : ℕ) (there : d < length r.drives)
+      (down : IsDown r jobs carry restarts d (first ∷ before)) (limit : ℕ)
+      (aged : (k : ℕ) → k < length r.drives → IsDown r jobs carry restarts k (t ∷ (cycles ++ first ∷ before)) → is_some (open_in (epoch_begun (views_of r jobs carry restarts k (t ∷ (cycles ++ first ∷ before))))) ≡ true → age_in (views_of r jobs carry restarts k (t ∷ (cycles ++ first ∷ before))) ≤ limit)
+    where
+      its : (k : ℕ) × (k < length r.drives) × (in_turn (known_of r) (behind_mdt r jobs carry restarts t.sent (cycles ++ first ∷ before)) ≡ Some k)
+          × (is_some (open_in (begun_in (view_of r jobs carry restarts k t (cycles ++ first ∷ before)) (views_of r jobs carry restarts k (cycles ++ first ∷ before)))) ≡ true)
+      its = works_in_turn r jobs carry restarts opened t (cycles ++ first ∷ before) run clear two.1
 
-    -- a drive in phase 0 that doesn't have the turn had no open step
-    none_of_others : (k : ℕ) → k < length r.drives → (k ≡ its.0 → ⊥) → IsDown r jobs carry restarts k (first ∷ before) → opened_in (t ∷ cycles) (first ∷ before) k ≡ 0
-    none_of_others k below other is_down =
-        let same = ap (λ (l : List Begun). is_some (open_in l)) (begun_end laws more r jobs carry restarts opened t (cycles ++ first ∷ before) run clear stretch.stays.1 k) in
-        never_open laws more turn r jobs carry restarts opened dead ages (t ∷ cycles) (first ∷ before) run clear (calm_quiet r carry restarts (t ∷ cycles) (first ∷ before) stretch.calm) stretch.stays two k below is_down
-        (same ∙ not_true (is_some (open_in (begun_in (view_of r jobs carry restarts k t (cycles ++ first ∷ before)) (views_of r jobs carry restarts k (cycles ++ first ∷ before))))) (λ opens.
-        other (some_is k its.0 (sym (opens_in_turn laws more turn r jobs carry restarts opened t (cycles ++ first ∷ before) run clear (in_two laws more turn r jobs carry restarts opened t (cycles ++ first ∷ before) run two.1) k below opens) ∙ its.2))))
+      -- a drive in phase 0 that doesn't have the work_in_turn had no open step
+      none_of_others : (k : ℕ) → k < length r.drives → (k ≡ its.0 → ⊥) → IsDown r jobs carry restarts k (first ∷ before) → opened_in (t ∷ cycles) (first ∷ before) k ≡ 0
+      none_of_others k below other is_down =
+          let same = ap (λ (l : List Begun). is_some (open_in l)) (begun_end r jobs carry restarts opened t (cycles ++ first ∷ before) run clear stretch.stays.1 k) in
+          never_open r jobs carry restarts opened (t ∷ cycles) (first ∷ before) run clear (calm_quiet r carry restarts (t ∷ cycles) (first ∷ before) stretch.calm) stretch.stays two k below is_down
+          (same ∙ not_true (is_some (open_in (begun_in (view_of r jobs carry restarts k t (cycles ++ first ∷ before)) (views_of r jobs carry restarts k (cycles ++ first ∷ before))))) (λ opens.
+          other (some_is k its.0 (sym (opens_in_turn r jobs carry restarts opened t (cycles ++ first ∷ before) run clear (in_two r jobs carry restarts opened t (cycles ++ first ∷ before) run two.1) k below opens) ∙ its.2))))
 
-    one_of : IsOne limit (t ∷ cycles) (first ∷ before)
-    one_of = elim (cases_eq (standing (views_of r jobs carry restarts its.0 (first ∷ before))).ended 0) [
-      | inl is_down ↦ record {
-        place = its.0;
-        there = its.1;
-        most =
-            let few = open_at_most laws more turn r jobs carry restarts opened dead ages (t ∷ cycles) (first ∷ before) run clear (calm_quiet r carry restarts (t ∷ cycles) (first ∷ before) stretch.calm) stretch.stays two its.0 its.1 is_down in
-            let old = aged its.0 its.1 (down_all laws more turn r jobs carry restarts opened dead (t ∷ cycles) (first ∷ before) run clear two its.0 its.1 is_down)
-            (ap (λ (l : List Begun). is_some (open_in l)) (begun_end laws more r jobs carry restarts opened t (cycles ++ first ∷ before) run clear stretch.stays.1 its.0) ∙ its.3) in
-            omega (arith, few, old);
-        others = none_of_others;
-      }
-      | inr is_up ↦ record {
-        place = d;
-        there = there;
-        most = let none = none_of_others d there (λ same. is_up (subst (λ (i : ℕ). IsDown r jobs carry restarts i (first ∷ before)) same down)) down in omega (arith, none);
-        others = λ k below other is_down. none_of_others k below (λ same. is_up (subst (λ (i : ℕ). IsDown r jobs carry restarts i (first ∷ before)) same is_down)) is_down;
-      }
-    ]
+      one_of : IsOne limit (t ∷ cycles) (first ∷ before)
+      one_of = elim (cases_eq (standing (views_of r jobs carry restarts its.0 (first ∷ before))).ended 0) [
+        | inl is_down ↦ record {
+          place = its.0;
+          there = its.1;
+          most =
+              let few = open_at_most r jobs carry restarts opened (t ∷ cycles) (first ∷ before) run clear (calm_quiet r carry restarts (t ∷ cycles) (first ∷ before) stretch.calm) stretch.stays two its.0 its.1 is_down in
+              let old = aged its.0 its.1 (down_all r jobs carry restarts opened (t ∷ cycles) (first ∷ before) run clear two its.0 its.1 is_down)
+              (ap (λ (l : List Begun). is_some (open_in l)) (begun_end r jobs carry restarts opened t (cycles ++ first ∷ before) run clear stretch.stays.1 its.0) ∙ its.3) in
+              omega (arith, few, old);
+          others = none_of_others;
+        }
+        | inr is_up ↦ record {
+          place = d;
+          there = there;
+          most = let none = none_of_others d there (λ same. is_up (subst (λ (i : ℕ). IsDown r jobs carry restarts i (first ∷ before)) same down)) down in omega (arith, none);
+          others = λ k below other is_down. none_of_others k below (λ same. is_up (subst (λ (i : ℕ). IsDown r jobs carry restarts i (first ∷ before)) same is_down)) is_down;
+        }
+      ]
 
-    spared : IsSpared r limit (suc (length cycles))
-    spared = record { earlier = but.earlier; one = but.one; later = but.later; are = but.are; few = omega (arith, counted, all_few) }
-      where
-        each : (k : ℕ) → k < length r.drives → (k ≡ one_of.place → ⊥) → opened_in (t ∷ cycles) (first ∷ before) k ≤ section_cycles (drive_at r k)
-        each k below other = elim (cases_eq (standing (views_of r jobs carry restarts k (first ∷ before))).ended 0) [
-          | inl is_down ↦ let none = one_of.others k below other is_down in omega (arith, none)
-          | inr is_up ↦ up_section laws more turn early r jobs carry restarts opened dead recovers since timed sections reads_cost writes_cost (t ∷ cycles) first before run clear stretch two d there down k below is_up
-        ]
+      spared : IsSpared r limit (suc (length cycles))
+      spared = record { earlier = but.earlier; one = but.one; later = but.later; are = but.are; few = omega (arith, counted, all_few) }
+        where
+          each : (k : ℕ) → k < length r.drives → (k ≡ one_of.place → ⊥) → opened_in (t ∷ cycles) (first ∷ before) k ≤ section_cycles (drive_at r k)
+          each k below other = elim (cases_eq (standing (views_of r jobs carry restarts k (first ∷ before))).ended 0) [
+            | inl is_down ↦ let none = one_of.others k below other is_down in omega (arith, none)
+            | inr is_up ↦ up_section r jobs carry restarts opened (t ∷ cycles) first before run clear stretch two d there down k below is_up
+          ]
 
-        but : AreAllBut r.drives (sum_below (length r.drives) (opened_in (t ∷ cycles) (first ∷ before))) limit section_cycles
-        but = all_but (opened_in (t ∷ cycles) (first ∷ before)) section_cycles limit r.drives one_of.place one_of.there one_of.most each
+          but : AreAllBut r.drives (sum_below (length r.drives) (opened_in (t ∷ cycles) (first ∷ before))) limit section_cycles
+          but = all_but (opened_in (t ∷ cycles) (first ∷ before)) section_cycles limit r.drives one_of.place one_of.there one_of.most each
 
-        all_few : sum_below (length r.drives) (opened_in (t ∷ cycles) (first ∷ before)) ≤ limit + sum_by section_cycles (but.earlier ++ but.later)
-        all_few = but.few
+          all_few : sum_below (length r.drives) (opened_in (t ∷ cycles) (first ∷ before)) ≤ limit + sum_by section_cycles (but.earlier ++ but.later)
+          all_few = but.few
 
-        counted : suc (length cycles) ≤ sum_below (length r.drives) (opened_in (t ∷ cycles) (first ∷ before))
-        counted = none_idle laws more works r jobs carry restarts opened (t ∷ cycles) (first ∷ before) run clear two
+          counted : suc (length cycles) ≤ sum_below (length r.drives) (opened_in (t ∷ cycles) (first ∷ before))
+          counted = none_idle r jobs carry restarts opened (t ∷ cycles) (first ∷ before) run clear two
 
   -- BEFORE THE FALL
   pub few_within : (limit : ℕ) (cycles : List CycleView) (first : CycleView) (before : List CycleView) → IsRun r jobs carry restarts (cycles ++ first ∷ before) → IsClear (cycles ++ first ∷ before)

@@ -8,30 +8,22 @@ use Rattle.sercos_step.specs.declared.request.Outcome.{Outcome}
 use Rattle.sercos_timing.specs.Views.{PlanView}
 use Rattle.sercos_block.specs.Startup.{startup_bound}
 use Rattle.sercos_block.specs.Views.{RingView}
-use Rattle.sercos_law_run.specs.Bounds.Bounds.{command_cycles, greatest, AreSections, IsBelowGreatest, IsStarted}
+use Rattle.sercos_law_run.specs.Bounds.Bounds.{command_cycles, greatest}
 use Rattle.sercos_trace.specs.Views.{CycleView}
 use Rattle.sercos_trace.specs.declared.events.Stop.{Stop}
 use Rattle.sercos_seat.specs.Agenda.{is_ready}
 use Rattle.sercos_seat.specs.Ring.{MemberView, known_of, member, tasks_for}
 use Rattle.sercos_master.specs.Annals.{Past, all_ready, fall_of, is_done, is_done_in, outcomes}
 use Rattle.sercos_script.specs.Links.{Carry, Restarts}
-use Rattle.sercos_law_channel.specs.Pace.Ages.{AgesWhereDead}
-use Rattle.sercos_law_channel.specs.Pace.ChannelCalls.{AgesBeforeEnd}
-use Rattle.sercos_law_channel.specs.Pace.Costs.{ComesTimed}
-use Rattle.sercos_law_channel.specs.Pace.Jobs.{ReadsCost, WritesCost}
-use Rattle.sercos_law_channel.specs.Pace.Passages.{StaysDead}
-use Rattle.sercos_law_channel.specs.Pace.StartCosts.{RecoversInCost, RecoversSince}
 use Rattle.sercos_law_run.specs.Journal.Runs.{drive_at, looks_back, master_calls, IsClear, IsRun}
-use Rattle.sercos_law_run.specs.Agenda.Tasks.{BeginsNoneEarly}
-use Rattle.sercos_law_run.specs.Agenda.Turns.{WorkInTurn, WorksInTwo}
 use Rattle.sercos_law_run.proofs.Agenda.AtWork.{IsFound, found_some, not_so}
 use Rattle.sercos_law_run.proofs.Typed.Mdts.{phase_low}
 use Rattle.sercos_law_run.specs.Views.RingViews.{at_start, behind_mdt}
 use Rattle.sercos_law_run.proofs.Views.Members.{members_count}
 use Rattle.sercos_law_run.specs.Held.Opened.{IsOpened}
 use Rattle.sercos_law_run.proofs.Held.Extended.{Extends}
-use Rattle.sercos_law_run.proofs.Held.Runs.{Laws, drive_got, holding}
-use Rattle.sercos_law_run.proofs.Headline.HeadlineRuns.{MoreLaws, all_stand, first_store, spelled_in, stored_in}
+use Rattle.sercos_law_run.proofs.Held.Runs.{drive_got, holding}
+use Rattle.sercos_law_run.proofs.Headline.HeadlineRuns.{all_stand, first_store, spelled_in, stored_in}
 use Rattle.sercos_law_run.specs.Undisturbed.Sections.{AreInThree, GoesOnInThree}
 use Rattle.sercos_law_run.specs.Undisturbed.Undisturbed.{IsUndisturbed}
 use Rattle.sercos_law_run.proofs.Undisturbed.Comes.{calm_in}
@@ -50,6 +42,8 @@ use Rattle.sercos_law_run.proofs.Recovery.Stretches.{whole_at}
 use Rattle.sercos_law_run.proofs.Recovery.UpInThree.{LastsInThree}
 use Rattle.sercos_law_run.proofs.Recovery.UpInTwo.{up_in_two}
 use Rattle.sercos_law_run.proofs.Recovery.UpSections.{no_lower_since}
+use Rattle.sercos_block.proofs.RingLemmas.{IsRing-is_ring}
+use Rattle.sercos_law_run.proofs.Bounds.BoundSums.{is_below_greatest}
 
 -- a check that hasn't ended well hadn't before
 unready_then : (m : MemberView) (old new : List Outcome) → Extends old new → is_ready m new ≡ false → is_ready m old ≡ false
@@ -59,9 +53,7 @@ stays_so : (done : Bool) (n : ℕ) → (if done then n + 1 else n) ≡ n → don
 stays_so true n same = absurd (omega (arith, same))
 stays_so false n same = refl
 
-module _ (laws : Laws) (more : MoreLaws) (turn : WorkInTurn) (early : BeginsNoneEarly) (works : WorksInTwo) (r : RingView) (jobs : List Job) (carry : Carry) (restarts : Restarts) (opened : IsOpened r jobs)
-    (dead : (busy : ℕ) → StaysDead busy) (ages : (busy : ℕ) → AgesWhereDead busy) (counts : (busy : ℕ) → AgesBeforeEnd busy) (recovers : (busy : ℕ) → RecoversInCost busy) (since : (busy : ℕ) → RecoversSince busy) (timed : ComesTimed)
-    (sections : AreSections) (reads_cost : (busy : ℕ) → ReadsCost busy) (writes_cost : (busy : ℕ) → WritesCost busy) (started : IsStarted) (below_greatest : IsBelowGreatest) where
+module _ (r : RingView) (jobs : List Job) (carry : Carry) (restarts : Restarts) (opened : IsOpened r jobs) where
   -- the cycles of phase 3, cut off: those before them are few
   record IsCut (k n : ℕ) (j : List CycleView) : Type 0 where
     newer : List CycleView
@@ -91,8 +83,10 @@ module _ (laws : Laws) (more : MoreLaws) (turn : WorkInTurn) (early : BeginsNone
     few = let few = f.few in omega (arith, few);
   }
 
-  module _ (first : CycleView) (before : List CycleView) (late : 2 ≤ first.phase) (up : (k : ℕ) → k < length r.drives → IsDown r jobs carry restarts k (first ∷ before) → ⊥) where
-    module _ (t : CycleView) (cycles : List CycleView) (run : IsRun r jobs carry restarts (t ∷ (cycles ++ first ∷ before))) (clear : IsClear (t ∷ (cycles ++ first ∷ before))) (stretch : IsStretch r jobs carry restarts (t ∷ cycles) first before) where
+  module _ (first : CycleView) (before : List CycleView) (late : 2 ≤ first.phase)
+      (up : (k : ℕ) → k < length r.drives → IsDown r jobs carry restarts k (first ∷ before) → ⊥) where
+    module _ (t : CycleView) (cycles : List CycleView) (run : IsRun r jobs carry restarts (t ∷ (cycles ++ first ∷ before)))
+        (clear : IsClear (t ∷ (cycles ++ first ∷ before))) (stretch : IsStretch r jobs carry restarts (t ∷ cycles) first before) where
       quiet : restarts (length (cycles ++ first ∷ before)) 0 ≡ false
       quiet = (calm_in r carry restarts t (cycles ++ first ∷ before) stretch.calm.1).stays 0 (omega arith)
 
@@ -112,8 +106,8 @@ module _ (laws : Laws) (more : MoreLaws) (turn : WorkInTurn) (early : BeginsNone
 
       late_too : 2 ≤ t.phase
       late_too =
-          let some = (laws.ring r opened.valid).some in
-          let least = no_lower_since laws more turn early r jobs carry restarts opened t cycles first before run clear stretch 0 (omega (arith, some)) in omega (arith, late, least)
+          let some = (IsRing-is_ring r opened.valid).some in
+          let least = no_lower_since r jobs carry restarts opened t cycles first before run clear stretch 0 (omega (arith, some)) in omega (arith, late, least)
 
       pub on_now : IsOn r jobs carry restarts t (cycles ++ first ∷ before)
       on_now = record {
@@ -121,8 +115,8 @@ module _ (laws : Laws) (more : MoreLaws) (turn : WorkInTurn) (early : BeginsNone
         stays = stretch.stays.1;
         quiet = quiet;
         starts = start;
-        whole = λ k below. whole_at laws more turn r jobs carry restarts opened t (cycles ++ first ∷ before) run clear stretch.calm.1 stretch.stays.1 k below;
-        up = λ k below. (up_all laws more turn r jobs carry restarts opened (t ∷ cycles) first before run clear stretch k below (up k below)).1;
+        whole = λ k below. whole_at r jobs carry restarts opened t (cycles ++ first ∷ before) run clear stretch.calm.1 stretch.stays.1 k below;
+        up = λ k below. (up_all r jobs carry restarts opened (t ∷ cycles) first before run clear stretch k below (up k below)).1;
       }
 
       up_then : (k : ℕ) → k < length r.drives → IsDown r jobs carry restarts k (t ∷ (cycles ++ first ∷ before)) → ⊥
@@ -131,12 +125,14 @@ module _ (laws : Laws) (more : MoreLaws) (turn : WorkInTurn) (early : BeginsNone
       planned : (k : ℕ) → k < length r.drives → t.phase ≡ 3 → is_some (behind_mdt r jobs carry restarts t.sent (cycles ++ first ∷ before)).plan ≡ true
       planned k below is_three =
           let three : (at_start r jobs carry restarts (cycles ++ first ∷ before)).now.phase ≡ 3 = sym run.1.phase ∙ is_three in
-          let held = holding laws r jobs carry restarts opened (first_store laws more r jobs carry restarts opened) t (cycles ++ first ∷ before) run.1 clear.1 (spelled_in laws more r jobs carry restarts opened t (cycles ++ first ∷ before) run.1)
-          (stored_in laws more r jobs carry restarts opened t (cycles ++ first ∷ before)) (all_stand laws more r jobs carry restarts opened (cycles ++ first ∷ before) run.0 clear.0) (omega (arith, three)) k below in
+          let held = holding r jobs carry restarts opened (first_store r jobs carry restarts opened) t (cycles ++ first ∷ before) run.1
+          clear.1 (spelled_in r jobs carry restarts opened t (cycles ++ first ∷ before) run.1)
+          (stored_in r jobs carry restarts opened t (cycles ++ first ∷ before))
+          (all_stand r jobs carry restarts opened (cycles ++ first ∷ before) run.0 clear.0) (omega (arith, three)) k below in
           ap (λ (o : Option PlanView). is_some o) held.1.now
 
       two_few : t.phase ≡ 2 → (looks_back r jobs (master_calls r carry restarts (t ∷ (cycles ++ first ∷ before)))).stop ≡ None → length cycles ≤ sum_by section_two r.drives
-      two_few two none = up_in_two laws more turn early works r jobs carry restarts opened dead ages counts recovers since timed sections reads_cost writes_cost t cycles first before run clear stretch late two none up
+      two_few two none = up_in_two r jobs carry restarts opened t cycles first before run clear stretch late two none up
 
     cut_at : (k : ℕ) → k < length r.drives → (cycles : List CycleView) → IsRun r jobs carry restarts (cycles ++ first ∷ before) → IsClear (cycles ++ first ∷ before) → IsStretch r jobs carry restarts cycles first before
         → (looks_back r jobs (master_calls r carry restarts (cycles ++ first ∷ before))).stop ≡ None → (looks_back r jobs (master_calls r carry restarts (cycles ++ first ∷ before))).now.phase ≤ 3
@@ -158,10 +154,10 @@ module _ (laws : Laws) (more : MoreLaws) (turn : WorkInTurn) (early : BeginsNone
         goes_on = none_now;
         planned = planned t cycles run clear stretch k below (three high);
         unready = unready_now;
-      }) (cut_at k below cycles run.0 clear.0 (shorter laws more turn r jobs carry restarts opened t cycles first before stretch)
+      }) (cut_at k below cycles run.0 clear.0 (shorter r jobs carry restarts opened t cycles first before stretch)
           (none_before r jobs carry restarts t (cycles ++ first ∷ before) (start t cycles run clear stretch) none_now)
           (let same = phase_before t cycles run clear stretch in let is = three high in omega (arith, same, is))
-          (unready_then (member (known_of r) k) _ _ (outcomes_extend laws more r jobs carry restarts opened t (cycles ++ first ∷ before) run clear (on_now t cycles run clear stretch) k below) unready_now))
+          (unready_then (member (known_of r) k) _ _ (outcomes_extend r jobs carry restarts opened t (cycles ++ first ∷ before) run clear (on_now t cycles run clear stretch) k below) unready_now))
     ]
       where
         three : 2 < t.phase → t.phase ≡ 3
@@ -175,7 +171,7 @@ module _ (laws : Laws) (more : MoreLaws) (turn : WorkInTurn) (early : BeginsNone
         none_now = sym (stop_after r jobs carry restarts t (cycles ++ first ∷ before) stretch.stays.1) ∙ none
 
         unready_now : is_ready (member (known_of r) k) (outcomes (behind_mdt r jobs carry restarts t.sent (cycles ++ first ∷ before)) k) ≡ false
-        unready_now = sym (ap (is_ready (member (known_of r) k)) (outcomes_after laws more r jobs carry restarts opened t (cycles ++ first ∷ before) (on_now t cycles run clear stretch) k)) ∙ unready
+        unready_now = sym (ap (is_ready (member (known_of r) k)) (outcomes_after r jobs carry restarts opened t (cycles ++ first ∷ before) (on_now t cycles run clear stretch) k)) ∙ unready
 
     -- Phase 3 may last for some cycles more than the check of a drive takes.
     module _ (tail : ℕ) (lasts : LastsInThree r jobs carry restarts tail) where
@@ -185,7 +181,7 @@ module _ (laws : Laws) (more : MoreLaws) (turn : WorkInTurn) (early : BeginsNone
           let lasting = lasts k below f.newer f.one f.older (subst (λ (l : List CycleView). IsRun r jobs carry restarts l) f.is run)
           (subst (λ (l : List CycleView). IsClear l) f.is clear) f.stretch f.three f.up in
           let few = f.few in
-          let most = below_greatest command_cycles r.drives k (drive_at r k) (command_cycles (drive_at r k)) (drive_got r k below) (omega arith) in
+          let most = is_below_greatest command_cycles r.drives k (drive_at r k) (command_cycles (drive_at r k)) (drive_got r k below) (omega arith) in
           omega (arith, lasting, few, most)
 
       three_few : (t : CycleView) (cycles : List CycleView) → IsRun r jobs carry restarts (t ∷ (cycles ++ first ∷ before)) → IsClear (t ∷ (cycles ++ first ∷ before)) → IsStretch r jobs carry restarts (t ∷ cycles) first before → t.phase ≡ 3
@@ -201,7 +197,7 @@ module _ (laws : Laws) (more : MoreLaws) (turn : WorkInTurn) (early : BeginsNone
           newest = behind_mdt r jobs carry restarts u.sent (cycles ++ first ∷ before)
 
           earlier : IsStretch r jobs carry restarts (u ∷ cycles) first before
-          earlier = shorter laws more turn r jobs carry restarts opened t (u ∷ cycles) first before stretch
+          earlier = shorter r jobs carry restarts opened t (u ∷ cycles) first before stretch
 
           none_then : (looks_back r jobs (master_calls r carry restarts (u ∷ (cycles ++ first ∷ before)))).stop ≡ None
           none_then = none_before r jobs carry restarts t (u ∷ (cycles ++ first ∷ before)) (start t (u ∷ cycles) run clear stretch) none
@@ -212,7 +208,7 @@ module _ (laws : Laws) (more : MoreLaws) (turn : WorkInTurn) (early : BeginsNone
           in_three : (behind_mdt r jobs carry restarts u.sent (cycles ++ first ∷ before)).now.phase ≡ 3 → suc (length cycles) ≤ sum_by section_two r.drives + 1 + greatest command_cycles r.drives + tail
           in_three now_three = both_few last.place low (suc (length cycles)) (u ∷ (cycles ++ first ∷ before)) run.0 clear.0
               (cut_at last.place low (u ∷ cycles) run.0 clear.0 earlier none_then (let is = phase_then in omega (arith, is))
-              (ap (is_ready (member (known_of r) last.place)) (outcomes_after laws more r jobs carry restarts opened u (cycles ++ first ∷ before) (on_now u cycles run.0 clear.0 earlier) last.place) ∙ not_so _ last.passes))
+              (ap (is_ready (member (known_of r) last.place)) (outcomes_after r jobs carry restarts opened u (cycles ++ first ∷ before) (on_now u cycles run.0 clear.0 earlier) last.place) ∙ not_so _ last.passes))
             where
               undone : all_ready (known_of r) (behind_mdt r jobs carry restarts u.sent (cycles ++ first ∷ before)) ≡ false
               undone = sym (ap (λ (m : ℕ). is_done_in m (known_of r) (behind_mdt r jobs carry restarts u.sent (cycles ++ first ∷ before))) now_three)
@@ -233,7 +229,7 @@ module _ (laws : Laws) (more : MoreLaws) (turn : WorkInTurn) (early : BeginsNone
           by : (o : Option Stop) → (behind_mdt r jobs carry restarts t.sent (cycles ++ first ∷ before)).stop ≡ o → (t.phase ≡ 4) ⊎ (is_some (behind_mdt r jobs carry restarts t.sent (cycles ++ first ∷ before)).stop ≡ true)
           by (Some x) is = inr (ap (λ (o : Option Stop). is_some o) is)
           by None none =
-              let bound = within_bound started r in
+              let bound = within_bound r in
               let least = late_too t cycles run clear stretch in
               let most = phase_low (known_of r) (tasks_for (known_of r) jobs) (master_calls r carry restarts (cycles ++ first ∷ before)) in
               let same = phase_before t cycles run clear stretch in

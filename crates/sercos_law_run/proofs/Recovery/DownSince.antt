@@ -11,16 +11,13 @@ use Rattle.sercos_seat.specs.Channel.{outcomes_in}
 use Rattle.sercos_script.specs.Links.{Carry, Restarts}
 use Rattle.sercos_law_channel.specs.Handshake.Epochs.{begun_in, epoch_begun, with_begun, with_heard}
 use Rattle.sercos_law_channel.specs.Handshake.Views.{Heard, View}
-use Rattle.sercos_law_channel.specs.Pace.Ages.{age_in, AgesWhereDead}
-use Rattle.sercos_law_channel.specs.Pace.Passages.{IsDead, StaysDead}
+use Rattle.sercos_law_channel.specs.Pace.Ages.{age_in}
+use Rattle.sercos_law_channel.specs.Pace.Passages.{IsDead}
 use Rattle.sercos_law_channel.specs.Pace.Stretches.{open_since}
 use Rattle.sercos_law_channel.specs.Pace.Times.{one_more}
 use Rattle.sercos_law_run.specs.Journal.Runs.{IsClear, IsRun}
-use Rattle.sercos_law_run.specs.Agenda.Turns.{WorkInTurn}
 use Rattle.sercos_law_run.specs.Views.RingViews.{behind_mdt, view_of, views_of}
 use Rattle.sercos_law_run.specs.Held.Opened.{IsOpened}
-use Rattle.sercos_law_run.proofs.Held.Runs.{Laws}
-use Rattle.sercos_law_run.proofs.Headline.HeadlineRuns.{MoreLaws}
 use Rattle.sercos_law_run.specs.Undisturbed.Sections.{AreInTwo, GoesOnInTwo}
 use Rattle.sercos_law_run.specs.Undisturbed.StartUps.{NoneFalls}
 use Rattle.sercos_law_run.specs.Undisturbed.Undisturbed.{AreUndisturbed}
@@ -55,7 +52,7 @@ calm_quiet r carry restarts [] rest calm = tt
 calm_quiet r carry restarts (t ∷ cycles) rest calm =
     (calm_quiet r carry restarts cycles rest calm.0, (calm_in r carry restarts t (cycles ++ rest) calm.1).stays 0 (omega arith))
 
-module _ (laws : Laws) (more : MoreLaws) (turn : WorkInTurn) (r : RingView) (jobs : List Job) (carry : Carry) (restarts : Restarts) (opened : IsOpened r jobs) where
+module _ (r : RingView) (jobs : List Job) (carry : Carry) (restarts : Restarts) (opened : IsOpened r jobs) where
   pub in_two : (t : CycleView) (j : List CycleView) → IsRun r jobs carry restarts (t ∷ j) → GoesOnInTwo r (behind_mdt r jobs carry restarts t.sent j) → t.phase ≡ 2
   in_two t j run goes = sym (phase_now r jobs carry restarts t j run.1) ∙ goes.phase
 
@@ -65,9 +62,9 @@ module _ (laws : Laws) (more : MoreLaws) (turn : WorkInTurn) (r : RingView) (job
 
   pub up_all : (cycles : List CycleView) (first : CycleView) (before : List CycleView) → IsRun r jobs carry restarts (cycles ++ first ∷ before) → IsClear (cycles ++ first ∷ before) → IsStretch r jobs carry restarts cycles first before
       → (k : ℕ) → k < length r.drives → (IsDown r jobs carry restarts k (first ∷ before) → ⊥) → IsUpNow (views_of r jobs carry restarts k (cycles ++ first ∷ before))
-  up_all [] first before run clear stretch k below up = newest_up laws more turn r jobs carry restarts opened [] first before run clear stretch k below up
+  up_all [] first before run clear stretch k below up = newest_up r jobs carry restarts opened [] first before run clear stretch k below up
   up_all (t ∷ cycles) first before run clear stretch k below up =
-      next_up laws more turn r jobs carry restarts opened t cycles first before run clear stretch.calm.1 (shorter t cycles first before stretch) k below
+      next_up r jobs carry restarts opened t cycles first before run clear stretch.calm.1 (shorter t cycles first before stretch) k below
       (up_all cycles first before run.0 clear.0 (shorter t cycles first before stretch) k below up)
 
   pub not_down : (cycles : List CycleView) (first : CycleView) (before : List CycleView) → IsRun r jobs carry restarts (cycles ++ first ∷ before) → IsClear (cycles ++ first ∷ before) → IsStretch r jobs carry restarts cycles first before
@@ -78,10 +75,10 @@ module _ (laws : Laws) (more : MoreLaws) (turn : WorkInTurn) (r : RingView) (job
       let is : t.phase ≡ 2 = in_two t (cycles ++ first ∷ before) run two.1 in absurd (omega (arith, zero_phase, is))
 
   -- ONE THAT IS DOWN
-  module _ (dead : (busy : ℕ) → StaysDead busy) where
+  module _ where
     is_dead : (t : CycleView) (j : List CycleView) → IsRun r jobs carry restarts (t ∷ j) → IsClear (t ∷ j) → GoesOnInTwo r (behind_mdt r jobs carry restarts t.sent j) → (k : ℕ) → k < length r.drives → IsDown r jobs carry restarts k j
         → IsDead (view_of r jobs carry restarts k t j) (views_of r jobs carry restarts k j)
-    is_dead t j run clear goes k below down = stays_down_in laws more turn r jobs carry restarts opened dead t j run clear k below down (let is = in_two t j run goes in omega (arith, is))
+    is_dead t j run clear goes k below down = stays_down_in r jobs carry restarts opened t j run clear k below down (let is = in_two t j run goes in omega (arith, is))
 
     pub down_all : (cycles rest : List CycleView) → IsRun r jobs carry restarts (cycles ++ rest) → IsClear (cycles ++ rest) → AreInTwo r jobs carry restarts cycles rest → (k : ℕ) → k < length r.drives → IsDown r jobs carry restarts k rest
         → IsDown r jobs carry restarts k (cycles ++ rest)
@@ -95,7 +92,7 @@ module _ (laws : Laws) (more : MoreLaws) (turn : WorkInTurn) (r : RingView) (job
     outcomes_stay [] rest run clear calm stays two k below down = refl
     outcomes_stay (t ∷ cycles) rest run clear calm stays two k below down =
         let v : View = view_of r jobs carry restarts k t (cycles ++ rest) in
-        ap outcomes_in (begun_end laws more r jobs carry restarts opened t (cycles ++ rest) run clear stays.1 k)
+        ap outcomes_in (begun_end r jobs carry restarts opened t (cycles ++ rest) run clear stays.1 k)
         ∙ quiet_outcomes v.heard v.begins v.master_restarts (epoch_begun (views_of r jobs carry restarts k (cycles ++ rest)))
         (is_dead t (cycles ++ rest) run clear two.1 k below (down_all cycles rest run.0 clear.0 two.0 k below down)).heard ((calm_in r carry restarts t (cycles ++ rest) calm.1).stays 0 (omega arith))
         ∙ outcomes_stay cycles rest run.0 clear.0 calm.0 stays.0 two.0 k below down
@@ -105,16 +102,17 @@ module _ (laws : Laws) (more : MoreLaws) (turn : WorkInTurn) (r : RingView) (job
         → is_some (open_in (begun_in (view_of r jobs carry restarts k t (cycles ++ rest)) (views_since r jobs carry restarts k cycles rest ++ views_of r jobs carry restarts k rest)))
         ≡ is_some (open_in (epoch_begun (views_of r jobs carry restarts k (t ∷ (cycles ++ rest)))))
     opens_at t cycles rest run clear stays k = ap (λ (l : List View). is_some (open_in (begun_in (view_of r jobs carry restarts k t (cycles ++ rest)) l))) (sym (views_split r jobs carry restarts k cycles rest))
-        ∙ ap (λ (l : List Begun). is_some (open_in l)) (sym (begun_end laws more r jobs carry restarts opened t (cycles ++ rest) run clear stays.1 k))
+        ∙ ap (λ (l : List Begun). is_some (open_in l)) (sym (begun_end r jobs carry restarts opened t (cycles ++ rest) run clear stays.1 k))
 
-    module _ (ages : (busy : ℕ) → AgesWhereDead busy) where
+    module _ where
       older : (t : CycleView) (cycles rest : List CycleView) → IsRun r jobs carry restarts (t ∷ (cycles ++ rest)) → IsClear (t ∷ (cycles ++ rest)) → NeverRestarts restarts (t ∷ cycles) rest → NoneFalls r jobs carry restarts (t ∷ cycles) rest
           → AreInTwo r jobs carry restarts (t ∷ cycles) rest → (k : ℕ) → k < length r.drives → IsDown r jobs carry restarts k rest → is_some (open_in (epoch_begun (views_of r jobs carry restarts k (cycles ++ rest)))) ≡ true
           → (age_in (views_of r jobs carry restarts k (t ∷ (cycles ++ rest))) ≡ age_in (views_of r jobs carry restarts k (cycles ++ rest)) + 1)
           × (is_some (open_in (epoch_begun (views_of r jobs carry restarts k (t ∷ (cycles ++ rest))))) ≡ true)
       older t cycles rest run clear quiet stays two k below down opens =
-          ages_down_in laws more turn r jobs carry restarts opened ages t (cycles ++ rest) run clear k below (down_all cycles rest run.0 clear.0 two.0 k below down)
-          (let is = in_two t (cycles ++ rest) run two.1 in omega (arith, is)) stays.1 quiet.1 opens
+          ages_down_in r jobs carry restarts opened t (cycles ++ rest) run clear k below
+          (down_all cycles rest run.0 clear.0 two.0 k below down) (let is = in_two t (cycles ++ rest) run two.1 in omega (arith, is))
+          stays.1 quiet.1 opens
 
       -- If no step to it is open now, none was.
       pub never_open : (cycles rest : List CycleView) → IsRun r jobs carry restarts (cycles ++ rest) → IsClear (cycles ++ rest) → NeverRestarts restarts cycles rest → NoneFalls r jobs carry restarts cycles rest

@@ -9,15 +9,12 @@ use Rattle.sercos_trace.specs.Views.{CycleView}
 use Rattle.sercos_seat.specs.Ring.{known_of}
 use Rattle.sercos_master.specs.Annals.{Past, Turn, fall_of, first_from, first_place, has_identified, is_done, is_done_in, is_identified}
 use Rattle.sercos_script.specs.Links.{Carry, Restarts}
-use Rattle.sercos_law_channel.specs.Handshake.RunLaws.{ComesUp}
 use Rattle.sercos_law_channel.specs.Handshake.Views.{View, before_mst, standing, stood_in, takes_in}
 use Rattle.sercos_law_run.specs.Journal.Runs.{drive_at, looks_back, master_calls, IsClear, IsRun}
-use Rattle.sercos_law_run.specs.Agenda.Turns.{WorkInTurn}
 use Rattle.sercos_law_run.specs.Views.RingViews.{behind_ats, behind_mdt, view_of, views_of}
 use Rattle.sercos_law_run.proofs.Views.Members.{members_count}
 use Rattle.sercos_law_run.specs.Held.Opened.{IsOpened}
-use Rattle.sercos_law_run.proofs.Held.Runs.{Laws}
-use Rattle.sercos_law_run.proofs.Headline.HeadlineRuns.{MoreLaws, all_stand}
+use Rattle.sercos_law_run.proofs.Headline.HeadlineRuns.{all_stand}
 use Rattle.sercos_law_run.specs.Undisturbed.Undisturbed.{IsUndisturbed}
 use Rattle.sercos_law_run.proofs.Undisturbed.Arrivals.{not_false}
 use Rattle.sercos_law_run.proofs.Undisturbed.Comes.{calm_in}
@@ -30,6 +27,8 @@ use Rattle.sercos_law_run.proofs.Recovery.DownSince.{shorter}
 use Rattle.sercos_law_run.proofs.Recovery.EpochStops.{same_start}
 use Rattle.sercos_law_run.proofs.Recovery.LateDown.{next_up, phase_after, phase_now, turns_now}
 use Rattle.sercos_law_run.proofs.Recovery.Stretches.{newest_up}
+use Rattle.sercos_block.proofs.RingLemmas.{IsRing-is_ring}
+use Rattle.sercos_law_channel.proofs.Handshake.RunFacts.{comes_up}
 
 -- THE FIRST PLACE that passes a test: none before it does; and if there is no such place, none does.
 fails_before : (k n m i : ℕ) (test : ℕ → Bool) → first_from k n test ≡ Some m → k ≤ i → i < m → i < k + n → test i ≡ false
@@ -71,16 +70,17 @@ abbrev pub phase_of : List CycleView → ℕ
 phase_of [] = 0
 phase_of (t ∷ j) = t.phase
 
-module _ (laws : Laws) (more : MoreLaws) (turn : WorkInTurn) (comes_up : (busy : ℕ) → ComesUp busy) (r : RingView) (jobs : List Job) (carry : Carry) (restarts : Restarts) (opened : IsOpened r jobs) where
+module _ (r : RingView) (jobs : List Job) (carry : Carry) (restarts : Restarts) (opened : IsOpened r jobs) where
   -- what the drive at a place is in a cycle of phase 1, and at its end
   pub up_in_one : (t : CycleView) (j : List CycleView) → IsRun r jobs carry restarts (t ∷ j) → IsClear (t ∷ j) → IsUndisturbed r carry restarts t j → t.phase ≡ 1 → (k : ℕ) → k < length r.drives → (standing (views_of r jobs carry restarts k (t ∷ j))).ended ≡ 1
   up_in_one t j run clear calm one k below =
       ends_early (view_of r jobs carry restarts k t j) (views_of r jobs carry restarts k j)
-      (comes_up (drive_at r k).busy (view_of r jobs carry restarts k t j) (views_of r jobs carry restarts k j) (all_stand laws more r jobs carry restarts opened (t ∷ j) run clear k below).sees.run (omega (arith, one))
-      (ap (λ (o : Option ℕ). is_some o) (phase_comes laws more r jobs carry restarts opened t j run.1 (calm_in r carry restarts t j calm) k below)) ∙ one)
+      (comes_up (drive_at r k).busy (view_of r jobs carry restarts k t j) (views_of r jobs carry restarts k j) (all_stand r jobs carry restarts opened (t ∷ j) run clear k below).sees.run (omega (arith, one))
+      (ap (λ (o : Option ℕ). is_some o) (phase_comes r jobs carry restarts opened t j run.1 (calm_in r carry restarts t j calm) k below)) ∙ one)
 
   -- TWO CYCLES of phase 1: the first drive that wasn't identified is, in the second.
-  module _ (t u : CycleView) (j : List CycleView) (run : IsRun r jobs carry restarts (t ∷ u ∷ j)) (clear : IsClear (t ∷ u ∷ j)) (calm : IsUndisturbed r carry restarts t (u ∷ j)) (calm_then : IsUndisturbed r carry restarts u j)
+  module _ (t u : CycleView) (j : List CycleView) (run : IsRun r jobs carry restarts (t ∷ u ∷ j)) (clear : IsClear (t ∷ u ∷ j))
+      (calm : IsUndisturbed r carry restarts t (u ∷ j)) (calm_then : IsUndisturbed r carry restarts u j)
       (stays : fall_of (known_of r) (behind_mdt r jobs carry restarts u.sent j) ≡ None) (one : t.phase ≡ 1) (one_then : u.phase ≡ 1) where
     now : Past
     now = behind_mdt r jobs carry restarts t.sent (u ∷ j)
@@ -104,9 +104,9 @@ module _ (laws : Laws) (more : MoreLaws) (turn : WorkInTurn) (comes_up : (busy :
     known_next : (k : ℕ) → k < length r.drives → first_place (known_of r) (λ i. not (is_identified (behind_mdt r jobs carry restarts u.sent j) i)) ≡ Some k → is_identified (behind_mdt r jobs carry restarts t.sent (u ∷ j)) k ≡ true
     known_next k below first = known_now k (behind_mdt r jobs carry restarts t.sent (u ∷ j)).now (behind_mdt r jobs carry restarts t.sent (u ∷ j)).turns (phase_now r jobs carry restarts t (u ∷ j) run.1 ∙ one)
         (ap (λ (f : ℕ → Bool). f k) (heard_mdt (known_of r) (behind_ats r jobs carry restarts t.sent (u ∷ j)))
-        ∙ heard_next laws more r jobs carry restarts opened t u j run calm calm_then k below one one_before
+        ∙ heard_next r jobs carry restarts opened t u j run calm calm_then k below one one_before
         (addressed_first (known_of r) (behind_ats r jobs carry restarts u.sent j) one_before ∙ first)
-        (stands_so laws more comes_up r jobs carry restarts opened u j run.0 clear.0 calm_then (omega (arith, one_then)) k below ∙ one_then))
+        (stands_so r jobs carry restarts opened u j run.0 clear.0 calm_then (omega (arith, one_then)) k below ∙ one_then))
 
     pub one_more : (m : ℕ) → ((k : ℕ) → k < m → k < length r.drives → is_identified (behind_mdt r jobs carry restarts u.sent j) k ≡ true)
         → (k : ℕ) → k < suc m → k < length r.drives → is_identified (behind_mdt r jobs carry restarts t.sent (u ∷ j)) k ≡ true
@@ -189,7 +189,7 @@ module _ (laws : Laws) (more : MoreLaws) (turn : WorkInTurn) (comes_up : (busy :
     known_in (t ∷ []) run clear stretch are k low below = one_more t first before run clear stretch.calm.1 stretch.first_calm stretch.first_stays are.1 one 0 (λ i less inside. absurd (omega (arith, less))) k low below
     known_in (t ∷ u ∷ cycles) run clear stretch are k low below =
         one_more t u (cycles ++ first ∷ before) run clear stretch.calm.1 stretch.calm.0.1 stretch.stays.0.1 are.1 are.0.1 (suc (length cycles))
-        (known_in (u ∷ cycles) run.0 clear.0 (shorter laws more turn r jobs carry restarts opened t (u ∷ cycles) first before stretch) are.0) k low below
+        (known_in (u ∷ cycles) run.0 clear.0 (shorter r jobs carry restarts opened t (u ∷ cycles) first before stretch) are.0) k low below
 
     few_in_one : (t : CycleView) (cycles : List CycleView) → IsRun r jobs carry restarts (t ∷ (cycles ++ first ∷ before)) → IsClear (t ∷ (cycles ++ first ∷ before)) → IsStretch r jobs carry restarts (t ∷ cycles) first before → AreOne (t ∷ cycles)
         → length cycles < length r.drives
@@ -200,11 +200,12 @@ module _ (laws : Laws) (more : MoreLaws) (turn : WorkInTurn) (comes_up : (busy :
     few_in_one t (u ∷ cycles) run clear stretch are = elim (cases_lt (suc (length cycles)) (length r.drives)) [
       | inl few ↦ few
       | inr most ↦ absurd (two_next t u (cycles ++ first ∷ before) run clear stretch.calm.1 stretch.calm.0.1 stretch.stays.0.1 are.1 are.0.1
-          (λ k below. known_in (u ∷ cycles) run.0 clear.0 (shorter laws more turn r jobs carry restarts opened t (u ∷ cycles) first before stretch) are.0 k (omega (arith, below, most)) below))
+          (λ k below. known_in (u ∷ cycles) run.0 clear.0 (shorter r jobs carry restarts opened t (u ∷ cycles) first before stretch) are.0 k (omega (arith, below, most)) below))
     ]
 
     -- the next cycle is of phase 1 too, or of phase 2
-    module _ (t : CycleView) (cycles : List CycleView) (run : IsRun r jobs carry restarts (t ∷ (cycles ++ first ∷ before))) (clear : IsClear (t ∷ (cycles ++ first ∷ before))) (stretch : IsStretch r jobs carry restarts (t ∷ cycles) first before)
+    module _ (t : CycleView) (cycles : List CycleView) (run : IsRun r jobs carry restarts (t ∷ (cycles ++ first ∷ before)))
+        (clear : IsClear (t ∷ (cycles ++ first ∷ before))) (stretch : IsStretch r jobs carry restarts (t ∷ cycles) first before)
         (are : AreOne cycles) (few : length cycles ≤ length r.drives) where
       rises_or_not : (t.phase ≡ 1) ⊎ (t.phase ≡ 2)
       rises_or_not = by cycles run clear stretch are
@@ -213,18 +214,18 @@ module _ (laws : Laws) (more : MoreLaws) (turn : WorkInTurn) (comes_up : (busy :
           on l s = (calm_in r carry restarts t (l ++ first ∷ before) s.calm.1).stays 0 (omega arith)
 
           by : (l : List CycleView) → IsRun r jobs carry restarts (t ∷ (l ++ first ∷ before)) → IsClear (t ∷ (l ++ first ∷ before)) → IsStretch r jobs carry restarts (t ∷ l) first before → AreOne l → (t.phase ≡ 1) ⊎ (t.phase ≡ 2)
-          by [] run clear s are = elim (phase_after laws more turn r jobs carry restarts opened t first before run clear s.first_stays (on [] s) 0 (let some = (laws.ring r opened.valid).some in omega (arith, some))) [
+          by [] run clear s are = elim (phase_after r jobs carry restarts opened t first before run clear s.first_stays (on [] s) 0 (let some = (IsRing-is_ring r opened.valid).some in omega (arith, some))) [
             | inl same ↦ inl (sym same ∙ one)
             | inr up ↦ inr (sym up ∙ ap (λ (n : ℕ). n + 1) one)
           ]
           by (u ∷ l) run clear s are =
-              elim (phase_after laws more turn r jobs carry restarts opened t u (l ++ first ∷ before) run clear s.stays.0.1 (on (u ∷ l) s) 0 (let some = (laws.ring r opened.valid).some in omega (arith, some))) [
+              elim (phase_after r jobs carry restarts opened t u (l ++ first ∷ before) run clear s.stays.0.1 (on (u ∷ l) s) 0 (let some = (IsRing-is_ring r opened.valid).some in omega (arith, some))) [
                 | inl same ↦ inl (sym same ∙ are.1)
                 | inr up ↦ inr (sym up ∙ ap (λ (n : ℕ). n + 1) are.1)
               ]
 
       earlier : IsStretch r jobs carry restarts cycles first before
-      earlier = shorter laws more turn r jobs carry restarts opened t cycles first before stretch
+      earlier = shorter r jobs carry restarts opened t cycles first before stretch
 
       up_before : (k : ℕ) → k < length r.drives → IsDown r jobs carry restarts k (cycles ++ first ∷ before) → ⊥
       up_before k below = by cycles run.0 clear.0 earlier are
@@ -245,8 +246,8 @@ module _ (laws : Laws) (more : MoreLaws) (turn : WorkInTurn) (comes_up : (busy :
           phase_is = is;
           few = let long = length-append cycles (first ∷ before) in omega (arith, few, long);
           up = λ k below down.
-              let stands = (next_up laws more turn r jobs carry restarts opened t cycles first before run clear stretch.calm.1 earlier k below
-              (newest_up laws more turn r jobs carry restarts opened cycles first before run.0 clear.0 earlier k below (up_before k below))).1 in
+              let stands = (next_up r jobs carry restarts opened t cycles first before run clear stretch.calm.1 earlier k below
+              (newest_up r jobs carry restarts opened cycles first before run.0 clear.0 earlier k below (up_before k below))).1 in
               let ended : (standing (views_of r jobs carry restarts k (t ∷ (cycles ++ first ∷ before)))).ended ≡ 2 = stands ∙ is in omega (arith, ended, down);
         })
       ]
@@ -255,7 +256,7 @@ module _ (laws : Laws) (more : MoreLaws) (turn : WorkInTurn) (comes_up : (busy :
     enters : (cycles : List CycleView) → IsRun r jobs carry restarts (cycles ++ first ∷ before) → IsClear (cycles ++ first ∷ before) → IsStretch r jobs carry restarts cycles first before
         → (AreOne cycles × (length cycles ≤ length r.drives)) ⊎ IsEntered (length before + 1 + length r.drives) (cycles ++ first ∷ before)
     enters [] run clear stretch = inl (tt, omega arith)
-    enters (t ∷ cycles) run clear stretch = elim (enters cycles run.0 clear.0 (shorter laws more turn r jobs carry restarts opened t cycles first before stretch)) [
+    enters (t ∷ cycles) run clear stretch = elim (enters cycles run.0 clear.0 (shorter r jobs carry restarts opened t cycles first before stretch)) [
       | inl are ↦ goes t cycles run clear stretch are.0 are.1
       | inr e ↦ inr (further (length before + 1 + length r.drives) t (cycles ++ first ∷ before) stretch.calm.1 stretch.stays.1 e)
     ]

@@ -18,11 +18,9 @@ use Rattle.sercos_master.specs.Reports.{restart_told}
 use Rattle.sercos_script.specs.Links.{Carry, Restarts}
 use Rattle.sercos_law_run.specs.Journal.Runs.{looks_back, master_calls, middle, no_events, IsNext, IsRun}
 use Rattle.sercos_seat.specs.Seats.{AreWaiting}
-use Rattle.sercos_law_run.specs.Agenda.Tasks.{BeginsNoneEarly}
 use Rattle.sercos_law_run.specs.Views.RingViews.{at_start, behind_mdt}
 use Rattle.sercos_law_run.proofs.Views.MasterSame.{begun_cycle, turn_mdt}
 use Rattle.sercos_law_run.proofs.Views.ViewRuns.{started}
-use Rattle.sercos_law_run.proofs.Headline.HeadlineRuns.{MoreLaws}
 use Rattle.sercos_law_run.proofs.Undisturbed.AfterAt.{after_at_so}
 use Rattle.sercos_law_run.proofs.Undisturbed.PhaseZero.{none_first}
 use Rattle.sercos_law_run.proofs.Undisturbed.StopsTold.{fresh}
@@ -30,6 +28,8 @@ use Rattle.sercos_law_run.proofs.Undisturbed.StopStays.{stop_after, stop_kept}
 use Rattle.sercos_law_run.specs.Recovery.Recovers.{StandsAt}
 use Rattle.sercos_law_run.proofs.Recovery.EpochStops.{same_start}
 use Rattle.sercos_law_run.proofs.Recovery.LateDown.{phase_now}
+use Rattle.sercos_law_run.proofs.Agenda.Requests.{are_requests}
+use Rattle.sercos_law_run.proofs.Cited.{begins_none}
 
 -- NO STOP COMES in phases 0 and 1: no request is begun in them.
 no_trouble : (address : ℕ) (tasks : List Task) → trouble_by address tasks None ≡ None
@@ -62,27 +62,27 @@ at_phase s content p = after_at_so (λ q. q.now.phase ≡ p.now.phase) s content
 at_none : (s : Known) (content : List ℕ) (p : Past) → (after_at s content p).stop ≡ p.stop
 at_none s content p = after_at_so (λ q. q.stop ≡ p.stop) s content p refl (λ k. refl)
 
-pub early_stop : BeginsNoneEarly → (s : Known) (requests : ℕ → List Task) (h : List Call) → ((j : ℕ) → AreWaiting (requests j)) → (past s requests h).now.phase ≤ 1 → (past s requests h).stop ≡ None
-early_stop early s requests [] wait low = refl
-early_stop early s requests (HearMst content ∷ h) wait low = early_stop early s requests h wait low
-early_stop early s requests (HearAt content ∷ h) wait low =
-    at_none s content (past s requests h) ∙ early_stop early s requests h wait (let same = at_phase s content (past s requests h) in omega (arith, low, same))
-early_stop early s requests (Mdt ∷ h) wait low =
+pub early_stop : (s : Known) (requests : ℕ → List Task) (h : List Call) → ((j : ℕ) → AreWaiting (requests j)) → (past s requests h).now.phase ≤ 1 → (past s requests h).stop ≡ None
+early_stop s requests [] wait low = refl
+early_stop s requests (HearMst content ∷ h) wait low = early_stop s requests h wait low
+early_stop s requests (HearAt content ∷ h) wait low =
+    at_none s content (past s requests h) ∙ early_stop s requests h wait (let same = at_phase s content (past s requests h) in omega (arith, low, same))
+early_stop s requests (Mdt ∷ h) wait low =
     let same = (turn_mdt s (past s requests h)).phase_is in
     let low_then : (past s requests h).now.phase ≤ 1 = omega (arith, low, same) in
-    mdt_none s (past s requests h) (early_stop early s requests h wait low_then) low_then (λ k below. early s requests h k wait below low_then)
-early_stop early s requests (End ∷ h) wait low = by (is_some (fall_of s (past s requests h))) low (λ low_then. early_stop early s requests h wait low_then)
+    mdt_none s (past s requests h) (early_stop s requests h wait low_then) low_then (λ k below. begins_none s requests h k wait below low_then)
+early_stop s requests (End ∷ h) wait low = by (is_some (fall_of s (past s requests h))) low (λ low_then. early_stop s requests h wait low_then)
   where
     by : (falls : Bool) → (if falls then new_epoch ((past s requests h).cycle + 1) (still_waiting (past s requests h)) else goes_on (next_phase s (past s requests h)) (past s requests h)).now.phase ≤ 1
         → ((past s requests h).now.phase ≤ 1 → (past s requests h).stop ≡ None)
         → (if falls then new_epoch ((past s requests h).cycle + 1) (still_waiting (past s requests h)) else goes_on (next_phase s (past s requests h)) (past s requests h)).stop ≡ None
     by true low before = refl
     by false low before = let least = no_less (is_done s (past s requests h)) (past s requests h).now.phase in before (omega (arith, low, least))
-early_stop early s requests (Restart ∷ h) wait low = refl
+early_stop s requests (Restart ∷ h) wait low = refl
 
-module _ (more : MoreLaws) (early : BeginsNoneEarly) (r : RingView) (jobs : List Job) (carry : Carry) (restarts : Restarts) where
+module _ (r : RingView) (jobs : List Job) (carry : Carry) (restarts : Restarts) where
   pub early_in : (h : List Call) → (looks_back r jobs h).now.phase ≤ 1 → (looks_back r jobs h).stop ≡ None
-  early_in h low = early_stop early (known_of r) (tasks_for (known_of r) jobs) h (λ k. (more.requests (known_of r) jobs k).0) low
+  early_in h low = early_stop (known_of r) (tasks_for (known_of r) jobs) h (λ k. (are_requests (known_of r) jobs k).0) low
 
   some_late : (h : List Call) (x : Stop) → (looks_back r jobs h).stop ≡ Some x → (looks_back r jobs h).now.phase ≤ 1 → ⊥
   some_late h x is low = let none = early_in h low in let both : None ≡ Some x = sym none ∙ is in absurd (cc)

@@ -4,25 +4,15 @@ use Rattle.std.specs.Prelude.{is_some, slice_index_or}
 use Rattle.std.proofs.lemmas.Bool.{cases_lt, false≢true}
 use Rattle.sercos_step.specs.declared.request.Job.{Job}
 use Rattle.sercos_block.specs.Views.{DriveView, RingView}
-use Rattle.sercos_law_run.specs.Bounds.Bounds.{greatest, AreSections}
+use Rattle.sercos_law_run.specs.Bounds.Bounds.{greatest}
 use Rattle.sercos_trace.specs.Views.{CycleView}
 use Rattle.sercos_trace.specs.declared.events.Fall.{Fall}
 use Rattle.sercos_seat.specs.Ring.{known_of}
 use Rattle.sercos_master.specs.Annals.{Past, fall_of, is_done, is_done_in}
 use Rattle.sercos_script.specs.Links.{Carry, Restarts}
-use Rattle.sercos_law_channel.specs.Pace.Ages.{AgesWhereDead}
-use Rattle.sercos_law_channel.specs.Pace.ChannelCalls.{AgesBeforeEnd}
-use Rattle.sercos_law_channel.specs.Pace.Costs.{ComesTimed}
-use Rattle.sercos_law_channel.specs.Pace.Jobs.{ReadsCost, WritesCost}
-use Rattle.sercos_law_channel.specs.Pace.Passages.{StaysDead}
-use Rattle.sercos_law_channel.specs.Pace.StartCosts.{RecoversInCost, RecoversSince}
 use Rattle.sercos_law_run.specs.Journal.Runs.{looks_back, master_calls, no_drive, IsClear, IsRun}
-use Rattle.sercos_law_run.specs.Agenda.Tasks.{BeginsNoneEarly}
-use Rattle.sercos_law_run.specs.Agenda.Turns.{WorkInTurn, WorksInTwo}
 use Rattle.sercos_law_run.specs.Views.RingViews.{at_start, behind_mdt}
 use Rattle.sercos_law_run.specs.Held.Opened.{IsOpened}
-use Rattle.sercos_law_run.proofs.Held.Runs.{Laws}
-use Rattle.sercos_law_run.proofs.Headline.HeadlineRuns.{MoreLaws}
 use Rattle.sercos_law_run.specs.Undisturbed.Sections.{AreInTwo, GoesOnInTwo}
 use Rattle.sercos_law_run.proofs.Undisturbed.Comes.{calm_in}
 use Rattle.sercos_law_run.proofs.Undisturbed.JobsBegun.{planned_now}
@@ -53,24 +43,23 @@ not_done false n two is = refl
 widened : (r : RingView) (n m : ℕ) → IsSpared r 63 n → m ≤ n + 2 → IsSpared r 65 m
 widened r n m is more = let few = is.few in record { earlier = is.earlier; one = is.one; later = is.later; are = is.are; few = omega (arith, few, more) }
 
-module _ (laws : Laws) (more : MoreLaws) (turn : WorkInTurn) (early : BeginsNoneEarly) (works : WorksInTwo) (r : RingView) (jobs : List Job) (carry : Carry) (restarts : Restarts) (opened : IsOpened r jobs)
-    (dead : (busy : ℕ) → StaysDead busy) (ages : (busy : ℕ) → AgesWhereDead busy) (counts : (busy : ℕ) → AgesBeforeEnd busy) (recovers : (busy : ℕ) → RecoversInCost busy) (since : (busy : ℕ) → RecoversSince busy) (timed : ComesTimed)
-    (sections : AreSections) (reads_cost : (busy : ℕ) → ReadsCost busy) (writes_cost : (busy : ℕ) → WritesCost busy) where
+module _ (r : RingView) (jobs : List Job) (carry : Carry) (restarts : Restarts) (opened : IsOpened r jobs) where
   -- the phase of the newest cycle, and a drive in phase 0
   pub late_now : (t : CycleView) (cycles : List CycleView) (first : CycleView) (before : List CycleView) → IsRun r jobs carry restarts (t ∷ (cycles ++ first ∷ before)) → IsClear (t ∷ (cycles ++ first ∷ before))
       → IsStretch r jobs carry restarts (t ∷ cycles) first before → 2 ≤ first.phase → (k : ℕ) → k < length r.drives → 2 ≤ t.phase
-  late_now t cycles first before run clear stretch late k below = let least = no_lower_since laws more turn early r jobs carry restarts opened t cycles first before run clear stretch k below in omega (arith, late, least)
+  late_now t cycles first before run clear stretch late k below = let least = no_lower_since r jobs carry restarts opened t cycles first before run clear stretch k below in omega (arith, late, least)
 
   pub down_late : (cycles : List CycleView) (first : CycleView) (before : List CycleView) → IsRun r jobs carry restarts (cycles ++ first ∷ before) → IsClear (cycles ++ first ∷ before) → IsStretch r jobs carry restarts cycles first before
       → 2 ≤ first.phase → (k : ℕ) → k < length r.drives → IsDown r jobs carry restarts k (first ∷ before) → IsDown r jobs carry restarts k (cycles ++ first ∷ before)
   down_late [] first before run clear stretch late k below down = down
   down_late (t ∷ cycles) first before run clear stretch late k below down =
-      (stays_down_in laws more turn r jobs carry restarts opened dead t (cycles ++ first ∷ before) run clear k below
-      (down_late cycles first before run.0 clear.0 (shorter laws more turn r jobs carry restarts opened t cycles first before stretch) late k below down) (late_now t cycles first before run clear stretch late k below)).ended
+      (stays_down_in r jobs carry restarts opened t (cycles ++ first ∷ before) run clear k below
+      (down_late cycles first before run.0 clear.0 (shorter r jobs carry restarts opened t cycles first before stretch) late k below down)
+      (late_now t cycles first before run clear stretch late k below)).ended
 
   -- where the newest cycle is of phase 2 and has no stop, the master went on with phase 2 in those before it
-  module _ (u t : CycleView) (j : List CycleView) (run : IsRun r jobs carry restarts (u ∷ t ∷ j)) (clear : IsClear (u ∷ t ∷ j)) (stays : fall_of (known_of r) (behind_mdt r jobs carry restarts t.sent j) ≡ None)
-      (on : restarts (length (t ∷ j)) 0 ≡ false) where
+  module _ (u t : CycleView) (j : List CycleView) (run : IsRun r jobs carry restarts (u ∷ t ∷ j)) (clear : IsClear (u ∷ t ∷ j))
+      (stays : fall_of (known_of r) (behind_mdt r jobs carry restarts t.sent j) ≡ None) (on : restarts (length (t ∷ j)) 0 ≡ false) where
     start : at_start r jobs carry restarts (t ∷ j) ≡ looks_back r jobs (master_calls r carry restarts (t ∷ j))
     start = same_start r jobs carry restarts (t ∷ j) on
 
@@ -85,7 +74,7 @@ module _ (laws : Laws) (more : MoreLaws) (turn : WorkInTurn) (early : BeginsNone
         record {
           phase = phase;
           goes_on = stop_before none;
-          planned = planned_now laws more r jobs carry restarts opened t j run.0 clear.0 phase (stop_before none);
+          planned = planned_now r jobs carry restarts opened t j run.0 clear.0 phase (stop_before none);
           unchecked = sym (ap (λ (n : ℕ). is_done_in n (known_of r) (behind_mdt r jobs carry restarts t.sent j)) phase) ∙ not_done (is_done (known_of r) p) p.now.phase phase next;
         }
 
@@ -97,10 +86,10 @@ module _ (laws : Laws) (more : MoreLaws) (turn : WorkInTurn) (early : BeginsNone
       → AreInTwo r jobs carry restarts cycles (first ∷ before)
   are_in_two u [] first before run clear stretch late two none k below = tt
   are_in_two u (t ∷ cycles) first before run clear stretch late two none k below =
-      let least = late_now t cycles first before run.0 clear.0 (shorter laws more turn r jobs carry restarts opened u (t ∷ cycles) first before stretch) late k below in
-      let most = no_lower laws more turn r jobs carry restarts opened u t (cycles ++ first ∷ before) run clear stretch.stays.0.1 (quiet u (t ∷ cycles) first before stretch) k below in
+      let least = late_now t cycles first before run.0 clear.0 (shorter r jobs carry restarts opened u (t ∷ cycles) first before stretch) late k below in
+      let most = no_lower r jobs carry restarts opened u t (cycles ++ first ∷ before) run clear stretch.stays.0.1 (quiet u (t ∷ cycles) first before stretch) k below in
       let t_two : t.phase ≡ 2 = omega (arith, least, most, two) in (
-        are_in_two t cycles first before run.0 clear.0 (shorter laws more turn r jobs carry restarts opened u (t ∷ cycles) first before stretch) late t_two
+        are_in_two t cycles first before run.0 clear.0 (shorter r jobs carry restarts opened u (t ∷ cycles) first before stretch) late t_two
             (stop_before u t (cycles ++ first ∷ before) run clear stretch.stays.0.1 (quiet u (t ∷ cycles) first before stretch) none) k below,
         goes_on_in_two u t (cycles ++ first ∷ before) run clear stretch.stays.0.1 (quiet u (t ∷ cycles) first before stretch) two t_two none,
       )
@@ -112,18 +101,18 @@ module _ (laws : Laws) (more : MoreLaws) (turn : WorkInTurn) (early : BeginsNone
         → IsSpared r 63 (length cycles)
     few_in_two u cycles first before run clear stretch late low none down =
         let least = late_now u cycles first before run clear stretch late d there in
-        few_within laws more turn early works r jobs carry restarts opened dead ages counts recovers since timed sections reads_cost writes_cost 63 cycles first before run.0 clear.0
-        (shorter laws more turn r jobs carry restarts opened u cycles first before stretch) (are_in_two u cycles first before run clear stretch late (omega (arith, least, low)) none d there) d there down
+        few_within r jobs carry restarts opened 63 cycles first before run.0 clear.0
+        (shorter r jobs carry restarts opened u cycles first before stretch) (are_in_two u cycles first before run clear stretch late (omega (arith, least, low)) none d there) d there down
         (λ k below is_down opens.
-        let older = (ages_down_in laws more turn r jobs carry restarts opened ages u (cycles ++ first ∷ before) run clear k below is_down (late_now u cycles first before run clear stretch late k below) stretch.stays.1
-        (quiet u cycles first before stretch) opens).0 in
-        let limit = ages_to_limit laws more turn r jobs carry restarts opened counts (u ∷ (cycles ++ first ∷ before)) run clear k below in omega (arith, older, limit))
+        let older = (ages_down_in r jobs carry restarts opened u (cycles ++ first ∷ before) run clear k below is_down
+        (late_now u cycles first before run clear stretch late k below) stretch.stays.1 (quiet u cycles first before stretch) opens).0 in
+        let limit = ages_to_limit r jobs carry restarts opened (u ∷ (cycles ++ first ∷ before)) run clear k below in omega (arith, older, limit))
 
     pub none_spared : (first : CycleView) (before : List CycleView) → IsRun r jobs carry restarts (first ∷ before) → IsClear (first ∷ before) → IsStretch r jobs carry restarts [] first before → IsDown r jobs carry restarts d (first ∷ before)
         → IsSpared r 64 0
     none_spared first before run clear stretch down =
-        few_within laws more turn early works r jobs carry restarts opened dead ages counts recovers since timed sections reads_cost writes_cost 64 [] first before run clear stretch tt d there down
-        (λ k below is_down opens. ages_to_limit laws more turn r jobs carry restarts opened counts (first ∷ before) run clear k below)
+        few_within r jobs carry restarts opened 64 [] first before run clear stretch tt d there down
+        (λ k below is_down opens. ages_to_limit r jobs carry restarts opened (first ∷ before) run clear k below)
 
     one_more_spared : (m : ℕ) → IsSpared r 64 0 → m ≤ 1 → IsSpared r 65 m
     one_more_spared m is few = record { earlier = is.earlier; one = is.one; later = is.later; are = is.are; few = omega (arith, few) }
@@ -133,20 +122,21 @@ module _ (laws : Laws) (more : MoreLaws) (turn : WorkInTurn) (early : BeginsNone
         → 2 ≤ first.phase → (looks_back r jobs (master_calls r carry restarts (cycles ++ first ∷ before))).stop ≡ None → IsDown r jobs carry restarts d (first ∷ before) → IsSpared r 65 (length cycles)
     falls_in_time [] first before run clear stretch late none down = one_more_spared 0 (none_spared first before run clear stretch down) (omega arith)
     falls_in_time (u ∷ []) first before run clear stretch late none down =
-        one_more_spared 1 (none_spared first before run.0 clear.0 (shorter laws more turn r jobs carry restarts opened u [] first before stretch) down) (omega arith)
+        one_more_spared 1 (none_spared first before run.0 clear.0 (shorter r jobs carry restarts opened u [] first before stretch) down) (omega arith)
     falls_in_time (u ∷ t ∷ cycles) first before run clear stretch late none down = elim (cases_lt 2 u.phase) [
       | inr low ↦ widened r (suc (length cycles)) (suc (suc (length cycles))) (few_in_two u (t ∷ cycles) first before run clear stretch late (omega (arith, low)) u_none down) (omega arith)
       | inl high ↦ elim (cases_lt 2 t.phase) [
         | inr low ↦ widened r (length cycles) (suc (suc (length cycles))) (few_in_two t cycles first before run.0 clear.0 earlier late (omega (arith, low))
             (stop_before u t (cycles ++ first ∷ before) run clear stretch.stays.0.1 (quiet u (t ∷ cycles) first before stretch) u_none) down) (omega arith)
         | inl late_too ↦ absurd (false≢true (sym (ap (λ (o : Option Fall). is_some o) stretch.stays.1)
-            ∙ falls_if_down laws more turn r jobs carry restarts opened dead u t (cycles ++ first ∷ before) run clear stretch.stays.0.1 (quiet u (t ∷ cycles) first before stretch) (omega (arith, late_too)) d there
-            (down_late cycles first before run.0.0 clear.0.0 (shorter laws more turn r jobs carry restarts opened t cycles first before earlier) late d there down)))
+            ∙ falls_if_down r jobs carry restarts opened u t (cycles ++ first ∷ before) run clear stretch.stays.0.1
+            (quiet u (t ∷ cycles) first before stretch) (omega (arith, late_too)) d there
+            (down_late cycles first before run.0.0 clear.0.0 (shorter r jobs carry restarts opened t cycles first before earlier) late d there down)))
       ]
     ]
       where
         earlier : IsStretch r jobs carry restarts (t ∷ cycles) first before
-        earlier = shorter laws more turn r jobs carry restarts opened u (t ∷ cycles) first before stretch
+        earlier = shorter r jobs carry restarts opened u (t ∷ cycles) first before stretch
 
         u_none : (behind_mdt r jobs carry restarts u.sent (t ∷ (cycles ++ first ∷ before))).stop ≡ None
         u_none = sym (stop_after r jobs carry restarts u (t ∷ (cycles ++ first ∷ before)) stretch.stays.1) ∙ none

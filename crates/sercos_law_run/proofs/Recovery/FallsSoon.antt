@@ -4,25 +4,20 @@ use Rattle.std.specs.Prelude.{is_some}
 use Rattle.std.proofs.lemmas.Bool.{cases_eq, cases_lt, false≢true}
 use Rattle.sercos_step.specs.declared.request.Job.{Job}
 use Rattle.sercos_block.specs.Views.{RingView}
-use Rattle.sercos_law_run.specs.Bounds.Bounds.{slowest, IsBelowGreatest}
+use Rattle.sercos_law_run.specs.Bounds.Bounds.{slowest}
 use Rattle.sercos_trace.specs.Views.{CycleView}
 use Rattle.sercos_trace.specs.declared.events.Fall.{Fall}
 use Rattle.sercos_script.specs.Links.{Carry, Restarts}
-use Rattle.sercos_law_channel.specs.Handshake.RunLaws.{ComesUp}
 use Rattle.sercos_law_channel.specs.Handshake.Views.{standing}
-use Rattle.sercos_law_channel.specs.Pace.ChannelCalls.{AgesBeforeEnd}
-use Rattle.sercos_law_channel.specs.Pace.Costs.{ComesTimed}
-use Rattle.sercos_law_channel.specs.Pace.StartCosts.{RecoversInCost}
 use Rattle.sercos_law_run.specs.Journal.Runs.{drive_at, IsClear, IsRun}
-use Rattle.sercos_law_run.specs.Agenda.Turns.{WorkInTurn}
 use Rattle.sercos_law_run.specs.Views.RingViews.{views_of}
 use Rattle.sercos_law_run.specs.Held.Opened.{IsOpened}
-use Rattle.sercos_law_run.proofs.Held.Runs.{Laws, drive_got}
-use Rattle.sercos_law_run.proofs.Headline.HeadlineRuns.{MoreLaws}
+use Rattle.sercos_law_run.proofs.Held.Runs.{drive_got}
 use Rattle.sercos_law_run.specs.Undisturbed.EpochStarts.{Falls}
 use Rattle.sercos_law_run.specs.Undisturbed.Undisturbed.{IsUndisturbed}
 use Rattle.sercos_law_run.specs.Recovery.Stretches.{IsDown, IsStretch}
 use Rattle.sercos_law_run.proofs.Recovery.NoFallLater.{no_fall_later}
+use Rattle.sercos_law_run.proofs.Bounds.BoundSums.{is_below_greatest}
 
 some_zero : (f : ℕ → ℕ) (n : ℕ) → ((d : ℕ) × (d < n) × (f d ≡ 0)) ⊎ ((k : ℕ) → k < n → f k ≡ 0 → ⊥)
 some_zero f zero = inr (λ k below is. omega (arith, below))
@@ -40,16 +35,15 @@ pub down_or_up : (r : RingView) (jobs : List Job) (carry : Carry) (restarts : Re
 down_or_up r jobs carry restarts j = some_zero (λ k. (standing (views_of r jobs carry restarts k j)).ended) (length r.drives)
 
 -- no drive is slower than the slowest
-pub busy_slowest : IsBelowGreatest → (r : RingView) (k : ℕ) → k < length r.drives → (drive_at r k).busy ≤ slowest r.drives
-busy_slowest greatest r k below = greatest (λ d. d.busy) r.drives k (drive_at r k) (drive_at r k).busy (drive_got r k below) (omega arith)
+pub busy_slowest : (r : RingView) (k : ℕ) → k < length r.drives → (drive_at r k).busy ≤ slowest r.drives
+busy_slowest r k below = is_below_greatest (λ d. d.busy) r.drives k (drive_at r k) (drive_at r k).busy (drive_got r k below) (omega arith)
 
-module _ (laws : Laws) (more : MoreLaws) (turn : WorkInTurn) (comes_up : (busy : ℕ) → ComesUp busy) (r : RingView) (jobs : List Job) (carry : Carry) (restarts : Restarts) (opened : IsOpened r jobs)
-    (recovers : (busy : ℕ) → RecoversInCost busy) (timed : ComesTimed) (counts : (busy : ℕ) → AgesBeforeEnd busy) (greatest : IsBelowGreatest) where
+module _ (r : RingView) (jobs : List Job) (carry : Carry) (restarts : Restarts) (opened : IsOpened r jobs) where
   pub falls_soon : (t : CycleView) (cycles : List CycleView) (first : CycleView) (before : List CycleView) → IsRun r jobs carry restarts (t ∷ (cycles ++ first ∷ before)) → IsClear (t ∷ (cycles ++ first ∷ before))
       → IsStretch r jobs carry restarts cycles first before → IsUndisturbed r carry restarts t (cycles ++ first ∷ before) → 2 ≤ t.phase
       → ((k : ℕ) → k < length r.drives → IsDown r jobs carry restarts k (cycles ++ first ∷ before) → ⊥) → Falls r jobs carry restarts t (cycles ++ first ∷ before) → length cycles ≤ slowest r.drives + 1
   falls_soon t cycles first before run clear stretch calm late up falls = elim (cases_lt (slowest r.drives + 1) (length cycles)) [
     | inr few ↦ omega (arith, few)
-    | inl many ↦ absurd (false≢true (sym (ap (λ (o : Option Fall). is_some o) (no_fall_later laws more turn comes_up r jobs carry restarts opened recovers timed counts t cycles first before run clear stretch calm late
-        (λ k below. let least = busy_slowest greatest r k below in omega (arith, least, many)) up)) ∙ falls))
+    | inl many ↦ absurd (false≢true (sym (ap (λ (o : Option Fall). is_some o) (no_fall_later r jobs carry restarts opened t cycles first
+        before run clear stretch calm late (λ k below. let least = busy_slowest r k below in omega (arith, least, many)) up)) ∙ falls))
   ]

@@ -15,18 +15,16 @@ use Rattle.sercos_master.specs.Annals.{Call, Past, Turn, after_taken, fall_at, f
 use Rattle.sercos_script.specs.Links.{Carry, Restarts}
 use Rattle.sercos_law_channel.specs.Handshake.Views.{Heard}
 use Rattle.sercos_law_channel.specs.Pace.ChannelCalls.{staying}
-use Rattle.sercos_law_channel.specs.Pace.Passages.{IsDead, IsUp, StaysDead}
+use Rattle.sercos_law_channel.specs.Pace.Passages.{IsDead, IsUp}
 use Rattle.sercos_law_run.specs.Journal.Arrivals.{heard, passage}
 use Rattle.sercos_law_run.specs.Journal.Records.{ats_in, mst_in}
 use Rattle.sercos_law_run.specs.Journal.Runs.{at_calls, begins, drive_at, looks_back, master_calls, own_mst, station_of, with_at, IsClear, IsNext, IsRun}
-use Rattle.sercos_law_run.specs.Agenda.Turns.{WorkInTurn}
 use Rattle.sercos_law_run.specs.Views.RingViews.{at_start, behind_ats, behind_mdt, behind_mst, heard_last, view_of, views_of}
 use Rattle.sercos_law_run.proofs.Views.MasterSame.{begun_cycle, turn_mdt}
 use Rattle.sercos_law_run.proofs.Views.Members.{members_count}
 use Rattle.sercos_law_run.proofs.Views.ViewRuns.{started}
 use Rattle.sercos_law_run.specs.Held.Opened.{IsOpened}
-use Rattle.sercos_law_run.proofs.Held.Runs.{Laws}
-use Rattle.sercos_law_run.proofs.Headline.HeadlineRuns.{MoreLaws, all_stand}
+use Rattle.sercos_law_run.proofs.Headline.HeadlineRuns.{all_stand}
 use Rattle.sercos_law_run.specs.Undisturbed.EpochStarts.{Falls}
 use Rattle.sercos_law_run.specs.Undisturbed.Undisturbed.{IsUndisturbed}
 use Rattle.sercos_law_run.proofs.Undisturbed.AfterAt.{after_at_so}
@@ -134,12 +132,12 @@ module _ (r : RingView) (jobs : List Job) (carry : Carry) (restarts : Restarts) 
       ∙ ap (λ (b : Bool). (begun_cycle b (looks_back r jobs (master_calls r carry restarts (u ∷ j)))).turns) stays
       ∙ ap (λ (p : Past). p.turns) (end_kept (known_of r) (behind_mdt r jobs carry restarts u.sent j) none)
 
-module _ (laws : Laws) (more : MoreLaws) (turn : WorkInTurn) (r : RingView) (jobs : List Job) (carry : Carry) (restarts : Restarts) (opened : IsOpened r jobs) where
+module _ (r : RingView) (jobs : List Job) (carry : Carry) (restarts : Restarts) (opened : IsOpened r jobs) where
   -- a phase stays, or rises by one
   pub phase_after : (t u : CycleView) (j : List CycleView) → IsRun r jobs carry restarts (t ∷ u ∷ j) → IsClear (t ∷ u ∷ j) → fall_of (known_of r) (behind_mdt r jobs carry restarts u.sent j) ≡ None → restarts (length (u ∷ j)) 0 ≡ false
       → (k : ℕ) → k < length r.drives → (u.phase ≡ t.phase) ⊎ (u.phase + 1 ≡ t.phase)
   phase_after t u j run clear none stays k below =
-      phase_next (drive_at r k).busy (view_of r jobs carry restarts k t (u ∷ j)) (view_of r jobs carry restarts k u j) (views_of r jobs carry restarts k j) (all_stand laws more r jobs carry restarts opened (t ∷ u ∷ j) run clear k below).sees.run
+      phase_next (drive_at r k).busy (view_of r jobs carry restarts k t (u ∷ j)) (view_of r jobs carry restarts k u j) (views_of r jobs carry restarts k j) (all_stand r jobs carry restarts opened (t ∷ u ∷ j) run clear k below).sees.run
       (ap (λ (o : Option Fall). is_some o) none) stays
 
   pub no_lower : (t u : CycleView) (j : List CycleView) → IsRun r jobs carry restarts (t ∷ u ∷ j) → IsClear (t ∷ u ∷ j) → fall_of (known_of r) (behind_mdt r jobs carry restarts u.sent j) ≡ None → restarts (length (u ∷ j)) 0 ≡ false
@@ -147,27 +145,28 @@ module _ (laws : Laws) (more : MoreLaws) (turn : WorkInTurn) (r : RingView) (job
   no_lower t u j run clear none stays k below = elim (phase_after t u j run clear none stays k below) [ inl same ↦ omega (arith, same) | inr up ↦ omega (arith, up) ]
 
   -- A DRIVE IN PHASE 0 makes the ring fall.
-  pub falls_if_down : ((busy : ℕ) → StaysDead busy) → (t u : CycleView) (j : List CycleView) → IsRun r jobs carry restarts (t ∷ u ∷ j) → IsClear (t ∷ u ∷ j) → fall_of (known_of r) (behind_mdt r jobs carry restarts u.sent j) ≡ None
-      → restarts (length (u ∷ j)) 0 ≡ false → 3 ≤ u.phase → (k : ℕ) → k < length r.drives → IsDown r jobs carry restarts k j → Falls r jobs carry restarts t (u ∷ j)
-  falls_if_down dead t u j run clear none stays late k below down =
+  pub falls_if_down : (t u : CycleView) (j : List CycleView) → IsRun r jobs carry restarts (t ∷ u ∷ j) → IsClear (t ∷ u ∷ j)
+      → fall_of (known_of r) (behind_mdt r jobs carry restarts u.sent j) ≡ None → restarts (length (u ∷ j)) 0 ≡ false → 3 ≤ u.phase
+      → (k : ℕ) → k < length r.drives → IsDown r jobs carry restarts k j → Falls r jobs carry restarts t (u ∷ j)
+  falls_if_down t u j run clear none stays late k below down =
       falls_so (known_of r) (behind_mdt r jobs carry restarts t.sent (u ∷ j)) k (let count = members_count r in omega (arith, below, count))
       (lost_so k (behind_mdt r jobs carry restarts t.sent (u ∷ j)).now (behind_mdt r jobs carry restarts u.sent j).now (behind_mdt r jobs carry restarts u.sent j).turns (behind_mdt r jobs carry restarts t.sent (u ∷ j)).turns
       (turns_now r jobs carry restarts t u j none stays) (let is = phase_now r jobs carry restarts u j run.0.1 in omega (arith, late, is))
-      (unheard r jobs carry restarts t (u ∷ j) k run.1 later (stays_down_in laws more turn r jobs carry restarts opened dead t (u ∷ j) run clear k below first.ended later).heard)
+      (unheard r jobs carry restarts t (u ∷ j) k run.1 later (stays_down_in r jobs carry restarts opened t (u ∷ j) run clear k below first.ended later).heard)
       (unheard r jobs carry restarts u j k run.0.1 (omega (arith, late)) first.heard))
     where
       later : 2 ≤ t.phase
       later = let least = no_lower t u j run clear none stays k below in omega (arith, late, least)
 
       first : IsDead (view_of r jobs carry restarts k u j) (views_of r jobs carry restarts k j)
-      first = stays_down_in laws more turn r jobs carry restarts opened dead u j run.0 clear.0 k below down (omega (arith, late))
+      first = stays_down_in r jobs carry restarts opened u j run.0 clear.0 k below down (omega (arith, late))
 
   -- ONE THAT IS UP stays so.
   pub stays_up_next : (t u : CycleView) (j : List CycleView) → IsRun r jobs carry restarts (t ∷ u ∷ j) → IsClear (t ∷ u ∷ j) → IsUndisturbed r carry restarts t (u ∷ j) → fall_of (known_of r) (behind_mdt r jobs carry restarts u.sent j) ≡ None
       → (k : ℕ) → k < length r.drives → IsUp (view_of r jobs carry restarts k u j) (views_of r jobs carry restarts k j) → IsUp (view_of r jobs carry restarts k t (u ∷ j)) (views_of r jobs carry restarts k (u ∷ j))
   stays_up_next t u j run clear calm none k below up =
       up_next (staying (view_of r jobs carry restarts k t (u ∷ j))) (view_of r jobs carry restarts k u j) (views_of r jobs carry restarts k j)
-      (whole_in laws more turn r jobs carry restarts opened t (u ∷ j) run clear calm k below) (passed_undisturbed laws more r jobs carry restarts opened t (u ∷ j) run clear k below calm)
+      (whole_in r jobs carry restarts opened t (u ∷ j) run clear calm k below) (passed_undisturbed r jobs carry restarts opened t (u ∷ j) run clear k below calm)
       (phase_after t u j run clear none ((calm_in r carry restarts t (u ∷ j) calm).stays 0 (omega arith)) k below) up
 
   pub next_up : (u : CycleView) (cycles : List CycleView) (first : CycleView) (before : List CycleView) → IsRun r jobs carry restarts (u ∷ (cycles ++ first ∷ before)) → IsClear (u ∷ (cycles ++ first ∷ before))

@@ -20,18 +20,17 @@ use Rattle.sercos_law_channel.specs.Handshake.Epochs.{begun_in, epoch_begun, unl
 use Rattle.sercos_law_channel.specs.Handshake.Runs.{IsRun as IsViewRun}
 use Rattle.sercos_law_channel.specs.Handshake.Views.{View}
 use Rattle.sercos_law_channel.specs.Pace.Ages.{age_by, age_in}
-use Rattle.sercos_law_channel.specs.Pace.ChannelCalls.{age_if_open, AgesBeforeEnd, AreSent, calls_in, channel_calls}
+use Rattle.sercos_law_channel.specs.Pace.ChannelCalls.{age_if_open, AreSent, calls_in, channel_calls}
 use Rattle.sercos_law_channel.proofs.Theorems.{open_late}
 use Rattle.sercos_law_run.specs.Journal.Runs.{drive_at, IsClear, IsRun}
-use Rattle.sercos_law_run.specs.Agenda.Turns.{WorkInTurn}
 use Rattle.sercos_law_run.specs.Views.RingViews.{behind_mdt, view_of, views_of}
 use Rattle.sercos_law_run.proofs.Views.Members.{members_count}
 use Rattle.sercos_law_run.specs.Held.Opened.{IsOpened}
-use Rattle.sercos_law_run.proofs.Held.Runs.{Laws}
-use Rattle.sercos_law_run.proofs.Headline.HeadlineRuns.{MoreLaws, all_stand}
+use Rattle.sercos_law_run.proofs.Headline.HeadlineRuns.{all_stand}
 use Rattle.sercos_law_run.proofs.Undisturbed.ChannelsKept.{calls_now}
 use Rattle.sercos_law_run.proofs.Undisturbed.Sending.{sends_in}
 use Rattle.sercos_law_run.proofs.Recovery.LateDown.{found, not_one, not_true, phase_now}
+use Rattle.sercos_law_channel.proofs.Pace.CallAges.{ages_before_end}
 
 -- THE RING FALLS if a step is at its limit.
 some_last : (a b c : Option Fall) → is_some c ≡ true → is_some (option_or a (option_or b c)) ≡ true
@@ -83,34 +82,34 @@ open_age (v ∷ past) opens = by v.falls opens
     by true some = absurd (false≢true some)
     by false some = aged (is_some (open_in (begun_in v past))) some
 
-module _ (laws : Laws) (more : MoreLaws) (turn : WorkInTurn) (r : RingView) (jobs : List Job) (carry : Carry) (restarts : Restarts) (opened : IsOpened r jobs) where
+module _ (r : RingView) (jobs : List Job) (carry : Carry) (restarts : Restarts) (opened : IsOpened r jobs) where
   pub are_sent : (j : List CycleView) → IsRun r jobs carry restarts j → IsClear j → (k : ℕ) → k < length r.drives → AreSent (views_of r jobs carry restarts k j)
   are_sent [] run clear k below = tt
-  are_sent (t ∷ j) run clear k below = λ stays. (λ goes_on. are_sent j run.0 clear.0 k below, λ opens. sends_in laws more turn r jobs carry restarts opened t j run clear k below opens)
+  are_sent (t ∷ j) run clear k below = λ stays. (λ goes_on. are_sent j run.0 clear.0 k below, λ opens. sends_in r jobs carry restarts opened t j run clear k below opens)
 
   -- NO STEP GETS OLDER.
-  pub ages_to_limit : ((busy : ℕ) → AgesBeforeEnd busy) → (j : List CycleView) → IsRun r jobs carry restarts j → IsClear j → (k : ℕ) → k < length r.drives → age_in (views_of r jobs carry restarts k j) ≤ 64
-  ages_to_limit counts [] run clear k below = omega arith
-  ages_to_limit counts (t ∷ j) run clear k below = by (fall_of (known_of r) (behind_mdt r jobs carry restarts t.sent j)) refl
+  pub ages_to_limit : (j : List CycleView) → IsRun r jobs carry restarts j → IsClear j → (k : ℕ) → k < length r.drives → age_in (views_of r jobs carry restarts k j) ≤ 64
+  ages_to_limit [] run clear k below = omega arith
+  ages_to_limit (t ∷ j) run clear k below = by (fall_of (known_of r) (behind_mdt r jobs carry restarts t.sent j)) refl
     where
       aged : fall_of (known_of r) (behind_mdt r jobs carry restarts t.sent j) ≡ None → (on : Bool) → is_some (open_in (begun_in (view_of r jobs carry restarts k t j) (views_of r jobs carry restarts k j))) ≡ on
           → age_by on (length (steps_in (begun_in (view_of r jobs carry restarts k t j) (views_of r jobs carry restarts k j))) == length (steps_in (unless_restart (view_of r jobs carry restarts k t j) (epoch_begun (views_of r jobs carry restarts k j)))))
           (age_in (views_of r jobs carry restarts k j)) ≤ 64
       aged none false off = omega arith
       aged none true on = counted (age_of (calls_in (view_of r jobs carry restarts k t j) (channel_calls (views_of r jobs carry restarts k j)))) _ few
-          (counts (drive_at r k).busy (view_of r jobs carry restarts k t j) (views_of r jobs carry restarts k j) is_run (are_sent j run.0 clear.0 k below)
-          (λ opens. sends_in laws more turn r jobs carry restarts opened t j run clear k below opens)
+          (ages_before_end (drive_at r k).busy (view_of r jobs carry restarts k t j) (views_of r jobs carry restarts k j) is_run (are_sent j run.0 clear.0 k below)
+          (λ opens. sends_in r jobs carry restarts opened t j run clear k below opens)
           ∙ ap (λ (b : Bool). age_if_open b (age_by b (length (steps_in (begun_in (view_of r jobs carry restarts k t j) (views_of r jobs carry restarts k j))) == length (steps_in (unless_restart (view_of r jobs carry restarts k t j) (epoch_begun (views_of r jobs carry restarts k j)))))
           (age_in (views_of r jobs carry restarts k j)))) on)
         where
           is_run : IsViewRun (drive_at r k).busy (view_of r jobs carry restarts k t j ∷ views_of r jobs carry restarts k j)
-          is_run = (all_stand laws more r jobs carry restarts opened (t ∷ j) run clear k below).sees.run
+          is_run = (all_stand r jobs carry restarts opened (t ∷ j) run clear k below).sees.run
 
           late : 2 ≤ t.phase
           late = open_late (drive_at r k).busy (view_of r jobs carry restarts k t j) (views_of r jobs carry restarts k j) is_run on
 
           few : cycles_open (calls_in (view_of r jobs carry restarts k t j) (channel_calls (views_of r jobs carry restarts k j))) ≤ 63
-          few = subst (λ (c : List channel.Call). cycles_open c ≤ 63) (sym (calls_now laws more r jobs carry restarts opened t j run clear k below))
+          few = subst (λ (c : List channel.Call). cycles_open c ≤ 63) (sym (calls_now r jobs carry restarts opened t j run clear k below))
               (few_open (behind_mdt r jobs carry restarts t.sent j) k (let is = phase_now r jobs carry restarts t j run.1 in omega (arith, is, late))
               (not_at_limit (known_of r) (behind_mdt r jobs carry restarts t.sent j) k (let count = members_count r in omega (arith, below, count)) none))
 

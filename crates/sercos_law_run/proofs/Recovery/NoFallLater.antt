@@ -11,19 +11,14 @@ use Rattle.sercos_seat.specs.Ring.{known_of, tasks_for}
 use Rattle.sercos_master.specs.Annals.{fall_of}
 use Rattle.sercos_script.specs.Links.{Carry, Restarts}
 use Rattle.sercos_law_channel.specs.Handshake.Epochs.{begun_in}
-use Rattle.sercos_law_channel.specs.Handshake.RunLaws.{ComesUp}
 use Rattle.sercos_law_channel.specs.Handshake.Views.{View}
 use Rattle.sercos_law_channel.specs.Pace.Ages.{age_in}
-use Rattle.sercos_law_channel.specs.Pace.ChannelCalls.{age_if_open, AgesBeforeEnd, calls_in, channel_calls, staying}
-use Rattle.sercos_law_channel.specs.Pace.Costs.{ComesTimed}
-use Rattle.sercos_law_channel.specs.Pace.StartCosts.{RecoversInCost}
+use Rattle.sercos_law_channel.specs.Pace.ChannelCalls.{age_if_open, calls_in, channel_calls, staying}
 use Rattle.sercos_law_run.specs.Journal.Runs.{drive_at, middle, IsClear, IsRun}
-use Rattle.sercos_law_run.specs.Agenda.Turns.{WorkInTurn}
 use Rattle.sercos_law_run.specs.Views.RingViews.{behind_ats, behind_mdt, view_of, views_of}
 use Rattle.sercos_law_run.proofs.Views.Members.{members_count}
 use Rattle.sercos_law_run.specs.Held.Opened.{IsOpened}
-use Rattle.sercos_law_run.proofs.Held.Runs.{Laws}
-use Rattle.sercos_law_run.proofs.Headline.HeadlineRuns.{MoreLaws, all_stand}
+use Rattle.sercos_law_run.proofs.Headline.HeadlineRuns.{all_stand}
 use Rattle.sercos_law_run.specs.Undisturbed.Undisturbed.{IsUndisturbed}
 use Rattle.sercos_law_run.proofs.Undisturbed.ChannelsKept.{calls_now}
 use Rattle.sercos_law_run.proofs.Undisturbed.NeverFalls.{busy_low}
@@ -36,6 +31,7 @@ use Rattle.sercos_law_run.proofs.Recovery.AgesLater.{age_next, ages_later}
 use Rattle.sercos_law_run.proofs.Recovery.LateDown.{next_up, phase_now}
 use Rattle.sercos_law_run.proofs.Recovery.Limits.{are_sent}
 use Rattle.sercos_law_run.proofs.Recovery.Stretches.{newest_up}
+use Rattle.sercos_law_channel.proofs.Pace.CallAges.{ages_before_end}
 
 -- what the channel has counted before a cycle's end
 few_counted : (o : Option ℕ) (is_open : Bool) (age : ℕ) → age ≤ 64 → option_map (λ (n : ℕ). n + 1) o ≡ age_if_open is_open age → min (unwrap_or o 0) 64 ≤ 63
@@ -46,30 +42,29 @@ few_counted (Some n) true age le is = let same : n + 1 ≡ age = cc in omega (ar
 young_next : (v : View) (past : List View) (most : ℕ) → age_in past ≤ most → 1 ≤ most → age_in (staying v ∷ past) ≤ most + 1
 young_next v past most few some = elim (age_next (staying v) past refl) [ inl young ↦ omega (arith, young, some) | inr grows ↦ omega (arith, grows, few) ]
 
-module _ (laws : Laws) (more : MoreLaws) (turn : WorkInTurn) (comes_up : (busy : ℕ) → ComesUp busy) (r : RingView) (jobs : List Job) (carry : Carry) (restarts : Restarts) (opened : IsOpened r jobs)
-    (recovers : (busy : ℕ) → RecoversInCost busy) (timed : ComesTimed) (counts : (busy : ℕ) → AgesBeforeEnd busy) where
+module _ (r : RingView) (jobs : List Job) (carry : Carry) (restarts : Restarts) (opened : IsOpened r jobs) where
   -- where a step isn't old before a cycle, it isn't at its limit at the cycle's end
   pub few_open : (t : CycleView) (j : List CycleView) → IsRun r jobs carry restarts (t ∷ j) → IsClear (t ∷ j) → (k : ℕ) → k < length r.drives → age_in (views_of r jobs carry restarts k j) ≤ 62
       → cycles_open ((behind_mdt r jobs carry restarts t.sent j).calls k) ≤ 63
   few_open t j run clear k below young =
       let most = young_next (view_of r jobs carry restarts k t j) (views_of r jobs carry restarts k j) 62 young (omega arith) in
-      subst (λ (c : List channel.Call). cycles_open c ≤ 63) (calls_now laws more r jobs carry restarts opened t j run clear k below)
+      subst (λ (c : List channel.Call). cycles_open c ≤ 63) (calls_now r jobs carry restarts opened t j run clear k below)
       (few_counted (age_of (calls_in (view_of r jobs carry restarts k t j) (channel_calls (views_of r jobs carry restarts k j))))
       (is_some (open_in (begun_in (view_of r jobs carry restarts k t j) (views_of r jobs carry restarts k j))))
       (age_in (staying (view_of r jobs carry restarts k t j) ∷ views_of r jobs carry restarts k j)) (omega (arith, most))
-      (counts (drive_at r k).busy (view_of r jobs carry restarts k t j) (views_of r jobs carry restarts k j)
-      (all_stand laws more r jobs carry restarts opened (t ∷ j) run clear k below).sees.run
-      (are_sent laws more turn r jobs carry restarts opened j run.0 clear.0 k below)
-      (λ opens. sends_in laws more turn r jobs carry restarts opened t j run clear k below opens)))
+      (ages_before_end (drive_at r k).busy (view_of r jobs carry restarts k t j) (views_of r jobs carry restarts k j)
+      (all_stand r jobs carry restarts opened (t ∷ j) run clear k below).sees.run
+      (are_sent r jobs carry restarts opened j run.0 clear.0 k below)
+      (λ opens. sends_in r jobs carry restarts opened t j run clear k below opens)))
 
   pub no_fall_later : (t : CycleView) (cycles : List CycleView) (first : CycleView) (before : List CycleView) → IsRun r jobs carry restarts (t ∷ (cycles ++ first ∷ before)) → IsClear (t ∷ (cycles ++ first ∷ before))
       → IsStretch r jobs carry restarts cycles first before → IsUndisturbed r carry restarts t (cycles ++ first ∷ before) → 2 ≤ t.phase → ((k : ℕ) → k < length r.drives → (drive_at r k).busy + 2 ≤ length cycles)
       → ((k : ℕ) → k < length r.drives → IsDown r jobs carry restarts k (cycles ++ first ∷ before) → ⊥) → fall_of (known_of r) (behind_mdt r jobs carry restarts t.sent (cycles ++ first ∷ before)) ≡ None
   no_fall_later t cycles first before run clear stretch calm late long up =
       no_fall (known_of r) (behind_mdt r jobs carry restarts t.sent (cycles ++ first ∷ before)) (has_risen (known_of r) (tasks_for (known_of r) jobs) (middle r carry restarts t.sent (cycles ++ first ∷ before))) (record {
-        whole = whole_now laws more comes_up r jobs carry restarts opened t (cycles ++ first ∷ before) run.1 calm;
+        whole = whole_now r jobs carry restarts opened t (cycles ++ first ∷ before) run.1 calm;
         hears = λ three k below. ap (λ (f : ℕ → Bool). f k) (heard_mdt (known_of r) (behind_ats r jobs carry restarts t.sent (cycles ++ first ∷ before)))
-            ∙ heard_then laws more comes_up r jobs carry restarts opened t (cycles ++ first ∷ before) run clear k (inside k below) (hears k (inside k below) (let is = phase in omega (arith, is, three)));
+            ∙ heard_then r jobs carry restarts opened t (cycles ++ first ∷ before) run clear k (inside k below) (hears k (inside k below) (let is = phase in omega (arith, is, three)));
         identifies = λ one k below to. let is = phase in absurd (omega (arith, is, one, late));
         answers = λ other k below. short k (inside k below);
       })
@@ -82,11 +77,11 @@ module _ (laws : Laws) (more : MoreLaws) (turn : WorkInTurn) (comes_up : (busy :
 
       hears : (k : ℕ) → k < length r.drives → 3 ≤ t.phase → is_some (view_of r jobs carry restarts k t (cycles ++ first ∷ before)).heard ≡ true
       hears k below three =
-          let stands = (next_up laws more turn r jobs carry restarts opened t cycles first before run clear calm stretch k below (newest_up laws more turn r jobs carry restarts opened cycles first before run.0 clear.0 stretch k below (up k below))).0 in
-          (whole_in laws more turn r jobs carry restarts opened t (cycles ++ first ∷ before) run clear calm k below).listens three (omega (arith, stands, three))
+          let stands = (next_up r jobs carry restarts opened t cycles first before run clear calm stretch k below (newest_up r jobs carry restarts opened cycles first before run.0 clear.0 stretch k below (up k below))).0 in
+          (whole_in r jobs carry restarts opened t (cycles ++ first ∷ before) run clear calm k below).listens three (omega (arith, stands, three))
 
       young : (k : ℕ) → k < length r.drives → age_in (views_of r jobs carry restarts k (cycles ++ first ∷ before)) ≤ 22
-      young k below = elim (ages_later laws more turn r jobs carry restarts opened k below recovers timed cycles first before run.0 clear.0 stretch (long k below)) [
+      young k below = elim (ages_later r jobs carry restarts opened k below cycles first before run.0 clear.0 stretch (long k below)) [
         | inl is_down ↦ absurd (up k below is_down)
         | inr few ↦ let low = busy_low r k opened.valid below in omega (arith, few, low)
       ]

@@ -16,13 +16,12 @@ use Rattle.sercos_master.specs.Annals.{Past, outcomes}
 use Rattle.sercos_master.specs.Reports.{plan_told, restart_told}
 use Rattle.sercos_script.specs.Links.{Carry, Restarts}
 use Rattle.sercos_law_run.specs.Journal.Runs.{begins, drive_at, looks_back, master_calls, middle, no_events, IsClear, IsRun}
-use Rattle.sercos_law_run.specs.Agenda.Tasks.{BeginsNoneEarly}
 use Rattle.sercos_law_run.proofs.Typed.Mdts.{phase_low}
 use Rattle.sercos_law_run.specs.Views.RingViews.{behind_mdt, view_of, views_of}
 use Rattle.sercos_law_run.proofs.Settings.NoCheck127.{next_still, stays}
 use Rattle.sercos_law_run.specs.Held.Opened.{IsOpened}
-use Rattle.sercos_law_run.proofs.Held.Runs.{Laws, holding}
-use Rattle.sercos_law_run.proofs.Headline.HeadlineRuns.{MoreLaws, all_stand, first_store, spelled_in, stored_in}
+use Rattle.sercos_law_run.proofs.Held.Runs.{holding}
+use Rattle.sercos_law_run.proofs.Headline.HeadlineRuns.{all_stand, first_store, spelled_in, stored_in}
 use Rattle.sercos_law_run.proofs.Headline.StopRuns.{IsFollowed, no_plan_made}
 use Rattle.sercos_law_run.proofs.Headline.WellRuns.{event_stop}
 use Rattle.sercos_law_run.specs.Undisturbed.Fit.{FitsInThree, OwnFitsInFour}
@@ -34,9 +33,13 @@ use Rattle.sercos_law_run.proofs.Undisturbed.WholeRuns.{caused}
 use Rattle.sercos_law_run.specs.Recovery.Predicts.{IsPredicted}
 use Rattle.sercos_law_run.proofs.Recovery.EarlyStops.{early_in}
 use Rattle.sercos_law_run.proofs.Recovery.LateDown.{phase_now}
+use Rattle.sercos_block.proofs.RingLemmas.{IsRing-is_ring}
+use Rattle.sercos_law_run.proofs.Cited.{reads_well}
+use Rattle.sercos_master.proofs.Planned.{is_planned}
 
-module _ (laws : Laws) (more : MoreLaws) (early : BeginsNoneEarly) (stops_two : StopsInTwo) (stops_three : StopsInThree) (none_four : NoStopInFour) (fit : FitsInThree) (own : OwnFitsInFour)
-    (r : RingView) (jobs : List Job) (carry : Carry) (restarts : Restarts) (opened : IsOpened r jobs) (t : CycleView) (j : List CycleView) (run : IsRun r jobs carry restarts (t ∷ j)) (clear : IsClear (t ∷ j)) where
+module _ (stops_two : StopsInTwo) (stops_three : StopsInThree) (none_four : NoStopInFour) (fit : FitsInThree) (own : OwnFitsInFour)
+    (r : RingView) (jobs : List Job) (carry : Carry) (restarts : Restarts) (opened : IsOpened r jobs) (t : CycleView) (j : List CycleView)
+    (run : IsRun r jobs carry restarts (t ∷ j)) (clear : IsClear (t ∷ j)) where
   abbrev now : Past
   now = behind_mdt r jobs carry restarts t.sent j
 
@@ -49,13 +52,15 @@ module _ (laws : Laws) (more : MoreLaws) (early : BeginsNoneEarly) (stops_two : 
   -- THE PLAN of the master
   asked : (plan : PlanView) → (behind_mdt r jobs carry restarts t.sent j).plan ≡ Some plan → wishes_given (known_of r) (outcomes (behind_mdt r jobs carry restarts t.sent j)) ≡ wishes_of r
   asked plan has = elim (cases_lt t.phase 3) [
-    | inl soon ↦ asked_now laws more r jobs carry restarts opened t j run clear (let same = phase_is in omega (arith, same, soon)) (laws.reads (known_of r) (tasks_for (known_of r) jobs) (middle r carry restarts t.sent j) plan has)
-    | inr late ↦ (holding laws r jobs carry restarts opened (first_store laws more r jobs carry restarts opened) t j run.1 clear.1 (spelled_in laws more r jobs carry restarts opened t j run.1) (stored_in laws more r jobs carry restarts opened t j)
-        (all_stand laws more r jobs carry restarts opened j run.0 clear.0) (let same = run.1.phase in omega (arith, same, late)) 0 (let some = (laws.ring r opened.valid).some in omega (arith, some))).1.asked
+    | inl soon ↦ asked_now r jobs carry restarts opened t j run clear (let same = phase_is in omega (arith, same, soon)) (reads_well (known_of r) (tasks_for (known_of r) jobs) (middle r carry restarts t.sent j) plan has)
+    | inr late ↦ (holding r jobs carry restarts opened (first_store r jobs carry restarts opened) t j run.1 clear.1
+        (spelled_in r jobs carry restarts opened t j run.1) (stored_in r jobs carry restarts opened t j)
+        (all_stand r jobs carry restarts opened j run.0 clear.0) (let same = run.1.phase in omega (arith, same, late)) 0
+        (let some = (IsRing-is_ring r opened.valid).some in omega (arith, some))).1.asked
   ]
 
   plan_made : (plan : PlanView) → (behind_mdt r jobs carry restarts t.sent j).plan ≡ Some plan → planned (wishes_of r) ≡ Ok plan
-  plan_made plan has = sym (ap planned (asked plan has)) ∙ (laws.planned (known_of r) (tasks_for (known_of r) jobs) (middle r carry restarts t.sent j) plan has).planned_is
+  plan_made plan has = sym (ap planned (asked plan has)) ∙ (is_planned (known_of r) (tasks_for (known_of r) jobs) (middle r carry restarts t.sent j) plan has).planned_is
 
   -- the plan of a cycle's events is that of the master when its MDT is sent
   told_plan : (told : Bool) (o : Option PlanView) (p : PlanView) → (if told then o else None) ≡ Some p → o ≡ Some p
@@ -77,19 +82,19 @@ module _ (laws : Laws) (more : MoreLaws) (early : BeginsNoneEarly) (stops_two : 
   -- THE CHAIN
   followed : (k : ℕ) → k < length r.drives → IsFollowed r jobs (middle r carry restarts t.sent j) (λ i. stays (view_of r jobs carry restarts i t j) ∷ views_of r jobs carry restarts i j) k
   followed k below =
-      let stands = all_stand laws more r jobs carry restarts opened (t ∷ j) run clear k below in
+      let stands = all_stand r jobs carry restarts opened (t ∷ j) run clear k below in
       record {
         run = (stands.sees.run.0, next_still (drive_at r k).busy (view_of r jobs carry restarts k t j) (views_of r jobs carry restarts k j) stands.sees.run.1);
         sound = stands.sound;
         stored = stands.stored;
-        begun_are = begun_then laws more r jobs carry restarts opened t j run clear k below;
+        begun_are = begun_then r jobs carry restarts opened t j run clear k below;
       }
 
   -- THE CAUSE of a stop
   cause : (x : Stop) → (behind_mdt r jobs carry restarts t.sent j).stop ≡ Some x → StopsForCause r x
   cause x is = elim (cases_lt t.phase 2) [
     | inl soon ↦
-        let none = early_in more early r jobs carry restarts (middle r carry restarts t.sent j) (let same = phase_is in omega (arith, same, soon)) in
+        let none = early_in r jobs carry restarts (middle r carry restarts t.sent j) (let same = phase_is in omega (arith, same, soon)) in
         let both : None ≡ Some x = sym none ∙ is in absurd (cc)
     | inr late ↦ elim (cases_eq t.phase 2) [
       | inl two ↦ by (stops_two r jobs carry restarts t j x opened run clear two is)
@@ -109,8 +114,9 @@ module _ (laws : Laws) (more : MoreLaws) (early : BeginsNoneEarly) (stops_two : 
   pub is_predicted : IsPredicted r t
   is_predicted = record {
     plan = λ p is. plan_made p (event_plan p is);
-    chain = λ c is. no_plan_made laws more.stop_laws.ring_valid more.stop_laws.no_stops r jobs opened (first_store laws more r jobs carry restarts opened) (middle r carry restarts t.sent j)
-        (λ k. stays (view_of r jobs carry restarts k t j) ∷ views_of r jobs carry restarts k j) followed c (event_stop r jobs carry restarts t j (stop.NoFit c) run.1 is);
+    chain = λ c is. no_plan_made r jobs opened (first_store r jobs carry restarts opened) (middle r carry restarts t.sent j)
+        (λ k. stays (view_of r jobs carry restarts k t j) ∷ views_of r jobs carry restarts k j) followed c
+        (event_stop r jobs carry restarts t j (stop.NoFit c) run.1 is);
     fit = λ late. fit r jobs carry restarts t j opened run clear late;
     right = λ four. (fit r jobs carry restarts t j opened run clear (omega (arith, four)), λ k below. own r jobs carry restarts t j k opened run clear below four);
     stops = λ x is. cause x (event_stop r jobs carry restarts t j x run.1 is);

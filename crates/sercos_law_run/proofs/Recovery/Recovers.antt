@@ -6,7 +6,7 @@ use Rattle.std.proofs.lemmas.Option.{slice_get_within}
 use Rattle.sercos_step.specs.declared.request.Job.{Job}
 use Rattle.sercos_block.specs.Startup.{startup_bound}
 use Rattle.sercos_block.specs.Views.{RingView}
-use Rattle.sercos_law_run.specs.Bounds.Bounds.{slowest, AreSections, IsBelowGreatest, IsStarted}
+use Rattle.sercos_law_run.specs.Bounds.Bounds.{slowest}
 use Rattle.sercos_trace.specs.Views.{CycleView}
 use Rattle.sercos_trace.specs.declared.events.Fall.{Fall}
 use Rattle.sercos_trace.specs.declared.events.Stop.{Stop}
@@ -14,22 +14,11 @@ use Rattle.sercos_seat.proofs.Gets.{get_left}
 use Rattle.sercos_seat.specs.Ring.{known_of, tasks_for}
 use Rattle.sercos_master.specs.Annals.{Past, fall_of}
 use Rattle.sercos_script.specs.Links.{Carry, Restarts}
-use Rattle.sercos_law_channel.specs.Handshake.RunLaws.{ComesUp}
 use Rattle.sercos_law_channel.specs.Handshake.Views.{standing}
-use Rattle.sercos_law_channel.specs.Pace.Ages.{AgesWhereDead, OpensAlways}
-use Rattle.sercos_law_channel.specs.Pace.ChannelCalls.{AgesBeforeEnd, NoneLate}
-use Rattle.sercos_law_channel.specs.Pace.Costs.{ComesTimed}
-use Rattle.sercos_law_channel.specs.Pace.Jobs.{ReadsCost, WritesCost}
-use Rattle.sercos_law_channel.specs.Pace.Passages.{HearsThroughout, RecoversInTime, StandsThroughout, StaysDead}
-use Rattle.sercos_law_channel.specs.Pace.StartCosts.{RecoversInCost, RecoversSince}
 use Rattle.sercos_law_run.specs.Journal.Runs.{begins, IsClear, IsRun}
-use Rattle.sercos_law_run.specs.Agenda.Tasks.{BeginsNoneEarly}
-use Rattle.sercos_law_run.specs.Agenda.Turns.{WorkInTurn, WorksInFour, WorksInTwo}
 use Rattle.sercos_law_run.proofs.Typed.Mdts.{phase_low}
 use Rattle.sercos_law_run.specs.Views.RingViews.{behind_mdt, views_of}
 use Rattle.sercos_law_run.specs.Held.Opened.{IsOpened}
-use Rattle.sercos_law_run.proofs.Held.Runs.{Laws}
-use Rattle.sercos_law_run.proofs.Headline.HeadlineRuns.{MoreLaws}
 use Rattle.sercos_law_run.specs.Undisturbed.Ends.{ComesToPhaseFour}
 use Rattle.sercos_law_run.specs.Undisturbed.EpochStarts.{StartsAtFall, StartsEpoch}
 use Rattle.sercos_law_run.specs.Undisturbed.Fit.{FitsInThree, OwnFitsInFour}
@@ -42,7 +31,6 @@ use Rattle.sercos_law_run.proofs.Undisturbed.Answered.{tells_in}
 use Rattle.sercos_law_run.proofs.Undisturbed.Comes.{calm_in}
 use Rattle.sercos_law_run.proofs.Undisturbed.EpochCycles.{AreOn, IsCut, IsOn, cut, none_along, run_rest}
 use Rattle.sercos_law_run.proofs.Undisturbed.InTime.{within_bound}
-use Rattle.sercos_law_run.proofs.Undisturbed.RefusedRuns.{SaysShape}
 use Rattle.sercos_law_run.proofs.Undisturbed.Small.{first_is}
 use Rattle.sercos_law_run.proofs.Undisturbed.StopStays.{stop_after}
 use Rattle.sercos_law_run.proofs.Undisturbed.ToldInTime.{IsTold, beyond, left_first, left_in_epoch, left_in_time, numbers_long, told_since, told_there}
@@ -60,6 +48,8 @@ use Rattle.sercos_law_run.proofs.Recovery.FallsSoon.{down_or_up, falls_soon}
 use Rattle.sercos_law_run.proofs.Recovery.LateDown.{no_lower}
 use Rattle.sercos_law_run.proofs.Recovery.SpareStops.{falls_anyway}
 use Rattle.sercos_law_run.proofs.Recovery.Stretches.{rest_clear, rest_runs}
+use Rattle.sercos_block.proofs.RingLemmas.{IsRing-is_ring}
+use Rattle.sercos_law_channel.proofs.Cited.{rest_since}
 
 -- WHAT ENDS ALIKE: of two ways to write a list, the longer end goes on from the shorter one.
 record IsSuffix (r : RingView) (carry : Carry) (restarts : Restarts) (base rest : List CycleView) : Type 0 where
@@ -90,15 +80,13 @@ ComesIn r jobs carry restarts tail = (first : CycleView) (before : List CycleVie
     IsStretch r jobs carry restarts (t ∷ cycles) first before → startup_bound r + tail ≤ length cycles + 1 →
     (t.phase ≡ 4) ⊎ (is_some (behind_mdt r jobs carry restarts t.sent (cycles ++ first ∷ before)).stop ≡ true)
 
-module _ (laws : Laws) (more : MoreLaws) (turn : WorkInTurn) (early : BeginsNoneEarly) (works : WorksInTwo) (comes_up : (busy : ℕ) → ComesUp busy)
-    (r : RingView) (jobs : List Job) (carry : Carry) (restarts : Restarts) (opened : IsOpened r jobs)
-    (dead : (busy : ℕ) → StaysDead busy) (ages : (busy : ℕ) → AgesWhereDead busy) (counts : (busy : ℕ) → AgesBeforeEnd busy) (recovers : (busy : ℕ) → RecoversInCost busy) (since : (busy : ℕ) → RecoversSince busy) (timed : ComesTimed)
-    (sections : AreSections) (reads_cost : (busy : ℕ) → ReadsCost busy) (writes_cost : (busy : ℕ) → WritesCost busy) (started : IsStarted) (below_greatest : IsBelowGreatest)
-    (stops_two : StopsInTwo) (stops_three : StopsInThree) (none_four : NoStopInFour) (fit : FitsInThree) (own : OwnFitsInFour) (stays_up : StaysUpUndisturbed) (at_fall : StartsAtFall)
-    (fall tail : ℕ) (room : slowest r.drives + length r.drives + 47 ≤ fall) (spared : (n : ℕ) → IsSpared r 65 n → n + 3 ≤ fall)
-    (ends : EndsIn r jobs carry restarts tail) (comes : ComesIn r jobs carry restarts tail) where
+module _ (r : RingView) (jobs : List Job) (carry : Carry) (restarts : Restarts) (opened : IsOpened r jobs) (stops_two : StopsInTwo)
+    (stops_three : StopsInThree) (none_four : NoStopInFour) (fit : FitsInThree) (own : OwnFitsInFour) (stays_up : StaysUpUndisturbed)
+    (at_fall : StartsAtFall) (fall tail : ℕ) (room : slowest r.drives + length r.drives + 47 ≤ fall)
+    (spared : (n : ℕ) → IsSpared r 65 n → n + 3 ≤ fall) (ends : EndsIn r jobs carry restarts tail)
+    (comes : ComesIn r jobs carry restarts tail) where
   some_drive : 1 ≤ length r.drives
-  some_drive = (laws.ring r opened.valid).some
+  some_drive = (IsRing-is_ring r opened.valid).some
 
   -- phase 4 says that the ring is right
   right : (t : CycleView) (j : List CycleView) → IsRun r jobs carry restarts (t ∷ j) → IsClear (t ∷ j) → t.phase ≡ 4 → IsRight r
@@ -108,7 +96,7 @@ module _ (laws : Laws) (more : MoreLaws) (turn : WorkInTurn) (early : BeginsNone
   IsCause t j x = StopsForThePlan r x ⊎ (StopsForTheCycleTime r x ⊎ StopsForTheCheck r (behind_mdt r jobs carry restarts t.sent j) x)
 
   stands : (t : CycleView) (j : List CycleView) (x : Stop) → IsRun r jobs carry restarts (t ∷ j) → fall_of (known_of r) (behind_mdt r jobs carry restarts t.sent j) ≡ None → (behind_mdt r jobs carry restarts t.sent j).stop ≡ Some x → IsCause t j x → IsBack r t j
-  stands t j x run stays is cause = inr (x, stands_at more early r jobs carry restarts t j x run stays is, caused r jobs carry restarts t j x cause)
+  stands t j x run stays is cause = inr (x, stands_at r jobs carry restarts t j x run stays is, caused r jobs carry restarts t j x cause)
 
   -- A STOP of phase 2 or later has a cause.
   at_stop : (t : CycleView) (j : List CycleView) (x : Stop) → IsRun r jobs carry restarts (t ∷ j) → IsClear (t ∷ j) → fall_of (known_of r) (behind_mdt r jobs carry restarts t.sent j) ≡ None → 2 ≤ t.phase → (behind_mdt r jobs carry restarts t.sent j).stop ≡ Some x
@@ -143,8 +131,8 @@ module _ (laws : Laws) (more : MoreLaws) (turn : WorkInTurn) (early : BeginsNone
       → (k : ℕ) → k < length r.drives → (IsDown r jobs carry restarts k (first ∷ before) → ⊥) → IsDown r jobs carry restarts k (cycles ++ first ∷ before) → ⊥
   not_down [] first before run clear stretch late k below up down = up down
   not_down (t ∷ cycles) first before run clear stretch late k below up down =
-      let stands : (standing (views_of r jobs carry restarts k (t ∷ (cycles ++ first ∷ before)))).ended ≡ t.phase = (up_all laws more turn r jobs carry restarts opened (t ∷ cycles) first before run clear stretch k below up).1 in
-      let least = late_now laws more turn early works r jobs carry restarts opened dead ages counts recovers since timed sections reads_cost writes_cost t cycles first before run clear stretch late k below in
+      let stands : (standing (views_of r jobs carry restarts k (t ∷ (cycles ++ first ∷ before)))).ended ≡ t.phase = (up_all r jobs carry restarts opened (t ∷ cycles) first before run clear stretch k below up).1 in
+      let least = late_now r jobs carry restarts opened t cycles first before run clear stretch late k below in
       omega (arith, stands, least, down)
 
   -- WITHOUT A FALL, from a first cycle of phase 2 or later on
@@ -153,12 +141,12 @@ module _ (laws : Laws) (more : MoreLaws) (turn : WorkInTurn) (early : BeginsNone
   late_back t cycles first before run clear stretch late long never = by (behind_mdt r jobs carry restarts t.sent (cycles ++ first ∷ before)).stop refl
     where
       late_too : 2 ≤ t.phase
-      late_too = late_now laws more turn early works r jobs carry restarts opened dead ages counts recovers since timed sections reads_cost writes_cost t cycles first before run clear stretch late 0 (let some = some_drive in omega (arith, some))
+      late_too = late_now r jobs carry restarts opened t cycles first before run clear stretch late 0 (let some = some_drive in omega (arith, some))
 
       by : (o : Option Stop) → (behind_mdt r jobs carry restarts t.sent (cycles ++ first ∷ before)).stop ≡ o → IsBack r t (cycles ++ first ∷ before)
       by (Some x) is = at_stop t (cycles ++ first ∷ before) x run clear stretch.stays.1 late_too is
       by None none = elim (down_or_up r jobs carry restarts (first ∷ before)) [
-        | inl down ↦ absurd (never down.0 down.1 down.2 (falls_in_time laws more turn early works r jobs carry restarts opened dead ages counts recovers since timed sections reads_cost writes_cost down.0 down.1 (t ∷ cycles) first before
+        | inl down ↦ absurd (never down.0 down.1 down.2 (falls_in_time r jobs carry restarts opened down.0 down.1 (t ∷ cycles) first before
             run clear stretch late (stop_after r jobs carry restarts t (cycles ++ first ∷ before) stretch.stays.1 ∙ none) down.2))
         | inr up ↦ elim (comes first before late up t cycles run clear stretch long) [
           | inl four ↦ inl (four, right t (cycles ++ first ∷ before) run clear four)
@@ -167,26 +155,28 @@ module _ (laws : Laws) (more : MoreLaws) (turn : WorkInTurn) (early : BeginsNone
       ]
 
   -- A FALL, from a first cycle of phase 2 or later on, if no drive is in phase 0
-  module _ (f : CycleView) (cycles : List CycleView) (first : CycleView) (before : List CycleView) (run : IsRun r jobs carry restarts (f ∷ (cycles ++ first ∷ before))) (clear : IsClear (f ∷ (cycles ++ first ∷ before)))
-      (stretch : IsStretch r jobs carry restarts cycles first before) (calm : IsUndisturbed r carry restarts f (cycles ++ first ∷ before)) (falls : is_some (fall_of (known_of r) (behind_mdt r jobs carry restarts f.sent (cycles ++ first ∷ before))) ≡ true)
+  module _ (f : CycleView) (cycles : List CycleView) (first : CycleView) (before : List CycleView)
+      (run : IsRun r jobs carry restarts (f ∷ (cycles ++ first ∷ before))) (clear : IsClear (f ∷ (cycles ++ first ∷ before)))
+      (stretch : IsStretch r jobs carry restarts cycles first before) (calm : IsUndisturbed r carry restarts f (cycles ++ first ∷ before))
+      (falls : is_some (fall_of (known_of r) (behind_mdt r jobs carry restarts f.sent (cycles ++ first ∷ before))) ≡ true)
       (late : 2 ≤ first.phase) where
     late_f : 2 ≤ f.phase
     late_f = by cycles run clear stretch calm
       where
         by : (l : List CycleView) → IsRun r jobs carry restarts (f ∷ (l ++ first ∷ before)) → IsClear (f ∷ (l ++ first ∷ before)) → IsStretch r jobs carry restarts l first before → IsUndisturbed r carry restarts f (l ++ first ∷ before) → 2 ≤ f.phase
         by [] run clear s calm =
-            let least = no_lower laws more turn r jobs carry restarts opened f first before run clear s.first_stays ((calm_in r carry restarts f (first ∷ before) calm).stays 0 (omega arith)) 0 (let some = some_drive in omega (arith, some)) in omega (arith, least, late)
+            let least = no_lower r jobs carry restarts opened f first before run clear s.first_stays ((calm_in r carry restarts f (first ∷ before) calm).stays 0 (omega arith)) 0 (let some = some_drive in omega (arith, some)) in omega (arith, least, late)
         by (u ∷ l) run clear s calm =
-            let least = no_lower laws more turn r jobs carry restarts opened f u (l ++ first ∷ before) run clear s.stays.1 ((calm_in r carry restarts f (u ∷ (l ++ first ∷ before)) calm).stays 0 (omega arith)) 0 (let some = some_drive in omega (arith, some)) in
-            let before_that = late_now laws more turn early works r jobs carry restarts opened dead ages counts recovers since timed sections reads_cost writes_cost u l first before run.0 clear.0 s late 0 (let some = some_drive in omega (arith, some)) in
+            let least = no_lower r jobs carry restarts opened f u (l ++ first ∷ before) run clear s.stays.1 ((calm_in r carry restarts f (u ∷ (l ++ first ∷ before)) calm).stays 0 (omega arith)) 0 (let some = some_drive in omega (arith, some)) in
+            let before_that = late_now r jobs carry restarts opened u l first before run.0 clear.0 s late 0 (let some = some_drive in omega (arith, some)) in
             omega (arith, least, before_that)
 
     soon : ((k : ℕ) → k < length r.drives → IsDown r jobs carry restarts k (first ∷ before) → ⊥) → length cycles ≤ slowest r.drives + 1
-    soon up = falls_soon laws more turn comes_up r jobs carry restarts opened recovers timed counts below_greatest f cycles first before run clear stretch calm late_f
+    soon up = falls_soon r jobs carry restarts opened f cycles first before run clear stretch calm late_f
         (λ k below. not_down cycles first before run.0 clear.0 stretch late k below (up k below)) falls
 
     in_time : (d : ℕ) → d < length r.drives → IsDown r jobs carry restarts d (first ∷ before) → IsSpared r 65 (length cycles)
-    in_time d there down = falls_anyway laws more turn early works r jobs carry restarts opened dead ages counts recovers since timed sections reads_cost writes_cost d there comes_up stops_two stops_three f cycles first before run clear stretch calm late falls down
+    in_time d there down = falls_anyway r jobs carry restarts opened d there stops_two stops_three f cycles first before run clear stretch calm late falls down
 
   -- THE FIRST UNDISTURBED CYCLE after `lost`
   module _ (lost : CycleView) (before : List CycleView) where
@@ -248,7 +238,7 @@ module _ (laws : Laws) (more : MoreLaws) (turn : WorkInTurn) (early : BeginsNone
 
       after_one : (cycles : List CycleView) (first : CycleView) → IsRun r jobs carry restarts (f ∷ (cycles ++ first ∷ lost ∷ before)) → IsClear (f ∷ (cycles ++ first ∷ lost ∷ before)) → IsStretch r jobs carry restarts cycles first (lost ∷ before)
           → IsUndisturbed r carry restarts f (cycles ++ first ∷ lost ∷ before) → Falls (cycles ++ first ∷ lost ∷ before) → first.phase ≡ 1 → IsInTime (cycles ++ first ∷ lost ∷ before)
-      after_one cycles first run clear stretch calm falls one = elim (early_or_entered laws more turn comes_up r jobs carry restarts opened first (lost ∷ before) one cycles run.0 clear.0 stretch) [
+      after_one cycles first run clear stretch calm falls one = elim (early_or_entered r jobs carry restarts opened first (lost ∷ before) one cycles run.0 clear.0 stretch) [
         | inl few ↦ let long = length-append cycles (first ∷ lost ∷ before) in omega (arith, few, long, room)
         | inr e ↦ subst IsInTime (sym e.is) (entered e.newer e.two e.older (subst (λ (l : List CycleView). IsRun r jobs carry restarts (f ∷ l)) e.is run) (subst (λ (l : List CycleView). IsClear (f ∷ l)) e.is clear) e.stretch
             (subst (λ (l : List CycleView). IsUndisturbed r carry restarts f l) e.is calm) (subst Falls e.is falls) e.phase_is (let most = e.few in omega (arith, most)) e.up)
@@ -297,7 +287,7 @@ module _ (laws : Laws) (more : MoreLaws) (turn : WorkInTurn) (early : BeginsNone
 
     one_at : (cycles : List CycleView) (first : CycleView) → IsRun r jobs carry restarts (cycles ++ first ∷ lost ∷ before) → IsClear (cycles ++ first ∷ lost ∷ before) → IsStretch r jobs carry restarts cycles first (lost ∷ before) → first.phase ≡ 1
         → BackAt (cycles ++ first ∷ lost ∷ before)
-    one_at cycles first run clear stretch one = elim (early_or_entered laws more turn comes_up r jobs carry restarts opened first (lost ∷ before) one cycles run clear stretch) [
+    one_at cycles first run clear stretch one = elim (early_or_entered r jobs carry restarts opened first (lost ∷ before) one cycles run clear stretch) [
       | inl few ↦ short cycles few
       | inr e ↦ subst BackAt (sym e.is) (entered_at e.newer e.two e.older (subst (λ (l : List CycleView). IsRun r jobs carry restarts l) e.is run) (subst (λ (l : List CycleView). IsClear l) e.is clear) e.stretch e.phase_is (let most = e.few in omega (arith, most)) e.up)
     ]
@@ -388,13 +378,14 @@ module _ (laws : Laws) (more : MoreLaws) (turn : WorkInTurn) (early : BeginsNone
       where
         stays_at : (l : List CycleView) → IsRun r jobs carry restarts (l ++ lost ∷ before) → IsClear (l ++ lost ∷ before) → AreUndisturbed r carry restarts l (lost ∷ before) → NoneFalls r jobs carry restarts l (lost ∷ before) → TellsAt (l ++ lost ∷ before)
         stays_at [] run clear calm stays = λ long. absurd (omega (arith, long, room))
-        stays_at (t ∷ l) run clear calm stays = λ long. tells_in laws more r jobs carry restarts opened t (l ++ lost ∷ before) run clear calm.1 stays.1
+        stays_at (t ∷ l) run clear calm stays = λ long. tells_in r jobs carry restarts opened t (l ++ lost ∷ before) run clear calm.1 stays.1
 
         fell_then : (newer : List CycleView) (one : CycleView) (older : List CycleView) → IsRun r jobs carry restarts (newer ++ one ∷ (older ++ lost ∷ before)) → IsClear (newer ++ one ∷ (older ++ lost ∷ before))
             → AreUndisturbed r carry restarts newer (one ∷ (older ++ lost ∷ before)) → AreUndisturbed r carry restarts (one ∷ older) (lost ∷ before) → NoneFalls r jobs carry restarts older (lost ∷ before)
             → is_some (fall_of (known_of r) (behind_mdt r jobs carry restarts one.sent (older ++ lost ∷ before))) ≡ true → TellsAt (newer ++ one ∷ (older ++ lost ∷ before))
         fell_then [] one older run clear calm calm_then stays falls = λ long. absurd (let soon_is = falls_in one older run clear calm_then stays falls in omega (arith, long, soon_is))
-        fell_then (t ∷ newer) one older run clear calm calm_then stays falls = λ long. tells_in laws more r jobs carry restarts opened t (newer ++ one ∷ (older ++ lost ∷ before)) run clear calm.1
+        fell_then (t ∷ newer) one older run clear calm calm_then stays falls = λ long. tells_in r jobs carry restarts opened t
+            (newer ++ one ∷ (older ++ lost ∷ before)) run clear calm.1
             (stays_up r jobs carry restarts (t ∷ newer) (one ∷ (older ++ lost ∷ before)) opened run clear (at_fall r jobs carry restarts one (older ++ lost ∷ before) falls).0 calm).stays.1
 
         by : NoneFalls r jobs carry restarts cycles (lost ∷ before) ⊎ IsFell (cycles ++ lost ∷ before) → TellsAt (cycles ++ lost ∷ before)
@@ -402,39 +393,41 @@ module _ (laws : Laws) (more : MoreLaws) (turn : WorkInTurn) (early : BeginsNone
         by (inr x) = subst TellsAt (sym x.is) (fell_then x.newer x.one x.older (subst (λ (l : List CycleView). IsRun r jobs carry restarts l) x.is run) (subst (λ (l : List CycleView). IsClear l) x.is clear) x.calm x.calm_then x.stays x.falls)
 
   -- WHAT IS LEFT of the requests to a drive
-  module _ (works_four : WorksInFour) (always : OpensAlways) (said : SaysShape) (ends_in : (busy : ℕ) → RecoversInTime busy) (late_answers : (busy : ℕ) → NoneLate busy) (stand : (busy : ℕ) → StandsThroughout busy) (hear : (busy : ℕ) → HearsThroughout busy)
-      (reaches : ComesToPhaseFour) (k : ℕ) (below : k < length r.drives) (n i : ℕ) where
+  module _ (reaches : ComesToPhaseFour) (k : ℕ) (below : k < length r.drives) (n i : ℕ) where
     abbrev left_now : List CycleView → ℕ
     left_now j = length (left_after r jobs carry restarts j k)
 
     -- no more than before some undisturbed cycles
     left_fewer : (cycles base : List CycleView) → IsRun r jobs carry restarts (cycles ++ base) → IsClear (cycles ++ base) → AreUndisturbed r carry restarts cycles base → left_now (cycles ++ base) ≤ left_now base
     left_fewer cycles base run clear calm =
-        let told = told_since laws more r jobs carry restarts opened k below cycles base run clear calm in
+        let told = told_since r jobs carry restarts opened k below cycles base run clear calm in
         let all = ap (λ (l : List (Option ℕ)). length l) told.is in
         let parts = length-append told.numbers (left_after r jobs carry restarts (cycles ++ base) k) in
         omega (arith, all, parts)
 
     waiting_few : (j : List CycleView) → StartsEpoch r jobs carry restarts j → left_now j ≤ n + suc i → length (waiting_after r jobs carry restarts j k) ≤ n + suc i
     waiting_few j starts enough =
-        let first = ap (λ (l : List (Option ℕ)). length l) (left_first laws more r jobs carry restarts opened k below j starts) in
+        let first = ap (λ (l : List (Option ℕ)). length l) (left_first r jobs carry restarts opened k below j starts) in
         let numbers = numbers_long (waiting_after r jobs carry restarts j k) in omega (arith, first, numbers, enough)
 
     -- WITHOUT A FALL, from a first cycle of phase 2 or later on after which no drive is in phase 0
-    module _ (first : CycleView) (older : List CycleView) (late : 2 ≤ first.phase) (up : (d : ℕ) → d < length r.drives → IsDown r jobs carry restarts d (first ∷ older) → ⊥) where
+    module _ (first : CycleView) (older : List CycleView) (late : 2 ≤ first.phase)
+        (up : (d : ℕ) → d < length r.drives → IsDown r jobs carry restarts d (first ∷ older) → ⊥) where
       on_since : (newer : List CycleView) → IsRun r jobs carry restarts (newer ++ first ∷ older) → IsClear (newer ++ first ∷ older) → IsStretch r jobs carry restarts newer first older → AreOn r jobs carry restarts newer (first ∷ older)
       on_since [] run clear stretch = tt
       on_since (u ∷ newer) run clear stretch = (
-        on_since newer run.0 clear.0 (shorter laws more turn r jobs carry restarts opened u newer first older stretch),
-        on_now laws more turn early works r jobs carry restarts opened dead ages counts recovers since timed sections reads_cost writes_cost started below_greatest first older late up u newer run clear stretch,
+        on_since newer run.0 clear.0 (shorter r jobs carry restarts opened u newer first older stretch),
+        on_now r jobs carry restarts opened first older late up u newer run clear stretch,
       )
 
       stays_since : (cycles rest : List CycleView) → AreOn r jobs carry restarts cycles rest → NoneFalls r jobs carry restarts cycles rest
       stays_since [] rest on = tt
       stays_since (u ∷ cycles) rest on = (stays_since cycles rest on.0, on.1.stays)
 
-      module _ (t : CycleView) (newer : List CycleView) (run : IsRun r jobs carry restarts (t ∷ (newer ++ first ∷ older))) (clear : IsClear (t ∷ (newer ++ first ∷ older))) (stretch : IsStretch r jobs carry restarts (t ∷ newer) first older)
-          (four : t.phase ≡ 4) (base : List CycleView) (most : length older ≤ length base + 1 + length r.drives) (long : length base + fall + startup_bound r + tail + suc i * request_cycles r k ≤ suc (length (newer ++ first ∷ older))) where
+      module _ (t : CycleView) (newer : List CycleView) (run : IsRun r jobs carry restarts (t ∷ (newer ++ first ∷ older)))
+          (clear : IsClear (t ∷ (newer ++ first ∷ older))) (stretch : IsStretch r jobs carry restarts (t ∷ newer) first older)
+          (four : t.phase ≡ 4) (base : List CycleView) (most : length older ≤ length base + 1 + length r.drives)
+          (long : length base + fall + startup_bound r + tail + suc i * request_cycles r k ≤ suc (length (newer ++ first ∷ older))) where
         on : AreOn r jobs carry restarts (t ∷ newer) (first ∷ older)
         on = on_since (t ∷ newer) run clear stretch
 
@@ -442,7 +435,7 @@ module _ (laws : Laws) (more : MoreLaws) (turn : WorkInTurn) (early : BeginsNone
         long_newer = let parts = length-append newer (first ∷ older) in omega (arith, parts, room, most, long)
 
         c : IsCut r jobs carry restarts (suc i * request_cycles r k) newer (first ∷ older)
-        c = cut r jobs carry restarts newer (first ∷ older) (suc i * request_cycles r k) (let enough = long_newer in let some = within_bound started r in omega (arith, enough, some)) on.0 stretch.calm.0
+        c = cut r jobs carry restarts newer (first ∷ older) (suc i * request_cycles r k) (let enough = long_newer in let some = within_bound r in omega (arith, enough, some)) on.0 stretch.calm.0
 
         run_cut : IsRun r jobs carry restarts (t ∷ (c.newer ++ c.one ∷ (c.older ++ first ∷ older)))
         run_cut = subst (λ (l : List CycleView). IsRun r jobs carry restarts (t ∷ l)) c.is run
@@ -456,7 +449,7 @@ module _ (laws : Laws) (more : MoreLaws) (turn : WorkInTurn) (early : BeginsNone
         one_run : IsRun r jobs carry restarts (c.one ∷ (c.older ++ first ∷ older)) × IsClear (c.one ∷ (c.older ++ first ∷ older))
         one_run = run_rest r jobs carry restarts (t ∷ c.newer) (c.one ∷ (c.older ++ first ∷ older)) run_cut clear_cut
 
-        -- phase 4 has come by then: there is no stop, since there is none in the newest cycle
+        -- phase 4 has come by then: there is no stop, rest_since there is none in the newest cycle
         none_then : (behind_mdt r jobs carry restarts c.one.sent (c.older ++ first ∷ older)).stop ≡ None
         none_then = sym (stop_after r jobs carry restarts c.one (c.older ++ first ∷ older) c.on_older.1.stays)
             ∙ none_along r jobs carry restarts (t ∷ c.newer) (c.one ∷ (c.older ++ first ∷ older)) on_cut
@@ -484,8 +477,9 @@ module _ (laws : Laws) (more : MoreLaws) (turn : WorkInTurn) (early : BeginsNone
 
         pub left_up : (xs : List CycleView) → xs ++ base ≡ t ∷ (newer ++ first ∷ older) → AreUndisturbed r carry restarts xs base → left_now base ≤ n + suc i → left_now (t ∷ (newer ++ first ∷ older)) ≤ n
         left_up xs is calm enough = subst (λ (l : List CycleView). left_now (t ∷ l) ≤ n) (sym c.is)
-            (left_in_time laws more comes_up works_four always said timed ends_in since none_four r jobs carry restarts opened k below t c.newer c.one (c.older ++ first ∷ older) run_cut clear_cut on_cut c.calm_newer c.on_older.1 one_four four n i
-            (let count = c.long in omega (arith, count)) (let few = left_then xs is calm in omega (arith, few, enough)))
+            (left_in_time none_four r jobs carry restarts opened k below t c.newer c.one (c.older ++ first ∷ older) run_cut clear_cut on_cut
+            c.calm_newer c.on_older.1 one_four four n i (let count = c.long in omega (arith, count))
+            (let few = left_then xs is calm in omega (arith, few, enough)))
 
     -- AFTER THE LAST DISTURBED CYCLE
     module _ (lost : CycleView) (before : List CycleView) where
@@ -498,7 +492,7 @@ module _ (laws : Laws) (more : MoreLaws) (turn : WorkInTurn) (early : BeginsNone
           → LeftAt (cycles ++ lost ∷ before)
       start_left [] run clear starts calm = λ four long enough. absurd (omega (arith, long, room))
       start_left (t ∷ cycles) run clear starts calm = λ four long enough.
-          left_in_epoch laws more turn comes_up late_answers stand hear works_four always said timed ends_in since reaches none_four r jobs carry restarts opened t cycles (lost ∷ before) run clear starts calm four k below n i
+          left_in_epoch reaches none_four r jobs carry restarts opened t cycles (lost ∷ before) run clear starts calm four k below n i
           (let parts = length-append cycles (lost ∷ before) in omega (arith, parts, room, long)) (waiting_few (lost ∷ before) starts enough)
 
       -- with the first undisturbed cycle
@@ -510,8 +504,9 @@ module _ (laws : Laws) (more : MoreLaws) (turn : WorkInTurn) (early : BeginsNone
         where
           never : t.phase ≡ 4 → length before + fall + startup_bound r + tail + suc i * request_cycles r k ≤ length (newer ++ first ∷ lost ∷ before) → (d : ℕ) → d < length r.drives → IsDown r jobs carry restarts d (first ∷ lost ∷ before) → ⊥
           never four long d there down =
-              let is = falls_in_time laws more turn early works r jobs carry restarts opened dead ages counts recovers since timed sections reads_cost writes_cost d there (t ∷ newer) first (lost ∷ before) run clear stretch late
-              (stop_after r jobs carry restarts t (newer ++ first ∷ lost ∷ before) stretch.stays.1 ∙ none_four r jobs carry restarts t (newer ++ first ∷ lost ∷ before) opened run clear four) down in
+              let is = falls_in_time r jobs carry restarts opened d there (t ∷ newer) first (lost ∷ before) run clear stretch late
+              (stop_after r jobs carry restarts t (newer ++ first ∷ lost ∷ before) stretch.stays.1 ∙ none_four r jobs carry restarts t (newer ++ first ∷ lost ∷ before) opened run clear four)
+              down in
               let most = spared (suc (length newer)) is in
               let parts = length-append newer (first ∷ lost ∷ before) in omega (arith, parts, most, long)
 
@@ -524,7 +519,7 @@ module _ (laws : Laws) (more : MoreLaws) (turn : WorkInTurn) (early : BeginsNone
 
       one_left : (newer : List CycleView) (first : CycleView) → IsRun r jobs carry restarts (newer ++ first ∷ lost ∷ before) → IsClear (newer ++ first ∷ lost ∷ before) → IsStretch r jobs carry restarts newer first (lost ∷ before) → first.phase ≡ 1
           → (xs : List CycleView) → xs ++ lost ∷ before ≡ newer ++ first ∷ lost ∷ before → AreUndisturbed r carry restarts xs (lost ∷ before) → LeftAt (newer ++ first ∷ lost ∷ before)
-      one_left newer first run clear stretch one xs is calm = elim (early_or_entered laws more turn comes_up r jobs carry restarts opened first (lost ∷ before) one newer run clear stretch) [
+      one_left newer first run clear stretch one xs is calm = elim (early_or_entered r jobs carry restarts opened first (lost ∷ before) one newer run clear stretch) [
         | inl few ↦ short newer few
         | inr e ↦ subst LeftAt (sym e.is) (entered_left e.newer e.two e.older (subst (λ (l : List CycleView). IsRun r jobs carry restarts l) e.is run) (subst (λ (l : List CycleView). IsClear l) e.is clear) e.stretch e.phase_is
             (let most = e.few in omega (arith, most)) e.up xs (is ∙ e.is) calm)
@@ -563,8 +558,9 @@ module _ (laws : Laws) (more : MoreLaws) (turn : WorkInTurn) (early : BeginsNone
           let soon_is = falls_in lost before one older run_then clear_then calm_then stays falls in
           let length_is = length-append newer (one ∷ (older ++ lost ∷ before)) in
           let few = left_fewer (one ∷ older) (lost ∷ before) run_then clear_then calm_then in
-          left_in_epoch laws more turn comes_up late_answers stand hear works_four always said timed ends_in since reaches none_four r jobs carry restarts opened t newer (one ∷ (older ++ lost ∷ before)) run clear starts calm four k below n i
-          (omega (arith, soon_is, length_is, long)) (waiting_few (one ∷ (older ++ lost ∷ before)) starts (omega (arith, few, enough)))
+          left_in_epoch reaches none_four r jobs carry restarts opened t newer (one ∷ (older ++ lost ∷ before)) run clear starts calm four k
+          below n i (omega (arith, soon_is, length_is, long))
+          (waiting_few (one ∷ (older ++ lost ∷ before)) starts (omega (arith, few, enough)))
 
       pub left_at_last : (cycles : List CycleView) → IsRun r jobs carry restarts (cycles ++ lost ∷ before) → IsClear (cycles ++ lost ∷ before) → AreUndisturbed r carry restarts cycles (lost ∷ before) → LeftAt (cycles ++ lost ∷ before)
       left_at_last cycles run clear calm = by (fell_or_not lost before cycles calm)
@@ -574,16 +570,15 @@ module _ (laws : Laws) (more : MoreLaws) (turn : WorkInTurn) (early : BeginsNone
           by (inr x) = subst LeftAt (sym x.is) (fell_left x.newer x.one x.older (subst (λ (l : List CycleView). IsRun r jobs carry restarts l) x.is run) (subst (λ (l : List CycleView). IsClear l) x.is clear) x.calm x.calm_then x.stays x.falls)
 
   -- SO THE REQUESTS THAT WERE LEFT ARE REPORTED IN TIME.
-  module _ (works_four : WorksInFour) (always : OpensAlways) (said : SaysShape) (ends_in : (busy : ℕ) → RecoversInTime busy) (late_answers : (busy : ℕ) → NoneLate busy) (stand : (busy : ℕ) → StandsThroughout busy) (hear : (busy : ℕ) → HearsThroughout busy)
-      (reaches : ComesToPhaseFour) (lost : CycleView) (before : List CycleView) where
+  module _ (reaches : ComesToPhaseFour) (lost : CycleView) (before : List CycleView) where
     reports_after : (t : CycleView) (cycles : List CycleView) → IsRun r jobs carry restarts (t ∷ (cycles ++ lost ∷ before)) → IsClear (t ∷ (cycles ++ lost ∷ before)) → AreUndisturbed r carry restarts (t ∷ cycles) (lost ∷ before) → t.phase ≡ 4
         → (k i : ℕ) (x : Option ℕ) → k < length r.drives → slice_get (left_after r jobs carry restarts (lost ∷ before) k) i ≡ Some x → length before + fall + startup_bound r + tail + (i + 1) * request_cycles r k ≤ length (cycles ++ lost ∷ before)
         → (number : ℕ) × (x ≡ Some number) × HaveTold (t ∷ cycles) number
     reports_after t cycles run clear calm four k i x below got long =
         told_there (t ∷ cycles) told.numbers i x told.all (sym (get_left told.numbers (left_after r jobs carry restarts (t ∷ (cycles ++ lost ∷ before)) k) i early_is) ∙ ap (λ (l : List (Option ℕ)). slice_get l i) told.is ∙ got)
       where
-        told : IsTold laws more r jobs carry restarts opened k below (t ∷ cycles) (lost ∷ before)
-        told = told_since laws more r jobs carry restarts opened k below (t ∷ cycles) (lost ∷ before) run clear calm
+        told : IsTold r jobs carry restarts opened k below (t ∷ cycles) (lost ∷ before)
+        told = told_since r jobs carry restarts opened k below (t ∷ cycles) (lost ∷ before) run clear calm
 
         low : i < length (left_after r jobs carry restarts (lost ∷ before) k)
         low = slice_get_within (left_after r jobs carry restarts (lost ∷ before) k) i x got
@@ -592,7 +587,7 @@ module _ (laws : Laws) (more : MoreLaws) (turn : WorkInTurn) (early : BeginsNone
         rest = beyond (suc i) (length (left_after r jobs carry restarts (lost ∷ before) k)) (omega (arith, low))
 
         few : length (left_after r jobs carry restarts (t ∷ (cycles ++ lost ∷ before)) k) ≤ rest.0
-        few = left_at_last works_four always said ends_in late_answers stand hear reaches k below rest.0 i lost before (t ∷ cycles) run clear calm four
+        few = left_at_last reaches k below rest.0 i lost before (t ∷ cycles) run clear calm four
             (let same : (i + 1) * request_cycles r k ≡ suc i * request_cycles r k = grind arith in omega (arith, same, long)) (let count = rest.1 in omega (arith, count))
 
         early_is : i < length told.numbers

@@ -5,22 +5,11 @@ use Rattle.std.proofs.lemmas.Bool.{false≢true}
 use Rattle.sercos_step.specs.declared.request.Job.{Job}
 use Rattle.sercos_block.specs.Startup.{startup_bound}
 use Rattle.sercos_block.specs.Views.{RingView}
-use Rattle.sercos_law_run.specs.Bounds.Bounds.{fall_cycles, recovery_bound, return_cycles, slowest, AreSections, IsBelowGreatest, IsStarted}
+use Rattle.sercos_law_run.specs.Bounds.Bounds.{fall_cycles, recovery_bound, return_cycles, slowest}
 use Rattle.sercos_trace.specs.Views.{CycleView}
 use Rattle.sercos_script.specs.Links.{Carry, Restarts}
-use Rattle.sercos_law_channel.specs.Handshake.RunLaws.{ComesUp}
-use Rattle.sercos_law_channel.specs.Pace.Ages.{AgesWhereDead, OpensAlways}
-use Rattle.sercos_law_channel.specs.Pace.ChannelCalls.{AgesBeforeEnd, NoneLate}
-use Rattle.sercos_law_channel.specs.Pace.Costs.{ComesTimed}
-use Rattle.sercos_law_channel.specs.Pace.Jobs.{ListReadCosts, ReadsCost, WritesCost}
-use Rattle.sercos_law_channel.specs.Pace.Passages.{HearsThroughout, RecoversInTime, StandsThroughout, StaysDead}
-use Rattle.sercos_law_channel.specs.Pace.StartCosts.{RecoversInCost, RecoversSince}
 use Rattle.sercos_law_run.specs.Journal.Runs.{IsClear, IsRun}
-use Rattle.sercos_law_run.specs.Agenda.Tasks.{BeginsNoneEarly}
-use Rattle.sercos_law_run.specs.Agenda.Turns.{WorkInTurn, WorksInFour, WorksInThree, WorksInTwo}
 use Rattle.sercos_law_run.specs.Held.Opened.{IsOpened}
-use Rattle.sercos_law_run.proofs.Held.Runs.{Laws}
-use Rattle.sercos_law_run.proofs.Headline.HeadlineRuns.{MoreLaws}
 use Rattle.sercos_law_run.specs.Undisturbed.Ends.{ComesToPhaseFour}
 use Rattle.sercos_law_run.specs.Undisturbed.EpochStarts.{StartsAtFall}
 use Rattle.sercos_law_run.specs.Undisturbed.Fit.{FitsInThree, OwnFitsInFour}
@@ -30,7 +19,6 @@ use Rattle.sercos_law_run.specs.Undisturbed.StopsInTwo.{StopsInTwo}
 use Rattle.sercos_law_run.specs.Undisturbed.StopsLater.{EndsStartUp, IsRight, NoStopInFour, RisesIfRight, StopsInThree}
 use Rattle.sercos_law_run.specs.Undisturbed.Undisturbed.{AreUndisturbed}
 use Rattle.sercos_law_run.proofs.Undisturbed.NeverFalls.{busy_low}
-use Rattle.sercos_law_run.proofs.Undisturbed.RefusedRuns.{SaysShape}
 use Rattle.sercos_law_run.specs.Recovery.AfterFalls.{AfterFall}
 use Rattle.sercos_law_run.specs.Recovery.Recovers.{IsBack, RecoversIn}
 use Rattle.sercos_law_run.proofs.Recovery.ComesBack.{comes_back}
@@ -39,6 +27,7 @@ use Rattle.sercos_law_run.proofs.Bounds.FallCycles.{fall_room, fixed_room, spare
 use Rattle.sercos_law_run.proofs.Recovery.Recovers.{ComesIn, EndsIn, back_after, reports_now, tells_after}
 use Rattle.sercos_law_run.proofs.Recovery.UpInThree.{lasts_if_right, lasts_with_list}
 use Rattle.sercos_law_run.proofs.Undisturbed.StartUpEnds.{ReadyIfEnded}
+use Rattle.sercos_block.proofs.RingLemmas.{IsRing-is_ring}
 
 -- A ring that is right has no stop.
 pub right_four : (r : RingView) (t : CycleView) (j : List CycleView) → IsRight r → IsBack r t j → t.phase ≡ 4
@@ -50,17 +39,11 @@ right_four r t j right (inr (x, stands, inr (inl cycle))) = absurd (elim cycle.r
 ])
 right_four r t j right (inr (x, stands, inr (inr check))) = absurd (false≢true (sym (right.1 check.place check.there) ∙ check.outside))
 
-module _ (laws : Laws) (more : MoreLaws) (turn : WorkInTurn) (early : BeginsNoneEarly) (works : WorksInTwo) (works_three : WorksInThree)
-    (comes_up : (busy : ℕ) → ComesUp busy)
-    (r : RingView) (jobs : List Job) (carry : Carry) (restarts : Restarts) (opened : IsOpened r jobs)
-    (dead : (busy : ℕ) → StaysDead busy) (ages : (busy : ℕ) → AgesWhereDead busy) (counts : (busy : ℕ) → AgesBeforeEnd busy)
-    (recovers : (busy : ℕ) → RecoversInCost busy) (since : (busy : ℕ) → RecoversSince busy) (timed : ComesTimed)
-    (sections : AreSections) (reads_cost : (busy : ℕ) → ReadsCost busy) (writes_cost : (busy : ℕ) → WritesCost busy)
-    (list_costs : (busy : ℕ) → ListReadCosts busy) (started : IsStarted) (below_greatest : IsBelowGreatest)
-    (stops_two : StopsInTwo) (stops_three : StopsInThree) (none_four : NoStopInFour) (fit : FitsInThree) (own : OwnFitsInFour)
-    (outcome : EndsStartUp) (rises : RisesIfRight) (ready : ReadyIfEnded) (stays_up : StaysUpUndisturbed) (at_fall : StartsAtFall) where
+module _ (r : RingView) (jobs : List Job) (carry : Carry) (restarts : Restarts) (opened : IsOpened r jobs) (stops_two : StopsInTwo)
+    (stops_three : StopsInThree) (none_four : NoStopInFour) (fit : FitsInThree) (own : OwnFitsInFour) (outcome : EndsStartUp)
+    (rises : RisesIfRight) (ready : ReadyIfEnded) (stays_up : StaysUpUndisturbed) (at_fall : StartsAtFall) where
   some_drive : 1 ≤ length r.drives
-  some_drive = (laws.ring r opened.valid).some
+  some_drive = (IsRing-is_ring r opened.valid).some
 
   slow : slowest r.drives ≤ 20
   slow = greatest_low (λ x. x.busy) 20 r.drives (λ k low. busy_low r k opened.valid low)
@@ -77,11 +60,8 @@ module _ (laws : Laws) (more : MoreLaws) (turn : WorkInTurn) (early : BeginsNone
 
   comes_refused : ComesIn r jobs carry restarts (41 * (slowest r.drives + 2))
   comes_refused first before late up t cycles run clear stretch long =
-      comes_back laws more turn early works r jobs carry restarts opened dead ages counts recovers since timed sections reads_cost
-      writes_cost
-      started below_greatest first before late up refusal
-      (lasts_with_list laws more turn early works_three r jobs carry restarts opened since timed list_costs below_greatest)
-      t cycles run clear stretch long
+      comes_back r jobs carry restarts opened first before late up refusal (lasts_with_list r jobs carry restarts opened) t cycles run clear
+      stretch long
 
   ends_right : IsRight r → EndsIn r jobs carry restarts 0
   ends_right right t cycles before run clear starts calm long =
@@ -90,11 +70,8 @@ module _ (laws : Laws) (more : MoreLaws) (turn : WorkInTurn) (early : BeginsNone
 
   comes_right : IsRight r → ComesIn r jobs carry restarts 0
   comes_right right first before late up t cycles run clear stretch long =
-      comes_back laws more turn early works r jobs carry restarts opened dead ages counts recovers since timed sections reads_cost
-      writes_cost
-      started below_greatest first before late up 0
-      (lasts_if_right laws more turn early works_three r jobs carry restarts opened since timed ready right)
-      t cycles run clear stretch long
+      comes_back r jobs carry restarts opened first before late up 0 (lasts_if_right r jobs carry restarts opened ready right) t cycles run
+      clear stretch long
 
   -- phase 4 says that the ring is right
   right_in : (t : CycleView) (j : List CycleView) → IsRun r jobs carry restarts (t ∷ j) → IsClear (t ∷ j) → t.phase ≡ 4 → IsRight r
@@ -105,8 +82,8 @@ module _ (laws : Laws) (more : MoreLaws) (turn : WorkInTurn) (early : BeginsNone
   )
 
   module _ (t : CycleView) (j : List CycleView) (run : IsRun r jobs carry restarts (t ∷ j)) (clear : IsClear (t ∷ j))
-      (cycles before : List CycleView)
-      (lost : CycleView) (is : j ≡ cycles ++ lost ∷ before) (calm : AreUndisturbed r carry restarts (t ∷ cycles) (lost ∷ before)) where
+      (cycles before : List CycleView) (lost : CycleView) (is : j ≡ cycles ++ lost ∷ before)
+      (calm : AreUndisturbed r carry restarts (t ∷ cycles) (lost ∷ before)) where
     run_is : IsRun r jobs carry restarts (t ∷ (cycles ++ lost ∷ before))
     run_is = subst (λ (l : List CycleView). IsRun r jobs carry restarts (t ∷ l)) is run
 
@@ -117,36 +94,28 @@ module _ (laws : Laws) (more : MoreLaws) (turn : WorkInTurn) (early : BeginsNone
     same_length = ap (λ (l : List CycleView). length l) is
 
     tells_now : length before + fall_cycles r ≤ length j → TellsNoFall t
-    tells_now long = tells_after laws more turn early works comes_up r jobs carry restarts opened dead ages counts recovers since timed
-        sections reads_cost writes_cost started below_greatest stops_two stops_three none_four fit own stays_up at_fall (fall_cycles r)
-        refusal room (spared_few r) ends_refused comes_refused
-        lost before (t ∷ cycles) run_is clear_is calm (subst (λ (l : List CycleView). length before + fall_cycles r ≤ length l) is long)
+    tells_now long = tells_after r jobs carry restarts opened stops_two stops_three none_four fit own stays_up at_fall (fall_cycles r)
+        refusal room (spared_few r) ends_refused comes_refused lost before (t ∷ cycles) run_is clear_is calm (subst (λ (l : List CycleView). length before + fall_cycles r ≤ length l) is long)
 
     back_now : length before + fall_cycles r + startup_bound r + 41 * (slowest r.drives + 2) ≤ length j → IsBack r t j
-    back_now long = subst (λ (l : List CycleView). IsBack r t l) (sym is) (back_after laws more turn early works comes_up r jobs carry
-        restarts opened dead ages counts recovers since timed sections reads_cost writes_cost started below_greatest stops_two stops_three
-        none_four fit own stays_up at_fall (fall_cycles r) refusal room (spared_few r) ends_refused comes_refused
-        lost before (t ∷ cycles) run_is clear_is calm
+    back_now long = subst (λ (l : List CycleView). IsBack r t l) (sym is) (back_after r jobs carry restarts opened stops_two stops_three
+        none_four fit own stays_up at_fall (fall_cycles r) refusal room (spared_few r) ends_refused comes_refused lost before (t ∷ cycles)
+        run_is clear_is calm
         (subst (λ (l : List CycleView). length before + fall_cycles r + startup_bound r + 41 * (slowest r.drives + 2) ≤ length l) is long))
 
     rises_now : length before + return_cycles r ≤ length j → IsRight r → t.phase ≡ 4
-    rises_now long right = right_four r t (cycles ++ lost ∷ before) right (back_after laws more turn early works comes_up r jobs carry
-        restarts opened dead ages counts recovers since timed sections reads_cost writes_cost started below_greatest stops_two stops_three
-        none_four fit own stays_up at_fall (fall_cycles r) 0 room (spared_few r) (ends_right right) (comes_right right)
-        lost before (t ∷ cycles) run_is clear_is calm (let same = same_length in omega (arith, long, same)))
+    rises_now long right = right_four r t (cycles ++ lost ∷ before) right (back_after r jobs carry restarts opened stops_two stops_three
+        none_four fit own stays_up at_fall (fall_cycles r) 0 room (spared_few r) (ends_right right) (comes_right right) lost before
+        (t ∷ cycles) run_is clear_is calm (let same = same_length in omega (arith, long, same)))
 
-    module _ (works_four : WorksInFour) (always : OpensAlways) (said : SaysShape) (ends_in : (busy : ℕ) → RecoversInTime busy)
-        (late_answers : (busy : ℕ) → NoneLate busy)
-        (stand : (busy : ℕ) → StandsThroughout busy) (hear : (busy : ℕ) → HearsThroughout busy) (reaches : ComesToPhaseFour) where
+    module _ (reaches : ComesToPhaseFour) where
       reports_soon : t.phase ≡ 4 → (k i : ℕ) (x : Option ℕ) → k < length r.drives
           → slice_get (left_after r jobs carry restarts (lost ∷ before) k) i ≡ Some x
           → length before + return_cycles r + (i + 1) * request_cycles r k ≤ length j → (number : ℕ) × (x ≡ Some number)
           × HaveTold (t ∷ cycles) number
       reports_soon four k i x below got long =
-          reports_now laws more turn early works comes_up r jobs carry restarts opened dead ages counts recovers since timed sections
-          reads_cost writes_cost started below_greatest stops_two stops_three none_four fit own stays_up at_fall (fall_cycles r) 0 room
-          (spared_few r) (ends_right right) (comes_right right)
-          works_four always said ends_in late_answers stand hear reaches lost before t j cycles run clear is calm four k i x below got
+          reports_now r jobs carry restarts opened stops_two stops_three none_four fit own stays_up at_fall (fall_cycles r) 0 room
+          (spared_few r) (ends_right right) (comes_right right) reaches lost before t j cycles run clear is calm four k i x below got
           (omega (arith, long))
         where
           right : IsRight r
@@ -156,25 +125,22 @@ module _ (laws : Laws) (more : MoreLaws) (turn : WorkInTurn) (early : BeginsNone
   fixed : fall_cycles r + startup_bound r + 41 * (slowest r.drives + 2) ≤ recovery_bound r
   fixed = fixed_room r some_drive slow
 
-  pub recovers_in : AfterFall → WorksInFour → OpensAlways → SaysShape → ((busy : ℕ) → RecoversInTime busy) → ((busy : ℕ) → NoneLate busy)
-      → ((busy : ℕ) → StandsThroughout busy) → ((busy : ℕ) → HearsThroughout busy) → ComesToPhaseFour
-      → (t : CycleView) (j : List CycleView) → IsRun r jobs carry restarts (t ∷ j) → IsClear (t ∷ j) → RecoversIn r jobs carry restarts t j
-  recovers_in again works_four always said ends_in late_answers stand hear reaches t j run clear = record {
+  pub recovers_in : AfterFall → ComesToPhaseFour → (t : CycleView) (j : List CycleView) → IsRun r jobs carry restarts (t ∷ j)
+      → IsClear (t ∷ j) → RecoversIn r jobs carry restarts t j
+  recovers_in again reaches t j run clear = record {
     after_fall = λ cycles before f x is calm told. again r jobs carry restarts t f cycles before x opened
         (subst (λ (l : List CycleView). IsRun r jobs carry restarts (t ∷ l)) is run) (subst (λ (l : List CycleView). IsClear (t ∷ l)) is
         clear) calm told;
     back = λ cycles before lost is calm long. back_now t j run clear cycles before lost is calm (longer (length before) (length j) long);
     tells = λ cycles before lost is calm long. tells_now t j run clear cycles before lost is calm
         (let most = longer (length before) (length j) long in omega (arith, most));
-    reports = λ cycles before lost is calm four k i x below got long. reports_soon t j run clear cycles before lost is calm works_four
-        always said ends_in late_answers stand hear reaches four k i x below got
-        (let least = fixed in omega (arith, least, long));
+    reports = λ cycles before lost is calm four k i x below got long. reports_soon t j run clear cycles before lost is calm reaches four k i
+        x below got (let least = fixed in omega (arith, least, long));
     sooner = record {
       tells = λ cycles before lost is calm long. tells_now t j run clear cycles before lost is calm long;
       rises = λ cycles before lost is calm long right. rises_now t j run clear cycles before lost is calm long right;
       back = λ cycles before lost is calm long. back_now t j run clear cycles before lost is calm (omega (arith, long));
-      reports = λ cycles before lost is calm four k i x below got long. reports_soon t j run clear cycles before lost is calm works_four
-          always said ends_in late_answers stand hear reaches four k i x below got long;
+      reports = λ cycles before lost is calm four k i x below got long. reports_soon t j run clear cycles before lost is calm reaches four k i x below got long;
     };
   }
     where

@@ -13,10 +13,11 @@ use Rattle.sercos_seat.specs.Agenda.{idn, reads, reads_count, writes}
 use Rattle.sercos_seat.proofs.Agendas.{reads_length}
 use Rattle.sercos_law_channel.specs.Pace.Costs.{cost_in}
 use Rattle.sercos_law_channel.specs.Pace.Jobs.{ReadsCost, WritesCost}
-use Rattle.sercos_law_run.specs.Bounds.Bounds.{section_cycles, write_cycles, AreSections}
+use Rattle.sercos_law_run.specs.Bounds.Bounds.{section_cycles, write_cycles}
 use Rattle.sercos_law_run.specs.Undisturbed.Jobs.{jobs_of, AreAt}
 use Rattle.sercos_law_run.proofs.Undisturbed.JobPlaces.{at_most}
 use Rattle.sercos_law_run.proofs.Undisturbed.JobsCost.{behind, cost_at, last_two, part_cost, reads_fit, rest_falls, whole_cost, writes_fit}
+use Rattle.sercos_law_run.proofs.Bounds.BoundSums.{are_sections}
 
 module _ (cost : Request → ℕ) (s : Known) (k : ℕ) where
   abbrev tail : PlanView → List Request
@@ -56,15 +57,17 @@ module _ (cost : Request → ℕ) (s : Known) (k : ℕ) where
 
 module _ (longest : ℕ → ℕ) (d : DriveView) (rules : blocks_fault [] d.blocks ≡ None) where
   -- So each of the two sections fits.
-  pub reads_within : AreSections → ReadsCost d.busy → (s : Known) (plan : Option PlanView) (k : ℕ) (begun : List Begun) → member s k ≡ member_of d → AreAt (jobs_of s plan k) begun → length begun ≤ reads_count (member s k)
+  pub reads_within : ReadsCost d.busy → (s : Known) (plan : Option PlanView) (k : ℕ) (begun : List Begun) → member s k ≡ member_of d
+      → AreAt (jobs_of s plan k) begun → length begun ≤ reads_count (member s k)
       → cost_in (cost_at longest d rules) begun ≤ section_cycles d
-  reads_within sections costs s plan k begun is at few =
+  reads_within costs s plan k begun is at few =
       let sum = reads_part (cost_at longest d rules) s k plan begun at few in
       let first = reads_fit longest d rules costs (member s k) is in
-      let most = (sections d).0 in omega (arith, sum, first, most)
+      let most = (are_sections d).0 in omega (arith, sum, first, most)
 
-  pub writes_within : AreSections → WritesCost d.busy → (s : Known) (plan : Option PlanView) (k : ℕ) (recent old : List Begun) → member s k ≡ member_of d → AreAt (jobs_of s plan k) (recent ++ old) → length old ≡ reads_count (member s k)
+  pub writes_within : WritesCost d.busy → (s : Known) (plan : Option PlanView) (k : ℕ) (recent old : List Begun) → member s k ≡ member_of d
+      → AreAt (jobs_of s plan k) (recent ++ old) → length old ≡ reads_count (member s k)
       → length (recent ++ old) ≤ reads_count (member s k) + 12 → cost_in (cost_at longest d rules) recent ≤ section_cycles d
-  writes_within sections costs s plan k recent old is at long few =
+  writes_within costs s plan k recent old is at long few =
       let sum = writes_part (cost_at longest d rules) s k plan recent old (write_cycles d) at long few (λ p has. writes_fit longest d rules costs s p k is) in
-      let most = (sections d).1 in omega (arith, sum, most)
+      let most = (are_sections d).1 in omega (arith, sum, most)

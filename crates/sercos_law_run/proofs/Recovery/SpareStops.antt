@@ -7,7 +7,6 @@ use Rattle.std.proofs.lemmas.Bool.Decides.{nat_tests}
 use Rattle.sercos_step.specs.declared.request.Job.{Job}
 use Rattle.sercos_step.specs.declared.request.Request.{Request}
 use Rattle.sercos_block.specs.Views.{RingView}
-use Rattle.sercos_law_run.specs.Bounds.Bounds.{AreSections}
 use Rattle.sercos_service_master.specs.Begun.{Begun, open_in, steps_in}
 use Rattle.sercos_service_master.specs.Calls.{cycles_open}
 use Rattle.sercos_trace.specs.Views.{CycleView}
@@ -19,22 +18,12 @@ use Rattle.sercos_seat.specs.Ring.{Known, known_of}
 use Rattle.sercos_master.specs.Annals.{Past, Turn, fall_at, fall_of, first_place, has_lost_at, has_lost_mst, has_turn, is_at_limit, is_idle, next_task, settled}
 use Rattle.sercos_script.specs.Links.{Carry, Restarts}
 use Rattle.sercos_law_channel.specs.Handshake.Epochs.{begun_in, epoch_begun, unless_restart, with_begun, with_heard}
-use Rattle.sercos_law_channel.specs.Handshake.RunLaws.{ComesUp}
 use Rattle.sercos_law_channel.specs.Handshake.Views.{Heard, View, standing}
-use Rattle.sercos_law_channel.specs.Pace.Ages.{age_by, age_in, AgesWhereDead}
-use Rattle.sercos_law_channel.specs.Pace.ChannelCalls.{AgesBeforeEnd}
-use Rattle.sercos_law_channel.specs.Pace.Costs.{ComesTimed}
-use Rattle.sercos_law_channel.specs.Pace.Jobs.{ReadsCost, WritesCost}
-use Rattle.sercos_law_channel.specs.Pace.Passages.{StaysDead}
-use Rattle.sercos_law_channel.specs.Pace.StartCosts.{RecoversInCost, RecoversSince}
+use Rattle.sercos_law_channel.specs.Pace.Ages.{age_by, age_in}
 use Rattle.sercos_law_run.specs.Journal.Runs.{drive_at, looks_back, master_calls, IsClear, IsRun}
-use Rattle.sercos_law_run.specs.Agenda.Tasks.{BeginsNoneEarly}
-use Rattle.sercos_law_run.specs.Agenda.Turns.{WorkInTurn, WorksInTwo}
 use Rattle.sercos_law_run.specs.Views.RingViews.{behind_ats, behind_mdt, request_of, view_of, views_of}
 use Rattle.sercos_law_run.proofs.Views.Members.{members_count}
 use Rattle.sercos_law_run.specs.Held.Opened.{IsOpened}
-use Rattle.sercos_law_run.proofs.Held.Runs.{Laws}
-use Rattle.sercos_law_run.proofs.Headline.HeadlineRuns.{MoreLaws}
 use Rattle.sercos_law_run.specs.Undisturbed.StopsInTwo.{StopsForTheCycleTime, StopsForThePlan, StopsInTwo}
 use Rattle.sercos_law_run.specs.Undisturbed.StopsLater.{StopsForTheCheck, StopsInThree}
 use Rattle.sercos_law_run.specs.Undisturbed.Undisturbed.{IsUndisturbed}
@@ -117,9 +106,7 @@ no_fall_yet s p before turns are low whole late short =
     limit : first_place s (is_at_limit p) ≡ None
     limit = none_from 0 (length s.drives) (is_at_limit p) (λ k less high. let open_few = few (cycles_open (p.calls k)) (short k (omega (arith, high))) in rw not_one open_few)
 
-module _ (laws : Laws) (more : MoreLaws) (turn : WorkInTurn) (early : BeginsNoneEarly) (works : WorksInTwo) (r : RingView) (jobs : List Job) (carry : Carry) (restarts : Restarts) (opened : IsOpened r jobs)
-    (dead : (busy : ℕ) → StaysDead busy) (ages : (busy : ℕ) → AgesWhereDead busy) (counts : (busy : ℕ) → AgesBeforeEnd busy) (recovers : (busy : ℕ) → RecoversInCost busy) (since : (busy : ℕ) → RecoversSince busy) (timed : ComesTimed)
-    (sections : AreSections) (reads_cost : (busy : ℕ) → ReadsCost busy) (writes_cost : (busy : ℕ) → WritesCost busy) where
+module _ (r : RingView) (jobs : List Job) (carry : Carry) (restarts : Restarts) (opened : IsOpened r jobs) where
   -- with a stop no request begins
   pub begins_none : (t : CycleView) (j : List CycleView) (k : ℕ) → is_some (behind_mdt r jobs carry restarts t.sent j).stop ≡ true
       → (view_of r jobs carry restarts k t j).begins ≡ None
@@ -136,7 +123,7 @@ module _ (laws : Laws) (more : MoreLaws) (turn : WorkInTurn) (early : BeginsNone
     spared_none : (a : ℕ) (first : CycleView) (before : List CycleView) → IsRun r jobs carry restarts (first ∷ before) → IsClear (first ∷ before) → IsStretch r jobs carry restarts [] first before → IsDown r jobs carry restarts d (first ∷ before)
         → IsSpared r a 0
     spared_none a first before run clear stretch down =
-        let is = none_spared laws more turn early works r jobs carry restarts opened dead ages counts recovers since timed sections reads_cost writes_cost d there first before run clear stretch down in
+        let is = none_spared r jobs carry restarts opened d there first before run clear stretch down in
         record { earlier = is.earlier; one = is.one; later = is.later; are = is.are; few = omega arith }
 
     one_spared : (a n : ℕ) → IsSpared r a n → IsSpared r (suc a) (suc n)
@@ -145,9 +132,9 @@ module _ (laws : Laws) (more : MoreLaws) (turn : WorkInTurn) (early : BeginsNone
     no_lower_now : (u : CycleView) (cycles : List CycleView) (first : CycleView) (before : List CycleView) → IsRun r jobs carry restarts (u ∷ (cycles ++ first ∷ before)) → IsClear (u ∷ (cycles ++ first ∷ before))
         → IsStretch r jobs carry restarts (u ∷ cycles) first before → phase_of (cycles ++ first ∷ before) ≤ u.phase
     no_lower_now u [] first before run clear stretch =
-        no_lower laws more turn r jobs carry restarts opened u first before run clear stretch.first_stays ((calm_in r carry restarts u (first ∷ before) stretch.calm.1).stays 0 (omega arith)) d there
+        no_lower r jobs carry restarts opened u first before run clear stretch.first_stays ((calm_in r carry restarts u (first ∷ before) stretch.calm.1).stays 0 (omega arith)) d there
     no_lower_now u (w ∷ cycles) first before run clear stretch =
-        no_lower laws more turn r jobs carry restarts opened u w (cycles ++ first ∷ before) run clear stretch.stays.0.1 ((calm_in r carry restarts u (w ∷ (cycles ++ first ∷ before)) stretch.calm.1).stays 0 (omega arith)) d there
+        no_lower r jobs carry restarts opened u w (cycles ++ first ∷ before) run clear stretch.stays.0.1 ((calm_in r carry restarts u (w ∷ (cycles ++ first ∷ before)) stretch.calm.1).stays 0 (omega arith)) d there
 
     -- THE CYCLES OF PHASE 2, by the age of a step to a drive in phase 0 that is open after them
     spared_by_age : (a : ℕ) (cycles : List CycleView) (first : CycleView) (before : List CycleView) → IsRun r jobs carry restarts (cycles ++ first ∷ before) → IsClear (cycles ++ first ∷ before) → IsStretch r jobs carry restarts cycles first before
@@ -161,10 +148,10 @@ module _ (laws : Laws) (more : MoreLaws) (turn : WorkInTurn) (early : BeginsNone
         (λ was_open few. spared_by_age a cycles first before run.0 clear.0 earlier late (let least = no_lower_now u cycles first before run clear stretch in omega (arith, least, low)) down k below was_down was_open few))
       where
         earlier : IsStretch r jobs carry restarts cycles first before
-        earlier = shorter laws more turn r jobs carry restarts opened u cycles first before stretch
+        earlier = shorter r jobs carry restarts opened u cycles first before stretch
 
         late_u : 2 ≤ u.phase
-        late_u = late_now laws more turn early works r jobs carry restarts opened dead ages counts recovers since timed sections reads_cost writes_cost u cycles first before run clear stretch late d there
+        late_u = late_now r jobs carry restarts opened u cycles first before run clear stretch late d there
 
         quiet : restarts (length (cycles ++ first ∷ before)) 0 ≡ false
         quiet = (calm_in r carry restarts u (cycles ++ first ∷ before) stretch.calm.1).stays 0 (omega arith)
@@ -173,40 +160,40 @@ module _ (laws : Laws) (more : MoreLaws) (turn : WorkInTurn) (early : BeginsNone
         was_down = elim (cases_eq (standing (views_of r jobs carry restarts k (cycles ++ first ∷ before))).ended 0) [
           | inl is ↦ is
           | inr up ↦
-              let stands = (next_up laws more turn r jobs carry restarts opened u cycles first before run clear stretch.calm.1 earlier k below (newest_up laws more turn r jobs carry restarts opened cycles first before run.0 clear.0 earlier k below up)).1 in
+              let stands = (next_up r jobs carry restarts opened u cycles first before run clear stretch.calm.1 earlier k below (newest_up r jobs carry restarts opened cycles first before run.0 clear.0 earlier k below up)).1 in
               let ended : u.phase ≡ 0 = sym stands ∙ is_down in absurd (let least = late_u in omega (arith, ended, least))
         ]
 
         same_end : (i : ℕ) → is_some (open_in (epoch_begun (views_of r jobs carry restarts i (u ∷ (cycles ++ first ∷ before)))))
             ≡ is_some (open_in (begun_in (view_of r jobs carry restarts i u (cycles ++ first ∷ before)) (views_of r jobs carry restarts i (cycles ++ first ∷ before))))
-        same_end i = ap (λ (l : List Begun). is_some (open_in l)) (begun_end laws more r jobs carry restarts opened u (cycles ++ first ∷ before) run clear stretch.stays.1 i)
+        same_end i = ap (λ (l : List Begun). is_some (open_in l)) (begun_end r jobs carry restarts opened u (cycles ++ first ∷ before) run clear stretch.stays.1 i)
 
         older : (i : ℕ) → i < length r.drives → IsDown r jobs carry restarts i (cycles ++ first ∷ before) → is_some (open_in (epoch_begun (views_of r jobs carry restarts i (cycles ++ first ∷ before)))) ≡ true
             → (age_in (views_of r jobs carry restarts i (u ∷ (cycles ++ first ∷ before))) ≡ age_in (views_of r jobs carry restarts i (cycles ++ first ∷ before)) + 1)
             × (is_some (open_in (epoch_begun (views_of r jobs carry restarts i (u ∷ (cycles ++ first ∷ before))))) ≡ true)
-        older i inside its_down its_open = ages_down_in laws more turn r jobs carry restarts opened ages u (cycles ++ first ∷ before) run clear i inside its_down late_u stretch.stays.1 quiet its_open
+        older i inside its_down its_open = ages_down_in r jobs carry restarts opened u (cycles ++ first ∷ before) run clear i inside its_down late_u stretch.stays.1 quiet its_open
 
         by : (o : Option Stop) → (behind_mdt r jobs carry restarts u.sent (cycles ++ first ∷ before)).stop ≡ o
             → (is_some (open_in (epoch_begun (views_of r jobs carry restarts k (cycles ++ first ∷ before)))) ≡ true → age_in (views_of r jobs carry restarts k (cycles ++ first ∷ before)) ≤ a → IsSpared r a (length cycles)) → IsSpared r a (length cycles)
         by (Some x) is next =
             let same = nothing_new (view_of r jobs carry restarts k u (cycles ++ first ∷ before)).heard (view_of r jobs carry restarts k u (cycles ++ first ∷ before)).begins (restarts (length (cycles ++ first ∷ before)) 0)
             (epoch_begun (views_of r jobs carry restarts k (cycles ++ first ∷ before)))
-            (stays_down_in laws more turn r jobs carry restarts opened dead u (cycles ++ first ∷ before) run clear k below was_down late_u).heard
+            (stays_down_in r jobs carry restarts opened u (cycles ++ first ∷ before) run clear k below was_down late_u).heard
             (begins_none u (cycles ++ first ∷ before) k (ap (λ (o : Option Stop). is_some o) is)) quiet in
             let was_open : is_some (open_in (epoch_begun (views_of r jobs carry restarts k (cycles ++ first ∷ before)))) ≡ true = sym (same_end k ∙ ap (λ (l : List Begun). is_some (open_in l)) same) ∙ opens in
             next was_open (let grows = (older k below was_down was_open).0 in omega (arith, grows, old))
         by None none next =
             let two : u.phase ≡ 2 = let least = late_u in omega (arith, low, least) in
-            few_within laws more turn early works r jobs carry restarts opened dead ages counts recovers since timed sections reads_cost writes_cost a cycles first before run.0 clear.0 earlier
-            (are_in_two laws more turn early works r jobs carry restarts opened dead ages counts recovers since timed sections reads_cost writes_cost u cycles first before run clear stretch late two none d there) d there down
+            few_within r jobs carry restarts opened a cycles first before run.0 clear.0 earlier
+            (are_in_two r jobs carry restarts opened u cycles first before run clear stretch late two none d there) d there down
             (λ i inside its_down its_open.
             let grows = older i inside its_down its_open in
-            let same : i ≡ k = some_is i k (sym (opens_in_turn laws more turn r jobs carry restarts opened u (cycles ++ first ∷ before) run clear two i inside (sym (same_end i) ∙ grows.1))
-            ∙ opens_in_turn laws more turn r jobs carry restarts opened u (cycles ++ first ∷ before) run clear two k below (sym (same_end k) ∙ opens)) in
+            let same : i ≡ k = some_is i k (sym (opens_in_turn r jobs carry restarts opened u (cycles ++ first ∷ before) run clear two i inside (sym (same_end i) ∙ grows.1))
+            ∙ opens_in_turn r jobs carry restarts opened u (cycles ++ first ∷ before) run clear two k below (sym (same_end k) ∙ opens)) in
             let age = ap (λ (n : ℕ). age_in (views_of r jobs carry restarts n (u ∷ (cycles ++ first ∷ before)))) same in
             let one = grows.0 in omega (arith, age, one, old))
 
-    module _ (comes_up : (busy : ℕ) → ComesUp busy) (stops_two : StopsInTwo) (stops_three : StopsInThree) (f : CycleView) where
+    module _ (stops_two : StopsInTwo) (stops_three : StopsInThree) (f : CycleView) where
       -- a fall in the second cycle of phase 3 at the latest: some step is at its limit
       at_limit : (u : CycleView) (cycles : List CycleView) (first : CycleView) (before : List CycleView) → IsRun r jobs carry restarts (f ∷ u ∷ (cycles ++ first ∷ before)) → IsClear (f ∷ u ∷ (cycles ++ first ∷ before))
           → IsStretch r jobs carry restarts (u ∷ cycles) first before → IsUndisturbed r carry restarts f (u ∷ (cycles ++ first ∷ before)) → 2 ≤ first.phase → u.phase ≤ 2
@@ -216,13 +203,13 @@ module _ (laws : Laws) (more : MoreLaws) (turn : WorkInTurn) (early : BeginsNone
         | inl found ↦ elim (cases_eq (standing (views_of r jobs carry restarts found.0 (u ∷ (cycles ++ first ∷ before)))).ended 0) [
           | inl is_down ↦ spared_by_age 64 (u ∷ cycles) first before run.0 clear.0 stretch late low down found.0 found.1 is_down
               (open_of_age (views_of r jobs carry restarts found.0 (u ∷ (cycles ++ first ∷ before))) (let old = age_of_found found.0 found.1 found.2 in omega (arith, old)))
-              (ages_to_limit laws more turn r jobs carry restarts opened counts (u ∷ (cycles ++ first ∷ before)) run.0 clear.0 found.0 found.1)
+              (ages_to_limit r jobs carry restarts opened (u ∷ (cycles ++ first ∷ before)) run.0 clear.0 found.0 found.1)
           | inr is_up ↦ elim (cases_lt ((drive_at r found.0).busy + 1) (suc (length cycles))) [
             | inr short ↦
                 let is = spared_none 64 first before (rest_runs r jobs carry restarts (u ∷ cycles) (first ∷ before) run.0) (rest_clear (u ∷ cycles) (first ∷ before) clear.0) (record { calm = tt; stays = tt; first_calm = stretch.first_calm; first_stays = stretch.first_stays }) down in
                 let busy = busy_low r found.0 opened.valid found.1 in
                 record { earlier = is.earlier; one = is.one; later = is.later; are = is.are; few = omega (arith, short, busy) }
-            | inl long ↦ elim (ages_later laws more turn r jobs carry restarts opened found.0 found.1 recovers timed (u ∷ cycles) first before run.0 clear.0 stretch (omega (arith, long))) [
+            | inl long ↦ elim (ages_later r jobs carry restarts opened found.0 found.1 (u ∷ cycles) first before run.0 clear.0 stretch (omega (arith, long))) [
               | inl is_down ↦ absurd (is_up is_down)
               | inr young ↦ absurd (let busy = busy_low r found.0 opened.valid found.1 in let old = age_of_found found.0 found.1 found.2 in omega (arith, young, busy, old))
             ]
@@ -235,20 +222,20 @@ module _ (laws : Laws) (more : MoreLaws) (turn : WorkInTurn) (early : BeginsNone
 
           late_f : 2 ≤ f.phase
           late_f =
-              let least = late_now laws more turn early works r jobs carry restarts opened dead ages counts recovers since timed sections reads_cost writes_cost u cycles first before run.0 clear.0 stretch late d there in
-              let next = no_lower laws more turn r jobs carry restarts opened f u (cycles ++ first ∷ before) run clear stretch.stays.1 quiet d there in omega (arith, least, next)
+              let least = late_now r jobs carry restarts opened u cycles first before run.0 clear.0 stretch late d there in
+              let next = no_lower r jobs carry restarts opened f u (cycles ++ first ∷ before) run clear stretch.stays.1 quiet d there in omega (arith, least, next)
 
           none : ((k : ℕ) → k < length r.drives → cycles_open ((behind_mdt r jobs carry restarts f.sent (u ∷ (cycles ++ first ∷ before))).calls k) ≤ 63)
               → fall_of (known_of r) (behind_mdt r jobs carry restarts f.sent (u ∷ (cycles ++ first ∷ before))) ≡ None
           none each = no_fall_yet (known_of r) (behind_mdt r jobs carry restarts f.sent (u ∷ (cycles ++ first ∷ before))) (behind_mdt r jobs carry restarts u.sent (cycles ++ first ∷ before)).now
               (behind_mdt r jobs carry restarts u.sent (cycles ++ first ∷ before)).turns (turns_now r jobs carry restarts f u (cycles ++ first ∷ before) stretch.stays.1 quiet)
-              (let is = phase_now r jobs carry restarts u (cycles ++ first ∷ before) run.0.1 in omega (arith, is, low)) (whole_now laws more comes_up r jobs carry restarts opened f (u ∷ (cycles ++ first ∷ before)) run.1 calm)
+              (let is = phase_now r jobs carry restarts u (cycles ++ first ∷ before) run.0.1 in omega (arith, is, low)) (whole_now r jobs carry restarts opened f (u ∷ (cycles ++ first ∷ before)) run.1 calm)
               (let is = phase_now r jobs carry restarts f (u ∷ (cycles ++ first ∷ before)) run.1 in let least = late_f in omega (arith, is, least)) (λ k below. each k (let count = members_count r in omega (arith, below, count)))
 
           age_of_found : (k : ℕ) → k < length r.drives → 63 < cycles_open ((behind_mdt r jobs carry restarts f.sent (u ∷ (cycles ++ first ∷ before))).calls k) → 63 ≤ age_in (views_of r jobs carry restarts k (u ∷ (cycles ++ first ∷ before)))
           age_of_found k below above = elim (cases_lt 62 (age_in (views_of r jobs carry restarts k (u ∷ (cycles ++ first ∷ before))))) [
             | inl old ↦ omega (arith, old)
-            | inr young ↦ absurd (let few = few_open laws more turn comes_up r jobs carry restarts opened recovers timed counts f (u ∷ (cycles ++ first ∷ before)) run clear k below (omega (arith, young)) in omega (arith, few, above))
+            | inr young ↦ absurd (let few = few_open r jobs carry restarts opened f (u ∷ (cycles ++ first ∷ before)) run clear k below (omega (arith, young)) in omega (arith, few, above))
           ]
 
       -- no stop goes with the rise to phase 3
@@ -259,29 +246,29 @@ module _ (laws : Laws) (more : MoreLaws) (turn : WorkInTurn) (early : BeginsNone
       late_stop : (u : CycleView) (cycles : List CycleView) (first : CycleView) (before : List CycleView) → IsRun r jobs carry restarts (u ∷ (cycles ++ first ∷ before)) → IsClear (u ∷ (cycles ++ first ∷ before))
           → IsStretch r jobs carry restarts (u ∷ cycles) first before → 2 ≤ first.phase → 2 < u.phase → IsDown r jobs carry restarts d (first ∷ before) → IsSpared r 65 (suc (length cycles))
       late_stop u [] first before run clear stretch late high down =
-          one_spared 64 0 (spared_none 64 first before run.0 clear.0 (shorter laws more turn r jobs carry restarts opened u [] first before stretch) down)
+          one_spared 64 0 (spared_none 64 first before run.0 clear.0 (shorter r jobs carry restarts opened u [] first before stretch) down)
       late_stop u (t ∷ cycles) first before run clear stretch late high down = elim (cases_lt 2 t.phase) [
         | inl late_too ↦ absurd (false≢true (sym (ap (λ (o : Option Fall). is_some o) stretch.stays.1)
-            ∙ falls_if_down laws more turn r jobs carry restarts opened dead u t (cycles ++ first ∷ before) run clear stretch.stays.0.1 quiet (omega (arith, late_too)) d there
-            (down_late laws more turn early works r jobs carry restarts opened dead ages counts recovers since timed sections reads_cost writes_cost cycles first before run.0.0 clear.0.0
-            (shorter laws more turn r jobs carry restarts opened t cycles first before earlier) late d there down)))
+            ∙ falls_if_down r jobs carry restarts opened u t (cycles ++ first ∷ before) run clear stretch.stays.0.1 quiet (omega (arith, late_too)) d there
+            (down_late r jobs carry restarts opened cycles first before run.0.0 clear.0.0
+            (shorter r jobs carry restarts opened t cycles first before earlier) late d there down)))
         | inr low ↦ one_spared 64 (suc (length cycles)) (one_spared 63 (length cycles) (by low (behind_mdt r jobs carry restarts t.sent (cycles ++ first ∷ before)).stop refl))
       ]
         where
           earlier : IsStretch r jobs carry restarts (t ∷ cycles) first before
-          earlier = shorter laws more turn r jobs carry restarts opened u (t ∷ cycles) first before stretch
+          earlier = shorter r jobs carry restarts opened u (t ∷ cycles) first before stretch
 
           quiet : restarts (length (t ∷ (cycles ++ first ∷ before))) 0 ≡ false
           quiet = (calm_in r carry restarts u (t ∷ (cycles ++ first ∷ before)) stretch.calm.1).stays 0 (omega arith)
 
           by : t.phase ≤ 2 → (o : Option Stop) → (behind_mdt r jobs carry restarts t.sent (cycles ++ first ∷ before)).stop ≡ o → IsSpared r 63 (length cycles)
-          by low None none = few_in_two laws more turn early works r jobs carry restarts opened dead ages counts recovers since timed sections reads_cost writes_cost d there t cycles first before run.0 clear.0 earlier late low none down
+          by low None none = few_in_two r jobs carry restarts opened d there t cycles first before run.0 clear.0 earlier late low none down
           by low (Some y) is = absurd (no_rise_with y
               (stops_two r jobs carry restarts t (cycles ++ first ∷ before) y opened run.0 clear.0 phases.0 is) (behind_mdt r jobs carry restarts u.sent (t ∷ (cycles ++ first ∷ before)))
               (stops_three r jobs carry restarts u (t ∷ (cycles ++ first ∷ before)) y opened run clear phases.1 kept))
             where
               phases : (t.phase ≡ 2) × (u.phase ≡ 3)
-              phases = elim (phase_after laws more turn r jobs carry restarts opened u t (cycles ++ first ∷ before) run clear stretch.stays.0.1 quiet d there) [
+              phases = elim (phase_after r jobs carry restarts opened u t (cycles ++ first ∷ before) run clear stretch.stays.0.1 quiet d there) [
                 | inl same ↦ absurd (omega (arith, same, low, high))
                 | inr up ↦ (omega (arith, up, low, high), omega (arith, up, low, high))
               ]
@@ -303,7 +290,7 @@ module _ (laws : Laws) (more : MoreLaws) (turn : WorkInTurn) (early : BeginsNone
           wider n is = let few = is.few in record { earlier = is.earlier; one = is.one; later = is.later; are = is.are; few = omega (arith, few) }
 
           by : (o : Option Stop) → (looks_back r jobs (master_calls r carry restarts (u ∷ (cycles ++ first ∷ before)))).stop ≡ o → IsSpared r 65 (suc (length cycles))
-          by None none = falls_in_time laws more turn early works r jobs carry restarts opened dead ages counts recovers since timed sections reads_cost writes_cost d there (u ∷ cycles) first before run.0 clear.0 stretch late none down
+          by None none = falls_in_time r jobs carry restarts opened d there (u ∷ cycles) first before run.0 clear.0 stretch late none down
           by (Some x) is = elim (cases_lt 2 u.phase) [
             | inr low ↦ wider (suc (length cycles)) (at_limit u cycles first before run clear stretch calm late low falls down)
             | inl high ↦ late_stop u cycles first before run.0 clear.0 stretch late high down

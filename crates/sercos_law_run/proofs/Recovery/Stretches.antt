@@ -16,17 +16,15 @@ use Rattle.sercos_law_channel.specs.Handshake.Runs.{IsRun as IsViewRun}
 use Rattle.sercos_law_channel.specs.Handshake.Views.{View, standing}
 use Rattle.sercos_law_channel.specs.Handshake.WholeRun.{AreSound}
 use Rattle.sercos_law_channel.proofs.Theorems.{ends, stands_as_commanded}
-use Rattle.sercos_law_channel.specs.Pace.Ages.{age_in, AgesWhereDead}
-use Rattle.sercos_law_channel.specs.Pace.Costs.{AreListed, AreTimed, ComesTimed, cost_in, cost_of}
-use Rattle.sercos_law_channel.specs.Pace.Passages.{AreWhole, IsCleanOrDown, IsDead, IsUp, IsWhole, StaysDead}
-use Rattle.sercos_law_channel.specs.Pace.StartCosts.{RecoversInCost, RecoversSince}
+use Rattle.sercos_law_channel.specs.Pace.Ages.{age_in}
+use Rattle.sercos_law_channel.specs.Pace.Costs.{AreListed, AreTimed, cost_in, cost_of}
+use Rattle.sercos_law_channel.specs.Pace.Passages.{AreWhole, IsDead, IsUp, IsWhole}
 use Rattle.sercos_law_channel.specs.Pace.Stretches.{AreClean, open_since}
 use Rattle.sercos_law_run.specs.Journal.Runs.{drive_at, IsClear, IsRun}
-use Rattle.sercos_law_run.specs.Agenda.Turns.{WorkInTurn}
 use Rattle.sercos_law_run.specs.Views.RingViews.{behind_mdt, view_of, views_of}
 use Rattle.sercos_law_run.specs.Held.Opened.{IsOpened}
-use Rattle.sercos_law_run.proofs.Held.Runs.{Laws, small}
-use Rattle.sercos_law_run.proofs.Headline.HeadlineRuns.{MoreLaws, all_stand, first_store}
+use Rattle.sercos_law_run.proofs.Held.Runs.{small}
+use Rattle.sercos_law_run.proofs.Headline.HeadlineRuns.{all_stand, first_store}
 use Rattle.sercos_law_run.specs.Undisturbed.StartUps.{NoneFalls}
 use Rattle.sercos_law_run.specs.Undisturbed.Undisturbed.{AreUndisturbed, IsUndisturbed}
 use Rattle.sercos_law_run.specs.Undisturbed.ViewsSince.{views_since}
@@ -38,6 +36,10 @@ use Rattle.sercos_law_run.proofs.Undisturbed.PassedRuns.{commands_so}
 use Rattle.sercos_law_run.proofs.Undisturbed.WholeIn.{whole_in}
 use Rattle.sercos_law_run.specs.Recovery.Stretches.{IsDown, IsStretch, IsUpNow}
 use Rattle.sercos_law_run.specs.Recovery.UpOrDown.{KeepsUp}
+use Rattle.sercos_law_channel.proofs.Cited.{rest_in_cost, rest_since}
+use Rattle.sercos_law_channel.proofs.Pace.AgeRuns.{ages_where_dead}
+use Rattle.sercos_law_channel.proofs.Pace.TimedCommands.{comes_timed}
+use Rattle.sercos_law_channel.proofs.Pace.WholeCycles.{is_clean_or_down, stays_dead}
 
 -- a drive that isn't in phase 0 at the end of a whole cycle is in the commanded phase
 pub up_in : (v : View) (past : List View) → IsWhole v past → ((standing (v ∷ past)).ended ≡ 0 → ⊥) → IsUp v past
@@ -55,11 +57,11 @@ pub rest_clear : (cycles before : List CycleView) → IsClear (cycles ++ before)
 rest_clear [] before clear = clear
 rest_clear (t ∷ cycles) before clear = rest_clear cycles before clear.0
 
-module _ (laws : Laws) (more : MoreLaws) (turn : WorkInTurn) (r : RingView) (jobs : List Job) (carry : Carry) (restarts : Restarts) (opened : IsOpened r jobs) where
+module _ (r : RingView) (jobs : List Job) (carry : Carry) (restarts : Restarts) (opened : IsOpened r jobs) where
   pub whole_at : (t : CycleView) (j : List CycleView) → IsRun r jobs carry restarts (t ∷ j) → IsClear (t ∷ j) → IsUndisturbed r carry restarts t j → fall_of (known_of r) (behind_mdt r jobs carry restarts t.sent j) ≡ None
       → (k : ℕ) → k < length r.drives → IsWhole (view_of r jobs carry restarts k t j) (views_of r jobs carry restarts k j)
   whole_at t j run clear calm none k below =
-      whole_then (view_of r jobs carry restarts k t j) (views_of r jobs carry restarts k j) (whole_in laws more turn r jobs carry restarts opened t j run clear calm k below) (ap (λ (o : Option Fall). is_some o) none)
+      whole_then (view_of r jobs carry restarts k t j) (views_of r jobs carry restarts k j) (whole_in r jobs carry restarts opened t j run clear calm k below) (ap (λ (o : Option Fall). is_some o) none)
 
   pub whole_all : (cycles before : List CycleView) → IsRun r jobs carry restarts (cycles ++ before) → IsClear (cycles ++ before) → AreUndisturbed r carry restarts cycles before → NoneFalls r jobs carry restarts cycles before
       → (k : ℕ) → k < length r.drives → AreWhole (views_since r jobs carry restarts k cycles before) (views_of r jobs carry restarts k before)
@@ -69,13 +71,14 @@ module _ (laws : Laws) (more : MoreLaws) (turn : WorkInTurn) (r : RingView) (job
     subst (λ (l : List View). IsWhole (view_of r jobs carry restarts k t (cycles ++ before)) l) (views_split r jobs carry restarts k cycles before) (whole_at t (cycles ++ before) run clear calm.1 stays.1 k below),
   )
 
-  module _ (cycles : List CycleView) (first : CycleView) (before : List CycleView) (run : IsRun r jobs carry restarts (cycles ++ first ∷ before)) (clear : IsClear (cycles ++ first ∷ before)) (stretch : IsStretch r jobs carry restarts cycles first before)
-      (k : ℕ) (below : k < length r.drives) where
+  module _ (cycles : List CycleView) (first : CycleView) (before : List CycleView)
+      (run : IsRun r jobs carry restarts (cycles ++ first ∷ before)) (clear : IsClear (cycles ++ first ∷ before))
+      (stretch : IsStretch r jobs carry restarts cycles first before) (k : ℕ) (below : k < length r.drives) where
     split : views_of r jobs carry restarts k (cycles ++ first ∷ before) ≡ views_since r jobs carry restarts k cycles (first ∷ before) ++ views_of r jobs carry restarts k (first ∷ before)
     split = views_split r jobs carry restarts k cycles (first ∷ before)
 
     is_run : IsViewRun (drive_at r k).busy (views_since r jobs carry restarts k cycles (first ∷ before) ++ views_of r jobs carry restarts k (first ∷ before))
-    is_run = runs_split laws more r jobs carry restarts opened cycles (first ∷ before) run clear k below
+    is_run = runs_split r jobs carry restarts opened cycles (first ∷ before) run clear k below
 
     one : IsWhole (view_of r jobs carry restarts k first before) (views_of r jobs carry restarts k before)
     one = whole_at first before (rest_runs r jobs carry restarts cycles (first ∷ before) run) (rest_clear cycles (first ∷ before) clear) stretch.first_calm stretch.first_stays k below
@@ -86,45 +89,45 @@ module _ (laws : Laws) (more : MoreLaws) (turn : WorkInTurn) (r : RingView) (job
     down_so : (standing (views_since r jobs carry restarts k cycles (first ∷ before) ++ views_of r jobs carry restarts k (first ∷ before))).ended ≡ 0 → IsDown r jobs carry restarts k (cycles ++ first ∷ before)
     down_so zero = ap (λ (l : List View). (standing l).ended) split ∙ zero
 
-    pub clean_or_down : ((busy : ℕ) → IsCleanOrDown busy) → IsDown r jobs carry restarts k (cycles ++ first ∷ before) ⊎ AreClean (views_since r jobs carry restarts k cycles (first ∷ before)) (views_of r jobs carry restarts k (first ∷ before))
-    clean_or_down clean = elim (clean (drive_at r k).busy (views_since r jobs carry restarts k cycles (first ∷ before)) (view_of r jobs carry restarts k first before) (views_of r jobs carry restarts k before) is_run one all) [
+    pub clean_or_down : IsDown r jobs carry restarts k (cycles ++ first ∷ before) ⊎ AreClean (views_since r jobs carry restarts k cycles (first ∷ before)) (views_of r jobs carry restarts k (first ∷ before))
+    clean_or_down = elim (is_clean_or_down (drive_at r k).busy (views_since r jobs carry restarts k cycles (first ∷ before)) (view_of r jobs carry restarts k first before) (views_of r jobs carry restarts k before) is_run one all) [
       | inl zero ↦ inl (down_so zero)
       | inr so ↦ inr so
     ]
 
     sound : AreSound (store_of (drive_at r k)) (views_since r jobs carry restarts k cycles (first ∷ before) ++ views_of r jobs carry restarts k (first ∷ before))
-    sound = subst (λ (l : List View). AreSound (store_of (drive_at r k)) l) split (all_stand laws more r jobs carry restarts opened (cycles ++ first ∷ before) run clear k below).sound
+    sound = subst (λ (l : List View). AreSound (store_of (drive_at r k)) l) split (all_stand r jobs carry restarts opened (cycles ++ first ∷ before) run clear k below).sound
 
-    in_time : ComesTimed → AreTimed (drive_at r k).command (views_since r jobs carry restarts k cycles (first ∷ before) ++ views_of r jobs carry restarts k (first ∷ before))
-    in_time timed = subst (λ (l : List View). AreTimed (drive_at r k).command l) split (timed (drive_at r k).command (views_of r jobs carry restarts k (cycles ++ first ∷ before))
-        (are_carried (drive_at r k).command (first_commands r k) refl refl (views_of r jobs carry restarts k (cycles ++ first ∷ before)) (commands_so laws more r jobs carry restarts opened (cycles ++ first ∷ before) run clear k below).follow))
+    in_time : AreTimed (drive_at r k).command (views_since r jobs carry restarts k cycles (first ∷ before) ++ views_of r jobs carry restarts k (first ∷ before))
+    in_time = subst (λ (l : List View). AreTimed (drive_at r k).command l) split (comes_timed (drive_at r k).command (views_of r jobs carry restarts k (cycles ++ first ∷ before))
+        (are_carried (drive_at r k).command (first_commands r k) refl refl (views_of r jobs carry restarts k (cycles ++ first ∷ before)) (commands_so r jobs carry restarts opened (cycles ++ first ∷ before) run clear k below).follow))
 
     -- WHAT ITS REQUESTS COST, and how old a step gets ..
-    pub costs_again : ((busy : ℕ) → RecoversInCost busy) → ComesTimed → (longest : ℕ → ℕ) → AreListed longest (views_of r jobs carry restarts k (cycles ++ first ∷ before))
+    pub costs_again : (longest : ℕ → ℕ) → AreListed longest (views_of r jobs carry restarts k (cycles ++ first ∷ before))
         → IsDown r jobs carry restarts k (cycles ++ first ∷ before)
         ⊎ ((open_since (views_since r jobs carry restarts k cycles (first ∷ before)) (views_of r jobs carry restarts k (first ∷ before))
         ≤ cost_in (cost_of (drive_at r k).busy (drive_at r k).command longest (store_of (drive_at r k))) (epoch_begun (views_of r jobs carry restarts k (cycles ++ first ∷ before))))
         × (age_in (views_of r jobs carry restarts k (cycles ++ first ∷ before)) ≤ age_in (views_of r jobs carry restarts k (first ∷ before)) + ((drive_at r k).busy + 1)))
-    costs_again recovers timed longest listed =
+    costs_again longest listed =
         subst (λ (l : List View). ((standing l).ended ≡ 0)
         ⊎ ((open_since (views_since r jobs carry restarts k cycles (first ∷ before)) (views_of r jobs carry restarts k (first ∷ before))
         ≤ cost_in (cost_of (drive_at r k).busy (drive_at r k).command longest (store_of (drive_at r k))) (epoch_begun l))
         × (age_in l ≤ age_in (views_of r jobs carry restarts k (first ∷ before)) + ((drive_at r k).busy + 1)))) (sym split)
-        (recovers (drive_at r k).busy (drive_at r k).command longest (store_of (drive_at r k)) (views_since r jobs carry restarts k cycles (first ∷ before)) (view_of r jobs carry restarts k first before) (views_of r jobs carry restarts k before)
-        (small laws r jobs carry restarts opened (first_store laws more r jobs carry restarts opened) k below) is_run sound (in_time timed) (subst (λ (l : List View). AreListed longest l) split listed) one all)
+        (rest_in_cost (drive_at r k).busy (drive_at r k).command longest (store_of (drive_at r k)) (views_since r jobs carry restarts k cycles (first ∷ before)) (view_of r jobs carry restarts k first before) (views_of r jobs carry restarts k before)
+        (small r jobs carry restarts opened (first_store r jobs carry restarts opened) k below) is_run sound (in_time) (subst (λ (l : List View). AreListed longest l) split listed) one all)
 
     -- .. and what the recent ones cost.
-    pub costs_since : ((busy : ℕ) → RecoversSince busy) → ComesTimed → (longest : ℕ → ℕ) (recent old : List Begun) → AreListed longest (views_of r jobs carry restarts k (cycles ++ first ∷ before))
+    pub costs_since : (longest : ℕ → ℕ) (recent old : List Begun) → AreListed longest (views_of r jobs carry restarts k (cycles ++ first ∷ before))
         → epoch_begun (views_of r jobs carry restarts k (cycles ++ first ∷ before)) ≡ recent ++ old → open_in old ≡ None → length (answers_in old) ≤ length (answers_in (epoch_begun (views_of r jobs carry restarts k (first ∷ before))))
         → IsDown r jobs carry restarts k (cycles ++ first ∷ before)
         ⊎ (open_since (views_since r jobs carry restarts k cycles (first ∷ before)) (views_of r jobs carry restarts k (first ∷ before))
         ≤ cost_in (cost_of (drive_at r k).busy (drive_at r k).command longest (store_of (drive_at r k))) recent)
-    costs_since recovers timed longest recent old listed are none answered =
+    costs_since longest recent old listed are none answered =
         subst (λ (l : List View). ((standing l).ended ≡ 0)
         ⊎ (open_since (views_since r jobs carry restarts k cycles (first ∷ before)) (views_of r jobs carry restarts k (first ∷ before))
         ≤ cost_in (cost_of (drive_at r k).busy (drive_at r k).command longest (store_of (drive_at r k))) recent)) (sym split)
-        (recovers (drive_at r k).busy (drive_at r k).command longest (store_of (drive_at r k)) (views_since r jobs carry restarts k cycles (first ∷ before)) (view_of r jobs carry restarts k first before) (views_of r jobs carry restarts k before) recent old
-        (small laws r jobs carry restarts opened (first_store laws more r jobs carry restarts opened) k below) is_run sound (in_time timed) (subst (λ (l : List View). AreListed longest l) split listed) one all
+        (rest_since (drive_at r k).busy (drive_at r k).command longest (store_of (drive_at r k)) (views_since r jobs carry restarts k cycles (first ∷ before)) (view_of r jobs carry restarts k first before) (views_of r jobs carry restarts k before) recent old
+        (small r jobs carry restarts opened (first_store r jobs carry restarts opened) k below) is_run sound (in_time) (subst (λ (l : List View). AreListed longest l) split listed) one all
         (subst (λ (l : List View). epoch_begun l ≡ recent ++ old) split are) none answered)
 
   -- in the newest cycle a drive that isn't in phase 0 at the end is in the commanded phase
@@ -136,23 +139,26 @@ module _ (laws : Laws) (more : MoreLaws) (turn : WorkInTurn) (r : RingView) (job
       up_in (view_of r jobs carry restarts k t (cycles ++ first ∷ before)) (views_of r jobs carry restarts k (cycles ++ first ∷ before)) (whole_at t (cycles ++ first ∷ before) run clear stretch.calm.1 stretch.stays.1 k below) up
 
   -- THE DRIVE IS UP OR DOWN.
-  pub keeps_up : ((busy : ℕ) → IsCleanOrDown busy) → (cycles : List CycleView) (first : CycleView) (before : List CycleView) → IsRun r jobs carry restarts (cycles ++ first ∷ before) → IsClear (cycles ++ first ∷ before)
-      → IsStretch r jobs carry restarts cycles first before → (k : ℕ) → k < length r.drives → IsDown r jobs carry restarts k (cycles ++ first ∷ before) ⊎ KeepsUp r jobs carry restarts k cycles first before
-  keeps_up clean cycles first before run clear stretch k below = elim (cases_eq (standing (views_of r jobs carry restarts k (cycles ++ first ∷ before))).ended 0) [
+  pub keeps_up : (cycles : List CycleView) (first : CycleView) (before : List CycleView)
+      → IsRun r jobs carry restarts (cycles ++ first ∷ before) → IsClear (cycles ++ first ∷ before)
+      → IsStretch r jobs carry restarts cycles first before → (k : ℕ) → k < length r.drives
+      → IsDown r jobs carry restarts k (cycles ++ first ∷ before) ⊎ KeepsUp r jobs carry restarts k cycles first before
+  keeps_up cycles first before run clear stretch k below = elim (cases_eq (standing (views_of r jobs carry restarts k (cycles ++ first ∷ before))).ended 0) [
     | inl zero ↦ inl zero
-    | inr not_zero ↦ elim (clean_or_down cycles first before run clear stretch k below clean) [
+    | inr not_zero ↦ elim (clean_or_down cycles first before run clear stretch k below) [
       | inl down ↦ inl down
       | inr so ↦ inr (record { up = newest_up cycles first before run clear stretch k below not_zero; clean = so })
     ]
   ]
 
   -- A DRIVE IN PHASE 0
-  pub stays_down_in : ((busy : ℕ) → StaysDead busy) → (t : CycleView) (j : List CycleView) → IsRun r jobs carry restarts (t ∷ j) → IsClear (t ∷ j) → (k : ℕ) → k < length r.drives → IsDown r jobs carry restarts k j → 2 ≤ t.phase
+  pub stays_down_in : (t : CycleView) (j : List CycleView) → IsRun r jobs carry restarts (t ∷ j) → IsClear (t ∷ j) → (k : ℕ)
+      → k < length r.drives → IsDown r jobs carry restarts k j → 2 ≤ t.phase
       → IsDead (view_of r jobs carry restarts k t j) (views_of r jobs carry restarts k j)
-  stays_down_in dead t j run clear k below down two = dead (drive_at r k).busy (view_of r jobs carry restarts k t j) (views_of r jobs carry restarts k j) (all_stand laws more r jobs carry restarts opened (t ∷ j) run clear k below).sees.run down two
+  stays_down_in t j run clear k below down two = stays_dead (drive_at r k).busy (view_of r jobs carry restarts k t j) (views_of r jobs carry restarts k j) (all_stand r jobs carry restarts opened (t ∷ j) run clear k below).sees.run down two
 
-  pub ages_down_in : ((busy : ℕ) → AgesWhereDead busy) → (t : CycleView) (j : List CycleView) → IsRun r jobs carry restarts (t ∷ j) → IsClear (t ∷ j) → (k : ℕ) → k < length r.drives → IsDown r jobs carry restarts k j → 2 ≤ t.phase
+  pub ages_down_in : (t : CycleView) (j : List CycleView) → IsRun r jobs carry restarts (t ∷ j) → IsClear (t ∷ j) → (k : ℕ) → k < length r.drives → IsDown r jobs carry restarts k j → 2 ≤ t.phase
       → fall_of (known_of r) (behind_mdt r jobs carry restarts t.sent j) ≡ None → restarts (length j) 0 ≡ false → is_some (open_in (epoch_begun (views_of r jobs carry restarts k j))) ≡ true
       → (age_in (views_of r jobs carry restarts k (t ∷ j)) ≡ age_in (views_of r jobs carry restarts k j) + 1) × (is_some (open_in (epoch_begun (views_of r jobs carry restarts k (t ∷ j)))) ≡ true)
-  ages_down_in ages t j run clear k below down two none stays opens =
-      ages (drive_at r k).busy (view_of r jobs carry restarts k t j) (views_of r jobs carry restarts k j) (all_stand laws more r jobs carry restarts opened (t ∷ j) run clear k below).sees.run down two (ap (λ (o : Option Fall). is_some o) none) stays opens
+  ages_down_in t j run clear k below down two none stays opens =
+      ages_where_dead (drive_at r k).busy (view_of r jobs carry restarts k t j) (views_of r jobs carry restarts k j) (all_stand r jobs carry restarts opened (t ∷ j) run clear k below).sees.run down two (ap (λ (o : Option Fall). is_some o) none) stays opens

@@ -10,7 +10,7 @@ use Rattle.sercos_block.specs.Rules.{blocks_fault}
 use Rattle.sercos_block.specs.Stores.{store_of}
 use Rattle.sercos_block.specs.Views.{RingView}
 use Rattle.sercos_command.specs.Checks.{is_outside}
-use Rattle.sercos_law_run.specs.Bounds.Bounds.{command_cycles, slowest, IsBelowGreatest}
+use Rattle.sercos_law_run.specs.Bounds.Bounds.{command_cycles, slowest}
 use Rattle.sercos_service_master.specs.Begun.{Begun, answers_in, open_in}
 use Rattle.sercos_trace.specs.Views.{CycleView}
 use Rattle.sercos_seat.specs.Agenda.{is_checked, reads_count}
@@ -21,19 +21,15 @@ use Rattle.sercos_master.specs.Annals.{Past, outcomes}
 use Rattle.sercos_script.specs.Links.{Carry, Restarts}
 use Rattle.sercos_law_channel.specs.Handshake.Epochs.{epoch_begun}
 use Rattle.sercos_law_channel.specs.Handshake.Views.{View}
-use Rattle.sercos_law_channel.specs.Pace.Costs.{AreListed, ComesTimed, cost_in, cost_of}
-use Rattle.sercos_law_channel.specs.Pace.Jobs.{ListReadCosts}
-use Rattle.sercos_law_channel.specs.Pace.StartCosts.{RecoversSince}
+use Rattle.sercos_law_channel.specs.Pace.Costs.{AreListed, cost_in, cost_of}
 use Rattle.sercos_law_channel.specs.Pace.Stretches.{open_since}
 use Rattle.sercos_law_run.specs.Journal.Runs.{drive_at, looks_back, master_calls, middle, IsClear, IsRun}
-use Rattle.sercos_law_run.specs.Agenda.Turns.{WorkInTurn, WorksInThree}
 use Rattle.sercos_law_run.proofs.Start.CheckPasses.{ring_drive}
 use Rattle.sercos_law_run.specs.Views.RingViews.{behind_mdt, views_of}
 use Rattle.sercos_law_run.proofs.Views.Members.{members_count}
 use Rattle.sercos_law_run.specs.Held.Opened.{IsOpened}
-use Rattle.sercos_law_run.proofs.Held.Runs.{Laws, drive_got}
-use Rattle.sercos_law_run.proofs.Headline.HeadlineRuns.{MoreLaws, first_store}
-use Rattle.sercos_law_run.specs.Agenda.Tasks.{BeginsNoneEarly}
+use Rattle.sercos_law_run.proofs.Held.Runs.{drive_got}
+use Rattle.sercos_law_run.proofs.Headline.HeadlineRuns.{first_store}
 use Rattle.sercos_law_run.specs.Undisturbed.Jobs.{jobs_of, AreAt}
 use Rattle.sercos_law_run.specs.Undisturbed.Sections.{AreInThree}
 use Rattle.sercos_law_run.specs.Undisturbed.StopsLater.{IsRight}
@@ -58,13 +54,16 @@ use Rattle.sercos_law_run.proofs.Recovery.FallsSoon.{busy_slowest}
 use Rattle.sercos_law_run.proofs.Recovery.LateDown.{phase_now}
 use Rattle.sercos_law_run.proofs.Recovery.Stretches.{costs_since, rest_clear, rest_runs, whole_all}
 use Rattle.sercos_law_run.proofs.Recovery.UpSections.{answers_more, ended_by, got_there}
+use Rattle.sercos_law_channel.proofs.Cited.{rest_since}
+use Rattle.sercos_law_channel.proofs.Pace.JobCosts.{list_read_costs}
+use Rattle.sercos_law_run.proofs.Cited.{tasks_end}
 
 some_plan_is : (o : Option PlanView) → is_some o ≡ true → (p : PlanView) × (o ≡ Some p)
 some_plan_is None some = cc
 some_plan_is (Some p) some = (p, refl)
 
-module _ (laws : Laws) (more : MoreLaws) (turn : WorkInTurn) (early : BeginsNoneEarly) (works : WorksInThree) (r : RingView) (jobs : List Job) (carry : Carry) (restarts : Restarts) (opened : IsOpened r jobs)
-    (since : (busy : ℕ) → RecoversSince busy) (timed : ComesTimed) (k : ℕ) (below : k < length r.drives) where
+module _ (r : RingView) (jobs : List Job) (carry : Carry) (restarts : Restarts) (opened : IsOpened r jobs) (k : ℕ)
+    (below : k < length r.drives) where
   -- the check for phase 3 has ended well in the first cycle
   checked_first : (t : CycleView) (cycles : List CycleView) (first : CycleView) (before : List CycleView) → IsRun r jobs carry restarts (t ∷ (cycles ++ first ∷ before)) → IsStretch r jobs carry restarts (t ∷ cycles) first before
       → AreInThree r jobs carry restarts k (t ∷ cycles) (first ∷ before) → is_checked (member (known_of r) k) (outcomes (behind_mdt r jobs carry restarts first.sent before) k) ≡ true
@@ -74,110 +73,112 @@ module _ (laws : Laws) (more : MoreLaws) (turn : WorkInTurn) (early : BeginsNone
       let count = members_count r in
       ap (λ (p : Past). is_checked (member (known_of r) k) (outcomes p k)) (sym (end_kept (known_of r) (behind_mdt r jobs carry restarts first.sent before) stretch.first_stays))
       ∙ all_checked_in (known_of r) (tasks_for (known_of r) jobs) (master_calls r carry restarts (first ∷ before)) (omega (arith, phase)) k (omega (arith, count, below))
-  checked_first t (u ∷ cycles) first before run stretch three = checked_first u cycles first before run.0 (shorter laws more turn r jobs carry restarts opened t (u ∷ cycles) first before stretch) three.0
+  checked_first t (u ∷ cycles) first before run stretch three = checked_first u cycles first before run.0 (shorter r jobs carry restarts opened t (u ∷ cycles) first before stretch) three.0
 
   module _ (t : CycleView) (cycles : List CycleView) (first : CycleView) (before : List CycleView)
       (run : IsRun r jobs carry restarts (t ∷ (cycles ++ first ∷ before))) (clear : IsClear (t ∷ (cycles ++ first ∷ before)))
-      (stretch : IsStretch r jobs carry restarts (t ∷ cycles) first before) (three : AreInThree r jobs carry restarts k (t ∷ cycles)
-      (first ∷ before)) (up : IsDown r jobs carry restarts k (first ∷ before) → ⊥) where
-    first_run : IsRun r jobs carry restarts (first ∷ before)
-    first_run = rest_runs r jobs carry restarts (t ∷ cycles) (first ∷ before) run
+      (stretch : IsStretch r jobs carry restarts (t ∷ cycles) first before)
+      (three : AreInThree r jobs carry restarts k (t ∷ cycles) (first ∷ before)) (up : IsDown r jobs carry restarts k (first ∷ before) → ⊥)
+    where
+      first_run : IsRun r jobs carry restarts (first ∷ before)
+      first_run = rest_runs r jobs carry restarts (t ∷ cycles) (first ∷ before) run
 
-    first_clear : IsClear (first ∷ before)
-    first_clear = rest_clear (t ∷ cycles) (first ∷ before) clear
+      first_clear : IsClear (first ∷ before)
+      first_clear = rest_clear (t ∷ cycles) (first ∷ before) clear
 
-    low : k < length (known_of r).drives
-    low = let count = members_count r in omega (arith, count, below)
+      low : k < length (known_of r).drives
+      low = let count = members_count r in omega (arith, count, below)
 
-    got : (o : Outcome) × (slice_get (outcomes (behind_mdt r jobs carry restarts first.sent before) k) (reads_count (member (known_of r) k) + 11) ≡ Some o)
-    got = got_there (outcomes (behind_mdt r jobs carry restarts first.sent before) k) (reads_count (member (known_of r) k) + 11)
-        (ended_there (outcomes (behind_mdt r jobs carry restarts first.sent before) k) (reads_count (member (known_of r) k) + 11) (checked_first t cycles first before run stretch three))
+      got : (o : Outcome) × (slice_get (outcomes (behind_mdt r jobs carry restarts first.sent before) k) (reads_count (member (known_of r) k) + 11) ≡ Some o)
+      got = got_there (outcomes (behind_mdt r jobs carry restarts first.sent before) k) (reads_count (member (known_of r) k) + 11)
+          (ended_there (outcomes (behind_mdt r jobs carry restarts first.sent before) k) (reads_count (member (known_of r) k) + 11) (checked_first t cycles first before run stretch three))
 
-    cut : (newer old : List Begun) × (epoch_begun (views_of r jobs carry restarts k (first ∷ before)) ≡ newer ++ old) × (length old ≡ reads_count (member (known_of r) k) + 12) × (open_in old ≡ None)
-    cut = ended_by laws more turn early r jobs carry restarts opened first before first_run first_clear stretch.first_stays k below (reads_count (member (known_of r) k) + 11) (reads_count (member (known_of r) k) + 12) got.0 (omega arith)
-        (laws.ends (known_of r) (tasks_for (known_of r) jobs) (middle r carry restarts first.sent before) k (reads_count (member (known_of r) k) + 11) got.0 low got.1)
+      cut : (newer old : List Begun) × (epoch_begun (views_of r jobs carry restarts k (first ∷ before)) ≡ newer ++ old) × (length old ≡ reads_count (member (known_of r) k) + 12) × (open_in old ≡ None)
+      cut = ended_by r jobs carry restarts opened first before first_run first_clear stretch.first_stays k below
+          (reads_count (member (known_of r) k) + 11) (reads_count (member (known_of r) k) + 12) got.0 (omega arith)
+          (tasks_end (known_of r) (tasks_for (known_of r) jobs) (middle r carry restarts first.sent before) k (reads_count (member (known_of r) k) + 11) got.0 low got.1)
 
-    plan : (p : PlanView) × ((behind_mdt r jobs carry restarts t.sent (cycles ++ first ∷ before)).plan ≡ Some p)
-    plan = some_plan_is (behind_mdt r jobs carry restarts t.sent (cycles ++ first ∷ before)).plan three.1.planned
+      plan : (p : PlanView) × ((behind_mdt r jobs carry restarts t.sent (cycles ++ first ∷ before)).plan ≡ Some p)
+      plan = some_plan_is (behind_mdt r jobs carry restarts t.sent (cycles ++ first ∷ before)).plan three.1.planned
 
-    never_down : IsDown r jobs carry restarts k (t ∷ (cycles ++ first ∷ before)) → ⊥
-    never_down down =
-        let zero_phase : t.phase ≡ 0 = sym (up_all laws more turn r jobs carry restarts opened (t ∷ cycles) first before run clear stretch k below up).1 ∙ down in
-        let is : t.phase ≡ 3 = sym (phase_now r jobs carry restarts t (cycles ++ first ∷ before) run.1) ∙ three.1.phase in absurd (omega (arith, zero_phase, is))
+      never_down : IsDown r jobs carry restarts k (t ∷ (cycles ++ first ∷ before)) → ⊥
+      never_down down =
+          let zero_phase : t.phase ≡ 0 = sym (up_all r jobs carry restarts opened (t ∷ cycles) first before run clear stretch k below up).1 ∙ down in
+          let is : t.phase ≡ 3 = sym (phase_now r jobs carry restarts t (cycles ++ first ∷ before) run.1) ∙ three.1.phase in absurd (omega (arith, zero_phase, is))
 
-    places : AreAt (jobs_of (known_of r) (Some plan.0) k) (epoch_begun (views_of r jobs carry restarts k (t ∷ (cycles ++ first ∷ before))))
-    places = subst (λ (o : Option PlanView). AreAt (jobs_of (known_of r) o k) (epoch_begun (views_of r jobs carry restarts k (t ∷ (cycles ++ first ∷ before))))) plan.1
-        (places_now laws more r jobs carry restarts opened t (cycles ++ first ∷ before) run clear stretch.stays.1 k below (let is = three.1.phase in omega (arith, is)))
+      places : AreAt (jobs_of (known_of r) (Some plan.0) k) (epoch_begun (views_of r jobs carry restarts k (t ∷ (cycles ++ first ∷ before))))
+      places = subst (λ (o : Option PlanView). AreAt (jobs_of (known_of r) o k) (epoch_begun (views_of r jobs carry restarts k (t ∷ (cycles ++ first ∷ before))))) plan.1
+          (places_now r jobs carry restarts opened t (cycles ++ first ∷ before) run clear stretch.stays.1 k below (let is = three.1.phase in omega (arith, is)))
 
-    counted : suc (length cycles) ≤ open_since (views_since r jobs carry restarts k (t ∷ cycles) (first ∷ before)) (views_of r jobs carry restarts k (first ∷ before))
-    counted = never_idle laws more works r jobs carry restarts opened k below (t ∷ cycles) (first ∷ before) run clear three
+      counted : suc (length cycles) ≤ open_since (views_since r jobs carry restarts k (t ∷ cycles) (first ∷ before)) (views_of r jobs carry restarts k (first ∷ before))
+      counted = never_idle r jobs carry restarts opened k below (t ∷ cycles) (first ∷ before) run clear three
 
-    rules : blocks_fault [] (drive_at r k).blocks ≡ None
-    rules = (ring_drive r k (drive_at r k) opened.valid (drive_got r k below)).blocks
+      rules : blocks_fault [] (drive_at r k).blocks ≡ None
+      rules = (ring_drive r k (drive_at r k) opened.valid (drive_got r k below)).blocks
 
-    -- what the requests cost that were begun since, if a bound on what they cost is known from their places
-    costs_few : (longest : ℕ → ℕ) (most : ℕ) → AreListed longest (views_of r jobs carry restarts k (t ∷ (cycles ++ first ∷ before)))
-        → ((recent old : List Begun) → epoch_begun (views_of r jobs carry restarts k (t ∷ (cycles ++ first ∷ before))) ≡ recent ++ old
-        → length old ≡ reads_count (member (known_of r) k) + 12
-        → cost_in (cost_of (drive_at r k).busy (drive_at r k).command longest (store_of (drive_at r k))) recent ≤ most)
-        → suc (length cycles) ≤ most
-    costs_few longest most listed within = by cut
-      where
-        by : (newer old : List Begun) × (epoch_begun (views_of r jobs carry restarts k (first ∷ before)) ≡ newer ++ old)
-            × (length old ≡ reads_count (member (known_of r) k) + 12) × (open_in old ≡ None) → suc (length cycles) ≤ most
-        by (newer, old, is, long, rests) =
-            let split = views_split r jobs carry restarts k (t ∷ cycles) (first ∷ before) in
-            let recently : Follow old (epoch_begun (views_of r jobs carry restarts k (t ∷ (cycles ++ first ∷ before)))) = subst (λ (l : List View). Follow old (epoch_begun l)) (sym split)
-            (follow_since (views_since r jobs carry restarts k (t ∷ cycles) (first ∷ before)) (views_of r jobs carry restarts k (first ∷ before)) old
-            (whole_all laws more turn r jobs carry restarts opened (t ∷ cycles) (first ∷ before) run clear stretch.calm stretch.stays k below) rests (newer, is)) in
-            elim (costs_since laws more turn r jobs carry restarts opened (t ∷ cycles) first before run clear stretch k below since timed
-            longest recently.0 old listed recently.1 rests
-            (subst (λ (l : List Begun). length (answers_in old) ≤ length (answers_in l)) (sym is) (answers_more newer old))) [
-              | inl is_down ↦ absurd (never_down is_down)
-              | inr few ↦ let cost = within recently.0 old recently.1 long in let all = counted in omega (arith, all, few, cost)
-            ]
+      -- what the requests cost that were begun rest_since, if a bound on what they cost is known from their places
+      costs_few : (longest : ℕ → ℕ) (most : ℕ) → AreListed longest (views_of r jobs carry restarts k (t ∷ (cycles ++ first ∷ before)))
+          → ((recent old : List Begun) → epoch_begun (views_of r jobs carry restarts k (t ∷ (cycles ++ first ∷ before))) ≡ recent ++ old
+          → length old ≡ reads_count (member (known_of r) k) + 12
+          → cost_in (cost_of (drive_at r k).busy (drive_at r k).command longest (store_of (drive_at r k))) recent ≤ most)
+          → suc (length cycles) ≤ most
+      costs_few longest most listed within = by cut
+        where
+          by : (newer old : List Begun) × (epoch_begun (views_of r jobs carry restarts k (first ∷ before)) ≡ newer ++ old)
+              × (length old ≡ reads_count (member (known_of r) k) + 12) × (open_in old ≡ None) → suc (length cycles) ≤ most
+          by (newer, old, is, long, rests) =
+              let split = views_split r jobs carry restarts k (t ∷ cycles) (first ∷ before) in
+              let recently : Follow old (epoch_begun (views_of r jobs carry restarts k (t ∷ (cycles ++ first ∷ before)))) = subst (λ (l : List View). Follow old (epoch_begun l)) (sym split)
+              (follow_since (views_since r jobs carry restarts k (t ∷ cycles) (first ∷ before)) (views_of r jobs carry restarts k (first ∷ before)) old
+              (whole_all r jobs carry restarts opened (t ∷ cycles) (first ∷ before) run clear stretch.calm stretch.stays k below) rests (newer, is)) in
+              elim (costs_since r jobs carry restarts opened (t ∷ cycles) first before run clear stretch k below longest recently.0 old listed
+              recently.1 rests
+              (subst (λ (l : List Begun). length (answers_in old) ≤ length (answers_in l)) (sym is) (answers_more newer old))) [
+                | inl is_down ↦ absurd (never_down is_down)
+                | inr few ↦ let cost = within recently.0 old recently.1 long in let all = counted in omega (arith, all, few, cost)
+              ]
 
-    places_of : (recent old : List Begun) → epoch_begun (views_of r jobs carry restarts k (t ∷ (cycles ++ first ∷ before))) ≡ recent ++ old
-        → AreAt (jobs_of (known_of r) (Some plan.0) k) (recent ++ old)
-    places_of recent old is = subst (λ (l : List Begun). AreAt (jobs_of (known_of r) (Some plan.0) k) l) is places
+      places_of : (recent old : List Begun) → epoch_begun (views_of r jobs carry restarts k (t ∷ (cycles ++ first ∷ before))) ≡ recent ++ old
+          → AreAt (jobs_of (known_of r) (Some plan.0) k) (recent ++ old)
+      places_of recent old is = subst (λ (l : List Begun). AreAt (jobs_of (known_of r) (Some plan.0) k) l) is places
 
-    pub with_list : ((busy : ℕ) → ListReadCosts busy) → suc (length cycles) ≤ command_cycles (drive_at r k) + ((drive_at r k).busy + 1) * 42
-    with_list list_costs = costs_few longest_list (command_cycles (drive_at r k) + ((drive_at r k).busy + 1) * 42)
-        (lists_short more.keep more.allows more.those r jobs carry restarts k rules (few_blocks r k opened.valid below)
-        (first_store laws more r jobs carry restarts opened k below).ascending (t ∷ (cycles ++ first ∷ before)))
-        (λ recent old is long. list_fits longest_list (drive_at r k) rules (list_costs (drive_at r k).busy) (known_of r) plan.0 k recent old
-        (places_of recent old is) long)
+      pub with_list : suc (length cycles) ≤ command_cycles (drive_at r k) + ((drive_at r k).busy + 1) * 42
+      with_list = costs_few longest_list (command_cycles (drive_at r k) + ((drive_at r k).busy + 1) * 42)
+          (lists_short r jobs carry restarts k rules (few_blocks r k opened.valid below)
+          (first_store r jobs carry restarts opened k below).ascending (t ∷ (cycles ++ first ∷ before)))
+          (λ recent old is long. list_fits longest_list (drive_at r k) rules (list_read_costs (drive_at r k).busy) (known_of r) plan.0 k recent old
+          (places_of recent old is) long)
 
-    -- Its check hasn't ended: if it had, it would have ended well.
-    few_begun : ReadyIfEnded → list_any is_outside (drive_at r k).blocks ≡ false
-        → length (epoch_begun (views_of r jobs carry restarts k (t ∷ (cycles ++ first ∷ before))))
-        ≤ reads_count (member (known_of r) k) + 13
-    few_begun ready inside = let most = begun_few (known_of r) k now.plan (now.waiting k) now.now.phase
-        (reads_count (member (known_of r) k) + 12) (epoch_begun (views_of r jobs carry restarts k (t ∷ (cycles ++ first ∷ before))))
-        (now.tasks k)
-        (tasks_now laws more r jobs carry restarts opened t (cycles ++ first ∷ before) run clear stretch.stays.1 k below)
-        (subst (λ (l : List Begun). length (outcomes_in l) ≤ reads_count (member (known_of r) k) + 12)
-        (begun_now laws more r jobs carry restarts opened t (cycles ++ first ∷ before) run clear stretch.stays.1 k below) few) in omega
-        (arith, most)
-      where
-        now : Past
-        now = behind_mdt r jobs carry restarts t.sent (cycles ++ first ∷ before)
+      -- Its check hasn't ended: if it had, it would have ended well.
+      few_begun : ReadyIfEnded → list_any is_outside (drive_at r k).blocks ≡ false
+          → length (epoch_begun (views_of r jobs carry restarts k (t ∷ (cycles ++ first ∷ before))))
+          ≤ reads_count (member (known_of r) k) + 13
+      few_begun ready inside = let most = begun_few (known_of r) k now.plan (now.waiting k) now.now.phase
+          (reads_count (member (known_of r) k) + 12) (epoch_begun (views_of r jobs carry restarts k (t ∷ (cycles ++ first ∷ before))))
+          (now.tasks k)
+          (tasks_now r jobs carry restarts opened t (cycles ++ first ∷ before) run clear stretch.stays.1 k below)
+          (subst (λ (l : List Begun). length (outcomes_in l) ≤ reads_count (member (known_of r) k) + 12)
+          (begun_now r jobs carry restarts opened t (cycles ++ first ∷ before) run clear stretch.stays.1 k below) few) in omega
+          (arith, most)
+        where
+          now : Past
+          now = behind_mdt r jobs carry restarts t.sent (cycles ++ first ∷ before)
 
-        few : length (outcomes (behind_mdt r jobs carry restarts t.sent (cycles ++ first ∷ before)) k)
-            ≤ reads_count (member (known_of r) k) + 12
-        few = elim (cases_lt (reads_count (member (known_of r) k) + 12)
-            (length (outcomes (behind_mdt r jobs carry restarts t.sent (cycles ++ first ∷ before)) k))) [
-              | inl ended ↦ absurd (false≢true (sym three.1.unready ∙ ready r jobs carry restarts opened t (cycles ++ first ∷ before) run clear
-                  k below inside ended))
-              | inr less ↦ omega (arith, less)
-            ]
+          few : length (outcomes (behind_mdt r jobs carry restarts t.sent (cycles ++ first ∷ before)) k)
+              ≤ reads_count (member (known_of r) k) + 12
+          few = elim (cases_lt (reads_count (member (known_of r) k) + 12)
+              (length (outcomes (behind_mdt r jobs carry restarts t.sent (cycles ++ first ∷ before)) k))) [
+                | inl ended ↦ absurd (false≢true (sym three.1.unready ∙ ready r jobs carry restarts opened t (cycles ++ first ∷ before) run clear
+                    k below inside ended))
+                | inr less ↦ omega (arith, less)
+              ]
 
-    pub without_list : ReadyIfEnded → list_any is_outside (drive_at r k).blocks ≡ false → suc (length cycles)
-        ≤ command_cycles (drive_at r k)
-    without_list ready inside = costs_few (λ raw. 512) (command_cycles (drive_at r k)) (listed_all
-        (views_of r jobs carry restarts k (t ∷ (cycles ++ first ∷ before))))
-        (λ recent old is long. check_fits (λ raw. 512) (drive_at r k) rules (known_of r) plan.0 k recent old (places_of recent old is) long
-        (subst (λ (l : List Begun). length l ≤ reads_count (member (known_of r) k) + 13) is (few_begun ready inside)))
+      pub without_list : ReadyIfEnded → list_any is_outside (drive_at r k).blocks ≡ false → suc (length cycles)
+          ≤ command_cycles (drive_at r k)
+      without_list ready inside = costs_few (λ raw. 512) (command_cycles (drive_at r k)) (listed_all
+          (views_of r jobs carry restarts k (t ∷ (cycles ++ first ∷ before))))
+          (λ recent old is long. check_fits (λ raw. 512) (drive_at r k) rules (known_of r) plan.0 k recent old (places_of recent old is) long
+          (subst (λ (l : List Begun). length l ≤ reads_count (member (known_of r) k) + 13) is (few_begun ready inside)))
 
 -- Phase 3 lasts no longer than the check of a drive takes that isn't in phase 0, and a number of cycles more.
 abbrev pub LastsInThree : RingView → List Job → Carry → Restarts → ℕ → Type 0
@@ -186,21 +187,18 @@ LastsInThree r jobs carry restarts tail = (k : ℕ) → k < length r.drives → 
     → IsStretch r jobs carry restarts cycles first before → AreInThree r jobs carry restarts k cycles (first ∷ before)
     → (IsDown r jobs carry restarts k (first ∷ before) → ⊥) → length cycles ≤ command_cycles (drive_at r k) + tail
 
-module _ (laws : Laws) (more : MoreLaws) (turn : WorkInTurn) (early : BeginsNoneEarly) (works : WorksInThree) (r : RingView) (jobs : List Job) (carry : Carry) (restarts : Restarts) (opened : IsOpened r jobs)
-    (since : (busy : ℕ) → RecoversSince busy) (timed : ComesTimed) where
+module _ (r : RingView) (jobs : List Job) (carry : Carry) (restarts : Restarts) (opened : IsOpened r jobs) where
   -- these are 41 steps of the slowest drive, in which a check's list is read,
-  pub lasts_with_list : ((busy : ℕ) → ListReadCosts busy) → IsBelowGreatest → LastsInThree r jobs carry restarts
-      (41 * (slowest r.drives + 2))
-  lasts_with_list list_costs below_greatest k below [] first before run clear stretch three up = omega arith
-  lasts_with_list list_costs below_greatest k below (t ∷ cycles) first before run clear stretch three up =
-      let lasts = with_list laws more turn early works r jobs carry restarts opened since timed k below t cycles first before run clear
-      stretch three up list_costs in
+  pub lasts_with_list : LastsInThree r jobs carry restarts (41 * (slowest r.drives + 2))
+  lasts_with_list k below [] first before run clear stretch three up = omega arith
+  lasts_with_list k below (t ∷ cycles) first before run clear stretch three up =
+      let lasts = with_list r jobs carry restarts opened k below t cycles first before run clear stretch three up in
       let busy = busy_low r k opened.valid below in
-      let slow = busy_slowest below_greatest r k below in omega (arith, lasts, busy, slow)
+      let slow = busy_slowest r k below in omega (arith, lasts, busy, slow)
 
   -- and none if the ring is right.
   pub lasts_if_right : ReadyIfEnded → IsRight r → LastsInThree r jobs carry restarts 0
   lasts_if_right ready right k below [] first before run clear stretch three up = omega arith
   lasts_if_right ready right k below (t ∷ cycles) first before run clear stretch three up =
-      let lasts = without_list laws more turn early works r jobs carry restarts opened since timed k below t cycles first before run clear
-      stretch three up ready (right.1 k below) in omega (arith, lasts)
+      let lasts = without_list r jobs carry restarts opened k below t cycles first before run clear stretch three up ready
+      (right.1 k below) in omega (arith, lasts)

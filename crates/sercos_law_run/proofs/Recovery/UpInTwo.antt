@@ -3,27 +3,17 @@ use Rattle.std.proofs.Common.{◌≡◌, inl, inr, ℕ, ◌<◌, ◌≤◌, List
 use Rattle.std.specs.List.{sum_by}
 use Rattle.sercos_step.specs.declared.request.Job.{Job}
 use Rattle.sercos_block.specs.Views.{RingView}
-use Rattle.sercos_law_run.specs.Bounds.Bounds.{AreSections}
 use Rattle.sercos_trace.specs.Views.{CycleView}
 use Rattle.sercos_seat.specs.Ring.{known_of}
 use Rattle.sercos_script.specs.Links.{Carry, Restarts}
 use Rattle.sercos_law_channel.specs.Handshake.Epochs.{epoch_begun}
-use Rattle.sercos_law_channel.specs.Pace.Ages.{AgesWhereDead}
-use Rattle.sercos_law_channel.specs.Pace.ChannelCalls.{AgesBeforeEnd}
-use Rattle.sercos_law_channel.specs.Pace.Costs.{ComesTimed}
-use Rattle.sercos_law_channel.specs.Pace.Jobs.{ReadsCost, WritesCost}
-use Rattle.sercos_law_channel.specs.Pace.Passages.{StaysDead}
-use Rattle.sercos_law_channel.specs.Pace.StartCosts.{RecoversInCost, RecoversSince}
 use Rattle.sercos_law_channel.specs.Pace.Stretches.{open_since}
 use Rattle.sercos_law_run.specs.Journal.Runs.{drive_at, looks_back, master_calls, IsClear, IsRun}
-use Rattle.sercos_law_run.specs.Agenda.Tasks.{BeginsNoneEarly}
-use Rattle.sercos_law_run.specs.Agenda.Turns.{WorkInTurn, WorksInTwo}
 use Rattle.sercos_law_run.proofs.Start.CheckPasses.{ring_drive}
 use Rattle.sercos_law_run.specs.Views.RingViews.{behind_mdt, views_of}
 use Rattle.sercos_law_run.proofs.Views.Members.{member_is}
 use Rattle.sercos_law_run.specs.Held.Opened.{IsOpened}
-use Rattle.sercos_law_run.proofs.Held.Runs.{Laws, drive_got}
-use Rattle.sercos_law_run.proofs.Headline.HeadlineRuns.{MoreLaws}
+use Rattle.sercos_law_run.proofs.Held.Runs.{drive_got}
 use Rattle.sercos_law_run.specs.Undisturbed.Sections.{AreInTwo}
 use Rattle.sercos_law_run.specs.Undisturbed.ViewsSince.{views_since}
 use Rattle.sercos_law_run.proofs.Undisturbed.JobsBegun.{few_now, places_now}
@@ -35,25 +25,25 @@ use Rattle.sercos_law_run.specs.Recovery.Stretches.{IsDown, IsStretch}
 use Rattle.sercos_law_run.proofs.Recovery.DownSince.{not_down, shorter}
 use Rattle.sercos_law_run.proofs.Recovery.FallsInTime.{are_in_two}
 use Rattle.sercos_law_run.proofs.Recovery.Stretches.{costs_again}
+use Rattle.sercos_block.proofs.RingLemmas.{IsRing-is_ring}
+use Rattle.sercos_law_channel.proofs.Pace.JobCosts.{reads_cost, writes_cost}
 
-module _ (laws : Laws) (more : MoreLaws) (turn : WorkInTurn) (early : BeginsNoneEarly) (works : WorksInTwo) (r : RingView) (jobs : List Job) (carry : Carry) (restarts : Restarts) (opened : IsOpened r jobs)
-    (dead : (busy : ℕ) → StaysDead busy) (ages : (busy : ℕ) → AgesWhereDead busy) (counts : (busy : ℕ) → AgesBeforeEnd busy) (recovers : (busy : ℕ) → RecoversInCost busy) (since : (busy : ℕ) → RecoversSince busy) (timed : ComesTimed)
-    (sections : AreSections) (reads_cost : (busy : ℕ) → ReadsCost busy) (writes_cost : (busy : ℕ) → WritesCost busy) where
+module _ (r : RingView) (jobs : List Job) (carry : Carry) (restarts : Restarts) (opened : IsOpened r jobs) where
   -- what a drive takes that isn't in phase 0
   both_sections : (cycles : List CycleView) (first : CycleView) (before : List CycleView) → IsRun r jobs carry restarts (cycles ++ first ∷ before) → IsClear (cycles ++ first ∷ before) → IsStretch r jobs carry restarts cycles first before
       → AreInTwo r jobs carry restarts cycles (first ∷ before) → (k : ℕ) → k < length r.drives → (IsDown r jobs carry restarts k (first ∷ before) → ⊥)
       → open_since (views_since r jobs carry restarts k cycles (first ∷ before)) (views_of r jobs carry restarts k (first ∷ before)) ≤ section_two (drive_at r k)
   both_sections [] first before run clear stretch two k below up = omega arith
   both_sections (t ∷ cycles) first before run clear stretch two k below up =
-      elim (costs_again laws more turn r jobs carry restarts opened (t ∷ cycles) first before run clear stretch k below recovers timed (λ raw. 512) (listed_all (views_of r jobs carry restarts k (t ∷ (cycles ++ first ∷ before))))) [
-        | inl is_down ↦ absurd (not_down laws more turn r jobs carry restarts opened (t ∷ cycles) first before run clear stretch two k below up is_down)
+      elim (costs_again r jobs carry restarts opened (t ∷ cycles) first before run clear stretch k below (λ raw. 512) (listed_all (views_of r jobs carry restarts k (t ∷ (cycles ++ first ∷ before))))) [
+        | inl is_down ↦ absurd (not_down r jobs carry restarts opened (t ∷ cycles) first before run clear stretch two k below up is_down)
         | inr costs ↦
             let phase = two.1.phase in
             let few = costs.0 in
             let most = two_fits (λ raw. 512) (drive_at r k) (ring_drive r k (drive_at r k) opened.valid (drive_got r k below)).blocks (reads_cost (drive_at r k).busy) (writes_cost (drive_at r k).busy) (known_of r)
             (behind_mdt r jobs carry restarts t.sent (cycles ++ first ∷ before)).plan k (epoch_begun (views_of r jobs carry restarts k (t ∷ (cycles ++ first ∷ before)))) (member_is r k)
-            (places_now laws more r jobs carry restarts opened t (cycles ++ first ∷ before) run clear stretch.stays.1 k below (omega (arith, phase)))
-            (few_now laws more r jobs carry restarts opened t (cycles ++ first ∷ before) run clear stretch.stays.1 k below (omega (arith, phase))) in
+            (places_now r jobs carry restarts opened t (cycles ++ first ∷ before) run clear stretch.stays.1 k below (omega (arith, phase)))
+            (few_now r jobs carry restarts opened t (cycles ++ first ∷ before) run clear stretch.stays.1 k below (omega (arith, phase))) in
             omega (arith, few, most)
       ]
 
@@ -62,11 +52,12 @@ module _ (laws : Laws) (more : MoreLaws) (turn : WorkInTurn) (early : BeginsNone
       → IsStretch r jobs carry restarts (t ∷ cycles) first before → 2 ≤ first.phase → t.phase ≡ 2 → (looks_back r jobs (master_calls r carry restarts (t ∷ (cycles ++ first ∷ before)))).stop ≡ None
       → ((k : ℕ) → k < length r.drives → IsDown r jobs carry restarts k (first ∷ before) → ⊥) → length cycles ≤ sum_by section_two r.drives
   up_in_two t cycles first before run clear stretch late phase none up =
-      let some = (laws.ring r opened.valid).some in
-      let earlier = shorter laws more turn r jobs carry restarts opened t cycles first before stretch in
-      let two : AreInTwo r jobs carry restarts cycles (first ∷ before) = are_in_two laws more turn early works r jobs carry restarts opened dead ages counts recovers since timed sections reads_cost writes_cost t cycles first before run clear stretch late phase
-      (sym (stop_after r jobs carry restarts t (cycles ++ first ∷ before) stretch.stays.1) ∙ none) 0 (omega (arith, some)) in
-      let counted = none_idle laws more works r jobs carry restarts opened cycles (first ∷ before) run.0 clear.0 two in
+      let some = (IsRing-is_ring r opened.valid).some in
+      let earlier = shorter r jobs carry restarts opened t cycles first before stretch in
+      let two : AreInTwo r jobs carry restarts cycles (first ∷ before) = are_in_two r jobs carry restarts opened t cycles first before run
+      clear stretch late phase (sym (stop_after r jobs carry restarts t (cycles ++ first ∷ before) stretch.stays.1) ∙ none) 0
+      (omega (arith, some)) in
+      let counted = none_idle r jobs carry restarts opened cycles (first ∷ before) run.0 clear.0 two in
       let fits = sum_within (λ k. open_since (views_since r jobs carry restarts k cycles (first ∷ before)) (views_of r jobs carry restarts k (first ∷ before))) section_two r.drives
       (λ k below. both_sections cycles first before run.0 clear.0 earlier two k below (up k below)) in
       omega (arith, counted, fits)

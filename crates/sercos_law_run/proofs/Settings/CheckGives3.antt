@@ -12,12 +12,13 @@ use Rattle.sercos_service_drive.specs.Log.{Entry}
 use Rattle.sercos_service_drive.specs.Writes.{writes_of}
 use Rattle.sercos_law_channel.specs.Handshake.InStep.{replies_of}
 use Rattle.sercos_law_channel.specs.Handshake.Transfers.{IsTransfer}
-use Rattle.sercos_law_channel.specs.Handshake.CommandTransfers.{SetsAndCancels, EndsWithStatus, GivesStatus}
+use Rattle.sercos_law_channel.specs.Handshake.CommandTransfers.{GivesStatus}
 use Rattle.sercos_law_channel.specs.Handshake.Values.{newest_to}
 use Rattle.sercos_seat.specs.Agenda.{idn}
 use Rattle.sercos_law_run.specs.Settings.WellSet.{are_well_set}
 use Rattle.sercos_law_run.proofs.Settings.WellRuns.{well_status, complete_status}
 use Rattle.sercos_law_run.proofs.Settings.SetAtPoll.{IsSetAtPoll, set_at_poll}
+use Rattle.sercos_law_channel.proofs.Handshake.CommandEnds.{ends_with_status}
 
 none_or_set : (o : Option SetCommand) → is_some o ≡ true → o ≡ None → ⊥
 none_or_set None on none = cc
@@ -26,12 +27,12 @@ none_or_set (Some s) on none = cc
 seven_of : (x : ℕ) → bytes_in (x ∷ []) ≡ 7 ∷ 0 ∷ [] → x ≡ 7
 seven_of x same = let low : x % 256 ≡ 7 = cc in let high : x / 256 ≡ 0 = cc in omega arith
 
-module _ (sets : SetsAndCancels) (ends : EndsWithStatus) (blocks : List Block) where
+module _ (blocks : List Block) where
   pub check_gives_3 : (e : Entry) (entries log : List Entry) (bytes : List ℕ) → IsTransfer (request.Command (idn 127)) blocks e entries log → outcome_of (request.Command (idn 127)) (replies_of (e ∷ entries)) ≡ Some (outcome.Complete bytes) →
       ((poll : Entry) (before : List Entry) → entries ≡ poll ∷ before → are_well_set poll.taken.commands ≡ true) →
       ((poll : Entry) (before : List Entry) → entries ≡ poll ∷ before → newest_to 127 (writes_of (before ++ log)) ≡ Some (3 ∷ 0 ∷ []) → is_some (find_set 127 poll.taken.commands.set) ≡ true) →
       bytes ≡ 3 ∷ 0 ∷ []
-  check_gives_3 e entries log bytes is complete well set = by (ends (idn 127) bytes blocks e entries log is complete) (set_at_poll sets ends (idn 127) blocks e entries log bytes is complete)
+  check_gives_3 e entries log bytes is complete well set = by (ends_with_status (idn 127) bytes blocks e entries log is complete) (set_at_poll (idn 127) blocks e entries log bytes is complete)
     where
       tail : (x y : Entry) (xs ys : List Entry) → x ∷ xs ≡ y ∷ ys → xs ≡ ys
       tail x y xs ys same = cc

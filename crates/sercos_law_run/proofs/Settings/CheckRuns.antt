@@ -14,7 +14,6 @@ use Rattle.sercos_service_master.specs.Begun.{Begun}
 use Rattle.sercos_law_channel.specs.Handshake.InStep.{replies_of}
 use Rattle.sercos_law_channel.specs.Handshake.Transfers.{HaveBlocks, IsTransfer}
 use Rattle.sercos_law_channel.specs.Handshake.Parts.{IsRow, IsPart, Unsent, Heard, Unheard, AreParts}
-use Rattle.sercos_law_channel.specs.Handshake.CommandTransfers.{SetsAndCancels, EndsWithStatus}
 use Rattle.sercos_law_channel.proofs.Theorems.{fall_into_parts, Processes, Nothing, Record, processes, in_step, HasReplies, answered_replies, IsEpoch, epoch, split_replies, split_blocks}
 use Rattle.sercos_law_channel.specs.Handshake.Views.{View, processed_in, with_record}
 use Rattle.sercos_law_channel.specs.Handshake.Epochs.{command, unless_restart, epoch_begun, epoch_taken, epoch_log}
@@ -98,7 +97,7 @@ epoch_well (v ∷ past) well = fell v.falls (recorded (processes v past) (restar
     fell true all = tt
     fell false all = all
 
-module _ (sets : SetsAndCancels) (ends : EndsWithStatus) (busy : ℕ) (blocks : List Block) where
+module _ (busy : ℕ) (blocks : List Block) where
   -- EACH COMPLETE CHECK for phase 3 of the epoch gives 3
   pub checks_give_3 : (past : List View) → IsRun busy past → AreSound blocks past → SettingsFollow past → AreSetWell past → HaveStores (λ blocks. is_command blocks 127 ≡ true) past →
       (newer older : List Begun) (b : Begun) (bytes : List ℕ) → epoch_begun past ≡ newer ++ b ∷ older → b.request ≡ request.Command (idn 127) → outcome_of b.request b.answers ≡ Some (outcome.Complete bytes) → bytes ≡ 3 ∷ 0 ∷ []
@@ -113,7 +112,7 @@ module _ (sets : SetsAndCancels) (ends : EndsWithStatus) (busy : ℕ) (blocks : 
       whole : (e : Entry) (entries : List Entry) → at.part ≡ e ∷ entries → IsRow b e entries → b.answers ≡ replies_of (e ∷ entries) → bytes ≡ 3 ∷ 0 ∷ []
       whole e entries part row answers =
           let transfer = transfer_at blocks (epoch_log past) b at e entries (answered_replies (accepted (epoch_taken past))) is_epoch.alike part row in
-          check_gives_3 sets ends blocks e entries at.rest bytes (subst (λ (r : Request). IsTransfer r blocks e entries at.rest) asks transfer)
+          check_gives_3 blocks e entries at.rest bytes (subst (λ (r : Request). IsTransfer r blocks e entries at.rest) asks transfer)
           (sym (ap₂ (λ (r : Request) (h : List _). outcome_of r h) asks answers) ∙ complete)
           (λ poll before behind. entry_well (epoch_taken past) (at.front ++ e ∷ []) poll (before ++ at.rest) (epoch_well past (stand_well past well)) (poll_at (epoch_log past) b at e entries part poll before behind))
           (λ poll before behind newest. set_at_entry 127 busy past (at.front ++ e ∷ []) poll (before ++ at.rest) (3 ∷ 0 ∷ []) run follow have (poll_at (epoch_log past) b at e entries part poll before behind) newest refl)

@@ -20,9 +20,11 @@ use Rattle.sercos_law_channel.specs.Handshake.Views.{View}
 use Rattle.sercos_law_channel.specs.Handshake.Epochs.{epoch_begun}
 use Rattle.sercos_law_channel.specs.Handshake.Runs.{IsRun}
 use Rattle.sercos_law_channel.specs.Handshake.WholeRun.{AreSound, AreSmall}
-use Rattle.sercos_law_channel.specs.Handshake.Values.{store_in, is_plain, HoldsNewest, StaysWritten}
-use Rattle.sercos_law_run.specs.Agenda.Writes.{start_numbers, IsWrittenLast, WritesData}
+use Rattle.sercos_law_channel.specs.Handshake.Values.{store_in, is_plain, StaysWritten}
+use Rattle.sercos_law_run.specs.Agenda.Writes.{start_numbers, IsWrittenLast}
 use Rattle.sercos_law_run.proofs.Settings.Givers.{all_at}
+use Rattle.sercos_law_channel.proofs.Handshake.StoredValues.{holds_newest}
+use Rattle.sercos_law_run.proofs.Agenda.WritesDone.{writes_data}
 
 -- values, place by place
 held_each : (blocks : List Block) (values : List (ℕ × List ℕ)) → ((i : ℕ) (v : ℕ × List ℕ) → slice_get values i ≡ Some v → data_at blocks v.0 ≡ v.1) → Holds blocks values
@@ -44,26 +46,28 @@ found_there : (o : Option Block) (a : Attribute) → option_map (λ (b : Block).
 found_there None a has = absurd (cc)
 found_there (Some b) a has = (b, refl)
 
-module _ (write_data : WritesData) (newest : HoldsNewest) (busy : ℕ) (stays : StaysWritten busy) (s : Known) (plan : PlanView) (k : ℕ) (blocks : List Block) (small : AreSmall blocks)
-    (protected : AreProtectedLater blocks (map written_by (writes s plan k))) (whole : AreStoredWhole blocks (map written_by (writes s plan k)))
-    (past : List View) (run : IsRun busy past) (sound : AreSound blocks past)
-    (each : (i : ℕ) (idn : Idn) (bytes : List ℕ) → slice_get (writes s plan k) i ≡ Some (request.Write idn 7 bytes) → IsWrittenLast blocks (epoch_begun past) idn bytes) where
-  -- a value that was written
-  held_one : (i : ℕ) (idn : Idn) (bytes : List ℕ) → slice_get (writes s plan k) i ≡ Some (request.Write idn 7 bytes) → slice_get start_numbers i ≡ Some idn.raw → data_at (store_in blocks past) idn.raw ≡ bytes
-  held_one i idn bytes there number =
-      let got : slice_get (map written_by (writes s plan k)) i ≡ Some (idn.raw, bytes) = get_map written_by (writes s plan k) i ∙ ap (option_map written_by) there in
-      let (a, has, second, third, fourth) = protected_at blocks (map written_by (writes s plan k)) i (idn.raw, bytes) protected got in
-      let (b, found) = found_there (find_block idn.raw blocks) a has in
-      let last = each i idn bytes there in
-      newest blocks past idn.raw b (all_at is_plain start_numbers i idn.raw refl number) found
-      ∙ ap (λ (o : Option (List ℕ)). unwrap_or o b.value) (stays blocks past last.newer last.older last.one idn bytes last.whole b small run sound last.split last.asks last.complete found last.away)
-      ∙ stored_at blocks (map written_by (writes s plan k)) i (idn.raw, bytes) whole got b found
+module _ (busy : ℕ) (stays : StaysWritten busy) (s : Known) (plan : PlanView) (k : ℕ) (blocks : List Block) (small : AreSmall blocks)
+    (protected : AreProtectedLater blocks (map written_by (writes s plan k)))
+    (whole : AreStoredWhole blocks (map written_by (writes s plan k))) (past : List View) (run : IsRun busy past)
+    (sound : AreSound blocks past)
+    (each : (i : ℕ) (idn : Idn) (bytes : List ℕ) → slice_get (writes s plan k) i ≡ Some (request.Write idn 7 bytes) → IsWrittenLast blocks (epoch_begun past) idn bytes)
+  where
+    -- a value that was written
+    held_one : (i : ℕ) (idn : Idn) (bytes : List ℕ) → slice_get (writes s plan k) i ≡ Some (request.Write idn 7 bytes) → slice_get start_numbers i ≡ Some idn.raw → data_at (store_in blocks past) idn.raw ≡ bytes
+    held_one i idn bytes there number =
+        let got : slice_get (map written_by (writes s plan k)) i ≡ Some (idn.raw, bytes) = get_map written_by (writes s plan k) i ∙ ap (option_map written_by) there in
+        let (a, has, second, third, fourth) = protected_at blocks (map written_by (writes s plan k)) i (idn.raw, bytes) protected got in
+        let (b, found) = found_there (find_block idn.raw blocks) a has in
+        let last = each i idn bytes there in
+        holds_newest blocks past idn.raw b (all_at is_plain start_numbers i idn.raw refl number) found
+        ∙ ap (λ (o : Option (List ℕ)). unwrap_or o b.value) (stays blocks past last.newer last.older last.one idn bytes last.whole b small run sound last.split last.asks last.complete found last.away)
+        ∙ stored_at blocks (map written_by (writes s plan k)) i (idn.raw, bytes) whole got b found
 
-  -- THE STORE holds all of them
-  pub holds_start : Holds (store_in blocks past) (map written_by (writes s plan k))
-  holds_start = held_each (store_in blocks past) (map written_by (writes s plan k)) (λ i v got.
-      let less = slice_get_within (map written_by (writes s plan k)) i v got in
-      let (idn, bytes, there, number) = write_data s plan k i less in
-      let same : Some (idn.raw, bytes) ≡ Some v = sym (get_map written_by (writes s plan k) i ∙ ap (option_map written_by) there) ∙ got in
-      let one : ◌≡◌ {A = ℕ × List ℕ} (idn.raw, bytes) v = ap (λ (o : Option (ℕ × List ℕ)). unwrap_or o v) same in
-      subst (λ (x : ℕ × List ℕ). data_at (store_in blocks past) x.0 ≡ x.1) one (held_one i idn bytes there number))
+    -- THE STORE holds all of them
+    pub holds_start : Holds (store_in blocks past) (map written_by (writes s plan k))
+    holds_start = held_each (store_in blocks past) (map written_by (writes s plan k)) (λ i v got.
+        let less = slice_get_within (map written_by (writes s plan k)) i v got in
+        let (idn, bytes, there, number) = writes_data s plan k i less in
+        let same : Some (idn.raw, bytes) ≡ Some v = sym (get_map written_by (writes s plan k) i ∙ ap (option_map written_by) there) ∙ got in
+        let one : ◌≡◌ {A = ℕ × List ℕ} (idn.raw, bytes) v = ap (λ (o : Option (ℕ × List ℕ)). unwrap_or o v) same in
+        subst (λ (x : ℕ × List ℕ). data_at (store_in blocks past) x.0 ≡ x.1) one (held_one i idn bytes there number))

@@ -20,15 +20,13 @@ use Rattle.sercos_seat.specs.Agenda.{ended_well, idn, reads_count}
 use Rattle.sercos_seat.specs.Channel.{outcomes_in}
 use Rattle.sercos_master.specs.Annals.{Call}
 use Rattle.sercos_script.specs.Links.{Carry, Restarts}
-use Rattle.sercos_law_channel.specs.Handshake.CommandTransfers.{SetsAndCancels, EndsWithStatus}
 use Rattle.sercos_law_channel.specs.Handshake.Views.{Heard, View}
 use Rattle.sercos_law_channel.specs.Handshake.Epochs.{epoch_begun, begun_in}
 use Rattle.sercos_law_channel.specs.Handshake.Runs.{IsShown, IsNext, IsRun}
 use Rattle.sercos_law_channel.specs.Handshake.WholeRun.{AreSound}
 use Rattle.sercos_law_run.specs.Journal.Runs.{drive_at, master_calls, middle, looks_back}
 use Rattle.sercos_law_run.specs.Agenda.Reported.{AreNumbered}
-use Rattle.sercos_law_run.specs.Agenda.Stops.{Check127HasCause}
-use Rattle.sercos_law_run.specs.Agenda.Tasks.{IsTask, OfReads, OfWrites, Checks3, Lists3, Checks4, Lists4, OfWaiting, EndsTasks}
+use Rattle.sercos_law_run.specs.Agenda.Tasks.{IsTask, OfReads, OfWrites, Checks3, Lists3, Checks4, Lists4, OfWaiting}
 use Rattle.sercos_law_run.specs.Views.RingViews.{behind_mdt, view_of, views_of}
 use Rattle.sercos_law_run.proofs.Views.ViewRuns.{Sees}
 use Rattle.sercos_law_run.specs.Settings.SetByWrites.{SettingsFollow}
@@ -36,6 +34,7 @@ use Rattle.sercos_law_run.specs.Settings.WellSet.{HaveStores, AreSetWell}
 use Rattle.sercos_law_run.proofs.Settings.SettingsRuns.{keeps_settings}
 use Rattle.sercos_law_run.proofs.Settings.CheckRuns.{checks_give_3}
 use Rattle.sercos_law_run.proofs.Settings.WellSets.{IsWellSet}
+use Rattle.sercos_law_run.proofs.Cited.{check127_has_cause, tasks_end}
 
 -- the request whose outcome comes after those of the reads and the writes is the check
 is_127 : (s : Known) (k : ℕ) (plan : Option PlanView) (waiting : List Task) (b : Begun) (older : List Begun) (t : Task) → b.request ≡ t.request → length (outcomes_in older) ≡ reads_count (member s k) + 11 → IsTask s k plan waiting (outcomes_in older) t → b.request ≡ request.Command (idn 127)
@@ -77,20 +76,20 @@ next_still busy v past next = record {
   top = λ rises. absurd (false≢true rises);
 }
 
-module _ (sets : SetsAndCancels) (ends : EndsWithStatus) (ends_tasks : EndsTasks) (cause : Check127HasCause) (r : RingView) (jobs : List Job) (numbered : (i : ℕ) → AreNumbered (tasks_for (known_of r) jobs i)) where
+module _ (r : RingView) (jobs : List Job) (numbered : (i : ℕ) → AreNumbered (tasks_for (known_of r) jobs i)) where
   module _ (h : List Call) (views : ℕ → List View) (each : (k : ℕ) → k < length r.drives → IsWell r jobs h k (views k)) where
     -- each complete check for phase 3 has ended well
     ends_in_3 : (k : ℕ) (status : List ℕ) → k < length (known_of r).drives → slice_get (outcomes_in (begun_by ((looks_back r jobs h).calls k))) (reads_count (member (known_of r) k) + 11) ≡ Some (outcome.Complete status) → status ≡ 3 ∷ 0 ∷ []
     ends_in_3 k status place got =
         let is = each k (subst (λ (n : ℕ). k < n) (length-map r.drives member_of) place) in
-        let at = ends_tasks (known_of r) (tasks_for (known_of r) jobs) h k (reads_count (member (known_of r) k) + 11) (outcome.Complete status) place got in
+        let at = tasks_end (known_of r) (tasks_for (known_of r) jobs) h k (reads_count (member (known_of r) k) + 11) (outcome.Complete status) place got in
         let asks = is_127 (known_of r) k at.is.by_then ((looks_back r jobs h).waiting k) at.one at.older at.task at.is.asks (at.is.ended ∙ at.place) at.is.task in
-        checks_give_3 sets ends (drive_at r k).busy (store_of (drive_at r k)) (views k) is.run is.sound is.follow is.well is.commands at.newer at.older at.one status (sym is.begun_are ∙ at.split) asks at.ended
+        checks_give_3 (drive_at r k).busy (store_of (drive_at r k)) (views k) is.run is.sound is.follow is.well is.commands at.newer at.older at.one status (sym is.begun_are ∙ at.split) asks at.ended
 
     -- so there is no such stop
     never_so : (address : ℕ) (list : List Idn) → (looks_back r jobs h).stop ≡ Some (stop.Check127 address (record { items = list })) → ⊥
     never_so address list is =
-        let failed = cause (known_of r) (tasks_for (known_of r) jobs) h address list numbered is in
+        let failed = check127_has_cause (known_of r) (tasks_for (known_of r) jobs) h address list numbered is in
         false≢true (sym failed.badly ∙ ap ended_well (ends_in_3 failed.place failed.status failed.there failed.complete))
 
   module _ (carry : Carry) (restarts : Restarts) where

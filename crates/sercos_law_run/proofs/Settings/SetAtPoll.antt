@@ -14,9 +14,11 @@ use Rattle.sercos_service_drive.specs.Log.{Entry, open_idn, run_before}
 use Rattle.sercos_service_drive.specs.Writes.{with_added, written_by, writes_of}
 use Rattle.sercos_law_channel.specs.Handshake.InStep.{replies_of}
 use Rattle.sercos_law_channel.specs.Handshake.Transfers.{IsTransfer, is_complete}
-use Rattle.sercos_law_channel.specs.Handshake.CommandTransfers.{setting, second_of, set_by, cancelled_by, SetsAndCancels, EndsWithStatus, GivesStatus}
+use Rattle.sercos_law_channel.specs.Handshake.CommandTransfers.{setting, second_of, set_by, cancelled_by, GivesStatus}
 use Rattle.sercos_law_channel.proofs.Theorems.{newest_step, without_newest, goes_on-outcome_of}
 use Rattle.sercos_law_channel.specs.Handshake.Values.{newest_to}
+use Rattle.sercos_law_channel.proofs.Handshake.CommandEnds.{ends_with_status}
+use Rattle.sercos_law_channel.proofs.Handshake.CommandStages.{sets_and_cancels}
 
 -- if a transfer goes on, its second step wasn't refused
 second_fine : (r : Request) (x : Entry) (entries : List Entry) → AreAnswers r (replies_of (x ∷ entries)) → outcome_of r (replies_of (x ∷ entries)) ≡ None → 1 ≤ length entries → (y : Entry) × (second_of (x ∷ entries) ≡ Some y) × (y.answer.error ≡ false)
@@ -43,18 +45,18 @@ longer : (idn : Idn) (blocks : List Block) (poll : Entry) (before log : List Ent
 longer idn blocks poll [] log is reads = absurd (not_first idn blocks poll log is reads)
 longer idn blocks poll (x ∷ before) log is reads = omega arith
 
-module _ (sets : SetsAndCancels) (ends : EndsWithStatus) (idn : Idn) (blocks : List Block) where
+module _ (idn : Idn) (blocks : List Block) where
   set_poll : (e poll : Entry) (before log : List Entry) → IsTransfer (request.Command idn) blocks e (poll ∷ before) log → poll.taken.step.write ≡ false → 1 ≤ length before → newest_to idn.raw (writes_of (before ++ log)) ≡ Some (3 ∷ 0 ∷ [])
   set_poll e poll before log is reads long =
       let was = without_newest (request.Command idn) blocks log e poll before is in
       let second = second_fine (request.Command idn) poll before is.in_turn is.goes_on long in
-      ap (newest_to idn.raw) (sym (read_adds poll (before ++ log) reads) ∙ sets idn blocks poll before log was
+      ap (newest_to idn.raw) (sym (read_adds poll (before ++ log) reads) ∙ sets_and_cancels idn blocks poll before log was
       ∙ ap₂ (λ (o : Option Outcome) (s : Option Entry). cancelled_by idn.raw (is_complete o) poll ++ (set_by idn.raw s ++ writes_of log)) is.goes_on second.1)
       ∙ ap (λ (v : Bool). newest_to idn.raw ((if v then [] else setting idn.raw 3 second.0 ∷ []) ++ writes_of log)) second.2
       ∙ ap (λ (v : Bool). if v then Some (3 ∷ 0 ∷ []) else newest_to idn.raw (writes_of log)) (eq-eqb idn.raw idn.raw refl)
 
   pub set_at_poll : (e : Entry) (entries log : List Entry) (bytes : List ℕ) → IsTransfer (request.Command idn) blocks e entries log → outcome_of (request.Command idn) (replies_of (e ∷ entries)) ≡ Some (outcome.Complete bytes) → IsSetAtPoll idn.raw e entries log
-  set_at_poll e entries log bytes is complete = by (ends idn bytes blocks e entries log is complete)
+  set_at_poll e entries log bytes is complete = by (ends_with_status idn bytes blocks e entries log is complete)
     where
       tail : (x y : Entry) (xs ys : List Entry) → x ∷ xs ≡ y ∷ ys → xs ≡ ys
       tail x y xs ys same = cc

@@ -25,19 +25,17 @@ use Rattle.sercos_seat.specs.Seats.{AreWaiting}
 use Rattle.sercos_master.proofs.Laws.{all_waiting}
 use Rattle.sercos_master.specs.Annals.{Past}
 use Rattle.sercos_script.specs.Links.{Carry, Restarts}
-use Rattle.sercos_law_run.specs.Start.StartUp.{IsStoreOf, Holds, start_up, PlanPassesCheck}
-use Rattle.sercos_law_run.specs.Start.Kept.{WritesKeep}
-use Rattle.sercos_law_run.specs.Start.Held.{written_by, WritesStartUp}
-use Rattle.sercos_law_run.specs.Start.Later.{StayHeld, NoneOf, IsProtectedLater, StartUpIsProtected, ChecksAreProtected, StoresStartUpWhole, AreProtectedLater, AreStoredWhole}
+use Rattle.sercos_law_run.specs.Start.StartUp.{IsStoreOf, Holds, start_up}
+use Rattle.sercos_law_run.specs.Start.Held.{written_by}
+use Rattle.sercos_law_run.specs.Start.Later.{NoneOf, IsProtectedLater, AreProtectedLater, AreStoredWhole}
 use Rattle.sercos_law_run.proofs.Start.CheckPasses.{ring_drive}
 use Rattle.sercos_law_channel.specs.Handshake.Views.{View}
 use Rattle.sercos_law_channel.specs.Handshake.Epochs.{command, epoch_begun}
 use Rattle.sercos_law_channel.specs.Handshake.WholeRun.{AreSound, AreSmall}
-use Rattle.sercos_law_channel.specs.Handshake.Values.{store_in, HoldsNewest, StaysWritten}
-use Rattle.sercos_law_channel.proofs.Theorems.{Laws, AreAllowed}
+use Rattle.sercos_law_channel.specs.Handshake.Values.{store_in}
 use Rattle.sercos_law_run.specs.Journal.Runs.{drive_at, given_mst, master_calls, looks_back}
-use Rattle.sercos_law_run.specs.Agenda.Tasks.{BeginsTasks, AreBegunTasks}
-use Rattle.sercos_law_run.specs.Agenda.Writes.{IsConfigured, IsWrittenLast, WritesData, ConfiguresFromCheck}
+use Rattle.sercos_law_run.specs.Agenda.Tasks.{AreBegunTasks}
+use Rattle.sercos_law_run.specs.Agenda.Writes.{IsConfigured, IsWrittenLast}
 use Rattle.sercos_law_run.specs.Views.RingViews.{view_of, views_of}
 use Rattle.sercos_law_run.proofs.Views.ViewRuns.{Sees}
 use Rattle.sercos_law_run.specs.Settings.WellSet.{SetsWell}
@@ -45,23 +43,13 @@ use Rattle.sercos_law_run.proofs.Settings.RateStays.{rate_stays}
 use Rattle.sercos_law_run.proofs.Settings.Givers.{IsGiven, check_begun}
 use Rattle.sercos_law_run.proofs.Settings.SetInTwo.{set_in}
 use Rattle.sercos_law_run.proofs.Settings.HoldsStart.{holds_start}
-
--- the laws of lower crates that are used here
-pub record LowerLaws : Type 0 where
-  pub transfers : Laws
-  pub allowed : AreAllowed
-  pub newest : HoldsNewest
-  pub stays_written : (busy : ℕ) → StaysWritten busy
-  pub begins : BeginsTasks
-  pub write_data : WritesData
-  pub configures : ConfiguresFromCheck
-  pub writes_start : WritesStartUp
-  pub protected : StartUpIsProtected
-  pub checks : ChecksAreProtected
-  pub whole : StoresStartUpWhole
-  pub stay : StayHeld
-  pub keep : WritesKeep
-  pub passes : PlanPassesCheck
+use Rattle.sercos_law_channel.proofs.Cited.{transfers, written_stays}
+use Rattle.sercos_law_run.proofs.Cited.{begins_tasks, configures_check}
+use Rattle.sercos_law_run.proofs.Start.CheckPasses.{plan_passes_check}
+use Rattle.sercos_law_run.proofs.Start.HeldLemmas.{writes_start_up}
+use Rattle.sercos_law_run.proofs.Start.KeptLemmas.{writes_keep}
+use Rattle.sercos_law_run.proofs.Start.LaterLemmas.{checks_are_protected, start_up_is_protected, stay_held, stores_start_up_whole}
+use Rattle.sercos_service_drive.proofs.AllowedWrites.{allowed}
 
 -- no start-up value is that of S-0-0127
 none_127 : (control cycle : ℕ) (p : PlanView) (k : ℕ) (at mdt : List Idn) → NoneOf 127 (start_up control cycle p k at mdt)
@@ -70,10 +58,12 @@ none_127 control cycle p k at mdt = (refl, (refl, (refl, (refl, (refl, (refl, (r
 ends_so : (rate : ℕ) (blocks : List Block) → unfit_for_phase_3 rate blocks ≡ [] → ends_well rate 127 blocks ≡ true
 ends_so rate blocks none = ap (λ (l : List Idn). length l == 0) none
 
-module _ (laws : LowerLaws) (r : RingView) (jobs : List Job) (carry : Carry) (restarts : Restarts) (valid : is_ring r ≡ true) (wishes : IsValid (wishes_of r)) (waits : (i : ℕ) → AreWaiting (tasks_for (known_of r) jobs i))
-    (k : ℕ) (below : k < length r.drives) (small : AreSmall (store_of (drive_at r k))) (t : CycleView) (j : List CycleView) (sees : Sees r jobs carry restarts k j) (after : Sees r jobs carry restarts k (t ∷ j))
-    (sound : AreSound (store_of (drive_at r k)) (views_of r jobs carry restarts k (t ∷ j)))
-    (store : IsStore (view_of r jobs carry restarts k t j).blocks) (is_of : IsStoreOf (drive_at r k) (view_of r jobs carry restarts k t j).blocks)
+module _ (r : RingView) (jobs : List Job) (carry : Carry) (restarts : Restarts) (valid : is_ring r ≡ true) (wishes : IsValid (wishes_of r))
+    (waits : (i : ℕ) → AreWaiting (tasks_for (known_of r) jobs i)) (k : ℕ) (below : k < length r.drives)
+    (small : AreSmall (store_of (drive_at r k))) (t : CycleView) (j : List CycleView) (sees : Sees r jobs carry restarts k j)
+    (after : Sees r jobs carry restarts k (t ∷ j)) (sound : AreSound (store_of (drive_at r k)) (views_of r jobs carry restarts k (t ∷ j)))
+    (store : IsStore (view_of r jobs carry restarts k t j).blocks)
+    (is_of : IsStoreOf (drive_at r k) (view_of r jobs carry restarts k t j).blocks)
     (blocks_are : (view_of r jobs carry restarts k t j).blocks ≡ store_in (store_of (drive_at r k)) (views_of r jobs carry restarts k j))
     (fits : (plan : PlanView) → (looks_back r jobs (master_calls r carry restarts j)).plan ≡ Some plan → Fits (wishes_of r) plan) where
   abbrev d : DriveView
@@ -102,13 +92,14 @@ module _ (laws : LowerLaws) (r : RingView) (jobs : List Job) (carry : Carry) (re
   holds_plan two many =
       let late : p.now.phase ≤ 3 = let e = sees.master.phase_is in omega (arith, e, two) in
       let same : begun_by (p.calls k) ≡ epoch_begun past = sees.master.begun_are in
-      let c : IsConfigured (known_of r) k (store_of d) p.plan (begun_by (p.calls k)) = laws.configures (known_of r) (tasks_for (known_of r) jobs) (master_calls r carry restarts j) k (store_of d) waits place late
+      let c : IsConfigured (known_of r) k (store_of d) p.plan (begun_by (p.calls k)) = configures_check (known_of r) (tasks_for (known_of r) jobs) (master_calls r carry restarts j) k (store_of d) waits place late
       (subst (λ (l : List Begun). reads_count (member (known_of r) k) + 11 < length l) (sym same) many) in
-      let values : map written_by (writes (known_of r) c.plan k) ≡ start_up r.control r.cycle c.plan k d.at d.mdt = laws.writes_start r c.plan k d valid wishes (fits c.plan c.plan_is) there in
-      let own : Holds (store_in (store_of d) past) (map written_by (writes (known_of r) c.plan k)) = holds_start laws.write_data laws.newest d.busy (laws.stays_written d.busy) (known_of r) c.plan k (store_of d) small
-      (subst (AreProtectedLater (store_of d)) (sym values) (laws.protected d (store_of d) r.control r.cycle k c.plan rules refl))
-      (subst (AreStoredWhole (store_of d)) (sym values) (laws.whole d (store_of d) r.control r.cycle k c.plan rules refl))
-      past sees.run sound.0
+      let values : map written_by (writes (known_of r) c.plan k) ≡ start_up r.control r.cycle c.plan k d.at d.mdt = writes_start_up r c.plan k d valid wishes (fits c.plan c.plan_is) there in
+      let own : Holds (store_in (store_of d) past) (map written_by (writes (known_of r) c.plan k)) = holds_start d.busy
+      (written_stays d.busy) (known_of r) c.plan k (store_of d) small
+      (subst (AreProtectedLater (store_of d)) (sym values) (start_up_is_protected d (store_of d) r.control r.cycle k c.plan rules refl))
+      (subst (AreStoredWhole (store_of d)) (sym values) (stores_start_up_whole d (store_of d) r.control r.cycle k c.plan rules refl)) past
+      sees.run sound.0
       (subst (λ (l : List Begun). (i : ℕ) (idn : Idn) (bytes : List ℕ) → slice_get (writes (known_of r) c.plan k) i ≡ Some (request.Write idn 7 bytes) → IsWrittenLast (store_of d) l idn bytes) same c.each) in (
         c.plan,
         c.plan_is,
@@ -118,16 +109,16 @@ module _ (laws : LowerLaws) (r : RingView) (jobs : List Job) (carry : Carry) (re
   -- THE CHECK FOR PHASE 3 that is set in the cycle finds nothing
   pub sets_well : SetsWell v past
   sets_well w is raw sets =
-      let guard = subst (IsProtectedLater v.blocks) (sym raw) (laws.checks d v.blocks rules is_of).0 in
-      let at = set_in laws.allowed laws.transfers d.busy (store_of d) small v past after.run sound w guard is in
+      let guard = subst (IsProtectedLater v.blocks) (sym raw) (checks_are_protected d v.blocks rules is_of).0 in
+      let at = set_in allowed transfers d.busy (store_of d) small v past after.run sound w guard is in
       let tasks : AreBegunTasks (known_of r) k p.plan (p.waiting k) p.now.phase (epoch_begun past) (p.tasks k) = subst (λ (l : List Begun). AreBegunTasks (known_of r) k p.plan (p.waiting k) p.now.phase l (p.tasks k)) sees.master.begun_are
-      (laws.begins (known_of r) (tasks_for (known_of r) jobs) (master_calls r carry restarts j) k place) in
+      (begins_tasks (known_of r) (tasks_for (known_of r) jobs) (master_calls r carry restarts j) k place) in
       let low : p.now.phase ≤ 2 = let e = sees.master.phase_is in let two = at.two in omega (arith, e, two) in
       let many = check_begun (known_of r) k (store_of d) p.plan (p.waiting k) p.now.phase low (all_waiting (known_of r) (tasks_for (known_of r) jobs) (master_calls r carry restarts j) waits k) (epoch_begun past) (p.tasks k) tasks
       (subst (IsGiven (store_of d) (epoch_begun past)) raw at.given) in
       let (plan, has, holds) = holds_plan at.two many in
-      let kept : IsStoreOf d (with_data 127 w.bytes v.blocks) = (laws.keep d v.blocks 127 at.phase w.bytes store.ascending is_of).0 (ap (λ (n : ℕ). put_fault (find_block n v.blocks) at.phase w.bytes) (sym raw) ∙ at.none) in
-      let own : Holds (with_data 127 w.bytes v.blocks) (start_up r.control r.cycle plan k d.at d.mdt) = laws.stay v.blocks 127 w.bytes (start_up r.control r.cycle plan k d.at d.mdt) (none_127 r.control r.cycle plan k d.at d.mdt) holds in
+      let kept : IsStoreOf d (with_data 127 w.bytes v.blocks) = (writes_keep d v.blocks 127 at.phase w.bytes store.ascending is_of).0 (ap (λ (n : ℕ). put_fault (find_block n v.blocks) at.phase w.bytes) (sym raw) ∙ at.none) in
+      let own : Holds (with_data 127 w.bytes v.blocks) (start_up r.control r.cycle plan k d.at d.mdt) = stay_held v.blocks 127 w.bytes (start_up r.control r.cycle plan k d.at d.mdt) (none_127 r.control r.cycle plan k d.at d.mdt) holds in
       let rate : v.commands.rate ≡ r.rate = rate_stays d r.rate (given_mst carry restarts t.sent j k) in
       ap (λ (n : ℕ). ends_well n 127 (with_data 127 w.bytes v.blocks)) rate
-      ∙ ends_so r.rate (with_data 127 w.bytes v.blocks) (laws.passes r plan k d (with_data 127 w.bytes v.blocks) valid wishes (fits plan has) there kept own)
+      ∙ ends_so r.rate (with_data 127 w.bytes v.blocks) (plan_passes_check r plan k d (with_data 127 w.bytes v.blocks) valid wishes (fits plan has) there kept own)

@@ -20,7 +20,6 @@ use Rattle.sercos_seat.specs.Ring.{known_of}
 use Rattle.sercos_master.specs.Annals.{is_done}
 use Rattle.sercos_script.specs.Links.{Carry, Restarts}
 use Rattle.sercos_law_channel.specs.Handshake.Views.{View, standing, stood_in, got_in, record_in, processed_of, processed_in, kept_in}
-use Rattle.sercos_law_channel.specs.Handshake.RunLaws.{BeginsEmpty}
 use Rattle.sercos_law_channel.specs.Handshake.WholeRun.{write_of}
 use Rattle.sercos_law_run.specs.Journal.Records.{mdt_in}
 use Rattle.sercos_law_run.specs.Journal.Runs.{drive_at, with_restart, mdt_heard, given_before, IsNext as IsNextCycle}
@@ -89,10 +88,10 @@ keeps_settings v (u ∷ past) follow = by (stood_in v (standing (u ∷ past)) ==
     by false false true is = inl is
     by false false false is = inr is
 
-module _ (empty : (busy : ℕ) → BeginsEmpty busy) (r : RingView) (jobs : List Job) (carry : Carry) (restarts : Restarts) (valid : is_ring r ≡ true) (t : CycleView) (j : List CycleView)
-    (next : IsNextCycle r jobs carry restarts t j) (clear : t.unseen ≡ 0) (spelled : IsSpelled r jobs carry restarts t j) (k : ℕ) (below : k < length r.drives) (sees : Sees r jobs carry restarts k j)
-    (agrees : (plan : PlanView) → 3 ≤ (behind_mdt r jobs carry restarts t.sent j).now.phase → 3 ≤ phase_in (after_mst r carry restarts t.sent j k) → (behind_mdt r jobs carry restarts t.sent j).plan ≡ Some plan
-    → Agrees (known_of r) (behind_mdt r jobs carry restarts t.sent j) k (blocks_in (drive_at r k) (after_mst r carry restarts t.sent j k)))
+module _ (r : RingView) (jobs : List Job) (carry : Carry) (restarts : Restarts) (valid : is_ring r ≡ true) (t : CycleView)
+    (j : List CycleView) (next : IsNextCycle r jobs carry restarts t j) (clear : t.unseen ≡ 0)
+    (spelled : IsSpelled r jobs carry restarts t j) (k : ℕ) (below : k < length r.drives) (sees : Sees r jobs carry restarts k j)
+    (agrees : (plan : PlanView) → 3 ≤ (behind_mdt r jobs carry restarts t.sent j).now.phase → 3 ≤ phase_in (after_mst r carry restarts t.sent j k) → (behind_mdt r jobs carry restarts t.sent j).plan ≡ Some plan → Agrees (known_of r) (behind_mdt r jobs carry restarts t.sent j) k (blocks_in (drive_at r k) (after_mst r carry restarts t.sent j k)))
     (rests : is_done (known_of r) (behind_mdt r jobs carry restarts t.sent j) ≡ true → open_in (begun_by ((behind_mdt r jobs carry restarts t.sent j).calls k)) ≡ None)
     (before : IsSetSo r jobs carry restarts k j) where
   abbrev d : DriveView
@@ -110,7 +109,7 @@ module _ (empty : (busy : ℕ) → BeginsEmpty busy) (r : RingView) (jobs : List
   -- at the MST's place
   set_at_mst : v.commands.set ≡ (if stood_in v (standing past) == 0 then [] else (if v.drive_restarts then [] else settings_left past))
   set_at_mst =
-      let here = at_mst empty r jobs carry restarts valid t j next clear spelled k below sees agrees rests in
+      let here = at_mst r jobs carry restarts valid t j next clear spelled k below sees agrees rests in
       set_reset (phase_in behind) (commands_in d r.rate (before_mst r carry restarts j k))
       ∙ ap₂ (λ (n : ℕ) (set : List SetCommand). if n == 0 then [] else set) here.ended
       (set_restarted d r.rate (restarts (length j) (k + 1)) (given_before carry restarts j k) (settings_left past) before.behind)
@@ -121,15 +120,15 @@ module _ (empty : (busy : ℕ) → BeginsEmpty busy) (r : RingView) (jobs : List
 
   processed_so : processed_at d r.rate told behind ≡ processed_in v past
   processed_so =
-      let here = at_mst empty r jobs carry restarts valid t j next clear spelled k below sees agrees rests in
-      let cycle = count empty r jobs carry restarts valid t j next clear spelled k below sees agrees rests in
+      let here = at_mst r jobs carry restarts valid t j next clear spelled k below sees agrees rests in
+      let cycle = count r jobs carry restarts valid t j next clear spelled k below sees agrees rests in
       processed_same d r.rate (length past) behind told v (stood_in v (standing past)) (sym cycle) here.ended here.got refl refl
-      ∙ ap (processed_of v (length past) (stood_in v (standing past))) (got_or_none _ _ (told_so empty r jobs carry restarts valid t j next clear spelled k below sees agrees rests))
+      ∙ ap (processed_of v (length past) (stood_in v (standing past))) (got_or_none _ _ (told_so r jobs carry restarts valid t j next clear spelled k below sees agrees rests))
 
   set_at_mdt : settings_at r carry restarts k (t ∷ j) ≡ settings_left (v ∷ past)
   set_at_mdt =
-      let here = at_mst empty r jobs carry restarts valid t j next clear spelled k below sees agrees rests in
-      let after = sees_next empty r jobs carry restarts valid t j next clear spelled k below sees agrees rests in
+      let here = at_mst r jobs carry restarts valid t j next clear spelled k below sees agrees rests in
+      let after = sees_next r jobs carry restarts valid t j next clear spelled k below sees agrees rests in
       set_reset (ends_in told behind) (commands_after (processed_at d r.rate told behind) (taken_in behind) v.commands)
       ∙ ap₂ (λ (n : ℕ) (c : CommandsView). if n == 0 then [] else c.set) after.drive.ended
       (ap₂ (λ (o : Option Taken) (h : List Taken). commands_after o h v.commands) processed_so here.taken

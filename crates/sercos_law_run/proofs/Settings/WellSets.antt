@@ -26,7 +26,6 @@ use Rattle.sercos_script.specs.Links.{Carry, Restarts}
 use Rattle.sercos_law_run.specs.Start.StartUp.{IsStoreOf}
 use Rattle.sercos_law_run.proofs.Start.BlockFinds.{same_attribute}
 use Rattle.sercos_law_run.proofs.Start.CheckPasses.{ring_drive}
-use Rattle.sercos_law_channel.specs.Handshake.RunLaws.{BeginsEmpty}
 use Rattle.sercos_law_channel.specs.Handshake.WholeRun.{AreSound, AreSmall}
 use Rattle.sercos_law_run.specs.Journal.Runs.{drive_at, master_calls, looks_back, IsNext as IsNextCycle}
 use Rattle.sercos_law_run.specs.Views.RingViews.{behind_mdt, after_mst, view_of, views_of}
@@ -35,7 +34,7 @@ use Rattle.sercos_law_run.proofs.Views.ViewRuns.{Sees, at_mst, sees_next}
 use Rattle.sercos_law_run.specs.Views.Spelled.{IsSpelled}
 use Rattle.sercos_law_run.specs.Settings.WellSet.{HaveStores, AreSetWell}
 use Rattle.sercos_law_run.proofs.Settings.SettingsRuns.{IsSetSo, set_first, set_next, keeps_settings}
-use Rattle.sercos_law_run.proofs.Settings.SetsWell.{LowerLaws, sets_well}
+use Rattle.sercos_law_run.proofs.Settings.SetsWell.{sets_well}
 
 -- S-0-0127 is a procedure command of each drive
 pub is_command_127 : (d : DriveView) (blocks : List Block) → blocks_fault [] d.blocks ≡ None → IsStoreOf d blocks → is_command blocks 127 ≡ true
@@ -57,29 +56,30 @@ pub record IsWellSet (r : RingView) (jobs : List Job) (carry : Carry) (restarts 
 pub well_first : (r : RingView) (jobs : List Job) (carry : Carry) (restarts : Restarts) (k : ℕ) → IsWellSet r jobs carry restarts k []
 well_first r jobs carry restarts k = record { set = set_first r jobs carry restarts k; well = tt; commands = tt }
 
-module _ (laws : LowerLaws) (empty : (busy : ℕ) → BeginsEmpty busy) (r : RingView) (jobs : List Job) (carry : Carry) (restarts : Restarts) (valid : is_ring r ≡ true) (wishes : IsValid (wishes_of r))
-    (waits : (i : ℕ) → AreWaiting (tasks_for (known_of r) jobs i)) (t : CycleView) (j : List CycleView) (next : IsNextCycle r jobs carry restarts t j) (clear : t.unseen ≡ 0) (spelled : IsSpelled r jobs carry restarts t j)
-    (k : ℕ) (below : k < length r.drives) (sees : Sees r jobs carry restarts k j)
-    (agrees : (plan : PlanView) → 3 ≤ (behind_mdt r jobs carry restarts t.sent j).now.phase → 3 ≤ phase_in (after_mst r carry restarts t.sent j k) → (behind_mdt r jobs carry restarts t.sent j).plan ≡ Some plan
-    → Agrees (known_of r) (behind_mdt r jobs carry restarts t.sent j) k (blocks_in (drive_at r k) (after_mst r carry restarts t.sent j k)))
+module _ (r : RingView) (jobs : List Job) (carry : Carry) (restarts : Restarts) (valid : is_ring r ≡ true) (wishes : IsValid (wishes_of r))
+    (waits : (i : ℕ) → AreWaiting (tasks_for (known_of r) jobs i)) (t : CycleView) (j : List CycleView)
+    (next : IsNextCycle r jobs carry restarts t j) (clear : t.unseen ≡ 0) (spelled : IsSpelled r jobs carry restarts t j) (k : ℕ)
+    (below : k < length r.drives) (sees : Sees r jobs carry restarts k j)
+    (agrees : (plan : PlanView) → 3 ≤ (behind_mdt r jobs carry restarts t.sent j).now.phase → 3 ≤ phase_in (after_mst r carry restarts t.sent j k) → (behind_mdt r jobs carry restarts t.sent j).plan ≡ Some plan → Agrees (known_of r) (behind_mdt r jobs carry restarts t.sent j) k (blocks_in (drive_at r k) (after_mst r carry restarts t.sent j k)))
     (rests : is_done (known_of r) (behind_mdt r jobs carry restarts t.sent j) ≡ true → open_in (begun_by ((behind_mdt r jobs carry restarts t.sent j).calls k)) ≡ None)
     (small : AreSmall (store_of (drive_at r k))) (sound : AreSound (store_of (drive_at r k)) (views_of r jobs carry restarts k (t ∷ j)))
-    (store : IsStore (view_of r jobs carry restarts k t j).blocks) (is_of : IsStoreOf (drive_at r k) (view_of r jobs carry restarts k t j).blocks)
+    (store : IsStore (view_of r jobs carry restarts k t j).blocks)
+    (is_of : IsStoreOf (drive_at r k) (view_of r jobs carry restarts k t j).blocks)
     (fits : (plan : PlanView) → (looks_back r jobs (master_calls r carry restarts j)).plan ≡ Some plan → Fits (wishes_of r) plan)
     (before : IsWellSet r jobs carry restarts k j) where
   -- one cycle more
   pub well_next : IsWellSet r jobs carry restarts k (t ∷ j)
   well_next =
-      let here = at_mst empty r jobs carry restarts valid t j next clear spelled k below sees agrees rests in
-      let after = sees_next empty r jobs carry restarts valid t j next clear spelled k below sees agrees rests in
-      let set = set_next empty r jobs carry restarts valid t j next clear spelled k below sees agrees rests before.set in
+      let here = at_mst r jobs carry restarts valid t j next clear spelled k below sees agrees rests in
+      let after = sees_next r jobs carry restarts valid t j next clear spelled k below sees agrees rests in
+      let set = set_next r jobs carry restarts valid t j next clear spelled k below sees agrees rests before.set in
       let rules = (ring_drive r k (drive_at r k) valid (slice_get-get_or r.drives k _ below)).blocks in
       record {
         set = set;
         well = (
           before.well,
           keeps_settings (view_of r jobs carry restarts k t j) (views_of r jobs carry restarts k j) set.follow,
-          sets_well laws r jobs carry restarts valid wishes waits k below small t j sees after sound store is_of here.blocks fits,
+          sets_well r jobs carry restarts valid wishes waits k below small t j sees after sound store is_of here.blocks fits,
         );
         commands = (before.commands, is_command_127 (drive_at r k) (view_of r jobs carry restarts k t j).blocks rules is_of);
       }

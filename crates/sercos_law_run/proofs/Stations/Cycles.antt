@@ -4,7 +4,6 @@ use Rattle.sercos_block.specs.Rules.{blocks_fault}
 use Rattle.sercos_block.specs.Stores.{store_of, IsStore}
 use Rattle.sercos_block.specs.Views.{DriveView}
 use Rattle.sercos_drive.specs.Heard.{DriveCall}
-use Rattle.sercos_drive.specs.Laws.{HandedThose}
 use Rattle.sercos_law_run.specs.Journal.Runs.{drive_at, given_mst, given_mdt}
 use Rattle.sercos_law_run.specs.Typed.Keeps.{KeepsAlways}
 use Rattle.sercos_law_run.specs.Stations.Cycles.{ArePlain, AlwaysPlain}
@@ -15,21 +14,20 @@ use Rattle.sercos_law_run.proofs.Stations.FitInFour.{fit_in_four}
 use Rattle.sercos_law_run.proofs.Stations.Times.{empty_keeps_times}
 use Rattle.sercos_law_run.proofs.Stations.Phases.{stands_by_mst, rises_by_one, drops_by_cause}
 
-are_plain : HandedThose → (d : DriveView) (rate : ℕ) (h : List DriveCall) → blocks_fault [] d.blocks ≡ None → IsStore (store_of d)
-    → ArePlain d rate h
-are_plain those d rate [] none store = tt
-are_plain those d rate (call ∷ h) none store = record {
-  times = λ high. empty_keeps_times rate _ (fit_in_three those d rate (call ∷ h) none store high);
-  limits = fit_in_four those d rate (call ∷ h) none store;
+are_plain : (d : DriveView) (rate : ℕ) (h : List DriveCall) → blocks_fault [] d.blocks ≡ None → IsStore (store_of d) → ArePlain d rate h
+are_plain d rate [] none store = tt
+are_plain d rate (call ∷ h) none store = record {
+  times = λ high. empty_keeps_times rate _ (fit_in_three d rate (call ∷ h) none store high);
+  limits = fit_in_four d rate (call ∷ h) none store;
   stands = stands_by_mst d rate (call ∷ h);
   rises = rises_by_one d rate call h;
   drops = drops_by_cause d rate call h;
 }
 
-pub always_plain : HandedThose → KeepsAlways → AlwaysPlain
-always_plain those always r jobs carry restarts t j opened k below =
+pub always_plain : KeepsAlways → AlwaysPlain
+always_plain always r jobs carry restarts t j opened k below =
     let none = (ring_drive r k (drive_at r k) opened.valid (drive_got r k below)).blocks in
     let store = (always r carry restarts [] k opened.valid opened.typed below).store in (
-      are_plain those (drive_at r k) r.rate (given_mst carry restarts t.sent j k) none store,
-      are_plain those (drive_at r k) r.rate (given_mdt carry restarts t.sent j k) none store,
+      are_plain (drive_at r k) r.rate (given_mst carry restarts t.sent j k) none store,
+      are_plain (drive_at r k) r.rate (given_mdt carry restarts t.sent j k) none store,
     )

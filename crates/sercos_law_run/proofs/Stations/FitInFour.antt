@@ -21,7 +21,6 @@ use Rattle.sercos_command.specs.Checks.{is_outside, unfit_for_phase_4}
 use Rattle.sercos_command.proofs.History.{is_passed-kept}
 use Rattle.sercos_drive.specs.Moments.{calls_in}
 use Rattle.sercos_drive.specs.Annals.{has_passed}
-use Rattle.sercos_drive.specs.Laws.{HandedThose}
 use Rattle.sercos_law_run.specs.Stations.Fit.{FitInFour}
 use Rattle.sercos_law_run.proofs.Start.BlockFinds.{same_attribute}
 use Rattle.sercos_law_run.proofs.Start.KeptLemmas.{above_none}
@@ -131,5 +130,5 @@ module _ (d : DriveView) (rate : ℕ) (none : blocks_fault [] d.blocks ≡ None)
         (is_passed-kept rate d.command 128 (calls_in past) cycle) ∙ subst (λ (p : ℕ). has_passed d rate cycle p past ≡ true) is has;
   }
 
-pub fit_in_four : HandedThose → FitInFour
-fit_in_four those d rate h none store high = none_so _ ((holds_at those d rate 128 4 AreInside (found_in_4 d rate none) h store.ascending).stands high)
+pub fit_in_four : FitInFour
+fit_in_four d rate h none store high = none_so _ ((holds_at d rate 128 4 AreInside (found_in_4 d rate none) h store.ascending).stands high)

@@ -22,7 +22,6 @@ use Rattle.sercos_command.specs.Settings.{is_command}
 use Rattle.sercos_command.proofs.History.{is_passed-kept}
 use Rattle.sercos_drive.specs.Moments.{calls_in}
 use Rattle.sercos_drive.specs.Annals.{has_passed}
-use Rattle.sercos_drive.specs.Laws.{HandedThose}
 use Rattle.sercos_law_run.specs.Start.StartUp.{IsStoreOf}
 use Rattle.sercos_law_run.specs.Stations.Fit.{FitInThree}
 use Rattle.sercos_law_run.proofs.Start.BlockFinds.{carry_alike, same_attribute}
@@ -208,5 +207,5 @@ module _ (d : DriveView) (rate : ℕ) (none : blocks_fault [] d.blocks ≡ None)
         (is_passed-kept rate d.command 127 (calls_in past) cycle) ∙ subst (λ (p : ℕ). has_passed d rate cycle p past ≡ true) is has;
   }
 
-pub fit_in_three : HandedThose → FitInThree
-fit_in_three those d rate h none store high = (holds_at those d rate 127 3 (IsFit d rate none) (found_in_3 d rate none) h store.ascending).stands high
+pub fit_in_three : FitInThree
+fit_in_three d rate h none store high = (holds_at d rate 127 3 (IsFit d rate none) (found_in_3 d rate none) h store.ascending).stands high

@@ -4,15 +4,14 @@ use Rattle.sercos_block.specs.declared.block.Block.{Block}
 use Rattle.sercos_command.specs.Checks.{number_at, carried_len}
 use Rattle.sercos_drive.specs.Annals.{store_at}
 use Rattle.sercos_drive.specs.Heard.{joint_in, lies_within}
-use Rattle.sercos_drive.specs.Laws.{HandedThose}
 use Rattle.sercos_law_run.specs.Stations.Fit.{AlwaysLies}
 use Rattle.sercos_law_run.proofs.Stations.FitInThree.{fit_in_three}
 use Rattle.sercos_law_run.proofs.Stations.Times.{empty_keeps_times}
 
-pub always_lies : HandedThose → AlwaysLies
+pub always_lies : AlwaysLies
 unfolding joint_in
-always_lies those d rate h content none store high =
+always_lies d rate h content none store high =
     let blocks : List Block = store_at d rate h in
     let lies : lies_within (number_at blocks 10) (number_at blocks 9) (carried_len blocks 24) ≡ true =
-    (empty_keeps_times rate blocks (fit_in_three those d rate h none store high)).lies in
+    (empty_keeps_times rate blocks (fit_in_three d rate h none store high)).lies in
     rw lies refl

@@ -17,11 +17,11 @@ use Rattle.sercos_drive.specs.declared.hearing.Told.{Told}
 use Rattle.sercos_drive.specs.Heard.{DriveCall, Mst, Mdt, Restart, mst_got, mdt_got}
 use Rattle.sercos_drive.specs.Moments.{Moment, phase_in, cycle_in, has_mst, has_missed, taken_in, blocks_in, blocks_after, commands_in, calls_in, calls_after, with_reset}
 use Rattle.sercos_drive.specs.Annals.{annals, has_passed, processed_in, stands_in, ends_in, takes}
-use Rattle.sercos_drive.specs.Laws.{HandedThose}
 use Rattle.sercos_drive.proofs.RecordLemmas.{phase_below}
-use Rattle.sercos_law_run.proofs.Start.LaterLemmas.{after_check, blocks_keep, still_ascending}
+use Rattle.sercos_law_run.proofs.Start.LaterLemmas.{after_check, still_ascending}
 use Rattle.sercos_law_run.proofs.Start.KeptLemmas.{writes_keep}
 use Rattle.sercos_law_run.proofs.Held.StoreOf.{IsOf, store_of_so}
+use Rattle.sercos_law_run.proofs.Cited.{handed_those}
 
 -- This is what a check found: it is so where the check finds nothing when it is set; the lists of the checks and writes to procedure
 -- commands leave it so, and in the phases from `top` on each accepted write does.
@@ -42,7 +42,7 @@ pub record Holds (d : DriveView) (rate check top : ℕ) (P : List Block → Type
   pub passed : (cycle : ℕ) → passed_so_far rate d.command check calls cycle ≡ true → P blocks
   pub stands : top ≤ phase → P blocks
 
-module _ (those : HandedThose) (d : DriveView) (rate check top : ℕ) (P : List Block → Type 0) (found : IsFound d rate check top P) where
+module _ (d : DriveView) (rate check top : ℕ) (P : List Block → Type 0) (found : IsFound d rate check top P) where
   -- phase 0 forgets what was passed
   left : (phase after : ℕ) (calls : List Call) (blocks : List Block) → after ≤ phase → Holds d rate check top P calls phase blocks
       → Holds d rate check top P (with_reset after calls) after blocks
@@ -188,4 +188,4 @@ module _ (those : HandedThose) (d : DriveView) (rate check top : ℕ) (P : List 
   holds_at (Restart ∷ h) ascending = let high = found.above in record { passed = λ cycle so. absurd (false≢true so); stands = λ low. absurd (omega (arith, low, high)) }
   holds_at (Mst cycle content ∷ h) ascending = at_mst (annals d rate h) cycle (mst_got content) (holds_at h ascending)
   holds_at (Mdt content ∷ h) ascending =
-      at_mdt (annals d rate h) (mdt_got d.address (phase_in (annals d rate h)) (blocks_in d (annals d rate h)) content) (phase_below d rate h) (store_of_so blocks_keep allowed those d rate h ascending) (those d rate h) (holds_at h ascending)
+      at_mdt (annals d rate h) (mdt_got d.address (phase_in (annals d rate h)) (blocks_in d (annals d rate h)) content) (phase_below d rate h) (store_of_so d rate h ascending) (handed_those d rate h) (holds_at h ascending)

@@ -26,16 +26,16 @@ use Rattle.sercos_service_drive.specs.Writes.{Write, AreThose, added_on, setting
 use Rattle.sercos_service_drive.proofs.AllowedWrites.{allowed}
 use Rattle.sercos_drive.specs.declared.hearing.Told.{Told}
 use Rattle.sercos_drive.specs.Heard.{DriveCall, Mst, Mdt, Restart, mst_got, mdt_got}
-use Rattle.sercos_drive.specs.Laws.{HandedThose}
 use Rattle.sercos_drive.specs.Moments.{Moment, phase_in, cycle_in, has_mst, taken_in, blocks_in, blocks_after, commands_in, commands_after, calls_in, calls_after, with_reset, reset_in}
 use Rattle.sercos_drive.specs.Annals.{annals, processed_in, stands_in, ends_in}
 use Rattle.sercos_law_run.specs.Start.StartUp.{IsStoreOf}
 use Rattle.sercos_law_run.specs.Stations.Lists.{found_for_3, found_for_4, ListsAreFound}
 use Rattle.sercos_law_run.proofs.Start.BlockFinds.{find_built_in, find_store_of, same_attribute}
-use Rattle.sercos_law_run.proofs.Start.LaterLemmas.{blocks_keep, has_of}
+use Rattle.sercos_law_run.proofs.Start.LaterLemmas.{has_of}
 use Rattle.sercos_law_run.proofs.Start.KeptLemmas.{stays, writes_hold, writes_keep}
 use Rattle.sercos_law_run.proofs.Held.StoreOf.{IsOf, store_of_so}
 use Rattle.sercos_law_run.proofs.Stations.FitInThree.{IsLater, later_by}
+use Rattle.sercos_law_run.proofs.Cited.{handed_those}
 
 -- What is kept of the settings is what the calls made of them.
 abbrev AreSet : ℕ → CommandsView → List Call → Type 0
@@ -112,7 +112,7 @@ locked (Some b) d raw phase bytes locks e none =
     by false true = locks.later.three
     by false false = locks.later.four
 
-module _ (those : HandedThose) (d : DriveView) (rate : ℕ) (none : blocks_fault [] d.blocks ≡ None) where
+module _ (d : DriveView) (rate : ℕ) (none : blocks_fault [] d.blocks ≡ None) where
   locks_21 : IsLocked d 21
   unfolding block_attribute built_in_attribute row_in attribute_in attribute_fault attribute_of
   locks_21 = record { later = later_by d 21 _ refl refl refl refl; two = refl }
@@ -202,7 +202,7 @@ module _ (those : HandedThose) (d : DriveView) (rate : ℕ) (none : blocks_fault
   contain_at [] up = opening
   contain_at (Restart ∷ h) up = contain_at h up
   contain_at (Mst cycle content ∷ h) up = kept_by (stands_in d rate cycle (mst_got content) (annals d rate h)) (calls_in (annals d rate h)) (blocks_in d (annals d rate h)) (contain_at h up)
-  contain_at (Mdt content ∷ h) up = kept_by (ends_in told past) (calls_after (processed_in d rate told past) (taken_in past) (calls_in past)) (blocks_after (processed_in d rate told past) (taken_in past) (blocks_in d past)) (by told (those d rate h) (store_of_so blocks_keep allowed those d rate h up) (contain_at h up))
+  contain_at (Mdt content ∷ h) up = kept_by (ends_in told past) (calls_after (processed_in d rate told past) (taken_in past) (calls_in past)) (blocks_after (processed_in d rate told past) (taken_in past) (blocks_in d past)) (by told (handed_those d rate h) (store_of_so d rate h up) (contain_at h up))
     where
       past : List Moment
       past = annals d rate h
@@ -224,5 +224,5 @@ module _ (those : HandedThose) (d : DriveView) (rate : ℕ) (none : blocks_fault
           which true = recorded (blocks_in d past) (calls_in past) (phase_in past) (added_on one (taken_in past)) (commands_in d rate past) is (allowed one (taken_in past) are) (are_set d rate h) has
           which false = has
 
-pub lists_are_found : HandedThose → ListsAreFound
-lists_are_found those d rate h none store = contain_at those d rate none h store.ascending
+pub lists_are_found : ListsAreFound
+lists_are_found d rate h none store = contain_at d rate none h store.ascending

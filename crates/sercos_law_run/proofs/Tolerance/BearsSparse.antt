@@ -6,19 +6,16 @@ use Rattle.sercos_block.specs.Views.{RingView}
 use Rattle.sercos_trace.specs.Views.{CycleView}
 use Rattle.sercos_seat.specs.Ring.{known_of, tasks_for}
 use Rattle.sercos_script.specs.Links.{Carry, Restarts}
-use Rattle.sercos_law_channel.specs.Handshake.RunLaws.{ComesToZero, ComesUp}
 use Rattle.sercos_law_channel.specs.Handshake.Runs.{IsRun as IsViewRun}
 use Rattle.sercos_law_channel.specs.Pace.Ages.{age_in}
-use Rattle.sercos_law_channel.specs.Pace.ChannelCalls.{AgesBeforeEnd, StaysARun}
 use Rattle.sercos_law_channel.specs.Pace.Passages.{IsUp}
 use Rattle.sercos_law_channel.proofs.Theorems.{nothing_old}
 use Rattle.sercos_law_run.specs.Journal.Runs.{drive_at, master_calls, IsClear, IsRun}
-use Rattle.sercos_law_run.specs.Agenda.Turns.{WorkInTurn}
 use Rattle.sercos_law_run.proofs.Views.Members.{members_count}
 use Rattle.sercos_law_run.specs.Views.RingViews.{view_of, views_of}
 use Rattle.sercos_law_run.specs.Held.Opened.{IsOpened}
-use Rattle.sercos_law_run.proofs.Held.Runs.{Laws, s_known}
-use Rattle.sercos_law_run.proofs.Headline.HeadlineRuns.{MoreLaws, all_stand, first_store}
+use Rattle.sercos_law_run.proofs.Held.Runs.{s_known}
+use Rattle.sercos_law_run.proofs.Headline.HeadlineRuns.{all_stand, first_store}
 use Rattle.sercos_law_run.proofs.Typed.Mdts.{phase_low}
 use Rattle.sercos_law_run.specs.Undisturbed.EpochStarts.{StartsEpoch}
 use Rattle.sercos_law_run.proofs.Undisturbed.Answered.{tells_going}
@@ -48,22 +45,19 @@ calm_is_sparse r carry restarts t j calm = record {
   late = λ disturbed high. absurd (never _ disturbed calm);
 }
 
-module _ (laws : Laws) (more : MoreLaws) (turn : WorkInTurn) (comes_up : (busy : ℕ) → ComesUp busy)
-    (to_zero : (busy : ℕ) → ComesToZero busy) (goes : (busy : ℕ) → StaysARun busy) (counts : (busy : ℕ) → AgesBeforeEnd busy)
-    (rises : RisesSparse) (reports : ReportsSparse) (ends : EndsSparse)
-    (rises_anyway : RisesAnyway) (ends_anyway : EndsAnyway)
+module _ (rises : RisesSparse) (reports : ReportsSparse) (ends : EndsSparse) (rises_anyway : RisesAnyway) (ends_anyway : EndsAnyway)
     (r : RingView) (jobs : List Job) (carry : Carry) (restarts : Restarts) (opened : IsOpened r jobs) where
   abbrev Borne : CycleView → List CycleView → Type 0
-  Borne t j = IsBorne laws more turn comes_up to_zero goes counts r jobs carry restarts opened t j
+  Borne t j = IsBorne r jobs carry restarts opened t j
 
   is_run : (j : List CycleView) → IsRun r jobs carry restarts j → IsClear j → (k : ℕ) → k < length r.drives
       → IsViewRun (drive_at r k).busy (views_of r jobs carry restarts k j)
-  is_run j run clear k below = (all_stand laws more r jobs carry restarts opened j run clear k below).sees.run
+  is_run j run clear k below = (all_stand r jobs carry restarts opened j run clear k below).sees.run
 
   some_drive : 0 < length r.drives
   some_drive =
       let count = members_count r in
-      let some = (s_known laws r jobs carry restarts opened (first_store laws more r jobs carry restarts opened)).some in
+      let some = (s_known r jobs carry restarts opened (first_store r jobs carry restarts opened)).some in
       omega (arith, count, some)
 
   -- how old a step is at the end of a cycle
@@ -87,14 +81,13 @@ module _ (laws : Laws) (more : MoreLaws) (turn : WorkInTurn) (comes_up : (busy :
   none_old : (before : List CycleView) → IsRun r jobs carry restarts before → IsClear before → StartsEpoch r jobs carry restarts before
       → (k : ℕ) → k < length r.drives → age_in (views_of r jobs carry restarts k before) ≡ 0
   none_old before run clear starts k below =
-      let begins = begins_so laws more r jobs carry restarts opened [] before run clear starts k below in
+      let begins = begins_so r jobs carry restarts opened [] before run clear starts k below in
       nothing_old (drive_at r k).busy (views_of r jobs carry restarts k before) begins.0 begins.1
 
   module _ (t : CycleView) (before : List CycleView) (starts : StartsEpoch r jobs carry restarts before) where
     borne : (cycles : List CycleView) → IsRun r jobs carry restarts (t ∷ (cycles ++ before)) → IsClear (t ∷ (cycles ++ before))
         → AreSparse r carry restarts (t ∷ cycles) before → Borne t (cycles ++ before)
-    borne cycles run clear sparse = all_borne laws more turn comes_up to_zero goes counts r jobs carry restarts opened t cycles before run
-        clear starts sparse
+    borne cycles run clear sparse = all_borne r jobs carry restarts opened t cycles before run clear starts sparse
 
     stands : (cycles : List CycleView) → IsRun r jobs carry restarts (t ∷ (cycles ++ before)) → IsClear (t ∷ (cycles ++ before))
         → AreSparse r carry restarts (t ∷ cycles) before → 1 ≤ length cycles → (k : ℕ) → k < length r.drives
@@ -103,15 +96,15 @@ module _ (laws : Laws) (more : MoreLaws) (turn : WorkInTurn) (comes_up : (busy :
     stands [] run clear sparse some k below = absurd (omega (arith, some))
     stands (u ∷ cycles) run clear sparse some k below = elim (cases_eq t.phase 0) [
       | inr later ↦ (borne (u ∷ cycles) run clear sparse).near (omega (arith, later)) k below
-      | inl at_zero ↦ inl (zero_again more.no_later (view_of r jobs carry restarts k t (u ∷ (cycles ++ before)))
+      | inl at_zero ↦ inl (zero_again (view_of r jobs carry restarts k t (u ∷ (cycles ++ before)))
           (view_of r jobs carry restarts k u (cycles ++ before)) (views_of r jobs carry restarts k (cycles ++ before)) at_zero
           (was_zero at_zero))
     ]
       where
         was_zero : t.phase ≡ 0 → u.phase ≡ 0
-        was_zero at_zero = elim (phase_after laws more turn r jobs carry restarts opened t u (cycles ++ before) run clear
-            (all_borne laws more turn comes_up to_zero goes counts r jobs carry restarts opened u cycles before run.0 clear.0 starts
-            sparse.0).stays (sparse.1.goes_on 0 (omega arith)) k below) [
+        was_zero at_zero = elim (phase_after r jobs carry restarts opened t u (cycles ++ before) run clear
+            (all_borne r jobs carry restarts opened u cycles before run.0 clear.0 starts sparse.0).stays (sparse.1.goes_on 0 (omega arith))
+            k below) [
               | inl same ↦ same ∙ at_zero
               | inr up ↦ absurd (omega (arith, up, at_zero))
             ]
@@ -121,22 +114,21 @@ module _ (laws : Laws) (more : MoreLaws) (turn : WorkInTurn) (comes_up : (busy :
         → age_in (views_of r jobs carry restarts k (cycles ++ before)) ≤ (drive_at r k).busy + 4
     ages_before [] run clear sparse k below = let none = none_old before run.0 clear.0 starts k below in omega (arith, none)
     ages_before (u ∷ cycles) run clear sparse k below =
-        age_of u (cycles ++ before) run.0 clear.0 (all_borne laws more turn comes_up to_zero goes counts r jobs carry restarts opened u
-        cycles before run.0 clear.0 starts sparse.0) k below
+        age_of u (cycles ++ before) run.0 clear.0 (all_borne r jobs carry restarts opened u cycles before run.0 clear.0 starts
+        sparse.0) k below
 
     late_before : (cycles : List CycleView) → IsRun r jobs carry restarts (t ∷ (cycles ++ before)) → IsClear (t ∷ (cycles ++ before))
         → AreSparse r carry restarts (t ∷ cycles) before → 3 ≤ t.phase → (k : ℕ) → k < length r.drives
         → age_in (views_of r jobs carry restarts k (cycles ++ before)) ≤ (drive_at r k).busy + 3
     late_before [] run clear sparse late k below = let none = none_old before run.0 clear.0 starts k below in omega (arith, none)
-    late_before (u ∷ cycles) run clear sparse late k below = elim (late_age laws more turn comes_up to_zero goes counts r jobs carry
-        restarts opened t u (cycles ++ before) run clear is sparse.1 late k below) [
+    late_before (u ∷ cycles) run clear sparse late k below = elim (late_age r jobs carry restarts opened t u (cycles ++ before) run clear is
+        sparse.1 late k below) [
           | inl same ↦ late_age_of u (cycles ++ before) run.0 clear.0 is same.1 k below
           | inr none ↦ (let zero = closed_age (views_of r jobs carry restarts k (u ∷ (cycles ++ before))) none in omega (arith, zero))
         ]
       where
         is : Borne u (cycles ++ before)
-        is = all_borne laws more turn comes_up to_zero goes counts r jobs carry restarts opened u cycles before run.0 clear.0 starts
-            sparse.0
+        is = all_borne r jobs carry restarts opened u cycles before run.0 clear.0 starts sparse.0
 
     -- phase 4 stays
     four_stays : (cycles : List CycleView) → IsRun r jobs carry restarts (t ∷ (cycles ++ before)) → IsClear (t ∷ (cycles ++ before))
@@ -146,19 +138,18 @@ module _ (laws : Laws) (more : MoreLaws) (turn : WorkInTurn) (comes_up : (busy :
     four_stays (v ∷ cycles) run clear sparse u older is four =
         let same : v ≡ u = cc in
         let at : v.phase ≡ 4 = ap (λ (x : CycleView). x.phase) same ∙ four in
-        let least = no_lower laws more turn r jobs carry restarts opened t v (cycles ++ before) run clear
-        (all_borne laws more turn comes_up to_zero goes counts r jobs carry restarts opened v cycles before run.0 clear.0 starts
-        sparse.0).stays
-        (sparse.1.goes_on 0 (omega arith)) 0 some_drive in
+        let least = no_lower r jobs carry restarts opened t v (cycles ++ before) run clear
+        (all_borne r jobs carry restarts opened v cycles before run.0 clear.0 starts sparse.0).stays (sparse.1.goes_on 0 (omega arith)) 0
+        some_drive in
         let most = phase_low (known_of r) (tasks_for (known_of r) jobs) (master_calls r carry restarts (v ∷ (cycles ++ before))) in
-        let phase = phase_is laws more turn comes_up to_zero goes counts r jobs carry restarts opened t (v ∷ (cycles ++ before)) run
+        let phase = phase_is r jobs carry restarts opened t (v ∷ (cycles ++ before)) run
         (borne (v ∷ cycles) run clear sparse) in omega (arith, at, least, most, phase)
 
   pub bears_sparse : (t : CycleView) (cycles before : List CycleView) → IsRun r jobs carry restarts (t ∷ (cycles ++ before))
       → IsClear (t ∷ (cycles ++ before)) → StartsEpoch r jobs carry restarts before
       → AreSparse r carry restarts (t ∷ cycles) before → Bears r jobs carry restarts t cycles before
   bears_sparse t cycles before run clear starts sparse = record {
-    tells = tells_going laws more r jobs carry restarts opened t (cycles ++ before) run clear is.goes_on is.stays;
+    tells = tells_going r jobs carry restarts opened t (cycles ++ before) run clear is.goes_on is.stays;
     stands = stands t before starts cycles run clear sparse;
     ages = age_of t (cycles ++ before) run clear is;
     late_ages = λ late k below. late_age_of t (cycles ++ before) run clear is late k below;

@@ -15,23 +15,20 @@ use Rattle.sercos_seat.specs.Ring.{known_of, tasks_for}
 use Rattle.sercos_master.specs.Annals.{Past, Turn, count_addressed, fall_of, has_lost_at, has_lost_mst, is_done}
 use Rattle.sercos_script.specs.Links.{Carry, Restarts}
 use Rattle.sercos_law_channel.specs.Handshake.Epochs.{begun_in, epoch_begun}
-use Rattle.sercos_law_channel.specs.Handshake.RunLaws.{ComesToZero, ComesUp}
 use Rattle.sercos_law_channel.specs.Handshake.Runs.{IsRun as IsViewRun}
 use Rattle.sercos_law_channel.specs.Handshake.Views.{View, processed_in, standing, stood_in}
 use Rattle.sercos_law_channel.specs.Pace.Ages.{age_in}
-use Rattle.sercos_law_channel.specs.Pace.ChannelCalls.{AgesBeforeEnd, StaysARun, calls_in, channel_calls, staying}
+use Rattle.sercos_law_channel.specs.Pace.ChannelCalls.{calls_in, channel_calls, staying}
 use Rattle.sercos_law_channel.specs.Pace.Passages.{IsPassed, IsUp, IsWhole}
 use Rattle.sercos_law_channel.proofs.Theorems.{commanded, up_by}
 use Rattle.sercos_law_channel.proofs.Handshake.EpochRuns.{whole_row-le}
 use Rattle.sercos_law_run.specs.Journal.Runs.{drive_at, is_disturbed_in, looks_back, master_calls, middle, IsClear, IsDisturbed, IsRun}
-use Rattle.sercos_law_run.specs.Agenda.Turns.{WorkInTurn}
 use Rattle.sercos_law_run.specs.Views.RingViews.{behind_ats, behind_mdt, view_of, views_of}
 use Rattle.sercos_law_run.proofs.Views.MasterSame.{begun_cycle}
 use Rattle.sercos_law_run.proofs.Views.Members.{members_count}
 use Rattle.sercos_law_run.proofs.Views.ViewRuns.{started}
 use Rattle.sercos_law_run.specs.Held.Opened.{IsOpened}
-use Rattle.sercos_law_run.proofs.Held.Runs.{Laws}
-use Rattle.sercos_law_run.proofs.Headline.HeadlineRuns.{MoreLaws, all_stand}
+use Rattle.sercos_law_run.proofs.Headline.HeadlineRuns.{all_stand}
 use Rattle.sercos_law_run.specs.Undisturbed.EpochStarts.{StartsEpoch}
 use Rattle.sercos_law_run.specs.Undisturbed.Undisturbed.{IsUndisturbed}
 use Rattle.sercos_law_run.proofs.Undisturbed.ChannelsKept.{calls_now}
@@ -52,6 +49,9 @@ use Rattle.sercos_law_run.proofs.Tolerance.Losses.{early_kept, none_lost_in}
 use Rattle.sercos_law_run.proofs.Tolerance.NoFallSo.{at_second, count_next, counted, limit_so, mst_second, none_falls}
 use Rattle.sercos_law_run.proofs.Tolerance.Standing.{hears_whole, lost_so, stays_same, takes_whole, took_mdt, zero_up}
 use Rattle.sercos_law_run.proofs.Tolerance.Steps.{IsYoung, IsYoungSince, never_some, older, oldest, rested, young_both, young_lost, young_taken}
+use Rattle.sercos_law_channel.proofs.Cited.{begins_empty}
+use Rattle.sercos_law_channel.proofs.Handshake.RunFacts.{comes_to_zero}
+use Rattle.sercos_law_channel.proofs.Pace.CallAges.{ages_before_end, stays_a_run}
 
 -- the phase rises if the one above is commanded next
 rises_so : (rises : Bool) (n : ℕ) → (if rises then n + 1 else n) ≡ n + 1 → rises ≡ true
@@ -99,9 +99,7 @@ pub record IsAsked (r : RingView) (carry : Carry) (restarts : Restarts) (t : Cyc
     pub calm : IsUndisturbed r carry restarts t j → AreCalm r carry restarts 1 j → p.now.phase ≡ 1 → is_place k p.now.addressed ≡ true
         → count_addressed k p.turns ≤ 0
 
-module _ (laws : Laws) (more : MoreLaws) (turn : WorkInTurn) (comes_up : (busy : ℕ) → ComesUp busy)
-    (to_zero : (busy : ℕ) → ComesToZero busy) (goes : (busy : ℕ) → StaysARun busy) (counts : (busy : ℕ) → AgesBeforeEnd busy)
-    (r : RingView) (jobs : List Job) (carry : Carry) (restarts : Restarts) (opened : IsOpened r jobs) where
+module _ (r : RingView) (jobs : List Job) (carry : Carry) (restarts : Restarts) (opened : IsOpened r jobs) where
   abbrev view : ℕ → CycleView → List CycleView → View
   view k t j = view_of r jobs carry restarts k t j
 
@@ -137,11 +135,11 @@ module _ (laws : Laws) (more : MoreLaws) (turn : WorkInTurn) (comes_up : (busy :
 
   is_run : (j : List CycleView) → IsRun r jobs carry restarts j → IsClear j → (k : ℕ) → k < length r.drives
       → IsViewRun (busy_of k) (views k j)
-  is_run j run clear k below = (all_stand laws more r jobs carry restarts opened j run clear k below).sees.run
+  is_run j run clear k below = (all_stand r jobs carry restarts opened j run clear k below).sees.run
 
   run_on : (t : CycleView) (j : List CycleView) → IsRun r jobs carry restarts (t ∷ j) → IsClear (t ∷ j) → (k : ℕ) → k < length r.drives
       → IsViewRun (busy_of k) (staying (view k t j) ∷ views k j)
-  run_on t j run clear k below = goes (busy_of k) (view k t j) (views k j) (is_run (t ∷ j) run clear k below)
+  run_on t j run clear k below = stays_a_run (busy_of k) (view k t j) (views k j) (is_run (t ∷ j) run clear k below)
 
   inside : (k : ℕ) → k < length (known_of r).drives → k < length r.drives
   inside k below = let count = members_count r in omega (arith, below, count)
@@ -149,7 +147,7 @@ module _ (laws : Laws) (more : MoreLaws) (turn : WorkInTurn) (comes_up : (busy :
   -- in phases 0 and 1 no step is open
   idle_so : (t : CycleView) (j : List CycleView) → IsRun r jobs carry restarts (t ∷ j) → IsClear (t ∷ j) → (k : ℕ) → k < length r.drives
       → t.phase ≤ 1 → begun_in (view k t j) (views k j) ≡ []
-  idle_so t j run clear k below early = begun_none (busy_of k) (laws.empty (busy_of k)) (view k t j) (views k j)
+  idle_so t j run clear k below early = begun_none (busy_of k) (begins_empty (busy_of k)) (view k t j) (views k j)
       (is_run (t ∷ j) run clear k below) early
 
   pub aged_after : (since : ℕ) (t : CycleView) (j : List CycleView) (k : ℕ) → fall_of (known_of r) (now t j) ≡ None
@@ -182,8 +180,8 @@ module _ (laws : Laws) (more : MoreLaws) (turn : WorkInTurn) (comes_up : (busy :
         let risen = has_risen (known_of r) (tasks_for (known_of r) jobs) (middle r carry restarts t.sent j) in
         none_falls (known_of r) (now t j) (none_lost (now t j).turns risen) (λ k below. all_heard k (now t j).turns risen)
         (λ k below. limit_so (now t j) k (λ one. let zero_now = now_zero in absurd (omega (arith, one, zero_now)))
-        (let zero_now = zero_is in let idle = idle_then laws more comes_up r jobs carry restarts opened t j run clear
-        (omega (arith, zero_now)) k (inside k below) in omega (arith, idle)))
+        (let zero_now = zero_is in let idle = idle_then r jobs carry restarts opened t j run clear (omega (arith, zero_now)) k
+        (inside k below) in omega (arith, idle)))
 
     never_above : (j' : List CycleView) (k : ℕ) → IsFirst (view k t j) (views k j') → ⊥
     never_above [] k first = first
@@ -193,8 +191,7 @@ module _ (laws : Laws) (more : MoreLaws) (turn : WorkInTurn) (comes_up : (busy :
     first_borne = record {
       stays = stays_first;
       goes_on = goes_on;
-      up = λ calm k below. zero_up (view k t j) (views k j) (whole_in laws more turn r jobs carry restarts opened t j run clear calm k
-          below).mst zero_is;
+      up = λ calm k below. zero_up (view k t j) (views k j) (whole_in r jobs carry restarts opened t j run clear calm k below).mst zero_is;
       near = λ one k below. let zero_now = zero_is in absurd (omega (arith, one, zero_now));
       first = λ k below first done. never_above j k first;
       aged = λ k below. aged_after 0 t j k stays_first (rested_all r carry restarts 0 (busy_of k) t j (staying (view k t j) ∷ views k j)
@@ -211,9 +208,9 @@ module _ (laws : Laws) (more : MoreLaws) (turn : WorkInTurn) (comes_up : (busy :
     }
 
   -- A LATER CYCLE, t, after u
-  module _ (among : ℕ → Type 0) (within : (k : ℕ) → among k → k < length r.drives) (since : ℕ)
-      (t u : CycleView) (j : List CycleView) (run : IsRun r jobs carry restarts (t ∷ u ∷ j)) (clear : IsClear (t ∷ u ∷ j))
-      (is : IsHeld among since u j) (sparse : IsSparse r carry restarts t (u ∷ j)) where
+  module _ (among : ℕ → Type 0) (within : (k : ℕ) → among k → k < length r.drives) (since : ℕ) (t u : CycleView) (j : List CycleView)
+      (run : IsRun r jobs carry restarts (t ∷ u ∷ j)) (clear : IsClear (t ∷ u ∷ j)) (is : IsHeld among since u j)
+      (sparse : IsSparse r carry restarts t (u ∷ j)) where
     goes_now : restarts (length (u ∷ j)) 0 ≡ false
     goes_now = sparse.goes_on 0 (omega arith)
 
@@ -221,20 +218,20 @@ module _ (laws : Laws) (more : MoreLaws) (turn : WorkInTurn) (comes_up : (busy :
     still k below = sparse.goes_on (k + 1) (omega (arith, below))
 
     next : (k : ℕ) → k < length r.drives → (u.phase ≡ t.phase) ⊎ (u.phase + 1 ≡ t.phase)
-    next k below = phase_after laws more turn r jobs carry restarts opened t u j run clear is.stays goes_now k below
+    next k below = phase_after r jobs carry restarts opened t u j run clear is.stays goes_now k below
 
     u_stays : (k : ℕ) → (view k u j).falls ≡ false
     u_stays k = ap (λ (o : Option Fall). is_some o) is.stays
 
     passed : (k : ℕ) → k < length r.drives → IsPassed (view k t (u ∷ j)) (views k (u ∷ j))
-    passed k below = passed_in laws more r jobs carry restarts opened t (u ∷ j) run clear k below (still k below)
+    passed k below = passed_in r jobs carry restarts opened t (u ∷ j) run clear k below (still k below)
 
     whole : IsUndisturbed r carry restarts t (u ∷ j) → (k : ℕ) → k < length r.drives
         → IsWhole (staying (view k t (u ∷ j))) (views k (u ∷ j))
-    whole calm k below = whole_in laws more turn r jobs carry restarts opened t (u ∷ j) run clear calm k below
+    whole calm k below = whole_in r jobs carry restarts opened t (u ∷ j) run clear calm k below
 
     whole_before : IsUndisturbed r carry restarts u j → (k : ℕ) → k < length r.drives → IsWhole (view k u j) (views k j)
-    whole_before calm k below = whole_at laws more turn r jobs carry restarts opened u j run.0 clear.0 calm is.stays k below
+    whole_before calm k below = whole_at r jobs carry restarts opened u j run.0 clear.0 calm is.stays k below
 
     -- if t is disturbed from phase 1 on, u isn't
     calm_before : IsDisturbed r carry restarts t (u ∷ j) → 1 ≤ t.phase → IsUndisturbed r carry restarts u j
@@ -259,7 +256,7 @@ module _ (laws : Laws) (more : MoreLaws) (turn : WorkInTurn) (comes_up : (busy :
     ended_zero k below at_zero up =
         let row = (is_run (u ∷ j) run.0 clear.0 k below).1.ten (rises k below up) at_zero in
         let most = whole_row-le (views k (u ∷ j)) in
-        to_zero (busy_of k) (views k (u ∷ j)) (is_run (u ∷ j) run.0 clear.0 k below) (omega (arith, row, most))
+        comes_to_zero (busy_of k) (views k (u ∷ j)) (is_run (u ∷ j) run.0 clear.0 k below) (omega (arith, row, most))
 
     -- before the MST each drive is in the commanded phase or the one below
     was_near : 1 ≤ t.phase → (k : ℕ) → among k → ((standing (views k (u ∷ j))).ended ≡ t.phase)
@@ -368,14 +365,14 @@ module _ (laws : Laws) (more : MoreLaws) (turn : WorkInTurn) (comes_up : (busy :
       few_open young =
           let age = oldest (busy_of k) 1 2 all run_now (omega arith) young in
           let low = busy_low r k opened.valid (within k here) in
-          subst (λ (c : List channel.Call). cycles_open c ≤ 63) (calls_now laws more r jobs carry restarts opened t (u ∷ j) run clear k
+          subst (λ (c : List channel.Call). cycles_open c ≤ 63) (calls_now r jobs carry restarts opened t (u ∷ j) run clear k
           (within k here))
           (counted (age_of (calls_in (view k t (u ∷ j)) (channel_calls (views k (u ∷ j)))))
           (is_some (open_in (begun_in (view k t (u ∷ j)) (views k (u ∷ j))))) (age_in all) (busy_of k + 4) (omega (arith, age))
           (omega (arith, low))
-          (counts (busy_of k) (view k t (u ∷ j)) (views k (u ∷ j)) (is_run (t ∷ u ∷ j) run clear k (within k here))
-          (are_sent laws more turn r jobs carry restarts opened (u ∷ j) run.0 clear.0 k (within k here))
-          (λ opens. sends_in laws more turn r jobs carry restarts opened t (u ∷ j) run clear k (within k here) opens)))
+          (ages_before_end (busy_of k) (view k t (u ∷ j)) (views k (u ∷ j)) (is_run (t ∷ u ∷ j) run clear k (within k here))
+          (are_sent r jobs carry restarts opened (u ∷ j) run.0 clear.0 k (within k here))
+          (λ opens. sends_in r jobs carry restarts opened t (u ∷ j) run clear k (within k here) opens)))
 
     -- THE IDENTIFICATIONS
     module _ (k : ℕ) (here : among k) where
@@ -390,7 +387,7 @@ module _ (laws : Laws) (more : MoreLaws) (turn : WorkInTurn) (comes_up : (busy :
       calm_asked : IsUndisturbed r carry restarts t (u ∷ j) → AreCalm r carry restarts 1 (u ∷ j) → (now t (u ∷ j)).now.phase ≡ 1
           → is_place k (now t (u ∷ j)).now.addressed ≡ true → count_addressed k (now t (u ∷ j)).turns ≤ 0
       calm_asked calm before one to =
-          let none = addressed_once laws more comes_up r jobs carry restarts opened t u j run clear calm before.1
+          let none = addressed_once r jobs carry restarts opened t u j run clear calm before.1
           (sym (phase_now r jobs carry restarts t (u ∷ j) run.1) ∙ one) k (within k here) to in omega (arith, none)
 
       lost_asked : IsDisturbed r carry restarts t (u ∷ j) → (now t (u ∷ j)).now.phase ≡ 1 → is_place k (now t (u ∷ j)).now.addressed ≡ true
@@ -419,20 +416,19 @@ module _ (laws : Laws) (more : MoreLaws) (turn : WorkInTurn) (comes_up : (busy :
 
     heard_now : IsUndisturbed r carry restarts t (u ∷ j) → (k : ℕ) → among k → 3 ≤ t.phase → (now t (u ∷ j)).now.heard k ≡ true
     heard_now calm k here late = ap (λ (f : ℕ → Bool). f k) (heard_mdt (known_of r) (behind_ats r jobs carry restarts t.sent (u ∷ j)))
-        ∙ heard_then laws more comes_up r jobs carry restarts opened t (u ∷ j) run clear k (within k here)
+        ∙ heard_then r jobs carry restarts opened t (u ∷ j) run clear k (within k here)
         ((whole calm k (within k here)).listens late (up_stood (view k t (u ∷ j)) (views k (u ∷ j)) (up_now calm k here) late))
 
     heard_before : IsUndisturbed r carry restarts u j → (k : ℕ) → among k → 3 ≤ u.phase → (now u j).now.heard k ≡ true
     heard_before calm k here late = ap (λ (f : ℕ → Bool). f k) (heard_mdt (known_of r) (behind_ats r jobs carry restarts u.sent j))
-        ∙ heard_then laws more comes_up r jobs carry restarts opened u j run.0 clear.0 k (within k here)
+        ∙ heard_then r jobs carry restarts opened u j run.0 clear.0 k (within k here)
         ((whole_before calm k (within k here)).listens late (up_stood (view k u j) (views k j) (is.up calm k here) late))
 
     own_came : ((now t (u ∷ j)).now.whole ≡ true) ⊎ (((now u j).now.whole ≡ true) ⊎ ((now u j).now.phase ≡ 0))
     own_came = elim (calm_or_not r carry restarts t (u ∷ j)) [
-      | inr calm ↦ inl (whole_now laws more comes_up r jobs carry restarts opened t (u ∷ j) run.1 calm)
+      | inr calm ↦ inl (whole_now r jobs carry restarts opened t (u ∷ j) run.1 calm)
       | inl disturbed ↦ elim (cases_eq t.phase 0) [
-        | inr later ↦ inr (inl (whole_now laws more comes_up r jobs carry restarts opened u j run.0.1
-            (calm_before disturbed (omega (arith, later)))))
+        | inr later ↦ inr (inl (whole_now r jobs carry restarts opened u j run.0.1 (calm_before disturbed (omega (arith, later)))))
         | inl at_zero ↦ (
             let risen : IsNoLower (now t (u ∷ j)).now.phase (now t (u ∷ j)).turns = has_risen (known_of r) (tasks_for (known_of r) jobs)
             (middle r carry restarts t.sent (u ∷ j)) in
@@ -487,8 +483,8 @@ module _ (laws : Laws) (more : MoreLaws) (turn : WorkInTurn) (comes_up : (busy :
       goes_on = goes_now;
       up = up_now;
       near = near_now;
-      first = λ k here first done. never_first laws more comes_up r jobs carry restarts opened t u j run clear is.stays goes_now is.goes_on
-          first done k (within k here);
+      first = λ k here first done. never_first r jobs carry restarts opened t u j run clear is.stays goes_now is.goes_on first done k
+          (within k here);
       aged = λ k here. aged_after since t (u ∷ j) k stays (aged_now k here);
       asked = asked_now;
       kept = λ calm before k here. kept_now k here calm before;

@@ -12,21 +12,18 @@ use Rattle.sercos_seat.specs.Ring.{known_of}
 use Rattle.sercos_master.specs.Annals.{in_turn}
 use Rattle.sercos_script.specs.Links.{Carry, Restarts}
 use Rattle.sercos_law_channel.specs.Handshake.Epochs.{begun_in, epoch_begun, unless_restart, with_begun, with_heard}
-use Rattle.sercos_law_channel.specs.Handshake.RunLaws.{ComesToZero, ComesUp}
 use Rattle.sercos_law_channel.specs.Handshake.Runs.{IsRun as IsViewRun}
 use Rattle.sercos_law_channel.specs.Handshake.Views.{Heard, View, processed_in}
-use Rattle.sercos_law_channel.specs.Pace.ChannelCalls.{AgesBeforeEnd, StaysARun}
-use Rattle.sercos_law_channel.specs.Pace.Costs.{AreListed, ComesTimed, StaysInCost, cost_in, cost_of}
+use Rattle.sercos_law_channel.specs.Pace.Costs.{AreListed, cost_in, cost_of}
 use Rattle.sercos_law_channel.specs.Pace.Stretches.{open_since}
 use Rattle.sercos_law_channel.specs.Pace.Times.{one_more}
 use Rattle.sercos_law_run.specs.Journal.Arrivals.{sum_below}
 use Rattle.sercos_law_run.specs.Journal.Runs.{drive_at, is_disturbed_in, IsClear, IsDisturbed, IsRun}
-use Rattle.sercos_law_run.specs.Agenda.Turns.{WorkInTurn}
 use Rattle.sercos_law_run.specs.Views.RingViews.{behind_mdt, view_of, views_of}
 use Rattle.sercos_law_run.proofs.Views.Members.{members_count}
 use Rattle.sercos_law_run.specs.Held.Opened.{IsOpened}
-use Rattle.sercos_law_run.proofs.Held.Runs.{Laws, s_known}
-use Rattle.sercos_law_run.proofs.Headline.HeadlineRuns.{MoreLaws, all_stand, first_store}
+use Rattle.sercos_law_run.proofs.Held.Runs.{s_known}
+use Rattle.sercos_law_run.proofs.Headline.HeadlineRuns.{all_stand, first_store}
 use Rattle.sercos_law_run.specs.Undisturbed.Undisturbed.{IsUndisturbed}
 use Rattle.sercos_law_run.specs.Undisturbed.ViewsSince.{views_since}
 use Rattle.sercos_law_run.proofs.Undisturbed.PassedCycles.{views_split}
@@ -111,18 +108,15 @@ lost_opens busy v past run lost = by (is_some (open_in (begun_in v past))) refl
         ap (λ (l : List Begun). is_some (open_in l)) (none_begun v.begins (with_heard v.heard (unless_restart v (epoch_begun past)))
         run.1.begins some) ∙ some
 
-module _ (laws : Laws) (more : MoreLaws) (turn : WorkInTurn) (comes_up : (busy : ℕ) → ComesUp busy)
-    (to_zero : (busy : ℕ) → ComesToZero busy)
-    (goes : (busy : ℕ) → StaysARun busy) (counts : (busy : ℕ) → AgesBeforeEnd busy)
-    (r : RingView) (jobs : List Job) (carry : Carry) (restarts : Restarts) (opened : IsOpened r jobs) where
+module _ (r : RingView) (jobs : List Job) (carry : Carry) (restarts : Restarts) (opened : IsOpened r jobs) where
   abbrev Borne : CycleView → List CycleView → Type 0
-  Borne t j = IsBorne laws more turn comes_up to_zero goes counts r jobs carry restarts opened t j
+  Borne t j = IsBorne r jobs carry restarts opened t j
 
   abbrev Held : (ℕ → Type 0) → ℕ → CycleView → List CycleView → Type 0
-  Held among since t j = IsHeld laws more turn comes_up to_zero goes counts r jobs carry restarts opened among since t j
+  Held among since t j = IsHeld r jobs carry restarts opened among since t j
 
   abbrev Base : List CycleView → Type 0
-  Base before = IsBase laws more turn comes_up to_zero goes counts r jobs carry restarts opened before
+  Base before = IsBase r jobs carry restarts opened before
 
   abbrev spare : CycleView → List CycleView → ℕ
   spare t j = if is_disturbed_in r carry restarts (length j) t.sent then spare_for t.phase else 0
@@ -153,11 +147,11 @@ module _ (laws : Laws) (more : MoreLaws) (turn : WorkInTurn) (comes_up : (busy :
 
   is_run : (j : List CycleView) → IsRun r jobs carry restarts j → IsClear j → (k : ℕ) → k < length r.drives
       → IsViewRun (drive_at r k).busy (views_of r jobs carry restarts k j)
-  is_run j run clear k below = (all_stand laws more r jobs carry restarts opened j run clear k below).sees.run
+  is_run j run clear k below = (all_stand r jobs carry restarts opened j run clear k below).sees.run
 
   some_drive : 0 < length r.drives
-  some_drive = let count = members_count r in let some = (s_known laws r jobs carry restarts opened
-      (first_store laws more r jobs carry restarts opened)).some in omega (arith, count, some)
+  some_drive = let count = members_count r in let some = (s_known r jobs carry restarts opened
+      (first_store r jobs carry restarts opened)).some in omega (arith, count, some)
 
   -- THE CHANNELS OF SOME DRIVES: all but those that are down
   module _ (down : ℕ → Bool) where
@@ -223,7 +217,7 @@ module _ (laws : Laws) (more : MoreLaws) (turn : WorkInTurn) (comes_up : (busy :
 
         in_turn_of : 2 ≤ t.phase → (k : ℕ) → k < length r.drives → lost_at k t (cycles ++ before) ≡ true
             → in_turn (known_of r) (behind_mdt r jobs carry restarts t.sent (cycles ++ before)) ≡ Some k
-        in_turn_of two k below lost = opens_in_turn laws more turn r jobs carry restarts opened t (cycles ++ before) run clear
+        in_turn_of two k below lost = opens_in_turn r jobs carry restarts opened t (cycles ++ before) run clear
             (omega (arith, two, low)) k below
             (lost_opens (drive_at r k).busy (view_of r jobs carry restarts k t (cycles ++ before))
             (views_of r jobs carry restarts k (cycles ++ before)) (is_run (t ∷ (cycles ++ before)) run clear k below) lost)
@@ -256,68 +250,66 @@ module _ (laws : Laws) (more : MoreLaws) (turn : WorkInTurn) (comes_up : (busy :
     -- that is undisturbed
     module _ (among : ℕ → Type 0) (within : (k : ℕ) → among k → k < length r.drives) (since : ℕ)
         (those : (k : ℕ) → k < length r.drives → down k ≡ false → among k) (before : List CycleView)
-        (start : (t : CycleView) → IsRun r jobs carry restarts (t ∷ before) → IsClear (t ∷ before) → Held among since t before
-        → IsSparse r carry restarts t before → IsUndisturbed r carry restarts t before → (k : ℕ) → k < length r.drives → down k ≡ false
-        → lost_at k t before ≡ false) where
-      abbrev pub AreHeld : List CycleView → Type 0
-      AreHeld [] = Unit {0}
-      AreHeld (t ∷ cycles) = AreHeld cycles × Held among since t (cycles ++ before)
+        (start : (t : CycleView) → IsRun r jobs carry restarts (t ∷ before) → IsClear (t ∷ before) → Held among since t before → IsSparse r carry restarts t before → IsUndisturbed r carry restarts t before → (k : ℕ) → k < length r.drives → down k ≡ false → lost_at k t before ≡ false)
+      where
+        abbrev pub AreHeld : List CycleView → Type 0
+        AreHeld [] = Unit {0}
+        AreHeld (t ∷ cycles) = AreHeld cycles × Held among since t (cycles ++ before)
 
-      pub few_lost : (t : CycleView) (cycles : List CycleView) → IsRun r jobs carry restarts (t ∷ (cycles ++ before))
-          → IsClear (t ∷ (cycles ++ before)) → AreHeld (t ∷ cycles) → AreSparse r carry restarts (t ∷ cycles) before → t.phase ≤ 2
-          → all_lost (t ∷ cycles) before + spare t (cycles ++ before) ≤ disturbances r carry restarts (t ∷ cycles) before
-      few_lost t [] run clear held sparse low =
-          let none : all_lost [] before ≡ 0 = none_at_first (length r.drives) in elim (calm_or_not r carry restarts t before) [
-            | inl on ↦ (let more_is = disturbed_more t [] before run clear low on 0 (omega (arith, none)) in omega (arith, more_is))
-            | inr off ↦ (
-                let same = none_lost t [] before (start t run clear held.1 sparse.1 off) in
-                let (c, d) = off_so t before off in omega (arith, same, none, c, d))
-          ]
-      few_lost t (u ∷ cycles) run clear held sparse low = by (calm_or_not r carry restarts t (u ∷ (cycles ++ before)))
-          (few_lost u cycles run.0 clear.0 held.0 sparse.0 (omega (arith, u_low, low)))
-        where
-          was : Held among since u (cycles ++ before)
-          was = held.0.1
-
-          is : Held among since t (u ∷ (cycles ++ before))
-          is = held.1
-
-          still : restarts (length (u ∷ (cycles ++ before))) 0 ≡ false
-          still = sparse.1.goes_on 0 (omega arith)
-
-          u_low : u.phase ≤ t.phase
-          u_low = no_lower laws more turn r jobs carry restarts opened t u (cycles ++ before) run clear was.stays still 0 some_drive
-
-          calm_more : IsUndisturbed r carry restarts t (u ∷ (cycles ++ before))
-              → all_lost (u ∷ cycles) before + spare u (cycles ++ before) ≤ disturbances r carry restarts (u ∷ cycles) before
-              → all_lost (t ∷ u ∷ cycles) before ≤ disturbances r carry restarts (u ∷ cycles) before
-          calm_more off few = elim (cases_lt t.phase 2) [
-            | inl early ↦ (let same = early_lost t (u ∷ cycles) before run clear (omega (arith, early)) in omega (arith, same, few))
-            | inr two ↦ elim (calm_or_not r carry restarts u (cycles ++ before)) [
-              | inr calm ↦ (let same = none_lost t (u ∷ cycles) before (λ k below off_k. is.kept off (inr (tt, calm)) k
-                  (those k below off_k))
-                  in omega (arith, same, few))
-              | inl disturbed ↦ elim (phase_after laws more turn r jobs carry restarts opened t u (cycles ++ before) run clear was.stays
-                  still
-                  0 some_drive) [
-                    | inr up ↦ (
-                        let same = none_lost t (u ∷ cycles) before (λ k below off_k. is.rested_kept off k (those k below off_k)
-                        (rests_then laws more turn comes_up to_zero goes counts r jobs carry restarts opened among within since t u
-                        (cycles ++ before) run clear was sparse.1 k below up)) in omega (arith, same, few))
-                    | inl equal ↦ (
-                        let most = one_lost t (u ∷ cycles) before run clear low in
-                        let (a, b) = two_for u.phase (omega (arith, equal, two, low)) in
-                        let (e, f) = on_so u (cycles ++ before) disturbed in omega (arith, most, a, b, e, f, few))
-                  ]
+        pub few_lost : (t : CycleView) (cycles : List CycleView) → IsRun r jobs carry restarts (t ∷ (cycles ++ before))
+            → IsClear (t ∷ (cycles ++ before)) → AreHeld (t ∷ cycles) → AreSparse r carry restarts (t ∷ cycles) before → t.phase ≤ 2
+            → all_lost (t ∷ cycles) before + spare t (cycles ++ before) ≤ disturbances r carry restarts (t ∷ cycles) before
+        few_lost t [] run clear held sparse low =
+            let none : all_lost [] before ≡ 0 = none_at_first (length r.drives) in elim (calm_or_not r carry restarts t before) [
+              | inl on ↦ (let more_is = disturbed_more t [] before run clear low on 0 (omega (arith, none)) in omega (arith, more_is))
+              | inr off ↦ (
+                  let same = none_lost t [] before (start t run clear held.1 sparse.1 off) in
+                  let (c, d) = off_so t before off in omega (arith, same, none, c, d))
             ]
-          ]
+        few_lost t (u ∷ cycles) run clear held sparse low = by (calm_or_not r carry restarts t (u ∷ (cycles ++ before)))
+            (few_lost u cycles run.0 clear.0 held.0 sparse.0 (omega (arith, u_low, low)))
+          where
+            was : Held among since u (cycles ++ before)
+            was = held.0.1
 
-          by : IsDisturbed r carry restarts t (u ∷ (cycles ++ before)) ⊎ IsUndisturbed r carry restarts t (u ∷ (cycles ++ before))
-              → all_lost (u ∷ cycles) before + spare u (cycles ++ before) ≤ disturbances r carry restarts (u ∷ cycles) before
-              → all_lost (t ∷ u ∷ cycles) before + spare t (u ∷ (cycles ++ before)) ≤ disturbances r carry restarts (t ∷ u ∷ cycles) before
-          by (inl on) few = disturbed_more t (u ∷ cycles) before run clear low on (disturbances r carry restarts (u ∷ cycles) before)
-              (omega (arith, few))
-          by (inr off) few = let most = calm_more off few in let (c, d) = off_so t (u ∷ (cycles ++ before)) off in omega (arith, most, c, d)
+            is : Held among since t (u ∷ (cycles ++ before))
+            is = held.1
+
+            still : restarts (length (u ∷ (cycles ++ before))) 0 ≡ false
+            still = sparse.1.goes_on 0 (omega arith)
+
+            u_low : u.phase ≤ t.phase
+            u_low = no_lower r jobs carry restarts opened t u (cycles ++ before) run clear was.stays still 0 some_drive
+
+            calm_more : IsUndisturbed r carry restarts t (u ∷ (cycles ++ before))
+                → all_lost (u ∷ cycles) before + spare u (cycles ++ before) ≤ disturbances r carry restarts (u ∷ cycles) before
+                → all_lost (t ∷ u ∷ cycles) before ≤ disturbances r carry restarts (u ∷ cycles) before
+            calm_more off few = elim (cases_lt t.phase 2) [
+              | inl early ↦ (let same = early_lost t (u ∷ cycles) before run clear (omega (arith, early)) in omega (arith, same, few))
+              | inr two ↦ elim (calm_or_not r carry restarts u (cycles ++ before)) [
+                | inr calm ↦ (let same = none_lost t (u ∷ cycles) before (λ k below off_k. is.kept off (inr (tt, calm)) k
+                    (those k below off_k))
+                    in omega (arith, same, few))
+                | inl disturbed ↦ elim (phase_after r jobs carry restarts opened t u (cycles ++ before) run clear was.stays still 0
+                    some_drive) [
+                      | inr up ↦ (
+                          let same = none_lost t (u ∷ cycles) before (λ k below off_k. is.rested_kept off k (those k below off_k)
+                          (rests_then r jobs carry restarts opened among within since t u (cycles ++ before) run clear was sparse.1 k below
+                          up)) in omega (arith, same, few))
+                      | inl equal ↦ (
+                          let most = one_lost t (u ∷ cycles) before run clear low in
+                          let (a, b) = two_for u.phase (omega (arith, equal, two, low)) in
+                          let (e, f) = on_so u (cycles ++ before) disturbed in omega (arith, most, a, b, e, f, few))
+                    ]
+              ]
+            ]
+
+            by : IsDisturbed r carry restarts t (u ∷ (cycles ++ before)) ⊎ IsUndisturbed r carry restarts t (u ∷ (cycles ++ before))
+                → all_lost (u ∷ cycles) before + spare u (cycles ++ before) ≤ disturbances r carry restarts (u ∷ cycles) before
+                → all_lost (t ∷ u ∷ cycles) before + spare t (u ∷ (cycles ++ before)) ≤ disturbances r carry restarts (t ∷ u ∷ cycles) before
+            by (inl on) few = disturbed_more t (u ∷ cycles) before run clear low on (disturbances r carry restarts (u ∷ cycles) before)
+                (omega (arith, few))
+            by (inr off) few = let most = calm_more off few in let (c, d) = off_so t (u ∷ (cycles ++ before)) off in omega (arith, most, c, d)
 
   -- THOSE OF ALL DRIVES
   abbrev none_down : ℕ → Bool
@@ -331,8 +323,7 @@ module _ (laws : Laws) (more : MoreLaws) (turn : WorkInTurn) (comes_up : (busy :
       → Borne t before → IsSparse r carry restarts t before → IsUndisturbed r carry restarts t before → (k : ℕ) → k < length r.drives
       → lost_at k t before ≡ false
   first_lost before (inl starts) t run clear is sparse off k below =
-      let at_zero = zero_is laws more turn comes_up to_zero goes counts r jobs carry restarts opened t before run clear starts
-      (sparse.goes_on 0 (omega arith)) in
+      let at_zero = zero_is r jobs carry restarts opened t before run clear starts (sparse.goes_on 0 (omega arith)) in
       early_kept (drive_at r k).busy (view_of r jobs carry restarts k t before) (views_of r jobs carry restarts k before)
       (is_run (t ∷ before) run clear k below) (omega (arith, at_zero))
   first_lost [] (inr none) t run clear is sparse off k below = absurd none
@@ -345,7 +336,7 @@ module _ (laws : Laws) (more : MoreLaws) (turn : WorkInTurn) (comes_up : (busy :
   held_on before base [] run clear sparse = tt
   held_on before base (t ∷ cycles) run clear sparse = (
     held_on before base cycles run.0 clear.0 sparse.0,
-    borne_on laws more turn comes_up to_zero goes counts r jobs carry restarts opened t cycles before run clear base sparse,
+    borne_on r jobs carry restarts opened t cycles before run clear base sparse,
   )
 
   -- WHAT IS LOST of all channels
@@ -360,7 +351,7 @@ module _ (laws : Laws) (more : MoreLaws) (turn : WorkInTurn) (comes_up : (busy :
       (held_on before base (t ∷ cycles) run clear sparse) sparse low
 
   -- THE SUM OVER THE DRIVES
-  pub costs_shared : ((busy : ℕ) → StaysInCost busy) → ComesTimed → (t : CycleView) (cycles before : List CycleView)
+  pub costs_shared : (t : CycleView) (cycles before : List CycleView)
       → IsRun r jobs carry restarts (t ∷ (cycles ++ before)) → IsClear (t ∷ (cycles ++ before)) → Base before
       → AreSparse r carry restarts (t ∷ cycles) before → t.phase ≤ 2 → (longest : ℕ → ℕ)
       → ((k : ℕ) → k < length r.drives → AreListed longest (views_of r jobs carry restarts k (t ∷ (cycles ++ before))))
@@ -369,7 +360,7 @@ module _ (laws : Laws) (more : MoreLaws) (turn : WorkInTurn) (comes_up : (busy :
       ≤ sum_below (length r.drives) (λ k. cost_in (cost_of (drive_at r k).busy (drive_at r k).command longest (store_of (drive_at r k)))
       (epoch_begun (views_of r jobs carry restarts k (t ∷ (cycles ++ before)))))
       + disturbances r carry restarts (t ∷ cycles) before
-  costs_shared in_cost timed t cycles before run clear starts sparse low longest listed =
+  costs_shared t cycles before run clear starts sparse low longest listed =
       let each = sum_most (length r.drives) opens (λ k. cost k + lost_of (t ∷ cycles) before k) one in
       let both = sum_both (length r.drives) cost (lost_of (t ∷ cycles) before) in
       let few = all_few t cycles before run clear starts sparse low in omega (arith, each, both, few)
@@ -382,5 +373,4 @@ module _ (laws : Laws) (more : MoreLaws) (turn : WorkInTurn) (comes_up : (busy :
           (epoch_begun (views_of r jobs carry restarts k (t ∷ (cycles ++ before))))
 
       one : (k : ℕ) → k < length r.drives → opens k ≤ cost k + lost_of (t ∷ cycles) before k
-      one k below = opens_so laws more turn comes_up to_zero goes counts r jobs carry restarts opened in_cost timed (t ∷ cycles) before run
-          clear starts sparse k longest below (listed k below)
+      one k below = opens_so r jobs carry restarts opened (t ∷ cycles) before run clear starts sparse k longest below (listed k below)

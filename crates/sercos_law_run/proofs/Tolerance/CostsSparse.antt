@@ -11,19 +11,16 @@ use Rattle.sercos_trace.specs.declared.events.Fall.{Fall}
 use Rattle.sercos_script.specs.Links.{Carry, Restarts}
 use Rattle.sercos_service_master.specs.Begun.{answers_in}
 use Rattle.sercos_law_channel.specs.Handshake.Epochs.{epoch_begun, epoch_log}
-use Rattle.sercos_law_channel.specs.Handshake.RunLaws.{ComesToZero, ComesUp}
 use Rattle.sercos_law_channel.specs.Handshake.Runs.{IsRun as IsViewRun}
 use Rattle.sercos_law_channel.specs.Handshake.Views.{View}
-use Rattle.sercos_law_channel.specs.Pace.ChannelCalls.{AgesBeforeEnd, StaysARun}
-use Rattle.sercos_law_channel.specs.Pace.Costs.{AreListed, ComesTimed, StaysInCost, cost_in, cost_of}
+use Rattle.sercos_law_channel.specs.Pace.Costs.{AreListed, cost_in, cost_of}
 use Rattle.sercos_law_channel.specs.Pace.Stretches.{open_since}
 use Rattle.sercos_law_channel.specs.Pace.Times.{one_more}
 use Rattle.sercos_law_run.specs.Journal.Runs.{drive_at, is_disturbed_in, IsClear, IsDisturbed, IsRun}
-use Rattle.sercos_law_run.specs.Agenda.Turns.{WorkInTurn}
 use Rattle.sercos_law_run.specs.Views.RingViews.{view_of, views_of}
 use Rattle.sercos_law_run.specs.Held.Opened.{IsOpened}
-use Rattle.sercos_law_run.proofs.Held.Runs.{Laws, small}
-use Rattle.sercos_law_run.proofs.Headline.HeadlineRuns.{MoreLaws, all_stand, first_store}
+use Rattle.sercos_law_run.proofs.Held.Runs.{small}
+use Rattle.sercos_law_run.proofs.Headline.HeadlineRuns.{all_stand, first_store}
 use Rattle.sercos_law_run.specs.Undisturbed.Undisturbed.{IsUndisturbed}
 use Rattle.sercos_law_run.specs.Undisturbed.ViewsSince.{views_since}
 use Rattle.sercos_law_run.proofs.Undisturbed.Carried.{are_carried}
@@ -36,6 +33,8 @@ use Rattle.sercos_law_run.specs.Tolerance.Losses.{GoesOn, cycles_for, disturbanc
 use Rattle.sercos_law_run.specs.Tolerance.Sparse.{AreSparse, IsSparse}
 use Rattle.sercos_law_run.proofs.Tolerance.Borne.{IsBase, IsBorne, borne_on, calm_or_not, rests, zero_is}
 use Rattle.sercos_law_run.proofs.Tolerance.Losses.{early_kept, takes_time_and_losses}
+use Rattle.sercos_law_channel.proofs.Cited.{in_cost}
+use Rattle.sercos_law_channel.proofs.Pace.TimedCommands.{comes_timed}
 
 -- What a disturbed cycle costs, and what of it is left for the next.
 abbrev pub spare_for : ℕ → ℕ
@@ -63,19 +62,16 @@ at_most false n = omega arith
 none_more : (b : Bool) (n : ℕ) → b ≡ false → one_more b n ≡ n
 none_more b n off = ap (λ (x : Bool). one_more x n) off
 
-module _ (laws : Laws) (more : MoreLaws) (turn : WorkInTurn) (comes_up : (busy : ℕ) → ComesUp busy)
-    (to_zero : (busy : ℕ) → ComesToZero busy)
-    (goes : (busy : ℕ) → StaysARun busy) (counts : (busy : ℕ) → AgesBeforeEnd busy)
-    (r : RingView) (jobs : List Job) (carry : Carry) (restarts : Restarts) (opened : IsOpened r jobs) where
+module _ (r : RingView) (jobs : List Job) (carry : Carry) (restarts : Restarts) (opened : IsOpened r jobs) where
   abbrev Borne : CycleView → List CycleView → Type 0
-  Borne t j = IsBorne laws more turn comes_up to_zero goes counts r jobs carry restarts opened t j
+  Borne t j = IsBorne r jobs carry restarts opened t j
 
   abbrev Base : List CycleView → Type 0
-  Base before = IsBase laws more turn comes_up to_zero goes counts r jobs carry restarts opened before
+  Base before = IsBase r jobs carry restarts opened before
 
   is_run : (j : List CycleView) → IsRun r jobs carry restarts j → IsClear j → (k : ℕ) → k < length r.drives
       → IsViewRun (drive_at r k).busy (views_of r jobs carry restarts k j)
-  is_run j run clear k below = (all_stand laws more r jobs carry restarts opened j run clear k below).sees.run
+  is_run j run clear k below = (all_stand r jobs carry restarts opened j run clear k below).sees.run
 
   abbrev pub spare : CycleView → List CycleView → ℕ
   spare t j = if is_disturbed_in r carry restarts (length j) t.sent then spare_for t.phase else 0
@@ -142,20 +138,19 @@ module _ (laws : Laws) (more : MoreLaws) (turn : WorkInTurn) (comes_up : (busy :
         | inr calm ↦ calm_more t (u ∷ j) off (is.kept off (inr (tt, calm)) k below) lost dist (omega (arith, le))
         | inl disturbed ↦ elim (cases_lt t.phase 3) [
           | inr high ↦ calm_more t (u ∷ j) off (is.kept off (inl (omega (arith, high))) k below) lost dist (omega (arith, le))
-          | inl low ↦ elim (phase_after laws more turn r jobs carry restarts opened t u j run clear was.stays
-              (sparse.goes_on 0 (omega arith)) k below) [
-                | inr up ↦ calm_more t (u ∷ j) off (is.rested_kept off k below
-                    (rests laws more turn comes_up to_zero goes counts r jobs carry restarts opened t u j run clear was sparse k below up))
-                    lost
-                    dist
-                    (omega (arith, le))
-                | inl same ↦ (
-                    let most = at_most (is_lost (view_of r jobs carry restarts k t (u ∷ j)) (views_of r jobs carry restarts k (u ∷ j))) lost
-                    in
-                    let (a, b) = two_for u.phase (omega (arith, same, two, low)) in
-                    let (c, d) = off_so t (u ∷ j) off in
-                    let (e, f) = on_so u j disturbed in omega (arith, most, a, b, c, d, e, f, le))
-              ]
+          | inl low ↦ elim (phase_after r jobs carry restarts opened t u j run clear was.stays (sparse.goes_on 0 (omega arith)) k below) [
+            | inr up ↦ calm_more t (u ∷ j) off (is.rested_kept off k below
+                (rests r jobs carry restarts opened t u j run clear was sparse k below up))
+                lost
+                dist
+                (omega (arith, le))
+            | inl same ↦ (
+                let most = at_most (is_lost (view_of r jobs carry restarts k t (u ∷ j)) (views_of r jobs carry restarts k (u ∷ j))) lost
+                in
+                let (a, b) = two_for u.phase (omega (arith, same, two, low)) in
+                let (c, d) = off_so t (u ∷ j) off in
+                let (e, f) = on_so u j disturbed in omega (arith, most, a, b, c, d, e, f, le))
+          ]
         ]
       ]
     ]
@@ -166,15 +161,13 @@ module _ (laws : Laws) (more : MoreLaws) (turn : WorkInTurn) (comes_up : (busy :
         → one_more (is_lost (view_of r jobs carry restarts k t before) (views_of r jobs carry restarts k before)) 0 + spare t before
         ≤ 0 + costs t before
     lost_first t before run clear (inl starts) sparse off =
-        let at_zero = zero_is laws more turn comes_up to_zero goes counts r jobs carry restarts opened t before run clear starts
-        (sparse.goes_on 0 (omega arith)) in
+        let at_zero = zero_is r jobs carry restarts opened t before run clear starts (sparse.goes_on 0 (omega arith)) in
         calm_more t before off (early_kept (drive_at r k).busy (view_of r jobs carry restarts k t before)
         (views_of r jobs carry restarts k before) (is_run (t ∷ before) run clear k below) (omega (arith, at_zero))) 0 0 (omega arith)
     lost_first t [] run clear (inr none) sparse off = absurd none
     lost_first t (f ∷ before) run clear (inr stood) sparse off =
-        calm_next t f before run clear stood.0 sparse (borne_on laws more turn comes_up to_zero goes counts r jobs carry restarts opened t
-        []
-        (f ∷ before) run clear (inr stood) (tt, sparse)) off 0 0 (let none = (off_so f before stood.1).1 in omega (arith, none))
+        calm_next t f before run clear stood.0 sparse (borne_on r jobs carry restarts opened t [] (f ∷ before) run clear (inr stood)
+        (tt, sparse)) off 0 0 (let none = (off_so f before stood.1).1 in omega (arith, none))
 
     -- WHAT IS LOST of the cycles
     pub lost_few : (t : CycleView) (cycles before : List CycleView) → IsRun r jobs carry restarts (t ∷ (cycles ++ before))
@@ -197,39 +190,37 @@ module _ (laws : Laws) (more : MoreLaws) (turn : WorkInTurn) (comes_up : (busy :
         ])
       where
         was : Borne u (cycles ++ before)
-        was = borne_on laws more turn comes_up to_zero goes counts r jobs carry restarts opened u cycles before run.0 clear.0 starts
-            sparse.0
+        was = borne_on r jobs carry restarts opened u cycles before run.0 clear.0 starts sparse.0
 
         is : Borne t (u ∷ (cycles ++ before))
-        is = borne_on laws more turn comes_up to_zero goes counts r jobs carry restarts opened t (u ∷ cycles) before run clear starts
-            sparse
+        is = borne_on r jobs carry restarts opened t (u ∷ cycles) before run clear starts sparse
 
     pub goes_since : (cycles before : List CycleView) → IsRun r jobs carry restarts (cycles ++ before) → IsClear (cycles ++ before)
         → Base before → AreSparse r carry restarts cycles before
         → GoesOn (views_since r jobs carry restarts k cycles before)
     goes_since [] before run clear starts sparse = tt
     goes_since (t ∷ cycles) before run clear starts sparse =
-        let is = borne_on laws more turn comes_up to_zero goes counts r jobs carry restarts opened t cycles before run clear starts sparse
+        let is = borne_on r jobs carry restarts opened t cycles before run clear starts sparse
         in
         (goes_since cycles before run.0 clear.0 starts sparse.0, ap (λ (o : Option Fall). is_some o) is.stays, is.goes_on)
 
   -- THE CYCLES WITH AN OPEN STEP, by what was lost,
-  pub opens_if : ((busy : ℕ) → StaysInCost busy) → ComesTimed → (cycles before : List CycleView)
+  pub opens_if : (cycles before : List CycleView)
       → IsRun r jobs carry restarts (cycles ++ before) → IsClear (cycles ++ before) → (k : ℕ) (longest : ℕ → ℕ) → k < length r.drives
       → AreListed longest (views_of r jobs carry restarts k (cycles ++ before)) → GoesOn (views_since r jobs carry restarts k cycles before)
       → open_since (views_since r jobs carry restarts k cycles before) (views_of r jobs carry restarts k before)
       ≤ cost_in (cost_of (drive_at r k).busy (drive_at r k).command longest (store_of (drive_at r k)))
       (epoch_begun (views_of r jobs carry restarts k (cycles ++ before)))
       + lost_since (views_since r jobs carry restarts k cycles before) (views_of r jobs carry restarts k before)
-  opens_if in_cost timed cycles before run clear k longest below listed going =
+  opens_if cycles before run clear k longest below listed going =
       let split = views_split r jobs carry restarts k cycles before in
-      let stands = all_stand laws more r jobs carry restarts opened (cycles ++ before) run clear k below in
-      let follow = (commands_so laws more r jobs carry restarts opened (cycles ++ before) run clear k below).follow in
-      let in_time = timed (drive_at r k).command (views_of r jobs carry restarts k (cycles ++ before))
+      let stands = all_stand r jobs carry restarts opened (cycles ++ before) run clear k below in
+      let follow = (commands_so r jobs carry restarts opened (cycles ++ before) run clear k below).follow in
+      let in_time = comes_timed (drive_at r k).command (views_of r jobs carry restarts k (cycles ++ before))
       (are_carried (drive_at r k).command (first_commands r k) refl refl (views_of r jobs carry restarts k (cycles ++ before)) follow) in
       let cost = in_cost (drive_at r k).busy (drive_at r k).command longest (store_of (drive_at r k))
       (views_of r jobs carry restarts k (cycles ++ before))
-      (small laws r jobs carry restarts opened (first_store laws more r jobs carry restarts opened) k below) stands.sees.run
+      (small r jobs carry restarts opened (first_store r jobs carry restarts opened) k below) stands.sees.run
       stands.sound in_time listed in
       let time = subst (λ (l : List View).
       open_since (views_since r jobs carry restarts k cycles before) (views_of r jobs carry restarts k before)
@@ -237,11 +228,11 @@ module _ (laws : Laws) (more : MoreLaws) (turn : WorkInTurn) (comes_up : (busy :
       ≤ ((drive_at r k).busy + 1) * length (epoch_log l)
       + lost_since (views_since r jobs carry restarts k cycles before) (views_of r jobs carry restarts k before)) (sym split)
       (takes_time_and_losses (drive_at r k).busy (views_since r jobs carry restarts k cycles before)
-      (views_of r jobs carry restarts k before) (runs_split laws more r jobs carry restarts opened cycles before run clear k below)
+      (views_of r jobs carry restarts k before) (runs_split r jobs carry restarts opened cycles before run clear k below)
       going) in
       omega (arith, cost, time)
 
-  pub opens_so : ((busy : ℕ) → StaysInCost busy) → ComesTimed → (cycles before : List CycleView)
+  pub opens_so : (cycles before : List CycleView)
       → IsRun r jobs carry restarts (cycles ++ before) → IsClear (cycles ++ before) → Base before
       → AreSparse r carry restarts cycles before → (k : ℕ) (longest : ℕ → ℕ) → k < length r.drives
       → AreListed longest (views_of r jobs carry restarts k (cycles ++ before))
@@ -249,19 +240,19 @@ module _ (laws : Laws) (more : MoreLaws) (turn : WorkInTurn) (comes_up : (busy :
       ≤ cost_in (cost_of (drive_at r k).busy (drive_at r k).command longest (store_of (drive_at r k)))
       (epoch_begun (views_of r jobs carry restarts k (cycles ++ before)))
       + lost_since (views_since r jobs carry restarts k cycles before) (views_of r jobs carry restarts k before)
-  opens_so in_cost timed cycles before run clear starts sparse k longest below listed =
-      opens_if in_cost timed cycles before run clear k longest below listed (goes_since k below cycles before run clear starts sparse)
+  opens_so cycles before run clear starts sparse k longest below listed =
+      opens_if cycles before run clear k longest below listed (goes_since k below cycles before run clear starts sparse)
 
   -- and by the disturbed cycles
-  pub costs_sparse : ((busy : ℕ) → StaysInCost busy) → ComesTimed → (cycles before : List CycleView)
+  pub costs_sparse : (cycles before : List CycleView)
       → IsRun r jobs carry restarts (cycles ++ before) → IsClear (cycles ++ before) → Base before
       → AreSparse r carry restarts cycles before → (k : ℕ) (longest : ℕ → ℕ) → k < length r.drives
       → AreListed longest (views_of r jobs carry restarts k (cycles ++ before))
       → open_since (views_since r jobs carry restarts k cycles before) (views_of r jobs carry restarts k before)
       ≤ cost_in (cost_of (drive_at r k).busy (drive_at r k).command longest (store_of (drive_at r k)))
       (epoch_begun (views_of r jobs carry restarts k (cycles ++ before))) + disturbances r carry restarts cycles before
-  costs_sparse in_cost timed cycles before run clear starts sparse k longest below listed =
-      let most = opens_so in_cost timed cycles before run clear starts sparse k longest below listed in
+  costs_sparse cycles before run clear starts sparse k longest below listed =
+      let most = opens_so cycles before run clear starts sparse k longest below listed in
       let lost = lost_in cycles run clear sparse in omega (arith, most, lost)
     where
       lost_in : (l : List CycleView) → IsRun r jobs carry restarts (l ++ before) → IsClear (l ++ before)

@@ -12,24 +12,14 @@ use Rattle.sercos_seat.specs.Ring.{known_of}
 use Rattle.sercos_master.specs.Annals.{in_turn, Past, fall_of}
 use Rattle.sercos_script.specs.Links.{Carry, Restarts}
 use Rattle.sercos_law_channel.specs.Handshake.Epochs.{begun_in, epoch_begun}
-use Rattle.sercos_law_channel.specs.Handshake.RunLaws.{ComesToZero, ComesUp}
 use Rattle.sercos_law_channel.specs.Handshake.Views.{standing}
-use Rattle.sercos_law_channel.specs.Pace.Ages.{AgesWhereDead, age_in}
-use Rattle.sercos_law_channel.specs.Pace.ChannelCalls.{AgesBeforeEnd, StaysARun}
-use Rattle.sercos_law_channel.specs.Pace.Costs.{ComesTimed, StaysInCost}
-use Rattle.sercos_law_channel.specs.Pace.Jobs.{ReadsCost, WritesCost}
-use Rattle.sercos_law_channel.specs.Pace.Passages.{StaysDead}
-use Rattle.sercos_law_channel.specs.Pace.StartCosts.{RecoversInCost, RecoversSince}
+use Rattle.sercos_law_channel.specs.Pace.Ages.{age_in}
 use Rattle.sercos_law_channel.specs.Pace.Stretches.{open_since}
-use Rattle.sercos_law_run.specs.Bounds.Bounds.{AreSections, IsBelowGreatest, IsStarted}
 use Rattle.sercos_law_run.specs.Journal.Arrivals.{sum_below}
 use Rattle.sercos_law_run.specs.Journal.Runs.{drive_at, is_disturbed_in, IsClear, IsRun, looks_back, master_calls}
-use Rattle.sercos_law_run.specs.Agenda.Tasks.{BeginsNoneEarly}
-use Rattle.sercos_law_run.specs.Agenda.Turns.{WorkInTurn, WorksInThree, WorksInTwo}
 use Rattle.sercos_law_run.specs.Views.RingViews.{behind_mdt, view_of, views_of}
 use Rattle.sercos_law_run.specs.Held.Opened.{IsOpened}
-use Rattle.sercos_law_run.proofs.Held.Runs.{Laws}
-use Rattle.sercos_law_run.proofs.Headline.HeadlineRuns.{MoreLaws, all_stand}
+use Rattle.sercos_law_run.proofs.Headline.HeadlineRuns.{all_stand}
 use Rattle.sercos_law_run.specs.Undisturbed.Sections.{AreInTwo}
 use Rattle.sercos_law_run.specs.Undisturbed.StartUps.{NoneFalls}
 use Rattle.sercos_law_run.specs.Undisturbed.StopsInTwo.{StopsInTwo, StopsForTheCycleTime, StopsForThePlan}
@@ -66,6 +56,8 @@ use Rattle.sercos_law_run.proofs.Recovery.SpareStops.{begins_none, nothing_new, 
 use Rattle.sercos_law_run.proofs.Recovery.EpochStops.{same_start}
 use Rattle.sercos_law_run.proofs.Tolerance.Steps.{oldest, young_at_last}
 use Rattle.sercos_law_run.proofs.Views.ViewRuns.{views_count}
+use Rattle.sercos_law_channel.proofs.Pace.CallAges.{stays_a_run}
+use Rattle.sercos_law_run.proofs.Cited.{work_in_turn}
 
 -- no stop goes with the rise to phase 3
 no_rise_with : {r : RingView} (x : Stop) → StopsForThePlan r x ⊎ StopsForTheCycleTime r x → (p : Past) → StopsForTheCheck r p x → ⊥
@@ -103,15 +95,10 @@ here_is : (p m : ℕ) → at_place p m p ≡ m
 unfolding at_place
 here_is p m = ap (λ (b : Bool). if b then m else 0) (eq-eqb p p refl)
 
-module _ (laws : Laws) (more : MoreLaws) (turn : WorkInTurn) (early : BeginsNoneEarly) (two : WorksInTwo) (three : WorksInThree)
-    (comes_up : (busy : ℕ) → ComesUp busy) (to_zero : (busy : ℕ) → ComesToZero busy) (goes : (busy : ℕ) → StaysARun busy)
-    (counts : (busy : ℕ) → AgesBeforeEnd busy) (dead : (busy : ℕ) → StaysDead busy) (ages : (busy : ℕ) → AgesWhereDead busy)
-    (recovers : (busy : ℕ) → RecoversInCost busy) (since : (busy : ℕ) → RecoversSince busy) (in_cost : (busy : ℕ) → StaysInCost busy)
-    (timed : ComesTimed) (sections : AreSections) (reads_cost : (busy : ℕ) → ReadsCost busy) (writes_cost : (busy : ℕ) → WritesCost busy)
-    (started : IsStarted) (greatest_is : IsBelowGreatest) (in_two : StopsInTwo) (in_three : StopsInThree) (ready : ReadyIfEnded)
-    (r : RingView) (jobs : List Job) (carry : Carry) (restarts : Restarts) (opened : IsOpened r jobs) where
+module _ (in_two : StopsInTwo) (in_three : StopsInThree) (ready : ReadyIfEnded) (r : RingView) (jobs : List Job) (carry : Carry)
+    (restarts : Restarts) (opened : IsOpened r jobs) where
   abbrev Held : (ℕ → Type 0) → ℕ → CycleView → List CycleView → Type 0
-  Held among n t j = IsHeld laws more turn comes_up to_zero goes counts r jobs carry restarts opened among n t j
+  Held among n t j = IsHeld r jobs carry restarts opened among n t j
 
   abbrev opens_of : List CycleView → List CycleView → ℕ → ℕ
   opens_of cycles before k = open_since (views_since r jobs carry restarts k cycles before) (views_of r jobs carry restarts k before)
@@ -147,11 +134,11 @@ module _ (laws : Laws) (more : MoreLaws) (turn : WorkInTurn) (early : BeginsNone
         → IsClear (t ∷ (cycles ++ f ∷ b)) → AreSparse r carry restarts (t ∷ cycles) (f ∷ b)
         → NoneFalls r jobs carry restarts cycles (f ∷ b) → 2 ≤ t.phase
     late_all t [] run clear sparse stays =
-        let least = no_lower laws more turn r jobs carry restarts opened t f b run clear first.stays (sparse.1.goes_on 0 (omega arith)) d
+        let least = no_lower r jobs carry restarts opened t f b run clear first.stays (sparse.1.goes_on 0 (omega arith)) d
         there in omega (arith, least, late)
     late_all t (u ∷ cycles) run clear sparse stays =
-        let least = no_lower laws more turn r jobs carry restarts opened t u (cycles ++ f ∷ b) run clear stays.1
-        (sparse.1.goes_on 0 (omega arith)) d there in
+        let least = no_lower r jobs carry restarts opened t u (cycles ++ f ∷ b) run clear stays.1 (sparse.1.goes_on 0 (omega arith)) d
+        there in
         let before = late_all u cycles run.0 clear.0 sparse.0 stays.0 in omega (arith, least, before)
 
     -- a drive in phase 0 stays there
@@ -159,19 +146,17 @@ module _ (laws : Laws) (more : MoreLaws) (turn : WorkInTurn) (early : BeginsNone
         → AreSparse r carry restarts cycles (f ∷ b) → NoneFalls r jobs carry restarts cycles (f ∷ b) → (k : ℕ) → k < length r.drives
         → IsDown r jobs carry restarts k (f ∷ b) → IsDown r jobs carry restarts k (cycles ++ f ∷ b)
     down_all [] run clear sparse stays k low is = is
-    down_all (t ∷ cycles) run clear sparse stays k low is = (stays_down_in laws more turn r jobs carry restarts opened dead t
-        (cycles ++ f ∷ b) run clear k low (down_all cycles run.0 clear.0 sparse.0 stays.0 k low is)
-        (late_all t cycles run clear sparse stays.0)).ended
+    down_all (t ∷ cycles) run clear sparse stays k low is = (stays_down_in r jobs carry restarts opened t (cycles ++ f ∷ b) run clear k low
+        (down_all cycles run.0 clear.0 sparse.0 stays.0 k low is) (late_all t cycles run clear sparse stays.0)).ended
 
     held_from : (cycles : List CycleView) → IsRun r jobs carry restarts (cycles ++ f ∷ b) → IsClear (cycles ++ f ∷ b)
         → AreSparse r carry restarts cycles (f ∷ b) → NoneFalls r jobs carry restarts cycles (f ∷ b)
-        → AreHeld laws more turn comes_up to_zero goes counts r jobs carry restarts opened is_down (λ k. IsUpAfter (f ∷ b) k) within
-        (length (f ∷ b)) those (f ∷ b) nothing_lost cycles
+        → AreHeld r jobs carry restarts opened is_down (λ k. IsUpAfter (f ∷ b) k) within (length (f ∷ b)) those (f ∷ b) nothing_lost cycles
     held_from [] run clear sparse stays = tt
     held_from (t ∷ cycles) run clear sparse stays = (
       held_from cycles run.0 clear.0 sparse.0 stays.0,
-      held_all laws more turn comes_up to_zero goes counts r jobs carry restarts opened (λ k. IsUpAfter (f ∷ b) k) within (length (f ∷ b))
-          f b first (t ∷ cycles) run clear sparse stays,
+      held_all r jobs carry restarts opened (λ k. IsUpAfter (f ∷ b) k) within (length (f ∷ b)) f b first (t ∷ cycles) run clear sparse
+          stays,
     )
 
     going_on : (k : ℕ) (cycles : List CycleView) → AreSparse r carry restarts cycles (f ∷ b)
@@ -180,7 +165,7 @@ module _ (laws : Laws) (more : MoreLaws) (turn : WorkInTurn) (early : BeginsNone
     going_on k (t ∷ cycles) sparse stays =
         (going_on k cycles sparse.0 stays.0, ap (λ (o : Option Fall). is_some o) stays.1, sparse.1.goes_on 0 (omega arith))
 
-    -- THE CYCLES OF PHASE 2, while the master goes on with it
+    -- THE CYCLES OF PHASE 2, while the master stays_a_run on with it
     module _ (t : CycleView) (cycles : List CycleView) (run : IsRun r jobs carry restarts (t ∷ (cycles ++ f ∷ b)))
         (clear : IsClear (t ∷ (cycles ++ f ∷ b))) (sparse : AreSparse r carry restarts (t ∷ cycles) (f ∷ b))
         (stays : NoneFalls r jobs carry restarts (t ∷ cycles) (f ∷ b)) (at_two : t.phase ≡ 2)
@@ -188,67 +173,62 @@ module _ (laws : Laws) (more : MoreLaws) (turn : WorkInTurn) (early : BeginsNone
       its : (k : ℕ) × (k < length r.drives) × (in_turn (known_of r) (behind_mdt r jobs carry restarts t.sent (cycles ++ f ∷ b)) ≡ Some k)
           × (is_some (open_in (begun_in (view_of r jobs carry restarts k t (cycles ++ f ∷ b)) (views_of r jobs carry restarts k
           (cycles ++ f ∷ b)))) ≡ true)
-      its = works_in_turn laws more turn r jobs carry restarts opened two t (cycles ++ f ∷ b) run clear goes_on.1
+      its = works_in_turn r jobs carry restarts opened t (cycles ++ f ∷ b) run clear goes_on.1
 
       quiet : NeverRestarts restarts (t ∷ cycles) (f ∷ b)
       quiet = quiet_all (t ∷ cycles) sparse
 
-      -- a drive in phase 0 that doesn't have the turn had no open step
+      -- a drive in phase 0 that doesn't have the work_in_turn had no open step
       none_of_others : (k : ℕ) → k < length r.drives → (k ≡ its.0 → ⊥) → IsDown r jobs carry restarts k (f ∷ b)
           → opens_of (t ∷ cycles) (f ∷ b) k ≡ 0
       none_of_others k below other is =
           let same = ap (λ (l : List Begun). is_some (open_in l))
-          (begun_end laws more r jobs carry restarts opened t (cycles ++ f ∷ b) run clear stays.1 k) in
-          never_open laws more turn r jobs carry restarts opened dead ages (t ∷ cycles) (f ∷ b) run clear quiet stays goes_on k below is
+          (begun_end r jobs carry restarts opened t (cycles ++ f ∷ b) run clear stays.1 k) in
+          never_open r jobs carry restarts opened (t ∷ cycles) (f ∷ b) run clear quiet stays goes_on k below is
           (same ∙ not_true (is_some (open_in (begun_in (view_of r jobs carry restarts k t (cycles ++ f ∷ b))
           (views_of r jobs carry restarts k
-          (cycles ++ f ∷ b))))) (λ opens. other (some_is k its.0 (sym (opens_in_turn laws more turn r jobs carry restarts opened t
-          (cycles ++ f ∷ b) run clear at_two k below opens) ∙ its.2))))
+          (cycles ++ f ∷ b))))) (λ opens. other (some_is k its.0 (sym (opens_in_turn r jobs carry restarts opened t (cycles ++ f ∷ b) run
+          clear at_two k below opens) ∙ its.2))))
 
       each : (k : ℕ) → k < length r.drives
           → opens_of (t ∷ cycles) (f ∷ b) k ≤ at_place its.0 64 k + (section_two (drive_at r k)
-          + kept_lost laws more turn comes_up to_zero goes counts r jobs carry restarts opened is_down (t ∷ cycles) (f ∷ b) k)
+          + kept_lost r jobs carry restarts opened is_down (t ∷ cycles) (f ∷ b) k)
       each k below = by (is_down k) refl
         where
           by : (on : Bool) → is_down k ≡ on
               → opens_of (t ∷ cycles) (f ∷ b) k ≤ at_place its.0 64 k + (section_two (drive_at r k)
-              + kept_lost laws more turn comes_up to_zero goes counts r jobs carry restarts opened is_down (t ∷ cycles) (f ∷ b) k)
+              + kept_lost r jobs carry restarts opened is_down (t ∷ cycles) (f ∷ b) k)
           by true on =
               let is : IsDown r jobs carry restarts k (f ∷ b) = eqb-true (standing (views_of r jobs carry restarts k (f ∷ b))).ended 0 on in
               elim (cases_eq k its.0) [
                 | inl same ↦ (
-                    let few = open_at_most laws more turn r jobs carry restarts opened dead ages (t ∷ cycles) (f ∷ b) run clear quiet stays
-                    goes_on k below is in
-                    let old = ages_to_limit laws more turn r jobs carry restarts opened counts (t ∷ (cycles ++ f ∷ b)) run clear k below in
+                    let few = open_at_most r jobs carry restarts opened (t ∷ cycles) (f ∷ b) run clear quiet stays goes_on k below is in
+                    let old = ages_to_limit r jobs carry restarts opened (t ∷ (cycles ++ f ∷ b)) run clear k below in
                     let most = ap (at_place its.0 64) same ∙ here_is its.0 64 in omega (arith, few, old, most))
                 | inr other ↦ (let none = none_of_others k below other is in omega (arith, none))
               ]
           by false off =
-              let cost = opens_if laws more turn comes_up to_zero goes counts r jobs carry restarts opened in_cost timed (t ∷ cycles)
-              (f ∷ b)
-              run clear k (λ raw. 512) below (listed_all (views_of r jobs carry restarts k (t ∷ (cycles ++ f ∷ b))))
-              (going_on k (t ∷ cycles) sparse stays) in
-              let fits = each_fits laws more turn two comes_up to_zero goes counts r jobs carry restarts opened reads_cost writes_cost t
-              (cycles ++ f ∷ b) run clear stays.1 (omega (arith, at_two)) k below in
-              let same : kept_lost laws more turn comes_up to_zero goes counts r jobs carry restarts opened is_down (t ∷ cycles) (f ∷ b) k ≡
+              let cost = opens_if r jobs carry restarts opened (t ∷ cycles) (f ∷ b) run clear k (λ raw. 512) below
+              (listed_all (views_of r jobs carry restarts k (t ∷ (cycles ++ f ∷ b)))) (going_on k (t ∷ cycles) sparse stays) in
+              let fits = each_fits r jobs carry restarts opened t (cycles ++ f ∷ b) run clear stays.1 (omega (arith, at_two)) k below in
+              let same : kept_lost r jobs carry restarts opened is_down (t ∷ cycles) (f ∷ b) k ≡
               lost_since (views_since r jobs carry restarts k (t ∷ cycles) (f ∷ b)) (views_of r jobs carry restarts k (f ∷ b)) =
               cond-false (is_down k) 0 _ off in
               omega (arith, cost, fits, same)
 
       pub few_in_two : suc (length cycles) ≤ 64 + sum_by section_two r.drives + disturbances r carry restarts (t ∷ cycles) (f ∷ b)
       few_in_two =
-          let counted = none_idle laws more two r jobs carry restarts opened (t ∷ cycles) (f ∷ b) run clear goes_on in
+          let counted = none_idle r jobs carry restarts opened (t ∷ cycles) (f ∷ b) run clear goes_on in
           let most = sum_most (length r.drives) (opens_of (t ∷ cycles) (f ∷ b)) (λ k. at_place its.0 64 k + (section_two (drive_at r k)
-          + kept_lost laws more turn comes_up to_zero goes counts r jobs carry restarts opened is_down (t ∷ cycles) (f ∷ b) k)) each in
+          + kept_lost r jobs carry restarts opened is_down (t ∷ cycles) (f ∷ b) k)) each in
           let one = one_at (length r.drives) its.0 64 in
           let parts = sum_both (length r.drives) (at_place its.0 64) (λ k. section_two (drive_at r k)
-          + kept_lost laws more turn comes_up to_zero goes counts r jobs carry restarts opened is_down (t ∷ cycles) (f ∷ b) k) in
+          + kept_lost r jobs carry restarts opened is_down (t ∷ cycles) (f ∷ b) k) in
           let both = sum_both (length r.drives) (λ k. section_two (drive_at r k))
-          (kept_lost laws more turn comes_up to_zero goes counts r jobs carry restarts opened is_down (t ∷ cycles) (f ∷ b)) in
+          (kept_lost r jobs carry restarts opened is_down (t ∷ cycles) (f ∷ b)) in
           let sums = sum_within (λ k. section_two (drive_at r k)) section_two r.drives (λ k low. omega arith) in
-          let few = few_lost laws more turn comes_up to_zero goes counts r jobs carry restarts opened is_down (λ k. IsUpAfter (f ∷ b) k)
-          within (length (f ∷ b)) those (f ∷ b) nothing_lost t cycles run clear (held_from (t ∷ cycles) run clear sparse stays) sparse
-          (omega (arith, at_two)) in
+          let few = few_lost r jobs carry restarts opened is_down (λ k. IsUpAfter (f ∷ b) k) within (length (f ∷ b)) those (f ∷ b)
+          nothing_lost t cycles run clear (held_from (t ∷ cycles) run clear sparse stays) sparse (omega (arith, at_two)) in
           omega (arith, counted, most, one, parts, both, sums, few)
 
     -- where there is no stop, there was none before
@@ -257,10 +237,9 @@ module _ (laws : Laws) (more : MoreLaws) (turn : WorkInTurn) (early : BeginsNone
         → NoneFalls r jobs carry restarts (t ∷ cycles) (f ∷ b)
         → (behind_mdt r jobs carry restarts u.sent (t ∷ (cycles ++ f ∷ b))).stop ≡ None
         → (behind_mdt r jobs carry restarts t.sent (cycles ++ f ∷ b)).stop ≡ None
-    none_then u t cycles run clear sparse stays none = stop_before laws more turn early two r jobs carry restarts opened dead ages counts
-        recovers since timed sections reads_cost writes_cost u t (cycles ++ f ∷ b) run clear stays.1 (sparse.1.goes_on 0 (omega arith)) none
+    none_then u t cycles run clear sparse stays none = stop_before r jobs carry restarts opened u t (cycles ++ f ∷ b) run clear stays.1 (sparse.1.goes_on 0 (omega arith)) none
 
-    -- up to a cycle of phase 2 without a stop the master goes on with it
+    -- up to a cycle of phase 2 without a stop the master stays_a_run on with it
     are_two : (u : CycleView) (cycles : List CycleView) → IsRun r jobs carry restarts (u ∷ (cycles ++ f ∷ b))
         → IsClear (u ∷ (cycles ++ f ∷ b)) → AreSparse r carry restarts (u ∷ cycles) (f ∷ b)
         → NoneFalls r jobs carry restarts cycles (f ∷ b) → u.phase ≡ 2
@@ -269,11 +248,10 @@ module _ (laws : Laws) (more : MoreLaws) (turn : WorkInTurn) (early : BeginsNone
     are_two u (t ∷ cycles) run clear sparse stays at_two none =
         let on = sparse.1.goes_on 0 (omega arith) in
         let least = late_all t cycles run.0 clear.0 sparse.0 stays.0 in
-        let most = no_lower laws more turn r jobs carry restarts opened u t (cycles ++ f ∷ b) run clear stays.1 on d there in
+        let most = no_lower r jobs carry restarts opened u t (cycles ++ f ∷ b) run clear stays.1 on d there in
         let t_two : t.phase ≡ 2 = omega (arith, least, most, at_two) in (
           are_two t cycles run.0 clear.0 sparse.0 stays.0 t_two (none_then u t cycles run clear sparse stays none),
-          goes_on_in_two laws more turn early two r jobs carry restarts opened dead ages counts recovers since timed sections reads_cost
-              writes_cost u t (cycles ++ f ∷ b) run clear stays.1 on at_two t_two none,
+          goes_on_in_two r jobs carry restarts opened u t (cycles ++ f ∷ b) run clear stays.1 on at_two t_two none,
         )
 
     -- what the disturbed cycles cost a start-up
@@ -289,8 +267,8 @@ module _ (laws : Laws) (more : MoreLaws) (turn : WorkInTurn) (early : BeginsNone
     costs_within t [] run clear sparse stays low = let same = same_cost t (f ∷ b) low in omega (arith, same)
     costs_within t (u ∷ cycles) run clear sparse stays low =
         let same = same_cost t (u ∷ (cycles ++ f ∷ b)) low in
-        let least = no_lower laws more turn r jobs carry restarts opened t u (cycles ++ f ∷ b) run clear stays.1
-        (sparse.1.goes_on 0 (omega arith)) d there in
+        let least = no_lower r jobs carry restarts opened t u (cycles ++ f ∷ b) run clear stays.1 (sparse.1.goes_on 0 (omega arith)) d
+        there in
         let rest = costs_within u cycles run.0 clear.0 sparse.0 stays.0 (omega (arith, least, low)) in omega (arith, same, rest)
 
     -- WITHOUT A STOP the ring falls in time: without a fall the cycles are no more than this.
@@ -308,9 +286,8 @@ module _ (laws : Laws) (more : MoreLaws) (turn : WorkInTurn) (early : BeginsNone
       | inl high ↦ elim (cases_lt 2 t.phase) [
         | inr low ↦ few_then cycles run.0 clear.0 sparse.0 stays.0 low (none_then u t cycles run clear sparse stays.0 u_none)
         | inl late_too ↦ absurd (false≢true (sym (ap (λ (o : Option Fall). is_some o) stays.1)
-            ∙ falls_if_down laws more turn r jobs carry restarts opened dead u t (cycles ++ f ∷ b) run clear stays.0.1
-            (sparse.1.goes_on 0 (omega arith)) (omega (arith, late_too)) d there
-            (down_all cycles run.0.0 clear.0.0 sparse.0.0 stays.0.0 d there down)))
+            ∙ falls_if_down r jobs carry restarts opened u t (cycles ++ f ∷ b) run clear stays.0.1 (sparse.1.goes_on 0 (omega arith))
+            (omega (arith, late_too)) d there (down_all cycles run.0.0 clear.0.0 sparse.0.0 stays.0.0 d there down)))
       ]
     ]
       where
@@ -318,7 +295,7 @@ module _ (laws : Laws) (more : MoreLaws) (turn : WorkInTurn) (early : BeginsNone
         u_none = sym (stop_after r jobs carry restarts u (t ∷ (cycles ++ f ∷ b)) stays.1) ∙ none
 
         at_most : u.phase ≤ 2 → t.phase ≤ 2
-        at_most low = let most = no_lower laws more turn r jobs carry restarts opened u t (cycles ++ f ∷ b) run clear stays.0.1
+        at_most low = let most = no_lower r jobs carry restarts opened u t (cycles ++ f ∷ b) run clear stays.0.1
             (sparse.1.goes_on 0 (omega arith)) d there in omega (arith, most, low)
 
         few_from : (w : CycleView) (l : List CycleView) → IsRun r jobs carry restarts (w ∷ (l ++ f ∷ b)) → IsClear (w ∷ (l ++ f ∷ b))
@@ -338,8 +315,8 @@ module _ (laws : Laws) (more : MoreLaws) (turn : WorkInTurn) (early : BeginsNone
         few_then [] run clear sparse stays low t_none = omega arith
         few_then (w ∷ l) run clear sparse stays low t_none =
             let least = late_all t (w ∷ l) run clear sparse stays.0 in
-            let most = no_lower laws more turn r jobs carry restarts opened t w (l ++ f ∷ b) run clear stays.0.1
-            (sparse.1.goes_on 0 (omega arith)) d there in
+            let most = no_lower r jobs carry restarts opened t w (l ++ f ∷ b) run clear stays.0.1 (sparse.1.goes_on 0 (omega arith)) d
+            there in
             let few = few_from w l run.0 clear.0 sparse.0 stays.0
             (are_two t (w ∷ l) run clear sparse stays.0 (omega (arith, least, low)) t_none) (omega (arith, most, low)) in omega (arith, few)
 
@@ -352,8 +329,8 @@ module _ (laws : Laws) (more : MoreLaws) (turn : WorkInTurn) (early : BeginsNone
       | inl was ↦ was
       | inr up ↦ absurd (
           let least = late_all t cycles run clear sparse stays.0 in
-          elim ((held_all laws more turn comes_up to_zero goes counts r jobs carry restarts opened (λ k. IsUpAfter (f ∷ b) k) within
-          (length (f ∷ b)) f b first (t ∷ cycles) run clear sparse stays).near (omega (arith, least)) k (below, up)) [
+          elim ((held_all r jobs carry restarts opened (λ k. IsUpAfter (f ∷ b) k) within (length (f ∷ b)) f b first (t ∷ cycles) run clear
+          sparse stays).near (omega (arith, least)) k (below, up)) [
             | inl at ↦ (let ended = at.1 in omega (arith, ended, is, least))
             | inr behind ↦ (let ended = behind.ended in omega (arith, ended, is, least))
           ])
@@ -394,15 +371,13 @@ module _ (laws : Laws) (more : MoreLaws) (turn : WorkInTurn) (early : BeginsNone
             let same = nothing_new (view_of r jobs carry restarts k u (cycles ++ f ∷ b)).heard
             (view_of r jobs carry restarts k u (cycles ++ f ∷ b)).begins (restarts (length (cycles ++ f ∷ b)) 0)
             (epoch_begun (views_of r jobs carry restarts k (cycles ++ f ∷ b)))
-            (stays_down_in laws more turn r jobs carry restarts opened dead u (cycles ++ f ∷ b) run clear k below was_down late_u).heard
-            (begins_none laws more turn early two r jobs carry restarts opened dead ages counts recovers since timed sections reads_cost
-            writes_cost u (cycles ++ f ∷ b) k (ap (λ (o : Option Stop). is_some o) stop)) on in
+            (stays_down_in r jobs carry restarts opened u (cycles ++ f ∷ b) run clear k below was_down late_u).heard
+            (begins_none r jobs carry restarts opened u (cycles ++ f ∷ b) k (ap (λ (o : Option Stop). is_some o) stop)) on in
             let was_open : is_some (open_in (epoch_begun (views_of r jobs carry restarts k (cycles ++ f ∷ b)))) ≡ true =
-            sym (ap (λ (l : List Begun). is_some (open_in l)) (begun_end laws more r jobs carry restarts opened u (cycles ++ f ∷ b) run
-            clear
-            stays.1 k) ∙ ap (λ (l : List Begun). is_some (open_in l)) same) ∙ opens in
-            let grows = (ages_down_in laws more turn r jobs carry restarts opened ages u (cycles ++ f ∷ b) run clear k below was_down late_u
-            stays.1 on was_open).0 in
+            sym (ap (λ (l : List Begun). is_some (open_in l)) (begun_end r jobs carry restarts opened u (cycles ++ f ∷ b) run clear stays.1
+            k) ∙ ap (λ (l : List Begun). is_some (open_in l)) same) ∙ opens in
+            let grows = (ages_down_in r jobs carry restarts opened u (cycles ++ f ∷ b) run clear k below was_down late_u stays.1 on
+            was_open).0 in
             let few = next was_open (omega (arith, grows, old)) in omega (arith, few)
 
     -- SO A FALL COMES IN TIME, with a stop or without.
@@ -415,18 +390,17 @@ module _ (laws : Laws) (more : MoreLaws) (turn : WorkInTurn) (early : BeginsNone
     fall_sparse g (u ∷ cycles) run clear sparse stays falls = elim (cases_lt 2 u.phase) [
       | inr low ↦ elim (some_above (λ k. cycles_open ((behind_mdt r jobs carry restarts g.sent (u ∷ (cycles ++ f ∷ b))).calls k)) 63
           (length r.drives)) [
-            | inr each ↦ absurd (false≢true (sym (ap (λ (o : Option Fall). is_some o) (stays_if laws more turn comes_up to_zero goes counts
-                r
-                jobs carry restarts opened (λ k. IsUpAfter (f ∷ b) k) within (length (f ∷ b)) g u (cycles ++ f ∷ b) run clear held_u
-                sparse.1 (omega (arith, low)) late_g each)) ∙ falls))
+            | inr each ↦ absurd (false≢true (sym (ap (λ (o : Option Fall). is_some o) (stays_if r jobs carry restarts opened
+                (λ k. IsUpAfter (f ∷ b) k) within (length (f ∷ b)) g u (cycles ++ f ∷ b) run clear held_u sparse.1 (omega (arith, low))
+                late_g each)) ∙ falls))
             | inl found ↦ at_limit found.0 found.1 found.2
           ]
       | inl high ↦ by_third cycles run.0 clear.0 sparse.0 stays (omega (arith, high))
     ]
       where
         held_u : Held (λ k. IsUpAfter (f ∷ b) k) (length (f ∷ b)) u (cycles ++ f ∷ b)
-        held_u = held_all laws more turn comes_up to_zero goes counts r jobs carry restarts opened (λ k. IsUpAfter (f ∷ b) k) within
-            (length (f ∷ b)) f b first (u ∷ cycles) run.0 clear.0 sparse.0 stays
+        held_u = held_all r jobs carry restarts opened (λ k. IsUpAfter (f ∷ b) k) within (length (f ∷ b)) f b first (u ∷ cycles) run.0
+            clear.0 sparse.0 stays
 
         late_g : 2 ≤ g.phase
         late_g = late_all g (u ∷ cycles) run clear sparse stays
@@ -435,11 +409,11 @@ module _ (laws : Laws) (more : MoreLaws) (turn : WorkInTurn) (early : BeginsNone
             → 63 < cycles_open ((behind_mdt r jobs carry restarts g.sent (u ∷ (cycles ++ f ∷ b))).calls k)
             → suc (length cycles) ≤ 131 + sum_by section_two r.drives + start_costs r jobs carry restarts (u ∷ cycles) (f ∷ b)
         at_limit k below above = elim (cases_lt 62 (age_in (views_of r jobs carry restarts k (u ∷ (cycles ++ f ∷ b))))) [
-          | inr young ↦ absurd (let few = few_open laws more turn comes_up r jobs carry restarts opened recovers timed counts g
-              (u ∷ (cycles ++ f ∷ b)) run clear k below (omega (arith, young)) in omega (arith, few, above))
+          | inr young ↦ absurd (let few = few_open r jobs carry restarts opened g (u ∷ (cycles ++ f ∷ b)) run clear k below
+              (omega (arith, young)) in omega (arith, few, above))
           | inl old ↦ elim (cases_eq (standing (views_of r jobs carry restarts k (f ∷ b))).ended 0) [
             | inl is ↦ (
-                let limit = ages_to_limit laws more turn r jobs carry restarts opened counts (u ∷ (cycles ++ f ∷ b)) run.0 clear.0 k below
+                let limit = ages_to_limit r jobs carry restarts opened (u ∷ (cycles ++ f ∷ b)) run.0 clear.0 k below
                 in
                 let few = aged_few 64 (u ∷ cycles) run.0 clear.0 sparse.0 stays k below is
                 (open_of_age (views_of r jobs carry restarts k (u ∷ (cycles ++ f ∷ b))) (omega (arith, old))) limit in omega (arith, few))
@@ -450,7 +424,7 @@ module _ (laws : Laws) (more : MoreLaws) (turn : WorkInTurn) (early : BeginsNone
                   let count = views_count r jobs carry restarts k (cycles ++ f ∷ b) in
                   let parts = length-append cycles (f ∷ b) in
                   let age = oldest (drive_at r k).busy 1 2 (views_of r jobs carry restarts k (u ∷ (cycles ++ f ∷ b)))
-                  (all_stand laws more r jobs carry restarts opened (u ∷ (cycles ++ f ∷ b)) run.0 clear.0 k below).sees.run (omega arith)
+                  (all_stand r jobs carry restarts opened (u ∷ (cycles ++ f ∷ b)) run.0 clear.0 k below).sees.run (omega arith)
                   (young_at_last (length (f ∷ b)) (drive_at r k).busy 1 2 (views_of r jobs carry restarts k (u ∷ (cycles ++ f ∷ b)))
                   (omega (arith, low, count, parts, long)) (held_u.aged k (below, up)).any) in omega (arith, age, low, old))
             ]
@@ -464,14 +438,13 @@ module _ (laws : Laws) (more : MoreLaws) (turn : WorkInTurn) (early : BeginsNone
         by_third [] run clear sparse stays high = omega arith
         by_third (t ∷ l) run clear sparse stays high = elim (cases_lt 2 t.phase) [
           | inl late_too ↦ absurd (false≢true (sym (ap (λ (o : Option Fall). is_some o) stays.1)
-              ∙ falls_if_down laws more turn r jobs carry restarts opened dead u t (l ++ f ∷ b) run clear stays.0.1
-              (sparse.1.goes_on 0 (omega arith)) (omega (arith, late_too)) d there
-              (down_all l run.0.0 clear.0.0 sparse.0.0 stays.0.0 d there down)))
+              ∙ falls_if_down r jobs carry restarts opened u t (l ++ f ∷ b) run clear stays.0.1 (sparse.1.goes_on 0 (omega arith))
+              (omega (arith, late_too)) d there (down_all l run.0.0 clear.0.0 sparse.0.0 stays.0.0 d there down)))
           | inr low ↦ by_stop (phases (omega (arith, low))) (behind_mdt r jobs carry restarts t.sent (l ++ f ∷ b)).stop refl
         ]
           where
             phases : t.phase ≤ 2 → (t.phase ≡ 2) × (u.phase ≡ 3)
-            phases low = elim (phase_after laws more turn r jobs carry restarts opened u t (l ++ f ∷ b) run clear stays.0.1
+            phases low = elim (phase_after r jobs carry restarts opened u t (l ++ f ∷ b) run clear stays.0.1
                 (sparse.1.goes_on 0 (omega arith)) d there) [
                   | inl same ↦ absurd (omega (arith, same, low, high))
                   | inr up ↦ (omega (arith, up, low, high), omega (arith, up, low, high))

@@ -8,17 +8,12 @@ use Rattle.sercos_trace.specs.Views.{CycleView}
 use Rattle.sercos_seat.specs.Ring.{known_of}
 use Rattle.sercos_master.specs.Annals.{Past, Turn, all_identified, first_from, first_place, has_identified, is_done, is_done_in, is_identified, whole_row}
 use Rattle.sercos_script.specs.Links.{Carry, Restarts}
-use Rattle.sercos_law_channel.specs.Handshake.RunLaws.{ComesToZero, ComesUp}
-use Rattle.sercos_law_channel.specs.Pace.ChannelCalls.{AgesBeforeEnd, StaysARun}
 use Rattle.sercos_law_run.specs.Journal.Runs.{is_disturbed_in, looks_back, master_calls, IsClear, IsDisturbed, IsRun}
-use Rattle.sercos_law_run.specs.Agenda.Turns.{WorkInTurn}
 use Rattle.sercos_law_run.specs.Views.RingViews.{at_start, behind_ats, behind_mdt, behind_mst}
 use Rattle.sercos_law_run.proofs.Views.MasterSame.{begun_cycle, turn_mdt}
 use Rattle.sercos_law_run.proofs.Views.Members.{members_count}
 use Rattle.sercos_law_run.proofs.Views.ViewRuns.{started}
 use Rattle.sercos_law_run.specs.Held.Opened.{IsOpened}
-use Rattle.sercos_law_run.proofs.Held.Runs.{Laws}
-use Rattle.sercos_law_run.proofs.Headline.HeadlineRuns.{MoreLaws}
 use Rattle.sercos_law_run.specs.Undisturbed.EpochStarts.{came_back}
 use Rattle.sercos_law_run.specs.Undisturbed.Undisturbed.{IsUndisturbed}
 use Rattle.sercos_law_run.proofs.Undisturbed.ChannelsKept.{ats_leave}
@@ -31,6 +26,7 @@ use Rattle.sercos_law_run.proofs.Undisturbed.StaysUp.{addressed_first, found_pas
 use Rattle.sercos_law_run.specs.Tolerance.Early.{early_cost, early_costs}
 use Rattle.sercos_law_run.specs.Tolerance.Sparse.{AreSparse}
 use Rattle.sercos_law_run.proofs.Tolerance.Borne.{IsBase, IsBorne, borne_on, calm_or_not}
+use Rattle.sercos_law_channel.proofs.Pace.CallAges.{stays_a_run}
 
 -- COUNTS of places that pass a test
 abbrev pub one_if : Bool → ℕ
@@ -116,10 +112,7 @@ pub one_phase : (done : Bool) (n : ℕ) → (if done then n + 1 else n) ≡ 1 �
 one_phase true n is = inl (refl, omega (arith, is))
 one_phase false n is = inr (refl, is)
 
-module _ (laws : Laws) (more : MoreLaws) (turn : WorkInTurn) (comes_up : (busy : ℕ) → ComesUp busy)
-    (to_zero : (busy : ℕ) → ComesToZero busy)
-    (goes : (busy : ℕ) → StaysARun busy) (counts : (busy : ℕ) → AgesBeforeEnd busy)
-    (r : RingView) (jobs : List Job) (carry : Carry) (restarts : Restarts) (opened : IsOpened r jobs) where
+module _ (r : RingView) (jobs : List Job) (carry : Carry) (restarts : Restarts) (opened : IsOpened r jobs) where
   abbrev back : List CycleView → Past
   back j = looks_back r jobs (master_calls r carry restarts j)
 
@@ -127,10 +120,10 @@ module _ (laws : Laws) (more : MoreLaws) (turn : WorkInTurn) (comes_up : (busy :
   now t j = behind_mdt r jobs carry restarts t.sent j
 
   abbrev Borne : CycleView → List CycleView → Type 0
-  Borne t j = IsBorne laws more turn comes_up to_zero goes counts r jobs carry restarts opened t j
+  Borne t j = IsBorne r jobs carry restarts opened t j
 
   abbrev Base : List CycleView → Type 0
-  Base before = IsBase laws more turn comes_up to_zero goes counts r jobs carry restarts opened before
+  Base before = IsBase r jobs carry restarts opened before
 
   abbrev pub known : List Turn → ℕ
   known turns = count (length (known_of r).drives) (λ k. has_identified k turns)
@@ -148,14 +141,14 @@ module _ (laws : Laws) (more : MoreLaws) (turn : WorkInTurn) (comes_up : (busy :
     phase_is = run.1.phase ∙ ap (λ (p : Past). p.now.phase) start_is
 
     turns_before : (now t j).turns ≡ (back j).turns
-    turns_before = turns_now laws more comes_up r jobs carry restarts opened t j ∙ ap (λ (p : Past). p.turns) start_is
+    turns_before = turns_now r jobs carry restarts opened t j ∙ ap (λ (p : Past). p.turns) start_is
 
     turns_after : (back (t ∷ j)).turns ≡ (now t j).now ∷ (back j).turns
     turns_after = ap (λ (p : Past). p.turns) (end_kept (known_of r) (now t j) is.stays)
         ∙ ap (λ (l : List Turn). (now t j).now ∷ l) turns_before
 
     pub phase_next : (back (t ∷ j)).now.phase ≡ (if is_done (known_of r) (now t j) then t.phase + 1 else t.phase)
-    phase_next = phase_after laws more comes_up r jobs carry restarts opened t j run is.stays
+    phase_next = phase_after r jobs carry restarts opened t j run is.stays
 
     whole_is : (now t j).now.whole ≡ (behind_mst r jobs carry restarts t.sent j).now.whole
     whole_is = (turn_mdt (known_of r) (behind_ats r jobs carry restarts t.sent j)).whole_is
@@ -187,7 +180,7 @@ module _ (laws : Laws) (more : MoreLaws) (turn : WorkInTurn) (comes_up : (busy :
       by (zero_lasts cycles before run.0 clear.0 starts sparse.0 (sym (phase_is t (cycles ++ before) run is) ∙ t_zero))
     where
       is : Borne t (cycles ++ before)
-      is = borne_on laws more turn comes_up to_zero goes counts r jobs carry restarts opened t cycles before run clear starts sparse
+      is = borne_on r jobs carry restarts opened t cycles before run clear starts sparse
 
       t_zero : t.phase ≡ 0
       t_zero = zero_phase (is_done (known_of r) (now t (cycles ++ before))) t.phase (sym (phase_next t (cycles ++ before) run is) ∙ at_zero)
@@ -213,10 +206,10 @@ module _ (laws : Laws) (more : MoreLaws) (turn : WorkInTurn) (comes_up : (busy :
       (λ k. has_identified k (back (t ∷ u ∷ j)).turns) stay low off on
     where
       u_phase : (now u j).now.phase ≡ 1
-      u_phase = phase_now laws more comes_up r jobs carry restarts opened u j run.0.1 ∙ was_one
+      u_phase = phase_now r jobs carry restarts opened u j run.0.1 ∙ was_one
 
       t_phase : (now t (u ∷ j)).now.phase ≡ 1
-      t_phase = phase_now laws more comes_up r jobs carry restarts opened t (u ∷ j) run.1 ∙ one
+      t_phase = phase_now r jobs carry restarts opened t (u ∷ j) run.1 ∙ one
 
       not_all : all_identified (known_of r) (now u j) ≡ false
       not_all = sym (ap (λ (n : ℕ). is_done_in n (known_of r) (now u j)) u_phase) ∙ unfinished
@@ -243,8 +236,8 @@ module _ (laws : Laws) (more : MoreLaws) (turn : WorkInTurn) (comes_up : (busy :
 
       hears : (now t (u ∷ j)).now.heard first.0 ≡ true
       hears = ap (λ (f : ℕ → Bool). f first.0) (heard_mdt (known_of r) (behind_ats r jobs carry restarts t.sent (u ∷ j)))
-          ∙ heard_next laws more r jobs carry restarts opened t u j run calm calm_before first.0 inside one u_phase to
-          (stands_so laws more comes_up r jobs carry restarts opened u j run.0 clear.0 calm_before (omega (arith, was_one)) first.0 inside
+          ∙ heard_next r jobs carry restarts opened t u j run calm calm_before first.0 inside one u_phase to
+          (stands_so r jobs carry restarts opened u j run.0 clear.0 calm_before (omega (arith, was_one)) first.0 inside
           ∙ was_one)
 
       on : has_identified first.0 (back (t ∷ u ∷ j)).turns ≡ true
@@ -269,7 +262,7 @@ module _ (laws : Laws) (more : MoreLaws) (turn : WorkInTurn) (comes_up : (busy :
       → IsClear (t ∷ (cycles ++ before)) → Base before → AreSparse r carry restarts (t ∷ cycles) before
       → t.phase ≡ 0 → suc (length cycles) ≤ 10 + early_costs r jobs carry restarts (t ∷ cycles) before
   risen t cycles before run clear starts sparse t_zero =
-      let is = borne_on laws more turn comes_up to_zero goes counts r jobs carry restarts opened t cycles before run clear starts sparse in
+      let is = borne_on r jobs carry restarts opened t cycles before run clear starts sparse in
       let at_zero = sym (phase_is t (cycles ++ before) run is) ∙ t_zero in
       let few = few_back r jobs carry restarts (cycles ++ before) at_zero in
       let le = zero_lasts cycles before run.0 clear.0 starts sparse.0 at_zero in omega (arith, few, le)
@@ -288,10 +281,10 @@ module _ (laws : Laws) (more : MoreLaws) (turn : WorkInTurn) (comes_up : (busy :
       ]
     where
       was : Borne u (cycles ++ before)
-      was = borne_on laws more turn comes_up to_zero goes counts r jobs carry restarts opened u cycles before run.0 clear.0 starts sparse.0
+      was = borne_on r jobs carry restarts opened u cycles before run.0 clear.0 starts sparse.0
 
       is : Borne t (u ∷ (cycles ++ before))
-      is = borne_on laws more turn comes_up to_zero goes counts r jobs carry restarts opened t (u ∷ cycles) before run clear starts sparse
+      is = borne_on r jobs carry restarts opened t (u ∷ cycles) before run clear starts sparse
 
       cost : early_cost r jobs carry restarts t (u ∷ (cycles ++ before)) ≡ two_if
           (is_disturbed_in r carry restarts (length (u ∷ (cycles ++ before))) t.sent)
@@ -331,7 +324,7 @@ module _ (laws : Laws) (more : MoreLaws) (turn : WorkInTurn) (comes_up : (busy :
         ]
       ]
 
-  -- not all drives are identified while phase 1 goes on
+  -- not all drives are identified while phase 1 stays_a_run on
   pub known_few : (t : CycleView) (j : List CycleView) → IsRun r jobs carry restarts (t ∷ j) → Borne t j → t.phase ≡ 1
       → is_done (known_of r) (now t j) ≡ false → known (back (t ∷ j)).turns + 1 ≤ length r.drives
   known_few t j run is one unfinished =
@@ -341,7 +334,7 @@ module _ (laws : Laws) (more : MoreLaws) (turn : WorkInTurn) (comes_up : (busy :
       off refl in omega (arith, all, members, less)
     where
       t_phase : (now t j).now.phase ≡ 1
-      t_phase = phase_now laws more comes_up r jobs carry restarts opened t j run.1 ∙ one
+      t_phase = phase_now r jobs carry restarts opened t j run.1 ∙ one
 
       first : (k : ℕ) × (first_place (known_of r) (λ k. not (is_identified (now t j) k)) ≡ Some k)
       first = some_first (first_place (known_of r) (λ k. not (is_identified (now t j) k)))
@@ -377,7 +370,7 @@ module _ (laws : Laws) (more : MoreLaws) (turn : WorkInTurn) (comes_up : (busy :
   ]
     where
       was : Borne u (cycles ++ before)
-      was = borne_on laws more turn comes_up to_zero goes counts r jobs carry restarts opened u cycles before run.0 clear.0 starts sparse.0
+      was = borne_on r jobs carry restarts opened u cycles before run.0 clear.0 starts sparse.0
 
       is : Borne t (u ∷ (cycles ++ before))
-      is = borne_on laws more turn comes_up to_zero goes counts r jobs carry restarts opened t (u ∷ cycles) before run clear starts sparse
+      is = borne_on r jobs carry restarts opened t (u ∷ cycles) before run clear starts sparse

@@ -16,19 +16,15 @@ use Rattle.sercos_seat.specs.Channel.{outcomes_in}
 use Rattle.sercos_seat.specs.Ring.{known_of, member, tasks_for}
 use Rattle.sercos_script.specs.Links.{Carry, Restarts}
 use Rattle.sercos_law_channel.specs.Handshake.Epochs.{epoch_begun}
-use Rattle.sercos_law_channel.specs.Handshake.RunLaws.{ComesToZero, ComesUp}
-use Rattle.sercos_law_channel.specs.Pace.ChannelCalls.{AgesBeforeEnd, StaysARun}
-use Rattle.sercos_law_channel.specs.Pace.Costs.{ComesTimed, StaysInCost, cost_in, cost_of}
-use Rattle.sercos_law_channel.specs.Pace.Jobs.{ListReadCosts, ReadsCost, WritesCost}
-use Rattle.sercos_law_run.specs.Bounds.Bounds.{command_cycles, slowest, IsBelowGreatest, IsStarted}
+use Rattle.sercos_law_channel.specs.Pace.Costs.{cost_in, cost_of}
+use Rattle.sercos_law_run.specs.Bounds.Bounds.{command_cycles, slowest}
 use Rattle.sercos_law_run.specs.Journal.Runs.{drive_at, looks_back, master_calls, IsClear, IsRun}
-use Rattle.sercos_law_run.specs.Agenda.Turns.{WorkInTurn, WorksInThree, WorksInTwo}
 use Rattle.sercos_law_run.proofs.Start.CheckPasses.{KeepsRules, ring_drive}
 use Rattle.sercos_law_run.specs.Views.RingViews.{behind_mdt, views_of}
 use Rattle.sercos_law_run.proofs.Views.Members.{member_is}
 use Rattle.sercos_law_run.specs.Held.Opened.{IsOpened}
-use Rattle.sercos_law_run.proofs.Held.Runs.{Laws, drive_got}
-use Rattle.sercos_law_run.proofs.Headline.HeadlineRuns.{MoreLaws, first_store}
+use Rattle.sercos_law_run.proofs.Held.Runs.{drive_got}
+use Rattle.sercos_law_run.proofs.Headline.HeadlineRuns.{first_store}
 use Rattle.sercos_law_run.proofs.Typed.Mdts.{phase_low}
 use Rattle.sercos_law_run.specs.Undisturbed.EpochStarts.{StartsEpoch}
 use Rattle.sercos_law_run.specs.Undisturbed.Fit.{FitsInThree, OwnFitsInFour}
@@ -59,6 +55,8 @@ use Rattle.sercos_law_run.proofs.Tolerance.EarlySparse.{early_sparse, phase_is}
 use Rattle.sercos_law_run.proofs.Tolerance.NotYet.{AtRise, InEarly, InThree, InTwo, IsEpoch, IsUnready, NotYet, epoch_before, not_yet, same_costs}
 use Rattle.sercos_law_run.proofs.Tolerance.ThreeLasts.{planned, sum_split, three_counts}
 use Rattle.sercos_law_run.proofs.Tolerance.TwoLasts.{two_sparse}
+use Rattle.sercos_law_channel.proofs.Pace.JobCosts.{list_read_costs, reads_cost, writes_cost}
+use Rattle.sercos_law_run.proofs.Bounds.BoundSums.{is_below_greatest}
 
 -- A LIST cut after its newest items: n are left.
 record IsLeft (begun : List Begun) (n : ℕ) : Type 0 where
@@ -83,27 +81,21 @@ at_old : (all : List Request) (recent old : List Begun) → AreAt all (recent ++
 at_old all [] old are = are
 at_old all (b ∷ recent) old are = at_old all recent old are.0
 
-module _ (laws : Laws) (more : MoreLaws) (turn : WorkInTurn) (two : WorksInTwo) (three : WorksInThree)
-    (comes_up : (busy : ℕ) → ComesUp busy)
-    (to_zero : (busy : ℕ) → ComesToZero busy) (goes : (busy : ℕ) → StaysARun busy) (counts : (busy : ℕ) → AgesBeforeEnd busy)
-    (in_cost : (busy : ℕ) → StaysInCost busy) (timed : ComesTimed) (reads_cost : (busy : ℕ) → ReadsCost busy)
-    (writes_cost : (busy : ℕ) → WritesCost busy) (list_cost : (busy : ℕ) → ListReadCosts busy) (started : IsStarted)
-    (greatest_is : IsBelowGreatest) (in_two : StopsInTwo) (in_three : StopsInThree) (in_four : NoStopInFour) (fit : FitsInThree)
-    (own : OwnFitsInFour) (r : RingView) (jobs : List Job) (carry : Carry) (restarts : Restarts) (opened : IsOpened r jobs) where
+module _ (in_two : StopsInTwo) (in_three : StopsInThree) (in_four : NoStopInFour) (fit : FitsInThree) (own : OwnFitsInFour) (r : RingView)
+    (jobs : List Job) (carry : Carry) (restarts : Restarts) (opened : IsOpened r jobs) where
   abbrev Borne : CycleView → List CycleView → Type 0
-  Borne t j = IsBorne laws more turn comes_up to_zero goes counts r jobs carry restarts opened t j
+  Borne t j = IsBorne r jobs carry restarts opened t j
 
   abbrev Base : List CycleView → Type 0
-  Base before = IsBase laws more turn comes_up to_zero goes counts r jobs carry restarts opened before
+  Base before = IsBase r jobs carry restarts opened before
 
   abbrev Epoch : List CycleView → List CycleView → Type 0
-  Epoch cycles before = IsEpoch laws more turn comes_up to_zero goes counts r jobs carry restarts opened cycles before
+  Epoch cycles before = IsEpoch r jobs carry restarts opened cycles before
 
   borne : (t : CycleView) (cycles before : List CycleView) → IsRun r jobs carry restarts (t ∷ (cycles ++ before))
       → IsClear (t ∷ (cycles ++ before)) → Base before → AreSparse r carry restarts (t ∷ cycles) before
       → Borne t (cycles ++ before)
-  borne t cycles before run clear starts sparse = borne_on laws more turn comes_up to_zero goes counts r jobs carry restarts opened t
-      cycles before run clear starts sparse
+  borne t cycles before run clear starts sparse = borne_on r jobs carry restarts opened t cycles before run clear starts sparse
 
   -- A STOP of an epoch was told in it.
   told_since : (cycles before : List CycleView) (x : Stop) → StartsEpoch r jobs carry restarts before → Epoch cycles before
@@ -122,14 +114,12 @@ module _ (laws : Laws) (more : MoreLaws) (turn : WorkInTurn) (two : WorksInTwo) 
   all_fit t j run clear is is_three k below = by (epoch_begun (views_of r jobs carry restarts k (t ∷ j))) at
     where
       made : (plan : PlanView) × ((behind_mdt r jobs carry restarts t.sent j).plan ≡ Some plan)
-      made = planned laws more turn two three comes_up to_zero goes counts r jobs carry restarts opened in_cost timed reads_cost
-          writes_cost t j
-          run clear is_three k below
+      made = planned r jobs carry restarts opened t j run clear is_three k below
 
       at : AreAt (jobs_of (known_of r) (Some made.0) k) (epoch_begun (views_of r jobs carry restarts k (t ∷ j)))
       at = subst (λ (o : Option PlanView). AreAt (jobs_of (known_of r) o k) (epoch_begun (views_of r jobs carry restarts k (t ∷ j)))) made.1
-          (places_now laws more r jobs carry restarts opened t j run clear is.stays k
-          below (let same = phase_now r jobs carry restarts t j run.1 in omega (arith, same, is_three)))
+          (places_now r jobs carry restarts opened t j run clear is.stays k below
+          (let same = phase_now r jobs carry restarts t j run.1 in omega (arith, same, is_three)))
 
       keeps : KeepsRules (drive_at r k)
       keeps = ring_drive r k (drive_at r k) opened.valid (drive_got r k below)
@@ -157,7 +147,7 @@ module _ (laws : Laws) (more : MoreLaws) (turn : WorkInTurn) (two : WorksInTwo) 
               let split = subst (λ (l : List Begun). AreAt (jobs_of (known_of r) (Some made.0) k) l) c.is are in
               let old = fits c.old (at_old (jobs_of (known_of r) (Some made.0) k) c.recent c.old split) (let long = c.long in
               omega (arith, long)) in
-              let recent = list_fits longest_list (drive_at r k) keeps.blocks (list_cost (drive_at r k).busy) (known_of r) made.0 k c.recent
+              let recent = list_fits longest_list (drive_at r k) keeps.blocks (list_read_costs (drive_at r k).busy) (known_of r) made.0 k c.recent
               c.old split c.long in
               let both = ap (λ (l : List Begun). cost_in (cost_of (drive_at r k).busy (drive_at r k).command longest_list
               (store_of (drive_at r k))) l) c.is ∙ cost_both (cost_of (drive_at r k).busy (drive_at r k).command longest_list
@@ -171,12 +161,11 @@ module _ (laws : Laws) (more : MoreLaws) (turn : WorkInTurn) (two : WorksInTwo) 
       → suc (length cycles) ≤ 12 + length r.drives + sum_by section_two r.drives + command_cycles (drive_at r k) + ((drive_at r k).busy + 1)
       * 42 + early_costs r jobs carry restarts (t ∷ cycles) before + disturbances r carry restarts (t ∷ cycles) before
   three_any t cycles before e starts t_three is_three none k below unready =
-      let counted = three_counts laws more turn two three comes_up to_zero goes counts r jobs carry restarts opened in_cost timed reads_cost
-      writes_cost t cycles before e.run e.clear starts e.sparse is_three none k below unready in
-      let opens = opens_so laws more turn comes_up to_zero goes counts r jobs carry restarts opened in_cost timed (t ∷ cycles) before e.run
-      e.clear starts e.sparse k longest_list below (lists_short more.keep more.allows more.those r jobs carry restarts k
+      let counted = three_counts r jobs carry restarts opened t cycles before e.run e.clear starts e.sparse is_three none k below unready in
+      let opens = opens_so r jobs carry restarts opened (t ∷ cycles) before e.run
+      e.clear starts e.sparse k longest_list below (lists_short r jobs carry restarts k
       (ring_drive r k (drive_at r k) opened.valid (drive_got r k below)).blocks (few_blocks r k opened.valid below)
-      (first_store laws more r jobs carry restarts opened k below).ascending (t ∷ (cycles ++ before))) in
+      (first_store r jobs carry restarts opened k below).ascending (t ∷ (cycles ++ before))) in
       let cost = all_fit t (cycles ++ before) e.run e.clear (borne t cycles before e.run e.clear starts e.sparse) t_three k below in
       let split = sum_split (length r.drives) k (λ j. section_two (drive_at r j)) below in
       let sums = sum_within (λ j. section_two (drive_at r j)) section_two r.drives (λ j low. omega arith) in
@@ -194,7 +183,7 @@ module _ (laws : Laws) (more : MoreLaws) (turn : WorkInTurn) (two : WorksInTwo) 
       high : t.phase ≤ 4
       high =
           let low = phase_low (known_of r) (tasks_for (known_of r) jobs) (master_calls r carry restarts (cycles ++ before)) in
-          let same = phase_is laws more turn comes_up to_zero goes counts r jobs carry restarts opened t (cycles ++ before) run
+          let same = phase_is r jobs carry restarts opened t (cycles ++ before) run
           (borne t cycles before run clear starts sparse) in omega (arith, low, same)
 
       up : t.phase ≡ 4 → ((t.phase ≡ 4) × IsRight r)
@@ -261,37 +250,35 @@ module _ (laws : Laws) (more : MoreLaws) (turn : WorkInTurn) (two : WorksInTwo) 
       → ((t.phase ≡ 4) × IsRight r)
       ⊎ ((x : Stop) × ((behind_mdt r jobs carry restarts t.sent (cycles ++ before)).stop ≡ Some x) × StopsForCause r x)
   ends_so t cycles before run clear starts sparse long = end_so_by t cycles before run clear starts sparse never_early
-      (λ low none. never_so_late low none (not_yet laws more turn comes_up to_zero goes counts r jobs carry restarts opened t cycles before
-      run clear starts sparse (let bound = within_bound started r in omega (arith, bound, long)) low (λ is_three. none)))
+      (λ low none. never_so_late low none (not_yet r jobs carry restarts opened t cycles before run clear starts sparse
+      (let bound = within_bound r in omega (arith, bound, long)) low (λ is_three. none)))
     where
       with_costs : t.phase ≤ 3 → startup_bound r + 41 * (slowest r.drives + 2) +
           (early_costs r jobs carry restarts cycles before + disturbances r carry restarts cycles before) ≤ length cycles
-      with_costs low = let same = same_costs laws more turn comes_up to_zero goes counts r jobs carry restarts opened t cycles before run
-          clear starts sparse low in omega (arith, same, long)
+      with_costs low = let same = same_costs r jobs carry restarts opened t cycles before run clear starts sparse low in omega (arith, same, long)
 
       -- neither phase 0 nor 1 is commanded any more
       never_early : t.phase ≤ 1 → ⊥
       never_early early =
-          let le = early_sparse laws more turn comes_up to_zero goes counts r jobs carry restarts opened t cycles before run clear starts
-          sparse early in
-          let bound = within_bound started r in
+          let le = early_sparse r jobs carry restarts opened t cycles before run clear starts sparse early in
+          let bound = within_bound r in
           let costs = with_costs (omega (arith, early)) in omega (arith, le, bound, costs)
 
       -- phase 3 has had its time
       in_three_long : (u : CycleView) (rest : List CycleView) → Epoch (u ∷ rest) before → u.phase ≡ 3
           → (looks_back r jobs (master_calls r carry restarts (u ∷ (rest ++ before)))).now.phase ≡ 3
           → (looks_back r jobs (master_calls r carry restarts (u ∷ (rest ++ before)))).stop ≡ None
-          → IsUnready laws more turn comes_up to_zero goes counts r jobs carry restarts opened u (rest ++ before)
+          → IsUnready r jobs carry restarts opened u (rest ++ before)
           → startup_bound r + 41 * (slowest r.drives + 2) + (early_costs r jobs carry restarts (u ∷ rest) before + disturbances r carry
           restarts (u ∷ rest) before) ≤ suc (length rest) → ⊥
       in_three_long u rest e was_three then_three none last enough =
           let le = three_any u rest before e starts was_three then_three none last.place last.there last.unready in
-          let most = greatest_is command_cycles r.drives last.place (drive_at r last.place) (command_cycles (drive_at r last.place))
+          let most = is_below_greatest command_cycles r.drives last.place (drive_at r last.place) (command_cycles (drive_at r last.place))
           (drive_got r last.place last.there) (omega arith) in
-          let slow = greatest_is (λ d. d.busy) r.drives last.place (drive_at r last.place) (drive_at r last.place).busy
+          let slow = is_below_greatest (λ d. d.busy) r.drives last.place (drive_at r last.place) (drive_at r last.place).busy
           (drive_got r last.place last.there) (omega arith) in
           let steps = steps_fit (drive_at r last.place).busy (slowest r.drives) (busy_low r last.place opened.valid last.there) slow in
-          let bound = within_bound started r in omega (arith, le, most, steps, bound, enough)
+          let bound = within_bound r in omega (arith, le, most, steps, bound, enough)
 
       -- and so has phase 2
       in_two_long : (u : CycleView) (rest : List CycleView) → Epoch (u ∷ rest) before → u.phase ≡ 2
@@ -299,27 +286,21 @@ module _ (laws : Laws) (more : MoreLaws) (turn : WorkInTurn) (two : WorksInTwo) 
           → startup_bound r + 41 * (slowest r.drives + 2) + (early_costs r jobs carry restarts (u ∷ rest) before + disturbances r carry
           restarts (u ∷ rest) before) ≤ suc (length rest) → ⊥
       in_two_long u rest e was_two none enough =
-          let le = two_sparse laws more turn two comes_up to_zero goes counts r jobs carry restarts opened in_cost timed reads_cost
-          writes_cost
-          u rest before e.run e.clear starts e.sparse was_two none in
-          let bound = within_bound started r in omega (arith, le, bound, enough)
+          let le = two_sparse r jobs carry restarts opened u rest before e.run e.clear starts e.sparse was_two none in
+          let bound = within_bound r in omega (arith, le, bound, enough)
 
       never_so_late : t.phase ≤ 3 → (behind_mdt r jobs carry restarts t.sent (cycles ++ before)).stop ≡ None
-          → NotYet laws more turn comes_up to_zero goes counts r jobs carry restarts opened t cycles before → ⊥
+          → NotYet r jobs carry restarts opened t cycles before → ⊥
       never_so_late low none (InEarly early) = never_early early
       never_so_late low none (InTwo is_two) =
-          let le = two_sparse laws more turn two comes_up to_zero goes counts r jobs carry restarts opened in_cost timed reads_cost
-          writes_cost
-          t cycles before run clear starts sparse is_two none in
-          let bound = within_bound started r in
+          let le = two_sparse r jobs carry restarts opened t cycles before run clear starts sparse is_two none in
+          let bound = within_bound r in
           let costs = with_costs low in omega (arith, le, bound, costs)
       never_so_late low none (AtRise u rest is was_two none_then) = in_two_long u rest
-          (epoch_before laws more turn comes_up to_zero goes counts
-          r jobs carry restarts opened t cycles before run clear sparse (u ∷ rest) is) was_two none_then
+          (epoch_before r jobs carry restarts opened t cycles before run clear sparse (u ∷ rest) is) was_two none_then
           (subst (λ (l : List CycleView). startup_bound r + 41 * (slowest r.drives + 2) + (early_costs r jobs carry restarts l before +
           disturbances r carry restarts l before) ≤ length l) is (with_costs low))
-      never_so_late low none (InThree u rest is was_three then_three none_then last) = in_three_long u rest (epoch_before laws more turn
-          comes_up to_zero goes counts r jobs carry restarts opened t cycles before run clear sparse (u ∷ rest) is) was_three then_three
+      never_so_late low none (InThree u rest is was_three then_three none_then last) = in_three_long u rest (epoch_before r jobs carry restarts opened t cycles before run clear sparse (u ∷ rest) is) was_three then_three
           none_then last
           (subst (λ (l : List CycleView). startup_bound r + 41 * (slowest r.drives + 2) + (early_costs r jobs carry restarts l before +
           disturbances r carry restarts l before) ≤ length l) is (with_costs low))

@@ -17,7 +17,6 @@ use Rattle.sercos_master.specs.Annals.{Past, addressed_before, fall_of, has_iden
 use Rattle.sercos_master.proofs.Configured.{each_passes}
 use Rattle.sercos_script.specs.Links.{Carry, Restarts}
 use Rattle.sercos_law_channel.specs.Handshake.Epochs.{begun_in, epoch_begun, unless_restart, with_begun, with_heard}
-use Rattle.sercos_law_channel.specs.Handshake.RunLaws.{ComesUp}
 use Rattle.sercos_law_channel.specs.Handshake.Views.{Heard, View}
 use Rattle.sercos_law_run.specs.Journal.Records.{ats_in, mst_in}
 use Rattle.sercos_law_run.specs.Journal.Runs.{begins, drive_at, looks_back, master_calls, own_mst, IsClear, IsRun}
@@ -26,8 +25,7 @@ use Rattle.sercos_law_run.proofs.Views.MasterSame.{ats_none, begun_cycle, done_b
 use Rattle.sercos_law_run.proofs.Views.Members.{members_count}
 use Rattle.sercos_law_run.proofs.Views.ViewRuns.{started}
 use Rattle.sercos_law_run.specs.Held.Opened.{IsOpened}
-use Rattle.sercos_law_run.proofs.Held.Runs.{Laws}
-use Rattle.sercos_law_run.proofs.Headline.HeadlineRuns.{MoreLaws, all_stand}
+use Rattle.sercos_law_run.proofs.Headline.HeadlineRuns.{all_stand}
 use Rattle.sercos_law_run.specs.Undisturbed.EpochStarts.{StartsEpoch}
 use Rattle.sercos_law_run.proofs.Undisturbed.AtsTaken.{unheard_ats}
 use Rattle.sercos_law_run.proofs.Undisturbed.JobsBegun.{begun_end, begun_then, few_now}
@@ -38,6 +36,7 @@ use Rattle.sercos_law_run.proofs.Undisturbed.PhaseZero.{in_zero, none_addressed}
 use Rattle.sercos_law_run.proofs.Undisturbed.StaysUp.{begun_none}
 use Rattle.sercos_law_run.proofs.Undisturbed.StaysUp as undisturbed
 use Rattle.sercos_law_run.proofs.Recovery.LateDown.{phase_now, turns_now}
+use Rattle.sercos_law_channel.proofs.Cited.{begins_empty}
 
 -- OUTCOMES: one that ended well is there, and there are no more than requests begun before the cycle.
 pub well_within : (outs : List Outcome) (i : ℕ) → ended_well (given outs i) ≡ true → i < length outs
@@ -88,12 +87,11 @@ none_of : (a b c : Bool) → b ≡ false → c ≡ false → ((a && b) || c) ≡
 none_of true b c off none = rw (off, none) refl
 none_of false b c off none = none
 
-module _ (laws : Laws) (more : MoreLaws) (comes_up : (busy : ℕ) → ComesUp busy) (r : RingView) (jobs : List Job) (carry : Carry)
-    (restarts : Restarts) (opened : IsOpened r jobs) where
+module _ (r : RingView) (jobs : List Job) (carry : Carry) (restarts : Restarts) (opened : IsOpened r jobs) where
   -- THE FIRST CYCLE OF A PHASE, u, after w
   module _ (u w : CycleView) (j : List CycleView) (run : IsRun r jobs carry restarts (u ∷ w ∷ j)) (clear : IsClear (u ∷ w ∷ j))
-      (none : fall_of (known_of r) (behind_mdt r jobs carry restarts w.sent j) ≡ None)
-      (still : restarts (length (w ∷ j)) 0 ≡ false) (still_before : restarts (length j) 0 ≡ false) (first : w.phase + 1 ≡ u.phase)
+      (none : fall_of (known_of r) (behind_mdt r jobs carry restarts w.sent j) ≡ None) (still : restarts (length (w ∷ j)) 0 ≡ false)
+      (still_before : restarts (length j) 0 ≡ false) (first : w.phase + 1 ≡ u.phase)
       (done : is_done (known_of r) (behind_mdt r jobs carry restarts u.sent (w ∷ j)) ≡ true) (k : ℕ) (below : k < length r.drives) where
     abbrev now : Past
     now = behind_mdt r jobs carry restarts u.sent (w ∷ j)
@@ -109,7 +107,7 @@ module _ (laws : Laws) (more : MoreLaws) (comes_up : (busy : ℕ) → ComesUp bu
 
     few : length (outcomes now k) ≤ length (epoch_begun (views_of r jobs carry restarts k (w ∷ j)))
     few = subst (λ (l : List Begun). length (outcomes_in l) ≤ length (epoch_begun (views_of r jobs carry restarts k (w ∷ j))))
-        (sym (begun_then laws more r jobs carry restarts opened u (w ∷ j) run clear k below))
+        (sym (begun_then r jobs carry restarts opened u (w ∷ j) run clear k below))
         (few_in (view_of r jobs carry restarts k u (w ∷ j)) (views_of r jobs carry restarts k (w ∷ j)))
 
     done_in : (n : ℕ) → u.phase ≡ n → is_done_in n (known_of r) now ≡ true
@@ -120,10 +118,10 @@ module _ (laws : Laws) (more : MoreLaws) (comes_up : (busy : ℕ) → ComesUp bu
         let checked : is_checked (member (known_of r) k) (outcomes now k) ≡ true = each_passes (length (known_of r).drives) 0
         (λ i. is_checked (member (known_of r) i) (outcomes now i)) (done_in 2 two) k (omega arith) (omega (arith, inside)) in
         let within = well_within (outcomes now k) (reads_count (member (known_of r) k) + 11) checked in
-        let nothing : epoch_begun (views_of r jobs carry restarts k (w ∷ j)) ≡ [] = begun_end laws more r jobs carry restarts opened w j
-        run.0 clear.0 none k
-        ∙ begun_none (drive_at r k).busy (laws.empty (drive_at r k).busy) (view_of r jobs carry restarts k w j)
-        (views_of r jobs carry restarts k j) (all_stand laws more r jobs carry restarts opened (w ∷ j) run.0 clear.0 k below).sees.run
+        let nothing : epoch_begun (views_of r jobs carry restarts k (w ∷ j)) ≡ [] = begun_end r jobs carry restarts opened w j run.0 clear.0
+        none k
+        ∙ begun_none (drive_at r k).busy (begins_empty (drive_at r k).busy) (view_of r jobs carry restarts k w j)
+        (views_of r jobs carry restarts k j) (all_stand r jobs carry restarts opened (w ∷ j) run.0 clear.0 k below).sees.run
         (omega (arith, first, two)) in
         let zero = ap length nothing in
         let most = few in omega (arith, within, most, zero)
@@ -134,7 +132,7 @@ module _ (laws : Laws) (more : MoreLaws) (comes_up : (busy : ℕ) → ComesUp bu
         (λ i. is_ready (member (known_of r) i) (outcomes now i)) (done_in 3 three) k (omega arith) (omega (arith, inside)) in
         let within = well_within (outcomes now k) (reads_count (member (known_of r) k) + 12) (and_parts _ _ ready).1 in
         let same = phase_now r jobs carry restarts w j run.0.1 in
-        let begun = few_now laws more r jobs carry restarts opened w j run.0 clear.0 none k below (omega (arith, same, first, three)) in
+        let begun = few_now r jobs carry restarts opened w j run.0 clear.0 none k below (omega (arith, same, first, three)) in
         let most = few in omega (arith, within, most, begun)
 
     not_one : u.phase ≡ 1 → ⊥
@@ -156,7 +154,7 @@ module _ (laws : Laws) (more : MoreLaws) (comes_up : (busy : ℕ) → ComesUp bu
         starts = ap (λ (p : Past). p.now.phase) (sym start_before) ∙ sym run.0.1.phase ∙ (omega (arith, first, one))
 
         turns_before : before.turns ≡ (looks_back r jobs (master_calls r carry restarts j)).turns
-        turns_before = undisturbed.turns_now laws more comes_up r jobs carry restarts opened w j ∙ ap (λ (p : Past). p.turns) start_before
+        turns_before = undisturbed.turns_now r jobs carry restarts opened w j ∙ ap (λ (p : Past). p.turns) start_before
 
         turns_are : now.turns ≡ before.now ∷ before.turns
         turns_are = turns_now r jobs carry restarts u w j none still
@@ -166,7 +164,7 @@ module _ (laws : Laws) (more : MoreLaws) (comes_up : (busy : ℕ) → ComesUp bu
             zero_is (ap (has_identified k) turns_before ∙ (in_zero r jobs carry restarts j starts).fresh k)
 
         start_turns : (behind_mst r jobs carry restarts u.sent (w ∷ j)).turns ≡ before.now ∷ before.turns
-        start_turns = sym (undisturbed.turns_now laws more comes_up r jobs carry restarts opened u (w ∷ j)) ∙ turns_are
+        start_turns = sym (undisturbed.turns_now r jobs carry restarts opened u (w ∷ j)) ∙ turns_are
 
         unwanted : is_awaited (behind_mst r jobs carry restarts u.sent (w ∷ j)) k ≡ false
         unwanted = unawaited (behind_mst r jobs carry restarts u.sent (w ∷ j)) k (sym run.1.phase ∙ one)

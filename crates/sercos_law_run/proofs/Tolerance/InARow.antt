@@ -20,9 +20,9 @@ use Rattle.sercos_law_channel.proofs.Theorems.{in_step, length-replies_of, lengt
 use Rattle.sercos_law_channel.proofs.Pace.CostRuns.{stays_in_cost_since}
 use Rattle.sercos_law_channel.proofs.Pace.LateRuns.{head_before, taken_before}
 use Rattle.sercos_law_run.proofs.Undisturbed.OneRequest.{room, steps_few, times_sum}
-use Rattle.sercos_law_run.proofs.Undisturbed.RefusedRuns.{SaysShape}
 use Rattle.sercos_law_run.proofs.Undisturbed.ToldInTime.{beyond}
 use Rattle.sercos_law_run.proofs.Tolerance.Steps.{IsYoung, answers_more, begun_is, grows, never_some, same_head}
+use Rattle.sercos_law_channel.proofs.Cited.{says_shape}
 
 -- WHERE A STEP IS: none is open; one is, which the drive hasn't accepted; or one that it has accepted, and that has no answer.
 pub data StandsSo (begun : List Begun) (log : List Entry) : Type 0 where
@@ -226,12 +226,13 @@ module _ (busy : ℕ) where
 half : (busy d time : ℕ) → (busy + 1) * d ≤ time + 4 * (busy + 1) + 0 → (busy + 2) * d + 1 < (busy + 2) * (520 + time)
 half busy d time cost = omega (arith, cost)
 
-pub row_lasts : SaysShape → (busy time : ℕ) (blocks : List Block) → AreSmall blocks → IsStore blocks → (cycles past : List View) (b : Begun)
-    (old : List Begun) → IsRun busy (cycles ++ past) → AreSound blocks (cycles ++ past) → AreTimed time (cycles ++ past)
-    → AreListed (λ raw. 512) (cycles ++ past) → AreInARow busy cycles past → epoch_begun (cycles ++ past) ≡ b ∷ old → open_in old ≡ None
-    → length (answers_in old) ≤ length (answers_in (epoch_begun past)) → length cycles < (busy + 2) * (520 + time)
-row_lasts said busy time blocks small store cycles past b old run sound timed listed row split shut few_old = elim (steps_few said busy time
-    blocks small store (cycles ++ past) run sound b old split shut) [
+pub row_lasts : (busy time : ℕ) (blocks : List Block) → AreSmall blocks → IsStore blocks
+    → (cycles past : List View) (b : Begun) (old : List Begun) → IsRun busy (cycles ++ past) → AreSound blocks (cycles ++ past)
+    → AreTimed time (cycles ++ past) → AreListed (λ raw. 512) (cycles ++ past) → AreInARow busy cycles past
+    → epoch_begun (cycles ++ past) ≡ b ∷ old → open_in old ≡ None → length (answers_in old) ≤ length (answers_in (epoch_begun past))
+    → length cycles < (busy + 2) * (520 + time)
+row_lasts busy time blocks small store cycles past b old run sound timed listed row split shut few_old = elim (steps_few busy time blocks
+    small store (cycles ++ past) run sound b old split shut) [
       | inl steps ↦ by_steps steps
       | inr (idn, asks) ↦ by_cost (ap (λ (q : Request). cost_of busy time (λ raw. 512) blocks q + 0) asks)
     ]
@@ -260,7 +261,7 @@ row_lasts said busy time blocks small store cycles past b old run sound timed li
       where
         by_more : (d : ℕ) × (length (epoch_log (cycles ++ past)) ≡ length (answers_in old) + d) → length cycles < (busy + 2) * (520 + time)
         by_more (d, is) =
-            let le = stays_in_cost_since said busy time (λ raw. 512) blocks small (cycles ++ past)
+            let le = stays_in_cost_since says_shape busy time (λ raw. 512) blocks small (cycles ++ past)
             (b ∷ []) old run sound timed listed split shut in
             let one = ap (λ (n : ℕ). (busy + 1) * n) is ∙ times_sum (busy + 1) (length (answers_in old)) d in
             let two = ap (λ (n : ℕ). (busy + 2) * n) is ∙ times_sum (busy + 2) (length (answers_in old)) d in

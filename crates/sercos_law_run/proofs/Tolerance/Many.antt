@@ -13,18 +13,13 @@ use Rattle.sercos_seat.specs.Ring.{known_of, member, tasks_for}
 use Rattle.sercos_master.specs.Annals.{is_done}
 use Rattle.sercos_script.specs.Links.{Carry, Restarts}
 use Rattle.sercos_law_channel.specs.Handshake.Epochs.{epoch_begun, epoch_log}
-use Rattle.sercos_law_channel.specs.Handshake.RunLaws.{ComesToZero, ComesUp}
-use Rattle.sercos_law_channel.specs.Pace.ChannelCalls.{AgesBeforeEnd, StaysARun}
-use Rattle.sercos_law_channel.specs.Pace.Costs.{ComesTimed, StaysInCost}
-use Rattle.sercos_law_channel.specs.Pace.Jobs.{ListReadCosts, ReadsCost, WritesCost}
-use Rattle.sercos_law_run.specs.Bounds.Bounds.{listed, slowest, IsBelowGreatest, IsStarted}
+use Rattle.sercos_law_run.specs.Bounds.Bounds.{listed, slowest}
 use Rattle.sercos_law_run.specs.Journal.Runs.{drive_at, looks_back, master_calls, IsClear, IsRun}
-use Rattle.sercos_law_run.specs.Agenda.Turns.{WorkInTurn, WorksInThree, WorksInTwo}
 use Rattle.sercos_law_run.proofs.Start.CheckPasses.{ring_drive}
 use Rattle.sercos_law_run.specs.Views.RingViews.{behind_mdt, views_of}
 use Rattle.sercos_law_run.specs.Held.Opened.{IsOpened}
-use Rattle.sercos_law_run.proofs.Held.Runs.{Laws, drive_got, small}
-use Rattle.sercos_law_run.proofs.Headline.HeadlineRuns.{MoreLaws, all_stand, first_store}
+use Rattle.sercos_law_run.proofs.Held.Runs.{drive_got, small}
+use Rattle.sercos_law_run.proofs.Headline.HeadlineRuns.{all_stand, first_store}
 use Rattle.sercos_law_run.proofs.Typed.Mdts.{phase_low}
 use Rattle.sercos_law_run.specs.Undisturbed.EpochStarts.{StartsEpoch}
 use Rattle.sercos_law_run.specs.Undisturbed.Fit.{FitsInThree, OwnFitsInFour}
@@ -47,6 +42,8 @@ use Rattle.sercos_law_run.proofs.Tolerance.ManyTwo.{costs_in, few_steps, ones, s
 use Rattle.sercos_law_run.proofs.Tolerance.NotYet.{AtRise, InEarly, InThree, InTwo, IsEpoch, IsUnready, NotYet, epoch_before, not_yet}
 use Rattle.sercos_law_run.proofs.Tolerance.Rises.{few_in, none_in_three, none_in_two}
 use Rattle.sercos_law_run.proofs.Tolerance.ThreeLasts.{check_fit, sum_split, without, without_mono}
+use Rattle.sercos_law_channel.proofs.Cited.{in_cost}
+use Rattle.sercos_law_run.proofs.Bounds.BoundSums.{is_below_greatest}
 
 -- NUMBERS: the cycles of phase 2, and of phase 3 with x steps more
 two_fits_in : (d : DriveView) → two_cycles d ≤ slow_startup_of d
@@ -70,27 +67,20 @@ was_low false n m le = le
 abbrev three_steps : DriveView → ℕ
 three_steps d = 78 + 4 * listed d + 2 * d.command
 
-module _ (laws : Laws) (more : MoreLaws) (turn : WorkInTurn) (two : WorksInTwo) (three : WorksInThree)
-    (comes_up : (busy : ℕ) → ComesUp busy)
-    (to_zero : (busy : ℕ) → ComesToZero busy) (goes : (busy : ℕ) → StaysARun busy) (counts : (busy : ℕ) → AgesBeforeEnd busy)
-    (in_cost : (busy : ℕ) → StaysInCost busy) (timed : ComesTimed) (reads_cost : (busy : ℕ) → ReadsCost busy)
-    (writes_cost : (busy : ℕ) → WritesCost busy) (list_cost : (busy : ℕ) → ListReadCosts busy) (started : IsStarted)
-    (greatest_is : IsBelowGreatest) (in_two : StopsInTwo) (in_three : StopsInThree) (in_four : NoStopInFour) (fit : FitsInThree)
-    (own : OwnFitsInFour) (ready : ReadyIfEnded)
-    (r : RingView) (jobs : List Job) (carry : Carry) (restarts : Restarts) (opened : IsOpened r jobs) where
+module _ (in_two : StopsInTwo) (in_three : StopsInThree) (in_four : NoStopInFour) (fit : FitsInThree) (own : OwnFitsInFour)
+    (ready : ReadyIfEnded) (r : RingView) (jobs : List Job) (carry : Carry) (restarts : Restarts) (opened : IsOpened r jobs) where
   abbrev Borne : CycleView → List CycleView → Type 0
-  Borne t j = IsBorne laws more turn comes_up to_zero goes counts r jobs carry restarts opened t j
+  Borne t j = IsBorne r jobs carry restarts opened t j
 
   abbrev Epoch : List CycleView → List CycleView → Type 0
-  Epoch cycles before = IsEpoch laws more turn comes_up to_zero goes counts r jobs carry restarts opened cycles before
+  Epoch cycles before = IsEpoch r jobs carry restarts opened cycles before
 
   abbrev Unready : CycleView → List CycleView → Type 0
-  Unready u j = IsUnready laws more turn comes_up to_zero goes counts r jobs carry restarts opened u j
+  Unready u j = IsUnready r jobs carry restarts opened u j
 
   borne : (t : CycleView) (cycles before : List CycleView) → StartsEpoch r jobs carry restarts before → Epoch (t ∷ cycles) before
       → Borne t (cycles ++ before)
-  borne t cycles before starts e = all_borne laws more turn comes_up to_zero goes counts r jobs carry restarts opened t cycles before e.run
-      e.clear starts e.sparse
+  borne t cycles before starts e = all_borne r jobs carry restarts opened t cycles before e.run e.clear starts e.sparse
 
   -- what the steps so far allow in phase 2
   weight_fits : (u : CycleView) (cycles before : List CycleView) → StartsEpoch r jobs carry restarts before → Epoch (u ∷ cycles) before
@@ -100,9 +90,8 @@ module _ (laws : Laws) (more : MoreLaws) (turn : WorkInTurn) (two : WorksInTwo) 
     where
       each : (k : ℕ) → k < length r.drives → weigh_at r jobs carry restarts (u ∷ (cycles ++ before)) k ≤ slow_startup_of (drive_at r k)
       each k below =
-          let steps = steps_in_two laws more turn two comes_up to_zero goes counts in_cost timed reads_cost writes_cost r jobs carry
-          restarts
-          opened u (cycles ++ before) e.run e.clear (borne u cycles before starts e) low k below in
+          let steps = steps_in_two r jobs carry restarts opened u (cycles ++ before) e.run e.clear (borne u cycles before starts e) low k
+          below in
           let product = times_le ((drive_at r k).busy + 3)
           (length (epoch_log (views_of r jobs carry restarts k (u ∷ (cycles ++ before))))) (two_steps (drive_at r k)) steps in
           let fits = two_fits_in (drive_at r k) in omega (arith, product, fits)
@@ -116,8 +105,7 @@ module _ (laws : Laws) (more : MoreLaws) (turn : WorkInTurn) (two : WorksInTwo) 
       some d = let fits = two_fits_in d in omega (arith, fits)
 
   -- one drive, and the others
-  with_one : (k : ℕ) → k < length r.drives → others_two laws more turn two three comes_up to_zero goes counts in_cost timed reads_cost
-      writes_cost r jobs carry restarts opened k + slow_startup_of (drive_at r k) ≤ sum_by slow_startup_of r.drives
+  with_one : (k : ℕ) → k < length r.drives → others_two r jobs carry restarts opened k + slow_startup_of (drive_at r k) ≤ sum_by slow_startup_of r.drives
   with_one k below =
       let split = sum_split (length r.drives) k (λ j. slow_startup_of (drive_at r j)) below in
       let most = sum_most (length r.drives) (without k (λ j. two_cycles (drive_at r j))) (without k (λ j. slow_startup_of (drive_at r j)))
@@ -135,46 +123,37 @@ module _ (laws : Laws) (more : MoreLaws) (turn : WorkInTurn) (two : WorksInTwo) 
       (member (known_of r) k) + 12
       → accepted k (u ∷ (cycles ++ before)) ≤ three_steps (drive_at r k) + 0
   few_accepted u cycles before starts e three_is k below few =
-      let stands = all_stand laws more r jobs carry restarts opened (u ∷ (cycles ++ before)) e.run e.clear k below in
+      let stands = all_stand r jobs carry restarts opened (u ∷ (cycles ++ before)) e.run e.clear k below in
       let cost = in_cost (drive_at r k).busy (drive_at r k).command (λ raw. 512) (store_of (drive_at r k))
       (views_of r jobs carry restarts k (u ∷ (cycles ++ before)))
-      (small laws r jobs carry restarts opened (first_store laws more r jobs carry restarts opened) k below) stands.sees.run
-      stands.sound (costs_in laws more turn two comes_up to_zero goes counts in_cost timed reads_cost writes_cost r jobs carry restarts
-      opened
-      (u ∷ (cycles ++ before)) e.run e.clear k below) (listed_all (views_of r jobs carry restarts k (u ∷ (cycles ++ before)))) in
-      let fits = check_fit laws more turn two three comes_up to_zero goes counts r jobs carry restarts opened in_cost timed reads_cost
-      writes_cost u (cycles ++ before) e.run e.clear (borne u cycles before starts e) three_is k below few in
+      (small r jobs carry restarts opened (first_store r jobs carry restarts opened) k below) stands.sees.run
+      stands.sound (costs_in r jobs carry restarts opened (u ∷ (cycles ++ before)) e.run e.clear k below) (listed_all (views_of r jobs carry restarts k (u ∷ (cycles ++ before)))) in
+      let fits = check_fit r jobs carry restarts opened u (cycles ++ before) e.run e.clear (borne u cycles before starts e) three_is k below few in
       let steps = few_steps (drive_at r k).busy (accepted k (u ∷ (cycles ++ before))) (78 + 4 * listed (drive_at r k))
       (2 * (drive_at r k).command) (omega (arith, cost, fits)) in omega (arith, steps)
 
   all_accepted : (u : CycleView) (cycles before : List CycleView) → StartsEpoch r jobs carry restarts before → Epoch (u ∷ cycles) before
       → u.phase ≡ 3 → (k : ℕ) → k < length r.drives → accepted k (u ∷ (cycles ++ before)) ≤ three_steps (drive_at r k) + 42
   all_accepted u cycles before starts e three_is k below =
-      let stands = all_stand laws more r jobs carry restarts opened (u ∷ (cycles ++ before)) e.run e.clear k below in
+      let stands = all_stand r jobs carry restarts opened (u ∷ (cycles ++ before)) e.run e.clear k below in
       let cost = in_cost (drive_at r k).busy (drive_at r k).command longest_list (store_of (drive_at r k))
       (views_of r jobs carry restarts k (u ∷ (cycles ++ before)))
-      (small laws r jobs carry restarts opened (first_store laws more r jobs carry restarts opened) k below) stands.sees.run
-      stands.sound (costs_in laws more turn two comes_up to_zero goes counts in_cost timed reads_cost writes_cost r jobs carry restarts
-      opened
-      (u ∷ (cycles ++ before)) e.run e.clear k below) (lists_short more.keep more.allows more.those r jobs carry restarts k
+      (small r jobs carry restarts opened (first_store r jobs carry restarts opened) k below) stands.sees.run
+      stands.sound (costs_in r jobs carry restarts opened (u ∷ (cycles ++ before)) e.run e.clear k below) (lists_short r jobs carry restarts k
       (ring_drive r k (drive_at r k) opened.valid (drive_got r k below)).blocks (few_blocks r k opened.valid below)
-      (first_store laws more r jobs carry restarts opened k below).ascending (u ∷ (cycles ++ before))) in
-      let fits = all_fit laws more turn two three comes_up to_zero goes counts in_cost timed reads_cost writes_cost list_cost started
-      greatest_is in_two in_three in_four fit own r jobs carry restarts opened u (cycles ++ before) e.run e.clear
-      (borne u cycles before starts
-      e) three_is k below in
+      (first_store r jobs carry restarts opened k below).ascending (u ∷ (cycles ++ before))) in
+      let fits = all_fit in_two in_three in_four fit own r jobs carry restarts opened u (cycles ++ before) e.run e.clear
+      (borne u cycles before starts e) three_is k below in
       let steps = few_steps (drive_at r k).busy (accepted k (u ∷ (cycles ++ before))) (120 + 4 * listed (drive_at r k))
       (2 * (drive_at r k).command) (omega (arith, cost, fits)) in omega (arith, steps)
 
   -- NOT SO LATE, if a drive that isn't ready has at most x steps more in phase 3
   module _ (x extra : ℕ) (room : (k : ℕ) → k < length r.drives → ((drive_at r k).busy + 2) * x ≤ extra + (drive_at r k).busy + 2)
       (t : CycleView) (cycles before : List CycleView) (starts : StartsEpoch r jobs carry restarts before) (e : Epoch (t ∷ cycles) before)
-      (steps : (u : CycleView) (rest : List CycleView) → Epoch (u ∷ rest) before → u.phase ≡ 3 → (n : Unready u (rest ++ before))
-      → accepted n.place (u ∷ (rest ++ before)) ≤ three_steps (drive_at r n.place) + x)
+      (steps : (u : CycleView) (rest : List CycleView) → Epoch (u ∷ rest) before → u.phase ≡ 3 → (n : Unready u (rest ++ before)) → accepted n.place (u ∷ (rest ++ before)) ≤ three_steps (drive_at r n.place) + x)
       (long : slow_bound r + extra + own_costs r jobs carry restarts cycles before ≤ length cycles) where
     split : (l : List CycleView) → cycles ≡ l → Epoch l before
-    split l is = epoch_before laws more turn comes_up to_zero goes counts r jobs carry restarts opened t cycles before e.run e.clear
-        e.sparse l is
+    split l is = epoch_before r jobs carry restarts opened t cycles before e.run e.clear e.sparse l is
 
     enough : (l : List CycleView) → cycles ≡ l → slow_bound r + extra + own_costs r jobs carry restarts l before ≤ length l
     enough l is = subst (λ (m : List CycleView). slow_bound r + extra + own_costs r jobs carry restarts m before ≤ length m) is long
@@ -187,11 +166,10 @@ module _ (laws : Laws) (more : MoreLaws) (turn : WorkInTurn) (two : WorksInTwo) 
         by (u ∷ rest) is all =
             let was = borne u rest before starts (split (u ∷ rest) is) in
             let u_low = was_low (is_done (known_of r) (behind_mdt r jobs carry restarts u.sent (rest ++ before))) u.phase 1
-            (subst (λ (n : ℕ). n ≤ 1) (phase_is laws more turn comes_up to_zero goes counts r jobs carry restarts opened t
-            (u ∷ (rest ++ before)) all.run (borne t (u ∷ rest) before starts all)
-            ∙ phase_next laws more turn comes_up to_zero goes counts r jobs carry restarts opened u (rest ++ before) all.run.0 was) low) in
-            let le = early_many laws more turn comes_up to_zero goes counts r jobs carry restarts opened u rest before all.run.0 all.clear.0
-            starts all.sparse.0 u_low in
+            (subst (λ (n : ℕ). n ≤ 1) (phase_is r jobs carry restarts opened t (u ∷ (rest ++ before)) all.run
+            (borne t (u ∷ rest) before starts all)
+            ∙ phase_next r jobs carry restarts opened u (rest ++ before) all.run.0 was) low) in
+            let le = early_many r jobs carry restarts opened u rest before all.run.0 all.clear.0 starts all.sparse.0 u_low in
             let some = some_slow in
             let many = enough (u ∷ rest) is in omega (arith, le, some, many)
 
@@ -204,16 +182,14 @@ module _ (laws : Laws) (more : MoreLaws) (turn : WorkInTurn) (two : WorksInTwo) 
         by (u ∷ rest) is all stop_none =
             let t_is = borne t (u ∷ rest) before starts all in
             let was = borne u rest before starts (split (u ∷ rest) is) in
-            let back_two = sym (phase_is laws more turn comes_up to_zero goes counts r jobs carry restarts opened t (u ∷ (rest ++ before))
-            all.run t_is) ∙ t_two in
+            let back_two = sym (phase_is r jobs carry restarts opened t (u ∷ (rest ++ before)) all.run t_is) ∙ t_two in
             let u_low = was_low (is_done (known_of r) (behind_mdt r jobs carry restarts u.sent (rest ++ before))) u.phase 2
-            (let same = sym (phase_next laws more turn comes_up to_zero goes counts r jobs carry restarts opened u
-            (rest ++ before) all.run.0 was)
+            (let same = sym (phase_next r jobs carry restarts opened u (rest ++ before) all.run.0 was)
             ∙ back_two in omega (arith, same)) in
-            let le = two_spent laws more turn two comes_up to_zero goes counts in_cost timed reads_cost writes_cost r jobs carry restarts
+            let le = two_spent r jobs carry restarts
             opened
             u rest before all.run.0 all.clear.0 starts all.sparse.0 back_two (none_before r jobs carry restarts t (u ∷ (rest ++ before))
-            (start_is laws more turn comes_up to_zero goes counts r jobs carry restarts opened t (u ∷ (rest ++ before)) all.run t_is)
+            (start_is r jobs carry restarts opened t (u ∷ (rest ++ before)) all.run t_is)
             stop_none) in
             let weight = weight_fits u rest before starts (split (u ∷ rest) is) u_low in
             let many = enough (u ∷ rest) is in omega (arith, le, weight, many)
@@ -222,18 +198,15 @@ module _ (laws : Laws) (more : MoreLaws) (turn : WorkInTurn) (two : WorksInTwo) 
         → (behind_mdt r jobs carry restarts u.sent (rest ++ before)).stop ≡ None
         → slow_bound r + extra + own_costs r jobs carry restarts (u ∷ rest) before ≤ suc (length rest) → ⊥
     rise_long u rest all u_two none many =
-        let le = at_rise laws more turn two three comes_up to_zero goes counts in_cost timed reads_cost writes_cost r jobs carry restarts
-        opened
-        u rest before all.run all.clear starts all.sparse u_two none in
+        let le = at_rise r jobs carry restarts opened u rest before all.run all.clear starts all.sparse u_two none in
         let weight = weight_fits u rest before starts all (omega (arith, u_two)) in omega (arith, le, weight, many)
 
     three_long : (u : CycleView) (rest : List CycleView) → Epoch (u ∷ rest) before → u.phase ≡ 3
         → (looks_back r jobs (master_calls r carry restarts (u ∷ (rest ++ before)))).stop ≡ None → Unready u (rest ++ before)
         → slow_bound r + extra + own_costs r jobs carry restarts (u ∷ rest) before ≤ suc (length rest) → ⊥
     three_long u rest all u_three none last many =
-        let le = three_spent laws more turn two three comes_up to_zero goes counts in_cost timed reads_cost writes_cost r jobs carry
-        restarts
-        opened last.place last.there u rest before all.run all.clear starts all.sparse u_three none last.unready in
+        let le = three_spent r jobs carry restarts opened last.place last.there u rest before all.run all.clear starts all.sparse u_three
+        none last.unready in
         let few = steps u rest all u_three last in
         let product = times_le ((drive_at r last.place).busy + 2) (accepted last.place (u ∷ (rest ++ before)))
         (three_steps (drive_at r last.place) + x) few in
@@ -242,7 +215,7 @@ module _ (laws : Laws) (more : MoreLaws) (turn : WorkInTurn) (two : WorksInTwo) 
         let all_drives = with_one last.place last.there in omega (arith, le, product, fits, all_drives, many)
 
     pub never_so_late : (t.phase ≡ 2 → (behind_mdt r jobs carry restarts t.sent (cycles ++ before)).stop ≡ None)
-        → NotYet laws more turn comes_up to_zero goes counts r jobs carry restarts opened t cycles before → ⊥
+        → NotYet r jobs carry restarts opened t cycles before → ⊥
     never_so_late none (InEarly early) = early_long early
     never_so_late none (InTwo is_two) = two_long is_two (none is_two)
     never_so_late none (AtRise u rest is u_two none_then) = rise_long u rest (split (u ∷ rest) is) u_two none_then (enough (u ∷ rest) is)
@@ -256,51 +229,43 @@ module _ (laws : Laws) (more : MoreLaws) (turn : WorkInTurn) (two : WorksInTwo) 
       → IsRight r → slow_bound r + own_costs r jobs carry restarts cycles before ≤ length cycles → t.phase ≡ 4
   rises_anyway t cycles before run clear starts sparse right long = elim (cases_lt t.phase 4) [
     | inr high ↦ (let low = phase_low (known_of r) (tasks_for (known_of r) jobs) (master_calls r carry restarts (cycles ++ before)) in
-        let same = phase_is laws more turn comes_up to_zero goes counts r jobs carry restarts opened t (cycles ++ before) run
-        (borne t cycles before starts epoch) in omega (arith, high, low, same))
+        let same = phase_is r jobs carry restarts opened t (cycles ++ before) run (borne t cycles before starts epoch) in omega (arith, high, low, same))
     | inl low ↦ absurd (never_so_late 0 0 (λ k below. omega arith) t cycles before starts epoch few (omega (arith, long))
-        (λ is_two. stop_two is_two) (not_yet laws more turn comes_up to_zero goes counts r jobs carry restarts opened t cycles before run
-        clear
-        (inl starts) sparse (omega (arith, long)) (omega (arith, low)) (λ is_three. stop_three is_three)))
+        (λ is_two. stop_two is_two) (not_yet r jobs carry restarts opened t cycles before run clear (inl starts) sparse
+        (omega (arith, long)) (omega (arith, low)) (λ is_three. stop_three is_three)))
   ]
     where
       epoch : Epoch (t ∷ cycles) before
       epoch = record { run = run; clear = clear; sparse = sparse }
 
       stop_two : t.phase ≡ 2 → (behind_mdt r jobs carry restarts t.sent (cycles ++ before)).stop ≡ None
-      stop_two is_two = none_in_two laws more turn two three comes_up to_zero goes counts in_cost timed reads_cost writes_cost started
-          greatest_is in_two in_three ready r jobs carry restarts opened t (cycles ++ before) run clear is_two right _ refl
+      stop_two is_two = none_in_two in_two in_three ready r jobs carry restarts opened t (cycles ++ before) run clear is_two right _ refl
 
       stop_three : t.phase ≡ 3 → (behind_mdt r jobs carry restarts t.sent (cycles ++ before)).stop ≡ None
-      stop_three is_three = none_in_three laws more turn two three comes_up to_zero goes counts in_cost timed reads_cost writes_cost started
-          greatest_is in_two in_three ready r jobs carry restarts opened t (cycles ++ before) run clear is_three right _ refl
+      stop_three is_three = none_in_three in_two in_three ready r jobs carry restarts opened t (cycles ++ before) run clear is_three right _ refl
 
       few : (u : CycleView) (rest : List CycleView) → Epoch (u ∷ rest) before → u.phase ≡ 3
           → (n : Unready u (rest ++ before)) → accepted n.place (u ∷ (rest ++ before)) ≤ three_steps (drive_at r n.place) + 0
       few u rest all u_three n = few_accepted u rest before starts all u_three n.place n.there
-          (few_in laws more turn two three comes_up to_zero goes counts in_cost timed reads_cost writes_cost started greatest_is in_two
-          in_three
-          ready r jobs carry restarts opened u (rest ++ before) all.run all.clear (borne u rest before starts all) right n.place n.there
-          n.unready)
+          (few_in in_two in_three ready r jobs carry restarts opened u (rest ++ before) all.run all.clear (borne u rest before starts all)
+          right n.place n.there n.unready)
 
   -- THE END in any case
   pub ends_anyway : (t : CycleView) (cycles before : List CycleView) → IsRun r jobs carry restarts (t ∷ (cycles ++ before))
       → IsClear (t ∷ (cycles ++ before)) → StartsEpoch r jobs carry restarts before → AreSparse r carry restarts (t ∷ cycles) before
       → slow_bound r + 41 * (slowest r.drives + 2) + own_costs r jobs carry restarts cycles before ≤ length cycles
       → IsUpOrStopped r t cycles
-  ends_anyway t cycles before run clear starts sparse long = end_by laws more turn two three comes_up to_zero goes counts in_cost timed
-      reads_cost writes_cost list_cost started greatest_is in_two in_three in_four fit own r jobs carry restarts opened t cycles before run
+  ends_anyway t cycles before run clear starts sparse long = end_by in_two in_three in_four fit own r jobs carry restarts opened t cycles before run
       clear starts sparse
       (λ early. early_long 42 (41 * (slowest r.drives + 2)) room t cycles before starts epoch few long early)
       (λ low none. never_so_late 42 (41 * (slowest r.drives + 2)) room t cycles before starts epoch few long (λ is_two. none)
-      (not_yet laws more turn comes_up to_zero goes counts r jobs carry restarts opened t cycles before run clear (inl starts) sparse (omega (arith, long)) low
-      (λ is_three. none)))
+      (not_yet r jobs carry restarts opened t cycles before run clear (inl starts) sparse (omega (arith, long)) low (λ is_three. none)))
     where
       epoch : Epoch (t ∷ cycles) before
       epoch = record { run = run; clear = clear; sparse = sparse }
 
       room : (k : ℕ) → k < length r.drives → ((drive_at r k).busy + 2) * 42 ≤ 41 * (slowest r.drives + 2) + (drive_at r k).busy + 2
-      room k below = list_room (drive_at r k).busy (slowest r.drives) (greatest_is (λ d. d.busy) r.drives k (drive_at r k)
+      room k below = list_room (drive_at r k).busy (slowest r.drives) (is_below_greatest (λ d. d.busy) r.drives k (drive_at r k)
           (drive_at r k).busy (drive_got r k below) (omega arith))
 
       few : (u : CycleView) (rest : List CycleView) → Epoch (u ∷ rest) before → u.phase ≡ 3

@@ -9,15 +9,10 @@ use Rattle.sercos_trace.specs.Views.{CycleView}
 use Rattle.sercos_seat.specs.Ring.{known_of}
 use Rattle.sercos_master.specs.Annals.{Past, has_identified, is_done}
 use Rattle.sercos_script.specs.Links.{Carry, Restarts}
-use Rattle.sercos_law_channel.specs.Handshake.RunLaws.{ComesToZero, ComesUp}
-use Rattle.sercos_law_channel.specs.Pace.ChannelCalls.{AgesBeforeEnd, StaysARun}
 use Rattle.sercos_law_run.specs.Journal.Runs.{is_disturbed_in, looks_back, master_calls, IsClear, IsDisturbed, IsRun}
-use Rattle.sercos_law_run.specs.Agenda.Turns.{WorkInTurn}
 use Rattle.sercos_law_run.specs.Views.RingViews.{behind_mdt, behind_mst}
 use Rattle.sercos_law_run.proofs.Views.Members.{members_count}
 use Rattle.sercos_law_run.specs.Held.Opened.{IsOpened}
-use Rattle.sercos_law_run.proofs.Held.Runs.{Laws}
-use Rattle.sercos_law_run.proofs.Headline.HeadlineRuns.{MoreLaws}
 use Rattle.sercos_law_run.specs.Undisturbed.EpochStarts.{StartsEpoch}
 use Rattle.sercos_law_run.specs.Undisturbed.Undisturbed.{IsUndisturbed}
 use Rattle.sercos_law_run.specs.Tolerance.Early.{early_costs}
@@ -37,27 +32,23 @@ pub own_none : (n : ℕ) (whole : Bool) → 1 ≤ n → own_by n whole ≡ 0
 own_none n whole some =
     let off : (n == 0) ≡ false = grind (arith, nat_tests, some) in cond-false (n == 0) (if whole then 0 else 10) 0 off
 
-module _ (laws : Laws) (more : MoreLaws) (turn : WorkInTurn) (comes_up : (busy : ℕ) → ComesUp busy)
-    (to_zero : (busy : ℕ) → ComesToZero busy)
-    (goes : (busy : ℕ) → StaysARun busy) (counts : (busy : ℕ) → AgesBeforeEnd busy)
-    (r : RingView) (jobs : List Job) (carry : Carry) (restarts : Restarts) (opened : IsOpened r jobs) where
+module _ (r : RingView) (jobs : List Job) (carry : Carry) (restarts : Restarts) (opened : IsOpened r jobs) where
   abbrev back : List CycleView → Past
   back j = looks_back r jobs (master_calls r carry restarts j)
 
   abbrev Borne : CycleView → List CycleView → Type 0
-  Borne t j = IsBorne laws more turn comes_up to_zero goes counts r jobs carry restarts opened t j
+  Borne t j = IsBorne r jobs carry restarts opened t j
 
   abbrev done_in : CycleView → List CycleView → Bool
   done_in u j = is_done (known_of r) (behind_mdt r jobs carry restarts u.sent j)
 
   abbrev found : List CycleView → ℕ
-  found j = known laws more turn comes_up to_zero goes counts r jobs carry restarts opened (back j).turns
+  found j = known r jobs carry restarts opened (back j).turns
 
   borne : (t : CycleView) (cycles before : List CycleView) → IsRun r jobs carry restarts (t ∷ (cycles ++ before))
       → IsClear (t ∷ (cycles ++ before)) → StartsEpoch r jobs carry restarts before → AreSparse r carry restarts (t ∷ cycles) before
       → Borne t (cycles ++ before)
-  borne t cycles before run clear starts sparse = all_borne laws more turn comes_up to_zero goes counts r jobs carry restarts opened t
-      cycles before run clear starts sparse
+  borne t cycles before run clear starts sparse = all_borne r jobs carry restarts opened t cycles before run clear starts sparse
 
   -- in phase 0 the costs are those of the own MSTs
   zero_costs : (t : CycleView) (cycles before : List CycleView) → IsRun r jobs carry restarts (t ∷ (cycles ++ before))
@@ -71,8 +62,8 @@ module _ (laws : Laws) (more : MoreLaws) (turn : WorkInTurn) (comes_up : (busy :
       let is = borne t (u ∷ cycles) before run clear starts sparse in
       let was = borne u cycles before run.0 clear.0 starts sparse.0 in
       let u_zero = zero_phase (done_in u (cycles ++ before)) u.phase
-      (sym (phase_next laws more turn comes_up to_zero goes counts r jobs carry restarts opened u (cycles ++ before) run.0 was)
-      ∙ sym (phase_is laws more turn comes_up to_zero goes counts r jobs carry restarts opened t (u ∷ (cycles ++ before)) run is)
+      (sym (phase_next r jobs carry restarts opened u (cycles ++ before) run.0 was)
+      ∙ sym (phase_is r jobs carry restarts opened t (u ∷ (cycles ++ before)) run is)
       ∙ t_zero) in
       let rest = zero_costs u cycles before run.0 clear.0 starts sparse.0 u_zero in
       let a = zero_cost t.phase (behind_mst r jobs carry restarts t.sent (u ∷ (cycles ++ before))).now.whole
@@ -92,12 +83,12 @@ module _ (laws : Laws) (more : MoreLaws) (turn : WorkInTurn) (comes_up : (busy :
       (t ∷ (cycles ++ before)))
   in_one t [] before run clear starts sparse one =
       let is = borne t [] before run clear starts sparse in
-      let none : t.phase ≡ 0 = phase_is laws more turn comes_up to_zero goes counts r jobs carry restarts opened t before run is ∙ starts in
+      let none : t.phase ≡ 0 = phase_is r jobs carry restarts opened t before run is ∙ starts in
       absurd (omega (arith, none, one))
   in_one t (u ∷ cycles) before run clear starts sparse one =
       elim (one_phase (done_in u (cycles ++ before)) u.phase
-      (sym (phase_next laws more turn comes_up to_zero goes counts r jobs carry restarts opened u (cycles ++ before) run.0 was)
-      ∙ sym (phase_is laws more turn comes_up to_zero goes counts r jobs carry restarts opened t (u ∷ (cycles ++ before)) run is) ∙ one)) [
+      (sym (phase_next r jobs carry restarts opened u (cycles ++ before) run.0 was)
+      ∙ sym (phase_is r jobs carry restarts opened t (u ∷ (cycles ++ before)) run is) ∙ one)) [
         | inl first ↦ by_first first.1
         | inr later ↦ by_later later.0 later.1 (in_one u cycles before run.0 clear.0 starts sparse.0 later.1)
       ]
@@ -111,9 +102,7 @@ module _ (laws : Laws) (more : MoreLaws) (turn : WorkInTurn) (comes_up : (busy :
       by_first : u.phase ≡ 0 → IsInOne t (u ∷ (cycles ++ before)) (suc (suc (length cycles)))
           (own_costs r jobs carry restarts (t ∷ u ∷ cycles) before) (found (t ∷ u ∷ (cycles ++ before)))
       by_first u_zero =
-          let le = risen laws more turn comes_up to_zero goes counts r jobs carry restarts opened u cycles before run.0 clear.0 (inl starts)
-          sparse.0
-          u_zero in
+          let le = risen r jobs carry restarts opened u cycles before run.0 clear.0 (inl starts) sparse.0 u_zero in
           let same = zero_costs u cycles before run.0 clear.0 starts sparse.0 u_zero in
           record {
             any = omega (arith, le, same);
@@ -139,8 +128,7 @@ module _ (laws : Laws) (more : MoreLaws) (turn : WorkInTurn) (comes_up : (busy :
       }
         where
           more_found : found (u ∷ (cycles ++ before)) ≤ found (t ∷ u ∷ (cycles ++ before))
-          more_found = known_after laws more turn comes_up to_zero goes counts r jobs carry restarts opened t (u ∷
-              (cycles ++ before)) run is
+          more_found = known_after r jobs carry restarts opened t (u ∷ (cycles ++ before)) run is
 
           lost_now : IsDisturbed r carry restarts t (u ∷ (cycles ++ before))
               → suc (suc (length cycles)) ≤ 12 + own_costs r jobs carry restarts (t ∷ u ∷ cycles) before + 3 * found
@@ -155,9 +143,8 @@ module _ (laws : Laws) (more : MoreLaws) (turn : WorkInTurn) (comes_up : (busy :
               (t ∷ u ∷ (cycles ++ before))
           calm_now calm before_it =
               let le = earlier.any in
-              let grows = one_more laws more turn comes_up to_zero goes counts r jobs carry restarts opened t u
-              (cycles ++ before) run clear is
-              was calm before_it one was_one unfinished in omega (arith, le, grows)
+              let grows = one_more r jobs carry restarts opened t u (cycles ++ before) run clear is was calm before_it one was_one
+              unfinished in omega (arith, le, grows)
 
   -- BOTH PHASES
   pub early_many : (t : CycleView) (cycles before : List CycleView) → IsRun r jobs carry restarts (t ∷ (cycles ++ before))
@@ -165,8 +152,7 @@ module _ (laws : Laws) (more : MoreLaws) (turn : WorkInTurn) (comes_up : (busy :
       → t.phase ≤ 1 → suc (length cycles) ≤ 13 + 3 * length r.drives + own_costs r jobs carry restarts (t ∷ cycles) before
   early_many t cycles before run clear starts sparse low = elim (cases_eq t.phase 0) [
     | inl at_zero ↦ (
-        let le = risen laws more turn comes_up to_zero goes counts r jobs carry restarts opened t cycles before run clear (inl starts) sparse
-        at_zero
+        let le = risen r jobs carry restarts opened t cycles before run clear (inl starts) sparse at_zero
         in
         let same = zero_costs t cycles before run clear starts sparse at_zero in omega (arith, le, same))
     | inr later ↦ (

@@ -11,20 +11,14 @@ use Rattle.sercos_seat.specs.Ring.{known_of}
 use Rattle.sercos_master.specs.Annals.{Past, is_done}
 use Rattle.sercos_script.specs.Links.{Carry, Restarts}
 use Rattle.sercos_law_channel.specs.Handshake.Epochs.{epoch_begun, epoch_log}
-use Rattle.sercos_law_channel.specs.Handshake.RunLaws.{ComesToZero, ComesUp}
 use Rattle.sercos_law_channel.specs.Handshake.Runs.{IsRun as IsViewRun}
 use Rattle.sercos_law_channel.specs.Handshake.Views.{View}
-use Rattle.sercos_law_channel.specs.Pace.ChannelCalls.{AgesBeforeEnd, StaysARun}
-use Rattle.sercos_law_channel.specs.Pace.Costs.{ComesTimed, StaysInCost}
-use Rattle.sercos_law_channel.specs.Pace.Jobs.{ReadsCost, WritesCost}
 use Rattle.sercos_law_channel.proofs.Theorems.{in_step}
 use Rattle.sercos_law_run.specs.Journal.Arrivals.{sum_below}
 use Rattle.sercos_law_run.specs.Journal.Runs.{drive_at, looks_back, master_calls, IsClear, IsRun}
-use Rattle.sercos_law_run.specs.Agenda.Turns.{WorkInTurn, WorksInThree, WorksInTwo}
 use Rattle.sercos_law_run.specs.Views.RingViews.{behind_mdt, view_of, views_of}
 use Rattle.sercos_law_run.specs.Held.Opened.{IsOpened}
-use Rattle.sercos_law_run.proofs.Held.Runs.{Laws}
-use Rattle.sercos_law_run.proofs.Headline.HeadlineRuns.{MoreLaws, all_stand}
+use Rattle.sercos_law_run.proofs.Headline.HeadlineRuns.{all_stand}
 use Rattle.sercos_law_run.specs.Undisturbed.EpochStarts.{StartsEpoch}
 use Rattle.sercos_law_run.proofs.Undisturbed.PhaseThree.{comes_three}
 use Rattle.sercos_law_run.proofs.Undisturbed.StopStays.{none_before, stop_after}
@@ -68,27 +62,20 @@ at_rest busy spent base all run none le = record {
     by a (New on s b) = never_some (open_in (epoch_begun all)) none on
     by a (Waits f older those_then on s b) = never_some (open_in (epoch_begun all)) none on
 
-module _ (laws : Laws) (more : MoreLaws) (turn : WorkInTurn) (two : WorksInTwo) (three : WorksInThree)
-    (comes_up : (busy : ℕ) → ComesUp busy)
-    (to_zero : (busy : ℕ) → ComesToZero busy) (goes : (busy : ℕ) → StaysARun busy) (counts : (busy : ℕ) → AgesBeforeEnd busy)
-    (in_cost : (busy : ℕ) → StaysInCost busy) (timed : ComesTimed) (reads_cost : (busy : ℕ) → ReadsCost busy)
-    (writes_cost : (busy : ℕ) → WritesCost busy)
-    (r : RingView) (jobs : List Job) (carry : Carry) (restarts : Restarts) (opened : IsOpened r jobs) where
+module _ (r : RingView) (jobs : List Job) (carry : Carry) (restarts : Restarts) (opened : IsOpened r jobs) where
   abbrev back : List CycleView → Past
   back j = looks_back r jobs (master_calls r carry restarts j)
 
   abbrev Borne : CycleView → List CycleView → Type 0
-  Borne t j = IsBorne laws more turn comes_up to_zero goes counts r jobs carry restarts opened t j
+  Borne t j = IsBorne r jobs carry restarts opened t j
 
   abbrev Unready : ℕ → List CycleView → Type 0
-  Unready k j = is_unready laws more turn two three comes_up to_zero goes counts r jobs carry restarts opened in_cost timed reads_cost
-      writes_cost k j
+  Unready k j = is_unready r jobs carry restarts opened k j
 
   borne : (t : CycleView) (cycles before : List CycleView) → IsRun r jobs carry restarts (t ∷ (cycles ++ before))
       → IsClear (t ∷ (cycles ++ before)) → StartsEpoch r jobs carry restarts before → AreSparse r carry restarts (t ∷ cycles) before
       → Borne t (cycles ++ before)
-  borne t cycles before run clear starts sparse = all_borne laws more turn comes_up to_zero goes counts r jobs carry restarts opened t
-      cycles before run clear starts sparse
+  borne t cycles before run clear starts sparse = all_borne r jobs carry restarts opened t cycles before run clear starts sparse
 
   -- the cycles that all drives but one may take in phase 2
   abbrev pub others_two : ℕ → ℕ
@@ -102,17 +89,15 @@ module _ (laws : Laws) (more : MoreLaws) (turn : WorkInTurn) (two : WorksInTwo) 
       (u ∷ cycles) before + weight_at r jobs carry restarts
       (u ∷ (cycles ++ before))
   at_rise u [] before run clear starts sparse u_two none =
-      let zero = zero_is laws more turn comes_up to_zero goes counts r jobs carry restarts opened u before run clear starts
-      (sparse.1.goes_on 0 (omega arith)) in absurd (omega (arith, zero, u_two))
+      let zero = zero_is r jobs carry restarts opened u before run clear starts (sparse.1.goes_on 0 (omega arith)) in absurd (omega (arith, zero, u_two))
   at_rise u (v ∷ cycles) before run clear starts sparse u_two none =
       let is = borne u (v ∷ cycles) before run clear starts sparse in
-      let le = two_spent laws more turn two comes_up to_zero goes counts in_cost timed reads_cost writes_cost r jobs carry restarts opened v
+      let le = two_spent r jobs carry restarts opened v
       cycles before run.0 clear.0 starts sparse.0
-      (sym (phase_is laws more turn comes_up to_zero goes counts r jobs carry restarts opened u (v ∷ (cycles ++ before)) run is) ∙ u_two)
+      (sym (phase_is r jobs carry restarts opened u (v ∷ (cycles ++ before)) run is) ∙ u_two)
       (none_before r jobs carry restarts u (v ∷ (cycles ++ before))
-      (start_is laws more turn comes_up to_zero goes counts r jobs carry restarts opened u (v ∷ (cycles ++ before)) run is) none) in
-      let grows = weight_grows laws more turn two comes_up to_zero goes counts in_cost timed reads_cost writes_cost r jobs carry restarts
-      opened u (v ∷ (cycles ++ before)) run clear is in
+      (start_is r jobs carry restarts opened u (v ∷ (cycles ++ before)) run is) none) in
+      let grows = weight_grows r jobs carry restarts opened u (v ∷ (cycles ++ before)) run clear is in
       omega (arith, le, grows)
 
   module _ (k : ℕ) (below : k < length r.drives) where
@@ -135,8 +120,8 @@ module _ (laws : Laws) (more : MoreLaws) (turn : WorkInTurn) (two : WorksInTwo) 
       where
         steps_so : (j : ℕ) → j < length r.drives
             → length (epoch_log (views_of r jobs carry restarts j (u ∷ (cycles ++ before)))) ≤ two_steps (drive_at r j)
-        steps_so j low = steps_in_two laws more turn two comes_up to_zero goes counts in_cost timed reads_cost writes_cost r jobs carry
-            restarts opened u (cycles ++ before) run clear (borne u cycles before run clear starts sparse) (omega (arith, u_two)) j low
+        steps_so j low = steps_in_two r jobs carry restarts opened u (cycles ++ before) run clear
+            (borne u cycles before run clear starts sparse) (omega (arith, u_two)) j low
 
         each : (j : ℕ) → j < length r.drives → weigh_at r jobs carry restarts (u ∷ (cycles ++ before)) j ≤ two_cycles (drive_at r j)
         each j low =
@@ -154,21 +139,19 @@ module _ (laws : Laws) (more : MoreLaws) (turn : WorkInTurn) (two : WorksInTwo) 
         → IsPaced (drive_at r k).busy (suc (length cycles)) (base (t ∷ cycles) before) (views_of r jobs carry restarts k
         (t ∷ (cycles ++ before)))
     three_many t [] before run clear starts sparse t_three none unready =
-        let zero = zero_is laws more turn comes_up to_zero goes counts r jobs carry restarts opened t before run clear starts
-        (sparse.1.goes_on 0 (omega arith)) in absurd (omega (arith, zero, t_three))
+        let zero = zero_is r jobs carry restarts opened t before run clear starts (sparse.1.goes_on 0 (omega arith)) in absurd (omega (arith, zero, t_three))
     three_many t (u ∷ cycles) before run clear starts sparse t_three none unready = paced_next (drive_at r k).busy (suc (length cycles))
         (base (t ∷ u ∷ cycles) before) (view_of r jobs carry restarts k t (u ∷ (cycles ++ before)))
         (views_of r jobs carry restarts k (u ∷ (cycles ++ before)))
-        (all_stand laws more r jobs carry restarts opened (t ∷ u ∷ (cycles ++ before)) run clear k below).sees.run row
+        (all_stand r jobs carry restarts opened (t ∷ u ∷ (cycles ++ before)) run clear k below).sees.run row
         (elim (comes_three (is_done (known_of r) (behind_mdt r jobs carry restarts u.sent (cycles ++ before))) u.phase
-        (sym (phase_next laws more turn comes_up to_zero goes counts r jobs carry restarts opened u (cycles ++ before) run.0 was)
+        (sym (phase_next r jobs carry restarts opened u (cycles ++ before) run.0 was)
         ∙ back_three)) [
           | inl rise ↦ first rise.1
           | inr later ↦ wider (drive_at r k).busy (suc (length cycles)) (base (u ∷ cycles) before) (base (t ∷ u ∷ cycles) before)
               (views_of r jobs carry restarts k (u ∷ (cycles ++ before))) (omega arith)
               (three_many u cycles before run.0 clear.0 starts sparse.0 later.1 none_then
-              (unready_start laws more turn two three comes_up to_zero goes counts r jobs carry restarts opened in_cost timed reads_cost
-              writes_cost t (u ∷ (cycles ++ before)) is k unready run clear))
+              (unready_start r jobs carry restarts opened t (u ∷ (cycles ++ before)) is k unready run clear))
         ])
       where
         was : Borne u (cycles ++ before)
@@ -178,8 +161,7 @@ module _ (laws : Laws) (more : MoreLaws) (turn : WorkInTurn) (two : WorksInTwo) 
         is = borne t (u ∷ cycles) before run clear starts sparse
 
         back_three : (back (u ∷ (cycles ++ before))).now.phase ≡ 3
-        back_three = sym (phase_is laws more turn comes_up to_zero goes counts r jobs carry restarts opened t (u ∷
-            (cycles ++ before)) run is)
+        back_three = sym (phase_is r jobs carry restarts opened t (u ∷ (cycles ++ before)) run is)
             ∙ t_three
 
         stop_none : (behind_mdt r jobs carry restarts t.sent (u ∷ (cycles ++ before))).stop ≡ None
@@ -187,17 +169,15 @@ module _ (laws : Laws) (more : MoreLaws) (turn : WorkInTurn) (two : WorksInTwo) 
 
         none_then : (back (u ∷ (cycles ++ before))).stop ≡ None
         none_then = none_before r jobs carry restarts t (u ∷ (cycles ++ before))
-            (start_is laws more turn comes_up to_zero goes counts r jobs carry restarts opened t (u ∷ (cycles ++ before)) run is) stop_none
+            (start_is r jobs carry restarts opened t (u ∷ (cycles ++ before)) run is) stop_none
 
         row : IsInARow (drive_at r k).busy (view_of r jobs carry restarts k t (u ∷ (cycles ++ before))) (views_of r jobs carry restarts k
             (u ∷ (cycles ++ before)))
         row = record {
           stays = ap (λ (o : Option Fall). is_some o) is.stays;
           goes_on = is.goes_on;
-          opens = opens_in_three laws more turn two three comes_up to_zero goes counts r jobs carry restarts opened in_cost timed reads_cost
-              writes_cost t (u ∷ (cycles ++ before)) run clear is t_three stop_none k below unready;
-          spared = spared_in laws more turn comes_up to_zero goes counts r jobs carry restarts opened t (u ∷ cycles) before run clear starts
-              sparse (omega (arith, t_three)) k below;
+          opens = opens_in_three r jobs carry restarts opened t (u ∷ (cycles ++ before)) run clear is t_three stop_none k below unready;
+          spared = spared_in r jobs carry restarts opened t (u ∷ cycles) before run clear starts sparse (omega (arith, t_three)) k below;
         }
 
         first : u.phase ≡ 2 → IsPaced (drive_at r k).busy (suc (length cycles)) (base (t ∷ u ∷ cycles) before)
@@ -208,9 +188,8 @@ module _ (laws : Laws) (more : MoreLaws) (turn : WorkInTurn) (two : WorksInTwo) 
             (sym (stop_after r jobs carry restarts u (cycles ++ before) was.stays) ∙ none_then) in
             at_rest (drive_at r k).busy (suc (length cycles)) (base (t ∷ u ∷ cycles) before)
             (views_of r jobs carry restarts k (u ∷ (cycles ++ before)))
-            (all_stand laws more r jobs carry restarts opened (u ∷ (cycles ++ before)) run.0 clear.0 k below).sees.run
-            (rests laws more turn comes_up to_zero goes counts r jobs carry restarts opened t u
-            (cycles ++ before) run clear was sparse.1 k below
+            (all_stand r jobs carry restarts opened (u ∷ (cycles ++ before)) run.0 clear.0 k below).sees.run
+            (rests r jobs carry restarts opened t u (cycles ++ before) run clear was sparse.1 k below
             (omega (arith, u_two, t_three))) (omega (arith, le))
 
     pub three_spent : (t : CycleView) (cycles before : List CycleView) → IsRun r jobs carry restarts (t ∷ (cycles ++ before))

@@ -14,22 +14,18 @@ use Rattle.sercos_seat.specs.Ring.{known_of}
 use Rattle.sercos_master.specs.Annals.{Past, is_done, is_done_in}
 use Rattle.sercos_script.specs.Links.{Carry, Restarts}
 use Rattle.sercos_law_channel.specs.Handshake.Epochs.{begun_in, epoch_begun, epoch_log, epoch_taken}
-use Rattle.sercos_law_channel.specs.Handshake.RunLaws.{ComesToZero, ComesUp}
 use Rattle.sercos_law_channel.specs.Handshake.Runs.{IsRun as IsViewRun}
 use Rattle.sercos_law_channel.specs.Handshake.Views.{View}
-use Rattle.sercos_law_channel.specs.Pace.ChannelCalls.{AgesBeforeEnd, StaysARun}
-use Rattle.sercos_law_channel.specs.Pace.Costs.{AreTimed, ComesTimed, StaysInCost}
-use Rattle.sercos_law_channel.specs.Pace.Jobs.{ReadsCost, WritesCost}
+use Rattle.sercos_law_channel.specs.Pace.Costs.{AreTimed}
 use Rattle.sercos_law_channel.proofs.Theorems.{in_step}
 use Rattle.sercos_law_channel.proofs.Pace.LateRuns.{head_before, taken_before}
 use Rattle.sercos_law_run.specs.Bounds.Bounds.{listed}
 use Rattle.sercos_law_run.specs.Journal.Arrivals.{sum_below}
 use Rattle.sercos_law_run.specs.Journal.Runs.{drive_at, looks_back, master_calls, IsClear, IsDisturbed, IsRun}
-use Rattle.sercos_law_run.specs.Agenda.Turns.{WorkInTurn, WorksInTwo}
 use Rattle.sercos_law_run.specs.Views.RingViews.{behind_mdt, view_of, views_of}
 use Rattle.sercos_law_run.specs.Held.Opened.{IsOpened}
-use Rattle.sercos_law_run.proofs.Held.Runs.{Laws, small}
-use Rattle.sercos_law_run.proofs.Headline.HeadlineRuns.{MoreLaws, all_stand, first_store}
+use Rattle.sercos_law_run.proofs.Held.Runs.{small}
+use Rattle.sercos_law_run.proofs.Headline.HeadlineRuns.{all_stand, first_store}
 use Rattle.sercos_law_run.specs.Undisturbed.EpochStarts.{StartsEpoch}
 use Rattle.sercos_law_run.specs.Undisturbed.Sections.{GoesOnInTwo}
 use Rattle.sercos_law_run.specs.Undisturbed.Undisturbed.{IsUndisturbed}
@@ -52,6 +48,8 @@ use Rattle.sercos_law_run.proofs.Tolerance.ManyEarly.{early_many}
 use Rattle.sercos_law_run.proofs.Tolerance.Standing.{takes_whole}
 use Rattle.sercos_law_run.proofs.Tolerance.Steps.{IsYoung, begun_is, never_some, none_new}
 use Rattle.sercos_law_run.proofs.Tolerance.TwoLasts.{each_fits, two_phase}
+use Rattle.sercos_law_channel.proofs.Cited.{in_cost}
+use Rattle.sercos_law_channel.proofs.Pace.TimedCommands.{comes_timed}
 
 -- SUMS
 pub ones : (n : ℕ) → sum_below n (λ k. 1) ≡ n
@@ -91,16 +89,12 @@ weight_at r jobs carry restarts j = sum_below (length r.drives) (weigh_at r jobs
 abbrev pub two_steps : DriveView → ℕ
 two_steps d = 74 + 4 * listed d + d.command
 
-module _ (laws : Laws) (more : MoreLaws) (turn : WorkInTurn) (two : WorksInTwo) (comes_up : (busy : ℕ) → ComesUp busy)
-    (to_zero : (busy : ℕ) → ComesToZero busy) (goes : (busy : ℕ) → StaysARun busy) (counts : (busy : ℕ) → AgesBeforeEnd busy)
-    (in_cost : (busy : ℕ) → StaysInCost busy) (timed : ComesTimed) (reads_cost : (busy : ℕ) → ReadsCost busy)
-    (writes_cost : (busy : ℕ) → WritesCost busy)
-    (r : RingView) (jobs : List Job) (carry : Carry) (restarts : Restarts) (opened : IsOpened r jobs) where
+module _ (r : RingView) (jobs : List Job) (carry : Carry) (restarts : Restarts) (opened : IsOpened r jobs) where
   abbrev back : List CycleView → Past
   back j = looks_back r jobs (master_calls r carry restarts j)
 
   abbrev Borne : CycleView → List CycleView → Type 0
-  Borne t j = IsBorne laws more turn comes_up to_zero goes counts r jobs carry restarts opened t j
+  Borne t j = IsBorne r jobs carry restarts opened t j
 
   abbrev views : ℕ → List CycleView → List View
   views k j = views_of r jobs carry restarts k j
@@ -111,12 +105,11 @@ module _ (laws : Laws) (more : MoreLaws) (turn : WorkInTurn) (two : WorksInTwo) 
   borne : (t : CycleView) (cycles before : List CycleView) → IsRun r jobs carry restarts (t ∷ (cycles ++ before))
       → IsClear (t ∷ (cycles ++ before)) → StartsEpoch r jobs carry restarts before → AreSparse r carry restarts (t ∷ cycles) before
       → Borne t (cycles ++ before)
-  borne t cycles before run clear starts sparse = all_borne laws more turn comes_up to_zero goes counts r jobs carry restarts opened t
-      cycles before run clear starts sparse
+  borne t cycles before run clear starts sparse = all_borne r jobs carry restarts opened t cycles before run clear starts sparse
 
   is_run : (j : List CycleView) → IsRun r jobs carry restarts j → IsClear j → (k : ℕ) → k < length r.drives
       → IsViewRun (busy_of k) (views k j)
-  is_run j run clear k below = (all_stand laws more r jobs carry restarts opened j run clear k below).sees.run
+  is_run j run clear k below = (all_stand r jobs carry restarts opened j run clear k below).sees.run
 
   abbrev weigh : List CycleView → ℕ → ℕ
   weigh j k = weigh_at r jobs carry restarts j k
@@ -163,7 +156,7 @@ module _ (laws : Laws) (more : MoreLaws) (turn : WorkInTurn) (two : WorksInTwo) 
     new_lost calm k below on steps = none_new (busy_of k) (view_of r jobs carry restarts k t j) (views k j)
         (is_run (t ∷ j) run clear k below) (stays k) is.goes_on
         (λ opens. takes_whole (busy_of k) (view_of r jobs carry restarts k t j) (views k j) (is_run (t ∷ j) run clear k below)
-        (whole_at laws more turn r jobs carry restarts opened t j run clear calm is.stays k below) (is.up calm k below) opens) on steps
+        (whole_at r jobs carry restarts opened t j run clear calm is.stays k below) (is.up calm k below) opens) on steps
 
   -- PHASE 2 at the end of a cycle: the cycles spent, by what the steps so far allow; and where one waits for its answer, by the cycles
   -- since it was accepted.
@@ -193,10 +186,10 @@ module _ (laws : Laws) (more : MoreLaws) (turn : WorkInTurn) (two : WorksInTwo) 
 
   -- ONE CYCLE MORE, t after u, in both of which a step is open at the end
   module _ (t u : CycleView) (j : List CycleView) (run : IsRun r jobs carry restarts (t ∷ u ∷ j)) (clear : IsClear (t ∷ u ∷ j))
-      (was : Borne u j) (is : Borne t (u ∷ j)) (sparse : IsSparse r carry restarts t (u ∷ j)) (t_two : t.phase ≡ 2)
-      (d : ℕ) (d_low : d < length r.drives) (d_opens : is_some (open_in (epoch_begun (views d (u ∷ j)))) ≡ true)
-      (k : ℕ) (below : k < length r.drives) (opens : is_some (open_in (epoch_begun (views k (t ∷ u ∷ j)))) ≡ true)
-      (spent base : ℕ) (earlier : IsTwo (u ∷ j) spent base) where
+      (was : Borne u j) (is : Borne t (u ∷ j)) (sparse : IsSparse r carry restarts t (u ∷ j)) (t_two : t.phase ≡ 2) (d : ℕ)
+      (d_low : d < length r.drives) (d_opens : is_some (open_in (epoch_begun (views d (u ∷ j)))) ≡ true) (k : ℕ)
+      (below : k < length r.drives) (opens : is_some (open_in (epoch_begun (views k (t ∷ u ∷ j)))) ≡ true) (spent base : ℕ)
+      (earlier : IsTwo (u ∷ j) spent base) where
     waits_next : (i : ℕ) → i < length r.drives → (e : Entry) (rest : List Entry) → epoch_log (views i (t ∷ u ∷ j)) ≡ e ∷ rest
         → suc (length (answers_in (epoch_begun (views i (t ∷ u ∷ j))))) ≡ length (epoch_log (views i (t ∷ u ∷ j)))
         → suc spent + e.taken.cycle + (busy_of i + 3) ≤ base + weight (t ∷ u ∷ j) + suc (length (views i (u ∷ j))) + 1
@@ -216,8 +209,7 @@ module _ (laws : Laws) (more : MoreLaws) (turn : WorkInTurn) (two : WorksInTwo) 
         (in_step (busy_of d) (views d (u ∷ j)) (is_run (u ∷ j) run.0 clear.0 d d_low)))
       where
         young : IsYoung (busy_of d) 0 0 (views d (u ∷ j))
-        young = before_lost laws more turn comes_up to_zero goes counts r jobs carry restarts opened t u j run clear was sparse d d_low
-            disturbed (omega (arith, t_two))
+        young = before_lost r jobs carry restarts opened t u j run clear was sparse d d_low disturbed (omega (arith, t_two))
 
         by : StandsSo (epoch_begun (views d (u ∷ j))) (epoch_log (views d (u ∷ j))) → suc spent ≤ base + weight (t ∷ u ∷ j)
         by (Rests none a) = absurd (never_some (open_in (epoch_begun (views d (u ∷ j)))) none d_opens)
@@ -249,7 +241,7 @@ module _ (laws : Laws) (more : MoreLaws) (turn : WorkInTurn) (two : WorksInTwo) 
       → (back (t ∷ j)).now.phase ≡ 2 → (back (t ∷ j)).stop ≡ None
       → (k : ℕ) × (k < length r.drives) × (is_some (open_in (epoch_begun (views k (t ∷ j)))) ≡ true)
   some_open t j run clear is t_two is_two none =
-      let o = opens_in_two laws more two r jobs carry restarts opened t j run clear goes_on in
+      let o = opens_in_two r jobs carry restarts opened t j run clear goes_on in
       (o.0, o.1, open_now t j run clear is o.0 o.1 o.2)
     where
       stop_none : (behind_mdt r jobs carry restarts t.sent j).stop ≡ None
@@ -260,7 +252,7 @@ module _ (laws : Laws) (more : MoreLaws) (turn : WorkInTurn) (two : WorksInTwo) 
 
       unfinished : is_done (known_of r) (behind_mdt r jobs carry restarts t.sent j) ≡ false
       unfinished = elim (two_phase (is_done (known_of r) (behind_mdt r jobs carry restarts t.sent j)) t.phase
-          (sym (phase_next laws more turn comes_up to_zero goes counts r jobs carry restarts opened t j run is) ∙ is_two)) [
+          (sym (phase_next r jobs carry restarts opened t j run is) ∙ is_two)) [
             | inl first ↦ (let one = first.1 in absurd (omega (arith, one, t_two)))
             | inr later ↦ later.0
           ]
@@ -269,7 +261,7 @@ module _ (laws : Laws) (more : MoreLaws) (turn : WorkInTurn) (two : WorksInTwo) 
       goes_on = record {
         phase = phase;
         goes_on = stop_none;
-        planned = planned_now laws more r jobs carry restarts opened t j run clear phase stop_none;
+        planned = planned_now r jobs carry restarts opened t j run clear phase stop_none;
         unchecked = sym (ap (λ (n : ℕ). is_done_in n (known_of r) (behind_mdt r jobs carry restarts t.sent j)) phase) ∙ unfinished;
       }
 
@@ -280,17 +272,15 @@ module _ (laws : Laws) (more : MoreLaws) (turn : WorkInTurn) (two : WorksInTwo) 
       (t ∷ cycles) before)
   two_many t [] before run clear starts sparse is_two none t_two =
       let is = borne t [] before run clear starts sparse in
-      let zero : t.phase ≡ 0 = phase_is laws more turn comes_up to_zero goes counts r jobs carry restarts opened t before run is ∙ starts in
+      let zero : t.phase ≡ 0 = phase_is r jobs carry restarts opened t before run is ∙ starts in
       absurd (omega (arith, zero, t_two))
   two_many t (u ∷ cycles) before run clear starts sparse is_two none t_two =
       elim (two_phase (is_done (known_of r) (behind_mdt r jobs carry restarts u.sent (cycles ++ before))) u.phase
-      (sym (phase_next laws more turn comes_up to_zero goes counts r jobs carry restarts opened u (cycles ++ before) run.0 was)
+      (sym (phase_next r jobs carry restarts opened u (cycles ++ before) run.0 was)
       ∙ back_two)) [
         | inl first ↦ (
             let one = first.1 in
-            let le = early_many laws more turn comes_up to_zero goes counts r jobs carry restarts opened u cycles before run.0 clear.0
-            starts
-            sparse.0 (omega (arith, one)) in
+            let le = early_many r jobs carry restarts opened u cycles before run.0 clear.0 starts sparse.0 (omega (arith, one)) in
             at_first (t ∷ u ∷ (cycles ++ before)) (suc (length cycles))
             (13 + 2 * length r.drives + own_costs r jobs carry restarts (t ∷ u ∷ cycles) before) (omega (arith, le)))
         | inr later ↦ by later.1 (two_many u cycles before run.0 clear.0 starts sparse.0 back_two none_then later.1)
@@ -303,12 +293,12 @@ module _ (laws : Laws) (more : MoreLaws) (turn : WorkInTurn) (two : WorksInTwo) 
       is = borne t (u ∷ cycles) before run clear starts sparse
 
       back_two : (back (u ∷ (cycles ++ before))).now.phase ≡ 2
-      back_two = sym (phase_is laws more turn comes_up to_zero goes counts r jobs carry restarts opened t (u ∷ (cycles ++ before)) run is)
+      back_two = sym (phase_is r jobs carry restarts opened t (u ∷ (cycles ++ before)) run is)
           ∙ t_two
 
       none_then : (back (u ∷ (cycles ++ before))).stop ≡ None
       none_then = none_before r jobs carry restarts t (u ∷ (cycles ++ before))
-          (start_is laws more turn comes_up to_zero goes counts r jobs carry restarts opened t (u ∷ (cycles ++ before)) run is)
+          (start_is r jobs carry restarts opened t (u ∷ (cycles ++ before)) run is)
           (sym (stop_after r jobs carry restarts t (u ∷ (cycles ++ before)) is.stays) ∙ none)
 
       by : u.phase ≡ 2 → IsTwo (u ∷ (cycles ++ before)) (suc (length cycles))
@@ -331,12 +321,10 @@ module _ (laws : Laws) (more : MoreLaws) (turn : WorkInTurn) (two : WorksInTwo) 
       (t ∷ (cycles ++ before)) + 1
   two_spent t cycles before run clear starts sparse is_two none =
       elim (two_phase (is_done (known_of r) (behind_mdt r jobs carry restarts t.sent (cycles ++ before))) t.phase
-      (sym (phase_next laws more turn comes_up to_zero goes counts r jobs carry restarts opened t (cycles ++ before) run
-      (borne t cycles before run clear starts sparse)) ∙ is_two)) [
+      (sym (phase_next r jobs carry restarts opened t (cycles ++ before) run (borne t cycles before run clear starts sparse)) ∙ is_two)) [
         | inl first ↦ (
             let one = first.1 in
-            let le = early_many laws more turn comes_up to_zero goes counts r jobs carry restarts opened t cycles before run clear starts
-            sparse (omega (arith, one)) in
+            let le = early_many r jobs carry restarts opened t cycles before run clear starts sparse (omega (arith, one)) in
             let some = some_weight (t ∷ (cycles ++ before)) in omega (arith, le, some))
         | inr later ↦ (let le = (two_many t cycles before run clear starts sparse is_two none later.1).total in omega (arith, le))
       ]
@@ -344,20 +332,18 @@ module _ (laws : Laws) (more : MoreLaws) (turn : WorkInTurn) (two : WorksInTwo) 
   -- the steps accepted so far, by what they cost
   pub costs_in : (j : List CycleView) → IsRun r jobs carry restarts j → IsClear j → (k : ℕ) → k < length r.drives
       → AreTimed (drive_at r k).command (views_of r jobs carry restarts k j)
-  costs_in j run clear k below = timed (drive_at r k).command (views_of r jobs carry restarts k j)
+  costs_in j run clear k below = comes_timed (drive_at r k).command (views_of r jobs carry restarts k j)
       (are_carried (drive_at r k).command (first_commands r k) refl refl (views_of r jobs carry restarts k j)
-      (commands_so laws more r jobs carry restarts opened j run clear k below).follow)
+      (commands_so r jobs carry restarts opened j run clear k below).follow)
 
   pub steps_in_two : (t : CycleView) (j : List CycleView) → IsRun r jobs carry restarts (t ∷ j) → IsClear (t ∷ j) → Borne t j → t.phase ≤ 2
       → (k : ℕ) → k < length r.drives → length (epoch_log (views_of r jobs carry restarts k (t ∷ j))) ≤ two_steps (drive_at r k)
   steps_in_two t j run clear is low k below =
-      let stands = all_stand laws more r jobs carry restarts opened (t ∷ j) run clear k below in
+      let stands = all_stand r jobs carry restarts opened (t ∷ j) run clear k below in
       let cost = in_cost (drive_at r k).busy (drive_at r k).command (λ raw. 512) (store_of (drive_at r k))
       (views_of r jobs carry restarts k (t ∷ j))
-      (small laws r jobs carry restarts opened (first_store laws more r jobs carry restarts opened) k below) stands.sees.run
+      (small r jobs carry restarts opened (first_store r jobs carry restarts opened) k below) stands.sees.run
       stands.sound (costs_in (t ∷ j) run clear k below) (listed_all (views_of r jobs carry restarts k (t ∷ j))) in
-      let fits = each_fits laws more turn two comes_up to_zero goes counts r jobs carry restarts opened reads_cost writes_cost t j run
-      clear is.stays
-      low k below in
+      let fits = each_fits r jobs carry restarts opened t j run clear is.stays low k below in
       few_steps (drive_at r k).busy (length (epoch_log (views_of r jobs carry restarts k (t ∷ j)))) (74 + 4 * listed (drive_at r k))
       (drive_at r k).command (omega (arith, cost, fits))

@@ -11,16 +11,13 @@ use Rattle.sercos_seat.specs.Ring.{known_of, member}
 use Rattle.sercos_master.specs.Annals.{Past, all_ready, is_done, is_done_in, outcomes}
 use Rattle.sercos_script.specs.Links.{Carry, Restarts}
 use Rattle.sercos_law_channel.specs.Handshake.Epochs.{epoch_begun}
-use Rattle.sercos_law_channel.specs.Handshake.RunLaws.{ComesToZero, ComesUp}
-use Rattle.sercos_law_channel.specs.Pace.ChannelCalls.{AgesBeforeEnd, StaysARun}
 use Rattle.sercos_law_run.specs.Journal.Runs.{looks_back, master_calls, IsClear, IsRun, is_disturbed_in}
-use Rattle.sercos_law_run.specs.Agenda.Turns.{WorkInTurn}
 use Rattle.sercos_law_run.proofs.Agenda.AtWork.{IsFound, found_some}
 use Rattle.sercos_law_run.specs.Views.RingViews.{behind_mdt, views_of}
 use Rattle.sercos_law_run.proofs.Views.Members.{members_count}
 use Rattle.sercos_law_run.specs.Held.Opened.{IsOpened}
-use Rattle.sercos_law_run.proofs.Held.Runs.{Laws, s_known}
-use Rattle.sercos_law_run.proofs.Headline.HeadlineRuns.{MoreLaws, first_store}
+use Rattle.sercos_law_run.proofs.Held.Runs.{s_known}
+use Rattle.sercos_law_run.proofs.Headline.HeadlineRuns.{first_store}
 use Rattle.sercos_law_run.proofs.Undisturbed.JobsBegun.{begun_now}
 use Rattle.sercos_law_run.proofs.Undisturbed.PhaseThree.{comes_three, is_false}
 use Rattle.sercos_law_run.proofs.Undisturbed.StopStays.{none_before, stop_after}
@@ -52,9 +49,7 @@ same_for n low = elim (cases_lt n 2) [
   ]
 ]
 
-module _ (laws : Laws) (more : MoreLaws) (turn : WorkInTurn) (comes_up : (busy : ℕ) → ComesUp busy)
-    (to_zero : (busy : ℕ) → ComesToZero busy) (goes : (busy : ℕ) → StaysARun busy) (counts : (busy : ℕ) → AgesBeforeEnd busy)
-    (r : RingView) (jobs : List Job) (carry : Carry) (restarts : Restarts) (opened : IsOpened r jobs) where
+module _ (r : RingView) (jobs : List Job) (carry : Carry) (restarts : Restarts) (opened : IsOpened r jobs) where
   abbrev back : List CycleView → Past
   back j = looks_back r jobs (master_calls r carry restarts j)
 
@@ -62,20 +57,19 @@ module _ (laws : Laws) (more : MoreLaws) (turn : WorkInTurn) (comes_up : (busy :
   now t j = behind_mdt r jobs carry restarts t.sent j
 
   abbrev Borne : CycleView → List CycleView → Type 0
-  Borne t j = IsBorne laws more turn comes_up to_zero goes counts r jobs carry restarts opened t j
+  Borne t j = IsBorne r jobs carry restarts opened t j
 
   abbrev Base : List CycleView → Type 0
-  Base before = IsBase laws more turn comes_up to_zero goes counts r jobs carry restarts opened before
+  Base before = IsBase r jobs carry restarts opened before
 
   borne : (t : CycleView) (cycles before : List CycleView) → IsRun r jobs carry restarts (t ∷ (cycles ++ before))
       → IsClear (t ∷ (cycles ++ before)) → Base before → AreSparse r carry restarts (t ∷ cycles) before
       → Borne t (cycles ++ before)
-  borne t cycles before run clear starts sparse = borne_on laws more turn comes_up to_zero goes counts r jobs carry restarts opened t
-      cycles before run clear starts sparse
+  borne t cycles before run clear starts sparse = borne_on r jobs carry restarts opened t cycles before run clear starts sparse
 
   some_drive : 0 < length r.drives
-  some_drive = let count = members_count r in let some = (s_known laws r jobs carry restarts opened
-      (first_store laws more r jobs carry restarts opened)).some in omega (arith, count, some)
+  some_drive = let count = members_count r in let some = (s_known r jobs carry restarts opened
+      (first_store r jobs carry restarts opened)).some in omega (arith, count, some)
 
   -- what the cycles cost, as long as phase 4 hasn't been commanded
   pub same_costs : (t : CycleView) (cycles before : List CycleView) → IsRun r jobs carry restarts (t ∷ (cycles ++ before))
@@ -85,7 +79,7 @@ module _ (laws : Laws) (more : MoreLaws) (turn : WorkInTurn) (comes_up : (busy :
       cycles before
   same_costs t [] before run clear starts sparse low = refl
   same_costs t (u ∷ cycles) before run clear starts sparse low =
-      let least = no_lower laws more turn r jobs carry restarts opened t u (cycles ++ before) run clear
+      let least = no_lower r jobs carry restarts opened t u (cycles ++ before) run clear
       (borne u cycles before run.0 clear.0 starts sparse.0).stays (sparse.1.goes_on 0 (omega arith)) 0 some_drive in
       let rest = same_costs u cycles before run.0 clear.0 starts sparse.0 (omega (arith, least, low)) in
       let one = ap (λ (n : ℕ). if is_disturbed_in r carry restarts (length (cycles ++ before)) u.sent then n else 0)
@@ -111,7 +105,7 @@ module _ (laws : Laws) (more : MoreLaws) (turn : WorkInTurn) (comes_up : (busy :
     there = there;
     unready =
         ap (λ (l : List Begun). is_ready (member (known_of r) found.place) (outcomes_in l))
-        (sym (begun_now laws more r jobs carry restarts opened u j run clear is.stays found.place there))
+        (sym (begun_now r jobs carry restarts opened u j run clear is.stays found.place there))
         ∙ is_false (is_ready (member (known_of r) found.place) (outcomes (behind_mdt r jobs carry restarts u.sent j) found.place))
         found.passes;
   }
@@ -145,7 +139,7 @@ module _ (laws : Laws) (more : MoreLaws) (turn : WorkInTurn) (comes_up : (busy :
   in_three t [] before run clear starts sparse some three none = absurd (omega (arith, some))
   in_three t (u ∷ rest) before run clear starts sparse some three none = elim (comes_three (is_done (known_of r) (now u
       (rest ++ before))) u.phase
-      (sym (phase_next laws more turn comes_up to_zero goes counts r jobs carry restarts opened u (rest ++ before) run.0 was)
+      (sym (phase_next r jobs carry restarts opened u (rest ++ before) run.0 was)
       ∙ back_three)) [
         | inl rise ↦ AtRise u rest refl rise.1 (sym (stop_after r jobs carry restarts u (rest ++ before) was.stays) ∙ none_then)
         | inr later ↦ InThree u rest refl later.1 back_three none_then
@@ -153,18 +147,18 @@ module _ (laws : Laws) (more : MoreLaws) (turn : WorkInTurn) (comes_up : (busy :
       ]
     where
       was : Borne u (rest ++ before)
-      was = borne_on laws more turn comes_up to_zero goes counts r jobs carry restarts opened u rest before run.0 clear.0 starts sparse.0
+      was = borne_on r jobs carry restarts opened u rest before run.0 clear.0 starts sparse.0
 
       is : Borne t (u ∷ (rest ++ before))
-      is = borne_on laws more turn comes_up to_zero goes counts r jobs carry restarts opened t (u ∷ rest) before run clear starts sparse
+      is = borne_on r jobs carry restarts opened t (u ∷ rest) before run clear starts sparse
 
       back_three : (looks_back r jobs (master_calls r carry restarts (u ∷ (rest ++ before)))).now.phase ≡ 3
-      back_three = sym (phase_is laws more turn comes_up to_zero goes counts r jobs carry restarts opened t (u ∷ (rest ++ before)) run is)
+      back_three = sym (phase_is r jobs carry restarts opened t (u ∷ (rest ++ before)) run is)
           ∙ three
 
       none_then : (looks_back r jobs (master_calls r carry restarts (u ∷ (rest ++ before)))).stop ≡ None
       none_then = none_before r jobs carry restarts t (u ∷ (rest ++ before))
-          (start_is laws more turn comes_up to_zero goes counts r jobs carry restarts opened t (u ∷ (rest ++ before)) run is) none
+          (start_is r jobs carry restarts opened t (u ∷ (rest ++ before)) run is) none
 
   pub not_yet : (t : CycleView) (cycles before : List CycleView) → IsRun r jobs carry restarts (t ∷ (cycles ++ before))
       → IsClear (t ∷ (cycles ++ before)) → Base before → AreSparse r carry restarts (t ∷ cycles) before

@@ -9,18 +9,15 @@ use Rattle.sercos_trace.specs.Views.{CycleView}
 use Rattle.sercos_trace.specs.declared.events.Fall.{Fall}
 use Rattle.sercos_seat.specs.Ring.{Task}
 use Rattle.sercos_script.specs.Links.{Carry, Restarts}
-use Rattle.sercos_law_channel.specs.Handshake.RunLaws.{ComesToZero, ComesUp}
 use Rattle.sercos_law_channel.specs.Handshake.Views.{View}
 use Rattle.sercos_law_channel.specs.Handshake.WholeRun.{AreSound}
 use Rattle.sercos_law_channel.specs.Pace.Ages.{AreAtWork}
-use Rattle.sercos_law_channel.specs.Pace.ChannelCalls.{AgesBeforeEnd, StaysARun}
-use Rattle.sercos_law_channel.specs.Pace.Costs.{AreTimed, ComesTimed}
+use Rattle.sercos_law_channel.specs.Pace.Costs.{AreTimed}
 use Rattle.sercos_law_run.specs.Journal.Runs.{drive_at, looks_back, master_calls, IsClear, IsRun}
-use Rattle.sercos_law_run.specs.Agenda.Turns.{WorkInTurn, WorksInFour}
 use Rattle.sercos_law_run.specs.Views.RingViews.{view_of, views_of}
 use Rattle.sercos_law_run.specs.Held.Opened.{IsOpened}
-use Rattle.sercos_law_run.proofs.Held.Runs.{Laws, small}
-use Rattle.sercos_law_run.proofs.Headline.HeadlineRuns.{MoreLaws, all_stand, first_store}
+use Rattle.sercos_law_run.proofs.Held.Runs.{small}
+use Rattle.sercos_law_run.proofs.Headline.HeadlineRuns.{all_stand, first_store}
 use Rattle.sercos_law_run.specs.Undisturbed.EpochStarts.{StartsEpoch}
 use Rattle.sercos_law_run.specs.Undisturbed.Reports.{HaveTold, left_after, request_cycles, waiting_after}
 use Rattle.sercos_law_run.specs.Undisturbed.StopsLater.{NoStopInFour}
@@ -34,7 +31,6 @@ use Rattle.sercos_law_run.proofs.Undisturbed.OneRequest.{room}
 use Rattle.sercos_law_run.proofs.Undisturbed.PassedCycles.{views_split}
 use Rattle.sercos_law_run.proofs.Undisturbed.PassedRuns.{commands_so}
 use Rattle.sercos_law_run.proofs.Undisturbed.PhaseTwo.{listed_all}
-use Rattle.sercos_law_run.proofs.Undisturbed.RefusedRuns.{SaysShape}
 use Rattle.sercos_law_run.proofs.Undisturbed.ToldInTime.{IsQuiet, beyond, left_waiting, told_along, told_if_few}
 use Rattle.sercos_law_run.proofs.Recovery.LateDown.{phase_now}
 use Rattle.sercos_law_run.specs.Tolerance.Reports.{cycles_in}
@@ -44,6 +40,7 @@ use Rattle.sercos_law_run.proofs.Tolerance.EarlySparse.{start_is}
 use Rattle.sercos_law_run.proofs.Tolerance.InARow.{AreInARow, row_lasts}
 use Rattle.sercos_law_run.proofs.Tolerance.Spared.{spared_in}
 use Rattle.sercos_law_run.proofs.Tolerance.Steps.{IsYoung}
+use Rattle.sercos_law_channel.proofs.Pace.TimedCommands.{comes_timed}
 
 one_more_time : (i c : ℕ) → (i + 1) * c ≡ suc i * c
 one_more_time i c = grind arith
@@ -55,25 +52,21 @@ fewer false n m low = omega (arith, low)
 some_times : (i c : ℕ) → c ≤ suc i * c
 some_times i c = grind arith
 
-module _ (laws : Laws) (more : MoreLaws) (turn : WorkInTurn) (comes_up : (busy : ℕ) → ComesUp busy)
-    (to_zero : (busy : ℕ) → ComesToZero busy) (goes : (busy : ℕ) → StaysARun busy) (counts : (busy : ℕ) → AgesBeforeEnd busy)
-    (works : WorksInFour) (said : SaysShape) (timed : ComesTimed) (no_stop : NoStopInFour)
-    (r : RingView) (jobs : List Job) (carry : Carry) (restarts : Restarts) (opened : IsOpened r jobs) where
+module _ (no_stop : NoStopInFour) (r : RingView) (jobs : List Job) (carry : Carry) (restarts : Restarts) (opened : IsOpened r jobs) where
   abbrev Borne : CycleView → List CycleView → Type 0
-  Borne t j = IsBorne laws more turn comes_up to_zero goes counts r jobs carry restarts opened t j
+  Borne t j = IsBorne r jobs carry restarts opened t j
 
   borne : (t : CycleView) (cycles before : List CycleView) → IsRun r jobs carry restarts (t ∷ (cycles ++ before))
       → IsClear (t ∷ (cycles ++ before)) → StartsEpoch r jobs carry restarts before → AreSparse r carry restarts (t ∷ cycles) before
       → Borne t (cycles ++ before)
-  borne t cycles before run clear starts sparse = all_borne laws more turn comes_up to_zero goes counts r jobs carry restarts opened t
-      cycles before run clear starts sparse
+  borne t cycles before run clear starts sparse = all_borne r jobs carry restarts opened t cycles before run clear starts sparse
 
   going_in : (t : CycleView) (j : List CycleView) → IsRun r jobs carry restarts (t ∷ j) → Borne t j → IsGoing r jobs carry restarts t j
   going_in t j run is = record {
     now = phase_now r jobs carry restarts t j run.1;
     stays = is.stays;
     quiet = is.goes_on;
-    starts = start_is laws more turn comes_up to_zero goes counts r jobs carry restarts opened t j run is;
+    starts = start_is r jobs carry restarts opened t j run is;
   }
 
   module _ (k : ℕ) (below : k < length r.drives) where
@@ -89,8 +82,7 @@ module _ (laws : Laws) (more : MoreLaws) (turn : WorkInTurn) (comes_up : (busy :
         → IsSpared t (cycles ++ before)
     spared_now t cycles before run clear starts sparse = record {
       goes_on = going_in t (cycles ++ before) run (borne t cycles before run clear starts sparse);
-      spared = λ late. spared_in laws more turn comes_up to_zero goes counts r jobs carry restarts opened t cycles before run clear starts
-          sparse late k below;
+      spared = λ late. spared_in r jobs carry restarts opened t cycles before run clear starts sparse late k below;
     }
 
     spared_all : (cycles before : List CycleView) → IsRun r jobs carry restarts (cycles ++ before) → IsClear (cycles ++ before)
@@ -128,8 +120,8 @@ module _ (laws : Laws) (more : MoreLaws) (turn : WorkInTurn) (comes_up : (busy :
       where
         late : 3 ≤ t.phase
         late =
-            let four_now = phase_before laws more comes_up r jobs carry restarts opened t (cycles ++ rest) run are.1.goes_on
-            ∙ four_along laws more comes_up r jobs carry restarts opened cycles rest run.0 (goings cycles rest are.0) four in
+            let four_now = phase_before r jobs carry restarts opened t (cycles ++ rest) run are.1.goes_on
+            ∙ four_along r jobs carry restarts opened cycles rest run.0 (goings cycles rest are.0) four in
             omega (arith, four_now)
 
     -- so a request lasts no longer than this profile allows
@@ -143,19 +135,19 @@ module _ (laws : Laws) (more : MoreLaws) (turn : WorkInTurn) (comes_up : (busy :
         split = views_split r jobs carry restarts k (t ∷ newer) (one ∷ old)
 
         in_time : AreTimed (drive_at r k).command (views_of r jobs carry restarts k (t ∷ (newer ++ one ∷ old)))
-        in_time = timed (drive_at r k).command (views_of r jobs carry restarts k (t ∷ (newer ++ one ∷ old)))
+        in_time = comes_timed (drive_at r k).command (views_of r jobs carry restarts k (t ∷ (newer ++ one ∷ old)))
             (are_carried (drive_at r k).command (first_commands r k) refl refl (views_of r jobs carry restarts k
             (t ∷ (newer ++ one ∷ old)))
-            (commands_so laws more r jobs carry restarts opened (t ∷ (newer ++ one ∷ old)) run clear k below).follow)
+            (commands_so r jobs carry restarts opened (t ∷ (newer ++ one ∷ old)) run clear k below).follow)
 
         lasts : length (views_since r jobs carry restarts k (t ∷ newer) (one ∷ old)) < request_cycles r k
-        lasts = row_lasts said (drive_at r k).busy (drive_at r k).command (store_of (drive_at r k))
-            (small laws r jobs carry restarts opened (first_store laws more r jobs carry restarts opened) k below)
-            (first_store laws more r jobs carry restarts opened k below)
+        lasts = row_lasts (drive_at r k).busy (drive_at r k).command (store_of (drive_at r k))
+            (small r jobs carry restarts opened (first_store r jobs carry restarts opened) k below)
+            (first_store r jobs carry restarts opened k below)
             (views_since r jobs carry restarts k (t ∷ newer) (one ∷ old)) (views_of r jobs carry restarts k (one ∷ old)) b older
-            (runs_split laws more r jobs carry restarts opened (t ∷ newer) (one ∷ old) run clear k below)
+            (runs_split r jobs carry restarts opened (t ∷ newer) (one ∷ old) run clear k below)
             (subst (λ (l : List View). AreSound (store_of (drive_at r k)) l) split
-            (all_stand laws more r jobs carry restarts opened (t ∷ (newer ++ one ∷ old)) run clear k below).sound)
+            (all_stand r jobs carry restarts opened (t ∷ (newer ++ one ∷ old)) run clear k below).sound)
             (subst (λ (l : List View). AreTimed (drive_at r k).command l) split in_time)
             (listed_all (views_since r jobs carry restarts k (t ∷ newer) (one ∷ old) ++ views_of r jobs carry restarts k (one ∷ old)))
             (in_a_row (t ∷ newer) (one ∷ old) run those four_then works_in) begun shut answered
@@ -163,15 +155,15 @@ module _ (laws : Laws) (more : MoreLaws) (turn : WorkInTurn) (comes_up : (busy :
     -- WHERE PHASE 4 IS COMMANDED in some of these cycles, it is in the newest, and after it.
     four_next : (t : CycleView) (j : List CycleView) → IsRun r jobs carry restarts (t ∷ j) → IsGoing r jobs carry restarts t j → t.phase ≡ 4
         → (looks_back r jobs (master_calls r carry restarts (t ∷ j))).now.phase ≡ 4
-    four_next t j run going four = four_along laws more comes_up r jobs carry restarts opened (t ∷ []) j run (tt, going)
-        (sym (phase_before laws more comes_up r jobs carry restarts opened t j run going) ∙ four)
+    four_next t j run going four = four_along r jobs carry restarts opened (t ∷ []) j run (tt, going)
+        (sym (phase_before r jobs carry restarts opened t j run going) ∙ four)
 
     four_of : (t : CycleView) (cycles before : List CycleView) → IsRun r jobs carry restarts (t ∷ (cycles ++ before))
         → IsGoing r jobs carry restarts t (cycles ++ before) → 1 ≤ cycles_in 4 (t ∷ cycles)
         → (1 ≤ cycles_in 4 cycles → (looks_back r jobs (master_calls r carry restarts (cycles ++ before))).now.phase ≡ 4) → t.phase ≡ 4
     four_of t cycles before run going some earlier = elim (cases_Bool (t.phase == 4)) [
       | inl is ↦ eqb-true t.phase 4 is
-      | inr off ↦ phase_before laws more comes_up r jobs carry restarts opened t (cycles ++ before) run going
+      | inr off ↦ phase_before r jobs carry restarts opened t (cycles ++ before) run going
           ∙ earlier (subst (λ (n : ℕ). 1 ≤ n) (cond-false (t.phase == 4) (suc (cycles_in 4 cycles)) (cycles_in 4 cycles) off) some)
     ]
 
@@ -226,8 +218,8 @@ module _ (laws : Laws) (more : MoreLaws) (turn : WorkInTurn) (comes_up : (busy :
       → IsClear (t ∷ (cycles ++ before)) → StartsEpoch r jobs carry restarts before → AreSparse r carry restarts (t ∷ cycles) before
       → (k i : ℕ) (x : Task) → k < length r.drives → slice_get (waiting_after r jobs carry restarts before k) i ≡ Some x
       → (i + 1) * request_cycles r k ≤ cycles_in 4 cycles → (number : ℕ) × (x.number ≡ Some number) × HaveTold (t ∷ cycles) number
-  reports_sparse t cycles before run clear starts sparse k i x below got long = told_if_few laws more r jobs carry restarts opened k below
-      (t ∷ cycles) before (told_along laws more r jobs carry restarts opened k below (t ∷ cycles) before run clear quiet) starts i x got few
+  reports_sparse t cycles before run clear starts sparse k i x below got long = told_if_few r jobs carry restarts opened k below
+      (t ∷ cycles) before (told_along r jobs carry restarts opened k below (t ∷ cycles) before run clear quiet) starts i x got few
     where
       those : AreAll (IsSpared k below) (t ∷ cycles) before
       those = spared_all k below (t ∷ cycles) before run clear starts sparse
@@ -256,13 +248,13 @@ module _ (laws : Laws) (more : MoreLaws) (turn : WorkInTurn) (comes_up : (busy :
       clear_cut = subst (λ (l : List CycleView). IsClear (t ∷ l)) c.is clear
 
       four : t.phase ≡ 4
-      four = phase_before laws more comes_up r jobs carry restarts opened t (cycles ++ before) run those.1.goes_on
+      four = phase_before r jobs carry restarts opened t (cycles ++ before) run those.1.goes_on
           ∙ four_after k below cycles before run.0 those.0 (let one = some in let all = enough in omega (arith, one, all))
 
       few : (m : ℕ) → length (waiting_after r jobs carry restarts before k) ≤ m + suc i
           → length (left_after r jobs carry restarts (t ∷ (cycles ++ before)) k) ≤ m
       few m most = subst (λ (l : List CycleView). length (left_after r jobs carry restarts (t ∷ l) k) ≤ m) (sym c.is)
-          (left_waiting laws more comes_up works r jobs carry restarts opened k below (IsSpared k below) (goes_so k below)
+          (left_waiting r jobs carry restarts opened k below (IsSpared k below) (goes_so k below)
           (lasts_sparse k below) no_stop t c.newer c.one (c.older ++ before) run_cut clear_cut
           (c.those, subst (λ (l : List CycleView). IsSpared k below t l) c.is those.1) c.one_is c.four four i
           (let is = n.1 in let count = c.long in omega (arith, is, count)) m

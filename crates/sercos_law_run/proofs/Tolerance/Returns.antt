@@ -11,21 +11,11 @@ use Rattle.sercos_trace.specs.declared.events.Fall.{Fall}
 use Rattle.sercos_seat.specs.Ring.{known_of, tasks_for}
 use Rattle.sercos_master.specs.Annals.{Past, fall_of}
 use Rattle.sercos_script.specs.Links.{Carry, Restarts}
-use Rattle.sercos_law_channel.specs.Handshake.RunLaws.{ComesToZero, ComesUp}
-use Rattle.sercos_law_channel.specs.Pace.Ages.{AgesWhereDead}
-use Rattle.sercos_law_channel.specs.Pace.ChannelCalls.{AgesBeforeEnd, StaysARun}
-use Rattle.sercos_law_channel.specs.Pace.Costs.{ComesTimed, StaysInCost}
-use Rattle.sercos_law_channel.specs.Pace.Jobs.{ReadsCost, WritesCost, ListReadCosts}
-use Rattle.sercos_law_channel.specs.Pace.Passages.{IsUp, StaysDead}
-use Rattle.sercos_law_channel.specs.Pace.StartCosts.{RecoversInCost, RecoversSince}
-use Rattle.sercos_law_run.specs.Bounds.Bounds.{command_cycles, greatest, recovery_bound, AreSections, IsBelowGreatest, IsStarted, slowest}
+use Rattle.sercos_law_channel.specs.Pace.Passages.{IsUp}
+use Rattle.sercos_law_run.specs.Bounds.Bounds.{command_cycles, greatest, recovery_bound, slowest}
 use Rattle.sercos_law_run.specs.Journal.Runs.{IsClear, IsDisturbed, IsRun, begins, looks_back, master_calls, middle}
-use Rattle.sercos_law_run.specs.Agenda.Tasks.{BeginsNoneEarly}
-use Rattle.sercos_law_run.specs.Agenda.Turns.{WorkInTurn, WorksInThree, WorksInTwo}
 use Rattle.sercos_law_run.specs.Views.RingViews.{behind_mdt, view_of, views_of}
 use Rattle.sercos_law_run.specs.Held.Opened.{IsOpened}
-use Rattle.sercos_law_run.proofs.Held.Runs.{Laws}
-use Rattle.sercos_law_run.proofs.Headline.HeadlineRuns.{MoreLaws}
 use Rattle.sercos_law_run.specs.Undisturbed.EpochStarts.{StartsEpoch}
 use Rattle.sercos_law_run.specs.Undisturbed.StartUps.{NoneFalls, TellsNoFall}
 use Rattle.sercos_law_run.specs.Undisturbed.StopsInTwo.{StopsInTwo}
@@ -61,6 +51,8 @@ use Rattle.sercos_law_run.specs.Recovery.Recovers.{IsBack}
 use Rattle.sercos_law_run.proofs.Recovery.EarlyStops.{early_in, stands_at}
 use Rattle.sercos_law_run.proofs.Recovery.Returns.{right_four}
 use Rattle.sercos_law_run.proofs.Tolerance.Ends.{ends_so}
+use Rattle.sercos_block.proofs.RingLemmas.{IsRing-is_ring}
+use Rattle.sercos_law_channel.proofs.Pace.CallAges.{stays_a_run}
 
 never_both : (b : Bool) → b ≡ true → b ≡ false → ⊥
 never_both true on off = cc
@@ -197,28 +189,22 @@ once_sparse tolerates r jobs carry restarts t j opened run clear cycles before l
     let x = cut_at_fall r carry restarts t cycles (lost ∷ before) sparse fallen in
     (tolerates r jobs carry restarts t j opened run clear x.newer x.before (is ∙ x.is) x.anew x.sparse).tells
 
-module _ (laws : Laws) (more : MoreLaws) (turn : WorkInTurn) (early : BeginsNoneEarly) (two : WorksInTwo) (three : WorksInThree)
-    (comes_up : (busy : ℕ) → ComesUp busy) (to_zero : (busy : ℕ) → ComesToZero busy) (goes : (busy : ℕ) → StaysARun busy)
-    (counts : (busy : ℕ) → AgesBeforeEnd busy) (dead : (busy : ℕ) → StaysDead busy) (ages : (busy : ℕ) → AgesWhereDead busy)
-    (recovers : (busy : ℕ) → RecoversInCost busy) (since : (busy : ℕ) → RecoversSince busy) (in_cost : (busy : ℕ) → StaysInCost busy)
-    (timed : ComesTimed) (sections : AreSections) (reads_cost : (busy : ℕ) → ReadsCost busy) (writes_cost : (busy : ℕ) → WritesCost busy)
-    (started : IsStarted) (greatest_is : IsBelowGreatest) (in_two : StopsInTwo) (in_three : StopsInThree) (ready : ReadyIfEnded)
-    (list_cost : (busy : ℕ) → ListReadCosts busy) (in_four : NoStopInFour) (fit : FitsInThree) (own : OwnFitsInFour)
-    (r : RingView) (jobs : List Job) (carry : Carry) (restarts : Restarts) (opened : IsOpened r jobs) where
+module _ (in_two : StopsInTwo) (in_three : StopsInThree) (ready : ReadyIfEnded) (in_four : NoStopInFour) (fit : FitsInThree)
+    (own : OwnFitsInFour) (r : RingView) (jobs : List Job) (carry : Carry) (restarts : Restarts) (opened : IsOpened r jobs) where
   some_drive : 0 < length r.drives
-  some_drive = let some = (laws.ring r opened.valid).some in omega (arith, some)
+  some_drive = let some = (IsRing-is_ring r opened.valid).some in omega (arith, some)
 
   abbrev Base : List CycleView → Type 0
-  Base j = IsBase laws more turn comes_up to_zero goes counts r jobs carry restarts opened j
+  Base j = IsBase r jobs carry restarts opened j
 
   abbrev Settled : ℕ → List CycleView → List CycleView → Type 0
-  Settled n cycles rest = IsSettled laws more turn comes_up to_zero goes counts r jobs carry restarts opened n cycles rest
+  Settled n cycles rest = IsSettled r jobs carry restarts opened n cycles rest
 
   up_at : (t : CycleView) (j : List CycleView) → IsRun r jobs carry restarts (t ∷ j) → IsClear (t ∷ j) → IsUndisturbed r carry restarts t j
       → fall_of (known_of r) (behind_mdt r jobs carry restarts t.sent j) ≡ None → (k : ℕ) → k < length r.drives
       → (IsDown r jobs carry restarts k (t ∷ j) → ⊥) → IsUp (view_of r jobs carry restarts k t j) (views_of r jobs carry restarts k j)
   up_at t j run clear calm stays k below up = up_in (view_of r jobs carry restarts k t j) (views_of r jobs carry restarts k j)
-      (whole_at laws more turn r jobs carry restarts opened t j run clear calm stays k below) up
+      (whole_at r jobs carry restarts opened t j run clear calm stays k below) up
 
   -- IT IS SOON ENOUGH: without a stop at the end, and if the ring falls in the next cycle, the cycles are no more than this.
   record IsSoon (n : ℕ) (cycles rest : List CycleView) : Type 0 where
@@ -240,12 +226,10 @@ module _ (laws : Laws) (more : MoreLaws) (turn : WorkInTurn) (early : BeginsNone
 
   -- FROM AN UNDISTURBED CYCLE f ON, after u, without a fall: it is soon enough, or the ring bears sparse faults from a cycle on.
   module _ (f u : CycleView) (b : List CycleView) (late : 1 ≤ f.phase) (calm : IsUndisturbed r carry restarts f (u ∷ b))
-      (stays_before : fall_of (known_of r) (behind_mdt r jobs carry restarts u.sent b) ≡ None) (still_before : restarts (length b) 0
-      ≡ false)
+      (stays_before : fall_of (known_of r) (behind_mdt r jobs carry restarts u.sent b) ≡ None)
+      (still_before : restarts (length b) 0 ≡ false)
       (stays_f : fall_of (known_of r) (behind_mdt r jobs carry restarts f.sent (u ∷ b)) ≡ None)
-      (known : (3 ≤ f.phase) ⊎ (IsUndisturbed r carry restarts u b × ((k : ℕ) → k < length r.drives
-      → (IsDown r jobs carry restarts k (f ∷ u ∷ b) → ⊥) → IsUp (view_of r jobs carry restarts k u b)
-      (views_of r jobs carry restarts k b))))
+      (known : (3 ≤ f.phase) ⊎ (IsUndisturbed r carry restarts u b × ((k : ℕ) → k < length r.drives → (IsDown r jobs carry restarts k (f ∷ u ∷ b) → ⊥) → IsUp (view_of r jobs carry restarts k u b) (views_of r jobs carry restarts k b))))
       (newer : List CycleView) (run : IsRun r jobs carry restarts (newer ++ f ∷ u ∷ b)) (clear : IsClear (newer ++ f ∷ u ∷ b))
       (sparse : AreSparse r carry restarts newer (f ∷ u ∷ b)) (stays : NoneFalls r jobs carry restarts newer (f ∷ u ∷ b)) where
     run_f : IsRun r jobs carry restarts (f ∷ u ∷ b)
@@ -259,42 +243,39 @@ module _ (laws : Laws) (more : MoreLaws) (turn : WorkInTurn) (early : BeginsNone
     settled_or_few = elim (down_or_up r jobs carry restarts (f ∷ u ∷ b)) [
       | inl found ↦ inl (record {
         none = λ none.
-            let few = falls_sparse laws more turn early two three comes_up to_zero goes counts dead ages recovers since in_cost timed
-            sections reads_cost writes_cost started greatest_is in_two in_three ready r jobs carry restarts opened f (u ∷ b) calm
-            (late_if found.0 found.1 found.2) found.0 found.1 found.2 held newer run clear sparse stays none in omega (arith, few);
+            let few = falls_sparse in_two in_three ready r jobs carry restarts opened f (u ∷ b) calm (late_if found.0 found.1 found.2)
+            found.0 found.1 found.2 held newer run clear sparse stays none in omega (arith, few);
         falls = λ g run_g clear_g sparse_g falls.
-            fall_sparse laws more turn early two three comes_up to_zero goes counts dead ages recovers since in_cost timed
-            sections reads_cost writes_cost started greatest_is in_two in_three ready r jobs carry restarts opened f (u ∷ b) calm
-            (late_if found.0 found.1 found.2) found.0 found.1 found.2 held g newer run_g clear_g (sparse, sparse_g) stays falls;
+            fall_sparse in_two in_three ready r jobs carry restarts opened f (u ∷ b) calm (late_if found.0 found.1 found.2) found.0 found.1
+            found.2 held g newer run_g clear_g (sparse, sparse_g) stays falls;
       })
-      | inr up ↦ elim (settles laws more turn comes_up to_zero goes counts r jobs carry restarts opened f (u ∷ b)
-          (first_held laws more turn comes_up to_zero goes counts r jobs carry restarts opened (λ k. k < length r.drives) (λ k below. below)
-          f u b run_f clear_f calm stays_before still_before stays_f (λ k below. up_at f (u ∷ b) run_f clear_f calm stays_f k below
-          (up k below)) (elim known [ inl high ↦ inl high | inr before ↦ inr (before.0, λ k below. before.1 k below (up k below)) ]))
+      | inr up ↦ elim (settles r jobs carry restarts opened f (u ∷ b)
+          (first_held r jobs carry restarts opened (λ k. k < length r.drives) (λ k below. below) f u b run_f clear_f calm stays_before
+          still_before stays_f (λ k below. up_at f (u ∷ b) run_f clear_f calm stays_f k below (up k below))
+          (elim known [ inl high ↦ inl high | inr before ↦ inr (before.0, λ k below. before.1 k below (up k below)) ]))
           late some_drive newer run clear sparse stays) [
             | inr x ↦ inr x
             | inl soon ↦ inl (soon_if 131 newer (f ∷ u ∷ b) (
-                let few = early_few laws more turn comes_up to_zero goes counts r jobs carry restarts opened (length (f ∷ u ∷ b))
-                (newer ++ f ∷ u ∷ b) soon in
+                let few = early_few r jobs carry restarts opened (length (f ∷ u ∷ b)) (newer ++ f ∷ u ∷ b) soon in
                 let parts = length-append newer (f ∷ u ∷ b) in omega (arith, few, parts)))
           ]
     ]
       where
-        held : IsHeld laws more turn comes_up to_zero goes counts r jobs carry restarts opened
-            (λ k. (k < length r.drives) × (IsDown r jobs carry restarts k (f ∷ u ∷ b) → ⊥)) (length (f ∷ u ∷ b)) f (u ∷ b)
-        held = first_held laws more turn comes_up to_zero goes counts r jobs carry restarts opened
-            (λ k. (k < length r.drives) × (IsDown r jobs carry restarts k (f ∷ u ∷ b) → ⊥)) (λ k here. here.0) f u b run_f clear_f calm
-            stays_before still_before stays_f (λ k here. up_at f (u ∷ b) run_f clear_f calm stays_f k here.0 here.1)
+        held : IsHeld r jobs carry restarts opened (λ k. (k < length r.drives) × (IsDown r jobs carry restarts k (f ∷ u ∷ b) → ⊥))
+            (length (f ∷ u ∷ b)) f (u ∷ b)
+        held = first_held r jobs carry restarts opened (λ k. (k < length r.drives) × (IsDown r jobs carry restarts k (f ∷ u ∷ b) → ⊥))
+            (λ k here. here.0) f u b run_f clear_f calm stays_before still_before stays_f
+            (λ k here. up_at f (u ∷ b) run_f clear_f calm stays_f k here.0 here.1)
             (elim known [ inl high ↦ inl high | inr before ↦ inr (before.0, λ k here. before.1 k here.0 here.1) ])
 
         late_if : (d : ℕ) → d < length r.drives → IsDown r jobs carry restarts d (f ∷ u ∷ b) → 2 ≤ f.phase
         late_if d there down = elim (cases_eq f.phase 1) [
-          | inl one ↦ (let is = up_in_one laws more turn comes_up r jobs carry restarts opened f (u ∷ b) run_f clear_f calm one d there in
+          | inl one ↦ (let is = up_in_one r jobs carry restarts opened f (u ∷ b) run_f clear_f calm one d there in
               absurd (omega (arith, is, down)))
           | inr other ↦ omega (arith, late, other)
         ]
 
-  -- a cut of the older cycles goes for all of them
+  -- a cut of the older cycles stays_a_run for all of them
   lifted : (n : ℕ) (cycles rest : List CycleView) (o : IsOpenedBy r jobs carry restarts cycles rest) → Settled n o.newer (o.first ∷ rest)
       → Settled n cycles rest
   lifted n cycles rest o x = record {
@@ -350,9 +331,7 @@ module _ (laws : Laws) (more : MoreLaws) (turn : WorkInTurn) (early : BeginsNone
       where
         never : StartsEpoch r jobs carry restarts (lost ∷ before) → ⊥
         never starts =
-            let zero_is_it = zero_is laws more turn comes_up to_zero goes counts r jobs carry restarts opened first (lost ∷ before) run
-            clear
-            starts still in omega (arith, zero_is_it, late)
+            let zero_is_it = zero_is r jobs carry restarts opened first (lost ∷ before) run clear starts still in omega (arith, zero_is_it, late)
 
         by_fall : (o : Option Fall) → fall_of (known_of r) (behind_mdt r jobs carry restarts lost.sent before) ≡ o
             → fall_of (known_of r) (behind_mdt r jobs carry restarts lost.sent before) ≡ None
@@ -405,8 +384,8 @@ module _ (laws : Laws) (more : MoreLaws) (turn : WorkInTurn) (early : BeginsNone
 
         late_too : 3 ≤ third.phase
         late_too =
-            let least = no_lower laws more turn r jobs carry restarts opened third second (first ∷ lost ∷ before) run_three clear_three
-            second_stays (third_sparse.goes_on 0 (omega arith)) 0 some_drive in omega (arith, least, late)
+            let least = no_lower r jobs carry restarts opened third second (first ∷ lost ∷ before) run_three clear_three second_stays
+            (third_sparse.goes_on 0 (omega arith)) 0 some_drive in omega (arith, least, late)
 
         third_calm : IsUndisturbed r carry restarts third (second ∷ first ∷ lost ∷ before)
         third_calm = elim (calm_or_not r carry restarts third (second ∷ first ∷ lost ∷ before)) [
@@ -442,18 +421,17 @@ module _ (laws : Laws) (more : MoreLaws) (turn : WorkInTurn) (early : BeginsNone
         clear_two = rest_clear newer (second ∷ first ∷ lost ∷ before) clear
 
         least : first.phase ≤ second.phase
-        least = no_lower laws more turn r jobs carry restarts opened second first (lost ∷ before) run_two clear_two first_stays
+        least = no_lower r jobs carry restarts opened second first (lost ∷ before) run_two clear_two first_stays
             (second_sparse.goes_on 0 (omega arith)) 0 some_drive
 
         was_up : (k : ℕ) → k < length r.drives → (IsDown r jobs carry restarts k (second ∷ first ∷ lost ∷ before) → ⊥)
             → IsUp (view_of r jobs carry restarts k first (lost ∷ before)) (views_of r jobs carry restarts k (lost ∷ before))
         was_up k below up = up_at first (lost ∷ before) run_two.0 clear_two.0 calm first_stays k below
             (λ down. elim (cases_eq first.phase 1) [
-              | inl one ↦ (let is = up_in_one laws more turn comes_up r jobs carry restarts opened first (lost ∷ before) run_two.0
-                  clear_two.0
-                  calm one k below in omega (arith, is, down))
-              | inr other ↦ up (stays_down_in laws more turn r jobs carry restarts opened dead second (first ∷ lost ∷ before) run_two
-                  clear_two k below down (omega (arith, other, late, least))).ended
+              | inl one ↦ (let is = up_in_one r jobs carry restarts opened first (lost ∷ before) run_two.0 clear_two.0 calm one k
+                  below in omega (arith, is, down))
+              | inr other ↦ up (stays_down_in r jobs carry restarts opened second (first ∷ lost ∷ before) run_two clear_two k below down
+                  (omega (arith, other, late, least))).ended
             ])
 
         known : IsUndisturbed r carry restarts second (first ∷ lost ∷ before) → (3 ≤ second.phase)
@@ -553,9 +531,8 @@ module _ (laws : Laws) (more : MoreLaws) (turn : WorkInTurn) (early : BeginsNone
         → AreSparse r carry restarts newer since_then → IsSparse r carry restarts t (cycles ++ lost ∷ before)
         → is_some (fall_of (known_of r) (behind_mdt r jobs carry restarts t.sent (cycles ++ lost ∷ before))) ≡ true → ⊥
     never_falls t cycles newer since_then run clear is base sparse newest falls =
-        false≢true (sym (ap (λ (o : Option Fall). is_some o) (borne_on laws more turn comes_up to_zero goes counts r jobs carry restarts
-        opened
-        t newer since_then (subst (λ (l : List CycleView). IsRun r jobs carry restarts (t ∷ l)) is run)
+        false≢true (sym (ap (λ (o : Option Fall). is_some o) (borne_on r jobs carry restarts opened t newer since_then
+        (subst (λ (l : List CycleView). IsRun r jobs carry restarts (t ∷ l)) is run)
         (subst (λ (l : List CycleView). IsClear (t ∷ l)) is clear) base
         (sparse, subst (λ (l : List CycleView). IsSparse r carry restarts t l) is newest)).stays)
         ∙ subst (λ (l : List CycleView). is_some (fall_of (known_of r) (behind_mdt r jobs carry restarts t.sent l)) ≡ true) is falls)
@@ -585,7 +562,7 @@ module _ (laws : Laws) (more : MoreLaws) (turn : WorkInTurn) (early : BeginsNone
           parts = length-append cycles (lost ∷ before)
 
           bound : 20 + 2 * length r.drives + sum_by section_two r.drives + greatest command_cycles r.drives ≤ startup_bound r
-          bound = within_bound started r
+          bound = within_bound r
 
           without : StandsSo cycles → IsReturned t cycles ⊎ IsSoon 134 cycles (lost ∷ before)
           without (Starts starts) = inl (record {
@@ -639,7 +616,7 @@ module _ (laws : Laws) (more : MoreLaws) (turn : WorkInTurn) (early : BeginsNone
       cause_at : (t : CycleView) (j : List CycleView) (x : Stop) → IsRun r jobs carry restarts (t ∷ j) → IsClear (t ∷ j)
           → (behind_mdt r jobs carry restarts t.sent j).stop ≡ Some x → StopsForCause r x
       cause_at t j x run clear is = caused r jobs carry restarts t j x (elim (cases_lt t.phase 2) [
-        | inl low ↦ absurd (none_some x (sym (early_in more early r jobs carry restarts (middle r carry restarts t.sent j)
+        | inl low ↦ absurd (none_some x (sym (early_in r jobs carry restarts (middle r carry restarts t.sent j)
             (let same = phase_now r jobs carry restarts t j run.1 in omega (arith, same, low))) ∙ is))
         | inr late ↦ elim (cases_eq t.phase 2) [
           | inl at_two ↦ elim (in_two r jobs carry restarts t j x opened run clear at_two is) [
@@ -678,7 +655,7 @@ module _ (laws : Laws) (more : MoreLaws) (turn : WorkInTurn) (early : BeginsNone
           too_long : length cycles ≤ 134 + sum_by section_two r.drives + start_costs r jobs carry restarts cycles (lost ∷ before) → ⊥
           too_long few =
               let parts = length-append cycles (lost ∷ before) in
-              let bound = within_bound started r in omega (arith, few, parts, bound, long)
+              let bound = within_bound r in omega (arith, few, parts, bound, long)
 
           with_soon : IsSoon 134 cycles (lost ∷ before) → (o : Option Stop)
               → (behind_mdt r jobs carry restarts t.sent (cycles ++ lost ∷ before)).stop ≡ o → (f : Option Fall)
@@ -691,10 +668,10 @@ module _ (laws : Laws) (more : MoreLaws) (turn : WorkInTurn) (early : BeginsNone
           with_soon soon (Some x) stop None stays = (
             inr (
               x,
-              stands_at more early r jobs carry restarts t (cycles ++ lost ∷ before) x run stays stop,
+              stands_at r jobs carry restarts t (cycles ++ lost ∷ before) x run stays stop,
               cause_at t (cycles ++ lost ∷ before) x run clear stop,
             ),
-            tells_going laws more r jobs carry restarts opened t (cycles ++ lost ∷ before) run clear on stays,
+            tells_going r jobs carry restarts opened t (cycles ++ lost ∷ before) run clear on stays,
           )
 
           from_base : IsReturned t cycles → IsBack r t (cycles ++ lost ∷ before) × TellsNoFall t
@@ -702,19 +679,17 @@ module _ (laws : Laws) (more : MoreLaws) (turn : WorkInTurn) (early : BeginsNone
               let run_is : IsRun r jobs carry restarts (t ∷ (x.newer ++ x.since_then)) =
               subst (λ (l : List CycleView). IsRun r jobs carry restarts (t ∷ l)) x.is run in
               let clear_is : IsClear (t ∷ (x.newer ++ x.since_then)) = subst (λ (l : List CycleView). IsClear (t ∷ l)) x.is clear in
-              let borne = borne_on laws more turn comes_up to_zero goes counts r jobs carry restarts opened t x.newer x.since_then run_is
-              clear_is x.base x.sparse in (
+              let borne = borne_on r jobs carry restarts opened t x.newer x.since_then run_is clear_is x.base x.sparse in (
                 subst (λ (l : List CycleView). IsBack r t l) (sym x.is) (elim (ends t x.newer x.since_then run_is clear_is x.base x.sparse
                     x.long) [
                       | inl four ↦ inl four
                       | inr stop ↦ inr (
                         stop.0,
-                        stands_at more early r jobs carry restarts t (x.newer ++ x.since_then) stop.0 run_is
-                            borne.stays stop.1,
+                        stands_at r jobs carry restarts t (x.newer ++ x.since_then) stop.0 run_is borne.stays stop.1,
                         stop.2,
                       )
                     ]),
-                tells_going laws more r jobs carry restarts opened t (x.newer ++ x.since_then) run_is clear_is borne.goes_on borne.stays,
+                tells_going r jobs carry restarts opened t (x.newer ++ x.since_then) run_is clear_is borne.goes_on borne.stays,
               )
 
   -- A RING THAT IS RIGHT needs no more cycles; any other 41 steps more of its slowest drive.
@@ -725,8 +700,8 @@ module _ (laws : Laws) (more : MoreLaws) (turn : WorkInTurn) (early : BeginsNone
       → (t.phase ≡ 4) × TellsNoFall t
   rises_back right lost before disturbed t cycles run clear sparse long =
       let back = back_again lost before disturbed 0 (λ v newer since_then run_v clear_v base sparse_v enough. inl (
-        rises_sparse laws more turn two three comes_up to_zero goes counts in_cost timed reads_cost writes_cost started greatest_is in_two
-            in_three ready r jobs carry restarts opened v newer since_then run_v clear_v base sparse_v right (omega (arith, enough)),
+        rises_sparse in_two in_three ready r jobs carry restarts opened v newer since_then run_v clear_v base sparse_v right
+            (omega (arith, enough)),
         right,
       )) t cycles run clear sparse (omega (arith, long)) in
       (right_four r t (cycles ++ lost ∷ before) right back.0, back.1)
@@ -738,9 +713,8 @@ module _ (laws : Laws) (more : MoreLaws) (turn : WorkInTurn) (early : BeginsNone
       ≤ length (cycles ++ lost ∷ before) → IsBack r t (cycles ++ lost ∷ before) × TellsNoFall t
   ends_back lost before disturbed t cycles run clear sparse long =
       back_again lost before disturbed (41 * (slowest r.drives + 2)) (λ v newer since_then run_v clear_v base sparse_v enough.
-      ends_so laws more turn two three comes_up to_zero goes counts in_cost timed reads_cost writes_cost list_cost started greatest_is
-      in_two
-      in_three in_four fit own r jobs carry restarts opened v newer since_then run_v clear_v base sparse_v enough) t cycles run clear sparse
+      ends_so in_two in_three in_four fit own r jobs carry restarts opened v newer since_then run_v clear_v base sparse_v
+      enough) t cycles run clear sparse
       long
 
   -- RECOVERY WHILE SPARSE FAULTS GO ON

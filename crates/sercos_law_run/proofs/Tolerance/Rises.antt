@@ -14,17 +14,11 @@ use Rattle.sercos_seat.specs.Channel.{outcomes_in}
 use Rattle.sercos_seat.specs.Ring.{known_of, member, tasks_for}
 use Rattle.sercos_master.specs.Annals.{Past, outcomes}
 use Rattle.sercos_script.specs.Links.{Carry, Restarts}
-use Rattle.sercos_law_channel.specs.Handshake.RunLaws.{ComesToZero, ComesUp}
-use Rattle.sercos_law_channel.specs.Pace.ChannelCalls.{AgesBeforeEnd, StaysARun}
-use Rattle.sercos_law_channel.specs.Pace.Costs.{ComesTimed, StaysInCost}
-use Rattle.sercos_law_channel.specs.Pace.Jobs.{ReadsCost, WritesCost}
-use Rattle.sercos_law_run.specs.Bounds.Bounds.{command_cycles, IsBelowGreatest, IsStarted}
+use Rattle.sercos_law_run.specs.Bounds.Bounds.{command_cycles}
 use Rattle.sercos_law_run.specs.Journal.Runs.{drive_at, looks_back, master_calls, IsClear, IsRun}
-use Rattle.sercos_law_run.specs.Agenda.Turns.{WorkInTurn, WorksInThree, WorksInTwo}
 use Rattle.sercos_law_run.specs.Views.RingViews.{behind_mdt, views_of}
 use Rattle.sercos_law_run.specs.Held.Opened.{IsOpened}
-use Rattle.sercos_law_run.proofs.Held.Runs.{Laws, drive_got}
-use Rattle.sercos_law_run.proofs.Headline.HeadlineRuns.{MoreLaws}
+use Rattle.sercos_law_run.proofs.Held.Runs.{drive_got}
 use Rattle.sercos_law_run.proofs.Typed.Mdts.{phase_low}
 use Rattle.sercos_law_run.specs.Undisturbed.StopsInTwo.{StopsInTwo}
 use Rattle.sercos_law_run.specs.Undisturbed.StopsLater.{IsRight, StopsInThree}
@@ -40,14 +34,10 @@ use Rattle.sercos_law_run.proofs.Tolerance.EarlySparse.{early_sparse, phase_is}
 use Rattle.sercos_law_run.proofs.Tolerance.NotYet.{AtRise, InEarly, InThree, InTwo, IsEpoch, IsUnready, NotYet, epoch_before, not_yet, same_costs}
 use Rattle.sercos_law_run.proofs.Tolerance.ThreeLasts.{three_sparse}
 use Rattle.sercos_law_run.proofs.Tolerance.TwoLasts.{two_sparse}
+use Rattle.sercos_law_run.proofs.Bounds.BoundSums.{is_below_greatest}
 
-module _ (laws : Laws) (more : MoreLaws) (turn : WorkInTurn) (two : WorksInTwo) (three : WorksInThree)
-    (comes_up : (busy : ℕ) → ComesUp busy)
-    (to_zero : (busy : ℕ) → ComesToZero busy) (goes : (busy : ℕ) → StaysARun busy) (counts : (busy : ℕ) → AgesBeforeEnd busy)
-    (in_cost : (busy : ℕ) → StaysInCost busy) (timed : ComesTimed) (reads_cost : (busy : ℕ) → ReadsCost busy)
-    (writes_cost : (busy : ℕ) → WritesCost busy) (started : IsStarted) (greatest_is : IsBelowGreatest) (in_two : StopsInTwo)
-    (in_three : StopsInThree) (ready : ReadyIfEnded)
-    (r : RingView) (jobs : List Job) (carry : Carry) (restarts : Restarts) (opened : IsOpened r jobs) where
+module _ (in_two : StopsInTwo) (in_three : StopsInThree) (ready : ReadyIfEnded) (r : RingView) (jobs : List Job) (carry : Carry)
+    (restarts : Restarts) (opened : IsOpened r jobs) where
   abbrev back : List CycleView → Past
   back j = looks_back r jobs (master_calls r carry restarts j)
 
@@ -55,19 +45,18 @@ module _ (laws : Laws) (more : MoreLaws) (turn : WorkInTurn) (two : WorksInTwo) 
   now t j = behind_mdt r jobs carry restarts t.sent j
 
   abbrev Borne : CycleView → List CycleView → Type 0
-  Borne t j = IsBorne laws more turn comes_up to_zero goes counts r jobs carry restarts opened t j
+  Borne t j = IsBorne r jobs carry restarts opened t j
 
   abbrev Base : List CycleView → Type 0
-  Base before = IsBase laws more turn comes_up to_zero goes counts r jobs carry restarts opened before
+  Base before = IsBase r jobs carry restarts opened before
 
   abbrev Epoch : List CycleView → List CycleView → Type 0
-  Epoch cycles before = IsEpoch laws more turn comes_up to_zero goes counts r jobs carry restarts opened cycles before
+  Epoch cycles before = IsEpoch r jobs carry restarts opened cycles before
 
   borne : (t : CycleView) (cycles before : List CycleView) → IsRun r jobs carry restarts (t ∷ (cycles ++ before))
       → IsClear (t ∷ (cycles ++ before)) → Base before → AreSparse r carry restarts (t ∷ cycles) before
       → Borne t (cycles ++ before)
-  borne t cycles before run clear starts sparse = borne_on laws more turn comes_up to_zero goes counts r jobs carry restarts opened t
-      cycles before run clear starts sparse
+  borne t cycles before run clear starts sparse = borne_on r jobs carry restarts opened t cycles before run clear starts sparse
 
   -- A RING THAT IS RIGHT has no stop.
   pub none_in_two : (t : CycleView) (j : List CycleView) → IsRun r jobs carry restarts (t ∷ j) → IsClear (t ∷ j) → t.phase ≡ 2 → IsRight r
@@ -104,41 +93,35 @@ module _ (laws : Laws) (more : MoreLaws) (turn : WorkInTurn) (two : WorksInTwo) 
       ])
     where
       begun : begun_by ((behind_mdt r jobs carry restarts u.sent j).calls k) ≡ epoch_begun (views_of r jobs carry restarts k (u ∷ j))
-      begun = begun_now laws more r jobs carry restarts opened u j run clear is.stays k there
+      begun = begun_now r jobs carry restarts opened u j run clear is.stays k there
 
   pub rises_sparse : (t : CycleView) (cycles before : List CycleView) → IsRun r jobs carry restarts (t ∷ (cycles ++ before))
       → IsClear (t ∷ (cycles ++ before)) → Base before → AreSparse r carry restarts (t ∷ cycles) before
       → IsRight r → startup_bound r + start_costs r jobs carry restarts cycles before ≤ length cycles → t.phase ≡ 4
   rises_sparse t cycles before run clear starts sparse right long = elim (cases_lt t.phase 4) [
     | inr high ↦ (let low = phase_low (known_of r) (tasks_for (known_of r) jobs) (master_calls r carry restarts (cycles ++ before)) in
-        let same = phase_is laws more turn comes_up to_zero goes counts r jobs carry restarts opened t (cycles ++ before) run
+        let same = phase_is r jobs carry restarts opened t (cycles ++ before) run
         (borne t cycles before run clear starts sparse) in omega (arith, high, low, same))
-    | inl low ↦ absurd (late (omega (arith, low)) (not_yet laws more turn comes_up to_zero goes counts r jobs carry restarts opened t cycles
-        before run clear starts sparse (let bound = within_bound started r in omega (arith, bound, long)) (omega (arith, low))
-        (λ is_three. none_in_three t
-        (cycles ++ before) run clear is_three right _ refl)))
+    | inl low ↦ absurd (late (omega (arith, low)) (not_yet r jobs carry restarts opened t cycles before run clear starts sparse
+        (let bound = within_bound r in omega (arith, bound, long)) (omega (arith, low))
+        (λ is_three. none_in_three t (cycles ++ before) run clear is_three right _ refl)))
   ]
     where
       with_costs : t.phase ≤ 3 → startup_bound r + (early_costs r jobs carry restarts cycles before + disturbances r carry restarts cycles
           before) ≤ length cycles
-      with_costs low = let same = same_costs laws more turn comes_up to_zero goes counts r jobs carry restarts opened t cycles before run
-          clear starts
-          sparse low in omega (arith, same, long)
+      with_costs low = let same = same_costs r jobs carry restarts opened t cycles before run clear starts sparse low in omega (arith, same, long)
 
       epoch : (l : List CycleView) → cycles ≡ l → Epoch l before
-      epoch l is = epoch_before laws more turn comes_up to_zero goes counts r jobs carry restarts opened t cycles before run clear sparse l
-          is
+      epoch l is = epoch_before r jobs carry restarts opened t cycles before run clear sparse l is
 
-      late : t.phase ≤ 3 → NotYet laws more turn comes_up to_zero goes counts r jobs carry restarts opened t cycles before → ⊥
+      late : t.phase ≤ 3 → NotYet r jobs carry restarts opened t cycles before → ⊥
       late low (InEarly early) =
-          let le = early_sparse laws more turn comes_up to_zero goes counts r jobs carry restarts opened t cycles before run clear starts
-          sparse early in
-          let bound = within_bound started r in
+          let le = early_sparse r jobs carry restarts opened t cycles before run clear starts sparse early in
+          let bound = within_bound r in
           let costs = with_costs low in omega (arith, le, bound, costs)
       late low (InTwo is_two) =
-          let le = two_sparse laws more turn two comes_up to_zero goes counts r jobs carry restarts opened in_cost timed reads_cost
-          writes_cost t cycles before run clear starts sparse is_two (none_in_two t (cycles ++ before) run clear is_two right _ refl) in
-          let bound = within_bound started r in
+          let le = two_sparse r jobs carry restarts opened t cycles before run clear starts sparse is_two (none_in_two t (cycles ++ before) run clear is_two right _ refl) in
+          let bound = within_bound r in
           let costs = with_costs low in omega (arith, le, bound, costs)
       late low (AtRise u rest is was_two none) = at_rise u rest is was_two none (epoch (u ∷ rest) is)
           (subst (λ (l : List CycleView). startup_bound r + (early_costs r jobs carry restarts l before + disturbances r carry restarts l
@@ -149,9 +132,8 @@ module _ (laws : Laws) (more : MoreLaws) (turn : WorkInTurn) (two : WorksInTwo) 
               → startup_bound r + (early_costs r jobs carry restarts (v ∷ older) before + disturbances r carry restarts (v ∷ older) before)
               ≤ suc (length older) → ⊥
           at_rise v older those two_is stop_none e enough =
-              let le = two_sparse laws more turn two comes_up to_zero goes counts r jobs carry restarts opened in_cost timed reads_cost
-              writes_cost v older before e.run e.clear starts e.sparse two_is stop_none in
-              let bound = within_bound started r in omega (arith, le, bound, enough)
+              let le = two_sparse r jobs carry restarts opened v older before e.run e.clear starts e.sparse two_is stop_none in
+              let bound = within_bound r in omega (arith, le, bound, enough)
       late low (InThree u rest is was_three then_three none unready) = at_three u rest (epoch
           (u ∷ rest) is) was_three then_three none unready
           (subst (λ (l : List CycleView). startup_bound r + (early_costs r jobs carry restarts l before + disturbances r carry restarts l
@@ -160,14 +142,13 @@ module _ (laws : Laws) (more : MoreLaws) (turn : WorkInTurn) (two : WorksInTwo) 
           at_three : (v : CycleView) (older : List CycleView) → Epoch (v ∷ older) before → v.phase ≡ 3
               → (looks_back r jobs (master_calls r carry restarts (v ∷ (older ++ before)))).now.phase ≡ 3
               → (looks_back r jobs (master_calls r carry restarts (v ∷ (older ++ before)))).stop ≡ None
-              → IsUnready laws more turn comes_up to_zero goes counts r jobs carry restarts opened v (older ++ before)
+              → IsUnready r jobs carry restarts opened v (older ++ before)
               → startup_bound r + (early_costs r jobs carry restarts (v ∷ older) before + disturbances r carry restarts (v ∷ older) before)
               ≤ suc (length older) → ⊥
           at_three v older e three_is then_is stop_none last enough =
-              let le = three_sparse laws more turn two three comes_up to_zero goes counts r jobs carry restarts opened in_cost timed
-              reads_cost writes_cost v older before e.run e.clear starts e.sparse three_is then_is stop_none last.place last.there
+              let le = three_sparse r jobs carry restarts opened v older before e.run e.clear starts e.sparse three_is then_is stop_none last.place last.there
               last.unready (few_in v (older ++ before) e.run e.clear (borne v older before e.run e.clear starts e.sparse) right last.place
               last.there last.unready) in
-              let most = greatest_is command_cycles r.drives last.place (drive_at r last.place) (command_cycles (drive_at r last.place))
+              let most = is_below_greatest command_cycles r.drives last.place (drive_at r last.place) (command_cycles (drive_at r last.place))
               (drive_got r last.place last.there) (omega arith) in
-              let bound = within_bound started r in omega (arith, le, most, bound, enough)
+              let bound = within_bound r in omega (arith, le, most, bound, enough)

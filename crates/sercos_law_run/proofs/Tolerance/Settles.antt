@@ -13,18 +13,15 @@ use Rattle.sercos_seat.specs.Ring.{known_of}
 use Rattle.sercos_master.specs.Annals.{count_addressed, fall_of}
 use Rattle.sercos_script.specs.Links.{Carry, Restarts}
 use Rattle.sercos_law_channel.specs.Handshake.Epochs.{begun_in, epoch_begun}
-use Rattle.sercos_law_channel.specs.Handshake.RunLaws.{ComesToZero, ComesUp}
 use Rattle.sercos_law_channel.specs.Handshake.Runs.{IsRun as IsViewRun}
 use Rattle.sercos_law_channel.specs.Handshake.Views.{View, processed_in}
-use Rattle.sercos_law_channel.specs.Pace.ChannelCalls.{AgesBeforeEnd, StaysARun, staying}
+use Rattle.sercos_law_channel.specs.Pace.ChannelCalls.{staying}
 use Rattle.sercos_law_channel.specs.Pace.Passages.{IsUp, IsWhole}
 use Rattle.sercos_law_run.specs.Journal.Runs.{drive_at, IsClear, IsDisturbed, IsRun}
-use Rattle.sercos_law_run.specs.Agenda.Turns.{WorkInTurn}
 use Rattle.sercos_law_run.specs.Views.RingViews.{behind_mdt, view_of, views_of}
 use Rattle.sercos_law_run.proofs.Views.ViewRuns.{views_count}
 use Rattle.sercos_law_run.specs.Held.Opened.{IsOpened}
-use Rattle.sercos_law_run.proofs.Held.Runs.{Laws}
-use Rattle.sercos_law_run.proofs.Headline.HeadlineRuns.{MoreLaws, all_stand}
+use Rattle.sercos_law_run.proofs.Headline.HeadlineRuns.{all_stand}
 use Rattle.sercos_law_run.specs.Undisturbed.StartUps.{NoneFalls}
 use Rattle.sercos_law_run.specs.Undisturbed.Undisturbed.{IsUndisturbed}
 use Rattle.sercos_law_run.proofs.Undisturbed.Comes.{calm_in}
@@ -40,6 +37,7 @@ use Rattle.sercos_law_run.proofs.Tolerance.FirstCycles.{never_first}
 use Rattle.sercos_law_run.proofs.Tolerance.Losses.{none_lost_in}
 use Rattle.sercos_law_run.proofs.Tolerance.Standing.{hears_whole, takes_whole}
 use Rattle.sercos_law_run.proofs.Tolerance.Steps.{IsYoungSince, young_at_last, young_first}
+use Rattle.sercos_law_channel.proofs.Pace.CallAges.{stays_a_run}
 
 never_both : (b : Bool) → b ≡ true → b ≡ false → ⊥
 never_both true on off = cc
@@ -57,9 +55,7 @@ calm_then : (r : RingView) (carry : Carry) (restarts : Restarts) (l : List Cycle
 calm_then r carry restarts l u older is disturbed calm =
     never_both _ disturbed (subst (λ (x : List CycleView). AreCalm r carry restarts 1 x) is calm).1
 
-module _ (laws : Laws) (more : MoreLaws) (turn : WorkInTurn) (comes_up : (busy : ℕ) → ComesUp busy)
-    (to_zero : (busy : ℕ) → ComesToZero busy) (goes : (busy : ℕ) → StaysARun busy) (counts : (busy : ℕ) → AgesBeforeEnd busy)
-    (r : RingView) (jobs : List Job) (carry : Carry) (restarts : Restarts) (opened : IsOpened r jobs) where
+module _ (r : RingView) (jobs : List Job) (carry : Carry) (restarts : Restarts) (opened : IsOpened r jobs) where
   abbrev view : ℕ → CycleView → List CycleView → View
   view k t j = view_of r jobs carry restarts k t j
 
@@ -70,20 +66,19 @@ module _ (laws : Laws) (more : MoreLaws) (turn : WorkInTurn) (comes_up : (busy :
   busy_of k = (drive_at r k).busy
 
   abbrev Held : (ℕ → Type 0) → ℕ → CycleView → List CycleView → Type 0
-  Held among since t j = IsHeld laws more turn comes_up to_zero goes counts r jobs carry restarts opened among since t j
+  Held among since t j = IsHeld r jobs carry restarts opened among since t j
 
   abbrev Borne : CycleView → List CycleView → Type 0
-  Borne t j = IsBorne laws more turn comes_up to_zero goes counts r jobs carry restarts opened t j
+  Borne t j = IsBorne r jobs carry restarts opened t j
 
   abbrev Stood : List CycleView → Type 0
-  Stood j = HasStood laws more turn comes_up to_zero goes counts r jobs carry restarts opened j
+  Stood j = HasStood r jobs carry restarts opened j
 
   -- A CYCLE t, after u, in which nothing is lost, and some drives are in the commanded phase: whatever was lost before u
   module _ (among : ℕ → Type 0) (within : (k : ℕ) → among k → k < length r.drives) (t u : CycleView) (j : List CycleView)
       (run : IsRun r jobs carry restarts (t ∷ u ∷ j)) (clear : IsClear (t ∷ u ∷ j)) (calm : IsUndisturbed r carry restarts t (u ∷ j))
-      (stays_before : fall_of (known_of r) (behind_mdt r jobs carry restarts u.sent j) ≡ None) (still_before : restarts (length j) 0
-      ≡ false)
-      (stays : fall_of (known_of r) (behind_mdt r jobs carry restarts t.sent (u ∷ j)) ≡ None)
+      (stays_before : fall_of (known_of r) (behind_mdt r jobs carry restarts u.sent j) ≡ None)
+      (still_before : restarts (length j) 0 ≡ false) (stays : fall_of (known_of r) (behind_mdt r jobs carry restarts t.sent (u ∷ j)) ≡ None)
       (up : (k : ℕ) → among k → IsUp (view k t (u ∷ j)) (views k (u ∷ j)))
       (known : (3 ≤ t.phase) ⊎ (IsUndisturbed r carry restarts u j × ((k : ℕ) → among k → IsUp (view k u j) (views k j)))) where
     goes_now : restarts (length (u ∷ j)) 0 ≡ false
@@ -94,11 +89,11 @@ module _ (laws : Laws) (more : MoreLaws) (turn : WorkInTurn) (comes_up : (busy :
 
     module _ (k : ℕ) (here : among k) where
       run_first : IsViewRun (busy_of k) (staying (view k t (u ∷ j)) ∷ views k (u ∷ j))
-      run_first = goes (busy_of k) (view k t (u ∷ j)) (views k (u ∷ j))
-          (all_stand laws more r jobs carry restarts opened (t ∷ u ∷ j) run clear k (within k here)).sees.run
+      run_first = stays_a_run (busy_of k) (view k t (u ∷ j)) (views k (u ∷ j))
+          (all_stand r jobs carry restarts opened (t ∷ u ∷ j) run clear k (within k here)).sees.run
 
       whole_first : IsWhole (staying (view k t (u ∷ j))) (views k (u ∷ j))
-      whole_first = whole_in laws more turn r jobs carry restarts opened t (u ∷ j) run clear calm k (within k here)
+      whole_first = whole_in r jobs carry restarts opened t (u ∷ j) run clear calm k (within k here)
 
       takes_first : is_some (open_in (begun_in (staying (view k t (u ∷ j))) (views k (u ∷ j)))) ≡ true
           → is_some (processed_in (staying (view k t (u ∷ j))) (views k (u ∷ j))) ≡ true
@@ -106,12 +101,11 @@ module _ (laws : Laws) (more : MoreLaws) (turn : WorkInTurn) (comes_up : (busy :
 
       hears_first : is_some (open_in (epoch_begun (views k (u ∷ j)))) ≡ true → is_some (view k t (u ∷ j)).heard ≡ true
       hears_first = hears_whole (busy_of k) (staying (view k t (u ∷ j))) (view k u j) (views k j) run_first (u_stays k) whole_first
-          (up k here) (phase_after laws more turn r jobs carry restarts opened t u j run clear stays_before goes_now k (within k here))
+          (up k here) (phase_after r jobs carry restarts opened t u j run clear stays_before goes_now k (within k here))
           (elim known [
             | inl late ↦ inl late
             | inr before ↦ inr (
-              whole_at laws more turn r jobs carry restarts opened u j run.0 clear.0 before.0 stays_before k
-                  (within k here),
+              whole_at r jobs carry restarts opened u j run.0 clear.0 before.0 stays_before k (within k here),
               before.1 k here,
             )
           ])
@@ -128,8 +122,8 @@ module _ (laws : Laws) (more : MoreLaws) (turn : WorkInTurn) (comes_up : (busy :
           let same = phase_now r jobs carry restarts t (u ∷ j) run.1 in
           elim known [
             | inl late ↦ absurd (omega (arith, same, late, one))
-            | inr before ↦ (let none = addressed_once laws more comes_up r jobs carry restarts opened t u j run clear calm before.0
-                (sym same ∙ one) k (within k here) to in omega (arith, none))
+            | inr before ↦ (let none = addressed_once r jobs carry restarts opened t u j run clear calm before.0 (sym same ∙ one) k
+                (within k here) to in omega (arith, none))
           ]
 
     pub first_held : Held among (length (t ∷ u ∷ j)) t (u ∷ j)
@@ -138,9 +132,9 @@ module _ (laws : Laws) (more : MoreLaws) (turn : WorkInTurn) (comes_up : (busy :
       goes_on = goes_now;
       up = λ now k here. up k here;
       near = λ one k here. inl (up k here);
-      first = λ k here first done. never_first laws more comes_up r jobs carry restarts opened t u j run clear stays_before goes_now
-          still_before first done k (within k here);
-      aged = λ k here. aged_after laws more turn comes_up to_zero goes counts r jobs carry restarts opened (length (t ∷ u ∷ j)) t (u ∷ j) k
+      first = λ k here first done. never_first r jobs carry restarts opened t u j run clear stays_before goes_now still_before first done k
+          (within k here);
+      aged = λ k here. aged_after r jobs carry restarts opened (length (t ∷ u ∷ j)) t (u ∷ j) k
           stays (aged_all r carry restarts (length (t ∷ u ∷ j)) (busy_of k) t (u ∷ j) (staying (view k t (u ∷ j)) ∷ views k (u ∷ j))
           (young_now k here));
       asked = λ k here. record {
@@ -162,11 +156,10 @@ module _ (laws : Laws) (more : MoreLaws) (turn : WorkInTurn) (comes_up : (busy :
     pub held_all : (cycles : List CycleView) → IsRun r jobs carry restarts (cycles ++ f ∷ b) → IsClear (cycles ++ f ∷ b)
         → AreSparse r carry restarts cycles (f ∷ b) → NoneFalls r jobs carry restarts cycles (f ∷ b) → HeldAt (cycles ++ f ∷ b)
     held_all [] run clear sparse stays = first
-    held_all (t ∷ []) run clear sparse stays = next_held laws more turn comes_up to_zero goes counts r jobs carry restarts opened among
-        within
-        since t f b run clear first sparse.1 stays.1
-    held_all (t ∷ u ∷ cycles) run clear sparse stays = next_held laws more turn comes_up to_zero goes counts r jobs carry restarts opened
-        among within since t u (cycles ++ f ∷ b) run clear (held_all (u ∷ cycles) run.0 clear.0 sparse.0 stays.0) sparse.1 stays.1
+    held_all (t ∷ []) run clear sparse stays = next_held r jobs carry restarts opened among within since t f b run clear first sparse.1
+        stays.1
+    held_all (t ∷ u ∷ cycles) run clear sparse stays = next_held r jobs carry restarts opened among within since t u (cycles ++ f ∷ b) run
+        clear (held_all (u ∷ cycles) run.0 clear.0 sparse.0 stays.0) sparse.1 stays.1
 
   -- ALL DRIVES: once the steps that were open in the first cycle have had their time, none is old.
   abbrev every : (k : ℕ) → k < length r.drives → k < length r.drives
@@ -222,11 +215,11 @@ module _ (laws : Laws) (more : MoreLaws) (turn : WorkInTurn) (comes_up : (busy :
         → IsClear (t ∷ (cycles ++ f ∷ b)) → AreSparse r carry restarts (t ∷ cycles) (f ∷ b)
         → NoneFalls r jobs carry restarts (t ∷ cycles) (f ∷ b) → 1 ≤ t.phase
     late_all t [] run clear sparse stays =
-        let least = no_lower laws more turn r jobs carry restarts opened t f b run clear first.stays (sparse.1.goes_on 0 (omega arith)) 0
+        let least = no_lower r jobs carry restarts opened t f b run clear first.stays (sparse.1.goes_on 0 (omega arith)) 0
         some_drive in omega (arith, least, late)
     late_all t (u ∷ cycles) run clear sparse stays =
-        let least = no_lower laws more turn r jobs carry restarts opened t u (cycles ++ f ∷ b) run clear stays.0.1
-        (sparse.1.goes_on 0 (omega arith)) 0 some_drive in
+        let least = no_lower r jobs carry restarts opened t u (cycles ++ f ∷ b) run clear stays.0.1 (sparse.1.goes_on 0 (omega arith)) 0
+        some_drive in
         let before = late_all u cycles run.0 clear.0 sparse.0 stays.0 in omega (arith, least, before)
 
     newer_by : (t : CycleView) (cycles : List CycleView) → IsSparse r carry restarts t (cycles ++ f ∷ b)

@@ -4,27 +4,19 @@ use Rattle.sercos_step.specs.declared.request.Job.{Job}
 use Rattle.sercos_block.specs.Views.{RingView}
 use Rattle.sercos_trace.specs.Views.{CycleView}
 use Rattle.sercos_script.specs.Links.{Carry, Restarts}
-use Rattle.sercos_law_channel.specs.Handshake.RunLaws.{ComesToZero, ComesUp}
-use Rattle.sercos_law_channel.specs.Pace.ChannelCalls.{AgesBeforeEnd, StaysARun}
 use Rattle.sercos_law_run.specs.Journal.Runs.{drive_at, IsClear, IsRun}
-use Rattle.sercos_law_run.specs.Agenda.Turns.{WorkInTurn}
 use Rattle.sercos_law_run.specs.Views.RingViews.{views_of}
 use Rattle.sercos_law_run.specs.Held.Opened.{IsOpened}
-use Rattle.sercos_law_run.proofs.Held.Runs.{Laws}
-use Rattle.sercos_law_run.proofs.Headline.HeadlineRuns.{MoreLaws}
 use Rattle.sercos_law_run.specs.Undisturbed.EpochStarts.{StartsEpoch}
 use Rattle.sercos_law_run.specs.Tolerance.Sparse.{AreSparse}
 use Rattle.sercos_law_run.proofs.Tolerance.Borne.{IsBorne, all_borne, before_lost, calm_or_not, zero_is}
 use Rattle.sercos_law_run.proofs.Tolerance.Steps.{IsYoung}
 
-module _ (laws : Laws) (more : MoreLaws) (turn : WorkInTurn) (comes_up : (busy : ℕ) → ComesUp busy)
-    (to_zero : (busy : ℕ) → ComesToZero busy) (goes : (busy : ℕ) → StaysARun busy) (counts : (busy : ℕ) → AgesBeforeEnd busy)
-    (r : RingView) (jobs : List Job) (carry : Carry) (restarts : Restarts) (opened : IsOpened r jobs) where
+module _ (r : RingView) (jobs : List Job) (carry : Carry) (restarts : Restarts) (opened : IsOpened r jobs) where
   borne : (t : CycleView) (cycles before : List CycleView) → IsRun r jobs carry restarts (t ∷ (cycles ++ before))
       → IsClear (t ∷ (cycles ++ before)) → StartsEpoch r jobs carry restarts before → AreSparse r carry restarts (t ∷ cycles) before
-      → IsBorne laws more turn comes_up to_zero goes counts r jobs carry restarts opened t (cycles ++ before)
-  borne t cycles before run clear starts sparse = all_borne laws more turn comes_up to_zero goes counts r jobs carry restarts opened t
-      cycles before run clear starts sparse
+      → IsBorne r jobs carry restarts opened t (cycles ++ before)
+  borne t cycles before run clear starts sparse = all_borne r jobs carry restarts opened t cycles before run clear starts sparse
 
   pub spared_in : (t : CycleView) (cycles before : List CycleView) → IsRun r jobs carry restarts (t ∷ (cycles ++ before))
       → IsClear (t ∷ (cycles ++ before)) → StartsEpoch r jobs carry restarts before → AreSparse r carry restarts (t ∷ cycles) before
@@ -33,13 +25,12 @@ module _ (laws : Laws) (more : MoreLaws) (turn : WorkInTurn) (comes_up : (busy :
       ⊎ (IsYoung (drive_at r k).busy 1 1 (views_of r jobs carry restarts k (t ∷ (cycles ++ before)))
       × IsYoung (drive_at r k).busy 0 0 (views_of r jobs carry restarts k (cycles ++ before)))
   spared_in t [] before run clear starts sparse late k below =
-      let none = zero_is laws more turn comes_up to_zero goes counts r jobs carry restarts opened t before run clear starts
-      (sparse.1.goes_on 0 (omega arith)) in absurd (omega (arith, none, late))
+      let none = zero_is r jobs carry restarts opened t before run clear starts (sparse.1.goes_on 0 (omega arith)) in absurd (omega (arith, none, late))
   spared_in t (u ∷ rest) before run clear starts sparse late k below = elim (calm_or_not r carry restarts t (u ∷ (rest ++ before))) [
     | inr calm ↦ inl (((borne t (u ∷ rest) before run clear starts sparse).aged k below).calm calm (inl late))
     | inl disturbed ↦ inr (
       ((borne t (u ∷ rest) before run clear starts sparse).aged k below).lost disturbed,
-      before_lost laws more turn comes_up to_zero goes counts r jobs carry restarts opened t u (rest ++ before) run clear
-          (borne u rest before run.0 clear.0 starts sparse.0) sparse.1 k below disturbed (omega (arith, late)),
+      before_lost r jobs carry restarts opened t u (rest ++ before) run clear (borne u rest before run.0 clear.0 starts sparse.0) sparse.1 k
+          below disturbed (omega (arith, late)),
     )
   ]

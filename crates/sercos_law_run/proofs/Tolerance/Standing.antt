@@ -4,7 +4,6 @@ use Rattle.std.specs.Prelude.{nat_le, is_some}
 use Rattle.std.proofs.lemmas.Bool.{and_from, cond-false, cond-true, false≢true, le-leb, leb-true}
 use Rattle.sercos_service_master.specs.Begun.{Begun, Said, open_in}
 use Rattle.sercos_law_channel.specs.Handshake.Epochs.{begun_in, epoch_begun}
-use Rattle.sercos_law_channel.specs.Handshake.RunLaws.{StandsNoLater}
 use Rattle.sercos_law_channel.specs.Handshake.Runs.{IsRun}
 use Rattle.sercos_law_channel.specs.Handshake.Views.{Standing, View, afresh, before_mst, got_in, moved, processed_in, processed_of, record_in, standing, stood_in, takes_in}
 use Rattle.sercos_law_channel.specs.Pace.ChannelCalls.{staying}
@@ -13,6 +12,7 @@ use Rattle.sercos_law_channel.proofs.Theorems.{comes_to, ends, open_late, stands
 use Rattle.sercos_law_channel.proofs.Handshake.RunFacts.{moved_same}
 use Rattle.sercos_law_channel.proofs.Pace.WholeCycles.{got_some, moved_next}
 use Rattle.sercos_law_run.specs.Tolerance.Bears.{IsBehind}
+use Rattle.sercos_law_channel.proofs.Handshake.RunFacts.{stands_no_later}
 
 -- a cycle at whose end the master doesn't fall
 pub stays_same : (v : View) → v.falls ≡ false → staying v ≡ v
@@ -41,9 +41,9 @@ zero_up v past comes zero =
     let stood : stood_in v (standing past) ≡ 0 = elim (stands_as_commanded v past comes) [ inl z ↦ z | inr same ↦ same ∙ zero ] in
     (stood ∙ sym zero, elim (ends v past) [ inl z ↦ z ∙ sym zero | inr same ↦ same ∙ stood ∙ sym zero ])
 
-pub zero_again : StandsNoLater → (v u : View) (past : List View) → v.phase ≡ 0 → u.phase ≡ 0 → IsUp v (u ∷ past)
-zero_again no_later v u past zero before =
-    let most : stood_in v (standing (u ∷ past)) ≤ max v.phase u.phase = no_later v (u ∷ past) in
+pub zero_again : (v u : View) (past : List View) → v.phase ≡ 0 → u.phase ≡ 0 → IsUp v (u ∷ past)
+zero_again v u past zero before =
+    let most : stood_in v (standing (u ∷ past)) ≤ max v.phase u.phase = stands_no_later v (u ∷ past) in
     let none : max v.phase u.phase ≡ 0 = ap₂ (λ (m n : ℕ). max m n) zero before in
     let stood : stood_in v (standing (u ∷ past)) ≡ 0 = omega (arith, most, none) in
     (stood ∙ sym zero, elim (ends v (u ∷ past)) [ inl z ↦ z ∙ sym zero | inr same ↦ same ∙ stood ∙ sym zero ])

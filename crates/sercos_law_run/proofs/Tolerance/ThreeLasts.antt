@@ -15,23 +15,19 @@ use Rattle.sercos_seat.specs.Ring.{known_of, member}
 use Rattle.sercos_master.specs.Annals.{Past, is_done}
 use Rattle.sercos_script.specs.Links.{Carry, Restarts}
 use Rattle.sercos_law_channel.specs.Handshake.Epochs.{begun_in, epoch_begun, unless_restart, with_heard}
-use Rattle.sercos_law_channel.specs.Handshake.RunLaws.{ComesToZero, ComesUp}
 use Rattle.sercos_law_channel.specs.Handshake.Views.{View}
-use Rattle.sercos_law_channel.specs.Pace.ChannelCalls.{AgesBeforeEnd, StaysARun}
-use Rattle.sercos_law_channel.specs.Pace.Costs.{ComesTimed, StaysInCost, cost_in, cost_of}
-use Rattle.sercos_law_channel.specs.Pace.Jobs.{ReadsCost, WritesCost}
+use Rattle.sercos_law_channel.specs.Pace.Costs.{cost_in, cost_of}
 use Rattle.sercos_law_channel.specs.Pace.Stretches.{open_since}
 use Rattle.sercos_law_channel.specs.Pace.Times.{one_more}
 use Rattle.sercos_law_run.specs.Bounds.Bounds.{command_cycles}
 use Rattle.sercos_law_run.specs.Journal.Arrivals.{sum_below}
 use Rattle.sercos_law_run.specs.Journal.Runs.{drive_at, is_disturbed_in, looks_back, master_calls, IsClear, IsRun}
-use Rattle.sercos_law_run.specs.Agenda.Turns.{WorkInTurn, WorksInThree, WorksInTwo}
 use Rattle.sercos_law_run.proofs.Start.CheckPasses.{ring_drive}
 use Rattle.sercos_law_run.specs.Views.RingViews.{at_start, behind_mdt, view_of, views_of}
 use Rattle.sercos_law_run.proofs.Held.Extended.{heard_more}
 use Rattle.sercos_law_run.specs.Held.Opened.{IsOpened}
-use Rattle.sercos_law_run.proofs.Held.Runs.{Laws, drive_got, holding}
-use Rattle.sercos_law_run.proofs.Headline.HeadlineRuns.{MoreLaws, all_stand, first_store, spelled_in, stored_in}
+use Rattle.sercos_law_run.proofs.Held.Runs.{drive_got, holding}
+use Rattle.sercos_law_run.proofs.Headline.HeadlineRuns.{all_stand, first_store, spelled_in, stored_in}
 use Rattle.sercos_law_run.specs.Undisturbed.Jobs.{jobs_of, AreAt}
 use Rattle.sercos_law_run.specs.Undisturbed.Sections.{GoesOnInThree}
 use Rattle.sercos_law_run.specs.Undisturbed.ViewsSince.{views_since}
@@ -53,6 +49,7 @@ use Rattle.sercos_law_run.proofs.Tolerance.CostsSparse.{calm_next, disturbed_mor
 use Rattle.sercos_law_run.proofs.Tolerance.EarlySparse.{phase_is, phase_next, start_is}
 use Rattle.sercos_law_run.proofs.Tolerance.FirstCycles.{begun_outcomes}
 use Rattle.sercos_law_run.proofs.Tolerance.TwoLasts.{each_fits, low_before, two_counts}
+use Rattle.sercos_law_channel.proofs.Pace.JobCosts.{reads_cost, writes_cost}
 
 -- SUMS without one place
 abbrev pub without : ℕ → (ℕ → ℕ) → ℕ → ℕ
@@ -105,12 +102,7 @@ no_fewer : (b : Bool) (n : ℕ) → n ≤ one_more b n
 no_fewer true n = omega arith
 no_fewer false n = omega arith
 
-module _ (laws : Laws) (more : MoreLaws) (turn : WorkInTurn) (two : WorksInTwo) (three : WorksInThree)
-    (comes_up : (busy : ℕ) → ComesUp busy)
-    (to_zero : (busy : ℕ) → ComesToZero busy) (goes : (busy : ℕ) → StaysARun busy) (counts : (busy : ℕ) → AgesBeforeEnd busy)
-    (r : RingView) (jobs : List Job) (carry : Carry) (restarts : Restarts) (opened : IsOpened r jobs)
-    (in_cost : (busy : ℕ) → StaysInCost busy) (timed : ComesTimed) (reads_cost : (busy : ℕ) → ReadsCost busy)
-    (writes_cost : (busy : ℕ) → WritesCost busy) where
+module _ (r : RingView) (jobs : List Job) (carry : Carry) (restarts : Restarts) (opened : IsOpened r jobs) where
   abbrev back : List CycleView → Past
   back j = looks_back r jobs (master_calls r carry restarts j)
 
@@ -118,10 +110,10 @@ module _ (laws : Laws) (more : MoreLaws) (turn : WorkInTurn) (two : WorksInTwo) 
   now t j = behind_mdt r jobs carry restarts t.sent j
 
   abbrev Borne : CycleView → List CycleView → Type 0
-  Borne t j = IsBorne laws more turn comes_up to_zero goes counts r jobs carry restarts opened t j
+  Borne t j = IsBorne r jobs carry restarts opened t j
 
   abbrev Base : List CycleView → Type 0
-  Base before = IsBase laws more turn comes_up to_zero goes counts r jobs carry restarts opened before
+  Base before = IsBase r jobs carry restarts opened before
 
   abbrev spare : CycleView → List CycleView → ℕ
   spare t j = if is_disturbed_in r carry restarts (length j) t.sent then spare_for t.phase else 0
@@ -147,8 +139,7 @@ module _ (laws : Laws) (more : MoreLaws) (turn : WorkInTurn) (two : WorksInTwo) 
   borne : (t : CycleView) (cycles before : List CycleView) → IsRun r jobs carry restarts (t ∷ (cycles ++ before))
       → IsClear (t ∷ (cycles ++ before)) → Base before → AreSparse r carry restarts (t ∷ cycles) before
       → Borne t (cycles ++ before)
-  borne t cycles before run clear starts sparse = borne_on laws more turn comes_up to_zero goes counts r jobs carry restarts opened t
-      cycles before run clear starts sparse
+  borne t cycles before run clear starts sparse = borne_on r jobs carry restarts opened t cycles before run clear starts sparse
 
   -- WHAT A CYCLE MORE LOSES of one channel
   lost_more : (t u : CycleView) (cycles before : List CycleView) → IsRun r jobs carry restarts (t ∷ u ∷ (cycles ++ before))
@@ -160,13 +151,11 @@ module _ (laws : Laws) (more : MoreLaws) (turn : WorkInTurn) (two : WorksInTwo) 
       (lost_of (u ∷ cycles) before k) + spare t (u ∷ (cycles ++ before))
       ≤ lost_of (u ∷ cycles) before k + spare u (cycles ++ before) + costs t (u ∷ (cycles ++ before)))
       (views_split r jobs carry restarts k (u ∷ cycles) before) (elim (calm_or_not r carry restarts t (u ∷ (cycles ++ before))) [
-        | inl on ↦ disturbed_more laws more turn comes_up to_zero goes counts r jobs carry restarts opened k below t
-            (u ∷ (cycles ++ before)) run clear on (lost_of (u ∷ cycles) before k)
-            (lost_of (u ∷ cycles) before k + spare u (cycles ++ before)) (omega arith)
-        | inr off ↦ calm_next laws more turn comes_up to_zero goes counts r jobs carry restarts opened k below t u (cycles ++ before) run
-            clear (borne u cycles before run.0 clear.0 starts sparse.0) sparse.1
-            (borne t (u ∷ cycles) before run clear starts sparse) off (lost_of (u ∷ cycles) before k)
-            (lost_of (u ∷ cycles) before k + spare u (cycles ++ before)) (omega arith)
+        | inl on ↦ disturbed_more r jobs carry restarts opened k below t (u ∷ (cycles ++ before)) run clear on
+            (lost_of (u ∷ cycles) before k) (lost_of (u ∷ cycles) before k + spare u (cycles ++ before)) (omega arith)
+        | inr off ↦ calm_next r jobs carry restarts opened k below t u (cycles ++ before) run clear
+            (borne u cycles before run.0 clear.0 starts sparse.0) sparse.1 (borne t (u ∷ cycles) before run clear starts sparse) off
+            (lost_of (u ∷ cycles) before k) (lost_of (u ∷ cycles) before k + spare u (cycles ++ before)) (omega arith)
       ])
 
   -- UP TO THE RISE, by the cycles of one drive and the sections of the others
@@ -178,9 +167,8 @@ module _ (laws : Laws) (more : MoreLaws) (turn : WorkInTurn) (two : WorksInTwo) 
       ≤ 11 + length r.drives + early_costs r jobs carry restarts (t ∷ cycles) before + others k + opens_of (t ∷ cycles) before k +
       disturbances r carry restarts (t ∷ cycles) before
   at_rise t cycles before run clear starts sparse is_two none low k below =
-      let counted = two_counts laws more turn two comes_up to_zero goes counts r jobs carry restarts opened (t ∷ cycles) before run clear
-      starts sparse is_two none in
-      let few = all_few laws more turn comes_up to_zero goes counts r jobs carry restarts opened t cycles before run clear starts sparse low
+      let counted = two_counts r jobs carry restarts opened (t ∷ cycles) before run clear starts sparse is_two none in
+      let few = all_few r jobs carry restarts opened t cycles before run clear starts sparse low
       in
       let opens = sum_split (length r.drives) k (opens_of (t ∷ cycles) before) below in
       let losts = sum_split (length r.drives) k (lost_of (t ∷ cycles) before) below in
@@ -192,10 +180,10 @@ module _ (laws : Laws) (more : MoreLaws) (turn : WorkInTurn) (two : WorksInTwo) 
     where
       one : (j : ℕ) → j < length r.drives → opens_of (t ∷ cycles) before j ≤ sec j + lost_of (t ∷ cycles) before j
       one j j_low =
-          let cost = opens_so laws more turn comes_up to_zero goes counts r jobs carry restarts opened in_cost timed (t ∷ cycles) before run
-          clear starts sparse j (λ raw. 512) j_low (listed_all (views_of r jobs carry restarts j (t ∷ (cycles ++ before)))) in
-          let fits = each_fits laws more turn two comes_up to_zero goes counts r jobs carry restarts opened reads_cost writes_cost t
-          (cycles ++ before) run clear (borne t cycles before run clear starts sparse).stays low j j_low in omega (arith, cost, fits)
+          let cost = opens_so r jobs carry restarts opened (t ∷ cycles) before run clear starts sparse j (λ raw. 512) j_low
+          (listed_all (views_of r jobs carry restarts j (t ∷ (cycles ++ before)))) in
+          let fits = each_fits r jobs carry restarts opened t (cycles ++ before) run clear
+          (borne t cycles before run clear starts sparse).stays low j j_low in omega (arith, cost, fits)
 
   -- a drive that isn't ready at the end of a cycle wasn't before
   pub unready_start : (t : CycleView) (j : List CycleView) → Borne t j → (k : ℕ) → is_unready k (t ∷ j)
@@ -210,7 +198,7 @@ module _ (laws : Laws) (more : MoreLaws) (turn : WorkInTurn) (two : WorksInTwo) 
 
       same : outcomes_in (epoch_begun (views_of r jobs carry restarts k (t ∷ j))) ≡ outcomes_in
           (with_heard (view_of r jobs carry restarts k t j).heard (epoch_begun (views_of r jobs carry restarts k j)))
-      same = ap outcomes_in (begun_end laws more r jobs carry restarts opened t j run clear is.stays k)
+      same = ap outcomes_in (begun_end r jobs carry restarts opened t j run clear is.stays k)
           ∙ begun_outcomes (view_of r jobs carry restarts k t j).begins
           (with_heard (view_of r jobs carry restarts k t j).heard (unless_restart (view_of r jobs carry restarts k t j)
           (epoch_begun (views_of r jobs carry restarts k j))))
@@ -222,9 +210,9 @@ module _ (laws : Laws) (more : MoreLaws) (turn : WorkInTurn) (two : WorksInTwo) 
       → k < length r.drives → (plan : PlanView) × ((behind_mdt r jobs carry restarts t.sent j).plan ≡ Some plan)
   planned t j (run, next) (before, clear) is_three k below =
       let at_three : (at_start r jobs carry restarts j).now.phase ≡ 3 = sym next.phase ∙ is_three in
-      let held = holding laws r jobs carry restarts opened (first_store laws more r jobs carry restarts opened) t j next clear
-      (spelled_in laws more r jobs carry restarts opened t j next) (stored_in laws more r jobs carry restarts opened t j)
-      (all_stand laws more r jobs carry restarts opened j run before) (omega (arith, at_three)) k below in
+      let held = holding r jobs carry restarts opened (first_store r jobs carry restarts opened) t j next clear
+      (spelled_in r jobs carry restarts opened t j next) (stored_in r jobs carry restarts opened t j)
+      (all_stand r jobs carry restarts opened j run before) (omega (arith, at_three)) k below in
       (held.0, held.1.now)
 
   -- IN PHASE 3 a drive that isn't ready has an open step in each cycle.
@@ -240,12 +228,12 @@ module _ (laws : Laws) (more : MoreLaws) (turn : WorkInTurn) (two : WorksInTwo) 
         goes_on = none;
         planned = ap (λ (o : Option PlanView). is_some o) (planned t j run clear is_three k below).1;
         unready = ap (λ (l : List Begun). is_ready (member (known_of r) k) (outcomes_in l))
-            (begun_now laws more r jobs carry restarts opened t j run clear is.stays k below) ∙ unready;
+            (begun_now r jobs carry restarts opened t j run clear is.stays k below) ∙ unready;
       }
 
       idle : 1 ≤ one_more
           (is_some (open_in (begun_in (view_of r jobs carry restarts k t j) (views_of r jobs carry restarts k j)))) 0
-      idle = never_idle laws more three r jobs carry restarts opened k below (t ∷ []) j run clear (tt, goes_on)
+      idle = never_idle r jobs carry restarts opened k below (t ∷ []) j run clear (tt, goes_on)
 
   at_work : (t : CycleView) (cycles before : List CycleView) → IsRun r jobs carry restarts (t ∷ (cycles ++ before))
       → IsClear (t ∷ (cycles ++ before)) → Borne t (cycles ++ before) → t.phase ≡ 3
@@ -267,11 +255,10 @@ module _ (laws : Laws) (more : MoreLaws) (turn : WorkInTurn) (two : WorksInTwo) 
       ≤ 12 + length r.drives + early_costs r jobs carry restarts (t ∷ cycles) before + others k + opens_of (t ∷ cycles) before k +
       disturbances r carry restarts (t ∷ cycles) before
   three_counts t [] before run clear starts sparse is_three none k below unready =
-      let lost = lost_few laws more turn comes_up to_zero goes counts r jobs carry restarts opened k below t [] before run clear starts
-      sparse in omega (arith, lost)
+      let lost = lost_few r jobs carry restarts opened k below t [] before run clear starts sparse in omega (arith, lost)
   three_counts t (u ∷ cycles) before run clear starts sparse is_three none k below unready =
       elim (comes_three (is_done (known_of r) (now t (u ∷ (cycles ++ before)))) t.phase
-      (sym (phase_next laws more turn comes_up to_zero goes counts r jobs carry restarts opened t (u ∷ (cycles ++ before)) run is)
+      (sym (phase_next r jobs carry restarts opened t (u ∷ (cycles ++ before)) run is)
       ∙ is_three)) [
         | inl rise ↦ (
             let first = at_rise u cycles before run.0 clear.0 starts sparse.0 (same_phase ∙ rise.1)
@@ -292,17 +279,17 @@ module _ (laws : Laws) (more : MoreLaws) (turn : WorkInTurn) (two : WorksInTwo) 
       is = borne t (u ∷ cycles) before run clear starts sparse
 
       same_phase : (back (u ∷ (cycles ++ before))).now.phase ≡ t.phase
-      same_phase = sym (phase_is laws more turn comes_up to_zero goes counts r jobs carry restarts opened t (u ∷ (cycles ++ before)) run is)
+      same_phase = sym (phase_is r jobs carry restarts opened t (u ∷ (cycles ++ before)) run is)
 
       stop_none : (behind_mdt r jobs carry restarts t.sent (u ∷ (cycles ++ before))).stop ≡ None
       stop_none = sym (stop_after r jobs carry restarts t (u ∷ (cycles ++ before)) is.stays) ∙ none
 
       none_then : (back (u ∷ (cycles ++ before))).stop ≡ None
       none_then = none_before r jobs carry restarts t (u ∷ (cycles ++ before))
-          (start_is laws more turn comes_up to_zero goes counts r jobs carry restarts opened t (u ∷ (cycles ++ before)) run is) stop_none
+          (start_is r jobs carry restarts opened t (u ∷ (cycles ++ before)) run is) stop_none
 
       low_so : t.phase ≡ 2 → u.phase ≤ 2
-      low_so t_two = low_before laws more turn two comes_up to_zero goes counts r jobs carry restarts opened u (cycles ++ before) run.0
+      low_so t_two = low_before r jobs carry restarts opened u (cycles ++ before) run.0
           (borne u cycles before run.0 clear.0 starts sparse.0) (let same = same_phase in omega (arith, same, t_two))
 
   -- WHAT THE REQUESTS to a drive cost as long as its check for phase 4 hasn't ended
@@ -314,15 +301,15 @@ module _ (laws : Laws) (more : MoreLaws) (turn : WorkInTurn) (two : WorksInTwo) 
   check_fit t j run clear is is_three k below few = by (epoch_begun (views_of r jobs carry restarts k (t ∷ j))) at
       (begun_few (known_of r) k (now t j).plan ((now t j).waiting k) (now t j).now.phase (reads_count (member (known_of r) k) + 12)
       (epoch_begun (views_of r jobs carry restarts k (t ∷ j))) ((now t j).tasks k)
-      (tasks_now laws more r jobs carry restarts opened t j run clear is.stays k below) few)
+      (tasks_now r jobs carry restarts opened t j run clear is.stays k below) few)
     where
       made : (plan : PlanView) × ((behind_mdt r jobs carry restarts t.sent j).plan ≡ Some plan)
       made = planned t j run clear is_three k below
 
       at : AreAt (jobs_of (known_of r) (Some made.0) k) (epoch_begun (views_of r jobs carry restarts k (t ∷ j)))
       at = subst (λ (o : Option PlanView). AreAt (jobs_of (known_of r) o k) (epoch_begun (views_of r jobs carry restarts k (t ∷ j)))) made.1
-          (places_now laws more r jobs carry restarts opened t j run clear is.stays k
-          below (let same = phase_now r jobs carry restarts t j run.1 in omega (arith, same, is_three)))
+          (places_now r jobs carry restarts opened t j run clear is.stays k below
+          (let same = phase_now r jobs carry restarts t j run.1 in omega (arith, same, is_three)))
 
       fits : (begun : List Begun) → AreAt (jobs_of (known_of r) (Some made.0) k) begun
           → length begun ≤ reads_count (member (known_of r) k) + 12
@@ -356,8 +343,8 @@ module _ (laws : Laws) (more : MoreLaws) (turn : WorkInTurn) (two : WorksInTwo) 
       restarts (t ∷ cycles) before + disturbances r carry restarts (t ∷ cycles) before
   three_sparse t cycles before run clear starts sparse t_three is_three none k below unready few =
       let counted = three_counts t cycles before run clear starts sparse is_three none k below unready in
-      let opens = opens_so laws more turn comes_up to_zero goes counts r jobs carry restarts opened in_cost timed (t ∷ cycles) before run
-      clear starts sparse k (λ raw. 512) below (listed_all (views_of r jobs carry restarts k (t ∷ (cycles ++ before)))) in
+      let opens = opens_so r jobs carry restarts opened (t ∷ cycles) before run clear starts sparse k (λ raw. 512) below
+      (listed_all (views_of r jobs carry restarts k (t ∷ (cycles ++ before)))) in
       let cost = check_fit t (cycles ++ before) run clear (borne t cycles before run clear starts sparse) t_three k below few in
       let split = sum_split (length r.drives) k sec below in
       let sums = sum_within sec section_two r.drives (λ j low. omega arith) in

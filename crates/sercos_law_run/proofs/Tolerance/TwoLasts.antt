@@ -9,20 +9,15 @@ use Rattle.sercos_seat.specs.Ring.{known_of}
 use Rattle.sercos_master.specs.Annals.{Past, fall_of, is_done, is_done_in}
 use Rattle.sercos_script.specs.Links.{Carry, Restarts}
 use Rattle.sercos_law_channel.specs.Handshake.Epochs.{epoch_begun}
-use Rattle.sercos_law_channel.specs.Handshake.RunLaws.{ComesToZero, ComesUp}
-use Rattle.sercos_law_channel.specs.Pace.ChannelCalls.{AgesBeforeEnd, StaysARun}
-use Rattle.sercos_law_channel.specs.Pace.Costs.{ComesTimed, StaysInCost, cost_in, cost_of}
-use Rattle.sercos_law_channel.specs.Pace.Jobs.{ReadsCost, WritesCost}
+use Rattle.sercos_law_channel.specs.Pace.Costs.{cost_in, cost_of}
 use Rattle.sercos_law_channel.specs.Pace.Stretches.{open_since}
 use Rattle.sercos_law_run.specs.Journal.Arrivals.{sum_below}
 use Rattle.sercos_law_run.specs.Journal.Runs.{drive_at, looks_back, master_calls, IsClear, IsRun}
-use Rattle.sercos_law_run.specs.Agenda.Turns.{WorkInTurn, WorksInTwo}
 use Rattle.sercos_law_run.proofs.Start.CheckPasses.{ring_drive}
 use Rattle.sercos_law_run.specs.Views.RingViews.{behind_mdt, views_of}
 use Rattle.sercos_law_run.proofs.Views.Members.{member_is}
 use Rattle.sercos_law_run.specs.Held.Opened.{IsOpened}
-use Rattle.sercos_law_run.proofs.Held.Runs.{Laws, drive_got}
-use Rattle.sercos_law_run.proofs.Headline.HeadlineRuns.{MoreLaws}
+use Rattle.sercos_law_run.proofs.Held.Runs.{drive_got}
 use Rattle.sercos_law_run.specs.Undisturbed.Sections.{GoesOnInTwo}
 use Rattle.sercos_law_run.specs.Undisturbed.ViewsSince.{views_since}
 use Rattle.sercos_law_run.proofs.Undisturbed.JobsBegun.{few_now, places_now, planned_now}
@@ -37,6 +32,7 @@ use Rattle.sercos_law_run.specs.Tolerance.Sparse.{AreSparse}
 use Rattle.sercos_law_run.proofs.Tolerance.Borne.{IsBase, IsBorne, borne_on}
 use Rattle.sercos_law_run.proofs.Tolerance.CostsShared.{costs_shared}
 use Rattle.sercos_law_run.proofs.Tolerance.EarlySparse.{early_sparse, phase_is, phase_next, start_is}
+use Rattle.sercos_law_channel.proofs.Pace.JobCosts.{reads_cost, writes_cost}
 
 pub two_phase : (done : Bool) (n : ℕ) → (if done then n + 1 else n) ≡ 2 → ((done ≡ true) × (n ≡ 1)) ⊎ ((done ≡ false) × (n ≡ 2))
 two_phase true n is = inl (refl, omega (arith, is))
@@ -46,10 +42,7 @@ none_in : (n : ℕ) → sum_below n (λ k. 0) ≡ 0
 none_in zero = refl
 none_in (suc n) = let rest = none_in n in omega (arith, rest)
 
-module _ (laws : Laws) (more : MoreLaws) (turn : WorkInTurn) (two : WorksInTwo) (comes_up : (busy : ℕ) → ComesUp busy)
-    (to_zero : (busy : ℕ) → ComesToZero busy)
-    (goes : (busy : ℕ) → StaysARun busy) (counts : (busy : ℕ) → AgesBeforeEnd busy)
-    (r : RingView) (jobs : List Job) (carry : Carry) (restarts : Restarts) (opened : IsOpened r jobs) where
+module _ (r : RingView) (jobs : List Job) (carry : Carry) (restarts : Restarts) (opened : IsOpened r jobs) where
   abbrev back : List CycleView → Past
   back j = looks_back r jobs (master_calls r carry restarts j)
 
@@ -57,10 +50,10 @@ module _ (laws : Laws) (more : MoreLaws) (turn : WorkInTurn) (two : WorksInTwo) 
   now t j = behind_mdt r jobs carry restarts t.sent j
 
   abbrev Borne : CycleView → List CycleView → Type 0
-  Borne t j = IsBorne laws more turn comes_up to_zero goes counts r jobs carry restarts opened t j
+  Borne t j = IsBorne r jobs carry restarts opened t j
 
   abbrev Base : List CycleView → Type 0
-  Base before = IsBase laws more turn comes_up to_zero goes counts r jobs carry restarts opened before
+  Base before = IsBase r jobs carry restarts opened before
 
   abbrev opens_in : List CycleView → List CycleView → ℕ
   opens_in cycles before = sum_below (length r.drives) (λ k. open_since (views_since r jobs carry restarts k cycles before)
@@ -74,17 +67,17 @@ module _ (laws : Laws) (more : MoreLaws) (turn : WorkInTurn) (two : WorksInTwo) 
   two_counts [] before run clear starts sparse is_two none = omega arith
   two_counts (t ∷ cycles) before run clear starts sparse is_two none =
       elim (two_phase (is_done (known_of r) (now t (cycles ++ before))) t.phase
-      (sym (phase_next laws more turn comes_up to_zero goes counts r jobs carry restarts opened t (cycles ++ before) run is) ∙ is_two)) [
-        | inl first ↦ (let le = early_sparse laws more turn comes_up to_zero goes counts r jobs carry restarts opened t cycles before run
-            clear starts sparse (let one = first.1 in omega (arith, one)) in omega (arith, le))
+      (sym (phase_next r jobs carry restarts opened t (cycles ++ before) run is) ∙ is_two)) [
+        | inl first ↦ (let le = early_sparse r jobs carry restarts opened t cycles before run clear starts sparse
+            (let one = first.1 in omega (arith, one)) in omega (arith, le))
         | inr later ↦ by later.0 later.1 (two_counts cycles before run.0 clear.0 starts sparse.0
-            (sym (phase_is laws more turn comes_up to_zero goes counts r jobs carry restarts opened t (cycles ++ before) run is) ∙ later.1)
-            (none_before r jobs carry restarts t (cycles ++ before) (start_is laws more turn comes_up to_zero goes counts r jobs carry
-            restarts opened t (cycles ++ before) run is) stop_none))
+            (sym (phase_is r jobs carry restarts opened t (cycles ++ before) run is) ∙ later.1)
+            (none_before r jobs carry restarts t (cycles ++ before) (start_is r jobs carry restarts opened t (cycles ++ before) run
+            is) stop_none))
       ]
     where
       is : Borne t (cycles ++ before)
-      is = borne_on laws more turn comes_up to_zero goes counts r jobs carry restarts opened t cycles before run clear starts sparse
+      is = borne_on r jobs carry restarts opened t cycles before run clear starts sparse
 
       stop_none : (behind_mdt r jobs carry restarts t.sent (cycles ++ before)).stop ≡ None
       stop_none = sym (stop_after r jobs carry restarts t (cycles ++ before) is.stays) ∙ none
@@ -99,11 +92,11 @@ module _ (laws : Laws) (more : MoreLaws) (turn : WorkInTurn) (two : WorksInTwo) 
           let goes_on : GoesOnInTwo r (behind_mdt r jobs carry restarts t.sent (cycles ++ before)) = record {
             phase = phase;
             goes_on = stop_none;
-            planned = planned_now laws more r jobs carry restarts opened t (cycles ++ before) run clear phase stop_none;
+            planned = planned_now r jobs carry restarts opened t (cycles ++ before) run clear phase stop_none;
             unchecked = sym (ap (λ (n : ℕ). is_done_in n (known_of r) (behind_mdt r jobs carry restarts t.sent (cycles ++ before))) phase)
                 ∙ unfinished;
           } in
-          let works = one_works laws more two r jobs carry restarts opened t cycles before run clear goes_on in
+          let works = one_works r jobs carry restarts opened t cycles before run clear goes_on in
           omega (arith, works, earlier)
 
   -- what the requests of phase 2 to a drive cost
@@ -114,51 +107,49 @@ module _ (laws : Laws) (more : MoreLaws) (turn : WorkInTurn) (two : WorksInTwo) 
   pub low_before : (t : CycleView) (j : List CycleView) → IsRun r jobs carry restarts (t ∷ j) → Borne t j → (back (t ∷ j)).now.phase ≤ 2
       → t.phase ≤ 2
   low_before t j run is low = was_early (is_done (known_of r) (now t j)) t.phase (subst (λ (n : ℕ). n ≤ 2)
-      (phase_next laws more turn comes_up to_zero goes counts r jobs carry restarts opened t j run is) low)
+      (phase_next r jobs carry restarts opened t j run is) low)
 
-  pub each_fits : ((busy : ℕ) → ReadsCost busy) → ((busy : ℕ) → WritesCost busy) → (t : CycleView) (j : List CycleView)
+  pub each_fits : (t : CycleView) (j : List CycleView)
       → IsRun r jobs carry restarts (t ∷ j) → IsClear (t ∷ j) → fall_of (known_of r) (now t j) ≡ None → t.phase ≤ 2 → (k : ℕ)
       → k < length r.drives
       → cost_in (cost_of (drive_at r k).busy (drive_at r k).command (λ raw. 512) (store_of (drive_at r k)))
       (epoch_begun (views_of r jobs carry restarts k (t ∷ j))) ≤ section_two (drive_at r k)
-  each_fits reads_cost writes_cost t j run clear stays low k below =
+  each_fits t j run clear stays low k below =
       let rules = (ring_drive r k (drive_at r k) opened.valid (drive_got r k below)).blocks in
       let same = phase_now r jobs carry restarts t j run.1 in
       two_fits (λ raw. 512) (drive_at r k) rules (reads_cost (drive_at r k).busy) (writes_cost (drive_at r k).busy) (known_of r)
       (behind_mdt r jobs carry restarts t.sent j).plan k (epoch_begun (views_of r jobs carry restarts k (t ∷ j))) (member_is r k)
-      (places_now laws more r jobs carry restarts opened t j run clear stays k below (omega (arith, same, low)))
-      (few_now laws more r jobs carry restarts opened t j run clear stays k below (omega (arith, same, low)))
+      (places_now r jobs carry restarts opened t j run clear stays k below (omega (arith, same, low)))
+      (few_now r jobs carry restarts opened t j run clear stays k below (omega (arith, same, low)))
 
-  two_fit : ((busy : ℕ) → StaysInCost busy) → ComesTimed → ((busy : ℕ) → ReadsCost busy) → ((busy : ℕ) → WritesCost busy)
-      → (cycles before : List CycleView) → IsRun r jobs carry restarts (cycles ++ before) → IsClear (cycles ++ before)
-      → Base before → AreSparse r carry restarts cycles before → (back (cycles ++ before)).now.phase ≤ 2
+  two_fit : (cycles before : List CycleView) → IsRun r jobs carry restarts (cycles ++ before) → IsClear (cycles ++ before) → Base before
+      → AreSparse r carry restarts cycles before → (back (cycles ++ before)).now.phase ≤ 2
       → opens_in cycles before ≤ sum_by section_two r.drives + disturbances r carry restarts cycles before
-  two_fit in_cost timed reads_cost writes_cost [] before run clear starts sparse low = let none = none_in (length r.drives) in
+  two_fit [] before run clear starts sparse low = let none = none_in (length r.drives) in
       omega (arith, none)
-  two_fit in_cost timed reads_cost writes_cost (t ∷ cycles) before run clear starts sparse low =
-      let is = borne_on laws more turn comes_up to_zero goes counts r jobs carry restarts opened t cycles before run clear starts sparse in
+  two_fit (t ∷ cycles) before run clear starts sparse low =
+      let is = borne_on r jobs carry restarts opened t cycles before run clear starts sparse in
       let t_low = low_before t (cycles ++ before) run is low in
-      let shared = costs_shared laws more turn comes_up to_zero goes counts r jobs carry restarts opened in_cost timed t cycles before run
-      clear starts sparse t_low (λ raw. 512) (λ k below. listed_all (views_of r jobs carry restarts k (t ∷ (cycles ++ before)))) in
+      let shared = costs_shared r jobs carry restarts opened t cycles before run clear starts sparse t_low (λ raw. 512)
+      (λ k below. listed_all (views_of r jobs carry restarts k (t ∷ (cycles ++ before)))) in
       let sums = sum_within (λ k. cost_in (cost_of (drive_at r k).busy (drive_at r k).command (λ raw. 512) (store_of (drive_at r k)))
       (epoch_begun (views_of r jobs carry restarts k (t ∷ (cycles ++ before))))) section_two r.drives
-      (each_fits reads_cost writes_cost t (cycles ++ before) run clear is.stays t_low) in
+      (each_fits t (cycles ++ before) run clear is.stays t_low) in
       omega (arith, shared, sums)
 
   -- HOW LONG PHASE 2 LASTS
-  pub two_sparse : ((busy : ℕ) → StaysInCost busy) → ComesTimed → ((busy : ℕ) → ReadsCost busy) → ((busy : ℕ) → WritesCost busy)
-      → (t : CycleView) (cycles before : List CycleView) → IsRun r jobs carry restarts (t ∷ (cycles ++ before))
+  pub two_sparse : (t : CycleView) (cycles before : List CycleView) → IsRun r jobs carry restarts (t ∷ (cycles ++ before))
       → IsClear (t ∷ (cycles ++ before))
       → Base before → AreSparse r carry restarts (t ∷ cycles) before → t.phase ≡ 2
       → (behind_mdt r jobs carry restarts t.sent (cycles ++ before)).stop ≡ None
       → length cycles ≤ 11 + length r.drives + sum_by section_two r.drives + early_costs r jobs carry restarts cycles before + disturbances
       r carry restarts cycles before
-  two_sparse in_cost timed reads_cost writes_cost t cycles before run clear starts sparse t_two none =
-      let is = borne_on laws more turn comes_up to_zero goes counts r jobs carry restarts opened t cycles before run clear starts sparse in
-      let phase = sym (phase_is laws more turn comes_up to_zero goes counts r jobs carry restarts opened t (cycles ++ before) run is)
+  two_sparse t cycles before run clear starts sparse t_two none =
+      let is = borne_on r jobs carry restarts opened t cycles before run clear starts sparse in
+      let phase = sym (phase_is r jobs carry restarts opened t (cycles ++ before) run is)
       ∙ t_two in
       let stop = none_before r jobs carry restarts t (cycles ++ before)
-      (start_is laws more turn comes_up to_zero goes counts r jobs carry restarts opened t (cycles ++ before) run is) none in
+      (start_is r jobs carry restarts opened t (cycles ++ before) run is) none in
       let counted = two_counts cycles before run.0 clear.0 starts sparse.0 phase stop in
-      let fits = two_fit in_cost timed reads_cost writes_cost cycles before run.0 clear.0 starts sparse.0 (omega (arith, phase)) in
+      let fits = two_fit cycles before run.0 clear.0 starts sparse.0 (omega (arith, phase)) in
       omega (arith, counted, fits)

@@ -22,7 +22,6 @@ use Rattle.sercos_drive.specs.declared.hearing.Told.{Told}
 use Rattle.sercos_drive.specs.Heard.{DriveCall, Mst, Mdt, Restart, mst_got, told_at, single_in, joint_in, lies_within, mdt_got}
 use Rattle.sercos_drive.specs.Moments.{Moment, phase_in, cycle_in, has_mst, in_phase, with_record, taken_in, blocks_in, blocks_after, commands_in}
 use Rattle.sercos_drive.specs.Annals.{processed_in, ends_in, stands_in, annals}
-use Rattle.sercos_drive.specs.Laws.{HandedThose}
 use Rattle.sercos_script.specs.declared.link.Passage.{Passage}
 use Rattle.sercos_script.specs.Links.{Carry, Restarts}
 use Rattle.sercos_telegram.specs.declared.layout.Kind.TheVariants as kinds
@@ -36,6 +35,8 @@ use Rattle.sercos_law_run.specs.Typed.Keeps.{IsTaken, AreTaken, Keeps}
 use Rattle.sercos_law_run.proofs.Typed.Words.{read_word}
 use Rattle.sercos_law_run.proofs.Typed.StoreStays.{blocks_stay}
 use Rattle.sercos_law_run.proofs.Typed.Records.{added_bytes}
+use Rattle.sercos_block.proofs.OpenLemmas.{IsStore-store_of}
+use Rattle.sercos_law_run.proofs.Cited.{handed_those}
 
 -- AT OPENING
 pub drive_so : (before drives : List DriveView) (k : ℕ) → are_drives before drives ≡ true → k < length drives → (others : List DriveView) × (is_drive others (slice_index_or drives k no_drive) ≡ true)
@@ -55,9 +56,9 @@ no_fault (Some x) is = cc
 below_word : (n : ℕ) → n ≤ 64000 → n < 65536
 below_word n low = omega (arith, low)
 
-opened : Opens → (others : List DriveView) (d : DriveView) → is_drive others d ≡ true → IsTyped d → IsStore (store_of d)
+opened : (others : List DriveView) (d : DriveView) → is_drive others d ≡ true → IsTyped d → IsStore (store_of d)
 unfolding is_drive has_blocks are_drive_numbers
-opened opens others d is typed =
+opened others d is typed =
     let rest = (and_parts _ _ is).1 in
     let numbers = (and_parts _ _ rest).0 in
     let blocks = (and_parts _ _ (and_parts _ _ rest).1).0 in
@@ -68,7 +69,7 @@ opened opens others d is typed =
     let after_command = (and_parts (nat_le d.command 200) _ after_busy).1 in
     let limits = (and_parts (are_times d.times) _ after_command).1 in
     let both : (nat_le d.cycle_min 64000 ≡ true) × (nat_le d.cycle_max 64000 ≡ true) = and_parts (nat_le d.cycle_min 64000) (nat_le d.cycle_max 64000) limits in
-    opens d (no_fault _ parts.1) (leb-true _ _ parts.0) typed.blocks (below_word _ (leb-true _ _ both.0)) (below_word _ (leb-true _ _ both.1))
+    IsStore-store_of d (no_fault _ parts.1) (leb-true _ _ parts.0) typed.blocks (below_word _ (leb-true _ _ both.0)) (below_word _ (leb-true _ _ both.1))
 
 -- WHAT ARRIVES are bytes
 abbrev pub IsHeard : Option (List ℕ) → Type 0
@@ -171,21 +172,21 @@ after_record allowed d past (Some t) keeps those is = (
   (is.0, keeps.taken),
 )
 
-pub keeps_typed : AreAllowed → HandedThose → (d : DriveView) (rate : ℕ) (h : List DriveCall) → IsStore (store_of d) → AreHeard h → Keeps d (annals d rate h)
-keeps_typed allowed those d rate [] store are = record { store = store; taken = tt }
-keeps_typed allowed those d rate (Mst cycle content ∷ h) store are =
-    let before = keeps_typed allowed those d rate h store are in
+pub keeps_typed : AreAllowed → (d : DriveView) (rate : ℕ) (h : List DriveCall) → IsStore (store_of d) → AreHeard h → Keeps d (annals d rate h)
+keeps_typed allowed d rate [] store are = record { store = store; taken = tt }
+keeps_typed allowed d rate (Mst cycle content ∷ h) store are =
+    let before = keeps_typed allowed d rate h store are in
     record { store = before.store; taken = phase_taken (stands_in d rate cycle (mst_got content) (annals d rate h)) (taken_in (annals d rate h)) before.taken }
-keeps_typed allowed those d rate (Mdt content ∷ h) store are =
-    let before = keeps_typed allowed those d rate h store are.1 in
+keeps_typed allowed d rate (Mdt content ∷ h) store are =
+    let before = keeps_typed allowed d rate h store are.1 in
     let told : Option Told = mdt_got d.address (phase_in (annals d rate h)) (blocks_in d (annals d rate h)) content in
-    let after = after_record allowed d (annals d rate h) (processed_in d rate told (annals d rate h)) before (those d rate h)
+    let after = after_record allowed d (annals d rate h) (processed_in d rate told (annals d rate h)) before (handed_those d rate h)
     (processed d rate told (annals d rate h) (got_told d.address (phase_in (annals d rate h)) (blocks_in d (annals d rate h)) content are.0) before.store) in
     record { store = after.0; taken = phase_taken (ends_in told (annals d rate h)) _ after.1 }
-keeps_typed allowed those d rate (Restart ∷ h) store are = record { store = (keeps_typed allowed those d rate h store are).store; taken = tt }
+keeps_typed allowed d rate (Restart ∷ h) store are = record { store = (keeps_typed allowed d rate h store are).store; taken = tt }
 
 -- a drive of a typed ring
-pub drive_keeps : Opens → AreAllowed → HandedThose → (r : RingView) → is_ring r ≡ true → AreTyped r → (k : ℕ) → k < length r.drives → (h : List DriveCall) → AreHeard h → Keeps (drive_at r k) (annals (drive_at r k) r.rate h)
-drive_keeps opens allowed those r valid typed k below h are =
+pub drive_keeps : AreAllowed → (r : RingView) → is_ring r ≡ true → AreTyped r → (k : ℕ) → k < length r.drives → (h : List DriveCall) → AreHeard h → Keeps (drive_at r k) (annals (drive_at r k) r.rate h)
+drive_keeps allowed r valid typed k below h are =
     let (others, is) = drive_so [] r.drives k (drives_so r valid) below in
-    keeps_typed allowed those (drive_at r k) r.rate h (opened opens others (drive_at r k) is (typed k below)) are
+    keeps_typed allowed (drive_at r k) r.rate h (opened others (drive_at r k) is (typed k below)) are

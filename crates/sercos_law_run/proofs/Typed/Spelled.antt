@@ -1,16 +1,9 @@
 -- What is said in the next cycle of a typed ring is spelled.
 use Rattle.std.proofs.Common.{◌≡◌, ℕ, ◌<◌, ◌+◌, ◌≤◌, Bool, true, List, length, None, refl, sym, ap, subst, arith}
-use Rattle.sercos_model.specs.Bits.{AreBytes}
-use Rattle.sercos_model.specs.Frames.{IsFrame}
-use Rattle.sercos_hdlc.specs.Reason.{reason_of, content_of, plain}
 use Rattle.sercos_hdlc.specs.Stuffed.{frame_of}
-use Rattle.sercos_block.specs.Rings.{is_ring}
-use Rattle.sercos_block.specs.ValidRings.{IsRing}
-use Rattle.sercos_block.specs.Views.{RingView}
 use Rattle.sercos_drive.specs.Moments.{cycle_in, commands_in, taken_in}
-use Rattle.sercos_drive.specs.Laws.{HandedThose}
-use Rattle.sercos_seat.specs.Ring.{Known, IsKnown, Task, known_of, tasks_for}
-use Rattle.sercos_master.specs.Annals.{Call, Past, IsPlanned, past}
+use Rattle.sercos_seat.specs.Ring.{Known, IsKnown, known_of, tasks_for}
+use Rattle.sercos_master.specs.Annals.{Past}
 use Rattle.sercos_law_run.specs.Journal.Arrivals.{content_in}
 use Rattle.sercos_law_run.specs.Journal.Records.{mst_in}
 use Rattle.sercos_law_run.specs.Journal.Runs.{drive_at, given_before, given_mst, begins, middle}
@@ -20,37 +13,30 @@ use Rattle.sercos_law_run.specs.Views.Spelled.{IsWhole}
 use Rattle.sercos_law_run.specs.Typed.Keeps.{KeepsAlways, KeepsWithin}
 use Rattle.sercos_law_run.specs.Typed.Spelled.{SpelledNext}
 use Rattle.sercos_law_run.proofs.Typed.Steps.{says}
-use Rattle.sercos_law_run.proofs.Typed.DriveKeeps.{Opens, AreAllowed, all_heard, mst_heard, drive_keeps}
+use Rattle.sercos_law_run.proofs.Typed.DriveKeeps.{all_heard, mst_heard, drive_keeps}
 use Rattle.sercos_law_run.proofs.Typed.Replies.{shows_word}
 use Rattle.sercos_law_run.proofs.Typed.Ats.{IsContent, at_content}
 use Rattle.sercos_law_run.proofs.Typed.Plans.{ring_known, ring_timed, all_members}
 use Rattle.sercos_law_run.proofs.Typed.Begun.{tasks_so, typed_past}
 use Rattle.sercos_law_run.proofs.Typed.Mdts.{phase_low, mst_whole, mdt_whole}
+use Rattle.sercos_block.proofs.RingLemmas.{IsRing-is_ring}
+use Rattle.sercos_law_run.proofs.Cited.{frame_only, frame_reads, is_framed}
+use Rattle.sercos_master.proofs.Planned.{is_planned}
+use Rattle.sercos_service_drive.proofs.AllowedWrites.{allowed}
 
--- what the laws below say
-pub record Laws : Type 0 where
-  pub frame : (content : List ℕ) → AreBytes content → 0 < length content → length content ≤ 2048 → IsFrame content (frame_of content)
-  pub reads : (content : List ℕ) (bits : List Bool) → IsFrame content bits → reason_of bits ≡ None
-  pub only : (content : List ℕ) (bits : List Bool) → IsFrame content bits → content ≡ content_of (plain bits)
-  pub opens : Opens
-  pub ring : (r : RingView) → is_ring r ≡ true → IsRing r
-  pub allowed : AreAllowed
-  pub those : HandedThose
-  pub planned : (s : Known) (requests : ℕ → List Task) (h : List Call) → IsPlanned s (past s requests h)
-
-module _ (laws : Laws) where
+module _ where
   -- a content has a frame that gives it back
   whole : (content : List ℕ) → IsContent content → IsWhole content
   unfolding content_in
   whole content is =
-      let framed = laws.frame content is.bytes is.some is.most in
-      rw (laws.reads content (frame_of content) framed, sym (laws.only content (frame_of content) framed)) refl
+      let framed = is_framed content is.bytes is.some is.most in
+      rw (frame_reads content (frame_of content) framed, sym (frame_only content (frame_of content) framed)) refl
 
   pub keeps_always : KeepsAlways
-  keeps_always r carry restarts j k valid typed below = drive_keeps laws.opens laws.allowed laws.those r valid typed k below (given_before carry restarts j k) (all_heard carry restarts (k + 1) j)
+  keeps_always r carry restarts j k valid typed below = drive_keeps allowed r valid typed k below (given_before carry restarts j k) (all_heard carry restarts (k + 1) j)
 
   pub keeps_within : KeepsWithin
-  keeps_within r carry restarts sent j k valid typed below = drive_keeps laws.opens laws.allowed laws.those r valid typed k below (given_mst carry restarts sent j k) (mst_heard carry restarts sent j k)
+  keeps_within r carry restarts sent j k valid typed below = drive_keeps allowed r valid typed k below (given_mst carry restarts sent j k) (mst_heard carry restarts sent j k)
 
   pub spelled_next : SpelledNext
   spelled_next r jobs carry restarts t j valid typed jobs_typed next = record {
@@ -58,17 +44,17 @@ module _ (laws : Laws) where
     ats = λ content is.
         let high = (address_of r is.place valid is.inside).1 in
         whole content (subst IsContent (sym is.content_is) (at_content (drive_at r is.place) r.rate (given_mst carry restarts t.sent j is.place) is.says (omega (arith, high)) (keeps_within r carry restarts t.sent j is.place valid typed is.inside) is.said));
-    mdt = λ m said. whole m.content (mdt_whole s p m known (laws.planned s (tasks_for s jobs) (middle r carry restarts t.sent j)) said);
+    mdt = λ m said. whole m.content (mdt_whole s p m known (is_planned s (tasks_for s jobs) (middle r carry restarts t.sent j)) said);
     shown = λ i below. shows_word (drive_at r i).busy (cycle_in (after_mst r carry restarts t.sent j i)) (commands_in (drive_at r i) r.rate (after_mst r carry restarts t.sent j i)) (taken_in (after_mst r carry restarts t.sent j i))
         (keeps_within r carry restarts t.sent j i valid typed below).taken;
-    said = λ i. says _ ((typed_past s known (ring_timed r known valid) (λ k. all_members r k valid typed) (tasks_for s jobs) (laws.planned s (tasks_for s jobs)) (λ k. tasks_so s jobs k jobs_typed) (middle r carry restarts t.sent j)).begun i);
+    said = λ i. says _ ((typed_past s known (ring_timed r known valid) (λ k. all_members r k valid typed) (tasks_for s jobs) (is_planned s (tasks_for s jobs)) (λ k. tasks_so s jobs k jobs_typed) (middle r carry restarts t.sent j)).begun i);
   }
     where
       s : Known
       s = known_of r
 
       known : IsKnown (known_of r)
-      known = ring_known laws.ring r valid typed
+      known = ring_known IsRing-is_ring r valid typed
 
       p : Past
       p = behind_mdt r jobs carry restarts t.sent j

@@ -21,25 +21,20 @@ use Rattle.sercos_master.specs.Reports.{broken, events_told}
 use Rattle.sercos_script.specs.Links.{Carry, Restarts}
 use Rattle.sercos_law_channel.specs.Handshake.Views.{Heard, View}
 use Rattle.sercos_law_channel.specs.Handshake.Epochs.{epoch_begun}
-use Rattle.sercos_law_channel.specs.Handshake.RunLaws.{ComesUp}
 use Rattle.sercos_law_channel.specs.Handshake.WholeRun.{AreSound}
 use Rattle.sercos_law_channel.specs.Pace.Stretches.{AreClean, open_since}
 use Rattle.sercos_law_channel.proofs.Theorems.{nothing_old}
-use Rattle.sercos_law_channel.specs.Pace.Passages.{StaysClean}
-use Rattle.sercos_law_channel.specs.Pace.Ages.{age_in, AgesInTime, AnswersAtAge}
-use Rattle.sercos_law_channel.specs.Pace.ChannelCalls.{NoneLate}
-use Rattle.sercos_law_channel.specs.Pace.Costs.{AreListed, AreTimed, ComesTimed, cost_of, cost_in}
-use Rattle.sercos_law_channel.specs.Pace.StartCosts.{StartsInCost}
+use Rattle.sercos_law_channel.specs.Pace.Ages.{age_in}
+use Rattle.sercos_law_channel.specs.Pace.Costs.{AreListed, AreTimed, cost_of, cost_in}
 use Rattle.sercos_law_run.specs.Journal.Runs.{drive_at, no_events, master_calls, restart_events, IsRun, IsClear}
-use Rattle.sercos_law_run.specs.Agenda.Turns.{WorkInTurn}
 use Rattle.sercos_law_run.specs.Agenda.Reported.{IsReportOf, with_told, told_at_end}
 use Rattle.sercos_law_run.specs.Agenda.Events.{HasOutcome, HasReport}
 use Rattle.sercos_law_run.specs.Views.RingViews.{behind_mdt, view_of, views_of}
 use Rattle.sercos_law_run.proofs.Views.Members.{members_count}
 use Rattle.sercos_law_run.specs.Held.Opened.{IsOpened}
-use Rattle.sercos_law_run.proofs.Held.Runs.{Laws, small}
+use Rattle.sercos_law_run.proofs.Held.Runs.{small}
 use Rattle.sercos_law_run.specs.Headline.Headline.{KeepsAll}
-use Rattle.sercos_law_run.proofs.Headline.HeadlineRuns.{MoreLaws, all_stand, first_store, keeps_all}
+use Rattle.sercos_law_run.proofs.Headline.HeadlineRuns.{all_stand, first_store, keeps_all}
 use Rattle.sercos_law_run.specs.Undisturbed.Undisturbed.{AreUndisturbed, IsUndisturbed}
 use Rattle.sercos_law_run.specs.Undisturbed.EpochStarts.{StartsEpoch}
 use Rattle.sercos_law_run.specs.Undisturbed.ViewsSince.{views_since}
@@ -51,6 +46,11 @@ use Rattle.sercos_law_run.proofs.Undisturbed.PassedCycles.{views_split}
 use Rattle.sercos_law_run.proofs.Undisturbed.NeverFalls.{begins_so, runs_split, never_falls}
 use Rattle.sercos_law_run.proofs.Undisturbed.Comes.{none_below}
 use Rattle.sercos_law_run.proofs.Undisturbed.Small.{both_off}
+use Rattle.sercos_law_channel.proofs.Cited.{start_in_cost}
+use Rattle.sercos_law_channel.proofs.Pace.AgeRuns.{ages_in_time}
+use Rattle.sercos_law_channel.proofs.Pace.ExactAges.{answers_at_age}
+use Rattle.sercos_law_channel.proofs.Pace.TimedCommands.{comes_timed}
+use Rattle.sercos_law_channel.proofs.Pace.WholeCycles.{stays_clean}
 
 young_so : (age same first most : ℕ) → age ≡ same → same ≤ first + most → first ≡ 0 → age ≤ most
 young_so age same first most is young none = omega (arith, is, young, none)
@@ -85,7 +85,7 @@ quiet_so r jobs restarts cycle h stays = rw stays refl
 
 -- A CYCLE IN WHICH THE MASTER DOESN'T RESTART and at whose end the ring doesn't fall: its record has no fall, and no outcome of a broken
 -- request.
-module _ (laws : Laws) (more : MoreLaws) (r : RingView) (jobs : List Job) (carry : Carry) (restarts : Restarts) (opened : IsOpened r jobs) where
+module _ (r : RingView) (jobs : List Job) (carry : Carry) (restarts : Restarts) (opened : IsOpened r jobs) where
   pub tells_going : (t : CycleView) (j : List CycleView) → IsRun r jobs carry restarts (t ∷ j) → IsClear (t ∷ j) → restarts (length j) 0 ≡ false → fall_of (known_of r) (behind_mdt r jobs carry restarts t.sent j) ≡ None → TellsNoFall t
   tells_going t j run clear goes_on none = record {
     fall = ap (λ (e : EventsView). e.fall) run.1.events ∙ no_fall_told (known_of r) (behind_mdt r jobs carry restarts t.sent j) (restart_events r jobs restarts (length j) (master_calls r carry restarts j)) none (ap (λ (e : EventsView). e.fall) quiet);
@@ -96,7 +96,7 @@ module _ (laws : Laws) (more : MoreLaws) (r : RingView) (jobs : List Job) (carry
       quiet = quiet_so r jobs restarts (length j) (master_calls r carry restarts j) goes_on
 
       keeps : KeepsAll r jobs carry restarts t j
-      keeps = keeps_all laws more r jobs carry restarts opened t j run clear
+      keeps = keeps_all r jobs carry restarts opened t j run clear
 
       ended_so : (k number : ℕ) (o : Option Report) → k < length r.drives → (behind_mdt r jobs carry restarts t.sent j).now.report k ≡ o → HasReport (with_told o []) number outcome.Broken → ⊥
       ended_so k number None below is told = told
@@ -113,59 +113,63 @@ module _ (laws : Laws) (more : MoreLaws) (r : RingView) (jobs : List Job) (carry
   pub tells_in : (t : CycleView) (j : List CycleView) → IsRun r jobs carry restarts (t ∷ j) → IsClear (t ∷ j) → IsUndisturbed r carry restarts t j → fall_of (known_of r) (behind_mdt r jobs carry restarts t.sent j) ≡ None → TellsNoFall t
   tells_in t j run clear calm none = tells_going t j run clear (none_below (length r.drives + 1) (restarts (length j)) (both_off _ _ calm).0 0 (omega arith)) none
 
-module _ (laws : Laws) (more : MoreLaws) (turn : WorkInTurn) (comes_up : (busy : ℕ) → ComesUp busy) (late : (busy : ℕ) → NoneLate busy) (r : RingView) (jobs : List Job) (carry : Carry) (restarts : Restarts) (opened : IsOpened r jobs) where
+module _ (r : RingView) (jobs : List Job) (carry : Carry) (restarts : Restarts) (opened : IsOpened r jobs) where
   -- No step gets older than busy time and one cycle ..
-  clean_so : ((busy : ℕ) → StaysClean busy) → (cycles before : List CycleView) → IsRun r jobs carry restarts (cycles ++ before) → IsClear (cycles ++ before) → StartsEpoch r jobs carry restarts before
-      → AreUndisturbed r carry restarts cycles before → (k : ℕ) → k < length r.drives → AreClean (views_since r jobs carry restarts k cycles before) (views_of r jobs carry restarts k before)
-  clean_so clean cycles before run clear starts calm k below =
-      let all = never_falls laws more turn comes_up late r jobs carry restarts opened cycles before run clear starts calm in
-      clean (drive_at r k).busy (views_since r jobs carry restarts k cycles before) (views_of r jobs carry restarts k before) (runs_split laws more r jobs carry restarts opened cycles before run clear k below) (begins_so laws more r jobs carry restarts opened cycles before run clear starts k below).1
+  clean_so : (cycles before : List CycleView) → IsRun r jobs carry restarts (cycles ++ before) → IsClear (cycles ++ before)
+      → StartsEpoch r jobs carry restarts before → AreUndisturbed r carry restarts cycles before → (k : ℕ) → k < length r.drives
+      → AreClean (views_since r jobs carry restarts k cycles before) (views_of r jobs carry restarts k before)
+  clean_so cycles before run clear starts calm k below =
+      let all = never_falls r jobs carry restarts opened cycles before run clear starts calm in
+      stays_clean (drive_at r k).busy (views_since r jobs carry restarts k cycles before) (views_of r jobs carry restarts k before) (runs_split r jobs carry restarts opened cycles before run clear k below) (begins_so r jobs carry restarts opened cycles before run clear starts k below).1
       (all.whole k below) (all.passed k below)
 
-  pub ages_undisturbed : ((busy : ℕ) → StaysClean busy) → ((busy : ℕ) → AgesInTime busy) → (cycles before : List CycleView) → IsRun r jobs carry restarts (cycles ++ before) → IsClear (cycles ++ before)
-      → StartsEpoch r jobs carry restarts before → AreUndisturbed r carry restarts cycles before → (k : ℕ) → k < length r.drives → age_in (views_of r jobs carry restarts k (cycles ++ before)) ≤ (drive_at r k).busy + 1
-  ages_undisturbed clean ages [] before run clear starts calm k below =
-      let begins = begins_so laws more r jobs carry restarts opened [] before run clear starts k below in
+  pub ages_undisturbed : (cycles before : List CycleView) → IsRun r jobs carry restarts (cycles ++ before) → IsClear (cycles ++ before)
+      → StartsEpoch r jobs carry restarts before → AreUndisturbed r carry restarts cycles before → (k : ℕ) → k < length r.drives
+      → age_in (views_of r jobs carry restarts k (cycles ++ before)) ≤ (drive_at r k).busy + 1
+  ages_undisturbed [] before run clear starts calm k below =
+      let begins = begins_so r jobs carry restarts opened [] before run clear starts k below in
       let none = nothing_old (drive_at r k).busy (views_of r jobs carry restarts k before) begins.0 begins.1 in omega (arith, none)
-  ages_undisturbed clean ages (t ∷ cycles) before run clear starts calm k below =
-      let begins = begins_so laws more r jobs carry restarts opened (t ∷ cycles) before run clear starts k below in
+  ages_undisturbed (t ∷ cycles) before run clear starts calm k below =
+      let begins = begins_so r jobs carry restarts opened (t ∷ cycles) before run clear starts k below in
       let none = nothing_old (drive_at r k).busy (views_of r jobs carry restarts k before) begins.0 begins.1 in
-      let young = ages (drive_at r k).busy (view_of r jobs carry restarts k t (cycles ++ before)) (views_since r jobs carry restarts k cycles before) (views_of r jobs carry restarts k before)
-      (runs_split laws more r jobs carry restarts opened (t ∷ cycles) before run clear k below) (clean_so clean (t ∷ cycles) before run clear starts calm k below) in
+      let young = ages_in_time (drive_at r k).busy (view_of r jobs carry restarts k t (cycles ++ before)) (views_since r jobs carry restarts k cycles before) (views_of r jobs carry restarts k before)
+      (runs_split r jobs carry restarts opened (t ∷ cycles) before run clear k below) (clean_so (t ∷ cycles) before run clear starts calm k below) in
       young_so _ _ _ _ (ap (λ (l : List View). age_in l) (views_split r jobs carry restarts k (t ∷ cycles) before)) young none
 
   -- .. and an answer comes exactly then.
-  pub answers_undisturbed : ((busy : ℕ) → StaysClean busy) → ((busy : ℕ) → AnswersAtAge busy) → (t : CycleView) (cycles before : List CycleView) → IsRun r jobs carry restarts (t ∷ (cycles ++ before)) → IsClear (t ∷ (cycles ++ before))
-      → StartsEpoch r jobs carry restarts before → AreUndisturbed r carry restarts (t ∷ cycles) before → (k : ℕ) (a : Heard) → k < length r.drives → (view_of r jobs carry restarts k t (cycles ++ before)).heard ≡ Some a
-      → answers_it (epoch_begun (views_of r jobs carry restarts k (cycles ++ before))) a.status ≡ true → age_in (views_of r jobs carry restarts k (cycles ++ before)) ≡ (drive_at r k).busy + 1
-  answers_undisturbed clean answers t cycles before run clear starts calm k a below hears fits =
+  pub answers_undisturbed : (t : CycleView) (cycles before : List CycleView) → IsRun r jobs carry restarts (t ∷ (cycles ++ before))
+      → IsClear (t ∷ (cycles ++ before)) → StartsEpoch r jobs carry restarts before → AreUndisturbed r carry restarts (t ∷ cycles) before
+      → (k : ℕ) (a : Heard) → k < length r.drives → (view_of r jobs carry restarts k t (cycles ++ before)).heard ≡ Some a
+      → answers_it (epoch_begun (views_of r jobs carry restarts k (cycles ++ before))) a.status ≡ true
+      → age_in (views_of r jobs carry restarts k (cycles ++ before)) ≡ (drive_at r k).busy + 1
+  answers_undisturbed t cycles before run clear starts calm k a below hears fits =
       let split = views_split r jobs carry restarts k cycles before in
-      let all = never_falls laws more turn comes_up late r jobs carry restarts opened (t ∷ cycles) before run clear starts calm in
+      let all = never_falls r jobs carry restarts opened (t ∷ cycles) before run clear starts calm in
       ap (λ (l : List View). age_in l) split
-      ∙ answers (drive_at r k).busy (view_of r jobs carry restarts k t (cycles ++ before)) a (views_since r jobs carry restarts k cycles before) (views_of r jobs carry restarts k before)
-      (runs_split laws more r jobs carry restarts opened (t ∷ cycles) before run clear k below) (begins_so laws more r jobs carry restarts opened (t ∷ cycles) before run clear starts k below).1 (clean_so clean cycles before run.0 clear.0 starts calm.0 k below) (all.whole k below).1.master hears
+      ∙ answers_at_age (drive_at r k).busy (view_of r jobs carry restarts k t (cycles ++ before)) a (views_since r jobs carry restarts k cycles before) (views_of r jobs carry restarts k before)
+      (runs_split r jobs carry restarts opened (t ∷ cycles) before run clear k below) (begins_so r jobs carry restarts opened (t ∷ cycles) before run clear starts k below).1 (clean_so cycles before run.0 clear.0 starts calm.0 k below) (all.whole k below).1.master hears
       (subst (λ (l : List View). answers_it (epoch_begun l) a.status ≡ true) split fits)
 
   -- So it is in an undisturbed epoch.
   pub tells_no_fall : (t : CycleView) (cycles before : List CycleView) → IsRun r jobs carry restarts (t ∷ (cycles ++ before)) → IsClear (t ∷ (cycles ++ before)) → StartsEpoch r jobs carry restarts before
       → AreUndisturbed r carry restarts (t ∷ cycles) before → TellsNoFall t
   tells_no_fall t cycles before run clear starts calm =
-      tells_in laws more r jobs carry restarts opened t (cycles ++ before) run clear calm.1 (never_falls laws more turn comes_up late r jobs carry restarts opened (t ∷ cycles) before run clear starts calm).stays.1
+      tells_in r jobs carry restarts opened t (cycles ++ before) run clear calm.1 (never_falls r jobs carry restarts opened (t ∷ cycles) before run clear starts calm).stays.1
 
   -- The cycles with an open step are at most the cost of the requests.
-  pub costs_undisturbed : ((busy : ℕ) → StartsInCost busy) → ComesTimed → (cycles before : List CycleView) → IsRun r jobs carry restarts (cycles ++ before) → IsClear (cycles ++ before)
+  pub costs_undisturbed : (cycles before : List CycleView) → IsRun r jobs carry restarts (cycles ++ before) → IsClear (cycles ++ before)
       → StartsEpoch r jobs carry restarts before → AreUndisturbed r carry restarts cycles before → (k : ℕ) (longest : ℕ → ℕ) → k < length r.drives → AreListed longest (views_of r jobs carry restarts k (cycles ++ before))
       → open_since (views_since r jobs carry restarts k cycles before) (views_of r jobs carry restarts k before)
       ≤ cost_in (cost_of (drive_at r k).busy (drive_at r k).command longest (store_of (drive_at r k))) (epoch_begun (views_of r jobs carry restarts k (cycles ++ before)))
-  costs_undisturbed starts_in timed cycles before run clear starts calm k longest below listed =
+  costs_undisturbed cycles before run clear starts calm k longest below listed =
       let split = views_split r jobs carry restarts k cycles before in
-      let all = never_falls laws more turn comes_up late r jobs carry restarts opened cycles before run clear starts calm in
-      let stands = all_stand laws more r jobs carry restarts opened (cycles ++ before) run clear k below in
-      let follow = (commands_so laws more r jobs carry restarts opened (cycles ++ before) run clear k below).follow in
-      let in_time = timed (drive_at r k).command (views_of r jobs carry restarts k (cycles ++ before)) (are_carried (drive_at r k).command (first_commands r k) refl refl (views_of r jobs carry restarts k (cycles ++ before)) follow) in
+      let all = never_falls r jobs carry restarts opened cycles before run clear starts calm in
+      let stands = all_stand r jobs carry restarts opened (cycles ++ before) run clear k below in
+      let follow = (commands_so r jobs carry restarts opened (cycles ++ before) run clear k below).follow in
+      let in_time = comes_timed (drive_at r k).command (views_of r jobs carry restarts k (cycles ++ before)) (are_carried (drive_at r k).command (first_commands r k) refl refl (views_of r jobs carry restarts k (cycles ++ before)) follow) in
       subst (λ (l : List View). open_since (views_since r jobs carry restarts k cycles before) (views_of r jobs carry restarts k before)
       ≤ cost_in (cost_of (drive_at r k).busy (drive_at r k).command longest (store_of (drive_at r k))) (epoch_begun l)) (sym split)
-      (starts_in (drive_at r k).busy (drive_at r k).command longest (store_of (drive_at r k)) (views_since r jobs carry restarts k cycles before) (views_of r jobs carry restarts k before)
-      (small laws r jobs carry restarts opened (first_store laws more r jobs carry restarts opened) k below) (runs_split laws more r jobs carry restarts opened cycles before run clear k below)
+      (start_in_cost (drive_at r k).busy (drive_at r k).command longest (store_of (drive_at r k)) (views_since r jobs carry restarts k cycles before) (views_of r jobs carry restarts k before)
+      (small r jobs carry restarts opened (first_store r jobs carry restarts opened) k below) (runs_split r jobs carry restarts opened cycles before run clear k below)
       (subst (λ (l : List View). AreSound (store_of (drive_at r k)) l) split stands.sound) (subst (λ (l : List View). AreTimed (drive_at r k).command l) split in_time)
-      (subst (λ (l : List View). AreListed longest l) split listed) (begins_so laws more r jobs carry restarts opened cycles before run clear starts k below).1 (all.whole k below) (all.passed k below)).0
+      (subst (λ (l : List View). AreListed longest l) split listed) (begins_so r jobs carry restarts opened cycles before run clear starts k below).1 (all.whole k below) (all.passed k below)).0

@@ -13,11 +13,11 @@ use Rattle.sercos_drive.specs.declared.hearing.Told.{Told}
 use Rattle.sercos_drive.specs.Heard.{DriveCall, Mst, Mdt, Restart, mdt_got}
 use Rattle.sercos_drive.specs.Moments.{phase_in, cycle_in, has_mst, taken_in, blocks_in, blocks_after, commands_in}
 use Rattle.sercos_drive.specs.Annals.{annals, processed_in}
-use Rattle.sercos_drive.specs.Laws.{HandedThose}
-use Rattle.sercos_law_run.specs.Start.Kept.{BlocksKeep}
 use Rattle.sercos_law_run.specs.Start.StartUp.{IsStoreOf}
 use Rattle.sercos_law_run.proofs.Start.KeptLemmas.{writes_keep}
-use Rattle.sercos_law_run.proofs.Held.StoreOf.{AllowsWrites, IsOf, store_of_so}
+use Rattle.sercos_law_run.proofs.Held.StoreOf.{IsOf, store_of_so}
+use Rattle.sercos_law_run.proofs.Cited.{handed_those}
+use Rattle.sercos_service_drive.proofs.AllowedWrites.{allowed}
 
 -- so it is of the block with this number
 abbrev pub IsAt : ℕ → (Block → Type 0) → List Block → Type 0
@@ -55,7 +55,7 @@ pub record Stays (d : DriveView) (n : ℕ) (such : Block → Type 0) : Type 0 wh
   pub list_3 : (rate : ℕ) (blocks : List Block) → IsStoreOf d blocks → 21 ≡ n → (b : Block) → find_block n blocks ≡ Some b → such (record b { value = list_bytes (unfit_for_phase_3 rate blocks) })
   pub list_4 : (blocks : List Block) → IsStoreOf d blocks → 22 ≡ n → (b : Block) → find_block n blocks ≡ Some b → such (record b { value = list_bytes (unfit_for_phase_4 blocks) })
 
-module _ (keep : BlocksKeep) (allows : AllowsWrites) (those : HandedThose) (d : DriveView) (n : ℕ) (such : Block → Type 0) (stays : Stays d n such) where
+module _ (d : DriveView) (n : ℕ) (such : Block → Type 0) (stays : Stays d n such) where
   listed : (c : CommandsView) (raw value : ℕ) (blocks : List Block) → IsStoreOf d blocks → IsAt n such blocks → IsAt n such (with_lists c raw value blocks)
   unfolding with_lists
   listed c raw value blocks stored is = by (not (value == 0) && is_none (find_set raw c.set)) (raw == 127) (raw == 128)
@@ -83,7 +83,7 @@ module _ (keep : BlocksKeep) (allows : AllowsWrites) (those : HandedThose) (d : 
   stays_at rate (Mst cycle content ∷ h) ascending = stays_at rate h ascending
   stays_at rate (Restart ∷ h) ascending = stays_at rate h ascending
   stays_at rate (Mdt content ∷ h) ascending =
-      by (mdt_got d.address (phase_in (annals d rate h)) (blocks_in d (annals d rate h)) content) (those d rate h) (store_of_so keep allows those d rate h ascending) (stays_at rate h ascending)
+      by (mdt_got d.address (phase_in (annals d rate h)) (blocks_in d (annals d rate h)) content) (handed_those d rate h) (store_of_so d rate h ascending) (stays_at rate h ascending)
     where
       by : (told : Option Told) → AreThose (blocks_in d (annals d rate h)) (taken_in (annals d rate h)) → IsOf d (blocks_in d (annals d rate h)) → IsAt n such (blocks_in d (annals d rate h))
           → IsAt n such (blocks_after (processed_in d rate told (annals d rate h)) (taken_in (annals d rate h)) (blocks_in d (annals d rate h)))
@@ -95,5 +95,5 @@ module _ (keep : BlocksKeep) (allows : AllowsWrites) (those : HandedThose) (d : 
 
           which : (b : Bool) → IsAt n such (blocks_after (if b then Some (taken_record (cycle_in (annals d rate h)) (phase_in (annals d rate h)) t.control t.info (blocks_in d (annals d rate h)) (commands_in d rate (annals d rate h))) else None)
               (taken_in (annals d rate h)) (blocks_in d (annals d rate h)))
-          which true = next (blocks_in d (annals d rate h)) (added_on one (taken_in (annals d rate h))) (commands_in d rate (annals d rate h)) (phase_in (annals d rate h)) before.1 before.0 (allows one (taken_in (annals d rate h)) are) is
+          which true = next (blocks_in d (annals d rate h)) (added_on one (taken_in (annals d rate h))) (commands_in d rate (annals d rate h)) (phase_in (annals d rate h)) before.1 before.0 (allowed one (taken_in (annals d rate h)) are) is
           which false = is

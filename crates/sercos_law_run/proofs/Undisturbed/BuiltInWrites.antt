@@ -23,20 +23,22 @@ use Rattle.sercos_master.proofs.Laws.{jobs_waiting}
 use Rattle.sercos_script.specs.Links.{Carry, Restarts}
 use Rattle.sercos_law_channel.specs.Handshake.Epochs.{with_heard, with_begun, epoch_begun, begun_in}
 use Rattle.sercos_law_channel.specs.Handshake.Exact.{Given, given_of, given_by, written_to, AreWrites, Complete, Refused, Broken, AreExact}
-use Rattle.sercos_law_channel.specs.Handshake.RunLaws.{ComesUp}
 use Rattle.sercos_law_channel.specs.Handshake.Views.{Heard, View}
 use Rattle.sercos_law_channel.specs.Handshake.WholeRun.{all_begun, begun_ago, all_entries, all_writes}
 use Rattle.sercos_law_run.specs.Journal.Runs.{drive_at, middle, IsRun, IsClear}
 use Rattle.sercos_law_run.specs.Agenda.Tasks.{IsTask, OfReads, OfWrites, Checks3, Lists3, Checks4, Lists4, OfWaiting, AreBegunTasks}
-use Rattle.sercos_law_run.specs.Agenda.Writes.{WritesData, start_numbers}
+use Rattle.sercos_law_run.specs.Agenda.Writes.{start_numbers}
 use Rattle.sercos_law_run.specs.Views.RingViews.{behind_mdt, view_of, views_of}
 use Rattle.sercos_law_run.proofs.Views.Members.{members_count}
 use Rattle.sercos_law_run.specs.Held.Opened.{IsOpened}
 use Rattle.sercos_law_run.proofs.Held.AnsweredRuns.{IsRead, Time, Attribute, is_read_request}
-use Rattle.sercos_law_run.proofs.Held.Runs.{Laws, small}
-use Rattle.sercos_law_run.proofs.Headline.HeadlineRuns.{MoreLaws, all_stand, first_store, keeps_all}
+use Rattle.sercos_law_run.proofs.Held.Runs.{small}
+use Rattle.sercos_law_run.proofs.Headline.HeadlineRuns.{all_stand, first_store, keeps_all}
 use Rattle.sercos_law_run.proofs.Undisturbed.StaysUp.{phase_now}
 use Rattle.sercos_law_run.proofs.Undisturbed.OwnSet.{AreBuiltIn}
+use Rattle.sercos_law_channel.proofs.Cited.{runs_exact}
+use Rattle.sercos_law_run.proofs.Agenda.WritesDone.{writes_data}
+use Rattle.sercos_law_run.proofs.Cited.{begins_tasks}
 
 -- A REQUEST names a built-in block, if it writes at all.
 abbrev pub is_built : Request → Bool
@@ -116,20 +118,20 @@ start_built i raw got = by start_numbers i (refl, (refl, (refl, (refl, (refl, (r
 same_some : (x y : Request) → Some x ≡ Some y → x ≡ y
 same_some x y e = cc
 
-task_built : WritesData → (s : Known) (k : ℕ) (by_then : Option PlanView) (waiting : List Task) (outs : List Outcome) (t : Task) → AreWaiting waiting → t.phase ≤ 3 → IsTask s k by_then waiting outs t → is_built t.request ≡ true
-task_built write_data s k by_then waiting outs t wait early (OfReads r less got is) = ap (λ (x : Task). is_built x.request) is ∙ by (is_read_request (member s k) (length outs) r got)
+task_built : (s : Known) (k : ℕ) (by_then : Option PlanView) (waiting : List Task) (outs : List Outcome) (t : Task) → AreWaiting waiting → t.phase ≤ 3 → IsTask s k by_then waiting outs t → is_built t.request ≡ true
+task_built s k by_then waiting outs t wait early (OfReads r less got is) = ap (λ (x : Task). is_built x.request) is ∙ by (is_read_request (member s k) (length outs) r got)
   where
     by : IsRead r → is_built r ≡ true
     by (Time raw built same) = ap is_built same
     by (Attribute i same) = ap is_built same
-task_built write_data s k by_then waiting outs t wait early (OfWrites p i r has less at got is) =
-    let (named, bytes, there, number) = write_data s p k i less in
+task_built s k by_then waiting outs t wait early (OfWrites p i r has less at got is) =
+    let (named, bytes, there, number) = writes_data s p k i less in
     ap (λ (x : Task). is_built x.request) is ∙ ap is_built (same_some r (request.Write named 7 bytes) (sym got ∙ there)) ∙ start_built i named.raw number
-task_built write_data s k by_then waiting outs t wait early (Checks3 p has at is) = ap (λ (x : Task). is_built x.request) is
-task_built write_data s k by_then waiting outs t wait early (Lists3 at failed is) = ap (λ (x : Task). is_built x.request) is
-task_built write_data s k by_then waiting outs t wait early (Checks4 at well is) = ap (λ (x : Task). is_built x.request) is
-task_built write_data s k by_then waiting outs t wait early (Lists4 at failed is) = ap (λ (x : Task). is_built x.request) is
-task_built write_data s k by_then waiting outs t wait early (OfWaiting j at ready got) = let late = wait j t got in absurd (omega (arith, late, early))
+task_built s k by_then waiting outs t wait early (Checks3 p has at is) = ap (λ (x : Task). is_built x.request) is
+task_built s k by_then waiting outs t wait early (Lists3 at failed is) = ap (λ (x : Task). is_built x.request) is
+task_built s k by_then waiting outs t wait early (Checks4 at well is) = ap (λ (x : Task). is_built x.request) is
+task_built s k by_then waiting outs t wait early (Lists4 at failed is) = ap (λ (x : Task). is_built x.request) is
+task_built s k by_then waiting outs t wait early (OfWaiting j at ready got) = let late = wait j t got in absurd (omega (arith, late, early))
 
 -- THE CHANNEL
 heard_built : (o : Option Heard) (begun : List Begun) → AreBuilt begun → AreBuilt (with_heard o begun)
@@ -150,12 +152,13 @@ abbrev pub NeverFour : List CycleView → Type 0
 NeverFour [] = Unit {0}
 NeverFour (t ∷ j) = NeverFour j × (t.phase ≤ 3)
 
-module _ (laws : Laws) (more : MoreLaws) (comes_up : (busy : ℕ) → ComesUp busy) (r : RingView) (jobs : List Job) (carry : Carry) (restarts : Restarts) (opened : IsOpened r jobs) (k : ℕ) (below : k < length r.drives) where
+module _ (r : RingView) (jobs : List Job) (carry : Carry) (restarts : Restarts) (opened : IsOpened r jobs) (k : ℕ)
+    (below : k < length r.drives) where
   inside : k < length (known_of r).drives
   inside = let count = members_count r in omega (arith, count, below)
 
   begins_built : (t : CycleView) (j : List CycleView) → IsRun r jobs carry restarts (t ∷ j) → IsClear (t ∷ j) → (behind_mdt r jobs carry restarts t.sent j).now.phase ≤ 3 → (q : Request) → (view_of r jobs carry restarts k t j).begins ≡ Some q → is_built q ≡ true
-  begins_built t j run clear early q begins = by (begun_by (p.calls k)) (p.tasks k) refl (laws.tasks (known_of r) (tasks_for (known_of r) jobs) (middle r carry restarts t.sent j) k inside)
+  begins_built t j run clear early q begins = by (begun_by (p.calls k)) (p.tasks k) refl (begins_tasks (known_of r) (tasks_for (known_of r) jobs) (middle r carry restarts t.sent j) k inside)
     where
       p : Past
       p = behind_mdt r jobs carry restarts t.sent j
@@ -164,7 +167,7 @@ module _ (laws : Laws) (more : MoreLaws) (comes_up : (busy : ℕ) → ComesUp bu
       v = view_of r jobs carry restarts k t j
 
       now_is : begun_by (p.calls k) ≡ with_begun v.begins (with_heard v.heard (if v.master_restarts then [] else epoch_begun (views_of r jobs carry restarts k j)))
-      now_is = sym ((keeps_all laws more r jobs carry restarts opened t j run clear).exact k below).begun_now
+      now_is = sym ((keeps_all r jobs carry restarts opened t j run clear).exact k below).begun_now
 
       first_is : {x y : Begun} {xs ys : List Begun} → x ∷ xs ≡ y ∷ ys → x ≡ y
       first_is e = cc
@@ -179,7 +182,7 @@ module _ (laws : Laws) (more : MoreLaws) (comes_up : (busy : ℕ) → ComesUp bu
           sym same ∙ now_is ∙ ap (λ (o : Option Request). with_begun o (with_heard v.heard (if v.master_restarts then [] else epoch_begun (views_of r jobs carry restarts k j)))) begins in
           let asks : b.request ≡ q = ap (λ (x : Begun). x.request) (first_is head) in
           ap is_built (sym asks ∙ are.1.asks)
-          ∙ task_built laws.write_data (known_of r) k are.1.by_then (p.waiting k) _ u (jobs_waiting (known_of r) jobs (middle r carry restarts t.sent j) k) (let low = are.1.early in omega (arith, low, early)) are.1.task
+          ∙ task_built (known_of r) k are.1.by_then (p.waiting k) _ u (jobs_waiting (known_of r) jobs (middle r carry restarts t.sent j) k) (let low = are.1.early in omega (arith, low, early)) are.1.task
 
   -- all that was begun, in this epoch and before
   abbrev BothBuilt : List CycleView → Type 0
@@ -197,7 +200,7 @@ module _ (laws : Laws) (more : MoreLaws) (comes_up : (busy : ℕ) → ComesUp bu
 
       now : AreBuilt (begun_in (view_of r jobs carry restarts k t j) (views_of r jobs carry restarts k j))
       now = begun_built v.begins (with_heard v.heard (if v.master_restarts then [] else epoch_begun (views_of r jobs carry restarts k j)))
-          (begins_built t j run clear (let now = phase_now laws more comes_up r jobs carry restarts opened t j run.1 in omega (arith, now, low)))
+          (begins_built t j run clear (let now = phase_now r jobs carry restarts opened t j run.1 in omega (arith, now, low)))
           (heard_built v.heard (if v.master_restarts then [] else epoch_begun (views_of r jobs carry restarts k j)) (restarted v.master_restarts))
 
       ended : (b : Bool) → AreBuilt (if b then [] else begun_in (view_of r jobs carry restarts k t j) (views_of r jobs carry restarts k j))
@@ -219,8 +222,8 @@ module _ (laws : Laws) (more : MoreLaws) (comes_up : (busy : ℕ) → ComesUp bu
 
   pub writes_built : (j : List CycleView) → IsRun r jobs carry restarts j → IsClear j → NeverFour j → AreBuiltIn (all_writes (views_of r jobs carry restarts k j))
   writes_built j run clear never =
-      let stands = all_stand laws more r jobs carry restarts opened j run clear k below in
+      let stands = all_stand r jobs carry restarts opened j run clear k below in
       let built = built_so j run clear never in
       exact_built (store_of (drive_at r k)) (all_begun (views_of r jobs carry restarts k j)) (all_entries (views_of r jobs carry restarts k j)) (all_writes (views_of r jobs carry restarts k j))
-      (laws.exact (drive_at r k).busy (store_of (drive_at r k)) (views_of r jobs carry restarts k j) (small laws r jobs carry restarts opened (first_store laws more r jobs carry restarts opened) k below) stands.sees.run stands.sound)
+      (runs_exact (drive_at r k).busy (store_of (drive_at r k)) (views_of r jobs carry restarts k j) (small r jobs carry restarts opened (first_store r jobs carry restarts opened) k below) stands.sees.run stands.sound)
       (built_append (epoch_begun (views_of r jobs carry restarts k j)) (begun_ago (views_of r jobs carry restarts k j)) built.0 built.1)

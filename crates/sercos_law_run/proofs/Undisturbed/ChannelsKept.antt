@@ -24,8 +24,8 @@ use Rattle.sercos_law_run.proofs.Views.Members.{AreHeardAs}
 use Rattle.sercos_law_run.proofs.Views.Coupled.{ats_heard}
 use Rattle.sercos_law_run.proofs.Views.ViewRuns.{started}
 use Rattle.sercos_law_run.specs.Held.Opened.{IsOpened}
-use Rattle.sercos_law_run.proofs.Held.Runs.{Laws, holding}
-use Rattle.sercos_law_run.proofs.Headline.HeadlineRuns.{MoreLaws, first_store, stored_in, spelled_in, all_stand}
+use Rattle.sercos_law_run.proofs.Held.Runs.{holding}
+use Rattle.sercos_law_run.proofs.Headline.HeadlineRuns.{first_store, stored_in, spelled_in, all_stand}
 
 -- what is heard
 heard_calls : (s : Known) (k : ℕ) (such : List ℕ → Type 0) (c : List channel.Call) (q : Past) → HasHeard s k such c q → heard_last c ≡ None → calls_heard (heard_last (q.calls k)) c ≡ q.calls k
@@ -82,11 +82,11 @@ pub ats_leave : (r : RingView) (jobs : List Job) (carry : Carry) (restarts : Res
 ats_leave r jobs carry restarts t j k = ats_heard r jobs carry (length j) k (λ content. Unit {0}) (behind_mst r jobs carry restarts t.sent j) (ats_in t.sent) _
     (ats_none (known_of r) k (λ content. Unit {0}) (behind_mst r jobs carry restarts t.sent j)) (any_heard r carry (length j) (ats_in t.sent))
 
-module _ (laws : Laws) (more : MoreLaws) (r : RingView) (jobs : List Job) (carry : Carry) (restarts : Restarts) (opened : IsOpened r jobs) where
+module _ (r : RingView) (jobs : List Job) (carry : Carry) (restarts : Restarts) (opened : IsOpened r jobs) where
   -- a channel has heard nothing of a cycle at its start
   pub unheard_first : (j : List CycleView) → IsRun r jobs carry restarts j → IsClear j → (k : ℕ) → k < length r.drives → heard_last ((at_start r jobs carry restarts j).calls k) ≡ None
   unheard_first j run clear k below = subst (λ (p : Past). heard_last (p.calls k) ≡ None) (sym (started r jobs (restarts (length j) 0) (master_calls r carry restarts j)))
-      (same_started (restarts (length j) 0) (looks_back r jobs (master_calls r carry restarts j)) k _ _ _ (all_stand laws more r jobs carry restarts opened j run clear k below).sees.master).unheard
+      (same_started (restarts (length j) 0) (looks_back r jobs (master_calls r carry restarts j)) k _ _ _ (all_stand r jobs carry restarts opened j run clear k below).sees.master).unheard
 
   -- a cycle up to its end, if it was so before the cycle
   calls_then : (t : CycleView) (j : List CycleView) → IsRun r jobs carry restarts (t ∷ j) → IsClear (t ∷ j) → (k : ℕ) → k < length r.drives
@@ -119,8 +119,9 @@ module _ (laws : Laws) (more : MoreLaws) (r : RingView) (jobs : List Job) (carry
 
       planned : 3 ≤ t.phase → is_some (behind_mdt r jobs carry restarts t.sent j).plan ≡ true
       planned late =
-          let (plan, is, holds) = holding laws r jobs carry restarts opened (first_store laws more r jobs carry restarts opened) t j next clear (spelled_in laws more r jobs carry restarts opened t j next)
-          (stored_in laws more r jobs carry restarts opened t j) (all_stand laws more r jobs carry restarts opened j run before) (subst (λ (n : ℕ). 3 ≤ n) next.phase late) k below in
+          let (plan, is, holds) = holding r jobs carry restarts opened (first_store r jobs carry restarts opened) t j next clear
+          (spelled_in r jobs carry restarts opened t j next) (stored_in r jobs carry restarts opened t j)
+          (all_stand r jobs carry restarts opened j run before) (subst (λ (n : ℕ). 3 ≤ n) next.phase late) k below in
           ap (λ (o : Option PlanView). is_some o) is.now
 
   -- at the end of each cycle the channel has been given these calls ..

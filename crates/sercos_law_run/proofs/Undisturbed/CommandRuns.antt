@@ -17,7 +17,6 @@ use Rattle.sercos_seat.specs.Ring.{known_of}
 use Rattle.sercos_master.specs.Annals.{is_done}
 use Rattle.sercos_script.specs.Links.{Carry, Restarts}
 use Rattle.sercos_law_channel.specs.Handshake.Views.{View, standing, stood_in, got_in, processed_of, processed_in, kept_in}
-use Rattle.sercos_law_channel.specs.Handshake.RunLaws.{BeginsEmpty}
 use Rattle.sercos_law_run.specs.Journal.Records.{mdt_in}
 use Rattle.sercos_law_run.specs.Journal.Runs.{drive_at, with_restart, mdt_heard, given_before, IsNext as IsNextCycle}
 use Rattle.sercos_law_run.specs.Views.RingViews.{behind_mdt, after_mst, view_of, views_of}
@@ -51,10 +50,10 @@ pub commands_restarted : (d : DriveView) (rate : ℕ) (restarts : Bool) (calls :
 commands_restarted d rate true calls c is = ap without_settings is
 commands_restarted d rate false calls c is = is
 
-module _ (empty : (busy : ℕ) → BeginsEmpty busy) (r : RingView) (jobs : List Job) (carry : Carry) (restarts : Restarts) (valid : is_ring r ≡ true) (t : CycleView) (j : List CycleView)
-    (next : IsNextCycle r jobs carry restarts t j) (clear : t.unseen ≡ 0) (spelled : IsSpelled r jobs carry restarts t j) (k : ℕ) (below : k < length r.drives) (sees : Sees r jobs carry restarts k j)
-    (agrees : (plan : PlanView) → 3 ≤ (behind_mdt r jobs carry restarts t.sent j).now.phase → 3 ≤ phase_in (after_mst r carry restarts t.sent j k) → (behind_mdt r jobs carry restarts t.sent j).plan ≡ Some plan
-    → Agrees (known_of r) (behind_mdt r jobs carry restarts t.sent j) k (blocks_in (drive_at r k) (after_mst r carry restarts t.sent j k)))
+module _ (r : RingView) (jobs : List Job) (carry : Carry) (restarts : Restarts) (valid : is_ring r ≡ true) (t : CycleView)
+    (j : List CycleView) (next : IsNextCycle r jobs carry restarts t j) (clear : t.unseen ≡ 0)
+    (spelled : IsSpelled r jobs carry restarts t j) (k : ℕ) (below : k < length r.drives) (sees : Sees r jobs carry restarts k j)
+    (agrees : (plan : PlanView) → 3 ≤ (behind_mdt r jobs carry restarts t.sent j).now.phase → 3 ≤ phase_in (after_mst r carry restarts t.sent j k) → (behind_mdt r jobs carry restarts t.sent j).plan ≡ Some plan → Agrees (known_of r) (behind_mdt r jobs carry restarts t.sent j) k (blocks_in (drive_at r k) (after_mst r carry restarts t.sent j k)))
     (rests : is_done (known_of r) (behind_mdt r jobs carry restarts t.sent j) ≡ true → open_in (begun_by ((behind_mdt r jobs carry restarts t.sent j).calls k)) ≡ None)
     (before : AreCommandsSo r jobs carry restarts k j) where
   abbrev d : DriveView
@@ -72,7 +71,7 @@ module _ (empty : (busy : ℕ) → BeginsEmpty busy) (r : RingView) (jobs : List
   -- at the MST's place
   at_beat : v.commands ≡ reset_in (stood_in v (standing past)) (if v.drive_restarts then without_settings (commands_ended (first_commands r k) past) else commands_ended (first_commands r k) past)
   at_beat =
-      let here = at_mst empty r jobs carry restarts valid t j next clear spelled k below sees agrees rests in
+      let here = at_mst r jobs carry restarts valid t j next clear spelled k below sees agrees rests in
       ap₂ (λ (n : ℕ) (c : CommandsView). reset_in n c) here.ended
       (commands_restarted d r.rate (restarts (length j) (k + 1)) (given_before carry restarts j k) (commands_ended (first_commands r k) past) before.behind)
 
@@ -82,15 +81,15 @@ module _ (empty : (busy : ℕ) → BeginsEmpty busy) (r : RingView) (jobs : List
 
   processed_so : processed_at d r.rate told behind ≡ processed_in v past
   processed_so =
-      let here = at_mst empty r jobs carry restarts valid t j next clear spelled k below sees agrees rests in
-      let cycle = count empty r jobs carry restarts valid t j next clear spelled k below sees agrees rests in
+      let here = at_mst r jobs carry restarts valid t j next clear spelled k below sees agrees rests in
+      let cycle = count r jobs carry restarts valid t j next clear spelled k below sees agrees rests in
       processed_same d r.rate (length past) behind told v (stood_in v (standing past)) (sym cycle) here.ended here.got refl refl
-      ∙ ap (processed_of v (length past) (stood_in v (standing past))) (got_or_none _ _ (told_so empty r jobs carry restarts valid t j next clear spelled k below sees agrees rests))
+      ∙ ap (processed_of v (length past) (stood_in v (standing past))) (got_or_none _ _ (told_so r jobs carry restarts valid t j next clear spelled k below sees agrees rests))
 
   at_end : commands_at r carry restarts k (t ∷ j) ≡ reset_in (standing (v ∷ past)).ended (commands_left v past)
   at_end =
-      let here = at_mst empty r jobs carry restarts valid t j next clear spelled k below sees agrees rests in
-      let after = sees_next empty r jobs carry restarts valid t j next clear spelled k below sees agrees rests in
+      let here = at_mst r jobs carry restarts valid t j next clear spelled k below sees agrees rests in
+      let after = sees_next r jobs carry restarts valid t j next clear spelled k below sees agrees rests in
       ap₂ (λ (n : ℕ) (c : CommandsView). reset_in n c) after.drive.ended
       (ap₂ (λ (o : Option Taken) (h : List Taken). commands_after o h v.commands) processed_so here.taken
       ∙ commands_same v (length past) (stood_in v (standing past)) (got_in v) (kept_in v past))

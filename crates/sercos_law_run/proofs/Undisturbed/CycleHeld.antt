@@ -41,11 +41,15 @@ use Rattle.sercos_law_run.specs.Journal.Runs.{drive_at, given_mst, given_before,
 use Rattle.sercos_law_run.specs.Views.RingViews.{at_start, after_mst, behind_mdt, view_of, views_of}
 use Rattle.sercos_law_run.proofs.Views.Members.{members_count}
 use Rattle.sercos_law_run.specs.Held.Opened.{IsOpened}
-use Rattle.sercos_law_run.proofs.Held.Runs.{Laws, Stands, IsPlannedIn, drive_got, holding, s_known, small}
-use Rattle.sercos_law_run.proofs.Headline.HeadlineRuns.{MoreLaws, all_stand, first_store, spelled_in, stored_in}
+use Rattle.sercos_law_run.proofs.Held.Runs.{Stands, IsPlannedIn, drive_got, holding, s_known, small}
+use Rattle.sercos_law_run.proofs.Headline.HeadlineRuns.{all_stand, first_store, spelled_in, stored_in}
 use Rattle.sercos_law_run.specs.Undisturbed.Fit.{IsFit}
 use Rattle.sercos_law_run.proofs.Undisturbed.BlockStays.{IsAt, Stays, stays_at}
 use Rattle.sercos_law_run.proofs.Undisturbed.Small.{first_is}
+use Rattle.sercos_law_channel.proofs.Cited.{written_stays}
+use Rattle.sercos_law_channel.proofs.Handshake.StoredValues.{holds_newest}
+use Rattle.sercos_law_run.proofs.Agenda.Requests.{are_requests}
+use Rattle.sercos_law_run.proofs.Cited.{configures_rise}
 
 -- THE CYCLE TIME of a drive's store is that of the opening, or it could be written
 abbrev IsWritable : Block → Type 0
@@ -128,7 +132,7 @@ stored_cycle d cycle small =
     let back : cycle % 256 + 256 * (cycle / 256) ≡ cycle = omega arith in
     ap (λ (n : ℕ). bytes_in (n ∷ [])) back ∙ ap (λ (n : ℕ). (cycle % 256) ∷ n ∷ []) (let high : cycle / 256 ≡ cycle / 256 % 256 = omega (arith, small) in high)
 
-module _ (laws : Laws) (more : MoreLaws) (r : RingView) (jobs : List Job) (carry : Carry) (restarts : Restarts) (opened : IsOpened r jobs) where
+module _ (r : RingView) (jobs : List Job) (carry : Carry) (restarts : Restarts) (opened : IsOpened r jobs) where
   pub fits_in : (t : CycleView) (j : List CycleView) → IsRun r jobs carry restarts (t ∷ j) → IsClear (t ∷ j) → 3 ≤ t.phase → IsFit r
   fits_in t j (run, next) (before, clear) late = record {
     plan = (held 0 some_drive).0;
@@ -141,28 +145,30 @@ module _ (laws : Laws) (more : MoreLaws) (r : RingView) (jobs : List Job) (carry
       three = subst (λ (n : ℕ). 3 ≤ n) next.phase late
 
       held : (k : ℕ) → k < length r.drives → (plan : PlanView) × IsPlannedIn r jobs carry restarts t j plan × Holds (blocks_in (drive_at r k) (after_mst r carry restarts t.sent j k)) (start_up r.control r.cycle plan k (drive_at r k).at (drive_at r k).mdt)
-      held k below = holding laws r jobs carry restarts opened (first_store laws more r jobs carry restarts opened) t j next clear (spelled_in laws more r jobs carry restarts opened t j next) (stored_in laws more r jobs carry restarts opened t j)
-          (all_stand laws more r jobs carry restarts opened j run before) three k below
+      held k below = holding r jobs carry restarts opened (first_store r jobs carry restarts opened) t j next clear
+          (spelled_in r jobs carry restarts opened t j next) (stored_in r jobs carry restarts opened t j)
+          (all_stand r jobs carry restarts opened j run before) three k below
 
       some_drive : 0 < length r.drives
-      some_drive = let count = members_count r in let some = (s_known laws r jobs carry restarts opened (first_store laws more r jobs carry restarts opened)).some in omega (arith, count, some)
+      some_drive = let count = members_count r in let some = (s_known r jobs carry restarts opened (first_store r jobs carry restarts opened)).some in omega (arith, count, some)
 
       cycle_is : (1 ≤ r.cycle) × (r.cycle < 65536)
-      cycle_is = cycle_some r.cycle (s_known laws r jobs carry restarts opened (first_store laws more r jobs carry restarts opened)).cycles.cycle
+      cycle_is = cycle_some r.cycle (s_known r jobs carry restarts opened (first_store r jobs carry restarts opened)).cycles.cycle
 
       within : (k : ℕ) → k < length r.drives → (nat_lt r.cycle (drive_at r k).cycle_min ≡ false) × (nat_lt (drive_at r k).cycle_max r.cycle ≡ false)
       within k below =
           let rules = (ring_drive r k (drive_at r k) opened.valid (drive_got r k below)).blocks in
-          held_within (drive_at r k) (blocks_in (drive_at r k) (after_mst r carry restarts t.sent j k)) r.cycle rules (stored_in laws more r jobs carry restarts opened t j k below).1 cycle_is.0 cycle_is.1
-          (stays_at more.keep more.allows more.those (drive_at r k) 2 IsWritable (writable_stays (drive_at r k) rules) r.rate (given_mst carry restarts t.sent j k) (first_store laws more r jobs carry restarts opened k below).ascending)
+          held_within (drive_at r k) (blocks_in (drive_at r k) (after_mst r carry restarts t.sent j k)) r.cycle rules (stored_in r jobs carry restarts opened t j k below).1 cycle_is.0 cycle_is.1
+          (stays_at (drive_at r k) 2 IsWritable (writable_stays (drive_at r k) rules) r.rate (given_mst carry restarts t.sent j k) (first_store r jobs carry restarts opened k below).ascending)
           (held k below).2.1.0
 
   -- in phase 3 and later each drive's store holds the cycle time
   pub holds_cycle : (t : CycleView) (j : List CycleView) → IsRun r jobs carry restarts (t ∷ j) → IsClear (t ∷ j) → 3 ≤ t.phase → (k : ℕ) → k < length r.drives
       → (plan : PlanView) × Holds (blocks_in (drive_at r k) (after_mst r carry restarts t.sent j k)) (start_up r.control r.cycle plan k (drive_at r k).at (drive_at r k).mdt)
   holds_cycle t j (run, next) (before, clear) late k below =
-      let held = holding laws r jobs carry restarts opened (first_store laws more r jobs carry restarts opened) t j next clear (spelled_in laws more r jobs carry restarts opened t j next) (stored_in laws more r jobs carry restarts opened t j)
-      (all_stand laws more r jobs carry restarts opened j run before) (subst (λ (n : ℕ). 3 ≤ n) next.phase late) k below in
+      let held = holding r jobs carry restarts opened (first_store r jobs carry restarts opened) t j next clear
+      (spelled_in r jobs carry restarts opened t j next) (stored_in r jobs carry restarts opened t j)
+      (all_stand r jobs carry restarts opened j run before) (subst (λ (n : ℕ). 3 ≤ n) next.phase late) k below in
       (held.0, held.2)
 
   -- A DRIVE WHOSE CHECK FOR PHASE 3 has ended well has taken the cycle time.
@@ -177,10 +183,10 @@ module _ (laws : Laws) (more : MoreLaws) (r : RingView) (jobs : List Job) (carry
       rules = (ring_drive r k (drive_at r k) opened.valid (drive_got r k below)).blocks
 
       stands : Stands r jobs carry restarts (t ∷ j) k
-      stands = all_stand laws more r jobs carry restarts opened (t ∷ j) run clear k below
+      stands = all_stand r jobs carry restarts opened (t ∷ j) run clear k below
 
       configured : IsConfigured (known_of r) k (store_of (drive_at r k)) p.plan (begun_by (p.calls k))
-      configured = let count = members_count r in laws.configures (known_of r) (tasks_for (known_of r) jobs) (middle r carry restarts t.sent j) k (store_of (drive_at r k)) (λ i. (more.requests (known_of r) jobs i).0) (omega (arith, count, below)) low well
+      configured = let count = members_count r in configures_rise (known_of r) (tasks_for (known_of r) jobs) (middle r carry restarts t.sent j) k (store_of (drive_at r k)) (λ i. (are_requests (known_of r) jobs i).0) (omega (arith, count, below)) low well
 
       last : IsWrittenLast (store_of (drive_at r k)) (begun_by (p.calls k)) (idn 2) (bytes_in (r.cycle ∷ []))
       last = configured.each 1 (idn 2) (bytes_in (r.cycle ∷ [])) refl
@@ -192,19 +198,19 @@ module _ (laws : Laws) (more : MoreLaws) (r : RingView) (jobs : List Job) (carry
       found = found_cycle (drive_at r k) rules
 
       newest : newest_to 2 (all_writes (views_of r jobs carry restarts k (t ∷ j))) ≡ Some (stored block (bytes_in (r.cycle ∷ [])))
-      newest = laws.written (drive_at r k).busy (store_of (drive_at r k)) (stays (view_of r jobs carry restarts k t j) ∷ views_of r jobs carry restarts k j) last.newer last.older last.one (idn 2) (bytes_in (r.cycle ∷ [])) last.whole block
-          (small laws r jobs carry restarts opened (first_store laws more r jobs carry restarts opened) k below) (stands.sees.run.0, next_still (drive_at r k).busy (view_of r jobs carry restarts k t j) (views_of r jobs carry restarts k j) stands.sees.run.1) stands.sound
-          (sym (begun_then laws more r jobs carry restarts opened t j run clear k below) ∙ last.split) last.asks last.complete found last.away
+      newest = written_stays (drive_at r k).busy (store_of (drive_at r k)) (stays (view_of r jobs carry restarts k t j) ∷ views_of r jobs carry restarts k j) last.newer last.older last.one (idn 2) (bytes_in (r.cycle ∷ [])) last.whole block
+          (small r jobs carry restarts opened (first_store r jobs carry restarts opened) k below) (stands.sees.run.0, next_still (drive_at r k).busy (view_of r jobs carry restarts k t j) (views_of r jobs carry restarts k j) stands.sees.run.1) stands.sound
+          (sym (begun_then r jobs carry restarts opened t j run clear k below) ∙ last.split) last.asks last.complete found last.away
 
       cycle_small : (1 ≤ r.cycle) × (r.cycle < 65536)
-      cycle_small = cycle_some r.cycle (s_known laws r jobs carry restarts opened (first_store laws more r jobs carry restarts opened)).cycles.cycle
+      cycle_small = cycle_some r.cycle (s_known r jobs carry restarts opened (first_store r jobs carry restarts opened)).cycles.cycle
 
       holds : data_at (blocks_in (drive_at r k) (annals (drive_at r k) r.rate (given_before carry restarts (t ∷ j) k))) 2 ≡ to_le_bytes w16 r.cycle
       holds =
-          ap (λ (l : List Block). data_at l 2) stands.sees.drive.blocks ∙ laws.newest (store_of (drive_at r k)) (views_of r jobs carry restarts k (t ∷ j)) 2 block refl found
+          ap (λ (l : List Block). data_at l 2) stands.sees.drive.blocks ∙ holds_newest (store_of (drive_at r k)) (views_of r jobs carry restarts k (t ∷ j)) 2 block refl found
           ∙ ap (λ (o : Option (List ℕ)). unwrap_or o block.value) newest ∙ stored_cycle (drive_at r k) r.cycle cycle_small.1
 
       limits : (nat_lt r.cycle (drive_at r k).cycle_min ≡ false) × (nat_lt (drive_at r k).cycle_max r.cycle ≡ false)
       limits = held_within (drive_at r k) (blocks_in (drive_at r k) (annals (drive_at r k) r.rate (given_before carry restarts (t ∷ j) k))) r.cycle rules
-          (store_of_so more.keep more.allows more.those (drive_at r k) r.rate (given_before carry restarts (t ∷ j) k) (first_store laws more r jobs carry restarts opened k below).ascending).0 cycle_small.0 cycle_small.1
-          (stays_at more.keep more.allows more.those (drive_at r k) 2 IsWritable (writable_stays (drive_at r k) rules) r.rate (given_before carry restarts (t ∷ j) k) (first_store laws more r jobs carry restarts opened k below).ascending) holds
+          (store_of_so (drive_at r k) r.rate (given_before carry restarts (t ∷ j) k) (first_store r jobs carry restarts opened k below).ascending).0 cycle_small.0 cycle_small.1
+          (stays_at (drive_at r k) 2 IsWritable (writable_stays (drive_at r k) rules) r.rate (given_before carry restarts (t ∷ j) k) (first_store r jobs carry restarts opened k below).ascending) holds

@@ -19,21 +19,18 @@ use Rattle.sercos_master.specs.Annals.{outcomes, is_idle}
 use Rattle.sercos_master.proofs.Followed.{not_longer}
 use Rattle.sercos_script.specs.Links.{Carry, Restarts}
 use Rattle.sercos_law_channel.specs.Handshake.Epochs.{epoch_begun}
-use Rattle.sercos_law_channel.specs.Handshake.RunLaws.{ComesUp}
 use Rattle.sercos_law_channel.specs.Handshake.Views.{View, standing}
 use Rattle.sercos_law_channel.specs.Handshake.WholeRun.{AreSound}
-use Rattle.sercos_law_channel.specs.Pace.Ages.{AreAtWork, OpensAlways}
-use Rattle.sercos_law_channel.specs.Pace.Costs.{AreTimed, ComesTimed}
+use Rattle.sercos_law_channel.specs.Pace.Ages.{AreAtWork}
+use Rattle.sercos_law_channel.specs.Pace.Costs.{AreTimed}
 use Rattle.sercos_law_channel.specs.Pace.Passages.{RecoversInTime}
-use Rattle.sercos_law_channel.specs.Pace.StartCosts.{RecoversSince}
 use Rattle.sercos_law_channel.specs.Pace.Stretches.{open_since}
 use Rattle.sercos_law_run.specs.Journal.Runs.{drive_at, master_calls, looks_back, IsRun, IsClear}
 use Rattle.sercos_law_run.specs.Agenda.Tasks.{AreBegunTasks}
-use Rattle.sercos_law_run.specs.Agenda.Turns.{WorksInFour}
 use Rattle.sercos_law_run.specs.Views.RingViews.{behind_mdt, view_of, views_of}
 use Rattle.sercos_law_run.specs.Held.Opened.{IsOpened}
-use Rattle.sercos_law_run.proofs.Held.Runs.{Laws, small}
-use Rattle.sercos_law_run.proofs.Headline.HeadlineRuns.{MoreLaws, all_stand, first_store}
+use Rattle.sercos_law_run.proofs.Held.Runs.{small}
+use Rattle.sercos_law_run.proofs.Headline.HeadlineRuns.{all_stand, first_store}
 use Rattle.sercos_law_run.specs.Undisturbed.Reports.{request_cycles}
 use Rattle.sercos_law_run.specs.Undisturbed.StopsLater.{NoStopInFour}
 use Rattle.sercos_law_run.specs.Tolerance.Losses.{GoesOn}
@@ -50,9 +47,10 @@ use Rattle.sercos_law_run.proofs.Undisturbed.OneRequest.{room, one_lasts}
 use Rattle.sercos_law_run.proofs.Undisturbed.PassedCycles.{views_split}
 use Rattle.sercos_law_run.proofs.Undisturbed.PassedRuns.{commands_so}
 use Rattle.sercos_law_run.proofs.Undisturbed.PhaseTwo.{listed_all}
-use Rattle.sercos_law_run.proofs.Undisturbed.RefusedRuns.{SaysShape}
 use Rattle.sercos_law_run.proofs.Undisturbed.Small.{first_is}
 use Rattle.sercos_law_run.proofs.Undisturbed.StopStays.{stop_after}
+use Rattle.sercos_law_channel.proofs.Cited.{always_opens, rest_since}
+use Rattle.sercos_law_channel.proofs.Pace.TimedCommands.{comes_timed}
 
 -- THE REQUEST AT WORK: all that were begun before it have ended.
 record IsAlone (n : ℕ) (begun : List Begun) : Type 0 where
@@ -132,10 +130,10 @@ goes_on_since r jobs carry restarts k (t ∷ cycles) rest are = (
   are.1.quiet,
 )
 
-module _ (laws : Laws) (more : MoreLaws) (comes_up : (busy : ℕ) → ComesUp busy) (works : WorksInFour)
-    (r : RingView) (jobs : List Job) (carry : Carry) (restarts : Restarts) (opened : IsOpened r jobs) (k : ℕ) (below : k < length r.drives)
-    (P : CycleView → List CycleView → Type 0) (going : (t : CycleView) (j : List CycleView) → P t j
-    → IsGoing r jobs carry restarts t j) (lasts : LastsShort r jobs carry restarts k P) where
+module _ (r : RingView) (jobs : List Job) (carry : Carry) (restarts : Restarts) (opened : IsOpened r jobs) (k : ℕ)
+    (below : k < length r.drives) (P : CycleView → List CycleView → Type 0)
+    (going : (t : CycleView) (j : List CycleView) → P t j → IsGoing r jobs carry restarts t j)
+    (lasts : LastsShort r jobs carry restarts k P) where
   goings : (cycles rest : List CycleView) → AreAll P cycles rest → AreGoing r jobs carry restarts cycles rest
   goings cycles rest are = all_so P (IsGoing r jobs carry restarts) going cycles rest are
 
@@ -145,95 +143,97 @@ module _ (laws : Laws) (more : MoreLaws) (comes_up : (busy : ℕ) → ComesUp bu
       → IsAlone (length (outcomes (behind_mdt r jobs carry restarts t.sent j) k)) (epoch_begun (views_of r jobs carry restarts k (t ∷ j)))
   alone_in t j run clear on busy =
       let p = behind_mdt r jobs carry restarts t.sent j in
-      let same = begun_now laws more r jobs carry restarts opened t j run clear on.stays k below in
+      let same = begun_now r jobs carry restarts opened t j run clear on.stays k below in
       subst (λ (n : ℕ). IsAlone n (epoch_begun (views_of r jobs carry restarts k (t ∷ j)))) (ap (λ (l : List Begun). length (outcomes_in l)) (sym same))
-      (alone (known_of r) k p.plan (p.waiting k) p.now.phase (epoch_begun (views_of r jobs carry restarts k (t ∷ j))) (p.tasks k) (tasks_now laws more r jobs carry restarts opened t j run clear on.stays k below)
+      (alone (known_of r) k p.plan (p.waiting k) p.now.phase (epoch_begun (views_of r jobs carry restarts k (t ∷ j))) (p.tasks k) (tasks_now r jobs carry restarts opened t j run clear on.stays k below)
       (ap (λ (l : List Begun). is_none (open_in l)) (sym same) ∙ busy))
 
   -- NO REQUEST LASTS so long: after a cycle of phase 4 in which those before it had ended.
-  module _ (i : ℕ) (t : CycleView) (newer : List CycleView) (one : CycleView) (old : List CycleView) (run : IsRun r jobs carry restarts (t ∷ (newer ++ one ∷ old))) (clear : IsClear (t ∷ (newer ++ one ∷ old)))
-      (all : AreAll P (t ∷ newer) (one ∷ old)) (one_is : P one old) (one_four : one.phase ≡ 4) (t_four : t.phase ≡ 4) (none :
-      (behind_mdt r jobs carry restarts t.sent (newer ++ one ∷ old)).stop ≡ None)
-      (low : i < length ((looks_back r jobs (master_calls r carry restarts old)).waiting k)) (enough : reads_count (member (known_of r) k) + (13 + i) ≤ length (outcomes (behind_mdt r jobs carry restarts one.sent old) k))
-      (few : length (outcomes (behind_mdt r jobs carry restarts t.sent (newer ++ one ∷ old)) k) ≤ reads_count (member (known_of r) k) + (13 + i)) where
-    on : AreGoing r jobs carry restarts (t ∷ newer) (one ∷ old)
-    on = goings (t ∷ newer) (one ∷ old) all
+  module _ (i : ℕ) (t : CycleView) (newer : List CycleView) (one : CycleView) (old : List CycleView)
+      (run : IsRun r jobs carry restarts (t ∷ (newer ++ one ∷ old))) (clear : IsClear (t ∷ (newer ++ one ∷ old)))
+      (all : AreAll P (t ∷ newer) (one ∷ old)) (one_is : P one old) (one_four : one.phase ≡ 4) (t_four : t.phase ≡ 4)
+      (none : (behind_mdt r jobs carry restarts t.sent (newer ++ one ∷ old)).stop ≡ None)
+      (low : i < length ((looks_back r jobs (master_calls r carry restarts old)).waiting k))
+      (enough : reads_count (member (known_of r) k) + (13 + i) ≤ length (outcomes (behind_mdt r jobs carry restarts one.sent old) k))
+      (few : length (outcomes (behind_mdt r jobs carry restarts t.sent (newer ++ one ∷ old)) k) ≤ reads_count (member (known_of r) k) + (13 + i))
+    where
+      on : AreGoing r jobs carry restarts (t ∷ newer) (one ∷ old)
+      on = goings (t ∷ newer) (one ∷ old) all
 
-    first : IsGoing r jobs carry restarts one old
-    first = going one old one_is
+      first : IsGoing r jobs carry restarts one old
+      first = going one old one_is
 
-    rest_run : IsRun r jobs carry restarts (one ∷ old) × IsClear (one ∷ old)
-    rest_run = run_rest r jobs carry restarts (t ∷ newer) (one ∷ old) run clear
+      rest_run : IsRun r jobs carry restarts (one ∷ old) × IsClear (one ∷ old)
+      rest_run = run_rest r jobs carry restarts (t ∷ newer) (one ∷ old) run clear
 
-    -- at the ends of cycles
-    none_end : (looks_back r jobs (master_calls r carry restarts (t ∷ (newer ++ one ∷ old)))).stop ≡ None
-    none_end = stop_after r jobs carry restarts t (newer ++ one ∷ old) on.1.stays ∙ none
+      -- at the ends of cycles
+      none_end : (looks_back r jobs (master_calls r carry restarts (t ∷ (newer ++ one ∷ old)))).stop ≡ None
+      none_end = stop_after r jobs carry restarts t (newer ++ one ∷ old) on.1.stays ∙ none
 
-    few_end : length (outcomes (looks_back r jobs (master_calls r carry restarts (t ∷ (newer ++ one ∷ old)))) k) ≤ reads_count (member (known_of r) k) + (13 + i)
-    few_end = subst (λ (l : List Outcome). length l ≤ reads_count (member (known_of r) k) + (13 + i)) (sym
-        (outcomes_kept laws more r jobs carry restarts opened t (newer ++ one ∷ old) on.1 k)) few
+      few_end : length (outcomes (looks_back r jobs (master_calls r carry restarts (t ∷ (newer ++ one ∷ old)))) k) ≤ reads_count (member (known_of r) k) + (13 + i)
+      few_end = subst (λ (l : List Outcome). length l ≤ reads_count (member (known_of r) k) + (13 + i)) (sym
+          (outcomes_kept r jobs carry restarts opened t (newer ++ one ∷ old) on.1 k)) few
 
-    four_then : (looks_back r jobs (master_calls r carry restarts (one ∷ old))).now.phase ≡ 4
-    four_then = four_along laws more comes_up r jobs carry restarts opened (one ∷ []) old rest_run.0 (tt, first) (sym (phase_before laws more comes_up r jobs carry restarts opened one old rest_run.0 first) ∙ one_four)
+      four_then : (looks_back r jobs (master_calls r carry restarts (one ∷ old))).now.phase ≡ 4
+      four_then = four_along r jobs carry restarts opened (one ∷ []) old rest_run.0 (tt, first) (sym (phase_before r jobs carry restarts opened one old rest_run.0 first) ∙ one_four)
 
-    low_then : i < length ((looks_back r jobs (master_calls r carry restarts (one ∷ old))).waiting k)
-    low_then = subst (λ (l : List Task). i < length l) (sym (waits_along r jobs carry restarts (one ∷ []) old (tt, first) k)) low
+      low_then : i < length ((looks_back r jobs (master_calls r carry restarts (one ∷ old))).waiting k)
+      low_then = subst (λ (l : List Task). i < length l) (sym (waits_along r jobs carry restarts (one ∷ []) old (tt, first) k)) low
 
-    -- the first cycle
-    grown : length (outcomes (behind_mdt r jobs carry restarts one.sent old) k) ≤ length (outcomes (behind_mdt r jobs carry restarts t.sent (newer ++ one ∷ old)) k)
-    grown =
-        let along = more_along laws more r jobs carry restarts opened (t ∷ newer) (one ∷ old) run clear on k below in
-        let before = ap (λ (l : List Outcome). length l) (outcomes_kept laws more r jobs carry restarts opened one old first k) in
-        let after = ap (λ (l : List Outcome). length l) (outcomes_kept laws more r jobs carry restarts opened t
-        (newer ++ one ∷ old) on.1 k) in
-        omega (arith, along, before, after)
+      -- the first cycle
+      grown : length (outcomes (behind_mdt r jobs carry restarts one.sent old) k) ≤ length (outcomes (behind_mdt r jobs carry restarts t.sent (newer ++ one ∷ old)) k)
+      grown =
+          let along = more_along r jobs carry restarts opened (t ∷ newer) (one ∷ old) run clear on k below in
+          let before = ap (λ (l : List Outcome). length l) (outcomes_kept r jobs carry restarts opened one old first k) in
+          let after = ap (λ (l : List Outcome). length l) (outcomes_kept r jobs carry restarts opened t (newer ++ one ∷ old) on.1 k) in
+          omega (arith, along, before, after)
 
-    busy_first : is_idle (behind_mdt r jobs carry restarts one.sent old) k ≡ false
-    busy_first = busy_now laws more comes_up works r jobs carry restarts opened k below one old rest_run.0 rest_run.1 first one_four i (subst (λ (l : List Task). i < length l) (sym (waits_now r jobs carry restarts one old first k)) low)
-        (sym (stop_after r jobs carry restarts one old first.stays) ∙ none_since r jobs carry restarts (t ∷ newer)
-        (one ∷ old) on none_end) (let grows = grown in omega (arith, grows, few))
+      busy_first : is_idle (behind_mdt r jobs carry restarts one.sent old) k ≡ false
+      busy_first = busy_now r jobs carry restarts opened k below one old rest_run.0 rest_run.1 first one_four i (subst (λ (l : List Task). i < length l) (sym (waits_now r jobs carry restarts one old first k)) low)
+          (sym (stop_after r jobs carry restarts one old first.stays) ∙ none_since r jobs carry restarts (t ∷ newer)
+          (one ∷ old) on none_end) (let grows = grown in omega (arith, grows, few))
 
-    alone_first : IsAlone (length (outcomes (behind_mdt r jobs carry restarts one.sent old) k)) (epoch_begun (views_of r jobs carry restarts k (one ∷ old)))
-    alone_first = alone_in one old rest_run.0 rest_run.1 first busy_first
+      alone_first : IsAlone (length (outcomes (behind_mdt r jobs carry restarts one.sent old) k)) (epoch_begun (views_of r jobs carry restarts k (one ∷ old)))
+      alone_first = alone_in one old rest_run.0 rest_run.1 first busy_first
 
-    -- the last cycle
-    busy_last : is_idle (behind_mdt r jobs carry restarts t.sent (newer ++ one ∷ old)) k ≡ false
-    busy_last = busy_now laws more comes_up works r jobs carry restarts opened k below t (newer ++ one ∷ old) run clear on.1 t_four i
-        (subst (λ (l : List Task). i < length l) (sym (waits_now r jobs carry restarts t (newer ++ one ∷ old) on.1 k ∙ waits_along r jobs carry restarts newer (one ∷ old) on.0 k)) low_then) none few
+      -- the last cycle
+      busy_last : is_idle (behind_mdt r jobs carry restarts t.sent (newer ++ one ∷ old)) k ≡ false
+      busy_last = busy_now r jobs carry restarts opened k below t (newer ++ one ∷ old) run clear on.1 t_four i
+          (subst (λ (l : List Task). i < length l) (sym (waits_now r jobs carry restarts t (newer ++ one ∷ old) on.1 k ∙ waits_along r jobs carry restarts newer (one ∷ old) on.0 k)) low_then)
+          none few
 
-    alone_last : IsAlone (length (outcomes (behind_mdt r jobs carry restarts t.sent (newer ++ one ∷ old)) k)) (epoch_begun (views_of r jobs carry restarts k (t ∷ (newer ++ one ∷ old))))
-    alone_last = alone_in t (newer ++ one ∷ old) run clear on.1 busy_last
+      alone_last : IsAlone (length (outcomes (behind_mdt r jobs carry restarts t.sent (newer ++ one ∷ old)) k)) (epoch_begun (views_of r jobs carry restarts k (t ∷ (newer ++ one ∷ old))))
+      alone_last = alone_in t (newer ++ one ∷ old) run clear on.1 busy_last
 
-    -- the views
-    split : views_of r jobs carry restarts k (t ∷ (newer ++ one ∷ old)) ≡ views_since r jobs carry restarts k (t ∷ newer) (one ∷ old) ++ views_of r jobs carry restarts k (one ∷ old)
-    split = views_split r jobs carry restarts k (t ∷ newer) (one ∷ old)
+      -- the views
+      split : views_of r jobs carry restarts k (t ∷ (newer ++ one ∷ old)) ≡ views_since r jobs carry restarts k (t ∷ newer) (one ∷ old) ++ views_of r jobs carry restarts k (one ∷ old)
+      split = views_split r jobs carry restarts k (t ∷ newer) (one ∷ old)
 
-    follows : Follow alone_first.older (epoch_begun (views_since r jobs carry restarts k (t ∷ newer) (one ∷ old) ++ views_of r jobs carry restarts k (one ∷ old)))
-    follows = follow_on (views_since r jobs carry restarts k (t ∷ newer) (one ∷ old)) (views_of r jobs carry restarts k
-        (one ∷ old)) alone_first.older (goes_on_since r jobs carry restarts k (t ∷ newer) (one ∷ old) on) alone_first.shut
-        (alone_first.one ∷ [], alone_first.split)
+      follows : Follow alone_first.older (epoch_begun (views_since r jobs carry restarts k (t ∷ newer) (one ∷ old) ++ views_of r jobs carry restarts k (one ∷ old)))
+      follows = follow_on (views_since r jobs carry restarts k (t ∷ newer) (one ∷ old)) (views_of r jobs carry restarts k
+          (one ∷ old)) alone_first.older (goes_on_since r jobs carry restarts k (t ∷ newer) (one ∷ old) on) alone_first.shut
+          (alone_first.one ∷ [], alone_first.split)
 
-    begun_last : epoch_begun (views_since r jobs carry restarts k (t ∷ newer) (one ∷ old) ++ views_of r jobs carry restarts k (one ∷ old)) ≡ alone_last.one ∷ alone_first.older
-    begun_last =
-        let now : epoch_begun (views_since r jobs carry restarts k (t ∷ newer) (one ∷ old) ++ views_of r jobs carry restarts k (one ∷ old)) ≡ alone_last.one ∷ alone_last.older = ap (λ (l : List View). epoch_begun l) (sym split) ∙ alone_last.split in
-        let long_first = alone_first.long in
-        let long_last = alone_last.long in
-        let grows = grown in
-        let same = same_older follows.0 alone_first.older alone_last.one alone_last.older (sym follows.1 ∙ now) (omega (arith, long_first, long_last, grows, enough, few)) in
-        now ∙ ap (λ (l : List Begun). alone_last.one ∷ l) (sym same)
+      begun_last : epoch_begun (views_since r jobs carry restarts k (t ∷ newer) (one ∷ old) ++ views_of r jobs carry restarts k (one ∷ old)) ≡ alone_last.one ∷ alone_first.older
+      begun_last =
+          let now : epoch_begun (views_since r jobs carry restarts k (t ∷ newer) (one ∷ old) ++ views_of r jobs carry restarts k (one ∷ old)) ≡ alone_last.one ∷ alone_last.older = ap (λ (l : List View). epoch_begun l) (sym split) ∙ alone_last.split in
+          let long_first = alone_first.long in
+          let long_last = alone_last.long in
+          let grows = grown in
+          let same = same_older follows.0 alone_first.older alone_last.one alone_last.older (sym follows.1 ∙ now) (omega (arith, long_first, long_last, grows, enough, few)) in
+          now ∙ ap (λ (l : List Begun). alone_last.one ∷ l) (sym same)
 
-    answered : length (answers_in alone_first.older) ≤ length (answers_in (epoch_begun (views_of r jobs carry restarts k (one ∷ old))))
-    answered =
-        let all = ap (λ (l : List Begun). length (answers_in l)) alone_first.split in
-        let parts = length-append alone_first.one.answers (answers_in alone_first.older) in omega (arith, all, parts)
+      answered : length (answers_in alone_first.older) ≤ length (answers_in (epoch_begun (views_of r jobs carry restarts k (one ∷ old))))
+      answered =
+          let all = ap (λ (l : List Begun). length (answers_in l)) alone_first.split in
+          let parts = length-append alone_first.one.answers (answers_in alone_first.older) in omega (arith, all, parts)
 
-    pub never_so_long : length (t ∷ newer) ≡ request_cycles r k → ⊥
-    never_so_long long =
-        let less = lasts t newer one old alone_last.one alone_first.older run clear all one_is t_four four_then
-        (at_work laws more comes_up works r jobs carry restarts opened k below i (t ∷ newer)
-        (one ∷ old) run clear on four_then low_then none_end few_end)
-        begun_last alone_first.shut answered in
-        omega (arith, less, long)
+      pub never_so_long : length (t ∷ newer) ≡ request_cycles r k → ⊥
+      never_so_long long =
+          let less = lasts t newer one old alone_last.one alone_first.older run clear all one_is t_four four_then
+          (at_work r jobs carry restarts opened k below i (t ∷ newer) (one ∷ old) run clear on four_then low_then none_end few_end)
+          begun_last alone_first.shut answered in
+          omega (arith, less, long)
 
   -- SO THE REQUESTS END IN TIME, from a cycle of phase 4 on: of those that waited when the epoch began, the first m have ended in it.
   module _ (no_stop : NoStopInFour) (one : CycleView) (old : List CycleView) (one_is : P one old) (one_four : one.phase ≡ 4) (m : ℕ)
@@ -251,13 +251,13 @@ module _ (laws : Laws) (more : MoreLaws) (comes_up : (busy : ℕ) → ComesUp bu
         (cycles ++ one ∷ old)) k)
 
     four_after : IsRun r jobs carry restarts (one ∷ old) → (looks_back r jobs (master_calls r carry restarts (one ∷ old))).now.phase ≡ 4
-    four_after run = four_along laws more comes_up r jobs carry restarts opened (one ∷ []) old run (tt, first_one) (sym
-        (phase_before laws more comes_up r jobs carry restarts opened one old run first_one) ∙ one_four)
+    four_after run = four_along r jobs carry restarts opened (one ∷ []) old run (tt, first_one)
+        (sym (phase_before r jobs carry restarts opened one old run first_one) ∙ one_four)
 
     four_in : (t : CycleView) (cycles : List CycleView) → IsRun r jobs carry restarts (t ∷ (cycles ++ one ∷ old))
         → IsRun r jobs carry restarts (one ∷ old) → AreGoing r jobs carry restarts (t ∷ cycles) (one ∷ old) → t.phase ≡ 4
-    four_in t cycles run rest on = phase_before laws more comes_up r jobs carry restarts opened t (cycles ++ one ∷ old) run on.1
-        ∙ four_along laws more comes_up r jobs carry restarts opened cycles (one ∷ old) run.0 on.0 (four_after rest)
+    four_in t cycles run rest on = phase_before r jobs carry restarts opened t (cycles ++ one ∷ old) run on.1
+        ∙ four_along r jobs carry restarts opened cycles (one ∷ old) run.0 on.0 (four_after rest)
 
     one_more : (i : ℕ) → HaveEnded i → HaveEnded (suc i)
     one_more i earlier t cycles run clear all long x few low = elim (cases_lt x (suc (m + i))) [
@@ -336,21 +336,19 @@ module _ (laws : Laws) (more : MoreLaws) (comes_up : (busy : ℕ) → ComesUp bu
     pub have_ended : (i : ℕ) → HaveEnded i
     have_ended zero = λ t cycles run clear all long x few low.
         let on = goings (t ∷ cycles) (one ∷ old) all in
-        let along = more_along laws more r jobs carry restarts opened (t ∷ cycles) (one ∷ old) run clear on k below in
-        let before = ap (λ (l : List Outcome). length l) (outcomes_kept laws more r jobs carry restarts opened one old first_one k) in
-        let after = ap (λ (l : List Outcome). length l) (outcomes_kept laws more r jobs carry restarts opened t
-        (cycles ++ one ∷ old) on.1 k) in
+        let along = more_along r jobs carry restarts opened (t ∷ cycles) (one ∷ old) run clear on k below in
+        let before = ap (λ (l : List Outcome). length l) (outcomes_kept r jobs carry restarts opened one old first_one k) in
+        let after = ap (λ (l : List Outcome). length l) (outcomes_kept r jobs carry restarts opened t (cycles ++ one ∷ old) on.1 k) in
         let ended = at_one in omega (arith, along, before, after, ended, few)
     have_ended (suc i) = one_more i (have_ended i)
 
 -- IN UNDISTURBED CYCLES none lasts longer.
-pub lasts_undisturbed : (laws : Laws) (more : MoreLaws) (always : OpensAlways) (said : SaysShape) (timed : ComesTimed) (recovers :
-    (busy : ℕ) → RecoversInTime busy) (since : (busy : ℕ) → RecoversSince busy)
-    (r : RingView) (jobs : List Job) (carry : Carry) (restarts : Restarts) (opened : IsOpened r jobs) (k : ℕ)
+pub lasts_undisturbed : (recovers :
+    (busy : ℕ) → RecoversInTime busy) (r : RingView) (jobs : List Job) (carry : Carry) (restarts : Restarts) (opened : IsOpened r jobs) (k : ℕ)
     (below : k < length r.drives) → LastsShort r jobs carry restarts k (IsOn r jobs carry restarts)
-lasts_undisturbed laws more always said timed recovers since r jobs carry restarts opened k below t newer one old b older run clear on
+lasts_undisturbed recovers r jobs carry restarts opened k below t newer one old b older run clear on
     first t_four four_then works begun_last shut answered =
-    let all = always (views_since r jobs carry restarts k (t ∷ newer) (one ∷ old)) (views_of r jobs carry restarts k (one ∷ old)) works in
+    let all = always_opens (views_since r jobs carry restarts k (t ∷ newer) (one ∷ old)) (views_of r jobs carry restarts k (one ∷ old)) works in
     let count = length_since r jobs carry restarts k (t ∷ newer) (one ∷ old) in
     let less = lasts in omega (arith, all, count, less)
   where
@@ -359,9 +357,9 @@ lasts_undisturbed laws more always said timed recovers since r jobs carry restar
     split_views = views_split r jobs carry restarts k (t ∷ newer) (one ∷ old)
 
     in_time : AreTimed (drive_at r k).command (views_of r jobs carry restarts k (t ∷ (newer ++ one ∷ old)))
-    in_time = timed (drive_at r k).command (views_of r jobs carry restarts k (t ∷ (newer ++ one ∷ old)))
+    in_time = comes_timed (drive_at r k).command (views_of r jobs carry restarts k (t ∷ (newer ++ one ∷ old)))
         (are_carried (drive_at r k).command (first_commands r k) refl refl (views_of r jobs carry restarts k (t ∷ (newer ++ one ∷ old)))
-        (commands_so laws more r jobs carry restarts opened (t ∷ (newer ++ one ∷ old)) run clear k below).follow)
+        (commands_so r jobs carry restarts opened (t ∷ (newer ++ one ∷ old)) run clear k below).follow)
 
     stands : (standing (views_since r jobs carry restarts k (t ∷ newer) (one ∷ old) ++ views_of r jobs carry restarts k
         (one ∷ old))).ended ≡ 0 → ⊥
@@ -370,12 +368,12 @@ lasts_undisturbed laws more always said timed recovers since r jobs carry restar
 
     lasts : open_since (views_since r jobs carry restarts k (t ∷ newer) (one ∷ old)) (views_of r jobs carry restarts k
         (one ∷ old)) < request_cycles r k
-    lasts = one_lasts said (drive_at r k).busy (drive_at r k).command (store_of (drive_at r k)) (small laws r jobs carry restarts opened
-        (first_store laws more r jobs carry restarts opened) k below) (first_store laws more r jobs carry restarts opened k below)
-        (recovers (drive_at r k).busy) (since (drive_at r k).busy) (views_since r jobs carry restarts k (t ∷ newer) (one ∷ old))
+    lasts = one_lasts (drive_at r k).busy (drive_at r k).command (store_of (drive_at r k)) (small r jobs carry restarts opened
+        (first_store r jobs carry restarts opened) k below) (first_store r jobs carry restarts opened k below)
+        (recovers (drive_at r k).busy) (rest_since (drive_at r k).busy) (views_since r jobs carry restarts k (t ∷ newer) (one ∷ old))
         (view_of r jobs carry restarts k one old) (views_of r jobs carry restarts k old) b older
-        (runs_split laws more r jobs carry restarts opened (t ∷ newer) (one ∷ old) run clear k below)
-        (subst (λ (l : List View). AreSound (store_of (drive_at r k)) l) split_views (all_stand laws more r jobs carry restarts opened
+        (runs_split r jobs carry restarts opened (t ∷ newer) (one ∷ old) run clear k below)
+        (subst (λ (l : List View). AreSound (store_of (drive_at r k)) l) split_views (all_stand r jobs carry restarts opened
         (t ∷ (newer ++ one ∷ old)) run clear k below).sound)
         (subst (λ (l : List View). AreTimed (drive_at r k).command l) split_views in_time) (listed_all
         (views_since r jobs carry restarts k (t ∷ newer) (one ∷ old) ++ views_of r jobs carry restarts k (one ∷ old)))

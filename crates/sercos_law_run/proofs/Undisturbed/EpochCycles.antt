@@ -8,17 +8,12 @@ use Rattle.sercos_trace.specs.Views.{CycleView}
 use Rattle.sercos_seat.specs.Ring.{known_of}
 use Rattle.sercos_master.specs.Annals.{outcomes, fall_of}
 use Rattle.sercos_script.specs.Links.{Carry, Restarts}
-use Rattle.sercos_law_channel.specs.Handshake.RunLaws.{ComesUp}
 use Rattle.sercos_law_channel.specs.Handshake.Views.{View, standing}
-use Rattle.sercos_law_channel.specs.Pace.Passages.{IsWhole, AreWhole, StandsThroughout, HearsThroughout}
-use Rattle.sercos_law_channel.specs.Pace.ChannelCalls.{NoneLate}
+use Rattle.sercos_law_channel.specs.Pace.Passages.{IsWhole, AreWhole}
 use Rattle.sercos_law_run.specs.Journal.Runs.{master_calls, looks_back, IsRun, IsClear}
-use Rattle.sercos_law_run.specs.Agenda.Turns.{WorkInTurn}
 use Rattle.sercos_law_run.specs.Views.RingViews.{at_start, behind_mdt, view_of, views_of}
 use Rattle.sercos_law_run.specs.Held.Opened.{IsOpened}
 use Rattle.sercos_law_run.proofs.Held.Extended.{Extends}
-use Rattle.sercos_law_run.proofs.Held.Runs.{Laws}
-use Rattle.sercos_law_run.proofs.Headline.HeadlineRuns.{MoreLaws}
 use Rattle.sercos_law_run.specs.Undisturbed.Undisturbed.{AreUndisturbed, IsUndisturbed}
 use Rattle.sercos_law_run.specs.Undisturbed.EpochStarts.{StartsEpoch}
 use Rattle.sercos_law_run.specs.Undisturbed.StartUps.{StaysUp}
@@ -101,33 +96,32 @@ pub none_along : (r : RingView) (jobs : List Job) (carry : Carry) (restarts : Re
 none_along r jobs carry restarts cycles rest are none = none_since r jobs carry restarts cycles rest
     (goings r jobs carry restarts cycles rest are) none
 
-module _ (laws : Laws) (more : MoreLaws) (r : RingView) (jobs : List Job) (carry : Carry) (restarts : Restarts) (opened : IsOpened r jobs) where
+module _ (r : RingView) (jobs : List Job) (carry : Carry) (restarts : Restarts) (opened : IsOpened r jobs) where
   pub outcomes_extend : (t : CycleView) (j : List CycleView) → IsRun r jobs carry restarts (t ∷ j) → IsClear (t ∷ j)
       → IsOn r jobs carry restarts t j → (k : ℕ) → k < length r.drives
       → Extends (outcomes (looks_back r jobs (master_calls r carry restarts j)) k) (outcomes (behind_mdt r jobs carry restarts t.sent j) k)
-  outcomes_extend t j run clear on k below = outcomes_grow laws more r jobs carry restarts opened t j run clear
-      (going r jobs carry restarts t j on) k below
+  outcomes_extend t j run clear on k below = outcomes_grow r jobs carry restarts opened t j run clear (going r jobs carry restarts t j on) k
+      below
 
   pub outcomes_after : (t : CycleView) (j : List CycleView) → IsOn r jobs carry restarts t j → (k : ℕ)
       → outcomes (looks_back r jobs (master_calls r carry restarts (t ∷ j))) k ≡ outcomes (behind_mdt r jobs carry restarts t.sent j) k
-  outcomes_after t j on k = outcomes_kept laws more r jobs carry restarts opened t j (going r jobs carry restarts t j on) k
+  outcomes_after t j on k = outcomes_kept r jobs carry restarts opened t j (going r jobs carry restarts t j on) k
 
-module _ (laws : Laws) (more : MoreLaws) (turn : WorkInTurn) (comes_up : (busy : ℕ) → ComesUp busy) (late : (busy : ℕ) → NoneLate busy) (r : RingView) (jobs : List Job) (carry : Carry) (restarts : Restarts) (opened : IsOpened r jobs)
-    (stand : (busy : ℕ) → StandsThroughout busy) (hear : (busy : ℕ) → HearsThroughout busy) where
+module _ (r : RingView) (jobs : List Job) (carry : Carry) (restarts : Restarts) (opened : IsOpened r jobs) where
   -- THE CYCLES OF AN UNDISTURBED EPOCH are such.
   pub on_in : (t : CycleView) (cycles before : List CycleView) → IsRun r jobs carry restarts (t ∷ (cycles ++ before)) → IsClear (t ∷ (cycles ++ before)) → StartsEpoch r jobs carry restarts before → AreUndisturbed r carry restarts (t ∷ cycles) before
       → IsOn r jobs carry restarts t (cycles ++ before)
   on_in t cycles before run clear starts calm = record {
-    now = phase_now laws more comes_up r jobs carry restarts opened t (cycles ++ before) run.1;
+    now = phase_now r jobs carry restarts opened t (cycles ++ before) run.1;
     stays = all.stays.1;
     quiet = (calm_in r carry restarts t (cycles ++ before) calm.1).stays 0 (omega arith);
-    starts = starts_so laws more r jobs carry restarts opened t (cycles ++ before) run.1 (calm_in r carry restarts t (cycles ++ before) calm.1);
+    starts = starts_so r jobs carry restarts opened t (cycles ++ before) run.1 (calm_in r carry restarts t (cycles ++ before) calm.1);
     whole = λ k below. subst (λ (l : List View). IsWhole (view_of r jobs carry restarts k t (cycles ++ before)) l) (sym (views_split r jobs carry restarts k cycles before)) (all.whole k below).1;
     up = λ k below. subst (λ (l : List View). (standing (view_of r jobs carry restarts k t (cycles ++ before) ∷ l)).ended ≡ t.phase) (sym (views_split r jobs carry restarts k cycles before)) (all.stands k below).1.1;
   }
     where
       all : StaysUp r jobs carry restarts (t ∷ cycles) before
-      all = stays_throughout laws more turn comes_up late r jobs carry restarts opened stand hear (t ∷ cycles) before run clear starts calm
+      all = stays_throughout r jobs carry restarts opened (t ∷ cycles) before run clear starts calm
 
   pub are_on : (cycles before : List CycleView) → IsRun r jobs carry restarts (cycles ++ before) → IsClear (cycles ++ before) → StartsEpoch r jobs carry restarts before → AreUndisturbed r carry restarts cycles before → AreOn r jobs carry restarts cycles before
   are_on [] before run clear starts calm = tt

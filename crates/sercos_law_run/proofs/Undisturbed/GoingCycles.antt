@@ -16,7 +16,6 @@ use Rattle.sercos_master.specs.Annals.{Past, Call, outcomes, fall_of, is_done, p
 use Rattle.sercos_master.proofs.Laws.{waiting_at, waiting_settled}
 use Rattle.sercos_script.specs.Links.{Carry, Restarts}
 use Rattle.sercos_law_channel.specs.Handshake.Epochs.{with_heard, with_begun, epoch_begun}
-use Rattle.sercos_law_channel.specs.Handshake.RunLaws.{ComesUp}
 use Rattle.sercos_law_channel.specs.Handshake.Views.{View}
 use Rattle.sercos_law_run.specs.Journal.Records.{mst_in, ats_in}
 use Rattle.sercos_law_run.specs.Journal.Runs.{at_calls, own_mst, begins, master_calls, looks_back, IsRun, IsClear}
@@ -24,8 +23,7 @@ use Rattle.sercos_law_run.proofs.Typed.Mdts.{phase_low}
 use Rattle.sercos_law_run.specs.Views.RingViews.{at_start, behind_ats, behind_mdt, view_of, views_of}
 use Rattle.sercos_law_run.specs.Held.Opened.{IsOpened}
 use Rattle.sercos_law_run.proofs.Held.Extended.{Extends, heard_more, begun_same}
-use Rattle.sercos_law_run.proofs.Held.Runs.{Laws}
-use Rattle.sercos_law_run.proofs.Headline.HeadlineRuns.{MoreLaws, all_stand}
+use Rattle.sercos_law_run.proofs.Headline.HeadlineRuns.{all_stand}
 use Rattle.sercos_law_run.proofs.Undisturbed.PhaseCounts.{end_kept}
 use Rattle.sercos_law_run.proofs.Undisturbed.PhasesRise.{phase_after}
 use Rattle.sercos_law_run.proofs.Undisturbed.StopStays.{ats_same, none_before, stop_after}
@@ -158,8 +156,7 @@ badly_more m old new (o, is) (many, unready) = subst (HasEndedBadly m) (sym is) 
 pub longer_so : (old new : List Outcome) → Extends old new → length old ≤ length new
 longer_so old new (o, is) = subst (λ (l : List Outcome). length old ≤ length l) (sym is) (longer o old)
 
-module _ (laws : Laws) (more : MoreLaws) (r : RingView) (jobs : List Job) (carry : Carry) (restarts : Restarts)
-    (opened : IsOpened r jobs) where
+module _ (r : RingView) (jobs : List Job) (carry : Carry) (restarts : Restarts) (opened : IsOpened r jobs) where
   abbrev back : List CycleView → Past
   back j = looks_back r jobs (master_calls r carry restarts j)
 
@@ -178,7 +175,7 @@ module _ (laws : Laws) (more : MoreLaws) (r : RingView) (jobs : List Job) (carry
       v = view_of r jobs carry restarts k t j
 
       before_are : begun_by ((back j).calls k) ≡ epoch_begun (views_of r jobs carry restarts k j)
-      before_are = (all_stand laws more r jobs carry restarts opened j run.0 clear.0 k below).sees.master.begun_are
+      before_are = (all_stand r jobs carry restarts opened j run.0 clear.0 k below).sees.master.begun_are
 
       unrestarted : (b : Bool) → b ≡ false → (if b then [] else epoch_begun (views_of r jobs carry restarts k j)) ≡ epoch_begun
           (views_of r jobs carry restarts k j)
@@ -187,8 +184,8 @@ module _ (laws : Laws) (more : MoreLaws) (r : RingView) (jobs : List Job) (carry
 
       now_are : begun_by ((now_in t j).calls k) ≡ with_begun v.begins (with_heard v.heard (epoch_begun
           (views_of r jobs carry restarts k j)))
-      now_are = begun_now laws more r jobs carry restarts opened t j run clear on.stays k below
-          ∙ begun_end laws more r jobs carry restarts opened t j run clear on.stays k
+      now_are = begun_now r jobs carry restarts opened t j run clear on.stays k below
+          ∙ begun_end r jobs carry restarts opened t j run clear on.stays k
           ∙ ap (λ (l : List Begun). with_begun v.begins (with_heard v.heard l)) (unrestarted v.master_restarts on.quiet)
 
       more_is : Extends (outcomes_in (epoch_begun (views_of r jobs carry restarts k j))) (outcomes_in (with_heard v.heard (epoch_begun
@@ -227,8 +224,7 @@ pub stays_four : (done : Bool) (n : ℕ) → n ≡ 4 → (if done then n + 1 els
 stays_four true n is low = absurd (omega (arith, is, low))
 stays_four false n is low = is
 
-module _ (laws : Laws) (more : MoreLaws) (comes_up : (busy : ℕ) → ComesUp busy) (r : RingView) (jobs : List Job) (carry : Carry)
-    (restarts : Restarts) (opened : IsOpened r jobs) where
+module _ (r : RingView) (jobs : List Job) (carry : Carry) (restarts : Restarts) (opened : IsOpened r jobs) where
   -- the phase of a cycle is that after the cycle before
   pub phase_before : (t : CycleView) (j : List CycleView) → IsRun r jobs carry restarts (t ∷ j) → IsGoing r jobs carry restarts t j
       → t.phase ≡ (looks_back r jobs (master_calls r carry restarts j)).now.phase
@@ -241,6 +237,6 @@ module _ (laws : Laws) (more : MoreLaws) (comes_up : (busy : ℕ) → ComesUp bu
   four_along [] rest run are four = four
   four_along (t ∷ cycles) rest run are four =
       let low = phase_low (known_of r) (tasks_for (known_of r) jobs) (master_calls r carry restarts (t ∷ (cycles ++ rest))) in
-      let after = phase_after laws more comes_up r jobs carry restarts opened t (cycles ++ rest) run are.1.stays in
+      let after = phase_after r jobs carry restarts opened t (cycles ++ rest) run are.1.stays in
       after ∙ stays_four (is_done (known_of r) (behind_mdt r jobs carry restarts t.sent (cycles ++ rest))) t.phase (phase_before t
       (cycles ++ rest) run are.1 ∙ four_along cycles rest run.0 are.0 four) (subst (λ (n : ℕ). n ≤ 4) after low)

@@ -30,8 +30,7 @@ use Rattle.sercos_law_run.proofs.Views.Codecs.{mst_clear, single_clear}
 use Rattle.sercos_law_run.proofs.Views.DriveSame.{said_to as said_by_told}
 use Rattle.sercos_law_run.proofs.Views.ViewRuns.{started}
 use Rattle.sercos_law_run.specs.Held.Opened.{IsOpened}
-use Rattle.sercos_law_run.proofs.Held.Runs.{Laws}
-use Rattle.sercos_law_run.proofs.Headline.HeadlineRuns.{MoreLaws, spelled_in}
+use Rattle.sercos_law_run.proofs.Headline.HeadlineRuns.{spelled_in}
 use Rattle.sercos_law_run.specs.Undisturbed.Undisturbed.{IsUndisturbed}
 use Rattle.sercos_law_run.proofs.Undisturbed.Comes.{IsCalm, calm_in, comes, calm_at, own_mst_whole}
 use Rattle.sercos_law_run.proofs.Undisturbed.Taken.{IsAmong, among_said}
@@ -74,56 +73,58 @@ end_on s p later = by (is_some (fall_of s p)) later
     by true later = absurd (omega (arith, later))
     by false later = refl
 
-module _ (laws : Laws) (more : MoreLaws) (r : RingView) (jobs : List Job) (carry : Carry) (restarts : Restarts) (opened : IsOpened r jobs) where
+module _ (r : RingView) (jobs : List Job) (carry : Carry) (restarts : Restarts) (opened : IsOpened r jobs) where
   -- A CYCLE that is calm
-  module _ (t : CycleView) (j : List CycleView) (next : IsNext r jobs carry restarts t j) (calm : IsCalm r carry restarts (length j) t.sent) where
-    spelled : IsSpelled r jobs carry restarts t j
-    spelled = spelled_in laws more r jobs carry restarts opened t j next
+  module _ (t : CycleView) (j : List CycleView) (next : IsNext r jobs carry restarts t j) (calm : IsCalm r carry restarts (length j) t.sent)
+    where
+      spelled : IsSpelled r jobs carry restarts t j
+      spelled = spelled_in r jobs carry restarts opened t j next
 
-    start_low : (at_start r jobs carry restarts j).now.phase ≤ 4
-    start_low = phase_low (known_of r) (tasks_for (known_of r) jobs) (begins r carry restarts j)
+      start_low : (at_start r jobs carry restarts j).now.phase ≤ 4
+      start_low = phase_low (known_of r) (tasks_for (known_of r) jobs) (begins r carry restarts j)
 
-    mst_is : mst_in t.sent ≡ mst_content (at_start r jobs carry restarts j).now.phase
-    mst_is = ap mst_in next.sent
+      mst_is : mst_in t.sent ≡ mst_content (at_start r jobs carry restarts j).now.phase
+      mst_is = ap mst_in next.sent
 
-    -- the MST comes to each drive, and back
-    pub phase_comes : (k : ℕ) → k < length r.drives → phase_got carry t.sent j k ≡ Some t.phase
-    phase_comes k below =
-        ap mst_got (comes carry (passage (length j) kinds.Mst 0 (k + 1)) (mst_in t.sent) spelled.mst (calm.mst k below) ∙ ap (λ (c : List ℕ). Some c) mst_is)
-        ∙ mst_clear (at_start r jobs carry restarts j).now.phase (Some (mst_content (at_start r jobs carry restarts j).now.phase)) start_low (inr refl)
-        ∙ ap (λ (n : ℕ). Some n) (sym next.phase)
+      -- the MST comes to each drive, and back
+      pub phase_comes : (k : ℕ) → k < length r.drives → phase_got carry t.sent j k ≡ Some t.phase
+      phase_comes k below =
+          ap mst_got (comes carry (passage (length j) kinds.Mst 0 (k + 1)) (mst_in t.sent) spelled.mst (calm.mst k below) ∙ ap (λ (c : List ℕ). Some c) mst_is)
+          ∙ mst_clear (at_start r jobs carry restarts j).now.phase (Some (mst_content (at_start r jobs carry restarts j).now.phase)) start_low (inr refl)
+          ∙ ap (λ (n : ℕ). Some n) (sym next.phase)
 
-    pub mst_whole : (behind_mst r jobs carry restarts t.sent j).now.whole ≡ true
-    mst_whole = ap (is_mst (at_start r jobs carry restarts j).now.phase) (comes carry (passage (length j) kinds.Mst 0 0) (mst_in t.sent) spelled.mst calm.own ∙ ap (λ (c : List ℕ). Some c) mst_is)
-        ∙ own_mst_whole (at_start r jobs carry restarts j).now.phase start_low
+      pub mst_whole : (behind_mst r jobs carry restarts t.sent j).now.whole ≡ true
+      mst_whole = ap (is_mst (at_start r jobs carry restarts j).now.phase) (comes carry (passage (length j) kinds.Mst 0 0) (mst_in t.sent) spelled.mst calm.own ∙ ap (λ (c : List ℕ). Some c) mst_is)
+          ∙ own_mst_whole (at_start r jobs carry restarts j).now.phase start_low
 
-    -- the master doesn't restart
-    pub starts_so : at_start r jobs carry restarts j ≡ looks_back r jobs (master_calls r carry restarts j)
-    starts_so = started r jobs (restarts (length j) 0) (master_calls r carry restarts j)
-        ∙ ap (λ (b : Bool). begun_cycle b (looks_back r jobs (master_calls r carry restarts j))) (calm.stays 0 (omega arith))
+      -- the master doesn't restart
+      pub starts_so : at_start r jobs carry restarts j ≡ looks_back r jobs (master_calls r carry restarts j)
+      starts_so = started r jobs (restarts (length j) 0) (master_calls r carry restarts j)
+          ∙ ap (λ (b : Bool). begun_cycle b (looks_back r jobs (master_calls r carry restarts j))) (calm.stays 0 (omega arith))
 
-    -- the MDT to one drive comes to it
-    pub mdt_comes : (k : ℕ) → k < length r.drives → (behind_mdt r jobs carry restarts t.sent j).now.phase ≡ 1 → (behind_mdt r jobs carry restarts t.sent j).now.addressed ≡ Some k
-        → mdt_heard carry (length j) (k + 1) (mdt_in t.sent) ≡ Some ((drive_at r k).address ∷ record_said idle [])
-    mdt_comes k below one to = by (mdt_in t.sent) is (calm.mdt k below)
-      where
-        said : mdt_said (known_of r) (behind_mdt r jobs carry restarts t.sent j) ≡ Some (single (known_of r) idle k)
-        said = single_said (known_of r) (behind_mdt r jobs carry restarts t.sent j) k one to
+      -- the MDT to one drive comes to it
+      pub mdt_comes : (k : ℕ) → k < length r.drives → (behind_mdt r jobs carry restarts t.sent j).now.phase ≡ 1 → (behind_mdt r jobs carry restarts t.sent j).now.addressed ≡ Some k
+          → mdt_heard carry (length j) (k + 1) (mdt_in t.sent) ≡ Some ((drive_at r k).address ∷ record_said idle [])
+      mdt_comes k below one to = by (mdt_in t.sent) is (calm.mdt k below)
+        where
+          said : mdt_said (known_of r) (behind_mdt r jobs carry restarts t.sent j) ≡ Some (single (known_of r) idle k)
+          said = single_said (known_of r) (behind_mdt r jobs carry restarts t.sent j) k one to
 
-        is : mdt_in t.sent ≡ Some (single (known_of r) idle k).content
-        is = ap mdt_in next.sent ∙ mdt_in-said r.rate (said_below (length r.drives) (drive_at r) r.rate (given_mst carry restarts t.sent j)) _ ∙ ap content_of said
+          is : mdt_in t.sent ≡ Some (single (known_of r) idle k).content
+          is = ap mdt_in next.sent ∙ mdt_in-said r.rate (said_below (length r.drives) (drive_at r) r.rate (given_mst carry restarts t.sent j)) _ ∙ ap content_of said
 
-        mine : (single (known_of r) idle k).content ≡ (drive_at r k).address ∷ record_said idle []
-        mine = ap (λ (m : MemberView). m.address ∷ record_said idle []) (member_is r k)
+          mine : (single (known_of r) idle k).content ≡ (drive_at r k).address ∷ record_said idle []
+          mine = ap (λ (m : MemberView). m.address ∷ record_said idle []) (member_is r k)
 
-        by : (o : Option (List ℕ)) → o ≡ Some (single (known_of r) idle k).content → disturbs_mdt carry (length j) o k ≡ false → mdt_heard carry (length j) (k + 1) o ≡ Some ((drive_at r k).address ∷ record_said idle [])
-        by None none calm = cc
-        by (Some c) some on =
-            let same : c ≡ (single (known_of r) idle k).content = cc in
-            comes carry (passage (length j) kinds.Mdt 0 (k + 1)) c (subst IsWhole (sym same) (spelled.mdt (single (known_of r) idle k) said)) on ∙ ap (λ (l : List ℕ). Some l) (same ∙ mine)
+          by : (o : Option (List ℕ)) → o ≡ Some (single (known_of r) idle k).content → disturbs_mdt carry (length j) o k ≡ false → mdt_heard carry (length j) (k + 1) o ≡ Some ((drive_at r k).address ∷ record_said idle [])
+          by None none calm = cc
+          by (Some c) some on =
+              let same : c ≡ (single (known_of r) idle k).content = cc in
+              comes carry (passage (length j) kinds.Mdt 0 (k + 1)) c (subst IsWhole (sym same) (spelled.mdt (single (known_of r) idle k) said)) on ∙ ap (λ (l : List ℕ). Some l) (same ∙ mine)
 
   -- TWO CYCLES
-  module _ (t before : CycleView) (j : List CycleView) (run : IsRun r jobs carry restarts (t ∷ before ∷ j)) (now_calm : IsUndisturbed r carry restarts t (before ∷ j)) (then_calm : IsUndisturbed r carry restarts before j) where
+  module _ (t before : CycleView) (j : List CycleView) (run : IsRun r jobs carry restarts (t ∷ before ∷ j))
+      (now_calm : IsUndisturbed r carry restarts t (before ∷ j)) (then_calm : IsUndisturbed r carry restarts before j) where
     calm : IsCalm r carry restarts (length (before ∷ j)) t.sent
     calm = calm_in r carry restarts t (before ∷ j) now_calm
 

@@ -20,22 +20,20 @@ use Rattle.sercos_master.specs.Annals.{Past, outcomes, is_idle}
 use Rattle.sercos_master.proofs.InOrder.{still_left}
 use Rattle.sercos_script.specs.Links.{Carry, Restarts}
 use Rattle.sercos_law_channel.specs.Handshake.Epochs.{begun_in}
-use Rattle.sercos_law_channel.specs.Handshake.RunLaws.{ComesUp}
 use Rattle.sercos_law_channel.specs.Handshake.Views.{View}
 use Rattle.sercos_law_channel.specs.Pace.Ages.{AreAtWork}
 use Rattle.sercos_law_run.specs.Journal.Records.{mst_in, ats_in}
 use Rattle.sercos_law_run.specs.Journal.Runs.{at_calls, own_mst, begin_calls, master_calls, looks_back, middle, IsRun, IsClear}
 use Rattle.sercos_law_run.specs.Agenda.Reported.{AreNumbered}
 use Rattle.sercos_law_run.specs.Agenda.Tasks.{AreBegunTasks}
-use Rattle.sercos_law_run.specs.Agenda.Turns.{WorksInFour}
 use Rattle.sercos_law_run.proofs.Agenda.ReportedRuns.{count_so}
 use Rattle.sercos_law_run.proofs.Agenda.Requests.{numbered_drop}
 use Rattle.sercos_law_run.proofs.Agenda.TaskRuns.{all_ended}
 use Rattle.sercos_law_run.specs.Views.RingViews.{at_start, behind_mdt, view_of, views_of}
 use Rattle.sercos_law_run.specs.Held.Opened.{IsOpened}
 use Rattle.sercos_law_run.proofs.Held.Extended.{Extends}
-use Rattle.sercos_law_run.proofs.Held.Runs.{Laws, holding}
-use Rattle.sercos_law_run.proofs.Headline.HeadlineRuns.{MoreLaws, all_stand, first_store, keeps_all, spelled_in, stored_in}
+use Rattle.sercos_law_run.proofs.Held.Runs.{holding}
+use Rattle.sercos_law_run.proofs.Headline.HeadlineRuns.{all_stand, first_store, keeps_all, spelled_in, stored_in}
 use Rattle.sercos_law_run.specs.Undisturbed.EpochStarts.{StartsEpoch}
 use Rattle.sercos_law_run.specs.Undisturbed.Ends.{HasBadCheck, ComesToPhaseFour}
 use Rattle.sercos_law_run.specs.Undisturbed.StopsLater.{NoStopInFour}
@@ -48,6 +46,8 @@ use Rattle.sercos_law_run.proofs.Undisturbed.Sections.{some_open}
 use Rattle.sercos_law_run.proofs.Undisturbed.Small.{never_both}
 use Rattle.sercos_law_run.proofs.Undisturbed.StartUpEnds.{inside}
 use Rattle.sercos_law_run.proofs.Undisturbed.StopStays.{none_before, stop_after}
+use Rattle.sercos_law_run.proofs.Agenda.Requests.{are_requests}
+use Rattle.sercos_law_run.proofs.Cited.{begins_tasks, work_in_four}
 
 -- nothing is left of a list of which no more items are dropped than it has
 dropped_all : (xs : List Task) (n : ℕ) → drop n xs ≡ [] → length xs ≤ n
@@ -56,11 +56,12 @@ dropped_all (x ∷ xs) zero none = absurd (cc)
 dropped_all (x ∷ xs) (suc n) none = let less = dropped_all xs n none in omega (arith, less)
 
 -- PHASE 4 IS COMMANDED from the bound of a start-up on, if it is in a later cycle of the epoch.
-module _ (laws : Laws) (more : MoreLaws) (comes_up : (busy : ℕ) → ComesUp busy) (reaches : ComesToPhaseFour) (no_stop : NoStopInFour) (r : RingView) (jobs : List Job) (carry : Carry) (restarts : Restarts) (opened : IsOpened r jobs)
-    (t : CycleView) (newer : List CycleView) (one : CycleView) (older before : List CycleView) (run : IsRun r jobs carry restarts (t ∷ (newer ++ one ∷ (older ++ before)))) (clear : IsClear (t ∷ (newer ++ one ∷ (older ++ before))))
-    (on : AreGoing r jobs carry restarts (t ∷ newer) (one ∷ (older ++ before))) (first : IsGoing r jobs carry restarts one
-    (older ++ before)) (starts : StartsEpoch r jobs carry restarts before) (calm : AreUndisturbed r carry restarts
-    (one ∷ older) before) where
+module _ (reaches : ComesToPhaseFour) (no_stop : NoStopInFour) (r : RingView) (jobs : List Job) (carry : Carry) (restarts : Restarts)
+    (opened : IsOpened r jobs) (t : CycleView) (newer : List CycleView) (one : CycleView) (older before : List CycleView)
+    (run : IsRun r jobs carry restarts (t ∷ (newer ++ one ∷ (older ++ before)))) (clear : IsClear (t ∷ (newer ++ one ∷ (older ++ before))))
+    (on : AreGoing r jobs carry restarts (t ∷ newer) (one ∷ (older ++ before)))
+    (first : IsGoing r jobs carry restarts one (older ++ before)) (starts : StartsEpoch r jobs carry restarts before)
+    (calm : AreUndisturbed r carry restarts (one ∷ older) before) where
   rest_run : IsRun r jobs carry restarts (one ∷ (older ++ before)) × IsClear (one ∷ (older ++ before))
   rest_run = run_rest r jobs carry restarts (t ∷ newer) (one ∷ (older ++ before)) run clear
 
@@ -77,17 +78,16 @@ module _ (laws : Laws) (more : MoreLaws) (comes_up : (busy : ℕ) → ComesUp bu
       next : HasEndedBadly (member (known_of r) failed.place) (outcomes (looks_back r jobs (master_calls r carry restarts (one ∷ (older ++ before)))) failed.place)
       next = badly_more (member (known_of r) failed.place) _ _
           (subst (λ (l : List Outcome). Extends (outcomes (looks_back r jobs (master_calls r carry restarts
-          (older ++ before))) failed.place) l) (sym (outcomes_kept laws more r jobs carry restarts opened one
-          (older ++ before) first failed.place))
-          (outcomes_grow laws more r jobs carry restarts opened one (older ++ before) rest_run.0 rest_run.1 first failed.place
+          (older ++ before))) failed.place) l) (sym (outcomes_kept r jobs carry restarts opened one (older ++ before) first failed.place))
+          (outcomes_grow r jobs carry restarts opened one (older ++ before) rest_run.0 rest_run.1 first failed.place
           failed.there)) (failed.ended, failed.badly)
 
       badly : HasEndedBadly (member (known_of r) failed.place) (outcomes (looks_back r jobs (master_calls r carry restarts (t ∷ (newer ++ one ∷ (older ++ before))))) failed.place)
-      badly = badly_along laws more r jobs carry restarts opened (t ∷ newer) (one ∷ (older ++ before)) run clear on failed.place failed.there next
+      badly = badly_along r jobs carry restarts opened (t ∷ newer) (one ∷ (older ++ before)) run clear on failed.place failed.there next
 
       ready : is_ready (member (known_of r) failed.place) (outcomes (looks_back r jobs (master_calls r carry restarts (t ∷ (newer ++ one ∷ (older ++ before))))) failed.place) ≡ true
-      ready = ap (is_ready (member (known_of r) failed.place)) (outcomes_kept laws more r jobs carry restarts opened t (newer ++ one ∷
-          (older ++ before)) on.1 failed.place)
+      ready = ap (is_ready (member (known_of r) failed.place)) (outcomes_kept r jobs carry restarts opened t
+          (newer ++ one ∷ (older ++ before)) on.1 failed.place)
           ∙ all_ready_in (known_of r) (tasks_for (known_of r) jobs) (middle r carry restarts t.sent (newer ++ one ∷ (older ++ before))) (let now = on.1.now in omega (arith, now, four)) failed.place (inside r failed.place failed.there)
 
   pub four_since : startup_bound r ≤ length older → t.phase ≡ 4 → one.phase ≡ 4
@@ -98,7 +98,8 @@ module _ (laws : Laws) (more : MoreLaws) (comes_up : (busy : ℕ) → ComesUp bu
       by (inr (inl stopped)) = absurd (false≢true (sym (ap (λ (o : Option Stop). is_some o) (none_then four)) ∙ stopped))
       by (inr (inr failed)) = absurd (never_bad four failed)
 
-module _ (laws : Laws) (more : MoreLaws) (comes_up : (busy : ℕ) → ComesUp busy) (works : WorksInFour) (r : RingView) (jobs : List Job) (carry : Carry) (restarts : Restarts) (opened : IsOpened r jobs) (k : ℕ) (below : k < length r.drives) where
+module _ (r : RingView) (jobs : List Job) (carry : Carry) (restarts : Restarts) (opened : IsOpened r jobs) (k : ℕ)
+    (below : k < length r.drives) where
   abbrev back : List CycleView → Past
   back j = looks_back r jobs (master_calls r carry restarts j)
 
@@ -114,17 +115,18 @@ module _ (laws : Laws) (more : MoreLaws) (comes_up : (busy : ℕ) → ComesUp bu
     planned : is_some (behind_mdt r jobs carry restarts t.sent j).plan ≡ true
     planned =
         let late : (at_start r jobs carry restarts j).now.phase ≡ 4 = sym run.1.phase ∙ four in
-        let held = holding laws r jobs carry restarts opened (first_store laws more r jobs carry restarts opened) t j run.1 clear.1 (spelled_in laws more r jobs carry restarts opened t j run.1) (stored_in laws more r jobs carry restarts opened t j)
-        (all_stand laws more r jobs carry restarts opened j run.0 clear.0) (omega (arith, late)) k below in
+        let held = holding r jobs carry restarts opened (first_store r jobs carry restarts opened) t j run.1 clear.1
+        (spelled_in r jobs carry restarts opened t j run.1) (stored_in r jobs carry restarts opened t j)
+        (all_stand r jobs carry restarts opened j run.0 clear.0) (omega (arith, late)) k below in
         ap (λ (o : Option PlanView). is_some o) held.1.now
 
     pub numbered : AreNumbered ((behind_mdt r jobs carry restarts t.sent j).waiting k)
     numbered =
         let left = still_left (known_of r) (tasks_for (known_of r) jobs) (middle r carry restarts t.sent j) k in
-        subst AreNumbered (sym left.1) (numbered_drop left.0 (tasks_for (known_of r) jobs k) (more.requests (known_of r) jobs k).1)
+        subst AreNumbered (sym left.1) (numbered_drop left.0 (tasks_for (known_of r) jobs k) (are_requests (known_of r) jobs k).1)
 
     begun_tasks : AreBegunTasks (known_of r) k (now_in t j).plan ((now_in t j).waiting k) (now_in t j).now.phase (begun_by ((now_in t j).calls k)) ((now_in t j).tasks k)
-    begun_tasks = laws.tasks (known_of r) (tasks_for (known_of r) jobs) (middle r carry restarts t.sent j) k (inside r k below)
+    begun_tasks = begins_tasks (known_of r) (tasks_for (known_of r) jobs) (middle r carry restarts t.sent j) k (inside r k below)
 
     pub ready_now : is_ready (member (known_of r) k) (outcomes (behind_mdt r jobs carry restarts t.sent j) k) ≡ true
     ready_now = all_ready_in (known_of r) (tasks_for (known_of r) jobs) (middle r carry restarts t.sent j) (let is = four_now in omega (arith, is)) k (inside r k below)
@@ -141,8 +143,8 @@ module _ (laws : Laws) (more : MoreLaws) (comes_up : (busy : ℕ) → ComesUp bu
         by : (idle : Bool) → is_idle (behind_mdt r jobs carry restarts t.sent j) k ≡ idle → is_idle (behind_mdt r jobs carry restarts t.sent j) k ≡ false
         by false is = is
         by true is =
-            let empty = works (known_of r) (tasks_for (known_of r) jobs) (at_calls r carry (length j) (ats_in t.sent) (own_mst carry (length j) (mst_in t.sent) (begin_calls restarts (length j) (master_calls r carry restarts j)))) k
-            (λ n. (more.requests (known_of r) jobs n).0) (λ n. (more.requests (known_of r) jobs n).1) (inside r k below) four_now none planned is in
+            let empty = work_in_four (known_of r) (tasks_for (known_of r) jobs) (at_calls r carry (length j) (ats_in t.sent) (own_mst carry (length j) (mst_in t.sent) (begin_calls restarts (length j) (master_calls r carry restarts j)))) k
+            (λ n. (are_requests (known_of r) jobs n).0) (λ n. (are_requests (known_of r) jobs n).1) (inside r k below) four_now none planned is in
             let all = dropped_all ((behind_mdt r jobs carry restarts t.sent j).waiting k) (count_requests ((behind_mdt r jobs carry restarts t.sent j).tasks k)) empty in
             let ended = all_ended (known_of r) k has_next (now_in t j).plan ((now_in t j).waiting k) (now_in t j).now.phase (begun_by ((now_in t j).calls k)) ((now_in t j).tasks k) begun_tasks is in
             let count = counted in
@@ -156,10 +158,9 @@ module _ (laws : Laws) (more : MoreLaws) (comes_up : (busy : ℕ) → ComesUp bu
   at_work i [] rest run clear on four low none few = tt
   at_work i (t ∷ cycles) rest run clear on four low none few = (
     at_work i cycles rest run.0 clear.0 on.0 four low (none_before r jobs carry restarts t (cycles ++ rest) on.1.starts stop_now)
-        (let grows = longer_so _ _ (outcomes_grow laws more r jobs carry restarts opened t
-        (cycles ++ rest) run clear on.1 k below) in let now = few_now in omega (arith, grows, now)),
+        (let grows = longer_so _ _ (outcomes_grow r jobs carry restarts opened t (cycles ++ rest) run clear on.1 k below) in let now = few_now in omega (arith, grows, now)),
     subst (λ (l : List View). is_some (open_in (begun_in (view_of r jobs carry restarts k t (cycles ++ rest)) l)) ≡ true) (views_split r jobs carry restarts k cycles rest)
-        (some_open _ (ap (λ (l : List Begun). is_none (open_in l)) ((keeps_all laws more r jobs carry restarts opened t (cycles ++ rest) run clear).exact k below).begun_now ∙ works_now)),
+        (some_open _ (ap (λ (l : List Begun). is_none (open_in l)) ((keeps_all r jobs carry restarts opened t (cycles ++ rest) run clear).exact k below).begun_now ∙ works_now)),
   )
     where
       stop_now : (behind_mdt r jobs carry restarts t.sent (cycles ++ rest)).stop ≡ None
@@ -167,10 +168,10 @@ module _ (laws : Laws) (more : MoreLaws) (comes_up : (busy : ℕ) → ComesUp bu
 
       few_now : length (outcomes (behind_mdt r jobs carry restarts t.sent (cycles ++ rest)) k) ≤ reads_count (member (known_of r) k) + (13 + i)
       few_now = subst (λ (l : List Outcome). length l ≤ reads_count (member (known_of r) k) + (13 + i))
-          (outcomes_kept laws more r jobs carry restarts opened t (cycles ++ rest) on.1 k) few
+          (outcomes_kept r jobs carry restarts opened t (cycles ++ rest) on.1 k) few
 
       low_now : i < length ((behind_mdt r jobs carry restarts t.sent (cycles ++ rest)).waiting k)
       low_now = subst (λ (l : List Task). i < length l) (sym (waits_now r jobs carry restarts t (cycles ++ rest) on.1 k ∙ waits_along r jobs carry restarts cycles rest on.0 k)) low
 
       works_now : is_idle (behind_mdt r jobs carry restarts t.sent (cycles ++ rest)) k ≡ false
-      works_now = busy_now t (cycles ++ rest) run clear on.1 (phase_before laws more comes_up r jobs carry restarts opened t (cycles ++ rest) run on.1 ∙ four_along laws more comes_up r jobs carry restarts opened cycles rest run.0 on.0 four) i low_now stop_now few_now
+      works_now = busy_now t (cycles ++ rest) run clear on.1 (phase_before r jobs carry restarts opened t (cycles ++ rest) run on.1 ∙ four_along r jobs carry restarts opened cycles rest run.0 on.0 four) i low_now stop_now few_now

@@ -20,7 +20,7 @@ use Rattle.sercos_master.proofs.Configured.{mdt_adds, leaves}
 use Rattle.sercos_master.proofs.Planned.{at_adds}
 use Rattle.sercos_law_channel.specs.Handshake.Epochs.{with_begun}
 use Rattle.sercos_law_channel.specs.Handshake.Moves.{with_status}
-use Rattle.sercos_law_run.specs.Agenda.Tasks.{BeginsTasks, BeginsNoneEarly, AreBegunTasks}
+use Rattle.sercos_law_run.specs.Agenda.Tasks.{AreBegunTasks}
 use Rattle.sercos_law_run.proofs.Agenda.OneTurn.{AtHears, SameAt, HeardAt, elsewhere_same, here_hears}
 use Rattle.sercos_law_run.specs.Views.RingViews.{request_of}
 use Rattle.sercos_law_run.proofs.Undisturbed.Arrivals.{not_false}
@@ -29,6 +29,7 @@ use Rattle.sercos_law_run.proofs.Undisturbed.Addressed.{place_so}
 use Rattle.sercos_law_run.proofs.Views.MasterSame.{begun_so, turn_mdt}
 use Rattle.sercos_law_run.proofs.Undisturbed.AfterAt.{after_at_so}
 use Rattle.sercos_law_run.proofs.Undisturbed.Small.{some_is}
+use Rattle.sercos_law_run.proofs.Cited.{begins_none, begins_tasks}
 
 -- a check that has ended well stays so
 pub checked_stays : (m : MemberView) (outs : List Outcome) (o : Option Outcome) → is_checked m outs ≡ true → is_checked m (with_outcome o outs) ≡ true
@@ -92,7 +93,7 @@ turn_after s p k turn read j low = by (first_place s (λ i. not (is_read (member
         let unread = found_passes 0 (length s.drives) i (λ m. not (is_read (member s m) (outcomes p m))) found in
         absurd (false≢true (sym (ap not (subst (λ (m : ℕ). is_read (member s m) (outcomes p m) ≡ true) (sym same) read)) ∙ unread))
 
-module _ (tasks : BeginsTasks) (early : BeginsNoneEarly) (s : Known) (requests : ℕ → List Task) (waits : (j : ℕ) → AreWaiting (requests j)) where
+module _ (s : Known) (requests : ℕ → List Task) (waits : (j : ℕ) → AreWaiting (requests j)) where
   abbrev AreInOrder : Past → Type 0
   AreInOrder p = p.now.phase ≡ 2 → (k : ℕ) → k < length s.drives → reads_count (member s k) < length (begun_by (p.calls k)) → (j : ℕ) → j < k → is_checked (member s j) (outcomes p j) ≡ true
 
@@ -138,7 +139,7 @@ module _ (tasks : BeginsTasks) (early : BeginsNoneEarly) (s : Known) (requests :
 
           all_ended : length (outcomes (past s requests h) k) ≡ length (begun_by ((past s requests h).calls k))
           all_ended = ended (record { request = t.request; answers = [] }) (begun_by ((past s requests h).calls k)) ((past s requests (Mdt ∷ h)).tasks k)
-              (subst (λ (l : List Begun). AreBegunTasks s k (past s requests (Mdt ∷ h)).plan ((past s requests (Mdt ∷ h)).waiting k) (past s requests (Mdt ∷ h)).now.phase l ((past s requests (Mdt ∷ h)).tasks k)) begun_is (tasks s requests (Mdt ∷ h) k there))
+              (subst (λ (l : List Begun). AreBegunTasks s k (past s requests (Mdt ∷ h)).plan ((past s requests (Mdt ∷ h)).waiting k) (past s requests (Mdt ∷ h)).now.phase l ((past s requests (Mdt ∷ h)).tasks k)) begun_is (begins_tasks s requests (Mdt ∷ h) k there))
 
           many : reads_count (member s k) ≤ length (outcomes (past s requests h) k)
           many = let long = ap (λ (l : List Begun). length l) begun_is in let same = all_ended in omega (arith, long, same, more)
@@ -157,7 +158,7 @@ module _ (tasks : BeginsTasks) (early : BeginsNoneEarly) (s : Known) (requests :
       by true done two k there more j low = absurd (omega (arith, two))
       by false false two k there more j low = have two k there more j low
       by false true two k there more j low =
-          let none = ap (λ (l : List Begun). length l) (early s requests h k waits there (omega (arith, two))) in absurd (omega (arith, none, more))
+          let none = ap (λ (l : List Begun). length l) (begins_none s requests h k waits there (omega (arith, two))) in absurd (omega (arith, none, more))
 
   pub in_order : (h : List Call) → AreInOrder (past s requests h)
   in_order [] = λ two k there more j low. absurd (omega (arith, two))

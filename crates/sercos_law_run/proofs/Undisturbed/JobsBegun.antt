@@ -42,8 +42,8 @@ use Rattle.sercos_law_run.proofs.Settings.CheckRuns.{checks_give_3}
 use Rattle.sercos_law_run.proofs.Settings.WellSets.{well_first}
 use Rattle.sercos_law_run.specs.Held.Opened.{IsOpened}
 use Rattle.sercos_law_run.proofs.Held.AnsweredRuns.{IsRead, is_read_request, as_read, read_of, read_answers, answered_by, entries_stored}
-use Rattle.sercos_law_run.proofs.Held.Runs.{Laws, drive_got, got_inside, small, wishes_so}
-use Rattle.sercos_law_run.proofs.Headline.HeadlineRuns.{MoreLaws, all_stand, first_store, keeps_all, spelled_in, stored_in}
+use Rattle.sercos_law_run.proofs.Held.Runs.{drive_got, got_inside, small, wishes_so}
+use Rattle.sercos_law_run.proofs.Headline.HeadlineRuns.{all_stand, first_store, keeps_all, spelled_in, stored_in}
 use Rattle.sercos_law_run.proofs.Headline.WellRuns.{AllWell, all_well}
 use Rattle.sercos_law_run.specs.Undisturbed.Jobs.{jobs_of, AreAt}
 use Rattle.sercos_law_run.proofs.Undisturbed.JobPlaces.{Give3, begun_at, few_in_two, reading}
@@ -51,22 +51,27 @@ use Rattle.sercos_law_run.proofs.Undisturbed.PlanMade.{looked_adds, no_stop_look
 use Rattle.sercos_law_run.proofs.Undisturbed.Small.{some_is}
 use Rattle.sercos_law_run.proofs.Settings.NoCheck127.{next_still, stays}
 use Rattle.std.proofs.lemmas.Option.{slice_get_within}
+use Rattle.sercos_law_channel.proofs.Cited.{runs_exact}
+use Rattle.sercos_law_run.proofs.Cited.{begins_tasks, tasks_end}
+use Rattle.sercos_law_run.proofs.Start.WellLemmas.{ring_is_valid}
 
 -- what stands in the middle of what was begun
 pub place_of : (all : List Request) (newer older : List Begun) (b : Begun) → AreAt all (newer ++ b ∷ older) → slice_get all (length older) ≡ Some b.request
 place_of all [] older b at = at.1
 place_of all (x ∷ newer) older b at = place_of all newer older b at.0
 
-module _ (laws : Laws) (more : MoreLaws) (r : RingView) (jobs : List Job) (carry : Carry) (restarts : Restarts) (opened : IsOpened r jobs) where
+module _ (r : RingView) (jobs : List Job) (carry : Carry) (restarts : Restarts) (opened : IsOpened r jobs) where
   inside : (k : ℕ) → k < length r.drives → k < length (known_of r).drives
   inside k below = let count = members_count r in omega (arith, count, below)
 
   -- THE CHECKS FOR PHASE 3 end well.
-  pub wells : (j : List CycleView) → IsRun r jobs carry restarts j → IsClear j → AllWell laws more.stop_laws r jobs carry restarts opened (first_store laws more r jobs carry restarts opened) j
+  pub wells : (j : List CycleView) → IsRun r jobs carry restarts j → IsClear j → AllWell r jobs carry restarts opened (first_store r jobs carry restarts opened) j
   wells [] run clear = λ k below. well_first r jobs carry restarts k
   wells (t ∷ j) (run, next) (before, clear) =
-      all_well laws more.stop_laws r jobs carry restarts opened (first_store laws more r jobs carry restarts opened) t j next clear (spelled_in laws more r jobs carry restarts opened t j next) (stored_in laws more r jobs carry restarts opened t j)
-      (all_stand laws more r jobs carry restarts opened j run before) (all_stand laws more r jobs carry restarts opened (t ∷ j) (run, next) (before, clear)) (wells j run before)
+      all_well r jobs carry restarts opened (first_store r jobs carry restarts opened) t j next clear
+      (spelled_in r jobs carry restarts opened t j next) (stored_in r jobs carry restarts opened t j)
+      (all_stand r jobs carry restarts opened j run before) (all_stand r jobs carry restarts opened (t ∷ j) (run, next) (before, clear))
+      (wells j run before)
 
   module _ (t : CycleView) (j : List CycleView) (run : IsRun r jobs carry restarts (t ∷ j)) (clear : IsClear (t ∷ j)) where
     abbrev now : Past
@@ -77,17 +82,19 @@ module _ (laws : Laws) (more : MoreLaws) (r : RingView) (jobs : List Job) (carry
     begun_of k = begun_in (view_of r jobs carry restarts k t j) (views_of r jobs carry restarts k j)
 
     pub begun_then : (k : ℕ) → k < length r.drives → begun_by (now.calls k) ≡ begun_of k
-    begun_then k below = sym ((keeps_all laws more r jobs carry restarts opened t j run clear).exact k below).begun_now
+    begun_then k below = sym ((keeps_all r jobs carry restarts opened t j run clear).exact k below).begun_now
 
     gives_3 : (k : ℕ) → k < length r.drives → Give3 (begun_of k)
     gives_3 k below newer older b bytes split asks whole =
-        let stands = all_stand laws more r jobs carry restarts opened (t ∷ j) run clear k below in
+        let stands = all_stand r jobs carry restarts opened (t ∷ j) run clear k below in
         let set = wells (t ∷ j) run clear k below in
-        checks_give_3 more.stop_laws.sets more.stop_laws.ends_with_status (drive_at r k).busy (store_of (drive_at r k)) (stays (view_of r jobs carry restarts k t j) ∷ views_of r jobs carry restarts k j)
-        (stands.sees.run.0, next_still (drive_at r k).busy (view_of r jobs carry restarts k t j) (views_of r jobs carry restarts k j) stands.sees.run.1) stands.sound set.set.follow set.well set.commands newer older b bytes split asks whole
+        checks_give_3 (drive_at r k).busy (store_of (drive_at r k))
+        (stays (view_of r jobs carry restarts k t j) ∷ views_of r jobs carry restarts k j)
+        (stands.sees.run.0, next_still (drive_at r k).busy (view_of r jobs carry restarts k t j) (views_of r jobs carry restarts k j) stands.sees.run.1)
+        stands.sound set.set.follow set.well set.commands newer older b bytes split asks whole
 
     pub tasks_then : (k : ℕ) → k < length r.drives → AreBegunTasks (known_of r) k now.plan (now.waiting k) now.now.phase (begun_of k) (now.tasks k)
-    tasks_then k below = subst (λ (l : List Begun). AreBegunTasks (known_of r) k now.plan (now.waiting k) now.now.phase l (now.tasks k)) (begun_then k below) (laws.tasks (known_of r) (tasks_for (known_of r) jobs) (middle r carry restarts t.sent j) k (inside k below))
+    tasks_then k below = subst (λ (l : List Begun). AreBegunTasks (known_of r) k now.plan (now.waiting k) now.now.phase l (now.tasks k)) (begun_then k below) (begins_tasks (known_of r) (tasks_for (known_of r) jobs) (middle r carry restarts t.sent j) k (inside k below))
 
     pub places_then : (k : ℕ) → k < length r.drives → now.now.phase ≤ 3 → AreAt (jobs_of (known_of r) now.plan k) (begun_of k)
     places_then k below low = begun_at (known_of r) k now.plan (now.waiting k) now.now.phase (begun_of k) (now.tasks k) (jobs_waiting (known_of r) jobs (middle r carry restarts t.sent j) k) low (tasks_then k below) (gives_3 k below)
@@ -132,7 +139,7 @@ module _ (laws : Laws) (more : MoreLaws) (r : RingView) (jobs : List Job) (carry
             complete_is = (whole k (inside k below) n early).1
 
             at : HasEndedAt (known_of r) k now.plan (now.waiting k) now.now.phase (begun_by (now.calls k)) n (outcome.Complete bytes)
-            at = laws.ends (known_of r) (tasks_for (known_of r) jobs) (middle r carry restarts t.sent j) k n (outcome.Complete bytes) (inside k below) complete_is
+            at = tasks_end (known_of r) (tasks_for (known_of r) jobs) (middle r carry restarts t.sent j) k n (outcome.Complete bytes) (inside k below) complete_is
 
             views : List View
             views = stays (view_of r jobs carry restarts k t j) ∷ views_of r jobs carry restarts k j
@@ -155,21 +162,21 @@ module _ (laws : Laws) (more : MoreLaws) (r : RingView) (jobs : List Job) (carry
 
             answer : IsAnswer (drive_at r k) (request.Read of.0 of.1) (outcome.Complete bytes)
             answer =
-                let stands = all_stand laws more r jobs carry restarts opened (t ∷ j) run clear k below in
+                let stands = all_stand r jobs carry restarts opened (t ∷ j) run clear k below in
                 let rules = (ring_drive r k (drive_at r k) opened.valid (drive_got r k below)).blocks in
                 read_answers (drive_at r k) x of.0 of.1 bytes rules is of.2
                 (read_of (drive_at r k) (store_of (drive_at r k)) (at.older ++ begun_ago views) at.one of.0 of.1 bytes of.3 (asked_is ∙ of.2) at.ended at.newer
                 (all_entries views) (all_writes views)
                 (subst (λ (l : List Begun). AreExact (store_of (drive_at r k)) l (all_entries views) (all_writes views)) all
-                (laws.exact (drive_at r k).busy (store_of (drive_at r k)) views (small laws r jobs carry restarts opened (first_store laws more r jobs carry restarts opened) k below) (stands.sees.run.0, next_still (drive_at r k).busy (view_of r jobs carry restarts k t j) (views_of r jobs carry restarts k j) stands.sees.run.1) stands.sound))
+                (runs_exact (drive_at r k).busy (store_of (drive_at r k)) views (small r jobs carry restarts opened (first_store r jobs carry restarts opened) k below) (stands.sees.run.0, next_still (drive_at r k).busy (view_of r jobs carry restarts k t j) (views_of r jobs carry restarts k j) stands.sees.run.1) stands.sound))
                 (entries_stored (drive_at r k) views stands.stored))
 
     pub asked_now : now.now.phase ≤ 3 → AreComplete → wishes_given (known_of r) (outcomes now) ≡ wishes_of r
-    asked_now low whole = wishes_so laws r jobs carry restarts opened (first_store laws more r jobs carry restarts opened) (outcomes now) (answers_now low whole)
+    asked_now low whole = wishes_so r jobs carry restarts opened (first_store r jobs carry restarts opened) (outcomes now) (answers_now low whole)
 
     -- THE PLAN
     wishes_valid : IsValid (wishes_of r)
-    wishes_valid = more.stop_laws.ring_valid r opened.valid (λ k d got.
+    wishes_valid = ring_is_valid r opened.valid (λ k d got.
         let there = got_inside r.drives k d got in
         subst (λ (x : DriveView). (length x.at ≤ 16) × (length x.mdt ≤ 16)) (sym there.1) ((opened.typed k there.0).at, (opened.typed k there.0).mdt))
 
@@ -177,7 +184,7 @@ module _ (laws : Laws) (more : MoreLaws) (r : RingView) (jobs : List Job) (carry
     complete_now none read k there n early =
         let q = behind_ats r jobs carry restarts t.sent j in
         let adds = looked_adds (known_of r) q in
-        let looked = complete (known_of r) q (λ i low. laws.tasks (known_of r) (tasks_for (known_of r) jobs) (at_calls r carry (length j) (ats_in t.sent) (own_mst carry (length j) (mst_in t.sent) (begin_calls restarts (length j) (master_calls r carry restarts j)))) i low)
+        let looked = complete (known_of r) q (λ i low. begins_tasks (known_of r) (tasks_for (known_of r) jobs) (at_calls r carry (length j) (ats_in t.sent) (own_mst carry (length j) (mst_in t.sent) (begin_calls restarts (length j) (master_calls r carry restarts j)))) i low)
         (sym (read_same (known_of r) now (with_stop (first_trouble (known_of r) q) q) adds) ∙ read) (ap (λ (o : Option Stop). is_none o) (no_stop_looked (known_of r) q none)) k there n early in
         (looked.0, ap (λ (l : List Outcome). slice_get l n) (adds k) ∙ looked.1)
 

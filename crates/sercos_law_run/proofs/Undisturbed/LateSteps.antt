@@ -21,18 +21,18 @@ use Rattle.sercos_master.specs.Annals.{fall_of}
 use Rattle.sercos_script.specs.Links.{Carry, Restarts}
 use Rattle.sercos_law_channel.specs.Handshake.Epochs.{epoch_begun, begun_in, epoch_taken, taken_in_views, epoch_log, log_in, unless_restart, with_heard, with_begun}
 use Rattle.sercos_law_channel.specs.Handshake.InStep.{AreInStep, Idle, Sent, Kept}
-use Rattle.sercos_law_channel.specs.Handshake.RunLaws.{ComesUp, ProcessesInPhase, AreInStepInEpoch}
 use Rattle.sercos_law_channel.specs.Handshake.Views.{Heard, View, with_record, processed_in}
 use Rattle.sercos_law_run.specs.Journal.Runs.{IsRun, IsClear}
 use Rattle.sercos_law_run.specs.Views.RingViews.{behind_mdt, view_of, views_of}
 use Rattle.sercos_law_run.specs.Held.Opened.{IsOpened}
-use Rattle.sercos_law_run.proofs.Held.Runs.{Laws}
 use Rattle.sercos_law_run.specs.Journal.Runs.{drive_at}
-use Rattle.sercos_law_run.proofs.Headline.HeadlineRuns.{MoreLaws, all_stand}
+use Rattle.sercos_law_run.proofs.Headline.HeadlineRuns.{all_stand}
 use Rattle.sercos_law_run.proofs.Undisturbed.StaysUp.{phase_now}
 use Rattle.sercos_law_run.proofs.Undisturbed.JobsBegun.{few_then}
 use Rattle.sercos_law_run.proofs.Undisturbed.Small.{first_is, nothing_there}
 use Rattle.sercos_law_channel.proofs.Theorems.{length-steps_of}
+use Rattle.sercos_law_channel.proofs.Handshake.EpochRuns.{in_step}
+use Rattle.sercos_law_channel.proofs.Handshake.RunFacts.{processes_in_phase}
 
 -- STEPS: an answer leaves those that were begun
 more_steps : (r : Request) (a : Answer) (h : List Answer) → length (steps_begun r h) ≤ length (steps_begun r (a ∷ h))
@@ -98,9 +98,9 @@ older_fewer one older log rest e (Kept x before open_is split steps answers) end
 abbrev pub IsLate : ℕ → ℕ → List Begun → List Entry → Type 0
 IsLate n phase begun log = (one : Begun) (older : List Begun) (e : Entry) (rest : List Entry) → begun ≡ one ∷ older → n ≤ length older → log ≡ e ∷ rest → length (steps_in older) ≤ length rest → phase ≤ e.taken.phase
 
-cycle_late : ProcessesInPhase → (n phase : ℕ) (v : View) (past : List View) → AreInStep (epoch_begun past) (epoch_log past) → (n < length (begun_in v past) → phase ≤ v.phase) → IsLate n phase (epoch_begun past) (epoch_log past)
-    → IsLate n phase (begun_in v past) (log_in v past)
-cycle_late in_phase n phase v past in_step is_late late one older e rest begun many log steps = by (processed_in v past) refl log
+cycle_late : (n phase : ℕ) (v : View) (past : List View) → AreInStep (epoch_begun past) (epoch_log past) → (n < length (begun_in v past)
+    → phase ≤ v.phase) → IsLate n phase (epoch_begun past) (epoch_log past) → IsLate n phase (begun_in v past) (log_in v past)
+cycle_late n phase v past in_step is_late late one older e rest begun many log steps = by (processed_in v past) refl log
   where
     high : phase ≤ v.phase
     high = is_late (let long = ap (λ (l : List Begun). length l) begun in omega (arith, long, many))
@@ -129,11 +129,11 @@ cycle_late in_phase n phase v past in_step is_late late one older e rest begun m
         which true is = dropped is
         which false is =
             let this : t ≡ e.taken = ap (λ (x : Entry). x.taken) (first_is _ e (answered (accepted (unless_restart v (epoch_taken past)))) rest is).0 in
-            let now = (in_phase v past t some).0 in
+            let now = (processes_in_phase v past t some).0 in
             subst (λ (x : Taken). phase ≤ x.phase) this (let is_high = high in omega (arith, is_high, now))
 
-module _ (laws : Laws) (more : MoreLaws) (comes_up : (busy : ℕ) → ComesUp busy) (in_phase : ProcessesInPhase) (in_step : (busy : ℕ) → AreInStepInEpoch busy) (r : RingView) (jobs : List Job) (carry : Carry) (restarts : Restarts) (opened : IsOpened r jobs)
-    (k : ℕ) (below : k < length r.drives) where
+module _ (r : RingView) (jobs : List Job) (carry : Carry) (restarts : Restarts) (opened : IsOpened r jobs) (k : ℕ)
+    (below : k < length r.drives) where
   -- the check for phase 4 comes 12 requests after the reads
   abbrev pub ChecksLate : List Begun → List Entry → Type 0
   ChecksLate = IsLate (reads_count (member (known_of r) k) + 12) 3
@@ -141,14 +141,16 @@ module _ (laws : Laws) (more : MoreLaws) (comes_up : (busy : ℕ) → ComesUp bu
   -- in a cycle
   late_in_cycle : (t : CycleView) (j : List CycleView) → IsRun r jobs carry restarts (t ∷ j) → IsClear (t ∷ j)
       → ChecksLate (epoch_begun (views_of r jobs carry restarts k j)) (epoch_log (views_of r jobs carry restarts k j)) → ChecksLate (begun_in (view_of r jobs carry restarts k t j) (views_of r jobs carry restarts k j)) (log_in (view_of r jobs carry restarts k t j) (views_of r jobs carry restarts k j))
-  late_in_cycle t j run clear before = cycle_late in_phase (reads_count (member (known_of r) k) + 12) 3 (view_of r jobs carry restarts k t j) (views_of r jobs carry restarts k j)
-      (in_step (drive_at r k).busy (views_of r jobs carry restarts k j) (all_stand laws more r jobs carry restarts opened j run.0 clear.0 k below).sees.run) high before
+  late_in_cycle t j run clear before = cycle_late (reads_count (member (known_of r) k) + 12) 3 (view_of r jobs carry restarts k t j)
+      (views_of r jobs carry restarts k j)
+      (in_step (drive_at r k).busy (views_of r jobs carry restarts k j) (all_stand r jobs carry restarts opened j run.0 clear.0 k below).sees.run)
+      high before
     where
       high : reads_count (member (known_of r) k) + 12 < length (begun_in (view_of r jobs carry restarts k t j) (views_of r jobs carry restarts k j)) → 3 ≤ t.phase
       high many = elim (cases_lt t.phase 3) [
         | inl low ↦
-            let same = phase_now laws more comes_up r jobs carry restarts opened t j run.1 in
-            let few = few_then laws more r jobs carry restarts opened t j run clear k below (omega (arith, same, low)) in absurd (omega (arith, few, many))
+            let same = phase_now r jobs carry restarts opened t j run.1 in
+            let few = few_then r jobs carry restarts opened t j run clear k below (omega (arith, same, low)) in absurd (omega (arith, few, many))
         | inr there ↦ omega (arith, there)
       ]
 

@@ -34,14 +34,12 @@ use Rattle.sercos_master.specs.Annals.{Past, outcomes}
 use Rattle.sercos_script.specs.Links.{Carry, Restarts}
 use Rattle.sercos_law_channel.specs.Handshake.Epochs.{begun_in, log_in}
 use Rattle.sercos_law_channel.specs.Handshake.InStep.{AreInStep}
-use Rattle.sercos_law_channel.specs.Handshake.Parts.{HaveReplies, MakeTransfers}
-use Rattle.sercos_law_channel.specs.Handshake.RunLaws.{ComesUp, ProcessesInPhase, AreInStepInCycle, AreInStepInEpoch}
 use Rattle.sercos_law_channel.specs.Handshake.Transfers.{IsTransfer}
 use Rattle.sercos_law_channel.proofs.Theorems.{Allows}
 use Rattle.sercos_law_run.proofs.Start.CheckPasses.{ring_drive}
 use Rattle.sercos_law_run.specs.Journal.Runs.{drive_at, middle, IsRun, IsClear}
 use Rattle.sercos_law_run.specs.Agenda.Reported.{AreNumbered}
-use Rattle.sercos_law_run.specs.Agenda.Stops.{RefusedHasCause, HasRefused, Check128HasCause, HasFailedCheck}
+use Rattle.sercos_law_run.specs.Agenda.Stops.{HasRefused, HasFailedCheck}
 use Rattle.sercos_law_run.specs.Agenda.Tasks.{HasEndedAt, IsTask, OfReads, OfWrites, Checks3, Lists3, Checks4, Lists4, OfWaiting, AreBegunTasks}
 use Rattle.sercos_law_run.proofs.Agenda.ReadWell.{last_is}
 use Rattle.sercos_law_run.proofs.Agenda.Requests.{numbered_drop, are_requests}
@@ -50,7 +48,7 @@ use Rattle.sercos_law_run.proofs.Views.Members.{members_count}
 use Rattle.sercos_law_run.specs.Held.Opened.{IsOpened}
 use Rattle.sercos_law_run.proofs.Held.Runs.{drive_got, small}
 use Rattle.sercos_law_run.proofs.Held.Runs as held
-use Rattle.sercos_law_run.proofs.Headline.HeadlineRuns.{MoreLaws, all_stand, first_store}
+use Rattle.sercos_law_run.proofs.Headline.HeadlineRuns.{all_stand, first_store}
 use Rattle.sercos_law_run.specs.Undisturbed.Jobs.{jobs_of, AreAt}
 use Rattle.sercos_law_run.specs.Undisturbed.StopsLater.{StopsForTheCheck}
 use Rattle.sercos_law_run.proofs.Undisturbed.CycleHeld.{fits_in}
@@ -68,6 +66,9 @@ use Rattle.sercos_law_run.proofs.Undisturbed.RefusedSteps.{command_well, data_re
 use Rattle.sercos_law_run.proofs.Undisturbed.StaysUp.{phase_now}
 use Rattle.sercos_law_run.proofs.Undisturbed.StopsTold.{stops_right}
 use Rattle.sercos_law_run.proofs.Undisturbed.Small.{first_is, never_both, some_is}
+use Rattle.sercos_law_channel.proofs.Cited.{transfers}
+use Rattle.sercos_law_channel.proofs.Handshake.EpochRuns.{in_step_in}
+use Rattle.sercos_law_run.proofs.Cited.{check128_has_cause, left_of, refused_has_cause, tasks_end}
 
 -- A request that was refused is no check that ended well.
 refused_badly : (outs : List Outcome) (code : Code) (i : ℕ) → ended_well (given (outs ++ outcome.Refused code ∷ []) i) ≡ true → i < length outs
@@ -114,24 +115,24 @@ complete_before s k plan waiting phase x [] one older (t ∷ u ∷ tasks) are lo
     let ended = are.0.1.ended in are.1.well (unnumbered s k are.0.1.by_then waiting (outcomes_in older) u (omega (arith, ended, long)) are.0.1.task)
 complete_before s k plan waiting phase x (y ∷ newer) one older (t ∷ tasks) are long = complete_before s k plan waiting phase y newer one older tasks are.0 long
 
-module _ (laws : held.Laws) (more : MoreLaws) (comes_up : (busy : ℕ) → ComesUp busy) (replies : HaveReplies) (transfers : MakeTransfers) (in_phase : ProcessesInPhase) (in_step : (busy : ℕ) → AreInStepInEpoch busy) (in_cycle : (busy : ℕ) → AreInStepInCycle busy)
-    (cause : RefusedHasCause) (cause128 : Check128HasCause) (r : RingView) (jobs : List Job) (carry : Carry) (restarts : Restarts) (opened : IsOpened r jobs) (t : CycleView) (j : List CycleView) (run : IsRun r jobs carry restarts (t ∷ j))
-    (clear : IsClear (t ∷ j)) where
+module _ (r : RingView) (jobs : List Job) (carry : Carry) (restarts : Restarts) (opened : IsOpened r jobs) (t : CycleView)
+    (j : List CycleView) (run : IsRun r jobs carry restarts (t ∷ j)) (clear : IsClear (t ∷ j)) where
   abbrev now : Past
   now = behind_mdt r jobs carry restarts t.sent j
 
   phase_is : (behind_mdt r jobs carry restarts t.sent j).now.phase ≡ t.phase
-  phase_is = phase_now laws more comes_up r jobs carry restarts opened t j run.1
+  phase_is = phase_now r jobs carry restarts opened t j run.1
 
   -- a request of the start-up that was refused, the newest of its channel
-  module _ (k : ℕ) (below : k < length r.drives) (there : k < length (known_of r).drives) (one : Begun) (older : List Begun) (code : Code) (begun : begun_by (now.calls k) ≡ one ∷ older) (task : Task) (tasks : List Task) (tasks_are : now.tasks k ≡ task ∷ tasks)
+  module _ (k : ℕ) (below : k < length r.drives) (there : k < length (known_of r).drives) (one : Begun) (older : List Begun) (code : Code)
+      (begun : begun_by (now.calls k) ≡ one ∷ older) (task : Task) (tasks : List Task) (tasks_are : now.tasks k ≡ task ∷ tasks)
       (startup : task.number ≡ None) (ended : outcome_of one.request one.answers ≡ Some (outcome.Refused code)) where
     split : begun_in (view_of r jobs carry restarts k t j) (views_of r jobs carry restarts k j) ≡ one ∷ older
-    split = sym (begun_then laws more r jobs carry restarts opened t j run clear k below) ∙ begun
+    split = sym (begun_then r jobs carry restarts opened t j run clear k below) ∙ begun
 
     are : AreBegunTasks (known_of r) k now.plan (now.waiting k) now.now.phase (one ∷ older) (task ∷ tasks)
     are = subst (λ (l : List Begun). AreBegunTasks (known_of r) k now.plan (now.waiting k) now.now.phase l (task ∷ tasks)) split
-        (subst (AreBegunTasks (known_of r) k now.plan (now.waiting k) now.now.phase (begun_in (view_of r jobs carry restarts k t j) (views_of r jobs carry restarts k j))) tasks_are (tasks_then laws more r jobs carry restarts opened t j run clear k below))
+        (subst (AreBegunTasks (known_of r) k now.plan (now.waiting k) now.now.phase (begun_in (view_of r jobs carry restarts k t j) (views_of r jobs carry restarts k j))) tasks_are (tasks_then r jobs carry restarts opened t j run clear k below))
 
     outs_are : outcomes now k ≡ outcomes_in older ++ outcome.Refused code ∷ []
     outs_are = ap (λ (l : List Begun). outcomes_in l) begun ∙ ap (λ (o : Option Outcome). with_outcome o (outcomes_in older)) ended
@@ -155,7 +156,7 @@ module _ (laws : held.Laws) (more : MoreLaws) (comes_up : (busy : ℕ) → Comes
         past_check = let same = phase_is in passed (reads_count (member (known_of r) k) + 11) (all_checked_in (known_of r) (tasks_for (known_of r) jobs) (middle r carry restarts t.sent j) (omega (arith, same, three)) k there)
 
         places : AreAt (jobs_of (known_of r) (behind_mdt r jobs carry restarts t.sent j).plan k) (one ∷ older)
-        places = subst (AreAt (jobs_of (known_of r) (behind_mdt r jobs carry restarts t.sent j).plan k)) split (places_then laws more r jobs carry restarts opened t j run clear k below low_phase)
+        places = subst (AreAt (jobs_of (known_of r) (behind_mdt r jobs carry restarts t.sent j).plan k)) split (places_then r jobs carry restarts opened t j run clear k below low_phase)
 
         made : (p : PlanView) × ((behind_mdt r jobs carry restarts t.sent j).plan ≡ Some p)
         made = some_plan (known_of r) k (behind_mdt r jobs carry restarts t.sent j).plan (one ∷ older) places (let low = past_check in omega (arith, low))
@@ -171,14 +172,15 @@ module _ (laws : held.Laws) (more : MoreLaws) (comes_up : (busy : ℕ) → Comes
             let all = reads_length (member (known_of r) k) in omega (arith, most, parts, more_14, all)
 
         stands : held.Stands r jobs carry restarts (t ∷ j) k
-        stands = all_stand laws more r jobs carry restarts opened (t ∷ j) run clear k below
+        stands = all_stand r jobs carry restarts opened (t ∷ j) run clear k below
 
         rules : blocks_fault [] (drive_at r k).blocks ≡ None
         rules = (ring_drive r k (drive_at r k) opened.valid (drive_got r k below)).blocks
 
         refused : (ref : IsRefused (drive_at r k) one.request code t.phase) × (log_in (view_of r jobs carry restarts k t j) (views_of r jobs carry restarts k j) ≡ ref.e ∷ (ref.entries ++ ref.log))
-        refused = newest_refused more.stop_laws.lower.transfers replies transfers in_phase (drive_at r k).busy (drive_at r k) (small laws r jobs carry restarts opened (first_store laws more r jobs carry restarts opened) k below)
-            (view_of r jobs carry restarts k t j) (views_of r jobs carry restarts k j) stands.sees.run stands.sound stands.stored one older code split ended
+        refused = newest_refused transfers (drive_at r k).busy (drive_at r k)
+            (small r jobs carry restarts opened (first_store r jobs carry restarts opened) k below) (view_of r jobs carry restarts k t j)
+            (views_of r jobs carry restarts k j) stands.sees.run stands.sound stands.stored one older code split ended
 
         ref : IsRefused (drive_at r k) one.request code t.phase
         ref = refused.0
@@ -205,7 +207,7 @@ module _ (laws : held.Laws) (more : MoreLaws) (comes_up : (busy : ℕ) → Comes
 
             step : AreInStep (one ∷ older) (log_in (view_of r jobs carry restarts k t j) (views_of r jobs carry restarts k j))
             step = subst (λ (l : List Begun). AreInStep l (log_in (view_of r jobs carry restarts k t j) (views_of r jobs carry restarts k j))) split
-                (in_cycle (drive_at r k).busy (view_of r jobs carry restarts k t j) (views_of r jobs carry restarts k j) stands.sees.run)
+                (in_step_in (drive_at r k).busy (view_of r jobs carry restarts k t j) (views_of r jobs carry restarts k j) stands.sees.run)
 
             no_step : step_at one.request one.answers ≡ None
             no_step = ap (λ (o : Option Outcome). if is_some o then None else next_step one.request one.answers) ended
@@ -218,7 +220,7 @@ module _ (laws : held.Laws) (more : MoreLaws) (comes_up : (busy : ℕ) → Comes
 
             in_three : ref.e.taken.phase ≡ 3
             in_three =
-                let late = late_now laws more comes_up in_phase in_step r jobs carry restarts opened k below t j run clear one older ref.e (ref.entries ++ ref.log) split (omega (arith, at)) refused.1 fewer in
+                let late = late_now r jobs carry restarts opened k below t j run clear one older ref.e (ref.entries ++ ref.log) split (omega (arith, at)) refused.1 fewer in
                 let most = ref.between.0 in omega (arith, late, most, three)
 
     never_four : t.phase ≡ 4 → ⊥
@@ -244,7 +246,7 @@ module _ (laws : held.Laws) (more : MoreLaws) (comes_up : (busy : ℕ) → Comes
 
         numbered : AreNumbered ((behind_mdt r jobs carry restarts t.sent j).waiting k)
         numbered =
-            let left = laws.left (known_of r) jobs (middle r carry restarts t.sent j) k in
+            let left = left_of (known_of r) jobs (middle r carry restarts t.sent j) k in
             subst AreNumbered (sym left.1) (numbered_drop left.0 (tasks_for (known_of r) jobs k) (are_requests (known_of r) jobs k).1)
 
         by : (by_then : Option PlanView) → IsTask (known_of r) k by_then ((behind_mdt r jobs carry restarts t.sent j).waiting k) (outcomes_in older) task → ⊥
@@ -258,7 +260,7 @@ module _ (laws : held.Laws) (more : MoreLaws) (comes_up : (busy : ℕ) → Comes
 
   -- NO REFUSAL
   no_refusal : (t.phase ≡ 3) ⊎ (t.phase ≡ 4) → (address : ℕ) (i : Idn) (code : Code) → (behind_mdt r jobs carry restarts t.sent j).stop ≡ Some (stop.Refused address i code) → ⊥
-  no_refusal which address i code is = by which (cause (known_of r) (tasks_for (known_of r) jobs) (middle r carry restarts t.sent j) address i code is)
+  no_refusal which address i code is = by which (refused_has_cause (known_of r) (tasks_for (known_of r) jobs) (middle r carry restarts t.sent j) address i code is)
     where
       low : (has : HasRefused (known_of r) (behind_mdt r jobs carry restarts t.sent j) address i code) → has.ended.place < length r.drives
       low has = let count = members_count r in let there = has.ended.there in omega (arith, count, there)
@@ -272,7 +274,7 @@ module _ (laws : held.Laws) (more : MoreLaws) (comes_up : (busy : ℕ) → Comes
   EndedAt k i o = HasEndedAt (known_of r) k now.plan (now.waiting k) now.now.phase (begun_by (now.calls k)) (reads_count (member (known_of r) k) + i) o
 
   split_at : (k : ℕ) → k < length r.drives → (i : ℕ) (o : Outcome) (at : EndedAt k i o) → begun_in (view_of r jobs carry restarts k t j) (views_of r jobs carry restarts k j) ≡ at.newer ++ at.one ∷ at.older
-  split_at k below i o at = sym (begun_then laws more r jobs carry restarts opened t j run clear k below) ∙ at.split
+  split_at k below i o at = sym (begun_then r jobs carry restarts opened t j run clear k below) ∙ at.split
 
   asks_at : t.phase ≡ 3 → (k : ℕ) → k < length r.drives → (i : ℕ) (q : Request) → ((p : PlanView) → slice_get (writes (known_of r) p k ++ request.Command (idn 127) ∷ request.Command (idn 128) ∷ request.Read (idn 22) 7 ∷ []) i ≡ Some q) → (o : Outcome) (at : EndedAt k i o)
       → at.one.request ≡ q
@@ -282,7 +284,7 @@ module _ (laws : held.Laws) (more : MoreLaws) (comes_up : (busy : ℕ) → Comes
     where
       places : AreAt (jobs_of (known_of r) (behind_mdt r jobs carry restarts t.sent j).plan k) (at.newer ++ at.one ∷ at.older)
       places = subst (AreAt (jobs_of (known_of r) (behind_mdt r jobs carry restarts t.sent j).plan k)) (split_at k below i o at)
-          (places_then laws more r jobs carry restarts opened t j run clear k below (let same = phase_is in omega (arith, same, three)))
+          (places_then r jobs carry restarts opened t j run clear k below (let same = phase_is in omega (arith, same, three)))
 
       long : reads_count (member (known_of r) k) < length (at.newer ++ at.one ∷ at.older)
       long = let parts = length-append at.newer (at.one ∷ at.older) in let place = at.place in omega (arith, parts, place)
@@ -296,12 +298,12 @@ module _ (laws : held.Laws) (more : MoreLaws) (comes_up : (busy : ℕ) → Comes
     where
       at : HasEndedAt (known_of r) failed.place (behind_mdt r jobs carry restarts t.sent j).plan ((behind_mdt r jobs carry restarts t.sent j).waiting failed.place) (behind_mdt r jobs carry restarts t.sent j).now.phase
           (begun_by ((behind_mdt r jobs carry restarts t.sent j).calls failed.place)) (reads_count (member (known_of r) failed.place) + 12) (outcome.Complete failed.status)
-      at = laws.ends (known_of r) (tasks_for (known_of r) jobs) (middle r carry restarts t.sent j) failed.place (reads_count (member (known_of r) failed.place) + 12) (outcome.Complete failed.status) failed.there failed.complete
+      at = tasks_end (known_of r) (tasks_for (known_of r) jobs) (middle r carry restarts t.sent j) failed.place (reads_count (member (known_of r) failed.place) + 12) (outcome.Complete failed.status) failed.there failed.complete
 
       by : (b : Bool) → list_any is_outside (drive_at r failed.place).blocks ≡ b → list_any is_outside (drive_at r failed.place).blocks ≡ true
       by true is = is
       by false none =
-          let gives = check_gives_3 laws more r jobs carry restarts opened failed.place low none t j run clear at.newer at.older at.one failed.status (split_at failed.place low 12 (outcome.Complete failed.status) at) (asks_at three failed.place low 12 (request.Command (idn 128)) (λ p. refl) (outcome.Complete failed.status) at) at.ended in
+          let gives = check_gives_3 r jobs carry restarts opened failed.place low none t j run clear at.newer at.older at.one failed.status (split_at failed.place low 12 (outcome.Complete failed.status) at) (asks_at three failed.place low 12 (request.Command (idn 128)) (λ p. refl) (outcome.Complete failed.status) at) at.ended in
           absurd (false≢true (sym failed.badly ∙ ap ended_well gives))
 
   -- THE LIST that the drive then gave has the numbers of these blocks.
@@ -310,22 +312,23 @@ module _ (laws : held.Laws) (more : MoreLaws) (comes_up : (busy : ℕ) → Comes
   lists_own three address list failed low outside =
       failed.list_is ∙ ap (λ (l : List ℕ). take 64 (idns_in l)) bytes_are
       ∙ list_back (drive_at r failed.place) (ring_drive r failed.place (drive_at r failed.place) opened.valid (drive_got r failed.place low)).blocks
-      (let few = (first_store laws more r jobs carry restarts opened failed.place low).few in omega (arith, few))
+      (let few = (first_store r jobs carry restarts opened failed.place low).few in omega (arith, few))
     where
       first : HasEndedAt (known_of r) failed.place (behind_mdt r jobs carry restarts t.sent j).plan ((behind_mdt r jobs carry restarts t.sent j).waiting failed.place) (behind_mdt r jobs carry restarts t.sent j).now.phase
           (begun_by ((behind_mdt r jobs carry restarts t.sent j).calls failed.place)) (reads_count (member (known_of r) failed.place) + 12) (outcome.Complete failed.status)
-      first = laws.ends (known_of r) (tasks_for (known_of r) jobs) (middle r carry restarts t.sent j) failed.place (reads_count (member (known_of r) failed.place) + 12) (outcome.Complete failed.status) failed.there failed.complete
+      first = tasks_end (known_of r) (tasks_for (known_of r) jobs) (middle r carry restarts t.sent j) failed.place (reads_count (member (known_of r) failed.place) + 12) (outcome.Complete failed.status) failed.there failed.complete
 
       second : HasEndedAt (known_of r) failed.place (behind_mdt r jobs carry restarts t.sent j).plan ((behind_mdt r jobs carry restarts t.sent j).waiting failed.place) (behind_mdt r jobs carry restarts t.sent j).now.phase
           (begun_by ((behind_mdt r jobs carry restarts t.sent j).calls failed.place)) (reads_count (member (known_of r) failed.place) + 13) (outcome.Complete failed.bytes)
-      second = laws.ends (known_of r) (tasks_for (known_of r) jobs) (middle r carry restarts t.sent j) failed.place (reads_count (member (known_of r) failed.place) + 13) (outcome.Complete failed.bytes) failed.there failed.listed
+      second = tasks_end (known_of r) (tasks_for (known_of r) jobs) (middle r carry restarts t.sent j) failed.place (reads_count (member (known_of r) failed.place) + 13) (outcome.Complete failed.bytes) failed.there failed.listed
 
       behind : second.older ≡ first.one ∷ first.older
       behind = same_end (second.newer ++ second.one ∷ []) first.newer second.older (first.one ∷ first.older) (append_assoc second.newer (second.one ∷ []) second.older ∙ sym second.split ∙ first.split)
           (let a = first.place in let b = second.place in omega (arith, a, b))
 
       bytes_are : failed.bytes ≡ own_bytes (drive_at r failed.place)
-      bytes_are = list_is laws more comes_up r jobs carry restarts opened failed.place low outside t j run clear second.newer first.older second.one first.one failed.bytes failed.status
+      bytes_are = list_is r jobs carry restarts opened failed.place low outside t j run clear second.newer first.older second.one first.one
+          failed.bytes failed.status
           (split_at failed.place low 13 (outcome.Complete failed.bytes) second ∙ ap (λ (l : List Begun). second.newer ++ second.one ∷ l) behind)
           (asks_at three failed.place low 13 (request.Read (idn 22) 7) (λ p. refl) (outcome.Complete failed.bytes) second) second.ended
           (asks_at three failed.place low 12 (request.Command (idn 128)) (λ p. refl) (outcome.Complete failed.status) first) first.ended
@@ -336,7 +339,7 @@ module _ (laws : held.Laws) (more : MoreLaws) (comes_up : (busy : ℕ) → Comes
     where
       all : AreBegunTasks (known_of r) k (behind_mdt r jobs carry restarts t.sent j).plan ((behind_mdt r jobs carry restarts t.sent j).waiting k) (behind_mdt r jobs carry restarts t.sent j).now.phase (at.newer ++ at.one ∷ at.older) ((behind_mdt r jobs carry restarts t.sent j).tasks k)
       all = subst (λ (l : List Begun). AreBegunTasks (known_of r) k (behind_mdt r jobs carry restarts t.sent j).plan ((behind_mdt r jobs carry restarts t.sent j).waiting k) (behind_mdt r jobs carry restarts t.sent j).now.phase l ((behind_mdt r jobs carry restarts t.sent j).tasks k))
-          (split_at k below 12 (outcome.Refused code) at) (tasks_then laws more r jobs carry restarts opened t j run clear k below)
+          (split_at k below 12 (outcome.Refused code) at) (tasks_then r jobs carry restarts opened t j run clear k below)
 
       newest : (tasks : List Task) → (behind_mdt r jobs carry restarts t.sent j).tasks k ≡ tasks → begun_by ((behind_mdt r jobs carry restarts t.sent j).calls k) ≡ at.one ∷ at.older
           → AreBegunTasks (known_of r) k (behind_mdt r jobs carry restarts t.sent j).plan ((behind_mdt r jobs carry restarts t.sent j).waiting k) (behind_mdt r jobs carry restarts t.sent j).now.phase (at.one ∷ at.older) tasks → ⊥
@@ -355,11 +358,11 @@ module _ (laws : held.Laws) (more : MoreLaws) (comes_up : (busy : ℕ) → Comes
           let both : Some (outcome.Refused code) ≡ Some (outcome.Complete whole.0) = sym at.ended ∙ whole.1 in cc
 
   well_at : t.phase ≡ 3 → (k : ℕ) → k < length r.drives → k < length (known_of r).drives → list_any is_outside (drive_at r k).blocks ≡ false → (o : Outcome) → slice_get (outcomes now k) (reads_count (member (known_of r) k) + 12) ≡ Some o → ended_well (bytes_of o) ≡ true
-  well_at three k below there none o got = by o (laws.ends (known_of r) (tasks_for (known_of r) jobs) (middle r carry restarts t.sent j) k (reads_count (member (known_of r) k) + 12) o there got)
+  well_at three k below there none o got = by o (tasks_end (known_of r) (tasks_for (known_of r) jobs) (middle r carry restarts t.sent j) k (reads_count (member (known_of r) k) + 12) o there got)
     where
       by : (o : Outcome) → EndedAt k 12 o → ended_well (bytes_of o) ≡ true
       by (outcome.Complete bytes) at =
-          ap ended_well (check_gives_3 laws more r jobs carry restarts opened k below none t j run clear at.newer at.older at.one bytes (split_at k below 12 (outcome.Complete bytes) at) (asks_at three k below 12 (request.Command (idn 128)) (λ p. refl) (outcome.Complete bytes) at) at.ended)
+          ap ended_well (check_gives_3 r jobs carry restarts opened k below none t j run clear at.newer at.older at.one bytes (split_at k below 12 (outcome.Complete bytes) at) (asks_at three k below 12 (request.Command (idn 128)) (λ p. refl) (outcome.Complete bytes) at) at.ended)
       by (outcome.Refused code) at = absurd (never_refused three k below there code at)
       by outcome.Broken at = absurd (never_broken at.one.request at.one.answers at.ended)
 
@@ -368,8 +371,8 @@ module _ (laws : held.Laws) (more : MoreLaws) (comes_up : (busy : ℕ) → Comes
   ready_if_ended k below there none ended = elim (cases_lt t.phase 3) [
     | inl early ↦
         let same = phase_is in
-        let few = few_then laws more r jobs carry restarts opened t j run clear k below (omega (arith, same, early)) in
-        let begun = ap (λ (l : List Begun). length l) (begun_then laws more r jobs carry restarts opened t j run clear k below) in
+        let few = few_then r jobs carry restarts opened t j run clear k below (omega (arith, same, early)) in
+        let begun = ap (λ (l : List Begun). length l) (begun_then r jobs carry restarts opened t j run clear k below) in
         let outs = not_longer (begun_by ((behind_mdt r jobs carry restarts t.sent j).calls k)) in absurd (omega (arith, few, begun, outs, ended))
     | inr late ↦ elim (cases_eq t.phase 3) [
       | inl three ↦
@@ -384,13 +387,13 @@ module _ (laws : held.Laws) (more : MoreLaws) (comes_up : (busy : ℕ) → Comes
   -- THE STOP OF PHASE 3
   pub stop_in_three : t.phase ≡ 3 → (x : Stop) → (behind_mdt r jobs carry restarts t.sent j).stop ≡ Some x → StopsForTheCheck r (behind_mdt r jobs carry restarts t.sent j) x
   stop_in_three three (stop.NoFit chain) is =
-      let fit = fits_in laws more r jobs carry restarts opened t j run clear (omega (arith, three)) in
-      absurd ((stops_right laws more r jobs carry restarts opened t j (stop.NoFit chain) run clear is).no_fit chain refl fit.plan fit.fits)
+      let fit = fits_in r jobs carry restarts opened t j run clear (omega (arith, three)) in
+      absurd ((stops_right r jobs carry restarts opened t j (stop.NoFit chain) run clear is).no_fit chain refl fit.plan fit.fits)
   stop_in_three three (stop.Refused address i code) is = absurd (no_refusal (inl three) address i code is)
-  stop_in_three three (stop.BadConfig address i word) is = absurd ((stops_right laws more r jobs carry restarts opened t j (stop.BadConfig address i word) run clear is).no_bad_config address i word refl)
-  stop_in_three three (stop.Check127 address list) is = absurd ((stops_right laws more r jobs carry restarts opened t j (stop.Check127 address list) run clear is).no_check127 address list.items refl)
+  stop_in_three three (stop.BadConfig address i word) is = absurd ((stops_right r jobs carry restarts opened t j (stop.BadConfig address i word) run clear is).no_bad_config address i word refl)
+  stop_in_three three (stop.Check127 address list) is = absurd ((stops_right r jobs carry restarts opened t j (stop.Check127 address list) run clear is).no_check127 address list.items refl)
   stop_in_three three (stop.Check128 address list) is =
-      let failed = cause128 (known_of r) (tasks_for (known_of r) jobs) (middle r carry restarts t.sent j) address list.items (λ i. (more.requests (known_of r) jobs i).1) is in
+      let failed = check128_has_cause (known_of r) (tasks_for (known_of r) jobs) (middle r carry restarts t.sent j) address list.items (λ i. (are_requests (known_of r) jobs i).1) is in
       let count = members_count r in
       let there = failed.there in
       let low : failed.place < length r.drives = omega (arith, count, there) in
@@ -402,7 +405,7 @@ module _ (laws : held.Laws) (more : MoreLaws) (comes_up : (busy : ℕ) → Comes
         there = low;
         outside = own_outside three address list.items failed low;
         lists = lists_own three address list.items failed low (own_outside three address list.items failed low);
-        fits = fits_in laws more r jobs carry restarts opened t j run clear (omega (arith, three));
+        fits = fits_in r jobs carry restarts opened t j run clear (omega (arith, three));
       }
 
   -- AND OF PHASE 4
@@ -415,13 +418,13 @@ module _ (laws : held.Laws) (more : MoreLaws) (comes_up : (busy : ℕ) → Comes
 
   none_so : t.phase ≡ 4 → (x : Stop) → (behind_mdt r jobs carry restarts t.sent j).stop ≡ Some x → ⊥
   none_so four (stop.NoFit chain) is =
-      let fit = fits_in laws more r jobs carry restarts opened t j run clear (omega (arith, four)) in
-      (stops_right laws more r jobs carry restarts opened t j (stop.NoFit chain) run clear is).no_fit chain refl fit.plan fit.fits
+      let fit = fits_in r jobs carry restarts opened t j run clear (omega (arith, four)) in
+      (stops_right r jobs carry restarts opened t j (stop.NoFit chain) run clear is).no_fit chain refl fit.plan fit.fits
   none_so four (stop.Refused address i code) is = no_refusal (inr four) address i code is
-  none_so four (stop.BadConfig address i word) is = (stops_right laws more r jobs carry restarts opened t j (stop.BadConfig address i word) run clear is).no_bad_config address i word refl
-  none_so four (stop.Check127 address list) is = (stops_right laws more r jobs carry restarts opened t j (stop.Check127 address list) run clear is).no_check127 address list.items refl
+  none_so four (stop.BadConfig address i word) is = (stops_right r jobs carry restarts opened t j (stop.BadConfig address i word) run clear is).no_bad_config address i word refl
+  none_so four (stop.Check127 address list) is = (stops_right r jobs carry restarts opened t j (stop.Check127 address list) run clear is).no_check127 address list.items refl
   none_so four (stop.Check128 address list) is =
-      no_failed_check four address list.items (cause128 (known_of r) (tasks_for (known_of r) jobs) (middle r carry restarts t.sent j) address list.items (λ i. (more.requests (known_of r) jobs i).1) is)
+      no_failed_check four address list.items (check128_has_cause (known_of r) (tasks_for (known_of r) jobs) (middle r carry restarts t.sent j) address list.items (λ i. (are_requests (known_of r) jobs i).1) is)
 
   pub no_stop_in_four : t.phase ≡ 4 → (behind_mdt r jobs carry restarts t.sent j).stop ≡ None
   no_stop_in_four four = by (behind_mdt r jobs carry restarts t.sent j).stop refl

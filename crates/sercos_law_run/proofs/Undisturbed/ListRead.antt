@@ -16,10 +16,9 @@ use Rattle.sercos_service_drive.specs.Log.{Taken, Entry, accepted}
 use Rattle.sercos_service_drive.specs.Replies.{data_in}
 use Rattle.sercos_service_master.specs.Begun.{Begun}
 use Rattle.sercos_seat.specs.Agenda.{idn}
-use Rattle.sercos_law_channel.specs.Handshake.CommandTransfers.{SetsAndCancels, EndsWithStatus}
 use Rattle.sercos_law_channel.specs.Handshake.Epochs.{command, epoch_begun, epoch_taken, epoch_log}
 use Rattle.sercos_law_channel.specs.Handshake.Parts.{IsRow, IsPart, Unsent, Heard, Unheard, AreParts}
-use Rattle.sercos_law_channel.specs.Handshake.ReadTransfers.{ReadsOnce, entry_behind, element_in, IsReadAt}
+use Rattle.sercos_law_channel.specs.Handshake.ReadTransfers.{entry_behind, element_in, IsReadAt}
 use Rattle.sercos_law_channel.specs.Handshake.Runs.{IsRun as IsViewRun}
 use Rattle.sercos_law_channel.specs.Handshake.Transfers.{HaveBlocks, IsTransfer}
 use Rattle.sercos_law_channel.specs.Handshake.Views.{View}
@@ -32,6 +31,7 @@ use Rattle.sercos_law_run.proofs.Settings.SetInEpoch.{set_at_entry}
 use Rattle.sercos_law_run.specs.Held.Stored.{IsStored, AreStored}
 use Rattle.sercos_law_run.proofs.Held.AnsweredRuns.{EntriesStored, entries_stored}
 use Rattle.sercos_law_run.proofs.Undisturbed.SinceSet.{WasSet, HaveSince, since_at, was_more}
+use Rattle.sercos_law_channel.proofs.Cited.{reads_once}
 
 -- THE PARTS of two requests that follow each other
 record ArePartsAt (log : List Entry) (b c : Begun) : Type 0 where
@@ -96,8 +96,9 @@ pub record IsListRead (d : DriveView) (such : List Block → Type 0) (bytes : Li
   pub found : find_block 22 taken.blocks ≡ Some block
   pub gives : bytes ≡ element_in 7 taken.cycle block
 
-module _ (sets : SetsAndCancels) (ends : EndsWithStatus) (reads : ReadsOnce) (busy : ℕ) (d : DriveView) (such : List Block → Type 0) (past : List View) (run : IsViewRun busy past) (sound : AreSound (store_of d) past) (stored : AreStored d past)
-    (follow : SettingsFollow past) (commands : HaveStores (λ blocks. is_command blocks 128 ≡ true) past) (since : HaveSince such (all_entries past)) where
+module _ (busy : ℕ) (d : DriveView) (such : List Block → Type 0) (past : List View) (run : IsViewRun busy past)
+    (sound : AreSound (store_of d) past) (stored : AreStored d past) (follow : SettingsFollow past)
+    (commands : HaveStores (λ blocks. is_command blocks 128 ≡ true) past) (since : HaveSince such (all_entries past)) where
   is_epoch : IsEpoch (store_of d) (command past) (epoch_begun past) (epoch_taken past)
   is_epoch = epoch (store_of d) busy past run sound
 
@@ -123,7 +124,8 @@ module _ (sets : SetsAndCancels) (ends : EndsWithStatus) (reads : ReadsOnce) (bu
       log_is = log ∙ ap (λ (l : List Entry). front ++ (l ++ rest)) those
 
       poll : IsSetAtPoll 128 e entries rest
-      poll = set_at_poll sets ends (idn 128) (store_of d) e entries rest status (subst (λ (r : Request). IsTransfer r (store_of d) e entries rest) asks (transfer front c e entries rest log_is row))
+      poll = set_at_poll (idn 128) (store_of d) e entries rest status
+          (subst (λ (r : Request). IsTransfer r (store_of d) e entries rest) asks (transfer front c e entries rest log_is row))
           (sym (ap₂ (λ (r : Request) (h : List _). outcome_of r h) asks answers) ∙ complete)
 
       at_poll : epoch_log past ≡ (front ++ e ∷ []) ++ poll.poll ∷ (poll.before ++ rest)
@@ -175,7 +177,7 @@ module _ (sets : SetsAndCancels) (ends : EndsWithStatus) (reads : ReadsOnce) (bu
       by (Unsent none answers) = let both : None ≡ Some (outcome.Complete bytes) = sym (ap (outcome_of b.request) answers) ∙ complete in absurd (cc)
       by (Unheard e entries those row answers) = let both : None ≡ Some (outcome.Complete bytes) = sym (ap (outcome_of b.request) answers ∙ row.goes_on) ∙ complete in absurd (cc)
       by (Heard e entries those row answers) = read_at e entries those
-          (reads (idn 22) 7 bytes (store_of d) list e entries (at.earlier ++ at.rest) (omega arith) (omega arith) there small
+          (reads_once (idn 22) 7 bytes (store_of d) list e entries (at.earlier ++ at.rest) (omega arith) (omega arith) there small
           (subst (λ (r : Request). IsTransfer r (store_of d) e entries (at.earlier ++ at.rest)) asks
           (transfer at.front b e entries (at.earlier ++ at.rest) (at.split ∙ ap (λ (l : List Entry). at.front ++ (l ++ (at.earlier ++ at.rest))) those) row))
           (sym (ap₂ (λ (r : Request) (h : List _). outcome_of r h) asks answers) ∙ complete))

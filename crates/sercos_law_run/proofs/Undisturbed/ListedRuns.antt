@@ -30,7 +30,6 @@ use Rattle.sercos_law_channel.specs.Handshake.Epochs.{begun_in}
 use Rattle.sercos_law_channel.specs.Handshake.Views.{View, standing, stood_in, processed_in, kept_in}
 use Rattle.sercos_law_channel.specs.Handshake.Values.{store_in}
 use Rattle.sercos_law_channel.specs.Handshake.WholeRun.{write_of}
-use Rattle.sercos_law_channel.specs.Handshake.RunLaws.{ComesUp}
 use Rattle.sercos_law_channel.proofs.Theorems.{find-alike}
 use Rattle.sercos_law_run.specs.Journal.Runs.{drive_at, IsRun, IsClear}
 use Rattle.sercos_law_run.specs.Settings.SetByWrites.{commands_left}
@@ -38,8 +37,8 @@ use Rattle.sercos_law_run.proofs.Settings.SettingsRuns.{keeps_settings}
 use Rattle.sercos_law_run.specs.Views.RingViews.{view_of, views_of}
 use Rattle.sercos_law_run.specs.Held.Opened.{IsOpened}
 use Rattle.sercos_law_run.specs.Held.Stored.{IsStored}
-use Rattle.sercos_law_run.proofs.Held.Runs.{Laws, Stands, alike_so, drive_got, small, store_is}
-use Rattle.sercos_law_run.proofs.Headline.HeadlineRuns.{MoreLaws, all_stand, first_store, spelled_in, stored_in}
+use Rattle.sercos_law_run.proofs.Held.Runs.{Stands, alike_so, drive_got, small, store_is}
+use Rattle.sercos_law_run.proofs.Headline.HeadlineRuns.{all_stand, first_store, spelled_in, stored_in}
 use Rattle.sercos_law_run.proofs.Undisturbed.BlockStays.{IsAt}
 use Rattle.sercos_law_run.proofs.Undisturbed.BuiltInWrites.{NeverFour}
 use Rattle.sercos_law_run.proofs.Undisturbed.JobsBegun.{wells}
@@ -125,13 +124,13 @@ set_some (Some s) on = (s, refl)
 abbrev pub own_bytes : DriveView → List ℕ
 own_bytes d = list_bytes (map (λ (b : Block). b.idn) (filter is_own_outside (store_of d)))
 
-module _ (laws : Laws) (more : MoreLaws) (comes_up : (busy : ℕ) → ComesUp busy) (r : RingView) (jobs : List Job) (carry : Carry) (restarts : Restarts) (opened : IsOpened r jobs) (k : ℕ) (below : k < length r.drives)
-    (outside : list_any is_outside (drive_at r k).blocks ≡ true) where
+module _ (r : RingView) (jobs : List Job) (carry : Carry) (restarts : Restarts) (opened : IsOpened r jobs) (k : ℕ)
+    (below : k < length r.drives) (outside : list_any is_outside (drive_at r k).blocks ≡ true) where
   rules : blocks_fault [] (drive_at r k).blocks ≡ None
   rules = (ring_drive r k (drive_at r k) opened.valid (drive_got r k below)).blocks
 
   never : (j : List CycleView) → IsRun r jobs carry restarts j → IsClear j → NeverFour j
-  never j run clear = by (never_or_own laws more comes_up r jobs carry restarts opened k below j run clear)
+  never j run clear = by (never_or_own r jobs carry restarts opened k below j run clear)
     where
       by : NeverFour j ⊎ (list_any is_outside (drive_at r k).blocks ≡ false) → NeverFour j
       by (inl is) = is
@@ -144,26 +143,27 @@ module _ (laws : Laws) (more : MoreLaws) (comes_up : (busy : ℕ) → ComesUp bu
   fair_in t j run clear w is = record { other = other; lists = lists }
     where
       stored : IsStored (drive_at r k) (view_of r jobs carry restarts k t j).blocks
-      stored = stored_in laws more r jobs carry restarts opened t j k below
+      stored = stored_in r jobs carry restarts opened t j k below
 
       other : w.raw ≡ 22 → ⊥
       other number = never_22 (drive_at r k) (view_of r jobs carry restarts k t j).blocks (stood_in (view_of r jobs carry restarts k t j) (standing (views_of r jobs carry restarts k j))) w.bytes rules stored.1
           (ap (λ (n : ℕ). put_fault (find_block n (view_of r jobs carry restarts k t j).blocks) (stood_in (view_of r jobs carry restarts k t j) (standing (views_of r jobs carry restarts k j))) w.bytes) (sym number)
-          ∙ allowed_in laws more r jobs carry restarts opened k below t j run clear w is)
+          ∙ allowed_in r jobs carry restarts opened k below t j run clear w is)
 
       lists : w.raw ≡ 128 → list_bytes (unfit_for_phase_4 (with_data w.raw w.bytes (view_of r jobs carry restarts k t j).blocks)) ≡ own_bytes (drive_at r k)
       lists number =
-          let three = three_in laws more r jobs carry restarts opened k below t j run clear w is number in
+          let three = three_in r jobs carry restarts opened k below t j run clear w is number in
           ap (λ (n : ℕ). list_bytes (unfit_for_phase_4 (with_data n w.bytes (view_of r jobs carry restarts k t j).blocks))) number
           ∙ ap list_bytes (unfit_left w.bytes (view_of r jobs carry restarts k t j).blocks stored.0.ascending (inside_128 (drive_at r k) (view_of r jobs carry restarts k t j).blocks w.bytes rules stored.1)
-          ∙ names_in laws more r jobs carry restarts opened k below t j run clear (omega (arith, three))
-          ∙ ap (map (λ (b : Block). b.idn)) (own_in laws more comes_up r jobs carry restarts opened k below t j run clear (never j run.0 clear.0)).same)
+          ∙ names_in r jobs carry restarts opened k below t j run clear (omega (arith, three))
+          ∙ ap (map (λ (b : Block). b.idn)) (own_in r jobs carry restarts opened k below t j run clear (never j run.0 clear.0)).same)
 
   -- FROM CYCLE TO CYCLE
   blocks_at : (t : CycleView) (j : List CycleView) → IsRun r jobs carry restarts (t ∷ j) → IsClear (t ∷ j) → (view_of r jobs carry restarts k t j).blocks ≡ store_in (store_of (drive_at r k)) (views_of r jobs carry restarts k j)
   blocks_at t j (run, next) (before, clear) =
-      store_is laws r jobs carry restarts opened (first_store laws more r jobs carry restarts opened) t j next clear (spelled_in laws more r jobs carry restarts opened t j next) (stored_in laws more r jobs carry restarts opened t j)
-      (all_stand laws more r jobs carry restarts opened j run before) k below
+      store_is r jobs carry restarts opened (first_store r jobs carry restarts opened) t j next clear
+      (spelled_in r jobs carry restarts opened t j next) (stored_in r jobs carry restarts opened t j)
+      (all_stand r jobs carry restarts opened j run before) k below
 
   blocks_next : (t u : CycleView) (j : List CycleView) → IsRun r jobs carry restarts (t ∷ u ∷ j) → IsClear (t ∷ u ∷ j) → (view_of r jobs carry restarts k t (u ∷ j)).blocks
       ≡ blocks_with (write_of (processed_in (view_of r jobs carry restarts k u j) (views_of r jobs carry restarts k j)) (kept_in (view_of r jobs carry restarts k u j) (views_of r jobs carry restarts k j))) (view_of r jobs carry restarts k u j).commands
@@ -181,9 +181,9 @@ module _ (laws : Laws) (more : MoreLaws) (comes_up : (busy : ℕ) → ComesUp bu
 
   says_list : (t : CycleView) (j : List CycleView) → IsRun r jobs carry restarts (t ∷ j) → IsClear (t ∷ j) → Say (λ s. HasList (own_bytes (drive_at r k)) (view_of r jobs carry restarts k t j).blocks) (view_of r jobs carry restarts k t j).commands
   says_list t [] run clear = λ s found.
-      let empty = keeps_settings (view_of r jobs carry restarts k t []) [] (wells laws more r jobs carry restarts opened (t ∷ []) run clear k below).set.follow in
+      let empty = keeps_settings (view_of r jobs carry restarts k t []) [] (wells r jobs carry restarts opened (t ∷ []) run clear k below).set.follow in
       absurd (none_some s (sym (ap (find_set 128) empty) ∙ found))
-  says_list t (u ∷ j) run clear = by (says_list u j run.0 clear.0) (keeps_settings (view_of r jobs carry restarts k t (u ∷ j)) (views_of r jobs carry restarts k (u ∷ j)) (wells laws more r jobs carry restarts opened (t ∷ u ∷ j) run clear k below).set.follow)
+  says_list t (u ∷ j) run clear = by (says_list u j run.0 clear.0) (keeps_settings (view_of r jobs carry restarts k t (u ∷ j)) (views_of r jobs carry restarts k (u ∷ j)) (wells r jobs carry restarts opened (t ∷ u ∷ j) run clear k below).set.follow)
     where
       v : View
       v = view_of r jobs carry restarts k t (u ∷ j)
@@ -195,7 +195,7 @@ module _ (laws : Laws) (more : MoreLaws) (comes_up : (busy : ℕ) → ComesUp bu
       past = views_of r jobs carry restarts k j
 
       command : is_command (view_of r jobs carry restarts k u j).blocks 128 ≡ true
-      command = is_command_128 (drive_at r k) (view_of r jobs carry restarts k u j).blocks rules (stored_in laws more r jobs carry restarts opened u j k below).1
+      command = is_command_128 (drive_at r k) (view_of r jobs carry restarts k u j).blocks rules (stored_in r jobs carry restarts opened u j k below).1
 
       by : Say (λ s. HasList (own_bytes (drive_at r k)) w.blocks) w.commands → (v.commands.set ≡ []) ⊎ (v.commands.set ≡ (commands_left w past).set) → Say (λ s. HasList (own_bytes (drive_at r k)) v.blocks) v.commands
       by before (inl empty) s found = absurd (none_some s (sym (ap (find_set 128) empty) ∙ found))
@@ -214,15 +214,18 @@ module _ (laws : Laws) (more : MoreLaws) (comes_up : (busy : ℕ) → ComesUp bu
       read.gives ∙ data_read read.taken.cycle read.block (built_in_is_steady (drive_at r k) read.taken.blocks 22 read.taken.cycle read.block rules read.stored.1 refl read.found) ∙ read.has read.block read.found
     where
       stands : Stands r jobs carry restarts (t ∷ j) k
-      stands = all_stand laws more r jobs carry restarts opened (t ∷ j) run clear k below
+      stands = all_stand r jobs carry restarts opened (t ∷ j) run clear k below
 
       factor : (list_4 (drive_at r k)).attribute.factor < 2 ^ 16
-      factor = small laws r jobs carry restarts opened (first_store laws more r jobs carry restarts opened) k below 22 (list_4 (drive_at r k)) (found_list (drive_at r k) rules)
+      factor = small r jobs carry restarts opened (first_store r jobs carry restarts opened) k below 22 (list_4 (drive_at r k)) (found_list (drive_at r k) rules)
 
       views : List View
       views = stays (view_of r jobs carry restarts k t j) ∷ views_of r jobs carry restarts k j
 
       read : IsListRead (drive_at r k) (HasList (own_bytes (drive_at r k))) bytes
-      read = list_read more.stop_laws.sets more.stop_laws.ends_with_status more.stop_laws.lower.transfers.reads (drive_at r k).busy (drive_at r k) (HasList (own_bytes (drive_at r k))) views (stands.sees.run.0, next_still (drive_at r k).busy (view_of r jobs carry restarts k t j) (views_of r jobs carry restarts k j) stands.sees.run.1) stands.sound stands.stored
-          (wells laws more r jobs carry restarts opened (t ∷ j) run clear k below).set.follow (have_commands (drive_at r k) views rules stands.stored)
-          (have_since (HasList (own_bytes (drive_at r k))) views (kept_so (t ∷ j) run clear)) (list_4 (drive_at r k)) (found_list (drive_at r k) rules) factor newer older b c bytes status split asks complete sets_it ended
+      read = list_read (drive_at r k).busy (drive_at r k) (HasList (own_bytes (drive_at r k))) views
+          (stands.sees.run.0, next_still (drive_at r k).busy (view_of r jobs carry restarts k t j) (views_of r jobs carry restarts k j) stands.sees.run.1)
+          stands.sound stands.stored (wells r jobs carry restarts opened (t ∷ j) run clear k below).set.follow
+          (have_commands (drive_at r k) views rules stands.stored)
+          (have_since (HasList (own_bytes (drive_at r k))) views (kept_so (t ∷ j) run clear)) (list_4 (drive_at r k))
+          (found_list (drive_at r k) rules) factor newer older b c bytes status split asks complete sets_it ended

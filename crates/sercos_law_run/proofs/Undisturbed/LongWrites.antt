@@ -30,9 +30,9 @@ use Rattle.sercos_law_channel.specs.Handshake.WholeRun.{AreSmall}
 use Rattle.sercos_law_channel.proofs.Theorems.{find-alike, goes_on-outcome_of, newest_step, without_newest, only_opening, low_of, high_of, told, is_nil, long_words}
 use Rattle.sercos_service_drive.proofs.WriteAnswers.{length-in_order}
 use Rattle.sercos_law_channel.proofs.Handshake.WriteStages as write
-use Rattle.sercos_law_run.proofs.Undisturbed.RefusedRuns.{SaysShape}
 use Rattle.sercos_law_run.proofs.Undisturbed.RefusedSteps.{reply_word}
 use Rattle.sercos_law_run.proofs.Undisturbed.Small.{first_is, never_both, some_is}
+use Rattle.sercos_law_channel.proofs.Cited.{says_shape}
 
 -- THE CAUSE: an answer that is no error has none
 no_cause : (o : Option ℕ) (word : ℕ) (a : Answer) → a ≡ answer_by o word → a.error ≡ false → o ≡ None
@@ -100,7 +100,9 @@ is_there : (o : Option Block) (b : Block) → option_map without_data o ≡ Some
 is_there None b is = absurd (cc)
 is_there (Some c) b is = let same = some_is (without_data c) (without_data b) is in record { block = c; is = refl; attribute = ap (λ (x : Block). x.attribute) same; max_len = ap (λ (x : Block). x.max_len) same }
 
-module _ (idn : Idn) (bytes : List ℕ) (long : 1024 < length bytes) (b : Block) (said : shape_of 7 (low_of b + 65536 * high_of b) ≡ shape_by b.attribute.length) (blocks : List Block) (found : find_block idn.raw blocks ≡ Some b) (store : IsStore blocks) where
+module _ (idn : Idn) (bytes : List ℕ) (long : 1024 < length bytes) (b : Block)
+    (said : shape_of 7 (low_of b + 65536 * high_of b) ≡ shape_by b.attribute.length) (blocks : List Block)
+    (found : find_block idn.raw blocks ≡ Some b) (store : IsStore blocks) where
   abbrev asked : Request
   asked = request.Write idn 7 bytes
 
@@ -213,14 +215,15 @@ other_few idn e bytes blocks low off x (d ∷ o ∷ past) log is = absurd (by (o
         never_both d.answer.error (ap (λ (a : Answer). a.error) was.replies.1 ∙ other_refused d.taken ((o ∷ past) ++ log) first.0 not_one not_zero not_seven) good
 
 -- SO A LONG WRITE has few steps.
-pub ends_soon : SaysShape → (blocks : List Block) → AreSmall blocks → IsStore blocks → (idn : Idn) (e : ℕ) (bytes : List ℕ) → 2 ≤ e → 1024 < length bytes → (x : Entry) (entries log : List Entry) → IsTransfer (request.Write idn e bytes) blocks x entries log
+pub ends_soon : (blocks : List Block) → AreSmall blocks → IsStore blocks → (idn : Idn) (e : ℕ) (bytes : List ℕ) → 2 ≤ e
+    → 1024 < length bytes → (x : Entry) (entries log : List Entry) → IsTransfer (request.Write idn e bytes) blocks x entries log
     → length entries ≤ 4
-ends_soon said blocks small store idn e bytes low long x entries log is = by (find_block idn.raw blocks) refl
+ends_soon blocks small store idn e bytes low long x entries log is = by (find_block idn.raw blocks) refl
   where
     by : (o : Option Block) → find_block idn.raw blocks ≡ o → length entries ≤ 4
     by None none = let empty = ap (λ (l : List Entry). length l) (only_opening (request.Write idn e bytes) blocks x entries log none is).0 in omega (arith, empty)
     by (Some b) found = which (e == 7) refl
       where
         which : (seven : Bool) → (e == 7) ≡ seven → length entries ≤ 4
-        which true seven = data_few idn bytes long b (said b (small idn.raw b found)) blocks found store x entries log (subst (λ (n : ℕ). IsTransfer (request.Write idn n bytes) blocks x entries log) (eqb-true e 7 seven) is)
+        which true seven = data_few idn bytes long b (says_shape b (small idn.raw b found)) blocks found store x entries log (subst (λ (n : ℕ). IsTransfer (request.Write idn n bytes) blocks x entries log) (eqb-true e 7 seven) is)
         which false other = let most = other_few idn e bytes blocks low other x entries log is in omega (arith, most)

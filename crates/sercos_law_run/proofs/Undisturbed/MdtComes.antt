@@ -19,7 +19,6 @@ use Rattle.sercos_law_run.specs.Journal.Arrivals.{passage}
 use Rattle.sercos_law_run.specs.Journal.Records.{mst_in, mdt_in}
 use Rattle.sercos_law_run.specs.Journal.Runs.{drive_at, given_mst, master_calls, looks_back, mdt_heard, said_below, content_of, disturbs_mdt, IsRun, IsClear}
 use Rattle.sercos_law_run.proofs.Journal.RunLemmas.{mdt_in-said}
-use Rattle.sercos_law_run.specs.Agenda.Turns.{WorkInTurn}
 use Rattle.sercos_law_run.specs.Views.RingViews.{at_start, behind_mdt, told_to, gets_record, after_mst, view_of, views_of}
 use Rattle.sercos_law_run.proofs.Views.MasterSame.{begun_cycle}
 use Rattle.sercos_law_run.specs.Views.Spelled.{IsWhole as IsWholeContent}
@@ -27,13 +26,13 @@ use Rattle.sercos_law_run.proofs.Views.Codecs.{mst_clear}
 use Rattle.sercos_law_run.proofs.Views.Received.{Agrees}
 use Rattle.sercos_law_run.proofs.Views.ViewRuns.{command_below, started}
 use Rattle.sercos_law_run.specs.Held.Opened.{IsOpened}
-use Rattle.sercos_law_run.proofs.Held.Runs.{Laws, holding, agrees}
-use Rattle.sercos_law_run.proofs.Headline.HeadlineRuns.{MoreLaws}
+use Rattle.sercos_law_run.proofs.Held.Runs.{holding, agrees}
 use Rattle.sercos_law_run.specs.Undisturbed.Undisturbed.{IsUndisturbed}
 use Rattle.sercos_law_run.proofs.Undisturbed.Arrivals.{heard_sent, AllArrive, all_arrive}
 use Rattle.sercos_law_run.proofs.Undisturbed.Addressed.{told_then, IsTold, told_got}
 use Rattle.sercos_law_run.proofs.Undisturbed.Phases.{not_up, next_station, first_station}
 use Rattle.sercos_law_run.proofs.Undisturbed.Sending.{stores, stand, spelled, stored, all, stood_is, phase_then, started_late}
+use Rattle.sercos_law_channel.proofs.Handshake.RunFacts.{stands_as_commanded}
 
 -- What is heard of an MDT that is sent.
 mdt_sent : (carry : Carry) (cycle k : ℕ) (o : Option (List ℕ)) (content : List ℕ) → o ≡ Some content → disturbs_mdt carry cycle o k ≡ false → IsWholeContent content → mdt_heard carry cycle (k + 1) o ≡ Some content
@@ -42,8 +41,9 @@ mdt_sent carry cycle k (Some x) content is still whole =
     let same : x ≡ content = cc in
     heard_sent carry (passage cycle kinds.Mdt 0 (k + 1)) x (subst IsWholeContent (sym same) whole) still ∙ ap (λ (c : List ℕ). Some c) same
 
-module _ (laws : Laws) (more : MoreLaws) (turn : WorkInTurn) (r : RingView) (jobs : List Job) (carry : Carry) (restarts : Restarts) (opened : IsOpened r jobs) where
-  module _ (t : CycleView) (j : List CycleView) (run : IsRun r jobs carry restarts (t ∷ j)) (clear : IsClear (t ∷ j)) (undisturbed : IsUndisturbed r carry restarts t j) where
+module _ (r : RingView) (jobs : List Job) (carry : Carry) (restarts : Restarts) (opened : IsOpened r jobs) where
+  module _ (t : CycleView) (j : List CycleView) (run : IsRun r jobs carry restarts (t ∷ j)) (clear : IsClear (t ∷ j))
+      (undisturbed : IsUndisturbed r carry restarts t j) where
     pub still : AllArrive r carry restarts (length j) t.sent
     still = all_arrive r carry restarts (length j) t.sent undisturbed
 
@@ -57,19 +57,19 @@ module _ (laws : Laws) (more : MoreLaws) (turn : WorkInTurn) (r : RingView) (job
     start_is = started r jobs (restarts (length j) 0) (master_calls r carry restarts j) ∙ ap (λ (b : Bool). begun_cycle b (looks_back r jobs (master_calls r carry restarts j))) master_in
 
     pub commanded_in : (k : ℕ) → k < length r.drives → t.phase ≡ command (views_of r jobs carry restarts k j)
-    commanded_in k below = ((stand laws more turn r jobs carry restarts opened) (t ∷ j) run clear k below).sees.run.1.commanded ∙ cond-false (restarts (length j) 0) 0 (command (views_of r jobs carry restarts k j)) master_in
+    commanded_in k below = ((stand r jobs carry restarts opened) (t ∷ j) run clear k below).sees.run.1.commanded ∙ cond-false (restarts (length j) 0) 0 (command (views_of r jobs carry restarts k j)) master_in
 
     -- the MST
     pub mst_came : (k : ℕ) → k < length r.drives → (view_of r jobs carry restarts k t j).mst_comes ≡ true
     mst_came k below =
         let sent : mst_in t.sent ≡ mst_content (at_start r jobs carry restarts j).now.phase = ap mst_in run.1.sent in
-        let low : (at_start r jobs carry restarts j).now.phase ≤ 4 = subst (λ (n : ℕ). n ≤ 4) (sym (commanded_in k below) ∙ run.1.phase) (command_below (drive_at r k).busy (views_of r jobs carry restarts k j) ((all laws more turn r jobs carry restarts opened t j run clear) k below).sees.run) in
+        let low : (at_start r jobs carry restarts j).now.phase ≤ 4 = subst (λ (n : ℕ). n ≤ 4) (sym (commanded_in k below) ∙ run.1.phase) (command_below (drive_at r k).busy (views_of r jobs carry restarts k j) ((all r jobs carry restarts opened t j run clear) k below).sees.run) in
         ap (λ (o : Option ℕ). is_some o)
-        (ap mst_got (heard_sent carry (passage (length j) kinds.Mst 0 (k + 1)) (mst_in t.sent) (spelled laws more turn r jobs carry restarts opened t j run clear).mst (still.mst k below) ∙ ap (λ (c : List ℕ). Some c) sent)
+        (ap mst_got (heard_sent carry (passage (length j) kinds.Mst 0 (k + 1)) (mst_in t.sent) (spelled r jobs carry restarts opened t j run clear).mst (still.mst k below) ∙ ap (λ (c : List ℕ). Some c) sent)
         ∙ mst_clear (at_start r jobs carry restarts j).now.phase (Some (mst_content (at_start r jobs carry restarts j).now.phase)) low (inr refl))
 
     pub stands_in : (k : ℕ) → k < length r.drives → 1 ≤ stood_in (view_of r jobs carry restarts k t j) (standing (views_of r jobs carry restarts k j)) → phase_in (after_mst r carry restarts t.sent j k) ≡ t.phase
-    stands_in k below up = stood_is laws more turn r jobs carry restarts opened t j run clear k below ∙ by (more.commanded (view_of r jobs carry restarts k t j) (views_of r jobs carry restarts k j) (mst_came k below)) up
+    stands_in k below up = stood_is r jobs carry restarts opened t j run clear k below ∙ by (stands_as_commanded (view_of r jobs carry restarts k t j) (views_of r jobs carry restarts k j) (mst_came k below)) up
       where
         by : (stood_in (view_of r jobs carry restarts k t j) (standing (views_of r jobs carry restarts k j)) ≡ 0) ⊎ (stood_in (view_of r jobs carry restarts k t j) (standing (views_of r jobs carry restarts k j)) ≡ t.phase)
             → 1 ≤ stood_in (view_of r jobs carry restarts k t j) (standing (views_of r jobs carry restarts k j)) → stood_in (view_of r jobs carry restarts k t j) (standing (views_of r jobs carry restarts k j)) ≡ t.phase
@@ -81,12 +81,12 @@ module _ (laws : Laws) (more : MoreLaws) (turn : WorkInTurn) (r : RingView) (job
         → gets_record r carry restarts t.sent j k ≡ true
     mdt_came k below some up =
         let stands = stands_in k below up in
-        let one : 1 ≤ (behind_mdt r jobs carry restarts t.sent j).now.phase = subst (λ (n : ℕ). 1 ≤ n) (sym (stood_is laws more turn r jobs carry restarts opened t j run clear k below) ∙ stands ∙ sym (phase_then laws more turn r jobs carry restarts opened t j run clear)) up in
+        let one : 1 ≤ (behind_mdt r jobs carry restarts t.sent j).now.phase = subst (λ (n : ℕ). 1 ≤ n) (sym (stood_is r jobs carry restarts opened t j run clear k below) ∙ stands ∙ sym (phase_then r jobs carry restarts opened t j run clear)) up in
         let told : IsTold r (behind_mdt r jobs carry restarts t.sent j) k (blocks_in (drive_at r k) (after_mst r carry restarts t.sent j k)) =
-        told_got r (behind_mdt r jobs carry restarts t.sent j) k (blocks_in (drive_at r k) (after_mst r carry restarts t.sent j k)) opened.valid below one (told_then (behind_mdt r jobs carry restarts t.sent j) k some) (spelled laws more turn r jobs carry restarts opened t j run clear).said
-        (λ late. planned late (stands ∙ sym (phase_then laws more turn r jobs carry restarts opened t j run clear))) in
-        ap₂ (λ (n : ℕ) (o : Option (List ℕ)). is_some (mdt_got (drive_at r k).address n (blocks_in (drive_at r k) (after_mst r carry restarts t.sent j k)) o)) (stands ∙ sym (phase_then laws more turn r jobs carry restarts opened t j run clear))
-        (mdt_sent carry (length j) k (mdt_in t.sent) told.sent.content (sent_is ∙ ap content_of told.said) (still.mdt k below) ((spelled laws more turn r jobs carry restarts opened t j run clear).mdt told.sent told.said)) ∙ told.got
+        told_got r (behind_mdt r jobs carry restarts t.sent j) k (blocks_in (drive_at r k) (after_mst r carry restarts t.sent j k)) opened.valid below one (told_then (behind_mdt r jobs carry restarts t.sent j) k some) (spelled r jobs carry restarts opened t j run clear).said
+        (λ late. planned late (stands ∙ sym (phase_then r jobs carry restarts opened t j run clear))) in
+        ap₂ (λ (n : ℕ) (o : Option (List ℕ)). is_some (mdt_got (drive_at r k).address n (blocks_in (drive_at r k) (after_mst r carry restarts t.sent j k)) o)) (stands ∙ sym (phase_then r jobs carry restarts opened t j run clear))
+        (mdt_sent carry (length j) k (mdt_in t.sent) told.sent.content (sent_is ∙ ap content_of told.said) (still.mdt k below) ((spelled r jobs carry restarts opened t j run clear).mdt told.sent told.said)) ∙ told.got
       where
         sent_is : mdt_in t.sent ≡ content_of (mdt_said (known_of r) (behind_mdt r jobs carry restarts t.sent j))
         sent_is = ap mdt_in run.1.sent ∙ mdt_in-said r.rate (said_below (length r.drives) (drive_at r) r.rate (given_mst carry restarts t.sent j)) (mdt_said (known_of r) (behind_mdt r jobs carry restarts t.sent j))
@@ -94,5 +94,5 @@ module _ (laws : Laws) (more : MoreLaws) (turn : WorkInTurn) (r : RingView) (job
         planned : 3 ≤ (behind_mdt r jobs carry restarts t.sent j).now.phase → phase_in (after_mst r carry restarts t.sent j k) ≡ (behind_mdt r jobs carry restarts t.sent j).now.phase
             → (plan : PlanView) × ((behind_mdt r jobs carry restarts t.sent j).plan ≡ Some plan) × Agrees (known_of r) (behind_mdt r jobs carry restarts t.sent j) k (blocks_in (drive_at r k) (after_mst r carry restarts t.sent j k))
         planned late same =
-            let (plan, of_ring, holds) = holding laws r jobs carry restarts opened (stores laws more turn r jobs carry restarts opened) t j run.1 clear.1 (spelled laws more turn r jobs carry restarts opened t j run clear) (stored laws more turn r jobs carry restarts opened t j run clear) (all laws more turn r jobs carry restarts opened t j run clear) ((started_late laws more turn r jobs carry restarts opened t j run clear) (subst (λ (n : ℕ). 3 ≤ n) (phase_then laws more turn r jobs carry restarts opened t j run clear) late)) k below in
-            (plan, of_ring.now, agrees laws r jobs carry restarts opened (stores laws more turn r jobs carry restarts opened) t j run.1 clear.1 (spelled laws more turn r jobs carry restarts opened t j run clear) (stored laws more turn r jobs carry restarts opened t j run clear) (all laws more turn r jobs carry restarts opened t j run clear) k below plan late (subst (λ (n : ℕ). 3 ≤ n) (sym same) late) of_ring.now)
+            let (plan, of_ring, holds) = holding r jobs carry restarts opened (stores r jobs carry restarts opened) t j run.1 clear.1 (spelled r jobs carry restarts opened t j run clear) (stored r jobs carry restarts opened t j run clear) (all r jobs carry restarts opened t j run clear) ((started_late r jobs carry restarts opened t j run clear) (subst (λ (n : ℕ). 3 ≤ n) (phase_then r jobs carry restarts opened t j run clear) late)) k below in
+            (plan, of_ring.now, agrees r jobs carry restarts opened (stores r jobs carry restarts opened) t j run.1 clear.1 (spelled r jobs carry restarts opened t j run clear) (stored r jobs carry restarts opened t j run clear) (all r jobs carry restarts opened t j run clear) k below plan late (subst (λ (n : ℕ). 3 ≤ n) (sym same) late) of_ring.now)

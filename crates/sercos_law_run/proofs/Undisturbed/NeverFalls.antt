@@ -14,16 +14,13 @@ use Rattle.sercos_master.specs.Annals.{fall_of}
 use Rattle.sercos_script.specs.Links.{Carry, Restarts}
 use Rattle.sercos_law_channel.specs.Handshake.Views.{View}
 use Rattle.sercos_law_channel.specs.Handshake.Runs.{IsRun as IsViewRun}
-use Rattle.sercos_law_channel.specs.Handshake.RunLaws.{ComesUp}
-use Rattle.sercos_law_channel.specs.Pace.Passages.{IsWhole, AreWhole, IsPassed, ArePassed, BeginsEpoch, StandsThroughout, HearsThroughout}
-use Rattle.sercos_law_channel.specs.Pace.ChannelCalls.{staying, calls_in, channel_calls, NoneLate}
+use Rattle.sercos_law_channel.specs.Pace.Passages.{IsWhole, AreWhole, IsPassed, ArePassed, BeginsEpoch}
+use Rattle.sercos_law_channel.specs.Pace.ChannelCalls.{staying, calls_in, channel_calls}
 use Rattle.sercos_law_run.specs.Journal.Runs.{no_drive, drive_at, IsRun, IsClear}
-use Rattle.sercos_law_run.specs.Agenda.Turns.{WorkInTurn}
 use Rattle.sercos_law_run.proofs.Journal.StationLemmas.{drives_so}
 use Rattle.sercos_law_run.specs.Views.RingViews.{behind_mdt, view_of, views_of}
 use Rattle.sercos_law_run.specs.Held.Opened.{IsOpened}
-use Rattle.sercos_law_run.proofs.Held.Runs.{Laws}
-use Rattle.sercos_law_run.proofs.Headline.HeadlineRuns.{MoreLaws, all_stand}
+use Rattle.sercos_law_run.proofs.Headline.HeadlineRuns.{all_stand}
 use Rattle.sercos_law_run.specs.Undisturbed.Undisturbed.{AreUndisturbed}
 use Rattle.sercos_law_run.specs.Undisturbed.EpochStarts.{StartsEpoch}
 use Rattle.sercos_law_run.specs.Undisturbed.ViewsSince.{views_since}
@@ -31,6 +28,8 @@ use Rattle.sercos_law_run.specs.Undisturbed.StartUps.{NoneFalls, StaysUp}
 use Rattle.sercos_law_run.proofs.Undisturbed.WholeIn.{whole_in}
 use Rattle.sercos_law_run.proofs.Undisturbed.PassedCycles.{views_split, passed_undisturbed}
 use Rattle.sercos_law_run.proofs.Undisturbed.StaysUp.{stays_up}
+use Rattle.sercos_law_channel.proofs.Pace.CallAges.{none_late}
+use Rattle.sercos_law_channel.proofs.Pace.WholeCycles.{hears_throughout, stands_throughout}
 
 -- no drive is busy for more than 20 cycles
 busy_in : (before drives : List DriveView) (k : ℕ) → are_drives before drives ≡ true → k < length drives → nat_le (slice_index_or drives k no_drive).busy 20 ≡ true
@@ -62,19 +61,19 @@ pub record AllWhole (r : RingView) (jobs : List Job) (carry : Carry) (restarts :
   pub whole : (k : ℕ) → k < length r.drives → AreWhole (views_since r jobs carry restarts k cycles before) (views_of r jobs carry restarts k before)
   pub passed : (k : ℕ) → k < length r.drives → ArePassed (views_since r jobs carry restarts k cycles before) (views_of r jobs carry restarts k before)
 
-module _ (laws : Laws) (more : MoreLaws) (r : RingView) (jobs : List Job) (carry : Carry) (restarts : Restarts) (opened : IsOpened r jobs) where
+module _ (r : RingView) (jobs : List Job) (carry : Carry) (restarts : Restarts) (opened : IsOpened r jobs) where
   -- each drive with its channel makes a run
   pub runs_split : (cycles before : List CycleView) → IsRun r jobs carry restarts (cycles ++ before) → IsClear (cycles ++ before) → (k : ℕ) → k < length r.drives
       → IsViewRun (drive_at r k).busy (views_since r jobs carry restarts k cycles before ++ views_of r jobs carry restarts k before)
-  runs_split cycles before run clear k below = subst (λ (l : List View). IsViewRun (drive_at r k).busy l) (views_split r jobs carry restarts k cycles before) (all_stand laws more r jobs carry restarts opened (cycles ++ before) run clear k below).sees.run
+  runs_split cycles before run clear k below = subst (λ (l : List View). IsViewRun (drive_at r k).busy l) (views_split r jobs carry restarts k cycles before) (all_stand r jobs carry restarts opened (cycles ++ before) run clear k below).sees.run
 
   -- where phase 0 is commanded next, it is so for each drive with its channel
   pub begins_so : (cycles before : List CycleView) → IsRun r jobs carry restarts (cycles ++ before) → IsClear (cycles ++ before) → StartsEpoch r jobs carry restarts before → (k : ℕ) → k < length r.drives
       → IsViewRun (drive_at r k).busy (views_of r jobs carry restarts k before) × BeginsEpoch (views_of r jobs carry restarts k before)
-  begins_so [] before run clear starts k below = let sees = (all_stand laws more r jobs carry restarts opened before run clear k below).sees in (sees.run, sym sees.master.phase_is ∙ starts)
+  begins_so [] before run clear starts k below = let sees = (all_stand r jobs carry restarts opened before run clear k below).sees in (sees.run, sym sees.master.phase_is ∙ starts)
   begins_so (t ∷ cycles) before run clear starts k below = begins_so cycles before run.0 clear.0 starts k below
 
-module _ (laws : Laws) (more : MoreLaws) (turn : WorkInTurn) (comes_up : (busy : ℕ) → ComesUp busy) (late : (busy : ℕ) → NoneLate busy) (r : RingView) (jobs : List Job) (carry : Carry) (restarts : Restarts) (opened : IsOpened r jobs) where
+module _ (r : RingView) (jobs : List Job) (carry : Carry) (restarts : Restarts) (opened : IsOpened r jobs) where
   -- the next cycle
   whole_next : (t : CycleView) (cycles before : List CycleView) → IsRun r jobs carry restarts (t ∷ (cycles ++ before)) → IsClear (t ∷ (cycles ++ before)) → StartsEpoch r jobs carry restarts before
       → AreUndisturbed r carry restarts (t ∷ cycles) before → AllWhole r jobs carry restarts cycles before → AllWhole r jobs carry restarts (t ∷ cycles) before
@@ -85,24 +84,24 @@ module _ (laws : Laws) (more : MoreLaws) (turn : WorkInTurn) (comes_up : (busy :
   }
     where
       whole_up : (k : ℕ) → k < length r.drives → IsWhole (staying (view_of r jobs carry restarts k t (cycles ++ before))) (views_since r jobs carry restarts k cycles before ++ views_of r jobs carry restarts k before)
-      whole_up k below = subst (λ (l : List View). IsWhole (staying (view_of r jobs carry restarts k t (cycles ++ before))) l) (views_split r jobs carry restarts k cycles before) (whole_in laws more turn r jobs carry restarts opened t (cycles ++ before) run clear calm.1 k below)
+      whole_up k below = subst (λ (l : List View). IsWhole (staying (view_of r jobs carry restarts k t (cycles ++ before))) l) (views_split r jobs carry restarts k cycles before) (whole_in r jobs carry restarts opened t (cycles ++ before) run clear calm.1 k below)
 
       passes : (k : ℕ) → k < length r.drives → IsPassed (view_of r jobs carry restarts k t (cycles ++ before)) (views_since r jobs carry restarts k cycles before ++ views_of r jobs carry restarts k before)
-      passes k below = subst (λ (l : List View). IsPassed (view_of r jobs carry restarts k t (cycles ++ before)) l) (views_split r jobs carry restarts k cycles before) (passed_undisturbed laws more r jobs carry restarts opened t (cycles ++ before) run clear k below calm.1)
+      passes k below = subst (λ (l : List View). IsPassed (view_of r jobs carry restarts k t (cycles ++ before)) l) (views_split r jobs carry restarts k cycles before) (passed_undisturbed r jobs carry restarts opened t (cycles ++ before) run clear k below calm.1)
 
       in_time : (k : ℕ) → k < length r.drives → (cycles_open (calls_in (view_of r jobs carry restarts k t (cycles ++ before)) (channel_calls (views_of r jobs carry restarts k (cycles ++ before)))) ≤ (drive_at r k).busy)
           × (3 ≤ t.phase → is_some (view_of r jobs carry restarts k t (cycles ++ before)).heard ≡ true)
       in_time k below =
           let split = views_split r jobs carry restarts k cycles before in
-          let is_run : IsViewRun (drive_at r k).busy (view_of r jobs carry restarts k t (cycles ++ before) ∷ views_of r jobs carry restarts k (cycles ++ before)) = (all_stand laws more r jobs carry restarts opened (t ∷ (cycles ++ before)) run clear k below).sees.run in
-          let both = late (drive_at r k).busy (view_of r jobs carry restarts k t (cycles ++ before)) (views_since r jobs carry restarts k cycles before) (views_of r jobs carry restarts k before)
+          let is_run : IsViewRun (drive_at r k).busy (view_of r jobs carry restarts k t (cycles ++ before) ∷ views_of r jobs carry restarts k (cycles ++ before)) = (all_stand r jobs carry restarts opened (t ∷ (cycles ++ before)) run clear k below).sees.run in
+          let both = none_late (drive_at r k).busy (view_of r jobs carry restarts k t (cycles ++ before)) (views_since r jobs carry restarts k cycles before) (views_of r jobs carry restarts k before)
           (subst (λ (l : List View). IsViewRun (drive_at r k).busy (view_of r jobs carry restarts k t (cycles ++ before) ∷ l)) split is_run)
-          (begins_so laws more r jobs carry restarts opened (t ∷ cycles) before run clear starts k below).1 (all.whole k below) (all.passed k below) (whole_up k below) (passes k below) in
+          (begins_so r jobs carry restarts opened (t ∷ cycles) before run clear starts k below).1 (all.whole k below) (all.passed k below) (whole_up k below) (passes k below) in
           subst (λ (l : List View). (cycles_open (calls_in (view_of r jobs carry restarts k t (cycles ++ before)) (channel_calls l)) ≤ (drive_at r k).busy) × (3 ≤ t.phase → is_some (view_of r jobs carry restarts k t (cycles ++ before)).heard ≡ true))
           (sym split) both
 
       none : fall_of (known_of r) (behind_mdt r jobs carry restarts t.sent (cycles ++ before)) ≡ None
-      none = stays_up laws more comes_up r jobs carry restarts opened t cycles before run clear starts calm (λ three k below. (in_time k below).1 three)
+      none = stays_up r jobs carry restarts opened t cycles before run clear starts calm (λ three k below. (in_time k below).1 three)
           (λ two k below. let low = busy_low r k opened.valid below in let short = (in_time k below).0 in omega (arith, low, short))
 
   -- THE RING STAYS UP from the start of an epoch on, as long as nothing is disturbed.
@@ -112,13 +111,14 @@ module _ (laws : Laws) (more : MoreLaws) (turn : WorkInTurn) (comes_up : (busy :
   never_falls (t ∷ cycles) before run clear starts calm = whole_next t cycles before run clear starts calm (never_falls cycles before run.0 clear.0 starts calm.0)
 
   -- So each drive stands in the commanded phase, and the master hears it in phases 3 and 4.
-  pub stays_throughout : ((busy : ℕ) → StandsThroughout busy) → ((busy : ℕ) → HearsThroughout busy) → (cycles before : List CycleView) → IsRun r jobs carry restarts (cycles ++ before) → IsClear (cycles ++ before)
-      → StartsEpoch r jobs carry restarts before → AreUndisturbed r carry restarts cycles before → StaysUp r jobs carry restarts cycles before
-  stays_throughout stand hear cycles before run clear starts calm = record {
+  pub stays_throughout : (cycles before : List CycleView) → IsRun r jobs carry restarts (cycles ++ before) → IsClear (cycles ++ before)
+      → StartsEpoch r jobs carry restarts before → AreUndisturbed r carry restarts cycles before
+      → StaysUp r jobs carry restarts cycles before
+  stays_throughout cycles before run clear starts calm = record {
     stays = all.stays;
     whole = all.whole;
-    stands = λ k below. stand (drive_at r k).busy (views_since r jobs carry restarts k cycles before) (views_of r jobs carry restarts k before) (runs_split laws more r jobs carry restarts opened cycles before run clear k below) (begins_so laws more r jobs carry restarts opened cycles before run clear starts k below).1 (all.whole k below) (all.passed k below);
-    heard = λ k below. hear (drive_at r k).busy (views_since r jobs carry restarts k cycles before) (views_of r jobs carry restarts k before) (runs_split laws more r jobs carry restarts opened cycles before run clear k below) (begins_so laws more r jobs carry restarts opened cycles before run clear starts k below).1 (all.whole k below) (all.passed k below);
+    stands = λ k below. stands_throughout (drive_at r k).busy (views_since r jobs carry restarts k cycles before) (views_of r jobs carry restarts k before) (runs_split r jobs carry restarts opened cycles before run clear k below) (begins_so r jobs carry restarts opened cycles before run clear starts k below).1 (all.whole k below) (all.passed k below);
+    heard = λ k below. hears_throughout (drive_at r k).busy (views_since r jobs carry restarts k cycles before) (views_of r jobs carry restarts k before) (runs_split r jobs carry restarts opened cycles before run clear k below) (begins_so r jobs carry restarts opened cycles before run clear starts k below).1 (all.whole k below) (all.passed k below);
   }
     where
       all : AllWhole r jobs carry restarts cycles before

@@ -26,7 +26,6 @@ use Rattle.sercos_law_channel.specs.Pace.Passages.{IsWhole, AreWhole, RecoversIn
 use Rattle.sercos_law_channel.specs.Pace.StartCosts.{RecoversSince}
 use Rattle.sercos_law_channel.specs.Pace.Stretches.{open_since}
 use Rattle.sercos_law_run.proofs.Undisturbed.LongWrites.{ends_soon}
-use Rattle.sercos_law_run.proofs.Undisturbed.RefusedRuns.{SaysShape}
 
 -- NUMBERS
 pub times_sum : (p n k : ℕ) → p * (n + k) ≡ p * n + p * k
@@ -63,9 +62,10 @@ rest_steps (b ∷ older) turn shut =
     let answers = length-append b.answers (answers_in older) in
     omega (arith, here, before, steps, answers)
 
-module _ (said : SaysShape) (busy time : ℕ) (blocks : List Block) (small : AreSmall blocks) (store : IsStore blocks) where
+module _ (busy time : ℕ) (blocks : List Block) (small : AreSmall blocks) (store : IsStore blocks) where
   -- A LONG WRITE has few answers.
-  module _ (all : List View) (run : IsViewRun busy all) (sound : AreSound blocks all) (b : Begun) (old : List Begun) (split : epoch_begun all ≡ b ∷ old) where
+  module _ (all : List View) (run : IsViewRun busy all) (sound : AreSound blocks all) (b : Begun) (old : List Begun)
+      (split : epoch_begun all ≡ b ∷ old) where
     is_epoch : IsEpoch blocks (command all) (b ∷ old) (epoch_taken all)
     is_epoch = subst (λ (l : List Begun). IsEpoch blocks (command all) l (epoch_taken all)) split (epoch blocks busy all run sound)
 
@@ -88,7 +88,7 @@ module _ (said : SaysShape) (busy time : ℕ) (blocks : List Block) (small : Are
             alike = (split_blocks blocks part rest (subst (HaveBlocks blocks) those is_epoch.alike)).0
 
             few : (x : Entry) (entries : List Entry) → part ≡ x ∷ entries → IsRow b x entries → length entries ≤ 4
-            few x entries is row = ends_soon said blocks small store idn e bytes low long x entries rest (subst (λ (r : Request). IsTransfer r blocks x entries rest) asks (record {
+            few x entries is row = ends_soon blocks small store idn e bytes low long x entries rest (subst (λ (r : Request). IsTransfer r blocks x entries rest) asks (record {
               steps = row.steps;
               in_turn = row.in_turn;
               goes_on = row.goes_on;

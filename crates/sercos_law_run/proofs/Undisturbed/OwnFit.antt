@@ -24,7 +24,6 @@ use Rattle.sercos_master.proofs.Laws.{jobs_waiting}
 use Rattle.sercos_script.specs.Links.{Carry, Restarts}
 use Rattle.sercos_law_channel.specs.Handshake.CommandTransfers.{GivesStatus}
 use Rattle.sercos_law_channel.specs.Handshake.Exact.{AreExact}
-use Rattle.sercos_law_channel.specs.Handshake.RunLaws.{ComesUp}
 use Rattle.sercos_law_channel.specs.Handshake.WholeRun.{all_begun, begun_ago, all_entries, all_writes}
 use Rattle.sercos_law_run.specs.Start.Kept.{is_own_outside}
 use Rattle.sercos_law_run.proofs.Start.CheckPasses.{ring_drive}
@@ -35,8 +34,8 @@ use Rattle.sercos_law_run.proofs.Views.MasterSame.{begun_cycle}
 use Rattle.sercos_law_run.proofs.Views.Members.{members_count}
 use Rattle.sercos_law_run.proofs.Views.ViewRuns.{started}
 use Rattle.sercos_law_run.specs.Held.Opened.{IsOpened}
-use Rattle.sercos_law_run.proofs.Held.Runs.{Laws, drive_got, kept_at_mst}
-use Rattle.sercos_law_run.proofs.Headline.HeadlineRuns.{MoreLaws, all_stand, first_store, keeps_all, spelled_in, stored_in}
+use Rattle.sercos_law_run.proofs.Held.Runs.{drive_got, kept_at_mst}
+use Rattle.sercos_law_run.proofs.Headline.HeadlineRuns.{all_stand, first_store, keeps_all, spelled_in, stored_in}
 use Rattle.sercos_law_run.proofs.Undisturbed.CheckTasks.{IsCheckNewest, check_128}
 use Rattle.sercos_law_run.proofs.Undisturbed.CheckedViews.{status_3}
 use Rattle.sercos_law_run.proofs.Typed.Mdts.{phase_low}
@@ -45,6 +44,7 @@ use Rattle.sercos_law_run.proofs.Undisturbed.JobsBegun.{begun_now}
 use Rattle.sercos_law_run.proofs.Undisturbed.EntriesSay.{EntriesSay, ViewsSay, entries_say}
 use Rattle.sercos_law_run.proofs.Undisturbed.OwnSet.{AreBuiltIn, IsOwn, SaysOwn, own_so}
 use Rattle.sercos_law_run.proofs.Undisturbed.BuiltInWrites.{NeverFour, writes_built}
+use Rattle.sercos_law_run.proofs.Cited.{begins_tasks}
 
 abbrev status_of : Bool → Bool → ℕ
 status_of x y = if x then (if y then 3 else 15) else 7
@@ -76,7 +76,8 @@ end_four s p four low = by (fall_of s p) (is_done s p) refl refl four
     by None true falls is four = (falls, (is, omega (arith, four)))
     by None false falls is four = absurd (omega (arith, four, low))
 
-module _ (laws : Laws) (more : MoreLaws) (comes_up : (busy : ℕ) → ComesUp busy) (r : RingView) (jobs : List Job) (carry : Carry) (restarts : Restarts) (opened : IsOpened r jobs) (k : ℕ) (below : k < length r.drives) where
+module _ (r : RingView) (jobs : List Job) (carry : Carry) (restarts : Restarts) (opened : IsOpened r jobs) (k : ℕ)
+    (below : k < length r.drives) where
   inside : k < length (known_of r).drives
   inside = let count = members_count r in omega (arith, count, below)
 
@@ -87,8 +88,9 @@ module _ (laws : Laws) (more : MoreLaws) (comes_up : (busy : ℕ) → ComesUp bu
   -- commands that say so.
   pub own_in : (t : CycleView) (j : List CycleView) → IsRun r jobs carry restarts (t ∷ j) → IsClear (t ∷ j) → NeverFour j → IsOwn (drive_at r k) (view_of r jobs carry restarts k t j).blocks (view_of r jobs carry restarts k t j).commands
   own_in t j (run, next) (before, clear) never =
-      own_so (drive_at r k) r.rate (given_mst carry restarts t.sent j k) (subst AreBuiltIn (sym (kept_at_mst laws r jobs carry restarts opened (first_store laws more r jobs carry restarts opened) t j next clear (spelled_in laws more r jobs carry restarts opened t j next)
-      (stored_in laws more r jobs carry restarts opened t j) (all_stand laws more r jobs carry restarts opened j run before) k below).writes) (writes_built laws more comes_up r jobs carry restarts opened k below j run before never))
+      own_so (drive_at r k) r.rate (given_mst carry restarts t.sent j k) (subst AreBuiltIn (sym (kept_at_mst r jobs carry restarts opened
+      (first_store r jobs carry restarts opened) t j next clear (spelled_in r jobs carry restarts opened t j next)
+      (stored_in r jobs carry restarts opened t j) (all_stand r jobs carry restarts opened j run before) k below).writes) (writes_built r jobs carry restarts opened k below j run before never))
 
   says_in : (t : CycleView) (j : List CycleView) → IsRun r jobs carry restarts (t ∷ j) → IsClear (t ∷ j) → NeverFour j → SaysOwn (drive_at r k) (view_of r jobs carry restarts k t j).commands
   says_in t j run clear never = (own_in t j run clear never).says
@@ -106,7 +108,7 @@ module _ (laws : Laws) (more : MoreLaws) (comes_up : (busy : ℕ) → ComesUp bu
       rules = (ring_drive r k (drive_at r k) opened.valid (drive_got r k below)).blocks
 
       now : (behind_mdt r jobs carry restarts u.sent j).now.phase ≤ 3
-      now = let same = phase_now laws more comes_up r jobs carry restarts opened u j run.1 in let low = never.1 in omega (arith, same, low)
+      now = let same = phase_now r jobs carry restarts opened u j run.1 in let low = never.1 in omega (arith, same, low)
 
       went : (fall_of (known_of r) (behind_mdt r jobs carry restarts u.sent j) ≡ None) × ((is_done (known_of r) (behind_mdt r jobs carry restarts u.sent j) ≡ true) × ((behind_mdt r jobs carry restarts u.sent j).now.phase ≡ 3))
       went = end_four (known_of r) (behind_mdt r jobs carry restarts u.sent j) four now
@@ -118,14 +120,14 @@ module _ (laws : Laws) (more : MoreLaws) (comes_up : (busy : ℕ) → ComesUp bu
       newest : IsCheckNewest (store_of (drive_at r k)) 128 (begun_by ((behind_mdt r jobs carry restarts u.sent j).calls k))
       newest = let p = behind_mdt r jobs carry restarts u.sent j in
           check_128 (known_of r) k (store_of (drive_at r k)) p.plan (p.waiting k) p.now.phase (jobs_waiting (known_of r) jobs (middle r carry restarts u.sent j) k) now (begun_by (p.calls k)) (p.tasks k)
-          (laws.tasks (known_of r) (tasks_for (known_of r) jobs) (middle r carry restarts u.sent j) k inside) ready
+          (begins_tasks (known_of r) (tasks_for (known_of r) jobs) (middle r carry restarts u.sent j) k inside) ready
 
       all : all_begun (views_of r jobs carry restarts k (u ∷ j)) ≡ newest.one ∷ (newest.older ++ begun_ago (views_of r jobs carry restarts k (u ∷ j)))
-      all = ap (λ (l : List Begun). l ++ begun_ago (views_of r jobs carry restarts k (u ∷ j))) (sym (begun_now laws more r jobs carry restarts opened u j run clear went.0 k below) ∙ newest.split)
+      all = ap (λ (l : List Begun). l ++ begun_ago (views_of r jobs carry restarts k (u ∷ j))) (sym (begun_now r jobs carry restarts opened u j run clear went.0 k below) ∙ newest.split)
 
       exact : AreExact (store_of (drive_at r k)) (newest.one ∷ (newest.older ++ begun_ago (views_of r jobs carry restarts k (u ∷ j)))) (all_entries (views_of r jobs carry restarts k (u ∷ j))) (all_writes (views_of r jobs carry restarts k (u ∷ j)))
       exact = subst (λ (l : List Begun). AreExact (store_of (drive_at r k)) l (all_entries (views_of r jobs carry restarts k (u ∷ j))) (all_writes (views_of r jobs carry restarts k (u ∷ j)))) all
-          ((keeps_all laws more r jobs carry restarts opened u j run clear).exact k below).exact
+          ((keeps_all r jobs carry restarts opened u j run clear).exact k below).exact
 
       by : AreExact (store_of (drive_at r k)) (newest.one ∷ (newest.older ++ begun_ago (views_of r jobs carry restarts k (u ∷ j)))) (all_entries (views_of r jobs carry restarts k (u ∷ j))) (all_writes (views_of r jobs carry restarts k (u ∷ j)))
           → filter is_own_outside (store_of (drive_at r k)) ≡ []
@@ -153,7 +155,7 @@ module _ (laws : Laws) (more : MoreLaws) (comes_up : (busy : ℕ) → ComesUp bu
 
   low_phase : (t : CycleView) (j : List CycleView) → IsRun r jobs carry restarts (t ∷ j) → t.phase ≤ 4
   low_phase t j (run, next) =
-      let same = phase_now laws more comes_up r jobs carry restarts opened t j next in
+      let same = phase_now r jobs carry restarts opened t j next in
       let low = phase_low (known_of r) (tasks_for (known_of r) jobs) (middle r carry restarts t.sent j) in omega (arith, same, low)
 
   pub never_or_own : (j : List CycleView) → IsRun r jobs carry restarts j → IsClear j → NeverFour j ⊎ FitsOwn

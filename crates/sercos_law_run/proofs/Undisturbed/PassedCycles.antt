@@ -8,8 +8,6 @@ use Rattle.sercos_law_channel.specs.Handshake.Views.{View}
 use Rattle.sercos_law_run.specs.Journal.Runs.{IsRun, IsClear}
 use Rattle.sercos_law_run.specs.Views.RingViews.{view_of, views_of}
 use Rattle.sercos_law_run.specs.Held.Opened.{IsOpened}
-use Rattle.sercos_law_run.proofs.Held.Runs.{Laws}
-use Rattle.sercos_law_run.proofs.Headline.HeadlineRuns.{MoreLaws}
 use Rattle.sercos_law_channel.specs.Pace.Passages.{IsPassed, ArePassed}
 use Rattle.sercos_law_run.specs.Undisturbed.Undisturbed.{IsUndisturbed, AreUndisturbed}
 use Rattle.sercos_law_run.specs.Undisturbed.ViewsSince.{views_since}
@@ -22,12 +20,12 @@ pub views_split : (r : RingView) (jobs : List Job) (carry : Carry) (restarts : R
 views_split r jobs carry restarts k [] before = refl
 views_split r jobs carry restarts k (t ∷ cycles) before = ap (λ (l : List View). view_of r jobs carry restarts k t (cycles ++ before) ∷ l) (views_split r jobs carry restarts k cycles before)
 
-module _ (laws : Laws) (more : MoreLaws) (r : RingView) (jobs : List Job) (carry : Carry) (restarts : Restarts) (opened : IsOpened r jobs) where
+module _ (r : RingView) (jobs : List Job) (carry : Carry) (restarts : Restarts) (opened : IsOpened r jobs) where
   -- in one undisturbed cycle
   pub passed_undisturbed : (t : CycleView) (j : List CycleView) → IsRun r jobs carry restarts (t ∷ j) → IsClear (t ∷ j) → (k : ℕ) → k < length r.drives → IsUndisturbed r carry restarts t j
       → IsPassed (view_of r jobs carry restarts k t j) (views_of r jobs carry restarts k j)
   passed_undisturbed t j run clear k below undisturbed =
-      passed_in laws more r jobs carry restarts opened t j run clear k below (none_below (length r.drives + 1) (restarts (length j)) (both_off _ _ undisturbed).0 (k + 1) (omega (arith, below)))
+      passed_in r jobs carry restarts opened t j run clear k below (none_below (length r.drives + 1) (restarts (length j)) (both_off _ _ undisturbed).0 (k + 1) (omega (arith, below)))
 
   -- and in several, after whatever cycles
   pub all_passed : (cycles before : List CycleView) → IsRun r jobs carry restarts (cycles ++ before) → IsClear (cycles ++ before) → (k : ℕ) → k < length r.drives → AreUndisturbed r carry restarts cycles before

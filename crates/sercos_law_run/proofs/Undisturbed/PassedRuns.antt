@@ -33,9 +33,9 @@ use Rattle.sercos_law_run.specs.Views.RingViews.{behind_mdt, view_of, views_of}
 use Rattle.sercos_law_run.proofs.Views.Members.{members_count}
 use Rattle.sercos_law_run.proofs.Views.ViewRuns.{command_below, views_count}
 use Rattle.sercos_law_run.specs.Held.Opened.{IsOpened}
-use Rattle.sercos_law_run.proofs.Held.Runs.{Laws, drive_got, small, phase_same, agrees, rests, begun_then}
+use Rattle.sercos_law_run.proofs.Held.Runs.{drive_got, small, phase_same, agrees, rests, begun_then}
 use Rattle.sercos_law_run.proofs.Settings.WellSets.{is_command_127}
-use Rattle.sercos_law_run.proofs.Headline.HeadlineRuns.{MoreLaws, first_store, stored_in, spelled_in, all_stand}
+use Rattle.sercos_law_run.proofs.Headline.HeadlineRuns.{first_store, stored_in, spelled_in, all_stand}
 use Rattle.sercos_law_channel.specs.Pace.Passages.{IsPassed}
 use Rattle.sercos_law_run.specs.Undisturbed.CommandsFollow.{commands_ended, commands_before, CommandsFollow}
 use Rattle.sercos_law_run.proofs.Undisturbed.CheckLogs.{PassesIfSet, StaysIfCancelled, CountsBy}
@@ -44,6 +44,8 @@ use Rattle.sercos_law_run.proofs.Undisturbed.CheckedViews.{check_counts}
 use Rattle.sercos_law_run.proofs.Undisturbed.CommandCalls.{keeps_before, counts_127, counts_128}
 use Rattle.sercos_law_run.proofs.Undisturbed.CommandRuns.{first_commands, AreCommandsSo, commands_first, commands_next}
 use Rattle.sercos_law_run.proofs.Undisturbed.WellGiven.{is_command_128}
+use Rattle.sercos_law_channel.proofs.Cited.{transfers}
+use Rattle.sercos_law_run.proofs.Cited.{begins_tasks}
 
 -- A drive that is a phase below the commanded one at the end of a cycle, and was so before, got no MST in it: so all stays.
 stays_below : (passed : CommandsView → Option ℕ) (busy n : ℕ) (c : CommandsView) (v : View) (past : List View) → IsNextView busy v past → CommandsFollow c (v ∷ past) → 1 ≤ n → v.phase ≡ n + 1 → (standing (v ∷ past)).ended ≡ n
@@ -75,19 +77,21 @@ stays_below passed busy n c v past next follow some phase ended before = by stoo
         let le = earlier.2 in
         (earlier.0, ap passed (unchanged ∙ follows) ∙ earlier.1, omega (arith, le))
 
-module _ (laws : Laws) (more : MoreLaws) (r : RingView) (jobs : List Job) (carry : Carry) (restarts : Restarts) (opened : IsOpened r jobs) where
+module _ (r : RingView) (jobs : List Job) (carry : Carry) (restarts : Restarts) (opened : IsOpened r jobs) where
   -- the procedure commands of each drive
   pub commands_so : (j : List CycleView) → IsRun r jobs carry restarts j → IsClear j → (k : ℕ) → k < length r.drives → AreCommandsSo r jobs carry restarts k j
   commands_so [] run clear k below = commands_first r jobs carry restarts k
   commands_so (t ∷ j) (run, next) (before, clear) k below =
-      let first = first_store laws more r jobs carry restarts opened in
-      let spelled = spelled_in laws more r jobs carry restarts opened t j next in
-      let stored = stored_in laws more r jobs carry restarts opened t j in
-      let all = all_stand laws more r jobs carry restarts opened j run before in
-      commands_next laws.empty r jobs carry restarts opened.valid t j next clear spelled k below (all k below).sees (agrees laws r jobs carry restarts opened first t j next clear spelled stored all k below)
-      (rests laws r jobs carry restarts opened first t j next clear spelled stored all k below) (commands_so j run before k below)
+      let first = first_store r jobs carry restarts opened in
+      let spelled = spelled_in r jobs carry restarts opened t j next in
+      let stored = stored_in r jobs carry restarts opened t j in
+      let all = all_stand r jobs carry restarts opened j run before in
+      commands_next r jobs carry restarts opened.valid t j next clear spelled k below (all k below).sees
+      (agrees r jobs carry restarts opened first t j next clear spelled stored all k below)
+      (rests r jobs carry restarts opened first t j next clear spelled stored all k below) (commands_so j run before k below)
 
-  module _ (t : CycleView) (j : List CycleView) (run : IsRun r jobs carry restarts (t ∷ j)) (clear : IsClear (t ∷ j)) (k : ℕ) (below : k < length r.drives) where
+  module _ (t : CycleView) (j : List CycleView) (run : IsRun r jobs carry restarts (t ∷ j)) (clear : IsClear (t ∷ j)) (k : ℕ)
+      (below : k < length r.drives) where
     abbrev v : View
     v = view_of r jobs carry restarts k t j
 
@@ -99,20 +103,23 @@ module _ (laws : Laws) (more : MoreLaws) (r : RingView) (jobs : List Job) (carry
 
     phase_is : p.now.phase ≡ v.phase
     phase_is =
-        phase_same laws r jobs carry restarts opened (first_store laws more r jobs carry restarts opened) t j run.1 clear.1 (spelled_in laws more r jobs carry restarts opened t j run.1) (stored_in laws more r jobs carry restarts opened t j)
-        (all_stand laws more r jobs carry restarts opened j run.0 clear.0)
+        phase_same r jobs carry restarts opened (first_store r jobs carry restarts opened) t j run.1 clear.1
+        (spelled_in r jobs carry restarts opened t j run.1) (stored_in r jobs carry restarts opened t j)
+        (all_stand r jobs carry restarts opened j run.0 clear.0)
         ∙ sym run.1.phase
 
     tasks_are : AreBegunTasks (known_of r) k p.plan (p.waiting k) p.now.phase (begun_in v (views_of r jobs carry restarts k j)) (p.tasks k)
     tasks_are = subst (λ (l : List Begun). AreBegunTasks (known_of r) k p.plan (p.waiting k) p.now.phase l (p.tasks k))
-        (begun_then laws r jobs carry restarts opened (first_store laws more r jobs carry restarts opened) t j run.1 clear.1 (spelled_in laws more r jobs carry restarts opened t j run.1) (stored_in laws more r jobs carry restarts opened t j)
-        (all_stand laws more r jobs carry restarts opened j run.0 clear.0) k below)
-        (laws.tasks (known_of r) (tasks_for (known_of r) jobs) (middle r carry restarts t.sent j) k inside)
+        (begun_then r jobs carry restarts opened (first_store r jobs carry restarts opened) t j run.1 clear.1
+        (spelled_in r jobs carry restarts opened t j run.1) (stored_in r jobs carry restarts opened t j)
+        (all_stand r jobs carry restarts opened j run.0 clear.0) k below)
+        (begins_tasks (known_of r) (tasks_for (known_of r) jobs) (middle r carry restarts t.sent j) k inside)
 
     outcomes_are : outcomes p k ≡ outcomes_in (begun_in v (views_of r jobs carry restarts k j))
     outcomes_are = ap outcomes_in
-        (begun_then laws r jobs carry restarts opened (first_store laws more r jobs carry restarts opened) t j run.1 clear.1 (spelled_in laws more r jobs carry restarts opened t j run.1) (stored_in laws more r jobs carry restarts opened t j)
-        (all_stand laws more r jobs carry restarts opened j run.0 clear.0) k below)
+        (begun_then r jobs carry restarts opened (first_store r jobs carry restarts opened) t j run.1 clear.1
+        (spelled_in r jobs carry restarts opened t j run.1) (stored_in r jobs carry restarts opened t j)
+        (all_stand r jobs carry restarts opened j run.0 clear.0) k below)
 
     done : v.rises ≡ true → is_done (known_of r) p ≡ true
     done up = (and_parts (not (is_some (fall_of (known_of r) p))) (is_done (known_of r) p) up).1
@@ -139,33 +146,34 @@ module _ (laws : Laws) (more : MoreLaws) (r : RingView) (jobs : List Job) (carry
         → (standing (views_of r jobs carry restarts k (t ∷ j))).ended ≡ n → IsCheckNewest (store_of (drive_at r k)) raw (begun_in v (views_of r jobs carry restarts k j))
         → CountsBy passed (commands_ended (first_commands r k) (views_of r jobs carry restarts k (t ∷ j))) (suc (length (views_of r jobs carry restarts k j)))
     counts_so raw n passed sets stays command some phase on ended newest =
-        let now = all_stand laws more r jobs carry restarts opened (t ∷ j) run clear k below in
-        let counts = check_counts raw passed sets stays more.stop_laws.lower.transfers (drive_at r k).busy (store_of (drive_at r k)) (small laws r jobs carry restarts opened (first_store laws more r jobs carry restarts opened) k below) command
+        let now = all_stand r jobs carry restarts opened (t ∷ j) run clear k below in
+        let counts = check_counts raw passed sets stays transfers (drive_at r k).busy (store_of (drive_at r k)) (small r jobs carry restarts opened (first_store r jobs carry restarts opened) k below) command
         (first_commands r k) refl v (views_of r jobs carry restarts k j) now.sees.run now.sound (commands_so (t ∷ j) run clear k below).follow (omega (arith, phase, some)) on (λ zero_is. omega (arith, zero_is, ended, some))
         newest.one newest.older newest.bytes newest.split newest.asks newest.complete newest.well newest.away in
         let le = counts.2 in
         (counts.0, counts.1, omega (arith, le))
 
   -- WHILE THE DRIVE IS A PHASE BELOW the one that is commanded next, its check counts as passed.
-  module _ (raw n : ℕ) (some : 1 ≤ n) (passed : CommandsView → Option ℕ) (sets : PassesIfSet raw passed) (stays : StaysIfCancelled raw passed) (is_there : (k : ℕ) → k < length r.drives → is_command (store_of (drive_at r k)) raw ≡ true)
-      (at_rise : (t : CycleView) (j : List CycleView) → IsRun r jobs carry restarts (t ∷ j) → IsClear (t ∷ j) → (k : ℕ) → k < length r.drives → (view_of r jobs carry restarts k t j).rises ≡ true → (view_of r jobs carry restarts k t j).phase ≡ n
-      → IsCheckNewest (store_of (drive_at r k)) raw (begun_in (view_of r jobs carry restarts k t j) (views_of r jobs carry restarts k j))) where
-    counts_below : (j : List CycleView) → IsRun r jobs carry restarts j → IsClear j → (k : ℕ) → k < length r.drives → command (views_of r jobs carry restarts k j) ≡ n + 1 → (standing (views_of r jobs carry restarts k j)).ended ≡ n
-        → CountsBy passed (commands_ended (first_commands r k) (views_of r jobs carry restarts k j)) (length (views_of r jobs carry restarts k j))
-    counts_below [] run clear k below next ended = absurd (omega (arith, next))
-    counts_below (t ∷ j) run clear k below next ended = by (view_of r jobs carry restarts k t j).falls (view_of r jobs carry restarts k t j).rises refl refl next (counts_below j run.0 clear.0 k below)
-      where
-        by : (falls rises : Bool) → (view_of r jobs carry restarts k t j).falls ≡ falls → (view_of r jobs carry restarts k t j).rises ≡ rises
-            → (if falls then 0 else (if rises then (view_of r jobs carry restarts k t j).phase + 1 else (view_of r jobs carry restarts k t j).phase)) ≡ n + 1
-            → (command (views_of r jobs carry restarts k j) ≡ n + 1 → (standing (views_of r jobs carry restarts k j)).ended ≡ n → CountsBy passed (commands_ended (first_commands r k) (views_of r jobs carry restarts k j)) (length (views_of r jobs carry restarts k j)))
-            → CountsBy passed (commands_ended (first_commands r k) (views_of r jobs carry restarts k (t ∷ j))) (length (views_of r jobs carry restarts k (t ∷ j)))
-        by true rises falls_is rises_is is before = absurd (omega (arith, is))
-        by false true falls_is rises_is is before =
-            let phase : (view_of r jobs carry restarts k t j).phase ≡ n = omega (arith, is) in
-            counts_so t j run clear k below raw n passed sets stays (is_there k below) some phase falls_is ended (at_rise t j run clear k below rises_is phase)
-        by false false falls_is rises_is is before =
-            stays_below passed (drive_at r k).busy n (first_commands r k) (view_of r jobs carry restarts k t j) (views_of r jobs carry restarts k j) (all_stand laws more r jobs carry restarts opened (t ∷ j) run clear k below).sees.run.1
-            (commands_so (t ∷ j) run clear k below).follow some is ended before
+  module _ (raw n : ℕ) (some : 1 ≤ n) (passed : CommandsView → Option ℕ) (sets : PassesIfSet raw passed)
+      (stays : StaysIfCancelled raw passed) (is_there : (k : ℕ) → k < length r.drives → is_command (store_of (drive_at r k)) raw ≡ true)
+      (at_rise : (t : CycleView) (j : List CycleView) → IsRun r jobs carry restarts (t ∷ j) → IsClear (t ∷ j) → (k : ℕ) → k < length r.drives → (view_of r jobs carry restarts k t j).rises ≡ true → (view_of r jobs carry restarts k t j).phase ≡ n → IsCheckNewest (store_of (drive_at r k)) raw (begun_in (view_of r jobs carry restarts k t j) (views_of r jobs carry restarts k j)))
+    where
+      counts_below : (j : List CycleView) → IsRun r jobs carry restarts j → IsClear j → (k : ℕ) → k < length r.drives → command (views_of r jobs carry restarts k j) ≡ n + 1 → (standing (views_of r jobs carry restarts k j)).ended ≡ n
+          → CountsBy passed (commands_ended (first_commands r k) (views_of r jobs carry restarts k j)) (length (views_of r jobs carry restarts k j))
+      counts_below [] run clear k below next ended = absurd (omega (arith, next))
+      counts_below (t ∷ j) run clear k below next ended = by (view_of r jobs carry restarts k t j).falls (view_of r jobs carry restarts k t j).rises refl refl next (counts_below j run.0 clear.0 k below)
+        where
+          by : (falls rises : Bool) → (view_of r jobs carry restarts k t j).falls ≡ falls → (view_of r jobs carry restarts k t j).rises ≡ rises
+              → (if falls then 0 else (if rises then (view_of r jobs carry restarts k t j).phase + 1 else (view_of r jobs carry restarts k t j).phase)) ≡ n + 1
+              → (command (views_of r jobs carry restarts k j) ≡ n + 1 → (standing (views_of r jobs carry restarts k j)).ended ≡ n → CountsBy passed (commands_ended (first_commands r k) (views_of r jobs carry restarts k j)) (length (views_of r jobs carry restarts k j)))
+              → CountsBy passed (commands_ended (first_commands r k) (views_of r jobs carry restarts k (t ∷ j))) (length (views_of r jobs carry restarts k (t ∷ j)))
+          by true rises falls_is rises_is is before = absurd (omega (arith, is))
+          by false true falls_is rises_is is before =
+              let phase : (view_of r jobs carry restarts k t j).phase ≡ n = omega (arith, is) in
+              counts_so t j run clear k below raw n passed sets stays (is_there k below) some phase falls_is ended (at_rise t j run clear k below rises_is phase)
+          by false false falls_is rises_is is before =
+              stays_below passed (drive_at r k).busy n (first_commands r k) (view_of r jobs carry restarts k t j) (views_of r jobs carry restarts k j) (all_stand r jobs carry restarts opened (t ∷ j) run clear k below).sees.run.1
+              (commands_so (t ∷ j) run clear k below).follow some is ended before
 
   rules : (k : ℕ) → k < length r.drives → blocks_fault [] (drive_at r k).blocks ≡ None
   rules k below = (ring_drive r k (drive_at r k) opened.valid (drive_got r k below)).blocks
@@ -189,7 +197,7 @@ module _ (laws : Laws) (more : MoreLaws) (r : RingView) (jobs : List Job) (carry
   ]
     where
       sees_run : IsNextView (drive_at r k).busy (view_of r jobs carry restarts k t j) (views_of r jobs carry restarts k j)
-      sees_run = (all_stand laws more r jobs carry restarts opened (t ∷ j) run clear k below).sees.run.1
+      sees_run = (all_stand r jobs carry restarts opened (t ∷ j) run clear k below).sees.run.1
 
       going : (n : ℕ) → t.phase ≡ n → 1 ≤ n → t.phase ≡ command (views_of r jobs carry restarts k j)
       going n is some = elim (commanded (view_of r jobs carry restarts k t j) (views_of r jobs carry restarts k j) sees_run.commanded) [ inl down ↦ let zero_is = down.1 in absurd (omega (arith, zero_is, is, some)) | inr on ↦ on.1 ]
@@ -197,7 +205,7 @@ module _ (laws : Laws) (more : MoreLaws) (r : RingView) (jobs : List Job) (carry
       high : t.phase ≤ 4
       high = elim (commanded (view_of r jobs carry restarts k t j) (views_of r jobs carry restarts k j) sees_run.commanded) [
         | inl down ↦ let zero_is = down.1 in omega (arith, zero_is)
-        | inr on ↦ subst (λ (n : ℕ). n ≤ 4) (sym on.1) (command_below (drive_at r k).busy (views_of r jobs carry restarts k j) (all_stand laws more r jobs carry restarts opened (t ∷ j) run clear k below).sees.run.0)
+        | inr on ↦ subst (λ (n : ℕ). n ≤ 4) (sym on.1) (command_below (drive_at r k).busy (views_of r jobs carry restarts k j) (all_stand r jobs carry restarts opened (t ∷ j) run clear k below).sees.run.0)
       ]
 
       unrestarted : (view_of r jobs carry restarts k t j).checked ≡ has_passed (drive_at r k) r.rate (length j) t.phase (annals (drive_at r k) r.rate (given_before carry restarts j k))

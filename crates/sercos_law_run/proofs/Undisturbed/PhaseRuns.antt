@@ -10,15 +10,12 @@ use Rattle.sercos_seat.specs.Channel.{is_place}
 use Rattle.sercos_seat.specs.Ring.{Known, known_of, tasks_for}
 use Rattle.sercos_master.specs.Annals.{Past, Turn, first_place, addressed_before, is_awaited, has_identified, is_identified, count_addressed, whole_row, fall_of, next_phase, goes_on, new_epoch, still_waiting, after_end}
 use Rattle.sercos_script.specs.Links.{Carry, Restarts}
-use Rattle.sercos_law_channel.specs.Handshake.RunLaws.{ComesUp}
 use Rattle.sercos_law_run.specs.Journal.Records.{mst_in, ats_in}
 use Rattle.sercos_law_run.specs.Journal.Runs.{master_calls, middle, begins, own_mst, looks_back, IsRun, IsClear}
 use Rattle.sercos_law_run.specs.Views.RingViews.{at_start, behind_mst, behind_ats, behind_mdt}
 use Rattle.sercos_law_run.proofs.Views.MasterSame.{ats_none}
 use Rattle.sercos_law_run.proofs.Views.Members.{members_count}
 use Rattle.sercos_law_run.specs.Held.Opened.{IsOpened}
-use Rattle.sercos_law_run.proofs.Held.Runs.{Laws}
-use Rattle.sercos_law_run.proofs.Headline.HeadlineRuns.{MoreLaws}
 use Rattle.sercos_law_run.specs.Undisturbed.Undisturbed.{IsUndisturbed, AreUndisturbed}
 use Rattle.sercos_law_run.specs.Undisturbed.EpochStarts.{StartsEpoch, came_back}
 use Rattle.sercos_law_run.proofs.Undisturbed.Comes.{calm_in}
@@ -69,26 +66,27 @@ abbrev pub NewestUndisturbed : RingView → Carry → Restarts → List CycleVie
 NewestUndisturbed r carry restarts [] = Unit {0}
 NewestUndisturbed r carry restarts (t ∷ j) = IsUndisturbed r carry restarts t j
 
-module _ (laws : Laws) (more : MoreLaws) (comes_up : (busy : ℕ) → ComesUp busy) (r : RingView) (jobs : List Job) (carry : Carry) (restarts : Restarts) (opened : IsOpened r jobs) where
+module _ (r : RingView) (jobs : List Job) (carry : Carry) (restarts : Restarts) (opened : IsOpened r jobs) where
   -- the next cycle is commanded the phase of what is looked back on
   pub next_phase_is : (t : CycleView) (j : List CycleView) → IsRun r jobs carry restarts (t ∷ j) → IsUndisturbed r carry restarts t j → t.phase ≡ (looks_back r jobs (master_calls r carry restarts j)).now.phase
-  next_phase_is t j run calm = run.1.phase ∙ ap (λ (p : Past). p.now.phase) (starts_so laws more r jobs carry restarts opened t j run.1 (calm_in r carry restarts t j calm))
+  next_phase_is t j run calm = run.1.phase ∙ ap (λ (p : Past). p.now.phase) (starts_so r jobs carry restarts opened t j run.1 (calm_in r carry restarts t j calm))
 
   turns_are : (t : CycleView) (j : List CycleView) → IsRun r jobs carry restarts (t ∷ j) → IsUndisturbed r carry restarts t j → (behind_mdt r jobs carry restarts t.sent j).turns ≡ (looks_back r jobs (master_calls r carry restarts j)).turns
-  turns_are t j run calm = turns_now laws more comes_up r jobs carry restarts opened t j ∙ ap (λ (p : Past). p.turns) (starts_so laws more r jobs carry restarts opened t j run.1 (calm_in r carry restarts t j calm))
+  turns_are t j run calm = turns_now r jobs carry restarts opened t j ∙ ap (λ (p : Past). p.turns) (starts_so r jobs carry restarts opened t j run.1 (calm_in r carry restarts t j calm))
 
   inside : (k : ℕ) → k < length (known_of r).drives → k < length r.drives
   inside k below = let count = members_count r in omega (arith, below, count)
 
   -- A CYCLE OF PHASE 0
-  module _ (t : CycleView) (j : List CycleView) (run : IsRun r jobs carry restarts (t ∷ j)) (clear : IsClear (t ∷ j)) (calm : IsUndisturbed r carry restarts t j) (n : ℕ) (waits : Waits n (looks_back r jobs (master_calls r carry restarts j))) where
+  module _ (t : CycleView) (j : List CycleView) (run : IsRun r jobs carry restarts (t ∷ j)) (clear : IsClear (t ∷ j))
+      (calm : IsUndisturbed r carry restarts t j) (n : ℕ) (waits : Waits n (looks_back r jobs (master_calls r carry restarts j))) where
     zero_is : (behind_mdt r jobs carry restarts t.sent j).now.phase ≡ 0
-    zero_is = phase_now laws more comes_up r jobs carry restarts opened t j run.1 ∙ next_phase_is t j run calm ∙ waits.phase_is
+    zero_is = phase_now r jobs carry restarts opened t j run.1 ∙ next_phase_is t j run calm ∙ waits.phase_is
 
     in_zero : IsZero n (behind_mdt r jobs carry restarts t.sent j)
     in_zero = record {
       phase_is = zero_is;
-      whole = whole_now laws more comes_up r jobs carry restarts opened t j run.1 calm;
+      whole = whole_now r jobs carry restarts opened t j run.1 calm;
       row = ap whole_row (turns_are t j run calm) ∙ waits.row;
       fresh = λ k. ap (has_identified k) (turns_are t j run calm) ∙ waits.fresh k;
       addressed = none_addressed (known_of r) (behind_ats r jobs carry restarts t.sent j) zero_is;
@@ -96,11 +94,11 @@ module _ (laws : Laws) (more : MoreLaws) (comes_up : (busy : ℕ) → ComesUp bu
 
     no_fall_0 : fall_of (known_of r) (behind_mdt r jobs carry restarts t.sent j) ≡ None
     no_fall_0 = no_fall (known_of r) (behind_mdt r jobs carry restarts t.sent j) (has_risen (known_of r) (tasks_for (known_of r) jobs) (middle r carry restarts t.sent j)) (record {
-      whole = whole_now laws more comes_up r jobs carry restarts opened t j run.1 calm;
+      whole = whole_now r jobs carry restarts opened t j run.1 calm;
       hears = λ late k below. absurd (omega (arith, late, zero_is));
       identifies = λ one k below to. absurd (omega (arith, one, zero_is));
       answers = λ other k below. let low : t.phase ≡ 0 = next_phase_is t j run calm ∙ waits.phase_is in
-          let none = idle_then laws more comes_up r jobs carry restarts opened t j run clear (omega (arith, low)) k (inside k below) in omega (arith, none);
+          let none = idle_then r jobs carry restarts opened t j run clear (omega (arith, low)) k (inside k below) in omega (arith, none);
     })
 
     zero_step : n ≤ 8 → Waits (suc n) (looks_back r jobs (master_calls r carry restarts (t ∷ j)))
@@ -110,13 +108,14 @@ module _ (laws : Laws) (more : MoreLaws) (comes_up : (busy : ℕ) → ComesUp bu
     tenth_step nine = tenth_next (known_of r) (behind_mdt r jobs carry restarts t.sent j) (subst (λ (i : ℕ). IsZero i (behind_mdt r jobs carry restarts t.sent j)) nine in_zero) no_fall_0
 
   -- A CYCLE OF PHASE 1
-  module _ (t : CycleView) (j : List CycleView) (run : IsRun r jobs carry restarts (t ∷ j)) (clear : IsClear (t ∷ j)) (calm : IsUndisturbed r carry restarts t j) (m : ℕ) (now : Identifies m (looks_back r jobs (master_calls r carry restarts j)))
+  module _ (t : CycleView) (j : List CycleView) (run : IsRun r jobs carry restarts (t ∷ j)) (clear : IsClear (t ∷ j))
+      (calm : IsUndisturbed r carry restarts t j) (m : ℕ) (now : Identifies m (looks_back r jobs (master_calls r carry restarts j)))
       (hears : (k : ℕ) → (k + 1 == m) ≡ true → (behind_ats r jobs carry restarts t.sent j).now.heard k ≡ true) where
     one_is : (behind_mdt r jobs carry restarts t.sent j).now.phase ≡ 1
-    one_is = phase_now laws more comes_up r jobs carry restarts opened t j run.1 ∙ next_phase_is t j run calm ∙ now.phase_is
+    one_is = phase_now r jobs carry restarts opened t j run.1 ∙ next_phase_is t j run calm ∙ now.phase_is
 
     start_is : at_start r jobs carry restarts j ≡ looks_back r jobs (master_calls r carry restarts j)
-    start_is = starts_so laws more r jobs carry restarts opened t j run.1 (calm_in r carry restarts t j calm)
+    start_is = starts_so r jobs carry restarts opened t j run.1 (calm_in r carry restarts t j calm)
 
     -- no other drive is heard
     others : (k : ℕ) → (k + 1 == m) ≡ false → (behind_ats r jobs carry restarts t.sent j).now.heard k ≡ false
@@ -140,7 +139,7 @@ module _ (laws : Laws) (more : MoreLaws) (comes_up : (busy : ℕ) → ComesUp bu
     in_one : IsOne m (behind_mdt r jobs carry restarts t.sent j)
     in_one = record {
       phase_is = one_is;
-      whole = whole_now laws more comes_up r jobs carry restarts opened t j run.1 calm;
+      whole = whole_now r jobs carry restarts opened t j run.1 calm;
       identified = λ k. ap (has_identified k) (turns_are t j run calm) ∙ now.identified k;
       last = subst (λ (l : List Turn). LastTo m l) (sym (turns_are t j run calm)) now.last;
       hears = heard_so;
@@ -187,8 +186,8 @@ module _ (laws : Laws) (more : MoreLaws) (comes_up : (busy : ℕ) → ComesUp bu
   hears_in t [] run clear calm before (suc i) now most k is = absurd now.last
   hears_in t (c ∷ j) run clear calm before (suc i) now most k is =
       subst (λ (n : ℕ). (behind_ats r jobs carry restarts t.sent (c ∷ j)).now.heard n ≡ true) same
-      (heard_next laws more r jobs carry restarts opened t c j run calm before i (omega (arith, most)) one last.0 last.1
-      (stands_so laws more comes_up r jobs carry restarts opened c j run.0 clear.0 before (omega (arith, first)) i (omega (arith, most)) ∙ first))
+      (heard_next r jobs carry restarts opened t c j run calm before i (omega (arith, most)) one last.0 last.1
+      (stands_so r jobs carry restarts opened c j run.0 clear.0 before (omega (arith, first)) i (omega (arith, most)) ∙ first))
     where
       same : i ≡ k
       same = place_before i k is
@@ -197,13 +196,13 @@ module _ (laws : Laws) (more : MoreLaws) (comes_up : (busy : ℕ) → ComesUp bu
       one = next_phase_is t (c ∷ j) run calm ∙ now.phase_is
 
       went : looks_back r jobs (master_calls r carry restarts (c ∷ j)) ≡ goes_on (next_phase (known_of r) (behind_mdt r jobs carry restarts c.sent j)) (behind_mdt r jobs carry restarts c.sent j)
-      went = sym (starts_so laws more r jobs carry restarts opened t (c ∷ j) run.1 (calm_in r carry restarts t (c ∷ j) calm)) ∙ goes_so laws more r jobs carry restarts opened t c j run calm before (omega (arith, one))
+      went = sym (starts_so r jobs carry restarts opened t (c ∷ j) run.1 (calm_in r carry restarts t (c ∷ j) calm)) ∙ goes_so r jobs carry restarts opened t c j run calm before (omega (arith, one))
 
       last : ((behind_mdt r jobs carry restarts c.sent j).now.phase ≡ 1) × ((behind_mdt r jobs carry restarts c.sent j).now.addressed ≡ Some i)
       last = subst (λ (p : Past). LastTo (suc i) p.turns) went now.last
 
       first : c.phase ≡ 1
-      first = sym (phase_now laws more comes_up r jobs carry restarts opened c j run.0.1) ∙ last.0
+      first = sym (phase_now r jobs carry restarts opened c j run.0.1) ∙ last.0
 
   -- HOW LONG THE PHASES LAST, from phase 0 of an epoch on: after n cycles, before which w MSTs in a row came back, n + w in a row did, if that
   -- is at most nine ..

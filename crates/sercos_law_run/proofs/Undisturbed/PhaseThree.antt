@@ -22,18 +22,13 @@ use Rattle.sercos_master.specs.Annals.{Past, outcomes, fall_of, is_done, is_done
 use Rattle.sercos_master.proofs.Configured.{each_passes}
 use Rattle.sercos_script.specs.Links.{Carry, Restarts}
 use Rattle.sercos_law_channel.specs.Handshake.Epochs.{epoch_begun}
-use Rattle.sercos_law_channel.specs.Handshake.RunLaws.{ComesUp}
 use Rattle.sercos_law_channel.specs.Handshake.Views.{View, standing}
 use Rattle.sercos_law_channel.specs.Handshake.WholeRun.{AreSound}
 use Rattle.sercos_law_channel.specs.Pace.Stretches.{open_since}
-use Rattle.sercos_law_channel.specs.Pace.Passages.{IsWhole, AreWhole, StandsThroughout, HearsThroughout}
-use Rattle.sercos_law_channel.specs.Pace.ChannelCalls.{NoneLate}
-use Rattle.sercos_law_channel.specs.Pace.Costs.{ComesTimed, AreTimed, AreListed, cost_of, cost_in}
-use Rattle.sercos_law_channel.specs.Pace.Jobs.{ReadsCost, WritesCost, ListReadCosts}
-use Rattle.sercos_law_channel.specs.Pace.StartCosts.{StartsInCost, RecoversSince}
+use Rattle.sercos_law_channel.specs.Pace.Passages.{IsWhole, AreWhole}
+use Rattle.sercos_law_channel.specs.Pace.Costs.{AreTimed, AreListed, cost_of, cost_in}
 use Rattle.sercos_law_run.specs.Bounds.Bounds.{command_cycles}
 use Rattle.sercos_law_run.specs.Journal.Runs.{drive_at, master_calls, looks_back, IsRun, IsClear}
-use Rattle.sercos_law_run.specs.Agenda.Turns.{WorkInTurn, WorksInTwo, WorksInThree}
 use Rattle.sercos_law_run.specs.Agenda.Tasks.{AreBegunTasks}
 use Rattle.sercos_law_run.proofs.Agenda.AtWork.{IsFound, found_some}
 use Rattle.sercos_law_run.proofs.Start.CheckPasses.{KeepsRules, ring_drive}
@@ -41,8 +36,8 @@ use Rattle.sercos_law_run.specs.Views.RingViews.{at_start, behind_mdt, view_of, 
 use Rattle.sercos_law_run.proofs.Views.Members.{members_count}
 use Rattle.sercos_law_run.specs.Held.Opened.{IsOpened}
 use Rattle.sercos_law_run.proofs.Held.Extended.{Extends}
-use Rattle.sercos_law_run.proofs.Held.Runs.{Laws, drive_got, small, holding}
-use Rattle.sercos_law_run.proofs.Headline.HeadlineRuns.{MoreLaws, all_stand, first_store, spelled_in, stored_in}
+use Rattle.sercos_law_run.proofs.Held.Runs.{drive_got, small, holding}
+use Rattle.sercos_law_run.proofs.Headline.HeadlineRuns.{all_stand, first_store, spelled_in, stored_in}
 use Rattle.sercos_law_run.specs.Undisturbed.Undisturbed.{AreUndisturbed}
 use Rattle.sercos_law_run.specs.Undisturbed.EpochStarts.{StartsEpoch}
 use Rattle.sercos_law_run.specs.Undisturbed.ViewsSince.{views_since}
@@ -67,6 +62,9 @@ use Rattle.sercos_law_run.proofs.Undisturbed.ShortLists.{few_blocks, longest_lis
 use Rattle.sercos_law_run.proofs.Undisturbed.JobsBegun.{begun_end, begun_now, tasks_now, places_now, few_now}
 use Rattle.sercos_law_run.proofs.Undisturbed.PhaseTwo.{section_two, listed_all, two_lasts}
 use Rattle.sercos_master.proofs.Followed.{not_longer}
+use Rattle.sercos_law_channel.proofs.Cited.{rest_since}
+use Rattle.sercos_law_channel.proofs.Pace.JobCosts.{list_read_costs}
+use Rattle.sercos_law_channel.proofs.Pace.TimedCommands.{comes_timed}
 
 -- A CHECK that has ended well stays so, whatever outcome comes.
 given_stays : (outs : List Outcome) (o : Outcome) (i : ℕ) → ended_well (given outs i) ≡ true → ended_well (given (outs ++ o ∷ []) i) ≡ true
@@ -94,7 +92,7 @@ pub comes_three : (done : Bool) (n : ℕ) → (if done then n + 1 else n) ≡ 3 
 comes_three true n is = inl (refl, omega (arith, is))
 comes_three false n is = inr (refl, is)
 
-module _ (laws : Laws) (more : MoreLaws) (r : RingView) (jobs : List Job) (carry : Carry) (restarts : Restarts) (opened : IsOpened r jobs) where
+module _ (r : RingView) (jobs : List Job) (carry : Carry) (restarts : Restarts) (opened : IsOpened r jobs) where
   abbrev back : List CycleView → Past
   back j = looks_back r jobs (master_calls r carry restarts j)
 
@@ -118,8 +116,9 @@ module _ (laws : Laws) (more : MoreLaws) (r : RingView) (jobs : List Job) (carry
   planned_in_three : (t : CycleView) (j : List CycleView) → IsRun r jobs carry restarts (t ∷ j) → IsClear (t ∷ j) → IsThird t j → (k : ℕ) → k < length r.drives → (plan : PlanView) × ((now_in t j).plan ≡ Some plan)
   planned_in_three t j (run, next) (before, clear) third k below =
       let three : (at_start r jobs carry restarts j).now.phase ≡ 3 = sym next.phase ∙ third.phase in
-      let held = holding laws r jobs carry restarts opened (first_store laws more r jobs carry restarts opened) t j next clear (spelled_in laws more r jobs carry restarts opened t j next) (stored_in laws more r jobs carry restarts opened t j)
-      (all_stand laws more r jobs carry restarts opened j run before) (omega (arith, three)) k below in
+      let held = holding r jobs carry restarts opened (first_store r jobs carry restarts opened) t j next clear
+      (spelled_in r jobs carry restarts opened t j next) (stored_in r jobs carry restarts opened t j)
+      (all_stand r jobs carry restarts opened j run before) (omega (arith, three)) k below in
       (held.0, held.1.now)
 
   -- THE DRIVE THAT IS LAST has been at work in each of the cycles.
@@ -128,7 +127,7 @@ module _ (laws : Laws) (more : MoreLaws) (r : RingView) (jobs : List Job) (carry
   at_work [] rest run clear are k below none unready = tt
   at_work (t ∷ three) rest run clear are k below none unready = (
     at_work three rest run.0 clear.0 are.0 k below (none_before r jobs carry restarts t (three ++ rest) are.1.on.starts stop_now)
-        (unready_before (member (known_of r) k) _ _ (outcomes_extend laws more r jobs carry restarts opened t (three ++ rest) run clear are.1.on k below) unready_now),
+        (unready_before (member (known_of r) k) _ _ (outcomes_extend r jobs carry restarts opened t (three ++ rest) run clear are.1.on k below) unready_now),
     record {
       phase = are.1.on.now ∙ are.1.phase;
       goes_on = stop_now;
@@ -141,7 +140,7 @@ module _ (laws : Laws) (more : MoreLaws) (r : RingView) (jobs : List Job) (carry
       stop_now = sym (stop_after r jobs carry restarts t (three ++ rest) are.1.on.stays) ∙ none
 
       unready_now : is_ready (member (known_of r) k) (outcomes (behind_mdt r jobs carry restarts t.sent (three ++ rest)) k) ≡ false
-      unready_now = sym (ap (is_ready (member (known_of r) k)) (outcomes_after laws more r jobs carry restarts opened t (three ++ rest) are.1.on k)) ∙ unready
+      unready_now = sym (ap (is_ready (member (known_of r) k)) (outcomes_after r jobs carry restarts opened t (three ++ rest) are.1.on k)) ∙ unready
 
   -- THE RISE to phase 3, and the cycles since
   pub record IsRisen (n : ℕ) (j : List CycleView) : Type 0 where
@@ -159,11 +158,13 @@ module _ (laws : Laws) (more : MoreLaws) (r : RingView) (jobs : List Job) (carry
     pub few : before ≤ 11 + length r.drives + sum_by section_two r.drives
 
   -- the channel rests at the rise, and has begun all of phase 2
-  module _ (first : CycleView) (old : List CycleView) (run : IsRun r jobs carry restarts (first ∷ old)) (clear : IsClear (first ∷ old)) (stays : fall_of (known_of r) (behind_mdt r jobs carry restarts first.sent old) ≡ None)
-      (two : (behind_mdt r jobs carry restarts first.sent old).now.phase ≡ 2) (rises : is_done (known_of r) (behind_mdt r jobs carry restarts first.sent old) ≡ true) (k : ℕ) (below : k < length r.drives) where
+  module _ (first : CycleView) (old : List CycleView) (run : IsRun r jobs carry restarts (first ∷ old)) (clear : IsClear (first ∷ old))
+      (stays : fall_of (known_of r) (behind_mdt r jobs carry restarts first.sent old) ≡ None)
+      (two : (behind_mdt r jobs carry restarts first.sent old).now.phase ≡ 2)
+      (rises : is_done (known_of r) (behind_mdt r jobs carry restarts first.sent old) ≡ true) (k : ℕ) (below : k < length r.drives) where
     rests_then : open_in (epoch_begun (views_of r jobs carry restarts k (first ∷ old))) ≡ None
-    rests_then = ap (λ (l : List Begun). open_in l) (begun_end laws more r jobs carry restarts opened first old run clear stays k)
-        ∙ (all_stand laws more r jobs carry restarts opened (first ∷ old) run clear k below).sees.run.1.rests (ap₂ (λ (o : Option Fall) (b : Bool). not (is_some o) && b) stays rises)
+    rests_then = ap (λ (l : List Begun). open_in l) (begun_end r jobs carry restarts opened first old run clear stays k)
+        ∙ (all_stand r jobs carry restarts opened (first ∷ old) run clear k below).sees.run.1.rests (ap₂ (λ (o : Option Fall) (b : Bool). not (is_some o) && b) stays rises)
 
     checked_then : is_checked (member (known_of r) k) (outcomes (now_in first old) k) ≡ true
     checked_then =
@@ -172,37 +173,36 @@ module _ (laws : Laws) (more : MoreLaws) (r : RingView) (jobs : List Job) (carry
 
     all_then : length (epoch_begun (views_of r jobs carry restarts k (first ∷ old))) ≡ reads_count (member (known_of r) k) + 12
     all_then =
-        let most = few_now laws more r jobs carry restarts opened first old run clear stays k below (omega (arith, two)) in
+        let most = few_now r jobs carry restarts opened first old run clear stays k below (omega (arith, two)) in
         let some = ended_there (outcomes (now_in first old) k) (reads_count (member (known_of r) k) + 11) checked_then in
         let few = not_longer (begun_by ((now_in first old).calls k)) in
-        let same = ap (λ (l : List Begun). length l) (begun_now laws more r jobs carry restarts opened first old run clear stays k below) in
+        let same = ap (λ (l : List Begun). length l) (begun_now r jobs carry restarts opened first old run clear stays k below) in
         omega (arith, most, some, few, same)
 
-module _ (laws : Laws) (more : MoreLaws) (turn : WorkInTurn) (comes_up : (busy : ℕ) → ComesUp busy) (late : (busy : ℕ) → NoneLate busy) (two : WorksInTwo) (r : RingView) (jobs : List Job) (carry : Carry) (restarts : Restarts) (opened : IsOpened r jobs)
-    (stand : (busy : ℕ) → StandsThroughout busy) (hear : (busy : ℕ) → HearsThroughout busy) (starts_in : (busy : ℕ) → StartsInCost busy) (timed : ComesTimed) (reads_cost : (busy : ℕ) → ReadsCost busy) (writes_cost : (busy : ℕ) → WritesCost busy) where
+module _ (r : RingView) (jobs : List Job) (carry : Carry) (restarts : Restarts) (opened : IsOpened r jobs) where
   third_in : (t : CycleView) (cycles before : List CycleView) → IsRun r jobs carry restarts (t ∷ (cycles ++ before)) → IsClear (t ∷ (cycles ++ before)) → StartsEpoch r jobs carry restarts before → AreUndisturbed r carry restarts (t ∷ cycles) before
-      → t.phase ≡ 3 → IsThird laws more r jobs carry restarts opened t (cycles ++ before)
-  third_in t cycles before run clear starts calm phase = record { phase = phase; on = on_in laws more turn comes_up late r jobs carry restarts opened stand hear t cycles before run clear starts calm }
+      → t.phase ≡ 3 → IsThird r jobs carry restarts opened t (cycles ++ before)
+  third_in t cycles before run clear starts calm phase = record { phase = phase; on = on_in r jobs carry restarts opened t cycles before run clear starts calm }
 
   pub since_rise : (cycles before : List CycleView) → IsRun r jobs carry restarts (cycles ++ before) → IsClear (cycles ++ before) → StartsEpoch r jobs carry restarts before → AreUndisturbed r carry restarts cycles before
       → (looks_back r jobs (master_calls r carry restarts (cycles ++ before))).now.phase ≡ 3 → (looks_back r jobs (master_calls r carry restarts (cycles ++ before))).stop ≡ None
-      → IsRisen laws more r jobs carry restarts opened (length cycles) (cycles ++ before)
+      → IsRisen r jobs carry restarts opened (length cycles) (cycles ++ before)
   since_rise [] before run clear starts calm is_three none = let start : (looks_back r jobs (master_calls r carry restarts before)).now.phase ≡ 0 = starts in absurd (omega (arith, start, is_three))
   since_rise (t ∷ cycles) before run clear starts calm is_three none =
-      by (λ was_three. since_rise cycles before run.0 clear.0 starts calm.0 was_three none_then) (comes_three (is_done (known_of r) (behind_mdt r jobs carry restarts t.sent (cycles ++ before))) t.phase (sym (phase_after laws more comes_up r jobs carry restarts opened t (cycles ++ before) run all.stays.1) ∙ is_three))
+      by (λ was_three. since_rise cycles before run.0 clear.0 starts calm.0 was_three none_then) (comes_three (is_done (known_of r) (behind_mdt r jobs carry restarts t.sent (cycles ++ before))) t.phase (sym (phase_after r jobs carry restarts opened t (cycles ++ before) run all.stays.1) ∙ is_three))
     where
       all : AllWhole r jobs carry restarts (t ∷ cycles) before
-      all = never_falls laws more turn comes_up late r jobs carry restarts opened (t ∷ cycles) before run clear starts calm
+      all = never_falls r jobs carry restarts opened (t ∷ cycles) before run clear starts calm
 
       next : t.phase ≡ (looks_back r jobs (master_calls r carry restarts (cycles ++ before))).now.phase
-      next = next_phase_is laws more comes_up r jobs carry restarts opened t (cycles ++ before) run calm.1
+      next = next_phase_is r jobs carry restarts opened t (cycles ++ before) run calm.1
 
       none_then : (looks_back r jobs (master_calls r carry restarts (cycles ++ before))).stop ≡ None
-      none_then = none_before r jobs carry restarts t (cycles ++ before) (starts_so laws more r jobs carry restarts opened t (cycles ++ before) run.1 (calm_in r carry restarts t (cycles ++ before) calm.1)) (sym (stop_after r jobs carry restarts t (cycles ++ before) all.stays.1) ∙ none)
+      none_then = none_before r jobs carry restarts t (cycles ++ before) (starts_so r jobs carry restarts opened t (cycles ++ before) run.1 (calm_in r carry restarts t (cycles ++ before) calm.1)) (sym (stop_after r jobs carry restarts t (cycles ++ before) all.stays.1) ∙ none)
 
-      by : ((looks_back r jobs (master_calls r carry restarts (cycles ++ before))).now.phase ≡ 3 → IsRisen laws more r jobs carry restarts opened (length cycles) (cycles ++ before))
+      by : ((looks_back r jobs (master_calls r carry restarts (cycles ++ before))).now.phase ≡ 3 → IsRisen r jobs carry restarts opened (length cycles) (cycles ++ before))
           → ((is_done (known_of r) (behind_mdt r jobs carry restarts t.sent (cycles ++ before)) ≡ true) × (t.phase ≡ 2)) ⊎ ((is_done (known_of r) (behind_mdt r jobs carry restarts t.sent (cycles ++ before)) ≡ false) × (t.phase ≡ 3))
-          → IsRisen laws more r jobs carry restarts opened (suc (length cycles)) (t ∷ (cycles ++ before))
+          → IsRisen r jobs carry restarts opened (suc (length cycles)) (t ∷ (cycles ++ before))
       by risen (inl (done, is_two)) = record {
         three = [];
         first = t;
@@ -211,11 +211,11 @@ module _ (laws : Laws) (more : MoreLaws) (turn : WorkInTurn) (comes_up : (busy :
         third = tt;
         whole = λ k below. subst (λ (l : List View). IsWhole (view_of r jobs carry restarts k t (cycles ++ before)) l) (sym (views_split r jobs carry restarts k cycles before)) (all.whole k below).1;
         stays = all.stays.1;
-        two = phase_now laws more comes_up r jobs carry restarts opened t (cycles ++ before) run.1 ∙ is_two;
+        two = phase_now r jobs carry restarts opened t (cycles ++ before) run.1 ∙ is_two;
         rises = done;
         before = length cycles;
         count = omega arith;
-        few = two_lasts laws more turn comes_up late two r jobs carry restarts opened starts_in timed reads_cost writes_cost cycles before run.0 clear.0 starts calm.0 (sym next ∙ is_two) none_then;
+        few = two_lasts r jobs carry restarts opened cycles before run.0 clear.0 starts calm.0 (sym next ∙ is_two) none_then;
       }
       by risen (inr (undone, is_three)) =
           let earlier = risen (sym next ∙ is_three) in
@@ -225,7 +225,7 @@ module _ (laws : Laws) (more : MoreLaws) (turn : WorkInTurn) (comes_up : (busy :
             first = earlier.first;
             old = earlier.old;
             is = ap (λ (l : List CycleView). t ∷ l) earlier.is;
-            third = (earlier.third, subst (λ (l : List CycleView). IsThird laws more r jobs carry restarts opened t l) earlier.is third);
+            third = (earlier.third, subst (λ (l : List CycleView). IsThird r jobs carry restarts opened t l) earlier.is third);
             whole = earlier.whole;
             stays = earlier.stays;
             two = earlier.two;
@@ -246,12 +246,14 @@ stays_three : (done : Bool) (n : ℕ) → n ≡ 3 → (if done then n + 1 else n
 stays_three true n three is = absurd (omega (arith, three, is))
 stays_three false n three is = refl
 
-module _ (laws : Laws) (more : MoreLaws) (comes_up : (busy : ℕ) → ComesUp busy) (three_works : WorksInThree) (r : RingView) (jobs : List Job) (carry : Carry) (restarts : Restarts) (opened : IsOpened r jobs)
-    (timed : ComesTimed) (since : (busy : ℕ) → RecoversSince busy) where
-  module _ (t : CycleView) (three : List CycleView) (first : CycleView) (old : List CycleView) (run : IsRun r jobs carry restarts (t ∷ (three ++ first ∷ old))) (clear : IsClear (t ∷ (three ++ first ∷ old)))
-      (third : AreThird laws more r jobs carry restarts opened (t ∷ three) (first ∷ old)) (whole : (k : ℕ) → k < length r.drives → IsWhole (view_of r jobs carry restarts k first old) (views_of r jobs carry restarts k old))
-      (stays : fall_of (known_of r) (behind_mdt r jobs carry restarts first.sent old) ≡ None) (two : (behind_mdt r jobs carry restarts first.sent old).now.phase ≡ 2) (rises : is_done (known_of r) (behind_mdt r jobs carry restarts first.sent old) ≡ true)
-      (k : ℕ) (below : k < length r.drives) where
+module _ (r : RingView) (jobs : List Job) (carry : Carry) (restarts : Restarts) (opened : IsOpened r jobs) where
+  module _ (t : CycleView) (three : List CycleView) (first : CycleView) (old : List CycleView)
+      (run : IsRun r jobs carry restarts (t ∷ (three ++ first ∷ old))) (clear : IsClear (t ∷ (three ++ first ∷ old)))
+      (third : AreThird r jobs carry restarts opened (t ∷ three) (first ∷ old))
+      (whole : (k : ℕ) → k < length r.drives → IsWhole (view_of r jobs carry restarts k first old) (views_of r jobs carry restarts k old))
+      (stays : fall_of (known_of r) (behind_mdt r jobs carry restarts first.sent old) ≡ None)
+      (two : (behind_mdt r jobs carry restarts first.sent old).now.phase ≡ 2)
+      (rises : is_done (known_of r) (behind_mdt r jobs carry restarts first.sent old) ≡ true) (k : ℕ) (below : k < length r.drives) where
     old_run : IsRun r jobs carry restarts (first ∷ old) × IsClear (first ∷ old)
     old_run = run_rest r jobs carry restarts (t ∷ three) (first ∷ old) run clear
 
@@ -265,25 +267,25 @@ module _ (laws : Laws) (more : MoreLaws) (comes_up : (busy : ℕ) → ComesUp bu
     split = views_split r jobs carry restarts k (t ∷ three) (first ∷ old)
 
     are_whole : AreWhole (views_since r jobs carry restarts k (t ∷ three) (first ∷ old)) (views_of r jobs carry restarts k (first ∷ old))
-    are_whole = wholes r jobs carry restarts (t ∷ three) (first ∷ old) (ons laws more r jobs carry restarts opened (t ∷ three) (first ∷ old) third) k below
+    are_whole = wholes r jobs carry restarts (t ∷ three) (first ∷ old) (ons r jobs carry restarts opened (t ∷ three) (first ∷ old) third) k below
 
     rest : open_in begun_old ≡ None
-    rest = rests_then laws more r jobs carry restarts opened first old old_run.0 old_run.1 stays two rises k below
+    rest = rests_then r jobs carry restarts opened first old old_run.0 old_run.1 stays two rises k below
 
     recently : Follow begun_old (epoch_begun all_views)
     recently = subst (λ (l : List View). Follow begun_old (epoch_begun l)) (sym split) (follow_since (views_since r jobs carry restarts k (t ∷ three) (first ∷ old)) (views_of r jobs carry restarts k (first ∷ old)) begun_old are_whole rest ([], refl))
 
-    -- the cycles with an open step cost no more than the requests since the rise ..
+    -- the cycles with an open step cost no more than the requests rest_since the rise ..
     opens_recent : (longest : ℕ → ℕ) → AreListed longest all_views
         → open_since (views_since r jobs carry restarts k (t ∷ three) (first ∷ old)) (views_of r jobs carry restarts k (first ∷ old)) ≤ cost_in (cost_of (drive_at r k).busy (drive_at r k).command longest (store_of (drive_at r k))) recently.0
-    opens_recent longest listed = by (since (drive_at r k).busy (drive_at r k).command longest (store_of (drive_at r k)) (views_since r jobs carry restarts k (t ∷ three) (first ∷ old)) (view_of r jobs carry restarts k first old) (views_of r jobs carry restarts k old) recently.0 begun_old
-        (small laws r jobs carry restarts opened (first_store laws more r jobs carry restarts opened) k below) (runs_split laws more r jobs carry restarts opened (t ∷ three) (first ∷ old) run clear k below)
-        (subst (λ (l : List View). AreSound (store_of (drive_at r k)) l) split (all_stand laws more r jobs carry restarts opened (t ∷ (three ++ first ∷ old)) run clear k below).sound)
+    opens_recent longest listed = by (rest_since (drive_at r k).busy (drive_at r k).command longest (store_of (drive_at r k)) (views_since r jobs carry restarts k (t ∷ three) (first ∷ old)) (view_of r jobs carry restarts k first old) (views_of r jobs carry restarts k old) recently.0 begun_old
+        (small r jobs carry restarts opened (first_store r jobs carry restarts opened) k below) (runs_split r jobs carry restarts opened (t ∷ three) (first ∷ old) run clear k below)
+        (subst (λ (l : List View). AreSound (store_of (drive_at r k)) l) split (all_stand r jobs carry restarts opened (t ∷ (three ++ first ∷ old)) run clear k below).sound)
         (subst (λ (l : List View). AreTimed (drive_at r k).command l) split in_time) (subst (λ (l : List View). AreListed longest l) split listed) (whole k below) are_whole
         (sym (ap epoch_begun split) ∙ recently.1) rest (omega arith))
       where
         in_time : AreTimed (drive_at r k).command all_views
-        in_time = timed (drive_at r k).command all_views (are_carried (drive_at r k).command (first_commands r k) refl refl all_views (commands_so laws more r jobs carry restarts opened (t ∷ (three ++ first ∷ old)) run clear k below).follow)
+        in_time = comes_timed (drive_at r k).command all_views (are_carried (drive_at r k).command (first_commands r k) refl refl all_views (commands_so r jobs carry restarts opened (t ∷ (three ++ first ∷ old)) run clear k below).follow)
 
         by : ((standing (views_since r jobs carry restarts k (t ∷ three) (first ∷ old) ++ views_of r jobs carry restarts k (first ∷ old))).ended ≡ 0)
             ⊎ (open_since (views_since r jobs carry restarts k (t ∷ three) (first ∷ old)) (views_of r jobs carry restarts k (first ∷ old)) ≤ cost_in (cost_of (drive_at r k).busy (drive_at r k).command longest (store_of (drive_at r k))) recently.0)
@@ -295,26 +297,26 @@ module _ (laws : Laws) (more : MoreLaws) (comes_up : (busy : ℕ) → ComesUp bu
     places : (plan : PlanView) → (behind_mdt r jobs carry restarts t.sent (three ++ first ∷ old)).plan ≡ Some plan → AreAt (jobs_of (known_of r) (Some plan) k) (recently.0 ++ begun_old)
     places plan has = subst (λ (o : Option PlanView). AreAt (jobs_of (known_of r) o k) (recently.0 ++ begun_old)) has
         (subst (λ (l : List Begun). AreAt (jobs_of (known_of r) (behind_mdt r jobs carry restarts t.sent (three ++ first ∷ old)).plan k) l) recently.1
-        (places_now laws more r jobs carry restarts opened t (three ++ first ∷ old) run clear third.1.on.stays k below (let now = third.1.on.now ∙ third.1.phase in omega (arith, now))))
+        (places_now r jobs carry restarts opened t (three ++ first ∷ old) run clear third.1.on.stays k below (let now = third.1.on.now ∙ third.1.phase in omega (arith, now))))
 
     abbrev outs : List Outcome
     outs = outcomes (behind_mdt r jobs carry restarts t.sent (three ++ first ∷ old)) k
 
     made : (plan : PlanView) × ((behind_mdt r jobs carry restarts t.sent (three ++ first ∷ old)).plan ≡ Some plan)
-    made = planned_in_three laws more r jobs carry restarts opened t (three ++ first ∷ old) run clear third.1 k below
+    made = planned_in_three r jobs carry restarts opened t (three ++ first ∷ old) run clear third.1 k below
 
     keeps : KeepsRules (drive_at r k)
     keeps = ring_drive r k (drive_at r k) opened.valid (drive_got r k below)
 
     rise_length : length begun_old ≡ reads_count (member (known_of r) k) + 12
-    rise_length = all_then laws more r jobs carry restarts opened first old old_run.0 old_run.1 stays two rises k below
+    rise_length = all_then r jobs carry restarts opened first old old_run.0 old_run.1 stays two rises k below
 
     pub check_lasts : length outs ≤ reads_count (member (known_of r) k) + 12
         → open_since (views_since r jobs carry restarts k (t ∷ three) (first ∷ old)) (views_of r jobs carry restarts k (first ∷ old)) ≤ command_cycles (drive_at r k)
     check_lasts few =
         let p = behind_mdt r jobs carry restarts t.sent (three ++ first ∷ old) in
-        let begun_are = begun_now laws more r jobs carry restarts opened t (three ++ first ∷ old) run clear third.1.on.stays k below in
-        let le = begun_few (known_of r) k p.plan (p.waiting k) p.now.phase (reads_count (member (known_of r) k) + 12) (epoch_begun all_views) (p.tasks k) (tasks_now laws more r jobs carry restarts opened t (three ++ first ∷ old) run clear third.1.on.stays k below)
+        let begun_are = begun_now r jobs carry restarts opened t (three ++ first ∷ old) run clear third.1.on.stays k below in
+        let le = begun_few (known_of r) k p.plan (p.waiting k) p.now.phase (reads_count (member (known_of r) k) + 12) (epoch_begun all_views) (p.tasks k) (tasks_now r jobs carry restarts opened t (three ++ first ∷ old) run clear third.1.on.stays k below)
         (subst (λ (l : List Begun). length (outcomes_in l) ≤ reads_count (member (known_of r) k) + 12) begun_are few) in
         let few_begun : length (epoch_begun all_views) ≤ reads_count (member (known_of r) k) + 13 = omega (arith, le) in
         let opens = opens_recent (λ raw. 512) (listed_all all_views) in
@@ -323,11 +325,10 @@ module _ (laws : Laws) (more : MoreLaws) (comes_up : (busy : ℕ) → ComesUp bu
         omega (arith, opens, cost)
 
     -- With the list there are at most 42 steps more.
-    pub list_lasts : ((busy : ℕ) → ListReadCosts busy)
-        → open_since (views_since r jobs carry restarts k (t ∷ three) (first ∷ old)) (views_of r jobs carry restarts k (first ∷ old)) ≤ command_cycles (drive_at r k) + ((drive_at r k).busy + 1) * 42
-    list_lasts list_costs =
-        let opens = opens_recent longest_list (lists_short more.keep more.allows more.those r jobs carry restarts k keeps.blocks (few_blocks r k opened.valid below) (first_store laws more r jobs carry restarts opened k below).ascending (t ∷ (three ++ first ∷ old))) in
-        let cost = list_fits longest_list (drive_at r k) keeps.blocks (list_costs (drive_at r k).busy) (known_of r) made.0 k recently.0 begun_old (places made.0 made.1) rise_length in
+    pub list_lasts : open_since (views_since r jobs carry restarts k (t ∷ three) (first ∷ old)) (views_of r jobs carry restarts k (first ∷ old)) ≤ command_cycles (drive_at r k) + ((drive_at r k).busy + 1) * 42
+    list_lasts =
+        let opens = opens_recent longest_list (lists_short r jobs carry restarts k keeps.blocks (few_blocks r k opened.valid below) (first_store r jobs carry restarts opened k below).ascending (t ∷ (three ++ first ∷ old))) in
+        let cost = list_fits longest_list (drive_at r k) keeps.blocks (list_read_costs (drive_at r k).busy) (known_of r) made.0 k recently.0 begun_old (places made.0 made.1) rise_length in
         omega (arith, opens, cost)
 
   -- HOW LONG PHASE 3 LASTS: it has just begun; or a drive's check hasn't ended well, and its channel was at work in each cycle.
@@ -338,21 +339,22 @@ module _ (laws : Laws) (more : MoreLaws) (comes_up : (busy : ℕ) → ComesUp bu
     pub check : length (outcomes p place) ≤ reads_count (member (known_of r) place) + 12 → n ≤ 12 + length r.drives + sum_by section_two r.drives + command_cycles (drive_at r place)
     pub list : n ≤ 12 + length r.drives + sum_by section_two r.drives + (command_cycles (drive_at r place) + ((drive_at r place).busy + 1) * 42)
 
-  pub three_lasts : ((busy : ℕ) → ListReadCosts busy) → (n : ℕ) (j : List CycleView) → IsRun r jobs carry restarts j → IsClear j → IsRisen laws more r jobs carry restarts opened n j
-      → (looks_back r jobs (master_calls r carry restarts j)).now.phase ≡ 3 → (looks_back r jobs (master_calls r carry restarts j)).stop ≡ None
+  pub three_lasts : (n : ℕ) (j : List CycleView) → IsRun r jobs carry restarts j → IsClear j → IsRisen r jobs carry restarts opened n j
+      → (looks_back r jobs (master_calls r carry restarts j)).now.phase ≡ 3
+      → (looks_back r jobs (master_calls r carry restarts j)).stop ≡ None
       → (n ≤ 12 + length r.drives + sum_by section_two r.drives) ⊎ Waits n (looks_back r jobs (master_calls r carry restarts j))
-  three_lasts list_costs n j run clear risen is_three none = by risen.three refl
+  three_lasts n j run clear risen is_three none = by risen.three refl
     where
       by : (three : List CycleView) → risen.three ≡ three → (n ≤ 12 + length r.drives + sum_by section_two r.drives) ⊎ Waits n (looks_back r jobs (master_calls r carry restarts j))
       by [] is = let count = risen.count in let few = risen.few in let empty = ap (λ (l : List CycleView). length l) is in inl (omega (arith, count, few, empty))
       by (t ∷ three) is = inr (subst (λ (l : List CycleView). Waits n (looks_back r jobs (master_calls r carry restarts l))) (sym all_is)
-          (with_all (subst (IsRun r jobs carry restarts) all_is run) (subst IsClear all_is clear) (subst (λ (l : List CycleView). AreThird laws more r jobs carry restarts opened l (risen.first ∷ risen.old)) is risen.third)
+          (with_all (subst (IsRun r jobs carry restarts) all_is run) (subst IsClear all_is clear) (subst (λ (l : List CycleView). AreThird r jobs carry restarts opened l (risen.first ∷ risen.old)) is risen.third)
           (subst (λ (l : List CycleView). (looks_back r jobs (master_calls r carry restarts l)).now.phase ≡ 3) all_is is_three) (subst (λ (l : List CycleView). (looks_back r jobs (master_calls r carry restarts l)).stop ≡ None) all_is none)))
         where
           all_is : j ≡ t ∷ (three ++ risen.first ∷ risen.old)
           all_is = risen.is ∙ ap (λ (l : List CycleView). l ++ risen.first ∷ risen.old) is
 
-          with_all : IsRun r jobs carry restarts (t ∷ (three ++ risen.first ∷ risen.old)) → IsClear (t ∷ (three ++ risen.first ∷ risen.old)) → AreThird laws more r jobs carry restarts opened (t ∷ three) (risen.first ∷ risen.old)
+          with_all : IsRun r jobs carry restarts (t ∷ (three ++ risen.first ∷ risen.old)) → IsClear (t ∷ (three ++ risen.first ∷ risen.old)) → AreThird r jobs carry restarts opened (t ∷ three) (risen.first ∷ risen.old)
               → (looks_back r jobs (master_calls r carry restarts (t ∷ (three ++ risen.first ∷ risen.old)))).now.phase ≡ 3 → (looks_back r jobs (master_calls r carry restarts (t ∷ (three ++ risen.first ∷ risen.old)))).stop ≡ None
               → Waits n (looks_back r jobs (master_calls r carry restarts (t ∷ (three ++ risen.first ∷ risen.old))))
           with_all runs clears third phase stop_none = record {
@@ -364,14 +366,14 @@ module _ (laws : Laws) (more : MoreLaws) (comes_up : (busy : ℕ) → ComesUp bu
                 let idle = idle_never in let count = risen.count in let before = risen.few in let long = ap (λ (l : List CycleView). length l) is in
                 omega (arith, opens, idle, count, before, long);
             list =
-                let opens = list_lasts t three risen.first risen.old runs clears third risen.whole risen.stays risen.two risen.rises last.place low list_costs in
+                let opens = list_lasts t three risen.first risen.old runs clears third risen.whole risen.stays risen.two risen.rises last.place low in
                 let idle = idle_never in let count = risen.count in let before = risen.few in let long = ap (λ (l : List CycleView). length l) is in
                 omega (arith, opens, idle, count, before, long);
           }
             where
               undone : all_ready (known_of r) (behind_mdt r jobs carry restarts t.sent (three ++ risen.first ∷ risen.old)) ≡ false
               undone = sym (ap (λ (m : ℕ). is_done_in m (known_of r) (behind_mdt r jobs carry restarts t.sent (three ++ risen.first ∷ risen.old))) (third.1.on.now ∙ third.1.phase))
-                  ∙ stays_three (is_done (known_of r) (behind_mdt r jobs carry restarts t.sent (three ++ risen.first ∷ risen.old))) t.phase third.1.phase (sym (phase_after laws more comes_up r jobs carry restarts opened t (three ++ risen.first ∷ risen.old) runs third.1.on.stays) ∙ phase)
+                  ∙ stays_three (is_done (known_of r) (behind_mdt r jobs carry restarts t.sent (three ++ risen.first ∷ risen.old))) t.phase third.1.phase (sym (phase_after r jobs carry restarts opened t (three ++ risen.first ∷ risen.old) runs third.1.on.stays) ∙ phase)
 
               last : IsFound 0 (length (known_of r).drives) (λ k. not (is_ready (member (known_of r) k) (outcomes (behind_mdt r jobs carry restarts t.sent (three ++ risen.first ∷ risen.old)) k)))
               last = found_some 0 (length (known_of r).drives) (λ k. not (is_ready (member (known_of r) k) (outcomes (behind_mdt r jobs carry restarts t.sent (three ++ risen.first ∷ risen.old)) k))) undone
@@ -383,8 +385,8 @@ module _ (laws : Laws) (more : MoreLaws) (comes_up : (busy : ℕ) → ComesUp bu
               unready = is_false (is_ready (member (known_of r) last.place) (outcomes (behind_mdt r jobs carry restarts t.sent (three ++ risen.first ∷ risen.old)) last.place)) last.passes
 
               same : outcomes (looks_back r jobs (master_calls r carry restarts (t ∷ (three ++ risen.first ∷ risen.old)))) last.place ≡ outcomes (behind_mdt r jobs carry restarts t.sent (three ++ risen.first ∷ risen.old)) last.place
-              same = outcomes_after laws more r jobs carry restarts opened t (three ++ risen.first ∷ risen.old) third.1.on last.place
+              same = outcomes_after r jobs carry restarts opened t (three ++ risen.first ∷ risen.old) third.1.on last.place
 
               idle_never : length (t ∷ three) ≤ open_since (views_since r jobs carry restarts last.place (t ∷ three) (risen.first ∷ risen.old)) (views_of r jobs carry restarts last.place (risen.first ∷ risen.old))
-              idle_never = never_idle laws more three_works r jobs carry restarts opened last.place low (t ∷ three) (risen.first ∷ risen.old) runs clears
-                  (at_work laws more r jobs carry restarts opened (t ∷ three) (risen.first ∷ risen.old) runs clears third last.place low stop_none (ap (is_ready (member (known_of r) last.place)) same ∙ unready))
+              idle_never = never_idle r jobs carry restarts opened last.place low (t ∷ three) (risen.first ∷ risen.old) runs clears
+                  (at_work r jobs carry restarts opened (t ∷ three) (risen.first ∷ risen.old) runs clears third last.place low stop_none (ap (is_ready (member (known_of r) last.place)) same ∙ unready))

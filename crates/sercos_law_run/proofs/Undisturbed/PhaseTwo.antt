@@ -11,23 +11,17 @@ use Rattle.sercos_seat.specs.Ring.{known_of}
 use Rattle.sercos_master.specs.Annals.{Past, fall_of, is_done, is_done_in}
 use Rattle.sercos_script.specs.Links.{Carry, Restarts}
 use Rattle.sercos_law_channel.specs.Handshake.Epochs.{epoch_begun}
-use Rattle.sercos_law_channel.specs.Handshake.RunLaws.{ComesUp}
 use Rattle.sercos_law_channel.specs.Handshake.Views.{View}
 use Rattle.sercos_law_channel.specs.Pace.Stretches.{open_since}
-use Rattle.sercos_law_channel.specs.Pace.ChannelCalls.{NoneLate}
-use Rattle.sercos_law_channel.specs.Pace.Costs.{ComesTimed, AreListed}
-use Rattle.sercos_law_channel.specs.Pace.Jobs.{ReadsCost, WritesCost}
-use Rattle.sercos_law_channel.specs.Pace.StartCosts.{StartsInCost}
+use Rattle.sercos_law_channel.specs.Pace.Costs.{AreListed}
 use Rattle.sercos_law_run.specs.Bounds.Bounds.{read_cycles, write_cycles}
 use Rattle.sercos_law_run.specs.Journal.Arrivals.{sum_below}
 use Rattle.sercos_law_run.specs.Journal.Runs.{no_drive, drive_at, master_calls, looks_back, IsRun, IsClear}
-use Rattle.sercos_law_run.specs.Agenda.Turns.{WorkInTurn, WorksInTwo}
 use Rattle.sercos_law_run.proofs.Start.CheckPasses.{ring_drive}
 use Rattle.sercos_law_run.specs.Views.RingViews.{at_start, behind_mdt, views_of}
 use Rattle.sercos_law_run.proofs.Views.Members.{member_is}
 use Rattle.sercos_law_run.specs.Held.Opened.{IsOpened}
-use Rattle.sercos_law_run.proofs.Held.Runs.{Laws, drive_got}
-use Rattle.sercos_law_run.proofs.Headline.HeadlineRuns.{MoreLaws}
+use Rattle.sercos_law_run.proofs.Held.Runs.{drive_got}
 use Rattle.sercos_law_run.specs.Undisturbed.Undisturbed.{AreUndisturbed}
 use Rattle.sercos_law_run.specs.Undisturbed.EpochStarts.{StartsEpoch}
 use Rattle.sercos_law_run.specs.Undisturbed.ViewsSince.{views_since}
@@ -43,6 +37,7 @@ use Rattle.sercos_law_run.proofs.Undisturbed.Sections.{one_works}
 use Rattle.sercos_law_run.proofs.Undisturbed.StopStays.{none_before, stop_after}
 use Rattle.sercos_law_run.proofs.Undisturbed.JobsCost.{two_fits}
 use Rattle.sercos_law_run.proofs.Undisturbed.JobsBegun.{places_now, few_now, planned_now}
+use Rattle.sercos_law_channel.proofs.Pace.JobCosts.{reads_cost, writes_cost}
 
 -- SUMS over the drives: by their places, and by the list
 pub shifted : (n : ℕ) (f : ℕ → ℕ) → sum_below (suc n) f ≡ f 0 + sum_below n (λ i. f (suc i))
@@ -71,7 +66,7 @@ stays_two false n late is = (refl, is)
 abbrev pub section_two : DriveView → ℕ
 section_two d = read_cycles d + write_cycles d
 
-module _ (laws : Laws) (more : MoreLaws) (turn : WorkInTurn) (comes_up : (busy : ℕ) → ComesUp busy) (late : (busy : ℕ) → NoneLate busy) (two : WorksInTwo) (r : RingView) (jobs : List Job) (carry : Carry) (restarts : Restarts) (opened : IsOpened r jobs) where
+module _ (r : RingView) (jobs : List Job) (carry : Carry) (restarts : Restarts) (opened : IsOpened r jobs) where
   abbrev back : List CycleView → Past
   back j = looks_back r jobs (master_calls r carry restarts j)
 
@@ -88,46 +83,46 @@ module _ (laws : Laws) (more : MoreLaws) (turn : WorkInTurn) (comes_up : (busy :
   ]
     where
       stays : fall_of (known_of r) (behind_mdt r jobs carry restarts t.sent (cycles ++ before)) ≡ None
-      stays = (never_falls laws more turn comes_up late r jobs carry restarts opened (t ∷ cycles) before run clear starts calm).stays.1
+      stays = (never_falls r jobs carry restarts opened (t ∷ cycles) before run clear starts calm).stays.1
 
       same_start : at_start r jobs carry restarts (cycles ++ before) ≡ looks_back r jobs (master_calls r carry restarts (cycles ++ before))
-      same_start = starts_so laws more r jobs carry restarts opened t (cycles ++ before) run.1 (calm_in r carry restarts t (cycles ++ before) calm.1)
+      same_start = starts_so r jobs carry restarts opened t (cycles ++ before) run.1 (calm_in r carry restarts t (cycles ++ before) calm.1)
 
       stop_none : (behind_mdt r jobs carry restarts t.sent (cycles ++ before)).stop ≡ None
       stop_none = sym (stop_after r jobs carry restarts t (cycles ++ before) stays) ∙ none
 
       by : ((back (cycles ++ before)).now.phase ≡ 2 → (back (cycles ++ before)).stop ≡ None → length cycles ≤ 11 + length r.drives + opens_in cycles before) → 11 + length r.drives ≤ length cycles → suc (length cycles) ≤ 11 + length r.drives + opens_in (t ∷ cycles) before
       by counted long =
-          let all = never_falls laws more turn comes_up late r jobs carry restarts opened cycles before run.0 clear.0 starts calm.0 in
-          let late_then = late_in laws more comes_up r jobs carry restarts opened cycles before run.0 clear.0 starts calm.0 all.stays long in
-          let next = next_phase_is laws more comes_up r jobs carry restarts opened t (cycles ++ before) run calm.1 in
-          let went = stays_two (is_done (known_of r) (behind_mdt r jobs carry restarts t.sent (cycles ++ before))) t.phase (omega (arith, next, late_then)) (sym (phase_after laws more comes_up r jobs carry restarts opened t (cycles ++ before) run stays) ∙ is_two) in
-          let phase : (behind_mdt r jobs carry restarts t.sent (cycles ++ before)).now.phase ≡ 2 = phase_now laws more comes_up r jobs carry restarts opened t (cycles ++ before) run.1 ∙ went.1 in
+          let all = never_falls r jobs carry restarts opened cycles before run.0 clear.0 starts calm.0 in
+          let late_then = late_in r jobs carry restarts opened cycles before run.0 clear.0 starts calm.0 all.stays long in
+          let next = next_phase_is r jobs carry restarts opened t (cycles ++ before) run calm.1 in
+          let went = stays_two (is_done (known_of r) (behind_mdt r jobs carry restarts t.sent (cycles ++ before))) t.phase (omega (arith, next, late_then)) (sym (phase_after r jobs carry restarts opened t (cycles ++ before) run stays) ∙ is_two) in
+          let phase : (behind_mdt r jobs carry restarts t.sent (cycles ++ before)).now.phase ≡ 2 = phase_now r jobs carry restarts opened t (cycles ++ before) run.1 ∙ went.1 in
           let goes : GoesOnInTwo r (behind_mdt r jobs carry restarts t.sent (cycles ++ before)) = record {
             phase = phase;
             goes_on = stop_none;
-            planned = planned_now laws more r jobs carry restarts opened t (cycles ++ before) run clear phase stop_none;
+            planned = planned_now r jobs carry restarts opened t (cycles ++ before) run clear phase stop_none;
             unchecked = sym (ap (λ (n : ℕ). is_done_in n (known_of r) (behind_mdt r jobs carry restarts t.sent (cycles ++ before))) phase) ∙ went.0;
           } in
-          let works = one_works laws more two r jobs carry restarts opened t cycles before run clear goes in
+          let works = one_works r jobs carry restarts opened t cycles before run clear goes in
           let earlier = counted (sym next ∙ went.1) (none_before r jobs carry restarts t (cycles ++ before) same_start stop_none) in
           omega (arith, works, earlier)
 
   -- what a drive's channel takes
-  section_fits : ((busy : ℕ) → StartsInCost busy) → ComesTimed → ((busy : ℕ) → ReadsCost busy) → ((busy : ℕ) → WritesCost busy) → (cycles before : List CycleView) → IsRun r jobs carry restarts (cycles ++ before) → IsClear (cycles ++ before)
+  section_fits : (cycles before : List CycleView) → IsRun r jobs carry restarts (cycles ++ before) → IsClear (cycles ++ before)
       → StartsEpoch r jobs carry restarts before → AreUndisturbed r carry restarts cycles before → (back (cycles ++ before)).now.phase ≤ 2 → (k : ℕ) → k < length r.drives
       → open_since (views_since r jobs carry restarts k cycles before) (views_of r jobs carry restarts k before) ≤ section_two (drive_at r k)
-  section_fits starts_in timed reads_cost writes_cost [] before run clear starts calm low k below = omega arith
-  section_fits starts_in timed reads_cost writes_cost (t ∷ cycles) before run clear starts calm low k below =
-      let stays = (never_falls laws more turn comes_up late r jobs carry restarts opened (t ∷ cycles) before run clear starts calm).stays.1 in
-      let phase = phase_now laws more comes_up r jobs carry restarts opened t (cycles ++ before) run.1 in
-      let after = phase_after laws more comes_up r jobs carry restarts opened t (cycles ++ before) run stays in
+  section_fits [] before run clear starts calm low k below = omega arith
+  section_fits (t ∷ cycles) before run clear starts calm low k below =
+      let stays = (never_falls r jobs carry restarts opened (t ∷ cycles) before run clear starts calm).stays.1 in
+      let phase = phase_now r jobs carry restarts opened t (cycles ++ before) run.1 in
+      let after = phase_after r jobs carry restarts opened t (cycles ++ before) run stays in
       let early = was_early (is_done (known_of r) (behind_mdt r jobs carry restarts t.sent (cycles ++ before))) t.phase (subst (λ (n : ℕ). n ≤ 2) after low) in
       let now : (behind_mdt r jobs carry restarts t.sent (cycles ++ before)).now.phase ≤ 2 = omega (arith, phase, early) in
       let rules = (ring_drive r k (drive_at r k) opened.valid (drive_got r k below)).blocks in
-      let costs = costs_undisturbed laws more turn comes_up late r jobs carry restarts opened starts_in timed (t ∷ cycles) before run clear starts calm k (λ raw. 512) below (listed_all (views_of r jobs carry restarts k (t ∷ (cycles ++ before)))) in
+      let costs = costs_undisturbed r jobs carry restarts opened (t ∷ cycles) before run clear starts calm k (λ raw. 512) below (listed_all (views_of r jobs carry restarts k (t ∷ (cycles ++ before)))) in
       let fits = two_fits (λ raw. 512) (drive_at r k) rules (reads_cost (drive_at r k).busy) (writes_cost (drive_at r k).busy) (known_of r) (behind_mdt r jobs carry restarts t.sent (cycles ++ before)).plan k (epoch_begun (views_of r jobs carry restarts k (t ∷ (cycles ++ before))))
-      (member_is r k) (places_now laws more r jobs carry restarts opened t (cycles ++ before) run clear stays k below (omega (arith, now))) (few_now laws more r jobs carry restarts opened t (cycles ++ before) run clear stays k below now) in
+      (member_is r k) (places_now r jobs carry restarts opened t (cycles ++ before) run clear stays k below (omega (arith, now))) (few_now r jobs carry restarts opened t (cycles ++ before) run clear stays k below now) in
       omega (arith, costs, fits)
     where
       was_early : (done : Bool) (n : ℕ) → (if done then n + 1 else n) ≤ 2 → n ≤ 2
@@ -135,10 +130,10 @@ module _ (laws : Laws) (more : MoreLaws) (turn : WorkInTurn) (comes_up : (busy :
       was_early false n low = low
 
   -- HOW LONG PHASE 2 LASTS
-  pub two_lasts : ((busy : ℕ) → StartsInCost busy) → ComesTimed → ((busy : ℕ) → ReadsCost busy) → ((busy : ℕ) → WritesCost busy) → (cycles before : List CycleView) → IsRun r jobs carry restarts (cycles ++ before) → IsClear (cycles ++ before)
-      → StartsEpoch r jobs carry restarts before → AreUndisturbed r carry restarts cycles before → (back (cycles ++ before)).now.phase ≡ 2 → (back (cycles ++ before)).stop ≡ None
-      → length cycles ≤ 11 + length r.drives + sum_by section_two r.drives
-  two_lasts starts_in timed reads_cost writes_cost cycles before run clear starts calm is_two none =
+  pub two_lasts : (cycles before : List CycleView) → IsRun r jobs carry restarts (cycles ++ before) → IsClear (cycles ++ before)
+      → StartsEpoch r jobs carry restarts before → AreUndisturbed r carry restarts cycles before → (back (cycles ++ before)).now.phase ≡ 2
+      → (back (cycles ++ before)).stop ≡ None → length cycles ≤ 11 + length r.drives + sum_by section_two r.drives
+  two_lasts cycles before run clear starts calm is_two none =
       let counts = two_counts cycles before run clear starts calm is_two none in
-      let fits = sum_within (λ k. open_since (views_since r jobs carry restarts k cycles before) (views_of r jobs carry restarts k before)) section_two r.drives (λ k below. section_fits starts_in timed reads_cost writes_cost cycles before run clear starts calm (omega (arith, is_two)) k below) in
+      let fits = sum_within (λ k. open_since (views_since r jobs carry restarts k cycles before) (views_of r jobs carry restarts k before)) section_two r.drives (λ k below. section_fits cycles before run clear starts calm (omega (arith, is_two)) k below) in
       omega (arith, counts, fits)

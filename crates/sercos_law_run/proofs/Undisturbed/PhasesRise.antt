@@ -7,12 +7,9 @@ use Rattle.sercos_trace.specs.Views.{CycleView}
 use Rattle.sercos_seat.specs.Ring.{Known, known_of}
 use Rattle.sercos_master.specs.Annals.{Past, fall_of, is_done, after_end}
 use Rattle.sercos_script.specs.Links.{Carry, Restarts}
-use Rattle.sercos_law_channel.specs.Handshake.RunLaws.{ComesUp}
 use Rattle.sercos_law_run.specs.Journal.Runs.{master_calls, looks_back, IsRun, IsClear}
 use Rattle.sercos_law_run.specs.Views.RingViews.{behind_mdt}
 use Rattle.sercos_law_run.specs.Held.Opened.{IsOpened}
-use Rattle.sercos_law_run.proofs.Held.Runs.{Laws}
-use Rattle.sercos_law_run.proofs.Headline.HeadlineRuns.{MoreLaws}
 use Rattle.sercos_law_run.specs.Undisturbed.Undisturbed.{IsUndisturbed, AreUndisturbed}
 use Rattle.sercos_law_run.specs.Undisturbed.EpochStarts.{StartsEpoch, came_back}
 use Rattle.sercos_law_run.proofs.Undisturbed.StaysUp.{phase_now}
@@ -28,16 +25,16 @@ no_lower : (done : Bool) (n : ℕ) → n ≤ (if done then n + 1 else n)
 no_lower true n = omega arith
 no_lower false n = omega arith
 
-module _ (laws : Laws) (more : MoreLaws) (comes_up : (busy : ℕ) → ComesUp busy) (r : RingView) (jobs : List Job) (carry : Carry) (restarts : Restarts) (opened : IsOpened r jobs) where
+module _ (r : RingView) (jobs : List Job) (carry : Carry) (restarts : Restarts) (opened : IsOpened r jobs) where
   -- the phase after a cycle
   pub phase_after : (t : CycleView) (j : List CycleView) → IsRun r jobs carry restarts (t ∷ j) → fall_of (known_of r) (behind_mdt r jobs carry restarts t.sent j) ≡ None
       → (looks_back r jobs (master_calls r carry restarts (t ∷ j))).now.phase ≡ (if is_done (known_of r) (behind_mdt r jobs carry restarts t.sent j) then t.phase + 1 else t.phase)
   phase_after t j run none = goes_up (known_of r) (behind_mdt r jobs carry restarts t.sent j) none
-      ∙ ap (λ (n : ℕ). if is_done (known_of r) (behind_mdt r jobs carry restarts t.sent j) then n + 1 else n) (phase_now laws more comes_up r jobs carry restarts opened t j run.1)
+      ∙ ap (λ (n : ℕ). if is_done (known_of r) (behind_mdt r jobs carry restarts t.sent j) then n + 1 else n) (phase_now r jobs carry restarts opened t j run.1)
 
   rises_by : (t : CycleView) (j : List CycleView) → IsRun r jobs carry restarts (t ∷ j) → IsUndisturbed r carry restarts t j → fall_of (known_of r) (behind_mdt r jobs carry restarts t.sent j) ≡ None
       → (looks_back r jobs (master_calls r carry restarts j)).now.phase ≤ (looks_back r jobs (master_calls r carry restarts (t ∷ j))).now.phase
-  rises_by t j run calm none = subst (λ (n : ℕ). n ≤ (looks_back r jobs (master_calls r carry restarts (t ∷ j))).now.phase) (next_phase_is laws more comes_up r jobs carry restarts opened t j run calm)
+  rises_by t j run calm none = subst (λ (n : ℕ). n ≤ (looks_back r jobs (master_calls r carry restarts (t ∷ j))).now.phase) (next_phase_is r jobs carry restarts opened t j run calm)
       (subst (λ (n : ℕ). t.phase ≤ n) (sym (phase_after t j run none)) (no_lower (is_done (known_of r) (behind_mdt r jobs carry restarts t.sent j)) t.phase))
 
   -- from the eleventh cycle and one for each drive on at the latest, phase 2 or a later one is commanded
@@ -45,7 +42,7 @@ module _ (laws : Laws) (more : MoreLaws) (comes_up : (busy : ℕ) → ComesUp bu
       → NoneFalls r jobs carry restarts cycles before → 11 + length r.drives ≤ length cycles + came_back r jobs carry restarts before → 2 ≤ (looks_back r jobs (master_calls r carry restarts (cycles ++ before))).now.phase
   late_by [] before run clear starts calm stays long = let few = few_back r jobs carry restarts before starts in absurd (omega (arith, long, few))
   late_by (t ∷ cycles) before run clear starts calm stays long = elim (cases_eq (suc (length cycles + came_back r jobs carry restarts before)) (11 + length r.drives)) [
-    | inl same ↦ let two = second_in laws more comes_up r jobs carry restarts opened (t ∷ cycles) before run clear starts calm (omega (arith, same)) in omega (arith, two)
+    | inl same ↦ let two = second_in r jobs carry restarts opened (t ∷ cycles) before run clear starts calm (omega (arith, same)) in omega (arith, two)
     | inr other ↦
         let late = late_by cycles before run.0 clear.0 starts calm.0 stays.0 (omega (arith, long, other)) in
         let up = rises_by t (cycles ++ before) run calm.1 stays.1 in

@@ -31,8 +31,9 @@ use Rattle.sercos_law_run.specs.Undisturbed.Jobs.{jobs_of}
 use Rattle.sercos_law_run.proofs.Undisturbed.JobPlaces.{reading, later}
 use Rattle.sercos_law_run.proofs.Undisturbed.RefusedSteps.{IsCaused, write_caused, attribute_reads_well, data_reads_well, command_well}
 use Rattle.sercos_law_run.proofs.Undisturbed.RefusedCauses.{number_free, cycle_refused, list_free, check_free_3, check_3, allows_3, found_3}
-use Rattle.sercos_law_run.proofs.Undisturbed.RefusedRuns.{IsRefused, IsCycle, SaysShape}
+use Rattle.sercos_law_run.proofs.Undisturbed.RefusedRuns.{IsRefused, IsCycle}
 use Rattle.sercos_law_run.proofs.Undisturbed.Small.{never_both, some_is}
+use Rattle.sercos_law_channel.proofs.Cited.{says_shape}
 
 abbrev element_asked : Request → ℕ
 element_asked (request.Read i e) = e
@@ -60,8 +61,9 @@ unfolding are_cyclic
 cyclic_append blocks [] ys first second = second
 cyclic_append blocks (x ∷ xs) ys first second = let parts = and_parts (is_some (cyclic_len blocks x.raw)) _ first in rw parts.0 (cyclic_append blocks xs ys parts.1 second)
 
-module _ (says : SaysShape) (d : DriveView) (rules : blocks_fault [] d.blocks ≡ None) (small : AreSmall (store_of d)) (at : are_cyclic d.blocks d.at ≡ true) (mdt : are_cyclic d.blocks d.mdt ≡ true) (few_at : length d.at ≤ 16) (few_mdt : length d.mdt ≤ 16)
-    (s : Known) (k : ℕ) (member_so : member s k ≡ member_of d) (cycle_small : s.cycle < 65536) (code : Code) where
+module _ (d : DriveView) (rules : blocks_fault [] d.blocks ≡ None) (small : AreSmall (store_of d)) (at : are_cyclic d.blocks d.at ≡ true)
+    (mdt : are_cyclic d.blocks d.mdt ≡ true) (few_at : length d.at ≤ 16) (few_mdt : length d.mdt ≤ 16) (s : Known) (k : ℕ)
+    (member_so : member s k ≡ member_of d) (cycle_small : s.cycle < 65536) (code : Code) where
   -- A READ is never refused.
   pub found_time : (raw : ℕ) → option_map (λ (b : Block). b.step) (find_block raw (built_in d)) ≡ Some 0 → (b : Block) × (find_block raw (store_of d) ≡ Some b)
   found_time raw built = by (find_block raw (built_in d)) refl built
@@ -99,7 +101,7 @@ module _ (says : SaysShape) (d : DriveView) (rules : blocks_fault [] d.blocks �
   -- A WRITE
   caused_by : (raw : ℕ) (bytes : List ℕ) (b : Block) (q : Request) → find_block raw (store_of d) ≡ Some b → q ≡ request.Write (idn raw) 7 bytes → (ref : IsRefused d q code 2) → IsCaused (idn raw) bytes b ref.e
   caused_by raw bytes b q found same ref =
-      write_caused (idn raw) bytes b (says b (small raw b found)) (store_of d) found ref.e ref.entries ref.log (subst (λ (x : Request). IsTransfer x (store_of d) ref.e ref.entries ref.log) same ref.transfer) ref.error
+      write_caused (idn raw) bytes b (says_shape b (small raw b found)) (store_of d) found ref.e ref.entries ref.log (subst (λ (x : Request). IsTransfer x (store_of d) ref.e ref.entries ref.log) same ref.transfer) ref.error
 
   number_never : (raw value : ℕ) (q : Request) → find_block raw (store_of d) ≡ Some (number_block d raw) → is_start_number raw ≡ true → q ≡ writes_word raw value → (ref : IsRefused d q code 2) → ref.e.taken.phase ≡ 2 → IsCycle d s.cycle q code
   unfolding attribute_of

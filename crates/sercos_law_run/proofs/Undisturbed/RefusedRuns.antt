@@ -20,9 +20,8 @@ use Rattle.sercos_seat.specs.Agenda.{idn}
 use Rattle.sercos_law_channel.specs.Handshake.Epochs.{command, command_in, epoch_taken, unless_restart, begun_in, taken_in_views, log_in}
 use Rattle.sercos_law_channel.specs.Handshake.Exact.{AreExact}
 use Rattle.sercos_law_channel.specs.Handshake.InStep.{replies_of}
-use Rattle.sercos_law_channel.specs.Handshake.Parts.{IsPart, Unsent, Heard, Unheard, HaveReplies, MakeTransfers}
+use Rattle.sercos_law_channel.specs.Handshake.Parts.{IsPart, Unsent, Heard, Unheard}
 use Rattle.sercos_law_channel.specs.Handshake.Runs.{IsRun as IsViewRun}
-use Rattle.sercos_law_channel.specs.Handshake.RunLaws.{ProcessesInPhase}
 use Rattle.sercos_law_channel.specs.Handshake.Transfers.{HaveBlocks, IsTransfer}
 use Rattle.sercos_law_channel.specs.Handshake.Views.{View, with_record, processed_in}
 use Rattle.sercos_law_channel.specs.Handshake.WholeRun.{AreSound, AreSmall, all_entries}
@@ -31,6 +30,9 @@ use Rattle.sercos_law_run.specs.Start.StartUp.{IsStoreOf}
 use Rattle.sercos_law_run.specs.Held.Stored.{AreStored}
 use Rattle.sercos_law_run.proofs.Held.AnsweredRuns.{EntriesStored, entries_stored}
 use Rattle.sercos_law_run.proofs.Settings.NoCheck127.{next_still, stays}
+use Rattle.sercos_law_channel.proofs.Cited.{make_transfers}
+use Rattle.sercos_law_channel.proofs.Handshake.LogParts.{have_replies}
+use Rattle.sercos_law_channel.proofs.Handshake.RunFacts.{processes_in_phase}
 
 -- THE PHASES in which the steps of an epoch were accepted
 abbrev IsBetween : ℕ → Taken → Type 0
@@ -59,8 +61,8 @@ newest_between n (t ∷ h) e entries rest same are = subst (λ (x : Entry). IsBe
     first_is : {x y : Entry} {xs ys : List Entry} → x ∷ xs ≡ y ∷ ys → x ≡ y
     first_is e = cc
 
-cycle_between : ProcessesInPhase → (v : View) (past : List View) → v.phase ≡ command_in v past → AreBetween (command past) (epoch_taken past) → AreBetween v.phase (taken_in_views v past)
-cycle_between in_phase v past commanded before = by (processed_in v past) refl (restarted v.master_restarts commanded)
+cycle_between : (v : View) (past : List View) → v.phase ≡ command_in v past → AreBetween (command past) (epoch_taken past) → AreBetween v.phase (taken_in_views v past)
+cycle_between v past commanded before = by (processed_in v past) refl (restarted v.master_restarts commanded)
   where
     restarted : (b : Bool) → v.phase ≡ (if b then 0 else command past) → AreBetween v.phase (if b then [] else epoch_taken past)
     restarted true is = tt
@@ -68,11 +70,11 @@ cycle_between in_phase v past commanded before = by (processed_in v past) refl (
 
     by : (o : Option Taken) → processed_in v past ≡ o → AreBetween v.phase (unless_restart v (epoch_taken past)) → AreBetween v.phase (with_record o (unless_restart v (epoch_taken past)))
     by None none are = are
-    by (Some t) some are = let is = in_phase v past t some in (are, (let same = is.0 in omega (arith, same), is.2))
+    by (Some t) some are = let is = processes_in_phase v past t some in (are, (let same = is.0 in omega (arith, same), is.2))
 
-epoch_between : ProcessesInPhase → (busy : ℕ) (past : List View) → IsViewRun busy past → AreBetween (command past) (epoch_taken past)
-epoch_between in_phase busy [] run = tt
-epoch_between in_phase busy (v ∷ past) run = ended v.falls v.rises (cycle_between in_phase v past run.1.commanded (epoch_between in_phase busy past run.0))
+epoch_between : (busy : ℕ) (past : List View) → IsViewRun busy past → AreBetween (command past) (epoch_taken past)
+epoch_between busy [] run = tt
+epoch_between busy (v ∷ past) run = ended v.falls v.rises (cycle_between v past run.1.commanded (epoch_between busy past run.0))
   where
     ended : (f u : Bool) → AreBetween v.phase (taken_in_views v past) → AreBetween (if f then 0 else (if u then v.phase + 1 else v.phase)) (if f then [] else taken_in_views v past)
     ended true u are = tt
@@ -101,8 +103,8 @@ refused_is r a h code is = by a.error (is_whole r (answer_words h ++ a.word ∷ 
     by false true on is = absurd (cc)
     by false false on is = absurd (cc)
 
-module _ (laws : Laws) (replies : HaveReplies) (transfers : MakeTransfers) (in_phase : ProcessesInPhase) (busy : ℕ) (d : DriveView) (small : AreSmall (store_of d)) (v : View) (past : List View) (run : IsViewRun busy (v ∷ past)) (sound : AreSound (store_of d) (v ∷ past))
-    (stored : AreStored d (v ∷ past)) where
+module _ (laws : Laws) (busy : ℕ) (d : DriveView) (small : AreSmall (store_of d)) (v : View) (past : List View)
+    (run : IsViewRun busy (v ∷ past)) (sound : AreSound (store_of d) (v ∷ past)) (stored : AreStored d (v ∷ past)) where
   have : HaveBlocks (store_of d) (log_in v past)
   have = (epoch (store_of d) busy (stays v ∷ past) (run.0, next_still busy v past run.1) sound).alike
 
@@ -128,10 +130,10 @@ module _ (laws : Laws) (replies : HaveReplies) (transfers : MakeTransfers) (in_p
                   e = e;
                   entries = entries;
                   log = rest;
-                  transfer = transfers one (store_of d) e entries rest row (replies (accepted (taken_in_views v past)) (e ∷ entries) rest log_so) (have_first (e ∷ entries) rest (subst (HaveBlocks (store_of d)) log_so have));
+                  transfer = make_transfers one (store_of d) e entries rest row (have_replies (accepted (taken_in_views v past)) (e ∷ entries) rest log_so) (have_first (e ∷ entries) rest (subst (HaveBlocks (store_of d)) log_so have));
                   error = ends.0;
                   code_is = ends.1;
-                  between = newest_between v.phase (accepted (taken_in_views v past)) e entries rest log_so (between_accepted v.phase (taken_in_views v past) (cycle_between in_phase v past run.1.commanded (epoch_between in_phase busy past run.0)));
+                  between = newest_between v.phase (accepted (taken_in_views v past)) e entries rest log_so (between_accepted v.phase (taken_in_views v past) (cycle_between v past run.1.commanded (epoch_between busy past run.0)));
                   stored = (subst (EntriesStored d) all (entries_stored d (stays v ∷ past) stored)).1.1;
                 },
                 log_so,

@@ -17,15 +17,16 @@ use Rattle.sercos_law_channel.specs.Pace.Stretches.{open_since}
 use Rattle.sercos_law_run.specs.Journal.Arrivals.{sum_below}
 use Rattle.sercos_law_run.specs.Journal.Records.{ats_in, mst_in}
 use Rattle.sercos_law_run.specs.Journal.Runs.{at_calls, own_mst, begin_calls, master_calls, IsRun, IsClear}
-use Rattle.sercos_law_run.specs.Agenda.Turns.{WorksInTwo, WorksInThree}
 use Rattle.sercos_law_run.specs.Views.RingViews.{behind_mdt, view_of, views_of}
 use Rattle.sercos_law_run.proofs.Views.Members.{members_count}
 use Rattle.sercos_law_run.specs.Held.Opened.{IsOpened}
-use Rattle.sercos_law_run.proofs.Held.Runs.{Laws, s_known}
-use Rattle.sercos_law_run.proofs.Headline.HeadlineRuns.{MoreLaws, first_store, keeps_all}
+use Rattle.sercos_law_run.proofs.Held.Runs.{s_known}
+use Rattle.sercos_law_run.proofs.Headline.HeadlineRuns.{first_store, keeps_all}
 use Rattle.sercos_law_run.specs.Undisturbed.Sections.{GoesOnInTwo, AreInTwo, AreInThree}
 use Rattle.sercos_law_run.specs.Undisturbed.ViewsSince.{views_since}
 use Rattle.sercos_law_run.proofs.Undisturbed.PassedCycles.{views_split}
+use Rattle.sercos_law_run.proofs.Agenda.Requests.{are_requests}
+use Rattle.sercos_law_run.proofs.Cited.{work_in_three, work_in_two}
 
 -- a sum whose terms don't fall, and of which one grows, grows
 sum_stays : (n : ℕ) (f g : ℕ → ℕ) → ((i : ℕ) → f i ≤ g i) → sum_below n f ≤ sum_below n g
@@ -51,7 +52,7 @@ pub some_open : (o : Option Step) → is_none o ≡ false → is_some o ≡ true
 some_open None is = sym is
 some_open (Some s) is = refl
 
-module _ (laws : Laws) (more : MoreLaws) (two : WorksInTwo) (r : RingView) (jobs : List Job) (carry : Carry) (restarts : Restarts) (opened : IsOpened r jobs) where
+module _ (r : RingView) (jobs : List Job) (carry : Carry) (restarts : Restarts) (opened : IsOpened r jobs) where
   -- whether a step to a drive is open at the end of the next cycle, and in how many it was so far
   abbrev opens : CycleView → List CycleView → List CycleView → ℕ → Bool
   opens t cycles before k = is_some (open_in (begun_in (view_of r jobs carry restarts k t (cycles ++ before)) (views_since r jobs carry restarts k cycles before ++ views_of r jobs carry restarts k before)))
@@ -67,14 +68,14 @@ module _ (laws : Laws) (more : MoreLaws) (two : WorksInTwo) (r : RingView) (jobs
   opens_in_two t j run clear goes = (
     at_work.0,
     low,
-    some_open _ (ap (λ (l : List Begun). is_none (open_in l)) ((keeps_all laws more r jobs carry restarts opened t j run clear).exact
+    some_open _ (ap (λ (l : List Begun). is_none (open_in l)) ((keeps_all r jobs carry restarts opened t j run clear).exact
         at_work.0 low).begun_now ∙ at_work.2),
   )
     where
       at_work : (k : ℕ) × (k < length (known_of r).drives) × (is_idle (behind_mdt r jobs carry restarts t.sent j) k ≡ false)
-      at_work = two (known_of r) (tasks_for (known_of r) jobs) (at_calls r carry (length j) (ats_in t.sent) (own_mst carry (length j)
+      at_work = work_in_two (known_of r) (tasks_for (known_of r) jobs) (at_calls r carry (length j) (ats_in t.sent) (own_mst carry (length j)
           (mst_in t.sent) (begin_calls restarts (length j) (master_calls r carry restarts j))))
-          (λ k. (more.requests (known_of r) jobs k).0) (s_known laws r jobs carry restarts opened (first_store laws more r jobs carry restarts opened)).lists goes.phase goes.goes_on goes.planned goes.unchecked
+          (λ k. (are_requests (known_of r) jobs k).0) (s_known r jobs carry restarts opened (first_store r jobs carry restarts opened)).lists goes.phase goes.goes_on goes.planned goes.unchecked
 
       low : at_work.0 < length r.drives
       low = let count = members_count r in let inside = at_work.1 in omega (arith, count, inside)
@@ -102,7 +103,8 @@ module _ (laws : Laws) (more : MoreLaws) (two : WorksInTwo) (r : RingView) (jobs
       let earlier = none_idle cycles before run.0 clear.0 goes.0 in
       let grows = one_works t cycles before run clear goes.1 in omega (arith, earlier, grows)
 
-module _ (laws : Laws) (more : MoreLaws) (three : WorksInThree) (r : RingView) (jobs : List Job) (carry : Carry) (restarts : Restarts) (opened : IsOpened r jobs) (k : ℕ) (below : k < length r.drives) where
+module _ (r : RingView) (jobs : List Job) (carry : Carry) (restarts : Restarts) (opened : IsOpened r jobs) (k : ℕ)
+    (below : k < length r.drives) where
   -- In each cycle of phase 3 a drive whose check hasn't ended has one.
   pub never_idle : (cycles before : List CycleView) → IsRun r jobs carry restarts (cycles ++ before) → IsClear (cycles ++ before) → AreInThree r jobs carry restarts k cycles before
       → length cycles ≤ open_since (views_since r jobs carry restarts k cycles before) (views_of r jobs carry restarts k before)
@@ -111,12 +113,12 @@ module _ (laws : Laws) (more : MoreLaws) (three : WorksInThree) (r : RingView) (
     where
       at_work : is_idle (behind_mdt r jobs carry restarts t.sent (cycles ++ before)) k ≡ false
       at_work = let count = members_count r in
-          three (known_of r) (tasks_for (known_of r) jobs) (at_calls r carry (length (cycles ++ before)) (ats_in t.sent) (own_mst carry (length (cycles ++ before)) (mst_in t.sent) (begin_calls restarts (length (cycles ++ before)) (master_calls r carry restarts (cycles ++ before))))) k
-          (λ i. (more.requests (known_of r) jobs i).0) (s_known laws r jobs carry restarts opened (first_store laws more r jobs carry restarts opened)).lists (omega (arith, count, below)) goes.1.phase goes.1.goes_on goes.1.planned goes.1.unready
+          work_in_three (known_of r) (tasks_for (known_of r) jobs) (at_calls r carry (length (cycles ++ before)) (ats_in t.sent) (own_mst carry (length (cycles ++ before)) (mst_in t.sent) (begin_calls restarts (length (cycles ++ before)) (master_calls r carry restarts (cycles ++ before))))) k
+          (λ i. (are_requests (known_of r) jobs i).0) (s_known r jobs carry restarts opened (first_store r jobs carry restarts opened)).lists (omega (arith, count, below)) goes.1.phase goes.1.goes_on goes.1.planned goes.1.unready
 
       is_open : is_some (open_in (begun_in (view_of r jobs carry restarts k t (cycles ++ before)) (views_since r jobs carry restarts k cycles before ++ views_of r jobs carry restarts k before))) ≡ true
       is_open = subst (λ (l : List View). is_some (open_in (begun_in (view_of r jobs carry restarts k t (cycles ++ before)) l)) ≡ true) (views_split r jobs carry restarts k cycles before)
-          (some_open _ (ap (λ (l : List Begun). is_none (open_in l)) ((keeps_all laws more r jobs carry restarts opened t (cycles ++ before) run clear).exact k below).begun_now ∙ at_work))
+          (some_open _ (ap (λ (l : List Begun). is_none (open_in l)) ((keeps_all r jobs carry restarts opened t (cycles ++ before) run clear).exact k below).begun_now ∙ at_work))
 
       grown : length cycles ≤ open_since (views_since r jobs carry restarts k cycles before) (views_of r jobs carry restarts k before)
           → suc (length cycles) ≤ one_more (is_some (open_in (begun_in (view_of r jobs carry restarts k t (cycles ++ before)) (views_since r jobs carry restarts k cycles before ++ views_of r jobs carry restarts k before))))

@@ -22,7 +22,7 @@ use Rattle.sercos_drive.specs.Moments.{blocks_in}
 use Rattle.sercos_drive.specs.Annals.{annals}
 use Rattle.sercos_trace.specs.Views.{CycleView}
 use Rattle.sercos_script.specs.Links.{Carry, Restarts}
-use Rattle.sercos_law_run.specs.Start.Kept.{BlocksKeep, is_own_outside}
+use Rattle.sercos_law_run.specs.Start.Kept.{is_own_outside}
 use Rattle.sercos_law_run.specs.Start.StartUp.{IsStoreOf}
 use Rattle.sercos_law_run.proofs.Start.CheckPasses.{ring_drive}
 use Rattle.sercos_law_run.proofs.Start.LimitLemmas.{names_own}
@@ -35,14 +35,16 @@ use Rattle.sercos_law_run.specs.Journal.Runs.{drive_at, given_mst, IsRun, IsClea
 use Rattle.sercos_law_run.specs.Views.RingViews.{view_of, views_of}
 use Rattle.sercos_law_run.specs.Held.Opened.{IsOpened}
 use Rattle.sercos_law_run.specs.Held.Stored.{IsStored}
-use Rattle.sercos_law_run.proofs.Held.Runs.{Laws, Stands, alike_so, drive_got, s_known}
-use Rattle.sercos_law_run.proofs.Headline.HeadlineRuns.{MoreLaws, all_stand, first_store, stored_in}
+use Rattle.sercos_law_run.proofs.Held.Runs.{Stands, alike_so, drive_got, s_known}
+use Rattle.sercos_law_run.proofs.Headline.HeadlineRuns.{all_stand, first_store, stored_in}
 use Rattle.sercos_law_run.proofs.Undisturbed.BlockStays.{IsAt, stays_at, written_at}
 use Rattle.sercos_law_run.proofs.Undisturbed.CycleHeld.{cycle_some, fits_in, holds_cycle}
 use Rattle.sercos_law_run.proofs.Undisturbed.OwnFit.{none_any}
 use Rattle.sercos_law_run.proofs.Undisturbed.OwnInside.{no_data_fault, none_at, none_listed, own_stays, within}
 use Rattle.sercos_law_run.proofs.Undisturbed.OwnSet.{nothing_listed, set_already}
 use Rattle.sercos_law_run.proofs.Undisturbed.RefusedCauses.{check_4, found_4}
+use Rattle.sercos_law_run.proofs.Start.LaterLemmas.{blocks_keep}
+use Rattle.sercos_service_drive.proofs.AllowedWrites.{allowed}
 
 -- PHASE 3 is the one in which the check for phase 4 can be set.
 bare_4 : (d : DriveView) (o : Option Block) (phase : ℕ) (bytes : List ℕ) → option_map without_data o ≡ Some (without_data (check_4 d)) → put_fault o phase bytes ≡ None → is_protected (check_4 d).attribute phase ≡ false
@@ -78,8 +80,8 @@ unfolding unfit_for_phase_4
 ends_so rate blocks none = ap (λ (l : List Block). length (map (λ (b : Block). b.idn) l) == 0) none
 
 -- a write leaves the order of the blocks
-ascends : BlocksKeep → (d : DriveView) (blocks : List Block) (raw phase : ℕ) (bytes : List ℕ) → are_ascending blocks ≡ true → IsStoreOf d blocks → put_fault (find_block raw blocks) phase bytes ≡ None → are_ascending (with_data raw bytes blocks) ≡ true
-ascends keep d blocks raw phase bytes ascending stored allowed = by (is_command blocks raw) (keep d blocks (Some (record { cycle = 0; raw = raw; bytes = bytes })) (set_already raw) phase ascending stored allowed).1
+ascends : (d : DriveView) (blocks : List Block) (raw phase : ℕ) (bytes : List ℕ) → are_ascending blocks ≡ true → IsStoreOf d blocks → put_fault (find_block raw blocks) phase bytes ≡ None → are_ascending (with_data raw bytes blocks) ≡ true
+ascends d blocks raw phase bytes ascending stored allowed = by (is_command blocks raw) (blocks_keep d blocks (Some (record { cycle = 0; raw = raw; bytes = bytes })) (set_already raw) phase ascending stored allowed).1
   where
     w : Write
     w = record { cycle = 0; raw = raw; bytes = bytes }
@@ -92,73 +94,77 @@ ascends keep d blocks raw phase bytes ascending stored allowed = by (is_command 
 abbrev pub SetsWell : View → List View → Type 0
 SetsWell v past = (w : Write) → write_of (processed_in v past) (kept_in v past) ≡ Some w → w.raw ≡ 128 → ends_well v.commands.rate 128 (with_data 128 w.bytes v.blocks) ≡ true
 
-module _ (laws : Laws) (more : MoreLaws) (r : RingView) (jobs : List Job) (carry : Carry) (restarts : Restarts) (opened : IsOpened r jobs) (k : ℕ) (below : k < length r.drives) (t : CycleView) (j : List CycleView) (run : IsRun r jobs carry restarts (t ∷ j))
-    (clear : IsClear (t ∷ j)) (w : Write) (is : write_of (processed_in (view_of r jobs carry restarts k t j) (views_of r jobs carry restarts k j)) (kept_in (view_of r jobs carry restarts k t j) (views_of r jobs carry restarts k j)) ≡ Some w) where
-  -- THE WRITE OF A CYCLE could be made.
-  pub allowed_in : put_fault (find_block w.raw (view_of r jobs carry restarts k t j).blocks) (stood_in (view_of r jobs carry restarts k t j) (standing (views_of r jobs carry restarts k j))) w.bytes ≡ None
-  allowed_in = by (processes v past)
-    where
-      v : View
-      v = view_of r jobs carry restarts k t j
+module _ (r : RingView) (jobs : List Job) (carry : Carry) (restarts : Restarts) (opened : IsOpened r jobs) (k : ℕ)
+    (below : k < length r.drives) (t : CycleView) (j : List CycleView) (run : IsRun r jobs carry restarts (t ∷ j)) (clear : IsClear (t ∷ j))
+    (w : Write)
+    (is : write_of (processed_in (view_of r jobs carry restarts k t j) (views_of r jobs carry restarts k j)) (kept_in (view_of r jobs carry restarts k t j) (views_of r jobs carry restarts k j)) ≡ Some w)
+  where
+    -- THE WRITE OF A CYCLE could be made.
+    pub allowed_in : put_fault (find_block w.raw (view_of r jobs carry restarts k t j).blocks) (stood_in (view_of r jobs carry restarts k t j) (standing (views_of r jobs carry restarts k j))) w.bytes ≡ None
+    allowed_in = by (processes v past)
+      where
+        v : View
+        v = view_of r jobs carry restarts k t j
 
-      past : List View
-      past = views_of r jobs carry restarts k j
+        past : List View
+        past = views_of r jobs carry restarts k j
 
-      stands : Stands r jobs carry restarts (t ∷ j) k
-      stands = all_stand laws more r jobs carry restarts opened (t ∷ j) run clear k below
+        stands : Stands r jobs carry restarts (t ∷ j) k
+        stands = all_stand r jobs carry restarts opened (t ∷ j) run clear k below
 
-      by : Processes v past → put_fault (find_block w.raw v.blocks) (stood_in v (standing past)) w.bytes ≡ None
-      by (Nothing nothing) = let no : Some w ≡ None = sym is ∙ ap (λ (o : Option Taken). write_of o (kept_in v past)) nothing in absurd (cc)
-      by (Record s got came two some) = subst (λ (o : Option Write). IfSome o (λ w. put_fault (find_block w.raw v.blocks) (stood_in v (standing past)) w.bytes ≡ None)) adds_it
-          (more.allows (record_in v (length past) (stood_in v (standing past)) s) (kept_in v past)
-          (those_moved (store_of (drive_at r k)) v.blocks (kept_in v past) stands.sound.1.0 (those_kept (store_of (drive_at r k)) v past (those_since (store_of (drive_at r k)) past stands.sound.0))))
-        where
-          adds_it : added_on (record_in v (length past) (stood_in v (standing past)) s) (kept_in v past) ≡ Some w
-          adds_it = sym (ap (λ (o : Option Taken). write_of o (kept_in v past)) some) ∙ is
+        by : Processes v past → put_fault (find_block w.raw v.blocks) (stood_in v (standing past)) w.bytes ≡ None
+        by (Nothing nothing) = let no : Some w ≡ None = sym is ∙ ap (λ (o : Option Taken). write_of o (kept_in v past)) nothing in absurd (cc)
+        by (Record s got came two some) = subst (λ (o : Option Write). IfSome o (λ w. put_fault (find_block w.raw v.blocks) (stood_in v (standing past)) w.bytes ≡ None)) adds_it
+            (allowed (record_in v (length past) (stood_in v (standing past)) s) (kept_in v past)
+            (those_moved (store_of (drive_at r k)) v.blocks (kept_in v past) stands.sound.1.0 (those_kept (store_of (drive_at r k)) v past (those_since (store_of (drive_at r k)) past stands.sound.0))))
+          where
+            adds_it : added_on (record_in v (length past) (stood_in v (standing past)) s) (kept_in v past) ≡ Some w
+            adds_it = sym (ap (λ (o : Option Taken). write_of o (kept_in v past)) some) ∙ is
 
-  -- And if it was one to S-0-0128, phase 3 was commanded.
-  pub three_in : w.raw ≡ 128 → t.phase ≡ 3
-  three_in number = by (processes v past)
-    where
-      v : View
-      v = view_of r jobs carry restarts k t j
+    -- And if it was one to S-0-0128, phase 3 was commanded.
+    pub three_in : w.raw ≡ 128 → t.phase ≡ 3
+    three_in number = by (processes v past)
+      where
+        v : View
+        v = view_of r jobs carry restarts k t j
 
-      past : List View
-      past = views_of r jobs carry restarts k j
+        past : List View
+        past = views_of r jobs carry restarts k j
 
-      stored : IsStored (drive_at r k) (view_of r jobs carry restarts k t j).blocks
-      stored = stored_in laws more r jobs carry restarts opened t j k below
+        stored : IsStored (drive_at r k) (view_of r jobs carry restarts k t j).blocks
+        stored = stored_in r jobs carry restarts opened t j k below
 
-      rules : blocks_fault [] (drive_at r k).blocks ≡ None
-      rules = (ring_drive r k (drive_at r k) opened.valid (drive_got r k below)).blocks
+        rules : blocks_fault [] (drive_at r k).blocks ≡ None
+        rules = (ring_drive r k (drive_at r k) opened.valid (drive_got r k below)).blocks
 
-      by : Processes v past → t.phase ≡ 3
-      by (Nothing nothing) = let no : Some w ≡ None = sym is ∙ ap (λ (o : Option Taken). write_of o (kept_in v past)) nothing in absurd (cc)
-      by (Record s got came two some) =
-          sym (processed_phase v past came (omega (arith, two)))
-          ∙ in_three (drive_at r k) (stood_in v (standing past)) (bare_4 (drive_at r k) (find_block 128 v.blocks) (stood_in v (standing past)) w.bytes
-          (find-alike 128 v.blocks (store_of (drive_at r k)) (check_4 (drive_at r k)) (alike_so (drive_at r k) v.blocks stored.1) (found_4 (drive_at r k) rules))
-          (ap (λ (n : ℕ). put_fault (find_block n v.blocks) (stood_in v (standing past)) w.bytes) (sym number) ∙ allowed_in))
+        by : Processes v past → t.phase ≡ 3
+        by (Nothing nothing) = let no : Some w ≡ None = sym is ∙ ap (λ (o : Option Taken). write_of o (kept_in v past)) nothing in absurd (cc)
+        by (Record s got came two some) =
+            sym (processed_phase v past came (omega (arith, two)))
+            ∙ in_three (drive_at r k) (stood_in v (standing past)) (bare_4 (drive_at r k) (find_block 128 v.blocks) (stood_in v (standing past)) w.bytes
+            (find-alike 128 v.blocks (store_of (drive_at r k)) (check_4 (drive_at r k)) (alike_so (drive_at r k) v.blocks stored.1) (found_4 (drive_at r k) rules))
+            (ap (λ (n : ℕ). put_fault (find_block n v.blocks) (stood_in v (standing past)) w.bytes) (sym number) ∙ allowed_in))
 
 -- FROM PHASE 3 ON a drive's check for phase 4 names its own blocks that are outside their limits.
-pub names_in : (laws : Laws) (more : MoreLaws) (r : RingView) (jobs : List Job) (carry : Carry) (restarts : Restarts) (opened : IsOpened r jobs) (k : ℕ) (below : k < length r.drives) (t : CycleView) (j : List CycleView) → IsRun r jobs carry restarts (t ∷ j) → IsClear (t ∷ j) → 3 ≤ t.phase
+pub names_in : (r : RingView) (jobs : List Job) (carry : Carry) (restarts : Restarts) (opened : IsOpened r jobs) (k : ℕ) (below : k < length r.drives) (t : CycleView) (j : List CycleView) → IsRun r jobs carry restarts (t ∷ j) → IsClear (t ∷ j) → 3 ≤ t.phase
     → unfit_for_phase_4 (view_of r jobs carry restarts k t j).blocks ≡ map (λ (b : Block). b.idn) (filter is_own_outside (view_of r jobs carry restarts k t j).blocks)
-names_in laws more r jobs carry restarts opened k below t j run clear late =
-    let stored = stored_in laws more r jobs carry restarts opened t j k below in
-    let held = holds_cycle laws more r jobs carry restarts opened t j run clear late k below in
-    let fit = fits_in laws more r jobs carry restarts opened t j run clear late in
+names_in r jobs carry restarts opened k below t j run clear late =
+    let stored = stored_in r jobs carry restarts opened t j k below in
+    let held = holds_cycle r jobs carry restarts opened t j run clear late k below in
+    let fit = fits_in r jobs carry restarts opened t j run clear late in
     names_own (drive_at r k) (view_of r jobs carry restarts k t j).blocks r.cycle stored.0 (ring_drive r k (drive_at r k) opened.valid (drive_got r k below)).blocks stored.1 held.1.1.0
-    (cycle_some r.cycle (s_known laws r jobs carry restarts opened (first_store laws more r jobs carry restarts opened)).cycles.cycle).1 (fit.low k below) (fit.high k below)
+    (cycle_some r.cycle (s_known r jobs carry restarts opened (first_store r jobs carry restarts opened)).cycles.cycle).1 (fit.low k below) (fit.high k below)
 
-module _ (laws : Laws) (more : MoreLaws) (r : RingView) (jobs : List Job) (carry : Carry) (restarts : Restarts) (opened : IsOpened r jobs) (k : ℕ) (below : k < length r.drives) (none : list_any is_outside (drive_at r k).blocks ≡ false) where
+module _ (r : RingView) (jobs : List Job) (carry : Carry) (restarts : Restarts) (opened : IsOpened r jobs) (k : ℕ)
+    (below : k < length r.drives) (none : list_any is_outside (drive_at r k).blocks ≡ false) where
   rules : blocks_fault [] (drive_at r k).blocks ≡ None
   rules = (ring_drive r k (drive_at r k) opened.valid (drive_got r k below)).blocks
 
   own_inside : (h : List DriveCall) (n : ℕ) → IsAt n (λ b. is_own_outside b ≡ false) (blocks_in (drive_at r k) (annals (drive_at r k) r.rate h))
-  own_inside h n = stays_at more.keep more.allows more.those (drive_at r k) n (λ b. is_own_outside b ≡ false) (own_stays (drive_at r k) rules none n) r.rate h (first_store laws more r jobs carry restarts opened k below).ascending
+  own_inside h n = stays_at (drive_at r k) n (λ b. is_own_outside b ≡ false) (own_stays (drive_at r k) rules none n) r.rate h (first_store r jobs carry restarts opened k below).ascending
 
   pub sets_well : (t : CycleView) (j : List CycleView) → IsRun r jobs carry restarts (t ∷ j) → IsClear (t ∷ j) → SetsWell (view_of r jobs carry restarts k t j) (views_of r jobs carry restarts k j)
-  sets_well t j run clear w is number = ends_so v.commands.rate (with_data 128 w.bytes v.blocks) (none_listed is_outside (with_data 128 w.bytes v.blocks) (ascends more.keep d v.blocks 128 (stood_in v (standing past)) w.bytes stored.0.ascending stored.1 allowed) after)
+  sets_well t j run clear w is number = ends_so v.commands.rate (with_data 128 w.bytes v.blocks) (none_listed is_outside (with_data 128 w.bytes v.blocks) (ascends d v.blocks 128 (stood_in v (standing past)) w.bytes stored.0.ascending stored.1 allowed) after)
     where
       v : View
       v = view_of r jobs carry restarts k t j
@@ -170,20 +176,20 @@ module _ (laws : Laws) (more : MoreLaws) (r : RingView) (jobs : List Job) (carry
       d = drive_at r k
 
       stored : IsStored (drive_at r k) (view_of r jobs carry restarts k t j).blocks
-      stored = stored_in laws more r jobs carry restarts opened t j k below
+      stored = stored_in r jobs carry restarts opened t j k below
 
       allowed : put_fault (find_block 128 (view_of r jobs carry restarts k t j).blocks) (stood_in (view_of r jobs carry restarts k t j) (standing (views_of r jobs carry restarts k j))) w.bytes ≡ None
       allowed = ap (λ (n : ℕ). put_fault (find_block n (view_of r jobs carry restarts k t j).blocks) (stood_in (view_of r jobs carry restarts k t j) (standing (views_of r jobs carry restarts k j))) w.bytes) (sym number)
-          ∙ allowed_in laws more r jobs carry restarts opened k below t j run clear w is
+          ∙ allowed_in r jobs carry restarts opened k below t j run clear w is
 
       late : 3 ≤ t.phase
-      late = let is_three = three_in laws more r jobs carry restarts opened k below t j run clear w is number in omega (arith, is_three)
+      late = let is_three = three_in r jobs carry restarts opened k below t j run clear w is number in omega (arith, is_three)
 
       own : filter is_own_outside (view_of r jobs carry restarts k t j).blocks ≡ []
       own = none_listed is_own_outside (view_of r jobs carry restarts k t j).blocks stored.0.ascending (own_inside (given_mst carry restarts t.sent j k))
 
       unfit : unfit_for_phase_4 (view_of r jobs carry restarts k t j).blocks ≡ []
-      unfit = names_in laws more r jobs carry restarts opened k below t j run clear late ∙ ap (λ (l : List Block). map (λ (b : Block). b.idn) l) own
+      unfit = names_in r jobs carry restarts opened k below t j run clear late ∙ ap (λ (l : List Block). map (λ (b : Block). b.idn) l) own
 
       before : (n : ℕ) → IsAt n (λ b. is_outside b ≡ false) (view_of r jobs carry restarts k t j).blocks
       before n = none_at is_outside n (view_of r jobs carry restarts k t j).blocks (none_any is_outside (view_of r jobs carry restarts k t j).blocks (names_none (view_of r jobs carry restarts k t j).blocks unfit))

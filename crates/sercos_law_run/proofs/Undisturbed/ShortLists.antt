@@ -14,10 +14,8 @@ use Rattle.sercos_block.specs.declared.block.Block.{Block}
 use Rattle.sercos_command.specs.Checks.{is_outside, unfit_for_phase_4, list_bytes}
 use Rattle.sercos_drive.specs.Moments.{blocks_in}
 use Rattle.sercos_drive.specs.Annals.{annals}
-use Rattle.sercos_drive.specs.Laws.{HandedThose}
 use Rattle.sercos_trace.specs.Views.{CycleView}
 use Rattle.sercos_script.specs.Links.{Carry, Restarts}
-use Rattle.sercos_law_run.specs.Start.Kept.{BlocksKeep}
 use Rattle.sercos_law_run.specs.Start.StartUp.{IsStoreOf, kept}
 use Rattle.sercos_law_run.proofs.Start.BlockFinds.{find_store_of, kept_field}
 use Rattle.sercos_law_run.proofs.Start.KeptLemmas.{refuse_alike}
@@ -25,7 +23,6 @@ use Rattle.sercos_law_channel.specs.Pace.Costs.{AreListed}
 use Rattle.sercos_law_run.specs.Journal.Runs.{no_drive, drive_at, given_mst}
 use Rattle.sercos_law_run.proofs.Journal.StationLemmas.{drives_so}
 use Rattle.sercos_law_run.specs.Views.RingViews.{views_of}
-use Rattle.sercos_law_run.proofs.Held.StoreOf.{AllowsWrites}
 use Rattle.sercos_law_run.proofs.Undisturbed.BlockStays.{IsAt, Stays, stays_at}
 use Rattle.sercos_law_run.proofs.Undisturbed.Small.{none_some}
 use Rattle.sercos_law_run.proofs.Start.LimitLemmas.{length_list}
@@ -155,15 +152,16 @@ few_blocks r k valid below = leb-true (length (drive_at r k).blocks) 36 (few_in 
 abbrev pub longest_list : ℕ → ℕ
 longest_list raw = if raw == 22 then 37 else 512
 
-pub lists_short : BlocksKeep → AllowsWrites → HandedThose → (r : RingView) (jobs : List Job) (carry : Carry) (restarts : Restarts) (k : ℕ) → blocks_fault [] (drive_at r k).blocks ≡ None → length (drive_at r k).blocks ≤ 36 → are_ascending (store_of (drive_at r k)) ≡ true
+pub lists_short : (r : RingView) (jobs : List Job) (carry : Carry) (restarts : Restarts) (k : ℕ)
+    → blocks_fault [] (drive_at r k).blocks ≡ None → length (drive_at r k).blocks ≤ 36 → are_ascending (store_of (drive_at r k)) ≡ true
     → (j : List CycleView) → AreListed longest_list (views_of r jobs carry restarts k j)
-lists_short keep allows those r jobs carry restarts k rules few ascending [] = tt
-lists_short keep allows those r jobs carry restarts k rules few ascending (t ∷ j) = (
-  lists_short keep allows those r jobs carry restarts k rules few ascending j,
+lists_short r jobs carry restarts k rules few ascending [] = tt
+lists_short r jobs carry restarts k rules few ascending (t ∷ j) = (
+  lists_short r jobs carry restarts k rules few ascending j,
   λ raw b found list. elim (cases_eq raw 22) [
     | inl same ↦
         let most : longest_list raw ≡ 37 = ap longest_list same in
-        let short = stays_at keep allows those (drive_at r k) 22 (λ (c : Block). length c.value ≤ 74) (short_stays (drive_at r k) rules few) r.rate (given_mst carry restarts t.sent j k) ascending b (subst (λ (n : ℕ). find_block n (blocks_in (drive_at r k) (annals (drive_at r k) r.rate (given_mst carry restarts t.sent j k))) ≡ Some b) same found) in
+        let short = stays_at (drive_at r k) 22 (λ (c : Block). length c.value ≤ 74) (short_stays (drive_at r k) rules few) r.rate (given_mst carry restarts t.sent j k) ascending b (subst (λ (n : ℕ). find_block n (blocks_in (drive_at r k) (annals (drive_at r k) r.rate (given_mst carry restarts t.sent j k))) ≡ Some b) same found) in
         inl (omega (arith, most, short))
     | inr other ↦ let off : (raw == 22) ≡ false = grind (arith, nat_tests, other) in let most : longest_list raw ≡ 512 = ap (λ (x : Bool). if x then 37 else 512) off in inr (omega (arith, most))
   ],

@@ -21,13 +21,14 @@ use Rattle.sercos_seat.specs.Agenda.{wish_given, wishes_from, wishes_given}
 use Rattle.sercos_seat.specs.Agenda as seat
 use Rattle.sercos_seat.specs.Ring.{MemberView, member, no_member, known_of}
 use Rattle.sercos_seat.proofs.Sends.{fields_length}
-use Rattle.sercos_law_run.specs.Start.StartUp.{IsStoreOf, AreAsLong, start_up, Holds}
+use Rattle.sercos_law_run.specs.Start.StartUp.{IsStoreOf, start_up, Holds}
 use Rattle.sercos_law_run.proofs.Start.CheckPasses.{wish_is}
 use Rattle.sercos_timing.specs.Views.{PlanView}
 use Rattle.sercos_law_run.specs.Journal.Runs.{drive_at}
 use Rattle.sercos_law_run.proofs.Views.Members.{members_count}
 use Rattle.sercos_law_run.proofs.Held.Runs.{drive_got}
 use Rattle.sercos_law_run.proofs.Headline.AtLengths.{carried_length}
+use Rattle.sercos_law_run.proofs.Start.Lengths.{are_as_long}
 
 -- what it sends
 pub record Speaks (d : DriveView) (rate : ℕ) (past : List Moment) : Type 0 where
@@ -92,8 +93,9 @@ asked_len r outs k below same =
     ∙ ap (λ (w : WishesView). (wish w k).at_len) same
     ∙ ap (λ (w : Wish). w.at_len) (wish_is r k (drive_at r k) (drive_got r k below))
 
-pub carried_so : AreAsLong → (d : DriveView) (cycle phase control ring_cycle k : ℕ) (plan : PlanView) (blocks : List Block) → blocks_fault [] d.blocks ≡ None → IsStore blocks → IsStoreOf d blocks → Holds blocks (start_up control ring_cycle plan k d.at d.mdt)
+pub carried_so : (d : DriveView) (cycle phase control ring_cycle k : ℕ) (plan : PlanView) (blocks : List Block)
+    → blocks_fault [] d.blocks ≡ None → IsStore blocks → IsStoreOf d blocks → Holds blocks (start_up control ring_cycle plan k d.at d.mdt)
     → 3 ≤ phase → 4 + length (values_in cycle phase blocks) ≡ at_len d
-carried_so as_long d cycle phase control ring_cycle k plan blocks rules store stored_so holds late =
+carried_so d cycle phase control ring_cycle k plan blocks rules store stored_so holds late =
     let three : nat_le 3 phase ≡ true = grind (arith, nat_tests, late) in
-    carried_length cycle phase blocks store three ∙ (as_long d blocks rules stored_so).0 holds.1.1.1.1.1.1.1.1.0
+    carried_length cycle phase blocks store three ∙ (are_as_long d blocks rules stored_so).0 holds.1.1.1.1.1.1.1.1.0

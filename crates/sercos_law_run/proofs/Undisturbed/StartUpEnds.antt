@@ -5,7 +5,7 @@ use Rattle.std.proofs.lemmas.Bool.{cases_eq, false≢true}
 use Rattle.sercos_step.specs.declared.request.Job.{Job}
 use Rattle.sercos_block.specs.Startup.{startup_bound}
 use Rattle.sercos_block.specs.Views.{RingView}
-use Rattle.sercos_law_run.specs.Bounds.Bounds.{slowest, IsStarted}
+use Rattle.sercos_law_run.specs.Bounds.Bounds.{slowest}
 use Rattle.sercos_trace.specs.Views.{CycleView}
 use Rattle.sercos_trace.specs.declared.events.Stop.{Stop}
 use Rattle.sercos_command.specs.Checks.{is_outside}
@@ -15,15 +15,10 @@ use Rattle.sercos_seat.specs.Agenda.{is_ready, reads_count}
 use Rattle.sercos_seat.specs.Ring.{known_of, member, tasks_for}
 use Rattle.sercos_master.specs.Annals.{Past, fall_of, outcomes}
 use Rattle.sercos_script.specs.Links.{Carry, Restarts}
-use Rattle.sercos_law_channel.specs.Handshake.RunLaws.{ComesUp}
-use Rattle.sercos_law_channel.specs.Pace.ChannelCalls.{NoneLate}
 use Rattle.sercos_law_run.specs.Journal.Runs.{drive_at, master_calls, looks_back, IsRun, IsClear}
-use Rattle.sercos_law_run.specs.Agenda.Turns.{WorkInTurn}
 use Rattle.sercos_law_run.specs.Views.RingViews.{behind_mdt}
 use Rattle.sercos_law_run.proofs.Views.Members.{members_count}
 use Rattle.sercos_law_run.specs.Held.Opened.{IsOpened}
-use Rattle.sercos_law_run.proofs.Held.Runs.{Laws}
-use Rattle.sercos_law_run.proofs.Headline.HeadlineRuns.{MoreLaws}
 use Rattle.sercos_law_run.specs.Undisturbed.Ends.{HasBadCheck}
 use Rattle.sercos_law_run.specs.Undisturbed.Undisturbed.{AreUndisturbed}
 use Rattle.sercos_law_run.specs.Undisturbed.EpochStarts.{StartsEpoch}
@@ -37,6 +32,7 @@ use Rattle.sercos_law_run.proofs.Undisturbed.OwnFit.{own_fits}
 use Rattle.sercos_law_run.proofs.Undisturbed.PhaseCounts.{end_kept}
 use Rattle.sercos_law_run.proofs.Undisturbed.PhaseRuns.{next_phase_is}
 use Rattle.sercos_law_run.proofs.Undisturbed.PhasesRise.{late_in}
+use Rattle.sercos_law_channel.proofs.Pace.CallAges.{none_late}
 
 pub inside : (r : RingView) (k : ℕ) → k < length r.drives → k < length (known_of r).drives
 inside r k below = let count = members_count r in omega (arith, count, below)
@@ -47,9 +43,10 @@ ReadyIfEnded = (r : RingView) (jobs : List Job) (carry : Carry) (restarts : Rest
     (k : ℕ) → k < length r.drives → list_any is_outside (drive_at r k).blocks ≡ false →
     reads_count (member (known_of r) k) + 12 < length (outcomes (behind_mdt r jobs carry restarts t.sent j) k) → is_ready (member (known_of r) k) (outcomes (behind_mdt r jobs carry restarts t.sent j) k) ≡ true
 
-module _ (laws : Laws) (more : MoreLaws) (turn : WorkInTurn) (comes_up : (busy : ℕ) → ComesUp busy) (late : (busy : ℕ) → NoneLate busy) (started : IsStarted) (in_two : StopsInTwo) (in_three : StopsInThree) (in_four : NoStopInFour) (ready : ReadyIfEnded)
-    (r : RingView) (jobs : List Job) (carry : Carry) (restarts : Restarts) (opened : IsOpened r jobs) (t : CycleView) (cycles before : List CycleView) (run : IsRun r jobs carry restarts (t ∷ (cycles ++ before)))
-    (clear : IsClear (t ∷ (cycles ++ before))) (starts : StartsEpoch r jobs carry restarts before) (calm : AreUndisturbed r carry restarts (t ∷ cycles) before) where
+module _ (in_two : StopsInTwo) (in_three : StopsInThree) (in_four : NoStopInFour) (ready : ReadyIfEnded) (r : RingView) (jobs : List Job)
+    (carry : Carry) (restarts : Restarts) (opened : IsOpened r jobs) (t : CycleView) (cycles before : List CycleView)
+    (run : IsRun r jobs carry restarts (t ∷ (cycles ++ before))) (clear : IsClear (t ∷ (cycles ++ before)))
+    (starts : StartsEpoch r jobs carry restarts before) (calm : AreUndisturbed r carry restarts (t ∷ cycles) before) where
   abbrev IsEnded : Type 0
   IsEnded = ((t.phase ≡ 4) × ((behind_mdt r jobs carry restarts t.sent (cycles ++ before)).stop ≡ None) × IsRight r)
       ⊎ ((x : Stop) × ((behind_mdt r jobs carry restarts t.sent (cycles ++ before)).stop ≡ Some x)
@@ -60,18 +57,18 @@ module _ (laws : Laws) (more : MoreLaws) (turn : WorkInTurn) (comes_up : (busy :
     four,
     in_four r jobs carry restarts t (cycles ++ before) opened run clear four,
     (
-      fits_in laws more r jobs carry restarts opened t (cycles ++ before) run clear (omega (arith, four)),
-      λ k below. own_fits laws more comes_up r jobs carry restarts opened k below t (cycles ++ before) run clear four,
+      fits_in r jobs carry restarts opened t (cycles ++ before) run clear (omega (arith, four)),
+      λ k below. own_fits r jobs carry restarts opened k below t (cycles ++ before) run clear four,
     ),
   )
 
-  -- it is late enough for phase 2
+  -- it is none_late enough for phase 2
   within : startup_bound r ≤ length cycles → (2 ≤ t.phase) × (t.phase ≤ 4)
   within long =
-      let bound = within_bound started r in
-      let high = late_in laws more comes_up r jobs carry restarts opened cycles before run.0 clear.0 starts calm.0 (never_falls laws more turn comes_up late r jobs carry restarts opened cycles before run.0 clear.0 starts calm.0).stays (omega (arith, bound, long)) in
+      let bound = within_bound r in
+      let high = late_in r jobs carry restarts opened cycles before run.0 clear.0 starts calm.0 (never_falls r jobs carry restarts opened cycles before run.0 clear.0 starts calm.0).stays (omega (arith, bound, long)) in
       let low = phase_low (known_of r) (tasks_for (known_of r) jobs) (master_calls r carry restarts (cycles ++ before)) in
-      let same = next_phase_is laws more comes_up r jobs carry restarts opened t (cycles ++ before) run calm.1 in
+      let same = next_phase_is r jobs carry restarts opened t (cycles ++ before) run calm.1 in
       (omega (arith, high, same), omega (arith, low, same))
 
   start_up_ends : startup_bound r ≤ length cycles → (t.phase ≡ 4) ⊎ (is_some (behind_mdt r jobs carry restarts t.sent (cycles ++ before)).stop ≡ true) → IsEnded
@@ -112,7 +109,7 @@ module _ (laws : Laws) (more : MoreLaws) (turn : WorkInTurn) (comes_up : (busy :
       ∙ ready r jobs carry restarts opened u (rest ++ before) runs clears failed.place failed.there (right.1 failed.place failed.there) (subst (λ (l : List Outcome). reads_count (member (known_of r) failed.place) + 12 < length l) same failed.ended))
     where
       kept : fall_of (known_of r) (behind_mdt r jobs carry restarts u.sent (rest ++ before)) ≡ None
-      kept = (never_falls laws more turn comes_up late r jobs carry restarts opened (u ∷ rest) before runs clears starts calms).stays.1
+      kept = (never_falls r jobs carry restarts opened (u ∷ rest) before runs clears starts calms).stays.1
 
       same : outcomes (looks_back r jobs (master_calls r carry restarts (u ∷ (rest ++ before)))) failed.place ≡ outcomes (behind_mdt r jobs carry restarts u.sent (rest ++ before)) failed.place
       same = ap (λ (p : Past). outcomes p failed.place) (end_kept (known_of r) (behind_mdt r jobs carry restarts u.sent (rest ++ before)) kept)
@@ -124,6 +121,6 @@ module _ (laws : Laws) (more : MoreLaws) (turn : WorkInTurn) (comes_up : (busy :
   rises_if_right long right (inr (inr failed)) = by cycles refl
     where
       by : (l : List CycleView) → cycles ≡ l → t.phase ≡ 4
-      by [] empty = let bound = within_bound started r in let none = ap (λ (l : List CycleView). length l) empty in absurd (omega (arith, bound, long, none))
+      by [] empty = let bound = within_bound r in let none = ap (λ (l : List CycleView). length l) empty in absurd (omega (arith, bound, long, none))
       by (u ∷ rest) is = absurd (ready_before right u rest (subst (λ (l : List CycleView). IsRun r jobs carry restarts (l ++ before)) is run.0) (subst (λ (l : List CycleView). IsClear (l ++ before)) is clear.0)
           (subst (λ (l : List CycleView). AreUndisturbed r carry restarts l before) is calm.0) (subst (λ (l : List CycleView). HasBadCheck r (looks_back r jobs (master_calls r carry restarts (l ++ before)))) is failed))

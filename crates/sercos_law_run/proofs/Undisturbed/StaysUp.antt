@@ -19,15 +19,15 @@ use Rattle.sercos_script.specs.Links.{Carry, Restarts}
 use Rattle.sercos_law_channel.specs.Handshake.Views.{Heard, View}
 use Rattle.sercos_law_channel.specs.Handshake.Epochs.{command, with_heard, with_begun, unless_restart, epoch_begun, begun_in}
 use Rattle.sercos_law_channel.specs.Handshake.Runs.{IsRun as IsViewRun}
-use Rattle.sercos_law_channel.specs.Handshake.RunLaws.{BeginsEmpty, ComesUp}
+use Rattle.sercos_law_channel.specs.Handshake.RunLaws.{BeginsEmpty}
 use Rattle.sercos_law_channel.specs.Pace.ChannelCalls.{calls_in, channel_calls}
 use Rattle.sercos_law_run.specs.Journal.Runs.{drive_at, master_calls, middle, looks_back, IsNext, IsRun, IsClear}
 use Rattle.sercos_law_run.specs.Views.RingViews.{at_start, behind_ats, behind_mdt, after_mst, heard_last, view_of, views_of}
 use Rattle.sercos_law_run.proofs.Views.MasterSame.{HasHeard, Nothing, One, turn_mdt}
 use Rattle.sercos_law_run.proofs.Views.Members.{members_count}
 use Rattle.sercos_law_run.specs.Held.Opened.{IsOpened}
-use Rattle.sercos_law_run.proofs.Held.Runs.{Laws, kept_at_mst, begun_then}
-use Rattle.sercos_law_run.proofs.Headline.HeadlineRuns.{MoreLaws, first_store, stored_in, spelled_in, all_stand}
+use Rattle.sercos_law_run.proofs.Held.Runs.{kept_at_mst, begun_then}
+use Rattle.sercos_law_run.proofs.Headline.HeadlineRuns.{first_store, stored_in, spelled_in, all_stand}
 use Rattle.sercos_law_run.specs.Undisturbed.Undisturbed.{IsUndisturbed, AreUndisturbed}
 use Rattle.sercos_law_run.specs.Undisturbed.EpochStarts.{StartsEpoch}
 use Rattle.sercos_law_run.proofs.Undisturbed.ChannelsKept.{ats_leave, unheard_first, calls_now}
@@ -36,6 +36,8 @@ use Rattle.sercos_law_run.proofs.Undisturbed.Identified.{phase_comes, mst_whole,
 use Rattle.sercos_law_run.proofs.Undisturbed.NoFalls.{heard_mdt, has_risen, no_fall}
 use Rattle.sercos_law_run.proofs.Views.ViewRuns.{no_answer}
 use Rattle.sercos_law_run.proofs.Undisturbed.Addressed.{place_so}
+use Rattle.sercos_law_channel.proofs.Cited.{begins_empty}
+use Rattle.sercos_law_channel.proofs.Handshake.RunFacts.{comes_up}
 
 -- what is heard on a channel is heard of the drive
 heard_of : (s : Known) (k : ℕ) (such : List ℕ → Type 0) (c : List Call) (q : Past) → HasHeard s k such c q → heard_last c ≡ None → is_some (heard_last (q.calls k)) ≡ true → q.now.heard k ≡ true
@@ -119,7 +121,7 @@ late_of n is = grind (arith, nat_tests, is)
 early_of : (n : ℕ) → nat_le 2 n ≡ false → n ≤ 1
 early_of n is = grind (arith, nat_tests, is)
 
-module _ (laws : Laws) (more : MoreLaws) (comes_up : (busy : ℕ) → ComesUp busy) (r : RingView) (jobs : List Job) (carry : Carry) (restarts : Restarts) (opened : IsOpened r jobs) where
+module _ (r : RingView) (jobs : List Job) (carry : Carry) (restarts : Restarts) (opened : IsOpened r jobs) where
   -- what a cycle's ATs and its MDT leave of the turn
   pub phase_now : (t : CycleView) (j : List CycleView) → IsNext r jobs carry restarts t j → (behind_mdt r jobs carry restarts t.sent j).now.phase ≡ t.phase
   phase_now t j next = (turn_mdt (known_of r) (behind_ats r jobs carry restarts t.sent j)).phase_is ∙ (ats_leave r jobs carry restarts t j 0).phase_is ∙ sym next.phase
@@ -129,37 +131,39 @@ module _ (laws : Laws) (more : MoreLaws) (comes_up : (busy : ℕ) → ComesUp bu
 
   pub whole_now : (t : CycleView) (j : List CycleView) → IsNext r jobs carry restarts t j → IsUndisturbed r carry restarts t j → (behind_mdt r jobs carry restarts t.sent j).now.whole ≡ true
   whole_now t j next calm = (turn_mdt (known_of r) (behind_ats r jobs carry restarts t.sent j)).whole_is ∙ (ats_leave r jobs carry restarts t j 0).whole_is
-      ∙ mst_whole laws more r jobs carry restarts opened t j next (calm_in r carry restarts t j calm)
+      ∙ mst_whole r jobs carry restarts opened t j next (calm_in r carry restarts t j calm)
 
   -- what a channel heard in a cycle was heard of the drive
   pub heard_then : (t : CycleView) (j : List CycleView) → IsRun r jobs carry restarts (t ∷ j) → IsClear (t ∷ j) → (k : ℕ) → k < length r.drives → is_some (view_of r jobs carry restarts k t j).heard ≡ true
       → (behind_ats r jobs carry restarts t.sent j).now.heard k ≡ true
   heard_then t j run clear k below some = heard_of (known_of r) k (λ content. Unit {0}) ((at_start r jobs carry restarts j).calls k) (behind_ats r jobs carry restarts t.sent j)
-      (ats_leave r jobs carry restarts t j k).has (unheard_first laws more r jobs carry restarts opened j run.0 clear.0 k below) some
+      (ats_leave r jobs carry restarts t j k).has (unheard_first r jobs carry restarts opened j run.0 clear.0 k below) some
 
   -- in phases 0 and 1 a drive stands in the phase that is commanded
   pub stands_so : (t : CycleView) (j : List CycleView) → IsRun r jobs carry restarts (t ∷ j) → IsClear (t ∷ j) → IsUndisturbed r carry restarts t j → t.phase ≤ 1 → (k : ℕ) → k < length r.drives
       → phase_in (after_mst r carry restarts t.sent j k) ≡ t.phase
   stands_so t j (run, next) (before, clear) calm early k below =
-      (kept_at_mst laws r jobs carry restarts opened (first_store laws more r jobs carry restarts opened) t j next clear (spelled_in laws more r jobs carry restarts opened t j next)
-      (stored_in laws more r jobs carry restarts opened t j) (all_stand laws more r jobs carry restarts opened j run before) k below).ended
-      ∙ comes_up (drive_at r k).busy (view_of r jobs carry restarts k t j) (views_of r jobs carry restarts k j) (all_stand laws more r jobs carry restarts opened (t ∷ j) (run, next) (before, clear) k below).sees.run early
-      (ap (λ (o : Option ℕ). is_some o) (phase_comes laws more r jobs carry restarts opened t j next (calm_in r carry restarts t j calm) k below))
+      (kept_at_mst r jobs carry restarts opened (first_store r jobs carry restarts opened) t j next clear
+      (spelled_in r jobs carry restarts opened t j next) (stored_in r jobs carry restarts opened t j)
+      (all_stand r jobs carry restarts opened j run before) k below).ended
+      ∙ comes_up (drive_at r k).busy (view_of r jobs carry restarts k t j) (views_of r jobs carry restarts k j) (all_stand r jobs carry restarts opened (t ∷ j) (run, next) (before, clear) k below).sees.run early
+      (ap (λ (o : Option ℕ). is_some o) (phase_comes r jobs carry restarts opened t j next (calm_in r carry restarts t j calm) k below))
 
   -- nothing is begun in them
   pub idle_then : (t : CycleView) (j : List CycleView) → IsRun r jobs carry restarts (t ∷ j) → IsClear (t ∷ j) → t.phase ≤ 1 → (k : ℕ) → k < length r.drives → cycles_open ((behind_mdt r jobs carry restarts t.sent j).calls k) ≡ 0
   idle_then t j (run, next) (before, clear) early k below =
       let none : begun_by ((behind_mdt r jobs carry restarts t.sent j).calls k) ≡ [] =
-      begun_then laws r jobs carry restarts opened (first_store laws more r jobs carry restarts opened) t j next clear (spelled_in laws more r jobs carry restarts opened t j next)
-      (stored_in laws more r jobs carry restarts opened t j) (all_stand laws more r jobs carry restarts opened j run before) k below
-      ∙ begun_none (drive_at r k).busy (laws.empty (drive_at r k).busy) (view_of r jobs carry restarts k t j) (views_of r jobs carry restarts k j) (all_stand laws more r jobs carry restarts opened (t ∷ j) (run, next) (before, clear) k below).sees.run early in
+      begun_then r jobs carry restarts opened (first_store r jobs carry restarts opened) t j next clear
+      (spelled_in r jobs carry restarts opened t j next) (stored_in r jobs carry restarts opened t j)
+      (all_stand r jobs carry restarts opened j run before) k below
+      ∙ begun_none (drive_at r k).busy (begins_empty (drive_at r k).busy) (view_of r jobs carry restarts k t j) (views_of r jobs carry restarts k j) (all_stand r jobs carry restarts opened (t ∷ j) (run, next) (before, clear) k below).sees.run early in
       ap (λ (o : Option ℕ). min (unwrap_or o 0) 64) (no_age ((behind_mdt r jobs carry restarts t.sent j).calls k) none)
 
   -- a drive that is addressed in phase 1 was not addressed in the cycle before
   pub addressed_once : (t before : CycleView) (j : List CycleView) → IsRun r jobs carry restarts (t ∷ before ∷ j) → IsClear (t ∷ before ∷ j) → IsUndisturbed r carry restarts t (before ∷ j) → IsUndisturbed r carry restarts before j
       → t.phase ≡ 1 → (k : ℕ) → k < length r.drives → is_place k (behind_mdt r jobs carry restarts t.sent (before ∷ j)).now.addressed ≡ true → count_addressed k (behind_mdt r jobs carry restarts t.sent (before ∷ j)).turns ≡ 0
   addressed_once t before j run clear now_calm then_calm one k below to =
-      ap (λ (l : List Turn). count_addressed k l) (turns_now t (before ∷ j) ∙ ap (λ (x : Past). x.turns) (goes_so laws more r jobs carry restarts opened t before j run now_calm then_calm (omega (arith, one))))
+      ap (λ (l : List Turn). count_addressed k l) (turns_now t (before ∷ j) ∙ ap (λ (x : Past). x.turns) (goes_so r jobs carry restarts opened t before j run now_calm then_calm (omega (arith, one))))
       ∙ by ((behind_mdt r jobs carry restarts before.sent j).now.phase == 1) (is_place k (behind_mdt r jobs carry restarts before.sent j).now.addressed) refl refl
     where
       unheard : (behind_ats r jobs carry restarts t.sent (before ∷ j)).now.heard k ≡ false
@@ -170,7 +174,8 @@ module _ (laws : Laws) (more : MoreLaws) (comes_up : (busy : ℕ) → ComesUp bu
       by true true was here =
           let was_one : (behind_mdt r jobs carry restarts before.sent j).now.phase ≡ 1 = eq_one (behind_mdt r jobs carry restarts before.sent j).now.phase was in
           let first : before.phase ≡ 1 = sym (phase_now before j run.0.1) ∙ was_one in
-          let heard = heard_next laws more r jobs carry restarts opened t before j run now_calm then_calm k below one was_one (place_so k (behind_mdt r jobs carry restarts before.sent j).now.addressed here)
+          let heard = heard_next r jobs carry restarts opened t before j run now_calm then_calm k below one was_one
+          (place_so k (behind_mdt r jobs carry restarts before.sent j).now.addressed here)
           (stands_so before j run.0 clear.0 then_calm (omega (arith, first)) k below ∙ first) in
           absurd (false≢true (sym unheard ∙ heard))
       by true false was here = refl
@@ -195,13 +200,13 @@ module _ (laws : Laws) (more : MoreLaws) (comes_up : (busy : ℕ) → ComesUp bu
       inside k below = let count = members_count r in omega (arith, below, count)
 
       short : (k : ℕ) → k < length r.drives → (late : Bool) → nat_le 2 t.phase ≡ late → cycles_open ((behind_mdt r jobs carry restarts t.sent (cycles ++ before)).calls k) ≤ 63
-      short k below true late = subst (λ (c : List Call). cycles_open c ≤ 63) (calls_now laws more r jobs carry restarts opened t (cycles ++ before) run clear k below) (answers (late_of t.phase late) k below)
+      short k below true late = subst (λ (c : List Call). cycles_open c ≤ 63) (calls_now r jobs carry restarts opened t (cycles ++ before) run clear k below) (answers (late_of t.phase late) k below)
       short k below false late = let none = idle_then t (cycles ++ before) run clear (early_of t.phase late) k below in omega (arith, none)
 
       once : (cs : List CycleView) → IsRun r jobs carry restarts (t ∷ (cs ++ before)) → IsClear (t ∷ (cs ++ before)) → AreUndisturbed r carry restarts cs before → IsUndisturbed r carry restarts t (cs ++ before) → t.phase ≡ 1
           → (k : ℕ) → k < length r.drives → is_place k (behind_mdt r jobs carry restarts t.sent (cs ++ before)).now.addressed ≡ true → count_addressed k (behind_mdt r jobs carry restarts t.sent (cs ++ before)).turns ≡ 0
       once [] runs clears calms calm_now one k below to =
-          let same : at_start r jobs carry restarts before ≡ looks_back r jobs (master_calls r carry restarts before) = starts_so laws more r jobs carry restarts opened t before runs.1 (calm_in r carry restarts t before calm_now) in
+          let same : at_start r jobs carry restarts before ≡ looks_back r jobs (master_calls r carry restarts before) = starts_so r jobs carry restarts opened t before runs.1 (calm_in r carry restarts t before calm_now) in
           let zero_is : t.phase ≡ 0 = runs.1.phase ∙ ap (λ (x : Past). x.now.phase) same ∙ starts in
           absurd (omega (arith, zero_is, one))
       once (c ∷ cs) runs clears calms calm_now one k below to = addressed_once t c (cs ++ before) runs clears calm_now calms.1 one k below to

@@ -24,9 +24,8 @@ use Rattle.sercos_law_run.specs.Views.RingViews.{at_start, behind_ats, behind_md
 use Rattle.sercos_law_run.proofs.Views.MasterSame.{begun_cycle}
 use Rattle.sercos_law_run.proofs.Views.ViewRuns.{started}
 use Rattle.sercos_law_run.specs.Held.Opened.{IsOpened}
-use Rattle.sercos_law_run.proofs.Held.Runs.{Laws}
 use Rattle.sercos_law_run.specs.Headline.Stops.{StopsRight}
-use Rattle.sercos_law_run.proofs.Headline.HeadlineRuns.{MoreLaws, keeps_all}
+use Rattle.sercos_law_run.proofs.Headline.HeadlineRuns.{keeps_all}
 use Rattle.sercos_law_run.specs.Undisturbed.WholeRuns.{HasTold}
 use Rattle.sercos_law_run.proofs.Undisturbed.StopStays.{ats_stop, mdt_stop, stop_after}
 use Rattle.sercos_law_run.proofs.Undisturbed.Small.{none_some}
@@ -116,14 +115,15 @@ module _ (r : RingView) (jobs : List Job) (carry : Carry) (restarts : Restarts) 
   stop_told_in t j x run is = stop_at t j x (HasTold x j) run.1 (at_end j x run.0) is
 
 -- What is told is right.
-told_right : (laws : Laws) (more : MoreLaws) (r : RingView) (jobs : List Job) (carry : Carry) (restarts : Restarts) → IsOpened r jobs → (j : List CycleView) (x : Stop) → IsRun r jobs carry restarts j → IsClear j → HasTold x j → StopsRight r (Some x)
-told_right laws more r jobs carry restarts opened [] x run clear told = absurd told
-told_right laws more r jobs carry restarts opened (t ∷ j) x run clear told = by told (told_right laws more r jobs carry restarts opened j x run.0 clear.0)
+told_right : (r : RingView) (jobs : List Job) (carry : Carry) (restarts : Restarts) → IsOpened r jobs → (j : List CycleView) (x : Stop) → IsRun r jobs carry restarts j → IsClear j → HasTold x j → StopsRight r (Some x)
+told_right r jobs carry restarts opened [] x run clear told = absurd told
+told_right r jobs carry restarts opened (t ∷ j) x run clear told = by told (told_right r jobs carry restarts opened j x run.0 clear.0)
   where
     by : (t.events.stop ≡ Some x) ⊎ HasTold x j → (HasTold x j → StopsRight r (Some x)) → StopsRight r (Some x)
-    by (inl here) rest = subst (StopsRight r) here (keeps_all laws more r jobs carry restarts opened t j run clear).stops
+    by (inl here) rest = subst (StopsRight r) here (keeps_all r jobs carry restarts opened t j run clear).stops
     by (inr there) rest = rest there
 
-pub stops_right : (laws : Laws) (more : MoreLaws) (r : RingView) (jobs : List Job) (carry : Carry) (restarts : Restarts) → IsOpened r jobs → (t : CycleView) (j : List CycleView) (x : Stop) → IsRun r jobs carry restarts (t ∷ j) → IsClear (t ∷ j) →
-    (behind_mdt r jobs carry restarts t.sent j).stop ≡ Some x → StopsRight r (Some x)
-stops_right laws more r jobs carry restarts opened t j x run clear is = told_right laws more r jobs carry restarts opened (t ∷ j) x run clear (stop_told_in r jobs carry restarts t j x run is)
+pub stops_right : (r : RingView) (jobs : List Job) (carry : Carry) (restarts : Restarts) → IsOpened r jobs
+    → (t : CycleView) (j : List CycleView) (x : Stop) → IsRun r jobs carry restarts (t ∷ j) → IsClear (t ∷ j)
+    → (behind_mdt r jobs carry restarts t.sent j).stop ≡ Some x → StopsRight r (Some x)
+stops_right r jobs carry restarts opened t j x run clear is = told_right r jobs carry restarts opened (t ∷ j) x run clear (stop_told_in r jobs carry restarts t j x run is)

@@ -22,12 +22,6 @@ use Rattle.sercos_seat.proofs.Queues.{ready_long}
 use Rattle.sercos_master.specs.Annals.{Past, Call, Restart, outcomes, is_idle, fall_of, goes_on, next_phase, new_epoch, still_waiting}
 use Rattle.sercos_master.specs.Reports.{broken}
 use Rattle.sercos_script.specs.Links.{Carry, Restarts}
-use Rattle.sercos_law_channel.specs.Handshake.RunLaws.{ComesUp}
-use Rattle.sercos_law_channel.specs.Pace.Ages.{OpensAlways}
-use Rattle.sercos_law_channel.specs.Pace.ChannelCalls.{NoneLate}
-use Rattle.sercos_law_channel.specs.Pace.Costs.{ComesTimed}
-use Rattle.sercos_law_channel.specs.Pace.Passages.{StandsThroughout, HearsThroughout, RecoversInTime}
-use Rattle.sercos_law_channel.specs.Pace.StartCosts.{RecoversSince}
 use Rattle.sercos_law_run.specs.Journal.Arrivals.{heard, passage}
 use Rattle.sercos_law_run.specs.Journal.Records.{mst_in, ats_in}
 use Rattle.sercos_law_run.specs.Journal.Runs.{drive_at, station_of, with_at, at_calls, own_mst, begins, master_calls, looks_back, middle, IsRun, IsClear}
@@ -35,12 +29,10 @@ use Rattle.sercos_law_run.specs.Agenda.Channels.{Channel, channel_at}
 use Rattle.sercos_law_run.specs.Agenda.Events.{HasOutcome, HasReport}
 use Rattle.sercos_law_run.specs.Agenda.Reported.{AreNumbered, told, told_at_end, with_number, after_told, still_to_tell, task_numbers}
 use Rattle.sercos_law_run.specs.Agenda.Tasks.{IsTask, OfReads, OfWrites, Checks3, Lists3, Checks4, Lists4, OfWaiting, AreBegunTasks}
-use Rattle.sercos_law_run.specs.Agenda.Turns.{WorkInTurn, WorksInFour}
 use Rattle.sercos_law_run.proofs.Agenda.TaskRuns.{all_ended}
 use Rattle.sercos_law_run.specs.Views.RingViews.{behind_mdt}
 use Rattle.sercos_law_run.specs.Held.Opened.{IsOpened}
-use Rattle.sercos_law_run.proofs.Held.Runs.{Laws}
-use Rattle.sercos_law_run.proofs.Headline.HeadlineRuns.{MoreLaws, keeps_all}
+use Rattle.sercos_law_run.proofs.Headline.HeadlineRuns.{keeps_all}
 use Rattle.sercos_law_run.proofs.Headline.OnceRuns.{restarts_so}
 use Rattle.sercos_law_run.specs.Undisturbed.Ends.{ComesToPhaseFour}
 use Rattle.sercos_law_run.specs.Undisturbed.EpochStarts.{StartsEpoch}
@@ -55,9 +47,11 @@ use Rattle.sercos_law_run.proofs.Undisturbed.InFour.{counted, four_since, number
 use Rattle.sercos_law_run.proofs.Undisturbed.OneRequest.{room}
 use Rattle.sercos_law_run.proofs.Undisturbed.PhaseCounts.{end_kept}
 use Rattle.sercos_law_run.proofs.Undisturbed.PhaseZero.{in_zero}
-use Rattle.sercos_law_run.proofs.Undisturbed.RefusedRuns.{SaysShape}
 use Rattle.sercos_law_run.proofs.Undisturbed.Small.{first_is, never_both}
 use Rattle.sercos_law_run.proofs.Undisturbed.StartUpEnds.{inside}
+use Rattle.sercos_law_channel.proofs.Pace.WholeCycles.{recovers_in_time}
+use Rattle.sercos_law_run.proofs.Agenda.Requests.{are_requests}
+use Rattle.sercos_law_run.proofs.Cited.{begins_tasks, told_in_order}
 
 -- NUMBERS that were told
 abbrev pub AllTold : List CycleView → List (Option ℕ) → Type 0
@@ -165,7 +159,8 @@ quiet_since r carry restarts (t ∷ cycles) before calm = (
       (cycles ++ before) calm.1).stays 0 (omega arith),
 )
 
-module _ (laws : Laws) (more : MoreLaws) (r : RingView) (jobs : List Job) (carry : Carry) (restarts : Restarts) (opened : IsOpened r jobs) (k : ℕ) (below : k < length r.drives) where
+module _ (r : RingView) (jobs : List Job) (carry : Carry) (restarts : Restarts) (opened : IsOpened r jobs) (k : ℕ)
+    (below : k < length r.drives) where
   abbrev told_by : List CycleView → List Report
   told_by j = told (known_of r) (tasks_for (known_of r) jobs) k (master_calls r carry restarts j)
 
@@ -194,7 +189,7 @@ module _ (laws : Laws) (more : MoreLaws) (r : RingView) (jobs : List Job) (carry
       ∙ ap (λ (b : Bool). told (known_of r) (tasks_for (known_of r) jobs) k (if b then Restart ∷ master_calls r carry restarts j else master_calls r carry restarts j)) quiet)
 
   in_order : (j : List CycleView) → after_told (told_by j) (left j) ≡ task_numbers (tasks_for (known_of r) jobs k)
-  in_order j = more.in_order (known_of r) (tasks_for (known_of r) jobs) (master_calls r carry restarts j) k (more.requests (known_of r) jobs k).1 (inside r k below) (restarts_so r carry restarts j)
+  in_order j = told_in_order (known_of r) (tasks_for (known_of r) jobs) (master_calls r carry restarts j) k (are_requests (known_of r) jobs k).1 (inside r k below) (restarts_so r carry restarts j)
 
   left_next : (t : CycleView) (j : List CycleView) → restarts (length j) 0 ≡ false → numbers_told (falls_in t j) ((now_in t j).now.report k) (broken (now_in t j) k) ++ left (t ∷ j) ≡ left j
   left_next t j quiet = same_after (told_by j) _ _
@@ -202,7 +197,7 @@ module _ (laws : Laws) (more : MoreLaws) (r : RingView) (jobs : List Job) (carry
 
   told_in : (t : CycleView) (j : List CycleView) → IsRun r jobs carry restarts (t ∷ j) → IsClear (t ∷ j) → (x : Report) → HasReport (told_at_end (falls_in t j) ((now_in t j).now.report k) (broken (now_in t j) k) []) x.number x.outcome
       → HasOutcome t.events.outcomes x.number x.outcome
-  told_in t j run clear x has = ((keeps_all laws more r jobs carry restarts opened t j run clear).reported.events x.number x.outcome).1 (inr (k, inside r k below, has))
+  told_in t j run clear x has = ((keeps_all r jobs carry restarts opened t j run clear).reported.events x.number x.outcome).1 (inr (k, inside r k below, has))
 
   -- in phase 0 of an epoch all that wait are left
   none_reported : (before : List CycleView) → (looks_back r jobs (master_calls r carry restarts before)).now.report k ≡ None
@@ -219,7 +214,7 @@ module _ (laws : Laws) (more : MoreLaws) (r : RingView) (jobs : List Job) (carry
       let tasks : (looks_back r jobs (master_calls r carry restarts before)).tasks k ≡ [] = (in_zero r jobs carry restarts before starts).tasks k in
       let begun : begun_by ((looks_back r jobs (master_calls r carry restarts before)).calls k) ≡ [] =
       none_of (known_of r) k _ _ _ (begun_by ((looks_back r jobs (master_calls r carry restarts before)).calls k)) ((looks_back r jobs (master_calls r carry restarts before)).tasks k) tasks
-      (laws.tasks (known_of r) (tasks_for (known_of r) jobs) (master_calls r carry restarts before) k (inside r k below)) in
+      (begins_tasks (known_of r) (tasks_for (known_of r) jobs) (master_calls r carry restarts before) k (inside r k below)) in
       all_left (channel_at (looks_back r jobs (master_calls r carry restarts before)) k) (none_reported before) (ap open_in begun) tasks
 
   -- THE REQUESTS THAT WERE LEFT: those that were told in these cycles, and then those that are left still; regardless of falls, if the
@@ -278,17 +273,16 @@ module _ (laws : Laws) (more : MoreLaws) (r : RingView) (jobs : List Job) (carry
           let least = few rest.0 (omega (arith, count)) in omega (arith, least, count, all, parts, numbers)
 
   -- HOW MANY ARE LEFT after a cycle of phase 4
-  module _ (comes_up : (busy : ℕ) → ComesUp busy) (works : WorksInFour) (t : CycleView) (j : List CycleView)
-      (run : IsRun r jobs carry restarts (t ∷ j)) (clear : IsClear (t ∷ j)) (on : IsGoing r jobs carry restarts t j)
-      (four : t.phase ≡ 4) where
+  module _ (t : CycleView) (j : List CycleView) (run : IsRun r jobs carry restarts (t ∷ j)) (clear : IsClear (t ∷ j))
+      (on : IsGoing r jobs carry restarts t j) (four : t.phase ≡ 4) where
     abbrev now : Past
     now = behind_mdt r jobs carry restarts t.sent j
 
     begun_tasks : AreBegunTasks (known_of r) k now.plan (now.waiting k) now.now.phase (begun_by (now.calls k)) (now.tasks k)
-    begun_tasks = laws.tasks (known_of r) (tasks_for (known_of r) jobs) (middle r carry restarts t.sent j) k (inside r k below)
+    begun_tasks = begins_tasks (known_of r) (tasks_for (known_of r) jobs) (middle r carry restarts t.sent j) k (inside r k below)
 
     waits_numbered : AreNumbered (now.waiting k)
-    waits_numbered = numbered laws more comes_up works r jobs carry restarts opened k below t j run clear on four
+    waits_numbered = numbered r jobs carry restarts opened k below t j run clear on four
 
     with_few : (o : Option Report) (numbers : List (Option ℕ)) → length (with_number o numbers) ≤ suc (length numbers)
     with_few None numbers = omega arith
@@ -303,22 +297,22 @@ module _ (laws : Laws) (more : MoreLaws) (r : RingView) (jobs : List Job) (carry
             → length (with_number (if idle then None else broken_number (number_in (now.tasks k))) (task_numbers (drop (count_requests (now.tasks k)) (now.waiting k)))) + n ≤ length (now.waiting k)
         by true is =
             let same = all_ended (known_of r) k has_next now.plan (now.waiting k) now.now.phase (begun_by (now.calls k)) (now.tasks k) begun_tasks is in
-            let count = counted laws more comes_up works r jobs carry restarts opened k below t j run clear on four in
+            let count = counted r jobs carry restarts opened k below t j run clear on four in
             let rest = dropped (now.waiting k) n (count_requests (now.tasks k)) (omega (arith, same, count, ended)) low in
             let long = numbers_long (drop (count_requests (now.tasks k)) (now.waiting k)) in
             omega (arith, rest, long)
         by false is =
             let newest = newest_waits (known_of r) k now.plan (now.waiting k) waits_numbered now.now.phase (begun_by (now.calls k)) (now.tasks k) begun_tasks is
-            (ready_now laws more comes_up works r jobs carry restarts opened k below t j run clear on four) (omega (arith, ended)) in
+            (ready_now r jobs carry restarts opened k below t j run clear on four) (omega (arith, ended)) in
             let one = newest.0 in let at = newest.1.1 in let there = newest.1.2 in
-            let count = counted laws more comes_up works r jobs carry restarts opened k below t j run clear on four in
+            let count = counted r jobs carry restarts opened k below t j run clear on four in
             let rest = dropped (now.waiting k) (suc n) (count_requests (now.tasks k)) (omega (arith, one, at, count, ended)) (omega (arith, at, there, ended)) in
             let long = numbers_long (drop (count_requests (now.tasks k)) (now.waiting k)) in
             let most = with_few (broken_number (number_in (now.tasks k))) (task_numbers (drop (count_requests (now.tasks k)) (now.waiting k))) in
             omega (arith, rest, long, most)
 
     pub ended_now : reads_count (member (known_of r) k) + 13 ≤ length (outcomes now k)
-    ended_now = let many = ready_long (member (known_of r) k) (outcomes now k) (ready_now laws more comes_up works r jobs carry restarts opened k below t j run clear on four) in omega (arith, many)
+    ended_now = let many = ready_long (member (known_of r) k) (outcomes now k) (ready_now r jobs carry restarts opened k below t j run clear on four) in omega (arith, many)
 
     pub left_few : (n : ℕ) → reads_count (member (known_of r) k) + (13 + n) ≤ length (outcomes now k) → n ≤ length (now.waiting k) → length (left (t ∷ j)) + n ≤ length (now.waiting k)
     left_few n ended low = subst (λ (p : Past). length (still_to_tell (channel_at p k)) + n ≤ length (now.waiting k)) (sym (end_kept (known_of r) now on.stays)) (few_left n ended low)
@@ -337,15 +331,15 @@ module _ (laws : Laws) (more : MoreLaws) (r : RingView) (jobs : List Job) (carry
             ≤ length (with_number (if idle then None else broken_number (number_in (now.tasks k))) (task_numbers (drop (count_requests (now.tasks k)) (now.waiting k)))) + length (outcomes now k)
         by true is =
             let same = all_ended (known_of r) k has_next now.plan (now.waiting k) now.now.phase (begun_by (now.calls k)) (now.tasks k) begun_tasks is in
-            let count = counted laws more comes_up works r jobs carry restarts opened k below t j run clear on four in
+            let count = counted r jobs carry restarts opened k below t j run clear on four in
             let rest = kept_most (count_requests (now.tasks k)) (now.waiting k) in
             let long = numbers_long (drop (count_requests (now.tasks k)) (now.waiting k)) in
             omega (arith, same, count, rest, long)
         by false is =
             let newest = newest_waits (known_of r) k now.plan (now.waiting k) waits_numbered now.now.phase (begun_by (now.calls k)) (now.tasks k) begun_tasks is
-            (ready_now laws more comes_up works r jobs carry restarts opened k below t j run clear on four) ended_now in
+            (ready_now r jobs carry restarts opened k below t j run clear on four) ended_now in
             let one = newest.0 in
-            let count = counted laws more comes_up works r jobs carry restarts opened k below t j run clear on four in
+            let count = counted r jobs carry restarts opened k below t j run clear on four in
             let rest = kept_most (count_requests (now.tasks k)) (now.waiting k) in
             let long = numbers_long (drop (count_requests (now.tasks k)) (now.waiting k)) in
             let all = with_one (number_in (now.tasks k)) (task_numbers (drop (count_requests (now.tasks k)) (now.waiting k))) newest.2 in
@@ -355,15 +349,13 @@ module _ (laws : Laws) (more : MoreLaws) (r : RingView) (jobs : List Job) (carry
     left_many = subst (λ (p : Past). length (now.waiting k) + (reads_count (member (known_of r) k) + 13) ≤ length (still_to_tell (channel_at p k)) + length (outcomes now k)) (sym (end_kept (known_of r) now on.stays)) many_left
 
 -- HOW MANY ARE LEFT so late: i + 1 fewer than after a cycle of phase 4, or none, if no request lasts longer.
-module _ (laws : Laws) (more : MoreLaws) (comes_up : (busy : ℕ) → ComesUp busy) (works : WorksInFour)
-    (r : RingView) (jobs : List Job) (carry : Carry) (restarts : Restarts) (opened : IsOpened r jobs) (k : ℕ) (below : k < length r.drives)
-    (P : CycleView → List CycleView → Type 0) (goes : (t : CycleView) (j : List CycleView) → P t j
-    → IsGoing r jobs carry restarts t j) (lasts : LastsShort r jobs carry restarts k P)
+module _ (r : RingView) (jobs : List Job) (carry : Carry) (restarts : Restarts) (opened : IsOpened r jobs) (k : ℕ)
+    (below : k < length r.drives) (P : CycleView → List CycleView → Type 0)
+    (goes : (t : CycleView) (j : List CycleView) → P t j → IsGoing r jobs carry restarts t j) (lasts : LastsShort r jobs carry restarts k P)
     (no_stop : NoStopInFour) (t : CycleView) (cycles : List CycleView) (one : CycleView) (old : List CycleView)
-    (run : IsRun r jobs carry restarts (t ∷ (cycles ++ one ∷ old))) (clear : IsClear (t ∷ (cycles ++ one ∷ old))) (those : AreAll P
-    (t ∷ cycles) (one ∷ old))
-    (one_is : P one old) (one_four : one.phase ≡ 4) (four : t.phase ≡ 4) (i : ℕ) (long : suc i * request_cycles r k
-    ≤ suc (length cycles)) where
+    (run : IsRun r jobs carry restarts (t ∷ (cycles ++ one ∷ old))) (clear : IsClear (t ∷ (cycles ++ one ∷ old)))
+    (those : AreAll P (t ∷ cycles) (one ∷ old)) (one_is : P one old) (one_four : one.phase ≡ 4) (four : t.phase ≡ 4) (i : ℕ)
+    (long : suc i * request_cycles r k ≤ suc (length cycles)) where
   rest_run : IsRun r jobs carry restarts (one ∷ old) × IsClear (one ∷ old)
   rest_run = run_rest r jobs carry restarts (t ∷ cycles) (one ∷ old) run clear
 
@@ -375,7 +367,7 @@ module _ (laws : Laws) (more : MoreLaws) (comes_up : (busy : ℕ) → ComesUp bu
 
   -- what has ended in the first cycle
   m : (d : ℕ) × (length (outcomes (behind_mdt r jobs carry restarts one.sent old) k) ≡ reads_count (member (known_of r) k) + 13 + d)
-  m = beyond (reads_count (member (known_of r) k) + 13) (length (outcomes (behind_mdt r jobs carry restarts one.sent old) k)) (ended_now laws more r jobs carry restarts opened k below comes_up works one old rest_run.0 rest_run.1 first one_four)
+  m = beyond (reads_count (member (known_of r) k) + 13) (length (outcomes (behind_mdt r jobs carry restarts one.sent old) k)) (ended_now r jobs carry restarts opened k below one old rest_run.0 rest_run.1 first one_four)
 
   abbrev waits : ℕ
   waits = length ((looks_back r jobs (master_calls r carry restarts old)).waiting k)
@@ -387,14 +379,14 @@ module _ (laws : Laws) (more : MoreLaws) (comes_up : (busy : ℕ) → ComesUp bu
   waits_t = ap (λ (l : List Task). length l) (waits_now r jobs carry restarts t (cycles ++ one ∷ old) on.1 k ∙ waits_along r jobs carry restarts cycles (one ∷ old) on.0 k ∙ waits_along r jobs carry restarts (one ∷ []) old (tt, first) k)
 
   many : waits ≤ length (left_after r jobs carry restarts (one ∷ old) k) + m.0
-  many = let least = left_many laws more r jobs carry restarts opened k below comes_up works one old rest_run.0 rest_run.1 first one_four in let same = waits_one in let is = m.1 in omega (arith, least, same, is)
+  many = let least = left_many r jobs carry restarts opened k below one old rest_run.0 rest_run.1 first one_four in let same = waits_one in let is = m.1 in omega (arith, least, same, is)
 
   few : (x : ℕ) → x ≤ m.0 + suc i → x ≤ waits → length (left_after r jobs carry restarts (t ∷ (cycles ++ one ∷ old)) k) + x ≤ waits
   few x most low =
-      let ended = have_ended laws more comes_up works r jobs carry restarts opened k below P goes lasts no_stop one old one_is one_four m.0
+      let ended = have_ended r jobs carry restarts opened k below P goes lasts no_stop one old one_is one_four m.0
       (let is = m.1 in omega (arith, is)) (suc i) t cycles run clear those long x most low in
       let same = waits_t in
-      let left_is = left_few laws more r jobs carry restarts opened k below comes_up works t (cycles ++ one ∷ old) run clear on.1 four x ended (omega (arith, same, low)) in
+      let left_is = left_few r jobs carry restarts opened k below t (cycles ++ one ∷ old) run clear on.1 four x ended (omega (arith, same, low)) in
       omega (arith, left_is, same)
 
   pub left_later : (n : ℕ) → length (left_after r jobs carry restarts (one ∷ old) k) ≤ n + suc i
@@ -413,9 +405,7 @@ module _ (laws : Laws) (more : MoreLaws) (comes_up : (busy : ℕ) → ComesUp bu
   ]
 
 -- So it is in undisturbed cycles.
-module _ (laws : Laws) (more : MoreLaws) (comes_up : (busy : ℕ) → ComesUp busy) (works : WorksInFour) (always : OpensAlways)
-    (said : SaysShape) (timed : ComesTimed) (recovers : (busy : ℕ) → RecoversInTime busy) (since : (busy : ℕ) → RecoversSince busy)
-    (no_stop : NoStopInFour) (r : RingView) (jobs : List Job) (carry : Carry) (restarts : Restarts) (opened : IsOpened r jobs) (k : ℕ)
+module _ (no_stop : NoStopInFour) (r : RingView) (jobs : List Job) (carry : Carry) (restarts : Restarts) (opened : IsOpened r jobs) (k : ℕ)
     (below : k < length r.drives) (t : CycleView) (cycles : List CycleView) (one : CycleView) (old : List CycleView)
     (run : IsRun r jobs carry restarts (t ∷ (cycles ++ one ∷ old))) (clear : IsClear (t ∷ (cycles ++ one ∷ old)))
     (on : AreOn r jobs carry restarts (t ∷ cycles) (one ∷ old)) (calm : AreUndisturbed r carry restarts cycles (one ∷ old))
@@ -423,24 +413,24 @@ module _ (laws : Laws) (more : MoreLaws) (comes_up : (busy : ℕ) → ComesUp bu
     (long : suc i * request_cycles r k ≤ suc (length cycles)) where
   pub left_in_time : length (left_after r jobs carry restarts (one ∷ old) k) ≤ n + suc i → length (left_after r jobs carry restarts (t ∷
       (cycles ++ one ∷ old)) k) ≤ n
-  left_in_time enough = left_later laws more comes_up works r jobs carry restarts opened k below (IsOn r jobs carry restarts)
-      (going r jobs carry restarts)
-      (lasts_undisturbed laws more always said timed recovers since r jobs carry restarts opened k below) no_stop t cycles one old run
-      clear on first one_four four i long n enough
+  left_in_time enough = left_later r jobs carry restarts opened k below (IsOn r jobs carry restarts) (going r jobs carry restarts)
+      (lasts_undisturbed recovers_in_time r jobs carry restarts opened k below) no_stop t cycles one old run clear on first one_four four i
+      long n enough
 
 -- THE REQUESTS ARE REPORTED IN TIME.
-module _ (laws : Laws) (more : MoreLaws) (turn : WorkInTurn) (comes_up : (busy : ℕ) → ComesUp busy) (late : (busy : ℕ) → NoneLate busy) (stand : (busy : ℕ) → StandsThroughout busy) (hear : (busy : ℕ) → HearsThroughout busy)
-    (works : WorksInFour) (always : OpensAlways) (said : SaysShape) (timed : ComesTimed) (recovers : (busy : ℕ) → RecoversInTime busy) (since : (busy : ℕ) → RecoversSince busy) (reaches : ComesToPhaseFour) (no_stop : NoStopInFour)
-    (r : RingView) (jobs : List Job) (carry : Carry) (restarts : Restarts) (opened : IsOpened r jobs) where
+module _ (reaches : ComesToPhaseFour) (no_stop : NoStopInFour) (r : RingView) (jobs : List Job) (carry : Carry) (restarts : Restarts)
+    (opened : IsOpened r jobs) where
   one_more_time : (i c : ℕ) → (i + 1) * c ≡ suc i * c
   one_more_time i c = grind arith
 
   -- HOW MANY ARE LEFT in phase 4 of an undisturbed epoch: i + 1 fewer than waited when it began, or none, from that long after the bound of
   -- a start-up on.
-  module _ (t : CycleView) (cycles before : List CycleView) (run : IsRun r jobs carry restarts (t ∷ (cycles ++ before))) (clear : IsClear (t ∷ (cycles ++ before))) (starts : StartsEpoch r jobs carry restarts before)
-      (calm : AreUndisturbed r carry restarts (t ∷ cycles) before) (four : t.phase ≡ 4) (k : ℕ) (below : k < length r.drives) (n i : ℕ) (long : startup_bound r + suc i * request_cycles r k ≤ length cycles) where
+  module _ (t : CycleView) (cycles before : List CycleView) (run : IsRun r jobs carry restarts (t ∷ (cycles ++ before)))
+      (clear : IsClear (t ∷ (cycles ++ before))) (starts : StartsEpoch r jobs carry restarts before)
+      (calm : AreUndisturbed r carry restarts (t ∷ cycles) before) (four : t.phase ≡ 4) (k : ℕ) (below : k < length r.drives) (n i : ℕ)
+      (long : startup_bound r + suc i * request_cycles r k ≤ length cycles) where
     on_epoch : AreOn r jobs carry restarts (t ∷ cycles) before
-    on_epoch = are_on laws more turn comes_up late r jobs carry restarts opened stand hear (t ∷ cycles) before run clear starts calm
+    on_epoch = are_on r jobs carry restarts opened (t ∷ cycles) before run clear starts calm
 
     some : 1 ≤ suc i * request_cycles r k
     some = let all = room (drive_at r k).busy (drive_at r k).command in let parts = one_time_more i (request_cycles r k) in omega (arith, all, parts)
@@ -462,15 +452,16 @@ module _ (laws : Laws) (more : MoreLaws) (turn : WorkInTurn) (comes_up : (busy :
     on_cut = (c.on, subst (λ (l : List CycleView). IsOn r jobs carry restarts t l) c.is on_epoch.1)
 
     one_four : c.one.phase ≡ 4
-    one_four = four_since laws more comes_up reaches no_stop r jobs carry restarts opened t c.newer c.one c.older before run_cut clear_cut
-        (goings r jobs carry restarts (t ∷ c.newer) (c.one ∷ (c.older ++ before)) on_cut) (going r jobs carry restarts c.one
-        (c.older ++ before) c.on_older.1) starts c.calm (let is = later.1 in let rest = c.rest in omega (arith, is, rest)) four
+    one_four = four_since reaches no_stop r jobs carry restarts opened t c.newer c.one c.older before run_cut clear_cut
+        (goings r jobs carry restarts (t ∷ c.newer) (c.one ∷ (c.older ++ before)) on_cut)
+        (going r jobs carry restarts c.one (c.older ++ before) c.on_older.1) starts c.calm
+        (let is = later.1 in let rest = c.rest in omega (arith, is, rest)) four
 
     pub left_in_epoch : length (waiting_after r jobs carry restarts before k) ≤ n + suc i → length (left_after r jobs carry restarts (t ∷ (cycles ++ before)) k) ≤ n
     left_in_epoch enough = subst (λ (l : List CycleView). length (left_after r jobs carry restarts (t ∷ l) k) ≤ n) (sym c.is)
-        (left_waiting laws more comes_up works r jobs carry restarts opened k below (IsOn r jobs carry restarts)
+        (left_waiting r jobs carry restarts opened k below (IsOn r jobs carry restarts)
         (going r jobs carry restarts)
-        (lasts_undisturbed laws more always said timed recovers since r jobs carry restarts opened k below) no_stop t c.newer c.one
+        (lasts_undisturbed recovers_in_time r jobs carry restarts opened k below) no_stop t c.newer c.one
         (c.older ++ before) run_cut clear_cut on_cut c.on_older.1 one_four four i
         (let is = later.1 in let count = c.long in omega (arith, is, count, long)) n
         (subst (λ (l : List Task). length l ≤ n + suc i) (sym (waits_along r jobs carry restarts c.older before
@@ -479,8 +470,8 @@ module _ (laws : Laws) (more : MoreLaws) (turn : WorkInTurn) (comes_up : (busy :
   pub reports_in_time : (t : CycleView) (cycles before : List CycleView) → IsRun r jobs carry restarts (t ∷ (cycles ++ before)) → IsClear (t ∷ (cycles ++ before)) → StartsEpoch r jobs carry restarts before → AreUndisturbed r carry restarts (t ∷ cycles) before
       → t.phase ≡ 4 → (k i : ℕ) (x : Task) → k < length r.drives → slice_get (waiting_after r jobs carry restarts before k) i ≡ Some x → startup_bound r + (i + 1) * request_cycles r k ≤ length cycles
       → (number : ℕ) × (x.number ≡ Some number) × HaveTold (t ∷ cycles) number
-  reports_in_time t cycles before run clear starts calm four k i x below got long = told_if_few laws more r jobs carry restarts opened k
+  reports_in_time t cycles before run clear starts calm four k i x below got long = told_if_few r jobs carry restarts opened k
       below (t ∷ cycles) before
-      (told_since laws more r jobs carry restarts opened k below (t ∷ cycles) before run clear calm) starts i x got
+      (told_since r jobs carry restarts opened k below (t ∷ cycles) before run clear calm) starts i x got
       (λ n enough. left_in_epoch t cycles before run clear starts calm four k below n i (let same = one_more_time i
       (request_cycles r k) in omega (arith, same, long)) enough)

@@ -25,7 +25,7 @@ use Rattle.sercos_seat.specs.Agenda.{idn}
 use Rattle.sercos_script.specs.Links.{Carry, Restarts}
 use Rattle.sercos_law_run.specs.Start.StartUp.{IsStoreOf}
 use Rattle.sercos_law_run.proofs.Start.CheckPasses.{ring_drive}
-use Rattle.sercos_law_channel.specs.Handshake.CommandTransfers.{SetsAndCancels, EndsWithStatus, GivesStatus}
+use Rattle.sercos_law_channel.specs.Handshake.CommandTransfers.{GivesStatus}
 use Rattle.sercos_law_channel.specs.Handshake.Epochs.{begun_in, command, epoch_begun, epoch_taken, epoch_log}
 use Rattle.sercos_law_channel.specs.Handshake.InStep.{replies_of}
 use Rattle.sercos_law_channel.specs.Handshake.Parts.{IsRow, IsPart, Unsent, Heard, Unheard, AreParts}
@@ -46,8 +46,8 @@ use Rattle.sercos_law_run.proofs.Settings.WellRuns.{complete_status}
 use Rattle.sercos_law_run.specs.Views.RingViews.{view_of, views_of}
 use Rattle.sercos_law_run.specs.Held.Opened.{IsOpened}
 use Rattle.sercos_law_run.specs.Held.Stored.{AreStored}
-use Rattle.sercos_law_run.proofs.Held.Runs.{Laws, alike_so, drive_got}
-use Rattle.sercos_law_run.proofs.Headline.HeadlineRuns.{MoreLaws, all_stand}
+use Rattle.sercos_law_run.proofs.Held.Runs.{alike_so, drive_got}
+use Rattle.sercos_law_run.proofs.Headline.HeadlineRuns.{all_stand}
 use Rattle.sercos_law_run.proofs.Undisturbed.EntriesSay.{EntriesSay, ViewsSay, entries_say, entry_says}
 use Rattle.sercos_law_run.proofs.Undisturbed.JobsBegun.{wells}
 use Rattle.sercos_law_run.proofs.Undisturbed.OwnSet.{Say, say_written}
@@ -55,6 +55,7 @@ use Rattle.sercos_law_run.proofs.Undisturbed.RefusedCauses.{check_4, found_4}
 use Rattle.sercos_law_run.proofs.Undisturbed.SetsFour.{sets_well}
 use Rattle.sercos_law_run.proofs.Undisturbed.Small.{first_is}
 use Rattle.sercos_law_run.proofs.Settings.NoCheck127.{next_still, stays}
+use Rattle.sercos_law_channel.proofs.Handshake.CommandEnds.{ends_with_status}
 
 abbrev pub IsWell : SetCommand → Type 0
 IsWell s = s.well ≡ true
@@ -93,12 +94,12 @@ well_status time cycle (Some s) on well = by (has_ended time cycle s) (well s re
     by true is = inl (ap (status_of true) is)
     by false is = inr refl
 
-module _ (sets : SetsAndCancels) (ends : EndsWithStatus) (busy : ℕ) (blocks : List Block) where
+module _ (busy : ℕ) (blocks : List Block) where
   -- the last poll finds it set
   gives_3 : (e : Entry) (entries log : List Entry) (bytes : List ℕ) → IsTransfer (request.Command (idn 128)) blocks e entries log → outcome_of (request.Command (idn 128)) (replies_of (e ∷ entries)) ≡ Some (outcome.Complete bytes)
       → ((poll : Entry) (before : List Entry) → entries ≡ poll ∷ before → Say IsWell poll.taken.commands)
       → ((poll : Entry) (before : List Entry) → entries ≡ poll ∷ before → newest_to 128 (writes_of (before ++ log)) ≡ Some (3 ∷ 0 ∷ []) → is_some (find_set 128 poll.taken.commands.set) ≡ true) → bytes ≡ 3 ∷ 0 ∷ []
-  gives_3 e entries log bytes is complete well set = by (ends (idn 128) bytes blocks e entries log is complete) (set_at_poll sets ends (idn 128) blocks e entries log bytes is complete)
+  gives_3 e entries log bytes is complete well set = by (ends_with_status (idn 128) bytes blocks e entries log is complete) (set_at_poll (idn 128) blocks e entries log bytes is complete)
     where
       by : GivesStatus 128 bytes (e ∷ entries) → IsSetAtPoll 128 e entries log → bytes ≡ 3 ∷ 0 ∷ []
       by (cancel, poll, before, split, reads, element, gives) behind =
@@ -148,12 +149,13 @@ write_says (Some w) blocks c sets say = by (is_command blocks w.raw)
     by true = say_written IsWell w.raw (setting_in w) w.cycle (with_data w.raw w.bytes blocks) c (λ number. ap (λ (n : ℕ). ends_well c.rate n (with_data n w.bytes blocks)) number ∙ sets w refl number) say
     by false = say
 
-module _ (laws : Laws) (more : MoreLaws) (r : RingView) (jobs : List Job) (carry : Carry) (restarts : Restarts) (opened : IsOpened r jobs) (k : ℕ) (below : k < length r.drives) (none : list_any is_outside (drive_at r k).blocks ≡ false) where
+module _ (r : RingView) (jobs : List Job) (carry : Carry) (restarts : Restarts) (opened : IsOpened r jobs) (k : ℕ)
+    (below : k < length r.drives) (none : list_any is_outside (drive_at r k).blocks ≡ false) where
   says_at : (t : CycleView) (j : List CycleView) → IsRun r jobs carry restarts (t ∷ j) → IsClear (t ∷ j) → Say IsWell (view_of r jobs carry restarts k t j).commands
   says_at t [] run clear = λ s found.
-      let empty = keeps_settings (view_of r jobs carry restarts k t []) [] (wells laws more r jobs carry restarts opened (t ∷ []) run clear k below).set.follow in
+      let empty = keeps_settings (view_of r jobs carry restarts k t []) [] (wells r jobs carry restarts opened (t ∷ []) run clear k below).set.follow in
       let both : None ≡ Some s = sym (ap (find_set 128) empty) ∙ found in absurd (cc)
-  says_at t (u ∷ j) run clear = by (says_at u j run.0 clear.0) (keeps_settings (view_of r jobs carry restarts k t (u ∷ j)) (views_of r jobs carry restarts k (u ∷ j)) (wells laws more r jobs carry restarts opened (t ∷ u ∷ j) run clear k below).set.follow)
+  says_at t (u ∷ j) run clear = by (says_at u j run.0 clear.0) (keeps_settings (view_of r jobs carry restarts k t (u ∷ j)) (views_of r jobs carry restarts k (u ∷ j)) (wells r jobs carry restarts opened (t ∷ u ∷ j) run clear k below).set.follow)
     where
       v : View
       v = view_of r jobs carry restarts k t (u ∷ j)
@@ -166,7 +168,7 @@ module _ (laws : Laws) (more : MoreLaws) (r : RingView) (jobs : List Job) (carry
 
       by : Say IsWell w.commands → (v.commands.set ≡ []) ⊎ (v.commands.set ≡ (commands_left w past).set) → Say IsWell v.commands
       by before (inl empty) s found = let both : None ≡ Some s = sym (ap (find_set 128) empty) ∙ found in absurd (cc)
-      by before (inr same) s found = write_says (write_of (processed_in w past) (kept_in w past)) w.blocks w.commands (sets_well laws more r jobs carry restarts opened k below none u j run.0 clear.0) before s (sym (ap (find_set 128) same) ∙ found)
+      by before (inr same) s found = write_says (write_of (processed_in w past) (kept_in w past)) w.blocks w.commands (sets_well r jobs carry restarts opened k below none u j run.0 clear.0) before s (sym (ap (find_set 128) same) ∙ found)
 
   views_say : (j : List CycleView) → IsRun r jobs carry restarts j → IsClear j → ViewsSay (Say IsWell) (views_of r jobs carry restarts k j)
   views_say [] run clear = tt
@@ -176,8 +178,11 @@ module _ (laws : Laws) (more : MoreLaws) (r : RingView) (jobs : List Job) (carry
       → begun_in (view_of r jobs carry restarts k t j) (views_of r jobs carry restarts k j) ≡ newer ++ b ∷ older → b.request ≡ request.Command (idn 128)
       → outcome_of b.request b.answers ≡ Some (outcome.Complete bytes) → bytes ≡ 3 ∷ 0 ∷ []
   check_gives_3 t j run clear =
-      let stands = all_stand laws more r jobs carry restarts opened (t ∷ j) run clear k below in
+      let stands = all_stand r jobs carry restarts opened (t ∷ j) run clear k below in
       let rules = (ring_drive r k (drive_at r k) opened.valid (drive_got r k below)).blocks in
-      checks_give_3 more.stop_laws.sets more.stop_laws.ends_with_status (drive_at r k).busy (store_of (drive_at r k)) (stays (view_of r jobs carry restarts k t j) ∷ views_of r jobs carry restarts k j)
-      (stands.sees.run.0, next_still (drive_at r k).busy (view_of r jobs carry restarts k t j) (views_of r jobs carry restarts k j) stands.sees.run.1) stands.sound (wells laws more r jobs carry restarts opened (t ∷ j) run clear k below).set.follow
-      (entries_say (Say IsWell) (stays (view_of r jobs carry restarts k t j) ∷ views_of r jobs carry restarts k j) (views_say (t ∷ j) run clear)) (have_commands (drive_at r k) (views_of r jobs carry restarts k (t ∷ j)) rules stands.stored)
+      checks_give_3 (drive_at r k).busy (store_of (drive_at r k))
+      (stays (view_of r jobs carry restarts k t j) ∷ views_of r jobs carry restarts k j)
+      (stands.sees.run.0, next_still (drive_at r k).busy (view_of r jobs carry restarts k t j) (views_of r jobs carry restarts k j) stands.sees.run.1)
+      stands.sound (wells r jobs carry restarts opened (t ∷ j) run clear k below).set.follow
+      (entries_say (Say IsWell) (stays (view_of r jobs carry restarts k t j) ∷ views_of r jobs carry restarts k j) (views_say (t ∷ j) run clear))
+      (have_commands (drive_at r k) (views_of r jobs carry restarts k (t ∷ j)) rules stands.stored)

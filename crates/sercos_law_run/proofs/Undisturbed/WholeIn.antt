@@ -9,11 +9,8 @@ use Rattle.sercos_script.specs.Links.{Carry, Restarts}
 use Rattle.sercos_law_channel.specs.Handshake.Views.{standing, stood_in}
 use Rattle.sercos_law_channel.specs.Handshake.Epochs.{epoch_begun}
 use Rattle.sercos_law_run.specs.Journal.Runs.{IsRun, IsClear}
-use Rattle.sercos_law_run.specs.Agenda.Turns.{WorkInTurn}
 use Rattle.sercos_law_run.specs.Views.RingViews.{view_of, views_of}
 use Rattle.sercos_law_run.specs.Held.Opened.{IsOpened}
-use Rattle.sercos_law_run.proofs.Held.Runs.{Laws}
-use Rattle.sercos_law_run.proofs.Headline.HeadlineRuns.{MoreLaws}
 use Rattle.sercos_law_channel.specs.Pace.Passages.{was_addressed, IsWhole}
 use Rattle.sercos_law_channel.specs.Pace.ChannelCalls.{staying}
 use Rattle.sercos_law_run.specs.Undisturbed.Undisturbed.{IsUndisturbed}
@@ -23,7 +20,7 @@ use Rattle.sercos_law_run.proofs.Undisturbed.MdtComes.{drive_in, master_in, mst_
 use Rattle.sercos_law_run.proofs.Undisturbed.AtsCome.{listens_in}
 use Rattle.sercos_law_run.proofs.Undisturbed.Hears.{hears_early}
 
-module _ (laws : Laws) (more : MoreLaws) (turn : WorkInTurn) (r : RingView) (jobs : List Job) (carry : Carry) (restarts : Restarts) (opened : IsOpened r jobs) where
+module _ (r : RingView) (jobs : List Job) (carry : Carry) (restarts : Restarts) (opened : IsOpened r jobs) where
   pub hears_in : (t : CycleView) (j : List CycleView) (run : IsRun r jobs carry restarts (t ∷ j)) (clear : IsClear (t ∷ j)) → IsUndisturbed r carry restarts t j → (k : ℕ) → k < length r.drives
       → is_some (open_in (epoch_begun (views_of r jobs carry restarts k j))) ≡ true → was_addressed (views_of r jobs carry restarts k j) ≡ true
       → 1 ≤ stood_in (view_of r jobs carry restarts k t j) (standing (views_of r jobs carry restarts k j)) → is_some (view_of r jobs carry restarts k t j).heard ≡ true
@@ -31,20 +28,20 @@ module _ (laws : Laws) (more : MoreLaws) (turn : WorkInTurn) (r : RingView) (job
   hears_in t (u ∷ j) run clear undisturbed k below opens addressed up = by (nat_le 3 t.phase) refl
     where
       by : (late : Bool) → nat_le 3 t.phase ≡ late → is_some (view_of r jobs carry restarts k t (u ∷ j)).heard ≡ true
-      by true is = listens_in laws more turn r jobs carry restarts opened t (u ∷ j) run clear undisturbed k below (late_so t.phase is) up
-      by false is = hears_early laws more turn r jobs carry restarts opened t u j run clear undisturbed k below opens addressed up (early_so t.phase is)
+      by true is = listens_in r jobs carry restarts opened t (u ∷ j) run clear undisturbed k below (late_so t.phase is) up
+      by false is = hears_early r jobs carry restarts opened t u j run clear undisturbed k below opens addressed up (early_so t.phase is)
 
   -- Every cycle of a clear run in which nothing is disturbed.
   pub whole_in : (t : CycleView) (j : List CycleView) → IsRun r jobs carry restarts (t ∷ j) → IsClear (t ∷ j) → IsUndisturbed r carry restarts t j → (k : ℕ) → k < length r.drives
       → IsWhole (staying (view_of r jobs carry restarts k t j)) (views_of r jobs carry restarts k j)
   whole_in t j run clear undisturbed k below = record {
-    mst = mst_came laws more turn r jobs carry restarts opened t j run clear undisturbed k below;
-    drive = drive_in laws more turn r jobs carry restarts opened t j run clear undisturbed k below;
-    master = master_in laws more turn r jobs carry restarts opened t j run clear undisturbed;
+    mst = mst_came r jobs carry restarts opened t j run clear undisturbed k below;
+    drive = drive_in r jobs carry restarts opened t j run clear undisturbed k below;
+    master = master_in r jobs carry restarts opened t j run clear undisturbed;
     stays = refl;
-    sends = λ opens. sends_in laws more turn r jobs carry restarts opened t j run clear k below opens;
-    joint = λ late. joint_in laws more turn r jobs carry restarts opened t j run clear k below late;
-    mdt = λ some up. mdt_came laws more turn r jobs carry restarts opened t j run clear undisturbed k below some up;
+    sends = λ opens. sends_in r jobs carry restarts opened t j run clear k below opens;
+    joint = λ late. joint_in r jobs carry restarts opened t j run clear k below late;
+    mdt = λ some up. mdt_came r jobs carry restarts opened t j run clear undisturbed k below some up;
     hears = λ opens addressed up. hears_in t j run clear undisturbed k below opens addressed up;
-    listens = λ late up. listens_in laws more turn r jobs carry restarts opened t j run clear undisturbed k below late up;
+    listens = λ late up. listens_in r jobs carry restarts opened t j run clear undisturbed k below late up;
   }

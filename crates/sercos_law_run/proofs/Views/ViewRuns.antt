@@ -27,7 +27,6 @@ use Rattle.sercos_script.specs.Links.{Carry, Restarts}
 use Rattle.sercos_law_channel.specs.Handshake.Views.{Heard, View, standing, before_mst as standing_before, kept_in, since_reset}
 use Rattle.sercos_law_channel.specs.Handshake.Epochs.{command, command_in, whole_row, with_heard, with_begun, unless_restart, epoch_begun}
 use Rattle.sercos_law_channel.specs.Handshake.Runs.{IsShown, IsRun}
-use Rattle.sercos_law_channel.specs.Handshake.RunLaws.{BeginsEmpty}
 use Rattle.sercos_law_channel.specs.Handshake.WholeRun.{all_writes}
 use Rattle.sercos_law_channel.specs.Handshake.Values.{store_in}
 use Rattle.sercos_law_run.specs.Journal.Arrivals.{heard, passage, sum_below, unseen_at}
@@ -42,6 +41,7 @@ use Rattle.sercos_law_run.specs.Views.Spelled.{IsSaid, IsSpelled}
 use Rattle.sercos_law_run.proofs.Views.Codecs.{mst_clear}
 use Rattle.sercos_law_run.proofs.Views.Coupled.{ats_heard, heard_one, Speaks, speaks}
 use Rattle.sercos_law_run.proofs.Views.Received.{Agrees, GotTold, NothingGot, got_or_none, mdt_told}
+use Rattle.sercos_law_channel.proofs.Cited.{begins_empty}
 
 -- What the drive at a place and its channel keep of a journal is what its views give, and these are a run.
 pub record Sees (r : RingView) (jobs : List Job) (carry : Carry) (restarts : Restarts) (k : ℕ) (j : List CycleView) : Type 0 where
@@ -109,8 +109,9 @@ pub started : (r : RingView) (jobs : List Job) (restarts : Bool) (h : List Call)
 started r jobs true h = refl
 started r jobs false h = refl
 
-module _ (empty : (busy : ℕ) → BeginsEmpty busy) (r : RingView) (jobs : List Job) (carry : Carry) (restarts : Restarts) (valid : is_ring r ≡ true) (t : CycleView) (j : List CycleView)
-    (next : IsNextCycle r jobs carry restarts t j) (clear : t.unseen ≡ 0) (spelled : IsSpelled r jobs carry restarts t j) where
+module _ (r : RingView) (jobs : List Job) (carry : Carry) (restarts : Restarts) (valid : is_ring r ≡ true) (t : CycleView)
+    (j : List CycleView) (next : IsNextCycle r jobs carry restarts t j) (clear : t.unseen ≡ 0)
+    (spelled : IsSpelled r jobs carry restarts t j) where
   -- the parts of the count
   counts : sum_below (length r.drives) (unseen_mst carry (length j) (mst_in t.sent)) + unseen_at carry (passage (length j) kinds.Mst 0 0) (mst_in t.sent) + unseen_ats r carry (length j) (ats_in t.sent)
       + sum_below (length r.drives) (unseen_mdt carry (length j) (mdt_in t.sent)) ≡ 0
@@ -136,121 +137,121 @@ module _ (empty : (busy : ℕ) → BeginsEmpty busy) (r : RingView) (jobs : List
 
   -- THE CYCLE OF THE DRIVE AT A PLACE
   module _ (k : ℕ) (below : k < length r.drives) (sees : Sees r jobs carry restarts k j)
-      (agrees : (plan : PlanView) → 3 ≤ (behind_mdt r jobs carry restarts t.sent j).now.phase → 3 ≤ phase_in (after_mst r carry restarts t.sent j k) → (behind_mdt r jobs carry restarts t.sent j).plan ≡ Some plan
-      → Agrees (known_of r) (behind_mdt r jobs carry restarts t.sent j) k (blocks_in (drive_at r k) (after_mst r carry restarts t.sent j k)))
-      (rests : is_done (known_of r) (behind_mdt r jobs carry restarts t.sent j) ≡ true → open_in (begun_by ((behind_mdt r jobs carry restarts t.sent j).calls k)) ≡ None) where
-    same : IsSameMaster (at_start r jobs carry restarts j) k (command_in (view_of r jobs carry restarts k t j) (views_of r jobs carry restarts k j))
-        (if restarts (length j) 0 then 0 else whole_row (views_of r jobs carry restarts k j)) (unless_restart (view_of r jobs carry restarts k t j) (epoch_begun (views_of r jobs carry restarts k j)))
-    same = subst (λ (p : Past). IsSameMaster p k (command_in (view_of r jobs carry restarts k t j) (views_of r jobs carry restarts k j))
-        (if restarts (length j) 0 then 0 else whole_row (views_of r jobs carry restarts k j)) (unless_restart (view_of r jobs carry restarts k t j) (epoch_begun (views_of r jobs carry restarts k j))))
-        (sym (started r jobs (restarts (length j) 0) (master_calls r carry restarts j)))
-        (same_started (restarts (length j) 0) (looks_back r jobs (master_calls r carry restarts j)) k _ _ _ sees.master)
+      (agrees : (plan : PlanView) → 3 ≤ (behind_mdt r jobs carry restarts t.sent j).now.phase → 3 ≤ phase_in (after_mst r carry restarts t.sent j k) → (behind_mdt r jobs carry restarts t.sent j).plan ≡ Some plan → Agrees (known_of r) (behind_mdt r jobs carry restarts t.sent j) k (blocks_in (drive_at r k) (after_mst r carry restarts t.sent j k)))
+      (rests : is_done (known_of r) (behind_mdt r jobs carry restarts t.sent j) ≡ true → open_in (begun_by ((behind_mdt r jobs carry restarts t.sent j).calls k)) ≡ None)
+    where
+      same : IsSameMaster (at_start r jobs carry restarts j) k (command_in (view_of r jobs carry restarts k t j) (views_of r jobs carry restarts k j))
+          (if restarts (length j) 0 then 0 else whole_row (views_of r jobs carry restarts k j)) (unless_restart (view_of r jobs carry restarts k t j) (epoch_begun (views_of r jobs carry restarts k j)))
+      same = subst (λ (p : Past). IsSameMaster p k (command_in (view_of r jobs carry restarts k t j) (views_of r jobs carry restarts k j))
+          (if restarts (length j) 0 then 0 else whole_row (views_of r jobs carry restarts k j)) (unless_restart (view_of r jobs carry restarts k t j) (epoch_begun (views_of r jobs carry restarts k j))))
+          (sym (started r jobs (restarts (length j) 0) (master_calls r carry restarts j)))
+          (same_started (restarts (length j) 0) (looks_back r jobs (master_calls r carry restarts j)) k _ _ _ sees.master)
 
-    led : IsLed (known_of r) k (IsSaid (length r.drives) (drive_at r) r.rate (given_mst carry restarts t.sent j)) (view_of r jobs carry restarts k t j)
-        (at_start r jobs carry restarts j) (behind_mst r jobs carry restarts t.sent j) (behind_ats r jobs carry restarts t.sent j) (behind_mdt r jobs carry restarts t.sent j)
-    led = record {
-      phase = next.phase;
-      whole = refl;
-      own = (refl, refl, refl, refl);
-      ats = ats_heard r jobs carry (length j) k (IsSaid (length r.drives) (drive_at r) r.rate (given_mst carry restarts t.sent j)) (behind_mst r jobs carry restarts t.sent j) (ats_in t.sent) _
-          (ats_none (known_of r) k (IsSaid (length r.drives) (drive_at r) r.rate (given_mst carry restarts t.sent j)) (behind_mst r jobs carry restarts t.sent j)) heard_so;
-      heard = refl;
-      begins = refl;
-      mdt = refl;
-      sent = refl;
-      falls = refl;
-      rises = refl;
-    }
+      led : IsLed (known_of r) k (IsSaid (length r.drives) (drive_at r) r.rate (given_mst carry restarts t.sent j)) (view_of r jobs carry restarts k t j)
+          (at_start r jobs carry restarts j) (behind_mst r jobs carry restarts t.sent j) (behind_ats r jobs carry restarts t.sent j) (behind_mdt r jobs carry restarts t.sent j)
+      led = record {
+        phase = next.phase;
+        whole = refl;
+        own = (refl, refl, refl, refl);
+        ats = ats_heard r jobs carry (length j) k (IsSaid (length r.drives) (drive_at r) r.rate (given_mst carry restarts t.sent j)) (behind_mst r jobs carry restarts t.sent j) (ats_in t.sent) _
+            (ats_none (known_of r) k (IsSaid (length r.drives) (drive_at r) r.rate (given_mst carry restarts t.sent j)) (behind_mst r jobs carry restarts t.sent j)) heard_so;
+        heard = refl;
+        begins = refl;
+        mdt = refl;
+        sent = refl;
+        falls = refl;
+        rises = refl;
+      }
 
-    pub behind : IsBehind k (view_of r jobs carry restarts k t j) (at_start r jobs carry restarts j) (behind_ats r jobs carry restarts t.sent j) (behind_mdt r jobs carry restarts t.sent j)
-        (unless_restart (view_of r jobs carry restarts k t j) (epoch_begun (views_of r jobs carry restarts k j)))
-    behind = is_behind (known_of r) k _ _ _ _ _ _ _ _ _ same led
+      pub behind : IsBehind k (view_of r jobs carry restarts k t j) (at_start r jobs carry restarts j) (behind_ats r jobs carry restarts t.sent j) (behind_mdt r jobs carry restarts t.sent j)
+          (unless_restart (view_of r jobs carry restarts k t j) (epoch_begun (views_of r jobs carry restarts k j)))
+      behind = is_behind (known_of r) k _ _ _ _ _ _ _ _ _ same led
 
-    -- the phase that is commanded
-    phase_low : (at_start r jobs carry restarts j).now.phase ≤ 4
-    phase_low = subst (λ n. n ≤ 4) (sym same.phase_is) (command_in_below (view_of r jobs carry restarts k t j) (views_of r jobs carry restarts k j) (command_below (drive_at r k).busy (views_of r jobs carry restarts k j) sees.run))
+      -- the phase that is commanded
+      phase_low : (at_start r jobs carry restarts j).now.phase ≤ 4
+      phase_low = subst (λ n. n ≤ 4) (sym same.phase_is) (command_in_below (view_of r jobs carry restarts k t j) (views_of r jobs carry restarts k j) (command_below (drive_at r k).busy (views_of r jobs carry restarts k j) sees.run))
 
-    -- at the MST's place
-    got : mst_got (heard carry (passage (length j) kinds.Mst 0 (k + 1)) (mst_in t.sent))
-        ≡ (if is_some (mst_got (heard carry (passage (length j) kinds.Mst 0 (k + 1)) (mst_in t.sent))) then Some t.phase else None)
-    got =
-        let c = counts in
-        let none : unseen_at carry (passage (length j) kinds.Mst 0 (k + 1)) (mst_in t.sent) ≡ 0 = none_below (length r.drives) (unseen_mst carry (length j) (mst_in t.sent)) (omega (arith, c)) k below in
-        got_form _ _ (at_start r jobs carry restarts j).now.phase t.phase
-        (mst_clear (at_start r jobs carry restarts j).now.phase _ phase_low
-        (subst (λ (l : List ℕ). (heard carry (passage (length j) kinds.Mst 0 (k + 1)) (mst_in t.sent) ≡ None) ⊎ (heard carry (passage (length j) kinds.Mst 0 (k + 1)) (mst_in t.sent) ≡ Some l)) mst_is
-        (heard_whole carry _ (mst_in t.sent) spelled.mst none)))
-        next.phase
+      -- at the MST's place
+      got : mst_got (heard carry (passage (length j) kinds.Mst 0 (k + 1)) (mst_in t.sent))
+          ≡ (if is_some (mst_got (heard carry (passage (length j) kinds.Mst 0 (k + 1)) (mst_in t.sent))) then Some t.phase else None)
+      got =
+          let c = counts in
+          let none : unseen_at carry (passage (length j) kinds.Mst 0 (k + 1)) (mst_in t.sent) ≡ 0 = none_below (length r.drives) (unseen_mst carry (length j) (mst_in t.sent)) (omega (arith, c)) k below in
+          got_form _ _ (at_start r jobs carry restarts j).now.phase t.phase
+          (mst_clear (at_start r jobs carry restarts j).now.phase _ phase_low
+          (subst (λ (l : List ℕ). (heard carry (passage (length j) kinds.Mst 0 (k + 1)) (mst_in t.sent) ≡ None) ⊎ (heard carry (passage (length j) kinds.Mst 0 (k + 1)) (mst_in t.sent) ≡ Some l)) mst_is
+          (heard_whole carry _ (mst_in t.sent) spelled.mst none)))
+          next.phase
 
-    pub at_mst : IsSame (drive_at r k) (after_mst r carry restarts t.sent j k) (standing_at (view_of r jobs carry restarts k t j) (standing_before (view_of r jobs carry restarts k t j) (standing (views_of r jobs carry restarts k j))))
-        (kept_in (view_of r jobs carry restarts k t j) (views_of r jobs carry restarts k j)) (all_writes (views_of r jobs carry restarts k j)) (store_in (store_of (drive_at r k)) (views_of r jobs carry restarts k j))
-    at_mst = same_at_mst (drive_at r k) r.rate (length j) (before_mst r carry restarts j k) _ (view_of r jobs carry restarts k t j) _ _ _ _ got refl
-        (same_restarted (drive_at r k) r.rate (restarts (length j) (k + 1)) (given_before carry restarts j k) _ _ _ _ sees.drive)
+      pub at_mst : IsSame (drive_at r k) (after_mst r carry restarts t.sent j k) (standing_at (view_of r jobs carry restarts k t j) (standing_before (view_of r jobs carry restarts k t j) (standing (views_of r jobs carry restarts k j))))
+          (kept_in (view_of r jobs carry restarts k t j) (views_of r jobs carry restarts k j)) (all_writes (views_of r jobs carry restarts k j)) (store_in (store_of (drive_at r k)) (views_of r jobs carry restarts k j))
+      at_mst = same_at_mst (drive_at r k) r.rate (length j) (before_mst r carry restarts j k) _ (view_of r jobs carry restarts k t j) _ _ _ _ got refl
+          (same_restarted (drive_at r k) r.rate (restarts (length j) (k + 1)) (given_before carry restarts j k) _ _ _ _ sees.drive)
 
-    pub count : length (views_of r jobs carry restarts k j) ≡ length j
-    count = views_count r jobs carry restarts k j
+      pub count : length (views_of r jobs carry restarts k j) ≡ length j
+      count = views_count r jobs carry restarts k j
 
-    -- what the master hears
-    shown_so : IfSome (heard_last ((behind_ats r jobs carry restarts t.sent j).calls k)) (λ a. IsShown (drive_at r k).busy a (view_of r jobs carry restarts k t j) (views_of r jobs carry restarts k j))
-    shown_so = heard_one (known_of r) k _ _ (behind_ats r jobs carry restarts t.sent j) (λ a. IsShown (drive_at r k).busy a (view_of r jobs carry restarts k t j) (views_of r jobs carry restarts k j)) led.ats.has same.unheard each
-      where
-        each : (content : List ℕ) → IsSaid (length r.drives) (drive_at r) r.rate (given_mst carry restarts t.sent j) content → master.place_of (known_of r) (slice_index content 0) ≡ Some k
-            → IsShown (drive_at r k).busy (record { status = status_of (word_at content 1); word = word_at content 3 }) (view_of r jobs carry restarts k t j) (views_of r jobs carry restarts k j)
-        each content is found =
-            let s : Speaks (drive_at r k) r.rate (after_mst r carry restarts t.sent j k) content = speaks r k (given_mst carry restarts t.sent j) content valid spelled.shown is found in
-            record {
-              got_mst = sym at_mst.got ∙ s.got;
-              stands = subst (λ n. 1 ≤ n) at_mst.ended s.stands;
-              says = s.shows ∙ ap₂ (λ (n : ℕ) (h : List Taken). channel_says (drive_at r k).busy n (commands_in (drive_at r k) r.rate (after_mst r carry restarts t.sent j k)) h) (sym count) at_mst.taken;
-            }
+      -- what the master hears
+      shown_so : IfSome (heard_last ((behind_ats r jobs carry restarts t.sent j).calls k)) (λ a. IsShown (drive_at r k).busy a (view_of r jobs carry restarts k t j) (views_of r jobs carry restarts k j))
+      shown_so = heard_one (known_of r) k _ _ (behind_ats r jobs carry restarts t.sent j) (λ a. IsShown (drive_at r k).busy a (view_of r jobs carry restarts k t j) (views_of r jobs carry restarts k j)) led.ats.has same.unheard each
+        where
+          each : (content : List ℕ) → IsSaid (length r.drives) (drive_at r) r.rate (given_mst carry restarts t.sent j) content → master.place_of (known_of r) (slice_index content 0) ≡ Some k
+              → IsShown (drive_at r k).busy (record { status = status_of (word_at content 1); word = word_at content 3 }) (view_of r jobs carry restarts k t j) (views_of r jobs carry restarts k j)
+          each content is found =
+              let s : Speaks (drive_at r k) r.rate (after_mst r carry restarts t.sent j k) content = speaks r k (given_mst carry restarts t.sent j) content valid spelled.shown is found in
+              record {
+                got_mst = sym at_mst.got ∙ s.got;
+                stands = subst (λ n. 1 ≤ n) at_mst.ended s.stands;
+                says = s.shows ∙ ap₂ (λ (n : ℕ) (h : List Taken). channel_says (drive_at r k).busy n (commands_in (drive_at r k) r.rate (after_mst r carry restarts t.sent j k)) h) (sym count) at_mst.taken;
+              }
 
-    -- at the MDT's place
-    quiet : (behind_mdt r jobs carry restarts t.sent j).now.phase ≡ 1 → master_says (begun_by ((behind_mdt r jobs carry restarts t.sent j).calls k)) ≡ idle
-    quiet one = ap master_says (behind.begun_are ∙ ap₂ (λ (o : Option Request) (l : List Begun). with_begun o l) none (ap (with_heard heard_then) ended ∙ nothing_heard heard_then))
-      where
-        v : View
-        v = view_of r jobs carry restarts k t j
+      -- at the MDT's place
+      quiet : (behind_mdt r jobs carry restarts t.sent j).now.phase ≡ 1 → master_says (begun_by ((behind_mdt r jobs carry restarts t.sent j).calls k)) ≡ idle
+      quiet one = ap master_says (behind.begun_are ∙ ap₂ (λ (o : Option Request) (l : List Begun). with_begun o l) none (ap (with_heard heard_then) ended ∙ nothing_heard heard_then))
+        where
+          v : View
+          v = view_of r jobs carry restarts k t j
 
-        heard_then : Option Heard
-        heard_then = v.heard
+          heard_then : Option Heard
+          heard_then = v.heard
 
-        phase_one : v.phase ≡ 1
-        phase_one = sym behind.phase_is ∙ one
+          phase_one : v.phase ≡ 1
+          phase_one = sym behind.phase_is ∙ one
 
-        none : v.begins ≡ None
-        none = no_request v.begins (λ some. let two = (next_led (known_of r) k _ (drive_at r k).busy v (views_of r jobs carry restarts k j) _ _ _ _ same led shown_so rests).late some in omega (arith, two, phase_one))
+          none : v.begins ≡ None
+          none = no_request v.begins (λ some. let two = (next_led (known_of r) k _ (drive_at r k).busy v (views_of r jobs carry restarts k j) _ _ _ _ same led shown_so rests).late some in omega (arith, two, phase_one))
 
-        ended : unless_restart v (epoch_begun (views_of r jobs carry restarts k j)) ≡ []
-        ended = by v.master_restarts (sym same.phase_is ∙ sym next.phase ∙ phase_one)
-          where
-            by : (b : Bool) → (if b then 0 else command (views_of r jobs carry restarts k j)) ≡ 1 → (if b then [] else epoch_begun (views_of r jobs carry restarts k j)) ≡ []
-            by true is = refl
-            by false is = (empty (drive_at r k).busy (views_of r jobs carry restarts k j) sees.run (omega (arith, is))).0
+          ended : unless_restart v (epoch_begun (views_of r jobs carry restarts k j)) ≡ []
+          ended = by v.master_restarts (sym same.phase_is ∙ sym next.phase ∙ phase_one)
+            where
+              by : (b : Bool) → (if b then 0 else command (views_of r jobs carry restarts k j)) ≡ 1 → (if b then [] else epoch_begun (views_of r jobs carry restarts k j)) ≡ []
+              by true is = refl
+              by false is = (begins_empty (drive_at r k).busy (views_of r jobs carry restarts k j) sees.run (omega (arith, is))).0
 
-    pub told_so : GotTold (mdt_got (drive_at r k).address (phase_in (after_mst r carry restarts t.sent j k)) (blocks_in (drive_at r k) (after_mst r carry restarts t.sent j k)) (mdt_heard carry (length j) (k + 1) (mdt_in t.sent)))
-        (told_to (behind_mdt r jobs carry restarts t.sent j) k)
-    told_so = by (mdt_said (known_of r) (behind_mdt r jobs carry restarts t.sent j)) refl mdt_is
-      where
-        c : sum_below (length r.drives) (unseen_mdt carry (length j) (mdt_in t.sent)) ≡ 0
-        c = let all = counts in omega (arith, all)
+      pub told_so : GotTold (mdt_got (drive_at r k).address (phase_in (after_mst r carry restarts t.sent j k)) (blocks_in (drive_at r k) (after_mst r carry restarts t.sent j k)) (mdt_heard carry (length j) (k + 1) (mdt_in t.sent)))
+          (told_to (behind_mdt r jobs carry restarts t.sent j) k)
+      told_so = by (mdt_said (known_of r) (behind_mdt r jobs carry restarts t.sent j)) refl mdt_is
+        where
+          c : sum_below (length r.drives) (unseen_mdt carry (length j) (mdt_in t.sent)) ≡ 0
+          c = let all = counts in omega (arith, all)
 
-        sent : (m : Sent) → mdt_said (known_of r) (behind_mdt r jobs carry restarts t.sent j) ≡ Some m → (came : Option (List ℕ)) → (came ≡ None) ⊎ (came ≡ Some m.content)
-            → GotTold (mdt_got (drive_at r k).address (phase_in (after_mst r carry restarts t.sent j k)) (blocks_in (drive_at r k) (after_mst r carry restarts t.sent j k)) came) (told_to (behind_mdt r jobs carry restarts t.sent j) k)
-        sent m said came (inl none) = rw none (NothingGot refl)
-        sent m said came (inr same') = rw same' (mdt_told r (behind_mdt r jobs carry restarts t.sent j) k _ _ m valid below said quiet spelled.said agrees)
+          sent : (m : Sent) → mdt_said (known_of r) (behind_mdt r jobs carry restarts t.sent j) ≡ Some m → (came : Option (List ℕ)) → (came ≡ None) ⊎ (came ≡ Some m.content)
+              → GotTold (mdt_got (drive_at r k).address (phase_in (after_mst r carry restarts t.sent j k)) (blocks_in (drive_at r k) (after_mst r carry restarts t.sent j k)) came) (told_to (behind_mdt r jobs carry restarts t.sent j) k)
+          sent m said came (inl none) = rw none (NothingGot refl)
+          sent m said came (inr same') = rw same' (mdt_told r (behind_mdt r jobs carry restarts t.sent j) k _ _ m valid below said quiet spelled.said agrees)
 
-        by : (o : Option Sent) → mdt_said (known_of r) (behind_mdt r jobs carry restarts t.sent j) ≡ o → mdt_in t.sent ≡ content_of o
-            → GotTold (mdt_got (drive_at r k).address (phase_in (after_mst r carry restarts t.sent j k)) (blocks_in (drive_at r k) (after_mst r carry restarts t.sent j k)) (mdt_heard carry (length j) (k + 1) (mdt_in t.sent)))
-            (told_to (behind_mdt r jobs carry restarts t.sent j) k)
-        by None said is = rw is (NothingGot refl)
-        by (Some m) said is =
-            let none : unseen_mdt carry (length j) (Some m.content) k ≡ 0 = none_below (length r.drives) (unseen_mdt carry (length j) (Some m.content)) (ap (λ (o : Option (List ℕ)). sum_below (length r.drives) (unseen_mdt carry (length j) o)) (sym is) ∙ c) k below in
-            rw is (sent m said _ (heard_whole carry _ m.content (spelled.mdt m said) none))
+          by : (o : Option Sent) → mdt_said (known_of r) (behind_mdt r jobs carry restarts t.sent j) ≡ o → mdt_in t.sent ≡ content_of o
+              → GotTold (mdt_got (drive_at r k).address (phase_in (after_mst r carry restarts t.sent j k)) (blocks_in (drive_at r k) (after_mst r carry restarts t.sent j k)) (mdt_heard carry (length j) (k + 1) (mdt_in t.sent)))
+              (told_to (behind_mdt r jobs carry restarts t.sent j) k)
+          by None said is = rw is (NothingGot refl)
+          by (Some m) said is =
+              let none : unseen_mdt carry (length j) (Some m.content) k ≡ 0 = none_below (length r.drives) (unseen_mdt carry (length j) (Some m.content)) (ap (λ (o : Option (List ℕ)). sum_below (length r.drives) (unseen_mdt carry (length j) o)) (sym is) ∙ c) k below in
+              rw is (sent m said _ (heard_whole carry _ m.content (spelled.mdt m said) none))
 
-    pub sees_next : Sees r jobs carry restarts k (t ∷ j)
-    sees_next = record {
-      run = (sees.run, next_led (known_of r) k _ (drive_at r k).busy (view_of r jobs carry restarts k t j) (views_of r jobs carry restarts k j) _ _ _ _ same led shown_so rests);
-      drive = same_at_mdt (drive_at r k) r.rate (length (views_of r jobs carry restarts k j)) (after_mst r carry restarts t.sent j k) _ (view_of r jobs carry restarts k t j) _ _ _ _ (sym count)
-          (got_or_none _ _ told_so) refl refl at_mst;
-      master = same_ended (known_of r) k _ (view_of r jobs carry restarts k t j) (views_of r jobs carry restarts k j) _ _ _ _ same led;
-    }
+      pub sees_next : Sees r jobs carry restarts k (t ∷ j)
+      sees_next = record {
+        run = (sees.run, next_led (known_of r) k _ (drive_at r k).busy (view_of r jobs carry restarts k t j) (views_of r jobs carry restarts k j) _ _ _ _ same led shown_so rests);
+        drive = same_at_mdt (drive_at r k) r.rate (length (views_of r jobs carry restarts k j)) (after_mst r carry restarts t.sent j k) _ (view_of r jobs carry restarts k t j) _ _ _ _ (sym count)
+            (got_or_none _ _ told_so) refl refl at_mst;
+        master = same_ended (known_of r) k _ (view_of r jobs carry restarts k t j) (views_of r jobs carry restarts k j) _ _ _ _ same led;
+      }

@@ -27,13 +27,17 @@ use Rattle.sercos_script.specs.Links.{Carry, Restarts}
 use Rattle.sercos_law_run.specs.Held.Opened.{IsOpened}
 use Rattle.sercos_law_run.specs.Journal.Runs.{drive_at, given_mst, begins, middle, said_below, start_before, sent_at, sent_mst, sent_mdt, ats_said, IsRun}
 use Rattle.sercos_law_run.specs.Views.RingViews.{at_start, behind_mdt, after_mst}
-use Rattle.sercos_law_run.proofs.Theorems.{IsContent, address_of, at_content, mdt_whole, mst_whole, phase_low, plan_words, s_known, first_store, Laws, MoreLaws}
+use Rattle.sercos_law_run.proofs.Theorems.{IsContent, address_of, at_content, mdt_whole, mst_whole, phase_low, plan_words, s_known, first_store}
 use Rattle.sercos_replay.specs.Traced.{FitsLine}
 use Rattle.sercos_law_trace.specs.Clean.Ruled.{RunsFitLines}
 use Rattle.sercos_law_trace.proofs.Clean.RuleLemmas.{mdt_at}
 use Rattle.sercos_law_trace.proofs.Clean.SaidLemmas.{each_said}
 use Rattle.sercos_law_trace.proofs.Clean.SeenLemmas.{Each}
 use Rattle.sercos_law_trace.proofs.Clean.SenderLemmas.{sent_by}
+use Rattle.sercos_hdlc.proofs.FramingLemmas.{length-IsFrame}
+use Rattle.sercos_law_run.proofs.Cited.{is_framed}
+use Rattle.sercos_law_run.proofs.Typed.Spelled.{keeps_within}
+use Rattle.sercos_master.proofs.Planned.{is_planned}
 
 small_start : (n : ℕ) → n ≤ 2147483647 → IsSmall (pos n)
 unfolding IsSmall
@@ -105,10 +109,10 @@ mdt_low s p m known planned said = first (p.now.phase == 1) said
     first true e = to_one (λ i. idle) p.now.addressed e
     first false e = second (p.now.phase == 2) e
 
-module _ (laws : Laws) (more : MoreLaws) where
+module _ where
   bits_low : (content : List ℕ) → IsContent content → length (frame_of content) ≤ 19699
   bits_low content is =
-      let wire = more.wire content (frame_of content) (more.frame content is.bytes is.some is.most) in
+      let wire = length-IsFrame content (frame_of content) (is_framed content is.bytes is.some is.most) in
       let most = few_bits (length content) is.most in
       omega (arith, wire, most)
 
@@ -135,7 +139,7 @@ module _ (laws : Laws) (more : MoreLaws) where
 
   module _ (r : RingView) (jobs : List Job) (carry : Carry) (restarts : Restarts) (opened : IsOpened r jobs) where
     known : IsKnown (known_of r)
-    known = s_known laws r jobs carry restarts opened (first_store laws more r jobs carry restarts opened)
+    known = s_known r jobs carry restarts opened (first_store r jobs carry restarts opened)
 
     cycle_fits : (t : CycleView) (j : List CycleView) → IsRun r jobs carry restarts (t ∷ j) → t.cycle ≤ 4294967295 → All (FitsLine t.cycle) t.sent
     cycle_fits t j run low =
@@ -151,12 +155,12 @@ module _ (laws : Laws) (more : MoreLaws) where
         mdt = mdt_said (known_of r) (behind_mdt r jobs carry restarts t.sent j)
 
         planned : IsPlanned (known_of r) (behind_mdt r jobs carry restarts t.sent j)
-        planned = laws.planned (known_of r) (tasks_for (known_of r) jobs) (middle r carry restarts t.sent j)
+        planned = is_planned (known_of r) (tasks_for (known_of r) jobs) (middle r carry restarts t.sent j)
 
         ats_are : Each (λ (s : Said). (r.rate * s.start ≤ 1048560) × IsContent s.content) ats
         ats_are = each_said (λ (s : Said). (r.rate * s.start ≤ 1048560) × IsContent s.content) (length r.drives) (drive_at r) r.rate (given_mst carry restarts t.sent j) (λ k below s says.
             let high = (address_of r k opened.valid below).1 in
-            let keeps = more.within r carry restarts t.sent j k opened.valid opened.typed below in
+            let keeps = keeps_within r carry restarts t.sent j k opened.valid opened.typed below in
             let start = (sent_by (drive_at r k) r.rate (after_mst r carry restarts t.sent j k) s says).start in
             let low = at_low (phase_in (after_mst r carry restarts t.sent j k)) (blocks_in (drive_at r k) (after_mst r carry restarts t.sent j k)) keeps.store in (
               start_low r.rate s.start known.cycles.rate (subst (λ (n : ℕ). n < 65536) (sym start) low),

@@ -31,7 +31,7 @@ use Rattle.sercos_master.specs.Reports.{inserted, with_report, with_reports, bro
 use Rattle.sercos_script.specs.Links.{Carry, Restarts}
 use Rattle.sercos_law_run.specs.Journal.Runs.{drive_at, move_of, moves_below, given_before, given_mst, given_mdt, master_calls, middle, looks_back, no_events, restart_events, IsNext, IsRun, IsClear}
 use Rattle.sercos_law_run.specs.Views.RingViews.{behind_mdt}
-use Rattle.sercos_law_run.proofs.Theorems.{address_of, plan_words, Laws, s_known, MoreLaws, first_store}
+use Rattle.sercos_law_run.proofs.Theorems.{address_of, plan_words, s_known, first_store}
 use Rattle.sercos_law_run.specs.Held.Opened.{IsOpened}
 use Rattle.sercos_law_run.specs.Totals.Counting.{with_cycle}
 use Rattle.sercos_law_run.specs.Totals.Totals.{totals_of, ended, falls_in, is_complete, is_refused, is_broken}
@@ -40,6 +40,7 @@ use Rattle.sercos_law_trace.specs.Clean.Traces.{RunsFitOthers}
 use Rattle.sercos_law_trace.proofs.Clean.RunRules.{low}
 use Rattle.sercos_law_trace.proofs.Clean.TraceClean.{valid}
 use Rattle.sercos_drive.proofs.RecordLemmas.{phase_below}
+use Rattle.sercos_master.proofs.Planned.{is_planned}
 
 -- MOVES
 move_fits : (cycle : ℕ) (m : Move) → cycle ≤ 4294967295 → m.drive ≤ 255 → m.phase ≤ 255 → FitsMove cycle m
@@ -194,9 +195,9 @@ no_totals : AreFew (totals_of []) 0
 unfolding totals_of
 no_totals = record { cycles = omega arith; phase = omega arith; complete = omega arith; refused = omega arith; broken_few = omega arith; falls = omega arith; unseen = refl }
 
-module _ (grow : TotalsGrow) (laws : Laws) (more : MoreLaws) (r : RingView) (jobs : List Job) (carry : Carry) (restarts : Restarts) (opened : IsOpened r jobs) where
+module _ (grow : TotalsGrow) (r : RingView) (jobs : List Job) (carry : Carry) (restarts : Restarts) (opened : IsOpened r jobs) where
   known : IsKnown (known_of r)
-  known = s_known laws r jobs carry restarts opened (first_store laws more r jobs carry restarts opened)
+  known = s_known r jobs carry restarts opened (first_store r jobs carry restarts opened)
 
   outcomes_few : (t : CycleView) (j : List CycleView) → IsNext r jobs carry restarts t j → length t.events.outcomes ≤ 192
   outcomes_few t j next =
@@ -227,7 +228,7 @@ module _ (grow : TotalsGrow) (laws : Laws) (more : MoreLaws) (r : RingView) (job
   totals_few : (j : List CycleView) → IsRun r jobs carry restarts j → IsClear j → AreFew (totals_of (reverse j)) (length j)
   totals_few [] run clear = no_totals
   totals_few (t ∷ j) run clear =
-      let phase : t.phase ≤ 4 = subst (λ (n : ℕ). n ≤ 4) (sym run.1.phase) (low laws more r jobs carry restarts opened t j run clear) in
+      let phase : t.phase ≤ 4 = subst (λ (n : ℕ). n ≤ 4) (sym run.1.phase) (low r jobs carry restarts opened t j run clear) in
       subst (λ (x : Totals). AreFew x (suc (length j))) (sym (ap totals_of (reverse_onto j t []) ∙ grow (reverse j) t)) (few_with t (length j) (totals_of (reverse j)) phase (outcomes_few t j run.1) clear.1 (totals_few j run.0 clear.0))
 
   -- THE CYCLES
@@ -252,8 +253,8 @@ module _ (grow : TotalsGrow) (laws : Laws) (more : MoreLaws) (r : RingView) (job
       number = let is = next.cycle in omega (arith, is, few)
 
       plan_in : (b : Bool) → FitsPlan t.cycle (wishes_of r) (option_or (plan_told (behind_mdt r jobs carry restarts t.sent j)) (if b then restart_told (known_of r) (looks_back r jobs (master_calls r carry restarts j)) no_events else no_events).plan)
-      plan_in true = told_fits (wishes_of r) (known_of r) (behind_mdt r jobs carry restarts t.sent j) t.cycle (valid laws more r jobs opened) known (laws.planned (known_of r) (tasks_for (known_of r) jobs) (middle r carry restarts t.sent j)) number
-      plan_in false = told_fits (wishes_of r) (known_of r) (behind_mdt r jobs carry restarts t.sent j) t.cycle (valid laws more r jobs opened) known (laws.planned (known_of r) (tasks_for (known_of r) jobs) (middle r carry restarts t.sent j)) number
+      plan_in true = told_fits (wishes_of r) (known_of r) (behind_mdt r jobs carry restarts t.sent j) t.cycle (valid r jobs opened) known (is_planned (known_of r) (tasks_for (known_of r) jobs) (middle r carry restarts t.sent j)) number
+      plan_in false = told_fits (wishes_of r) (known_of r) (behind_mdt r jobs carry restarts t.sent j) t.cycle (valid r jobs opened) known (is_planned (known_of r) (tasks_for (known_of r) jobs) (middle r carry restarts t.sent j)) number
 
       fall_in : (b : Bool) → FitsFall t.cycle (if b then restart_told (known_of r) (looks_back r jobs (master_calls r carry restarts j)) no_events else no_events).fall
       fall_in true = restart_fits t.cycle number
@@ -265,8 +266,8 @@ module _ (grow : TotalsGrow) (laws : Laws) (more : MoreLaws) (r : RingView) (job
       All-cons (FitsCycle (wishes_of r)) t j (cycle_fits t j run.1 (omega (arith, few)) (All-head (λ (u : CycleView). FitsReports u.cycle u.events) t j reports))
       (cycles_fit j run.0 (omega (arith, few)) (All-tail (λ (u : CycleView). FitsReports u.cycle u.events) t j reports))
 
-pub runs_fit_others : TotalsGrow → Laws → MoreLaws → RunsFitOthers
-runs_fit_others grow laws more r jobs carry restarts j opened run clear few reports = record {
-  cycles = cycles_fit grow laws more r jobs carry restarts opened j run few reports;
-  totals = totals_fit (totals_of (reverse j)) (length j) few (totals_few grow laws more r jobs carry restarts opened j run clear);
+pub runs_fit_others : TotalsGrow → RunsFitOthers
+runs_fit_others grow r jobs carry restarts j opened run clear few reports = record {
+  cycles = cycles_fit grow r jobs carry restarts opened j run few reports;
+  totals = totals_fit (totals_of (reverse j)) (length j) few (totals_few grow r jobs carry restarts opened j run clear);
 }

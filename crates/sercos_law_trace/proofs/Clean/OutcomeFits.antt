@@ -8,8 +8,6 @@ use Rattle.sercos_model.specs.Bits.{AreBytes}
 use Rattle.sercos_model.proofs.BitLemmas.{AreBytes-take, AreBytes-bytes_of}
 use Rattle.sercos_hdlc.specs.Reason.{reason_of, content_of, plain}
 use Rattle.sercos_telegram.specs.declared.layout.Kind.TheVariants as kinds
-use Rattle.sercos_telegram.specs.Words.{status_of}
-use Rattle.sercos_telegram.specs.Spells.{word_at}
 use Rattle.sercos_step.specs.declared.request.Job.{Job}
 use Rattle.sercos_step.specs.declared.request.Request.{Request}
 use Rattle.sercos_step.specs.declared.request.Request.TheVariants as request
@@ -42,8 +40,9 @@ use Rattle.sercos_law_run.specs.Agenda.Tasks.{IsTask, OfReads, OfWrites, Checks3
 use Rattle.sercos_law_run.specs.Journal.Arrivals.{arrival, content_in, heard, passage}
 use Rattle.sercos_law_run.specs.Journal.Records.{ats_in}
 use Rattle.sercos_law_run.specs.Journal.Runs.{station_of, with_at, at_calls, begin_calls, master_calls, middle, looks_back, no_events, IsNext}
-use Rattle.sercos_law_run.proofs.Theorems.{AreWords, word_of, words_append, bytes_of_words, read_word, Laws, MoreLaws, words_drop}
+use Rattle.sercos_law_run.proofs.Theorems.{AreWords, word_of, words_append, bytes_of_words, read_word, words_drop}
 use Rattle.sercos_law_trace.specs.Clean.Fields.{FitsEnded}
+use Rattle.sercos_law_run.proofs.Cited.{begins_tasks, left_of, told_right}
 
 -- WHAT THE MASTER HEARS are bytes, whatever the links make of what is sent.
 heard_bytes : (carry : Carry) (p : Passage) (content got : List ℕ) → heard carry p content ≡ Some got → AreBytes got
@@ -320,22 +319,22 @@ reports_all P report (suc n) reports each are = by (report n) refl (reports_all 
 abbrev pub FitsPair : ℕ × Outcome → Type 0
 FitsPair x = Fits x.0 x.1
 
-module _ (counts : CountsAnswers) (laws : Laws) (more : MoreLaws) (r : RingView) (jobs : List Job) (few : length jobs ≤ 65535) where
+module _ (counts : CountsAnswers) (r : RingView) (jobs : List Job) (few : length jobs ≤ 65535) where
   module _ (h : List Call) (heard_all : AreHeard h) where
     abbrev p : Past
     p = looks_back r jobs h
 
     waits_low : (k : ℕ) → AreLow (p.waiting k)
-    waits_low k = let (n, is) = laws.left (known_of r) jobs h k in subst AreLow (sym is) (drop_low n (tasks_for (known_of r) jobs k) (jobs_low (member (known_of r) k).address 1 jobs (omega (arith, few))))
+    waits_low k = let (n, is) = left_of (known_of r) jobs h k in subst AreLow (sym is) (drop_low n (tasks_for (known_of r) jobs k) (jobs_low (member (known_of r) k).address 1 jobs (omega (arith, few))))
 
     going : (k : ℕ) → AreGoing (begun_by (p.calls k))
     going k = all_going (p.calls k) (all_told (known_of r) (tasks_for (known_of r) jobs) h heard_all k)
 
     tasks_so : (k : ℕ) → k < length (known_of r).drives → HasBegunTasks (known_of r) p k
-    tasks_so k below = laws.tasks (known_of r) (tasks_for (known_of r) jobs) h k below
+    tasks_so k below = begins_tasks (known_of r) (tasks_for (known_of r) jobs) h k below
 
     told_fits : (k : ℕ) (x : Report) → k < length (known_of r).drives → p.now.report k ≡ Some x → FitsPair (x.number, x.outcome)
-    told_fits k x below is = report_fits counts (known_of r) k p.plan (p.waiting k) p.now.phase (begun_by (p.calls k)) (p.tasks k) x (tasks_so k below) (waits_low k) (going k) (more.right (known_of r) (tasks_for (known_of r) jobs) h k x below is)
+    told_fits k x below is = report_fits counts (known_of r) k p.plan (p.waiting k) p.now.phase (begun_by (p.calls k)) (p.tasks k) x (tasks_so k below) (waits_low k) (going k) (told_right (known_of r) (tasks_for (known_of r) jobs) h k x below is)
 
     broken_fits : (k : ℕ) (x : Report) → k < length (known_of r).drives → broken p k ≡ Some x → FitsPair (x.number, x.outcome)
     broken_fits k x below is = by (is_idle p k) is

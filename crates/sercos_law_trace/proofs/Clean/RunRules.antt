@@ -18,7 +18,7 @@ use Rattle.sercos_seat.specs.Ring.{Known, known_of, tasks_for}
 use Rattle.sercos_seat.proofs.Sends.{fields_length}
 use Rattle.sercos_law_run.specs.Start.RingSlots.{held_by}
 use Rattle.sercos_law_run.specs.Start.StartUp.{Holds, start_up}
-use Rattle.sercos_master.specs.Annals.{Past, addressed_in, ready_to_send, fall_of, is_done, after_end, new_epoch, goes_on, next_phase, still_waiting}
+use Rattle.sercos_master.specs.Annals.{Past, ready_to_send, fall_of, is_done, after_end, new_epoch, goes_on, next_phase, still_waiting}
 use Rattle.sercos_master.specs.Annals as master
 use Rattle.sercos_master.specs.Says.{Sent, mdt_said}
 use Rattle.sercos_script.specs.Links.{Carry, Restarts}
@@ -29,7 +29,7 @@ use Rattle.sercos_check.specs.Seen.{command_before, is_drive, wish_for}
 use Rattle.sercos_check.specs.Rules.{is_next_cycle, is_next_phase}
 use Rattle.sercos_law_run.specs.Journal.Runs.{drive_at, given_mst, master_calls, begins, middle, looks_back, said_below, ats_said, sent_mst, sent_mdt, IsNext, IsRun, IsClear}
 use Rattle.sercos_law_run.specs.Views.RingViews.{at_start, behind_ats, behind_mdt, after_mst, view_of, views_of}
-use Rattle.sercos_law_run.proofs.Theorems.{same_drive, members_count, address_of, IsContent, at_content, phase_low, mdt_whole, Laws, AllStand, IsPlannedIn, s_known, phase_same, holding, rules, kept_at_mst, carried_length, MoreLaws, first_store, stored_in, spelled_in, all_stand, keeps_all}
+use Rattle.sercos_law_run.proofs.Theorems.{same_drive, members_count, address_of, IsContent, at_content, phase_low, mdt_whole, AllStand, IsPlannedIn, s_known, phase_same, holding, rules, kept_at_mst, carried_length, first_store, stored_in, spelled_in, all_stand, keeps_all}
 use Rattle.sercos_law_run.specs.Held.Opened.{IsOpened}
 use Rattle.sercos_law_run.specs.Headline.Cycles.{takes_part, store_in_cycle}
 use Rattle.sercos_law_trace.specs.Clean.Ruled.{told_after, told_in, KeepRules, RunsKeepRules}
@@ -41,6 +41,10 @@ use Rattle.sercos_law_trace.proofs.Clean.LateRules.{IsBefore, IsLateAt, late_rul
 use Rattle.sercos_law_trace.proofs.Clean.SlotRules.{before, early_enough, before_last, last_late, sends_one}
 use Rattle.sercos_law_trace.proofs.Clean.MstRules.{mst_ruled}
 use Rattle.sercos_law_trace.proofs.Clean.SenderLemmas.{Sends, sent_by, own_address, early_said, addressed_inside, early_mdt_said, none_in_zero}
+use Rattle.sercos_law_channel.proofs.Handshake.RunFacts.{stands_as_commanded}
+use Rattle.sercos_law_run.proofs.Start.Lengths.{are_as_long}
+use Rattle.sercos_law_run.proofs.Typed.Spelled.{keeps_within}
+use Rattle.sercos_master.proofs.Planned.{is_planned}
 
 framed : (content : List ℕ) → IsContent content → IsFramed content
 framed content is = record { some = is.some; most = is.most }
@@ -115,13 +119,13 @@ record IsKept (r : RingView) (j : List CycleView) : Type 0 where
   kept : KeepRules (wishes_of r) (told_in j)
   command : command_before (told_in j) ≡ newest j
 
-module _ (laws : Laws) (more : MoreLaws) (r : RingView) (jobs : List Job) (carry : Carry) (restarts : Restarts) (opened : IsOpened r jobs) where
+module _ (r : RingView) (jobs : List Job) (carry : Carry) (restarts : Restarts) (opened : IsOpened r jobs) where
   module _ (t : CycleView) (j : List CycleView) (run : IsRun r jobs carry restarts (t ∷ j)) (clear : IsClear (t ∷ j)) where
     next : IsNext r jobs carry restarts t j
     next = run.1
 
     all : AllStand r jobs carry restarts j
-    all = all_stand laws more r jobs carry restarts opened j run.0 clear.0
+    all = all_stand r jobs carry restarts opened j run.0 clear.0
 
     abbrev ats : List Said
     ats = said_below (length r.drives) (drive_at r) r.rate (given_mst carry restarts t.sent j)
@@ -145,10 +149,10 @@ module _ (laws : Laws) (more : MoreLaws) (r : RingView) (jobs : List Job) (carry
     -- a drive that sends stands in the commanded phase
     sender_phase : (k : ℕ) → k < length r.drives → (s : Said) → Sends (drive_at r k) (after_mst r carry restarts t.sent j k) s → phase_in (after_mst r carry restarts t.sent j k) ≡ t.phase
     sender_phase k below s sending =
-        let kept = kept_at_mst laws r jobs carry restarts opened (first_store laws more r jobs carry restarts opened) t j next clear.1 (spelled_in laws more r jobs carry restarts opened t j next) (stored_in laws more r jobs carry restarts opened t j) all k below in
+        let kept = kept_at_mst r jobs carry restarts opened (first_store r jobs carry restarts opened) t j next clear.1 (spelled_in r jobs carry restarts opened t j next) (stored_in r jobs carry restarts opened t j) all k below in
         let comes : (view_of r jobs carry restarts k t j).mst_comes ≡ true = sym kept.got ∙ sending.got in
         let up = sending.stands in
-        by (more.commanded (view_of r jobs carry restarts k t j) (views_of r jobs carry restarts k j) comes) kept.ended up
+        by (stands_as_commanded (view_of r jobs carry restarts k t j) (views_of r jobs carry restarts k j) comes) kept.ended up
       where
         by : (stood_in (view_of r jobs carry restarts k t j) (standing (views_of r jobs carry restarts k j)) ≡ 0) ⊎ (stood_in (view_of r jobs carry restarts k t j) (standing (views_of r jobs carry restarts k j)) ≡ t.phase)
             → phase_in (after_mst r carry restarts t.sent j k) ≡ stood_in (view_of r jobs carry restarts k t j) (standing (views_of r jobs carry restarts k j)) → 1 ≤ phase_in (after_mst r carry restarts t.sent j k)
@@ -161,7 +165,7 @@ module _ (laws : Laws) (more : MoreLaws) (r : RingView) (jobs : List Job) (carry
         (λ k below s says. own_address (drive_at r k) (after_mst r carry restarts t.sent j k) s (sends_at k s says))
 
     mdt_phase : (behind_mdt r jobs carry restarts t.sent j).now.phase ≡ t.phase
-    mdt_phase = phase_same laws r jobs carry restarts opened (first_store laws more r jobs carry restarts opened) t j next clear.1 (spelled_in laws more r jobs carry restarts opened t j next) (stored_in laws more r jobs carry restarts opened t j) all ∙ sym next.phase
+    mdt_phase = phase_same r jobs carry restarts opened (first_store r jobs carry restarts opened) t j next clear.1 (spelled_in r jobs carry restarts opened t j next) (stored_in r jobs carry restarts opened t j) all ∙ sym next.phase
 
     -- PHASE 0
     zero_ruled : t.phase ≡ 0 → AreRuled (wishes_of r) r.rate (command_at t.cycle (mst_content phase)) (sent_mst (mst_content phase)) [] ats mdt
@@ -185,10 +189,10 @@ module _ (laws : Laws) (more : MoreLaws) (r : RingView) (jobs : List Job) (carry
     -- PHASES 3 AND 4
     module _ (late : 3 ≤ t.phase) where
       held : (k : ℕ) → k < length r.drives → (plan : PlanView) × IsPlannedIn r jobs carry restarts t j plan × Holds (blocks_in (drive_at r k) (after_mst r carry restarts t.sent j k)) (start_up r.control r.cycle plan k (drive_at r k).at (drive_at r k).mdt)
-      held k below = holding laws r jobs carry restarts opened (first_store laws more r jobs carry restarts opened) t j next clear.1 (spelled_in laws more r jobs carry restarts opened t j next) (stored_in laws more r jobs carry restarts opened t j) all (subst (λ (n : ℕ). 3 ≤ n) next.phase late) k below
+      held k below = holding r jobs carry restarts opened (first_store r jobs carry restarts opened) t j next clear.1 (spelled_in r jobs carry restarts opened t j next) (stored_in r jobs carry restarts opened t j) all (subst (λ (n : ℕ). 3 ≤ n) next.phase late) k below
 
       some_drive : 0 < length r.drives
-      some_drive = let count = members_count r in let some = (s_known laws r jobs carry restarts opened (first_store laws more r jobs carry restarts opened)).some in omega (arith, count, some)
+      some_drive = let count = members_count r in let some = (s_known r jobs carry restarts opened (first_store r jobs carry restarts opened)).some in omega (arith, count, some)
 
       valid : IsValid (wishes_of r)
       valid = (held 0 some_drive).1.of.valid
@@ -200,13 +204,13 @@ module _ (laws : Laws) (more : MoreLaws) (r : RingView) (jobs : List Job) (carry
       long_at : (k : ℕ) → k < length r.drives → (s : Said) → Sends (drive_at r k) (after_mst r carry restarts t.sent j k) s → length s.content ≡ (wish_for (wishes_of r) (slice_index s.content 0)).at_len + 1
       long_at k below s sending =
           let past : List Moment = after_mst r carry restarts t.sent j k in
-          let stored = stored_in laws more r jobs carry restarts opened t j k below in
+          let stored = stored_in r jobs carry restarts opened t j k below in
           let phase_is = sender_phase k below s sending in
           let up : nat_le 3 (phase_in past) ≡ true = late_so (phase_in past) t.phase phase_is late in
           let carried = carried_length (cycle_in past) (phase_in past) (blocks_in (drive_at r k) past) stored.0 up in
           let fields_long = fields_length sending.word sending.info (values_in (cycle_in past) (phase_in past) (blocks_in (drive_at r k) past)) in
-          let block_rules = rules laws r jobs carry restarts opened (first_store laws more r jobs carry restarts opened) t j next clear.1 (spelled_in laws more r jobs carry restarts opened t j next) (stored_in laws more r jobs carry restarts opened t j) all k below in
-          let as_long : carried_len (blocks_in (drive_at r k) past) 16 ≡ at_len (drive_at r k) = (laws.as_long (drive_at r k) (blocks_in (drive_at r k) past) block_rules stored.1).0 (held k below).2.1.1.1.1.1.1.1.1.0 in
+          let block_rules = rules r jobs carry restarts opened (first_store r jobs carry restarts opened) t j next clear.1 (spelled_in r jobs carry restarts opened t j next) (stored_in r jobs carry restarts opened t j) all k below in
+          let as_long : carried_len (blocks_in (drive_at r k) past) 16 ≡ at_len (drive_at r k) = (are_as_long (drive_at r k) (blocks_in (drive_at r k) past) block_rules stored.1).0 (held k below).2.1.1.1.1.1.1.1.1.0 in
           let wish_len : (wish_for (wishes_of r) (slice_index s.content 0)).at_len ≡ at_len (drive_at r k) = ap (λ (a : ℕ). (wish_for (wishes_of r) a).at_len) (own_address (drive_at r k) past s sending) ∙ ap (λ (x : Wish). x.at_len) (wish_is_for r k opened.valid below) in
           ap (λ (l : List ℕ). length l) sending.content ∙ omega (arith, carried, fields_long, as_long, wish_len)
 
@@ -214,7 +218,7 @@ module _ (laws : Laws) (more : MoreLaws) (r : RingView) (jobs : List Job) (carry
       are_ats = each_said IsAt (length r.drives) (drive_at r) r.rate (given_mst carry restarts t.sent j) (λ k below s says.
           let sending = sends_at k s says in
           let high = (address_of r k opened.valid below).1 in (
-            framed s.content (at_content (drive_at r k) r.rate (given_mst carry restarts t.sent j k) s (omega (arith, high)) (more.within r carry restarts t.sent j k opened.valid opened.typed below) says),
+            framed s.content (at_content (drive_at r k) r.rate (given_mst carry restarts t.sent j k) s (omega (arith, high)) (keeps_within r carry restarts t.sent j k opened.valid opened.typed below) says),
             long_at k below s sending,
             ap (is_drive (wishes_of r)) (own_address (drive_at r k) (after_mst r carry restarts t.sent j k) s sending) ∙ drive_there r k below,
           ))
@@ -224,7 +228,7 @@ module _ (laws : Laws) (more : MoreLaws) (r : RingView) (jobs : List Job) (carry
       late_with records apart m is =
           let here : IsApart (wishes_of r) (held_by (takes_part r carry restarts t j) (store_in_cycle r carry restarts t j)) records (sent_mst (mst_content phase) ∷ ats_said r.rate ats ++ sent_mdt r.rate (Some m)) =
           subst (λ (o : Option Sent). IsApart (wishes_of r) (held_by (takes_part r carry restarts t j) (store_in_cycle r carry restarts t j)) records (sent_mst (mst_content phase) ∷ ats_said r.rate ats ++ sent_mdt r.rate o)) is apart in
-          let whole = mdt_whole (known_of r) (behind_mdt r jobs carry restarts t.sent j) m (s_known laws r jobs carry restarts opened (first_store laws more r jobs carry restarts opened)) (laws.planned (known_of r) (tasks_for (known_of r) jobs) (middle r carry restarts t.sent j)) is in
+          let whole = mdt_whole (known_of r) (behind_mdt r jobs carry restarts t.sent j) m (s_known r jobs carry restarts opened (first_store r jobs carry restarts opened)) (is_planned (known_of r) (tasks_for (known_of r) jobs) (middle r carry restarts t.sent j)) is in
           subst (λ (o : Option Sent). AreRuled (wishes_of r) r.rate (command_at t.cycle (mst_content phase)) (sent_mst (mst_content phase)) [] ats o) (sym is)
           (late_ruled (wishes_of r) r.rate (command_at t.cycle (mst_content phase)) (mst_content phase) (subst (λ (n : ℕ). 3 ≤ n) next.phase late) ats m
           (each_map _ (IsLateAt (wishes_of r) r.rate) (λ s of. record { framed = of.0.0; long = of.0.1; drive = of.0.2; ready = of.1.0; after_mst = of.1.1 }) ats
@@ -235,7 +239,7 @@ module _ (laws : Laws) (more : MoreLaws) (r : RingView) (jobs : List Job) (carry
 
       late_ruled_in : AreRuled (wishes_of r) r.rate (command_at t.cycle (mst_content phase)) (sent_mst (mst_content phase)) [] ats mdt
       late_ruled_in =
-          let (records, apart) = (keeps_all laws more r jobs carry restarts opened t j run clear).apart late in
+          let (records, apart) = (keeps_all r jobs carry restarts opened t j run clear).apart late in
           let here = subst (λ (l : List SentView). IsApart (wishes_of r) (held_by (takes_part r carry restarts t j) (store_in_cycle r carry restarts t j)) records l) sent_is apart in
           let (m, is) = sends_one (wishes_of r) r.rate (held_by (takes_part r carry restarts t j) (store_in_cycle r carry restarts t j)) records (mst_content phase) ats mdt here in
           late_with records here m is
@@ -274,5 +278,5 @@ module _ (laws : Laws) (more : MoreLaws) (r : RingView) (jobs : List Job) (carry
         command = ap (λ (l : List SentView). command_before (told_after t.cycle l (told_in j))) (sent_is t j run clear) ∙ new.command ∙ ap (λ (n : ℕ). Some (record { cycle = t.cycle; phase = n })) (sym run.1.phase);
       }
 
-pub runs_keep_rules : Laws → MoreLaws → RunsKeepRules
-runs_keep_rules laws more r jobs carry restarts j opened run clear = (all_kept laws more r jobs carry restarts opened j run clear).kept
+pub runs_keep_rules : RunsKeepRules
+runs_keep_rules r jobs carry restarts j opened run clear = (all_kept r jobs carry restarts opened j run clear).kept

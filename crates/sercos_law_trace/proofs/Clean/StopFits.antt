@@ -35,10 +35,9 @@ use Rattle.sercos_seat.specs.Ring.{Known, IsKnown, MemberView, HasLists, known_o
 use Rattle.sercos_master.specs.Annals.{Past, outcomes}
 use Rattle.sercos_master.specs.Reports.{restart_told}
 use Rattle.sercos_script.specs.Links.{Carry, Restarts}
-use Rattle.sercos_law_run.specs.Agenda.Stops.{NoFitHasCause, RefusedHasCause, Check128HasCause}
 use Rattle.sercos_law_run.specs.Journal.Runs.{master_calls, middle, looks_back, no_events, IsRun, IsClear}
 use Rattle.sercos_law_run.specs.Typed.Typed.{IsTypedRequest}
-use Rattle.sercos_law_run.proofs.Theorems.{ring_timed, all_members, tasks_so, IsTypedPast, typed_past, AreBegun, Laws, s_known, MoreLaws, first_store, keeps_all}
+use Rattle.sercos_law_run.proofs.Theorems.{ring_timed, all_members, tasks_so, IsTypedPast, typed_past, AreBegun, s_known, first_store, keeps_all}
 use Rattle.sercos_law_run.specs.Held.Opened.{IsOpened}
 use Rattle.sercos_law_trace.specs.Clean.Fields.{Fit, FitsStop, FitsLink, FitsChain, FitsReports, FitReports}
 use Rattle.sercos_law_trace.specs.Clean.Traces.{RunsFitReports}
@@ -54,6 +53,9 @@ use Rattle.sercos_law_trace.proofs.Clean.RunRules.{cycle_low}
 use Rattle.sercos_law_trace.proofs.Clean.SeenLemmas.{Each}
 use Rattle.sercos_law_trace.proofs.Clean.OtherFits.{member_low}
 use Rattle.sercos_law_trace.proofs.Clean.OutcomeFits.{AreGoing, IsSpelt, middle_heard, all_told, all_going, outcome_fits, outcomes_spelt, all_ended_fit}
+use Rattle.sercos_law_run.proofs.Agenda.Requests.{are_requests}
+use Rattle.sercos_law_run.proofs.Cited.{check128_has_cause, no_fit_has_cause, refused_has_cause}
+use Rattle.sercos_master.proofs.Planned.{is_planned}
 
 -- THE OUTCOMES on a channel
 each_pushed : (xs : List Outcome) (x : Outcome) → Each IsSpelt xs → IsSpelt x → Each IsSpelt (xs ++ x ∷ [])
@@ -186,8 +188,10 @@ check_line : (cycle drive : ℕ) (list : List Idn) → cycle ≤ 4294967295 → 
 unfolding template_of AreOf IsPart IsOf field_of part_left
 check_line cycle drive list number low tail = ((tt, (tt, (tt, (tt, (tt, (number, (tt, (tt, (tt, (tt, (tt, (tt, (tt, (tt, (tt, (tt, (low, tt))))))))))))))))), tail)
 
-module _ (counts : CountsAnswers) (no_fit : NoFitHasCause) (refused : RefusedHasCause) (check128 : Check128HasCause) (laws : Laws) (more : MoreLaws) (r : RingView) (jobs : List Job) (few : length jobs ≤ 65535) (carry : Carry) (restarts : Restarts) (opened : IsOpened r jobs) where
-  module _ (t : CycleView) (j : List CycleView) (run : IsRun r jobs carry restarts (t ∷ j)) (clear : IsClear (t ∷ j)) (number : t.cycle ≤ 4294967295) where
+module _ (counts : CountsAnswers) (r : RingView) (jobs : List Job) (few : length jobs ≤ 65535) (carry : Carry) (restarts : Restarts)
+    (opened : IsOpened r jobs) where
+  module _ (t : CycleView) (j : List CycleView) (run : IsRun r jobs carry restarts (t ∷ j)) (clear : IsClear (t ∷ j))
+      (number : t.cycle ≤ 4294967295) where
     abbrev p : Past
     p = looks_back r jobs (middle r carry restarts t.sent j)
 
@@ -196,12 +200,12 @@ module _ (counts : CountsAnswers) (no_fit : NoFitHasCause) (refused : RefusedHas
 
     typed : IsTypedPast p
     typed =
-        let known = s_known laws r jobs carry restarts opened (first_store laws more r jobs carry restarts opened) in
-        typed_past (known_of r) known (ring_timed r known opened.valid) (λ k. all_members r k opened.valid opened.typed) (tasks_for (known_of r) jobs) (λ h. laws.planned (known_of r) (tasks_for (known_of r) jobs) h)
+        let known = s_known r jobs carry restarts opened (first_store r jobs carry restarts opened) in
+        typed_past (known_of r) known (ring_timed r known opened.valid) (λ k. all_members r k opened.valid opened.typed) (tasks_for (known_of r) jobs) (λ h. is_planned (known_of r) (tasks_for (known_of r) jobs) h)
         (λ k. tasks_so (known_of r) jobs k opened.jobs_typed) (middle r carry restarts t.sent j)
 
     address_low : (k address : ℕ) → (member (known_of r) k).address ≡ address → address ≤ 255
-    address_low k address is = subst (λ (n : ℕ). n ≤ 255) is (member_low (known_of r).drives k (s_known laws r jobs carry restarts opened (first_store laws more r jobs carry restarts opened)).addresses)
+    address_low k address is = subst (λ (n : ℕ). n ≤ 255) is (member_low (known_of r).drives k (s_known r jobs carry restarts opened (first_store r jobs carry restarts opened)).addresses)
 
     -- a stop that is told is the master's
     stop_is : (x : Stop) → t.events.stop ≡ Some x → p.stop ≡ Some x
@@ -224,27 +228,27 @@ module _ (counts : CountsAnswers) (no_fit : NoFitHasCause) (refused : RefusedHas
     stop_fits : (o : Option Stop) → t.events.stop ≡ o → FitsStop t.cycle o
     stop_fits None is = tt
     stop_fits (Some (stop.NoFit c)) is =
-        let has = no_fit (known_of r) (tasks_for (known_of r) jobs) (middle r carry restarts t.sent j) c (stop_is _ is) in
-        let known = s_known laws r jobs carry restarts opened (first_store laws more r jobs carry restarts opened) in
+        let has = no_fit_has_cause (known_of r) (tasks_for (known_of r) jobs) (middle r carry restarts t.sent j) c (stop_is _ is) in
+        let known = s_known r jobs carry restarts opened (first_store r jobs carry restarts opened) in
         let asked = asked_low (known_of r) (outcomes p) known (λ k. all_spelt counts (begun_by (p.calls k)) (going k)) in
         chain_lines t.cycle c number (subst IsSmallChain (chain_is (agenda.wishes_given (known_of r) (outcomes p)) c has.1) (chain_small (agenda.wishes_given (known_of r) (outcomes p)) asked))
     stop_fits (Some (stop.Refused address i code)) is =
-        let has = refused (known_of r) (tasks_for (known_of r) jobs) (middle r carry restarts t.sent j) address i code (stop_is _ is) in
+        let has = refused_has_cause (known_of r) (tasks_for (known_of r) jobs) (middle r carry restarts t.sent j) address i code (stop_is _ is) in
         let ended = has.ended in
         let going_one = first_going (begun_by (p.calls ended.place)) ended.one ended.older ended.begun (going ended.place) in
         let typed_one : IsTypedRequest ended.one.request = first_request (begun_by (p.calls ended.place)) ended.one ended.older ended.begun (typed.begun ended.place) in
         let raw : i.raw < 65536 = subst (λ (x : Idn). x.raw < 65536) has.names (request_low has.asked (subst IsTypedRequest ended.asks typed_one)) in
         refused_line t.cycle address i code number (address_low ended.place address ended.address_is) raw (outcome_fits counts ended.one.request ended.one.answers (outcome.Refused code) going_one.0.0 going_one.0.1 ended.ended)
-    stop_fits (Some (stop.BadConfig address i word)) is = absurd ((keeps_all laws more r jobs carry restarts opened t j run clear).stops.no_bad_config address i word is)
-    stop_fits (Some (stop.Check127 address list)) is = absurd ((keeps_all laws more r jobs carry restarts opened t j run clear).stops.no_check127 address list.items is)
+    stop_fits (Some (stop.BadConfig address i word)) is = absurd ((keeps_all r jobs carry restarts opened t j run clear).stops.no_bad_config address i word is)
+    stop_fits (Some (stop.Check127 address list)) is = absurd ((keeps_all r jobs carry restarts opened t j run clear).stops.no_check127 address list.items is)
     stop_fits (Some (stop.Check128 address list)) is =
-        let has = check128 (known_of r) (tasks_for (known_of r) jobs) (middle r carry restarts t.sent j) address list.items (λ k. (more.requests (known_of r) jobs k).1) (stop_is _ is) in
+        let has = check128_has_cause (known_of r) (tasks_for (known_of r) jobs) (middle r carry restarts t.sent j) address list.items (λ k. (are_requests (known_of r) jobs k).1) (stop_is _ is) in
         let spelt : IsSpelt (outcome.Complete has.bytes) = spelt_at (outcomes p has.place) _ (outcome.Complete has.bytes) (all_spelt counts (begun_by (p.calls has.place)) (going has.place)) has.listed in
         check_line t.cycle address list.items number (address_low has.place address has.address_is) (list_tail 64 has.bytes list.items spelt.0 has.list_is)
 
     reports_fit : FitsReports t.cycle t.events
     reports_fit = record {
-      outcomes = all_ended_fit t.cycle t.events.outcomes number (outcomes_spelt counts laws more r jobs few carry restarts t j run.1);
+      outcomes = all_ended_fit t.cycle t.events.outcomes number (outcomes_spelt counts r jobs few carry restarts t j run.1);
       stop = stop_fits t.events.stop refl;
     }
 
@@ -254,5 +258,5 @@ module _ (counts : CountsAnswers) (no_fit : NoFitHasCause) (refused : RefusedHas
       let number : t.cycle ≤ 4294967295 = let is = run.1.cycle in omega (arith, is, short) in
       All-cons (λ (u : CycleView). FitsReports u.cycle u.events) t j (reports_fit t j run clear number) (all_reports j run.0 clear.0 (omega (arith, short)))
 
-pub runs_fit_reports : CountsAnswers → NoFitHasCause → RefusedHasCause → Check128HasCause → Laws → MoreLaws → RunsFitReports
-runs_fit_reports counts no_fit refused check128 laws more r jobs carry restarts j opened few run clear short = all_reports counts no_fit refused check128 laws more r jobs few carry restarts opened j run clear short
+pub runs_fit_reports : CountsAnswers → RunsFitReports
+runs_fit_reports counts r jobs carry restarts j opened few run clear short = all_reports counts r jobs few carry restarts opened j run clear short

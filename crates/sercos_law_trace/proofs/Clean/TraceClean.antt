@@ -23,7 +23,7 @@ use Rattle.sercos_check.specs.Tests.{TellsFollowing}
 use Rattle.sercos_checking.specs.declared.verdict.Verdict.TheVariants.{Clean}
 use Rattle.sercos_checking.specs.Checking.{read_as, capture_fault, first_violation, verdict_by, verdict_of}
 use Rattle.sercos_answer.specs.Lines as answer
-use Rattle.sercos_law_run.proofs.Theorems.{wish_is, drives_so, address_of, ring_timed, Laws, s_known, drive_got, got_inside, MoreLaws, first_store, wishes_count}
+use Rattle.sercos_law_run.proofs.Theorems.{wish_is, drives_so, address_of, ring_timed, s_known, drive_got, got_inside, first_store, wishes_count}
 use Rattle.sercos_script.specs.Links.{Carry, Restarts}
 use Rattle.sercos_master.specs.Says.{mst_said}
 use Rattle.sercos_law_run.specs.Journal.Runs.{no_drive, drive_at, sent_mst, looks_back, begins, ats_next, mdt_next, IsRun}
@@ -41,6 +41,8 @@ use Rattle.sercos_law_trace.proofs.Clean.LineLeads.{Stands, journal_leads, end_l
 use Rattle.sercos_law_trace.proofs.Clean.HeadLeads.{FitsDrive, FitsHead, header_leads}
 use Rattle.sercos_law_trace.proofs.Clean.RunRules.{runs_keep_rules, cycle_low}
 use Rattle.sercos_law_trace.proofs.Clean.FitRuns.{runs_fit_lines}
+use Rattle.sercos_block.proofs.RingLemmas.{IsRing-is_ring}
+use Rattle.sercos_law_run.proofs.Start.WellLemmas.{ring_is_valid}
 
 -- THE VERDICT
 ended : (lines : List Line) → has_head lines ≡ true → capture_fault lines [] ≡ None
@@ -144,9 +146,9 @@ all_wishes : (drives : List DriveView) → ((k : ℕ) → k < length drives → 
 all_wishes [] each = All-nil FitsDrive
 all_wishes (d ∷ drives) each = All-cons FitsDrive (wish_of d) (map wish_of drives) (each 0 (omega arith)) (all_wishes drives (λ k low. each (suc k) (omega (arith, low))))
 
-module _ (laws : Laws) (more : MoreLaws) (r : RingView) (jobs : List Job) (opened : IsOpened r jobs) where
+module _ (r : RingView) (jobs : List Job) (opened : IsOpened r jobs) where
   pub valid : IsValid (wishes_of r)
-  valid = more.stop_laws.ring_valid r opened.valid (λ k d got.
+  valid = ring_is_valid r opened.valid (λ k d got.
       let (low, same) = got_inside r.drives k d got in
       let typed = opened.typed k low in
       (subst (λ (x : DriveView). length x.at ≤ 16) (sym same) typed.at, subst (λ (x : DriveView). length x.mdt ≤ 16) (sym same) typed.mdt))
@@ -155,7 +157,7 @@ module _ (laws : Laws) (more : MoreLaws) (r : RingView) (jobs : List Job) (opene
   wish_fits k below =
       let address = (address_of r k opened.valid below).1 in
       let slave = slave_low [] r.drives k (drives_so r opened.valid) below in
-      let times : AreWithinLimits (drive_at r k).times = (laws.ring r opened.valid).times k no_drive below in
+      let times : AreWithinLimits (drive_at r k).times = (IsRing-is_ring r opened.valid).times k no_drive below in
       let count = wishes_count r in
       let is : IsWish (wish_of (drive_at r k)) = subst IsWish (wish_is r k (drive_at r k) (drive_got r k below)) (valid.drives.wishes k (omega (arith, below, count))) in
       let a = times.t1min in let b = times.tatmt in let c = times.t4min in let d = times.tatat in let e = times.tmtsy in let f = times.tmtsg in
@@ -183,7 +185,7 @@ module _ (laws : Laws) (more : MoreLaws) (r : RingView) (jobs : List Job) (opene
   unfolding wishes_of
   head_fits =
       let cycle = cycle_low r.cycle valid.cycles.cycle in
-      let known = s_known laws r jobs (λ p bits. None) (λ cycle station. false) opened (first_store laws more r jobs (λ p bits. None) (λ cycle station. false) opened) in
+      let known = s_known r jobs (λ p bits. None) (λ cycle station. false) opened (first_store r jobs (λ p bits. None) (λ cycle station. false) opened) in
       let control = (ring_timed r known opened.valid).control in
       let gap = valid.cycles.gap in
       record {
@@ -194,10 +196,10 @@ module _ (laws : Laws) (more : MoreLaws) (r : RingView) (jobs : List Job) (opene
         drives = all_wishes r.drives wish_fits;
       }
 
-pub traces_are_clean : Laws → MoreLaws → TellsFollowing → ReadsBack → TracesAreClean
-traces_are_clean laws more tells law r jobs carry restarts j t opened run clear few others =
-    let fit = runs_fit_lines laws more r jobs carry restarts j opened run few in
+pub traces_are_clean : TellsFollowing → ReadsBack → TracesAreClean
+traces_are_clean tells law r jobs carry restarts j t opened run clear few others =
+    let fit = runs_fit_lines r jobs carry restarts j opened run few in
     record {
-      clean = clean_text tells law (wishes_of r) j t (valid laws more r jobs opened) (head_fits laws more r jobs opened) fit others (runs_keep_rules laws more r jobs carry restarts j opened run clear);
+      clean = clean_text tells law (wishes_of r) j t (valid r jobs opened) (head_fits r jobs opened) fit others (runs_keep_rules r jobs carry restarts j opened run clear);
       starts = starts_so r jobs carry restarts (reads_traces law) (wishes_of r) j t run fit;
     }

@@ -54,6 +54,7 @@ use Rattle.sercos_law_trace.proofs.Told.StartBlocks.{StartLaws, not_start}
 use Rattle.sercos_law_trace.proofs.Told.LastWrites.{Elsewhere, newest_last, last_next, last_now}
 use Rattle.sercos_law_trace.proofs.Told.KnownBlocks.{known_block}
 use Rattle.sercos_law_trace.proofs.Told.LaterTasks.{IsAbove, AreAbove, AreLater, HasEnded, later_above, still, above_call, has_ended, ended_count}
+use Rattle.sercos_law_run.proofs.Agenda.WritesDone.{writes_data}
 
 -- the laws below
 pub record KeptLaws : Type 0 where
@@ -128,18 +129,19 @@ reads_read d i q got = got_in_two IsReading (map (λ raw. request.Read (number_o
 reading_elsewhere : (raw : ℕ) (q : Request) → IsReading q → writes_to raw q ≡ false
 reading_elsewhere raw q (Reads idn e is) = ap (writes_to raw) is
 
-startup_elsewhere : WritesData → (s : Known) (k : ℕ) (by_then : Option PlanView) (waiting : List Task) (outs : List Outcome) (t : Task) (raw : ℕ) → is_start raw ≡ false → IsTask s k by_then waiting outs t
+startup_elsewhere : (s : Known) (k : ℕ) (by_then : Option PlanView) (waiting : List Task) (outs : List Outcome) (t : Task) (raw : ℕ)
+    → is_start raw ≡ false → IsTask s k by_then waiting outs t
     → (writes_to raw t.request ≡ false) ⊎ ((j : ℕ) × (slice_get waiting j ≡ Some t))
-startup_elsewhere write_data s k by_then waiting outs t raw none (OfReads r less found is) = inl (ap (λ (x : Task). writes_to raw x.request) is ∙ reading_elsewhere raw r (reads_read (member s k) _ r found))
-startup_elsewhere write_data s k by_then waiting outs t raw none (OfWrites p n r planned less at found is) =
-    let (w, bytes, got, number) = write_data s p k n less in
+startup_elsewhere s k by_then waiting outs t raw none (OfReads r less found is) = inl (ap (λ (x : Task). writes_to raw x.request) is ∙ reading_elsewhere raw r (reads_read (member s k) _ r found))
+startup_elsewhere s k by_then waiting outs t raw none (OfWrites p n r planned less at found is) =
+    let (w, bytes, got, number) = writes_data s p k n less in
     let same : r ≡ request.Write w 7 bytes = one_request r (request.Write w 7 bytes) (sym found ∙ got) in
     inl (ap (λ (x : Task). writes_to raw x.request) is ∙ ap (writes_to raw) same ∙ start_at raw (suc (suc (suc (suc n)))) w.raw none number)
-startup_elsewhere write_data s k by_then waiting outs t raw none (Checks3 p planned at is) = inl (ap (λ (x : Task). writes_to raw x.request) is ∙ start_at raw 2 127 none refl)
-startup_elsewhere write_data s k by_then waiting outs t raw none (Lists3 at failed is) = inl (ap (λ (x : Task). writes_to raw x.request) is)
-startup_elsewhere write_data s k by_then waiting outs t raw none (Checks4 at checked is) = inl (ap (λ (x : Task). writes_to raw x.request) is ∙ start_at raw 3 128 none refl)
-startup_elsewhere write_data s k by_then waiting outs t raw none (Lists4 at failed is) = inl (ap (λ (x : Task). writes_to raw x.request) is)
-startup_elsewhere write_data s k by_then waiting outs t raw none (OfWaiting j at ready found) = inr (j, found)
+startup_elsewhere s k by_then waiting outs t raw none (Checks3 p planned at is) = inl (ap (λ (x : Task). writes_to raw x.request) is ∙ start_at raw 2 127 none refl)
+startup_elsewhere s k by_then waiting outs t raw none (Lists3 at failed is) = inl (ap (λ (x : Task). writes_to raw x.request) is)
+startup_elsewhere s k by_then waiting outs t raw none (Checks4 at checked is) = inl (ap (λ (x : Task). writes_to raw x.request) is ∙ start_at raw 3 128 none refl)
+startup_elsewhere s k by_then waiting outs t raw none (Lists4 at failed is) = inl (ap (λ (x : Task). writes_to raw x.request) is)
+startup_elsewhere s k by_then waiting outs t raw none (OfWaiting j at ready found) = inr (j, found)
 
 -- the newest task that was begun
 begun_task : (s : Known) (k : ℕ) (plan : Option PlanView) (waiting : List Task) (phase : ℕ) (begun : List Begun) (tasks older : List Task) (t : Task) → tasks ≡ t ∷ older → AreBegunTasks s k plan waiting phase begun tasks
@@ -151,8 +153,8 @@ begun_task s k plan waiting phase (b ∷ begun) (x ∷ tasks) older t is are =
     let same : x ≡ t = cc in
     (are.1.by_then, outcomes_in begun, subst (λ (y : Task). IsTask s k are.1.by_then waiting (outcomes_in begun) y) same are.1.task)
 
-module _ (laws : KeptLaws) (r : RingView) (jobs : List Job) (carry : Carry) (restarts : Restarts) (opened : IsOpened r jobs) (k n : ℕ) (below : k < length r.drives) (raw : ℕ)
-    (last : IsLastTo jobs n (drive_at r k).address raw) (none : is_start raw ≡ false) where
+module _ (laws : KeptLaws) (r : RingView) (jobs : List Job) (carry : Carry) (restarts : Restarts) (opened : IsOpened r jobs) (k n : ℕ)
+    (below : k < length r.drives) (raw : ℕ) (last : IsLastTo jobs n (drive_at r k).address raw) (none : is_start raw ≡ false) where
   inside : k < length (known_of r).drives
   inside = let count = members_count r in omega (arith, below, count)
 
@@ -212,7 +214,7 @@ module _ (laws : KeptLaws) (r : RingView) (jobs : List Job) (carry : Carry) (res
       one u is =
           let tasks : (behind_mdt r jobs carry restarts t.sent j).tasks k ≡ u ∷ (settled (known_of r) (behind_ats r jobs carry restarts t.sent j)).tasks k = ap (λ (o : Option Task). with_task o ((settled (known_of r) (behind_ats r jobs carry restarts t.sent j)).tasks k)) is in
           let (by_then, outs, task) = begun_task (known_of r) k p.plan (p.waiting k) p.now.phase (begun_by (p.calls k)) (p.tasks k) _ u tasks (keeps.reported.tasks k below) in
-          which (startup_elsewhere laws.write_data (known_of r) k by_then (p.waiting k) outs u raw none task)
+          which (startup_elsewhere (known_of r) k by_then (p.waiting k) outs u raw none task)
         where
           which : (writes_to raw u.request ≡ false) ⊎ ((i : ℕ) × (slice_get ((behind_mdt r jobs carry restarts t.sent j).waiting k) i ≡ Some u)) → Elsewhere raw (store_of (drive_at r k)) u.request
           which (inl away) = gives_elsewhere raw (store_of (drive_at r k)) u.request away
@@ -344,7 +346,8 @@ has_block raw now blocks b x alike found free holds = by (find_block raw now) re
         let rests : (c.step == 0) ≡ true = ap (λ (y : Block). y.step == 0) one ∙ still_block b free in
         (c, is, λ cycle. data_still cycle c rests ∙ value)
 
-module _ (laws : KeptLaws) (r : RingView) (jobs : List Job) (carry : Carry) (restarts : Restarts) (opened : IsOpened r jobs) (k : ℕ) (below : k < length r.drives) (idn : Idn) (bytes : List ℕ) (none : is_start idn.raw ≡ false) where
+module _ (laws : KeptLaws) (r : RingView) (jobs : List Job) (carry : Carry) (restarts : Restarts) (opened : IsOpened r jobs) (k : ℕ)
+    (below : k < length r.drives) (idn : Idn) (bytes : List ℕ) (none : is_start idn.raw ≡ false) where
   -- what the store has
   in_store : (t : CycleView) (j : List CycleView) → IsRun r jobs carry restarts (t ∷ j) → IsClear (t ∷ j) → IsWrittenLast (store_of (drive_at r k)) (all_begun (views_of r jobs carry restarts k (t ∷ j))) idn bytes
       → (b : Block) → find_block idn.raw (store_of (drive_at r k)) ≡ Some b → (c : Block) × (find_block idn.raw (blocks_in (drive_at r k) (annals (drive_at r k) r.rate (given_before carry restarts (t ∷ j) k))) ≡ Some c) × ((cycle : ℕ) → data_in cycle c ≡ stored b bytes)

@@ -3,4 +3,4 @@ use Rattle.sercos_law_run.proofs.headline_laws.once_law.Goals as goal
 
 pub returns : goal.returns
 returns c = λ r jobs carry restarts t j valid run.
-    are_once c.report_law.ensures.once c.report_law.ensures.in_order c.report_law.ensures.requests r jobs carry restarts valid t j run
+    are_once r jobs carry restarts valid t j run

@@ -14,4 +14,4 @@ pub returns-clause-well : goal.returns-clause-well
 returns-clause-well c = stand_well
 
 pub returns-clause-three : goal.returns-clause-three
-returns-clause-three c = checks_give_3 c.transfer_law.ensures.sets_and_cancels c.transfer_law.ensures.ends_with_status
+returns-clause-three c = checks_give_3

@@ -6,4 +6,4 @@ use Rattle.sercos_law_run.proofs.Stations.Times.{empty_keeps_times}
 use Rattle.sercos_law_run.proofs.station_laws.fit_law.Goals as goal
 
 pub returns : goal.returns
-returns c = record { times = empty_keeps_times; three = fit_in_three c.drive_law.ensures.those; lies = always_lies c.drive_law.ensures.those; four = fit_in_four c.drive_law.ensures.those; lists = lists_are_found c.drive_law.ensures.those }
+returns c = record { times = empty_keeps_times; three = fit_in_three; lies = always_lies; four = fit_in_four; lists = lists_are_found }
