@@ -1,5 +1,5 @@
 // Laws on what a drive is and does, by what arrived at it.
-ghost use Rattle.sercos_law_run.specs.Stations.Falls.{FallsHaveCause};
+ghost use Rattle.sercos_law_run.specs.Stations.Falls.{FallsHaveCause, MstComesFirst};
 ghost use Rattle.sercos_law_run.specs.Stations.Fit.{EmptyKeepsTimes, FitInThree, AlwaysLies, FitInFour};
 ghost use Rattle.sercos_law_run.specs.Stations.Lists.{ListsAreFound};
 ghost use Rattle.sercos_law_run.specs.Stations.Phases.{StandsByMst, RisesByOne, DropsByCause};
@@ -46,6 +46,8 @@ pub fn station_law()
 /// as it was sent in this cycle, nor in the one before, of phase 1 to 4. `AtLost`: in this cycle and in the one before, of phase 3 or 4, no
 /// AT that arrived reads as that drive's. `StepLimit`: in phase 1 the MDT was to that drive in this cycle and in the 64 before it; later
 /// a step to it was sent 64 cycles ago or more, and no answer has been taken since. `Restart`: the master restarts in this cycle.
+/// And if phase 1 or a later one is commanded, the cause of `MstLost` makes the ring fall, and is the one that is reported.
 pub fn fall_law()
     ensures causes { FallsHaveCause }
+    ensures first { MstComesFirst }
 {}

@@ -29,7 +29,7 @@ use Rattle.sercos_law_run.specs.Journal.Records.{mst_in, ats_in}
 use Rattle.sercos_law_run.specs.Journal.Runs.{IsRun, IsNext, at_calls, begins, drive_at, looks_back, master_calls, no_events, own_mst, station_of, with_at}
 use Rattle.sercos_law_run.specs.Views.RingViews.{at_start, behind_ats, behind_mdt, behind_mst}
 use Rattle.sercos_law_run.specs.Held.Opened.{IsOpened}
-use Rattle.sercos_law_run.specs.Stations.Falls.{AreTo, FallsHaveCause, HasCause, Identification, IsLate, IsOpenFor, MissesAt, MissesMst, NoneReads, NoneReadsIn, Step, comes_back}
+use Rattle.sercos_law_run.specs.Stations.Falls.{AreTo, FallsHaveCause, HasCause, Identification, IsLate, IsOpenFor, MissesAt, MissesMst, MstComesFirst, NoneReads, NoneReadsIn, Step, comes_back}
 use Rattle.sercos_law_run.proofs.Undisturbed.Addressed.{place_found}
 use Rattle.sercos_law_run.proofs.Undisturbed.NoFalls.{heard_mdt}
 use Rattle.sercos_law_run.proofs.Undisturbed.StaysUp.{found_passes}
@@ -387,6 +387,47 @@ module _ (r : RingView) (jobs : List Job) (carry : Carry) (restarts : Restarts) 
             phase = grind (arith, nat_tests, up, phase_then);
           }
 
+  -- THE ORDER. The turn before is that of the cycle before, where phase 1 or a later one is commanded.
+  turn_then : (t u : CycleView) (older : List CycleView) → IsNext r jobs carry restarts t (u ∷ older) → 1 ≤ t.phase
+      → (rest : List Turn) × ((behind_mdt r jobs carry restarts t.sent (u ∷ older)).turns ≡ (behind_mdt r jobs carry restarts u.sent older).now ∷ rest)
+  turn_then t u older next some = by (restarts (length (u ∷ older)) 0)
+      (started r jobs (restarts (length (u ∷ older)) 0) (master_calls r carry restarts (u ∷ older)))
+    where
+      p : Past
+      p = behind_mdt r jobs carry restarts u.sent older
+
+      last : (fell : Bool) → 1 ≤ (if fell then new_epoch (p.cycle + 1) (still_waiting p) else goes_on (next_phase (known_of r) p) p).now.phase
+          → (rest : List Turn)
+          × ((if fell then new_epoch (p.cycle + 1) (still_waiting p) else goes_on (next_phase (known_of r) p) p).turns ≡ p.now ∷ rest)
+      last true high = absurd (omega (arith, high))
+      last false high = (p.turns, refl)
+
+      by : (restarted : Bool)
+          → at_start r jobs carry restarts (u ∷ older) ≡ begun_cycle restarted (looks_back r jobs (master_calls r carry restarts (u ∷ older)))
+          → (rest : List Turn) × ((behind_mdt r jobs carry restarts t.sent (u ∷ older)).turns ≡ p.now ∷ rest)
+      by true start =
+          let zero : (at_start r jobs carry restarts (u ∷ older)).now.phase ≡ 0 = ap (λ (q : Past). q.now.phase) start in
+          let same = next.phase in absurd (omega (arith, zero, same, some))
+      by false start =
+          let same = next.phase in
+          let phase : (at_start r jobs carry restarts (u ∷ older)).now.phase ≡ (looks_back r jobs (master_calls r carry restarts (u ∷ older))).now.phase =
+          ap (λ (q : Past). q.now.phase) start in
+          let found = last (is_some (fall_of (known_of r) p)) (omega (arith, same, some, phase)) in
+          (found.0, (turn_at t (u ∷ older)).turns_are ∙ (ap (λ (q : Past). q.turns) start ∙ found.1))
+
+  -- the own MST that is lost twice is the first thing that is looked at
+  lost_so : (t u : CycleView) (older : List CycleView) → IsRun r jobs carry restarts (t ∷ u ∷ older) → 1 ≤ t.phase
+      → comes_back carry t (u ∷ older) ≡ false → comes_back carry u older ≡ false → 1 ≤ u.phase
+      → fall_of (known_of r) (behind_mdt r jobs carry restarts t.sent (u ∷ older)) ≡ Some MstLost
+  lost_so t u older run some now then_ up =
+      let found = turn_then t u older run.1 some in
+      let whole = whole_at t (u ∷ older) run.1 ∙ now in
+      let before = whole_at u older run.0.1 ∙ then_ in
+      let phase = phase_at u older run.0.1 in
+      let high : nat_le 1 (behind_mdt r jobs carry restarts u.sent older).now.phase ≡ true = grind (arith, nat_tests, phase, up) in
+      let lost : has_lost_mst ((behind_mdt r jobs carry restarts t.sent (u ∷ older)).now ∷ (behind_mdt r jobs carry restarts t.sent (u ∷ older)).turns) ≡ true =
+      rw (found.1, high, whole, before) refl in rw lost refl
+
   inside : (k n i : ℕ) (test : ℕ → Bool) → first_from k n test ≡ Some i → i < k + n
   inside k zero i test e = cc
   inside k (suc n) i test e = by (test k) e (inside (k + 1) n i test)
@@ -432,3 +473,17 @@ falls_have_cause r jobs carry restarts t j opened run f is =
     by (Some x) falls b restarted is = let same : x ≡ f = cc in subst (HasCause r jobs carry restarts t j) same (caused r jobs carry restarts opened t j run x falls)
     by None falls true restarted is = let same : Restart ≡ f = cc in subst (HasCause r jobs carry restarts t j) same restarted
     by None falls false restarted is = cc
+
+pub mst_comes_first : MstComesFirst
+mst_comes_first r jobs carry restarts t j opened run some misses = by j misses.follows run misses.now
+  where
+    by : (i : List CycleView) → i ≡ misses.before ∷ misses.older → IsRun r jobs carry restarts (t ∷ i) → comes_back carry t i ≡ false
+        → t.events.fall ≡ Some MstLost
+    by [] same run now = absurd (cc)
+    by (u ∷ older) same run now =
+        let first : u ≡ misses.before = cc in
+        let rest : older ≡ misses.older = cc in
+        let lost : comes_back carry u older ≡ false = rw (first, rest) misses.lost in
+        let phase : 1 ≤ u.phase = rw first misses.phase in
+        let falls = lost_so r jobs carry restarts opened t u older run some now lost phase in
+        ap (λ (e : EventsView). e.fall) run.1.events ∙ rw falls refl

@@ -105,3 +105,9 @@ FallsForCause r jobs carry restarts t j = (f : Fall) → t.events.fall ≡ Some 
 abbrev pub FallsHaveCause : Type 0
 FallsHaveCause = (r : RingView) (jobs : List Job) (carry : Carry) (restarts : Restarts) (t : CycleView) (j : List CycleView)
     → IsOpened r jobs → IsRun r jobs carry restarts (t ∷ j) → FallsForCause r jobs carry restarts t j
+
+-- OF SEVERAL CAUSES the own MST is the first. If phase 1 or a later one is commanded, and the master misses its MST for the second time in a
+-- row, that is the fall, whatever else is missing.
+abbrev pub MstComesFirst : Type 0
+MstComesFirst = (r : RingView) (jobs : List Job) (carry : Carry) (restarts : Restarts) (t : CycleView) (j : List CycleView) → IsOpened r jobs
+    → IsRun r jobs carry restarts (t ∷ j) → 1 ≤ t.phase → MissesMst carry t j → t.events.fall ≡ Some MstLost
