@@ -1,4 +1,4 @@
-// A law and no code.
+// What stays of a complete write.
 ghost use Rattle.sercos_law_trace.specs.Told.Writes.{WritesAreKept};
 
 use sercos_block::{ring_law, store_law};
@@ -12,7 +12,7 @@ use sercos_law_run::{
 use sercos_master::master_law;
 use sercos_service_drive::writes_law;
 
-/// A law, without code. In a run without undetected damage, regardless of losses and restarts: if a write of operation data is reported
+/// In a run without undetected damage, regardless of losses and restarts: if a write of operation data is reported
 /// as complete, and no later request to the drive writes to the same block, then the drive has the block, and after the last cycle its
 /// store has the bytes of this write there. The bytes of a write that is not a list are filled up with zeros to whole words, at least
 /// one. No start-up changes them: the blocks that it writes are write protected in phase 4, in which all requests are made.
