@@ -208,7 +208,7 @@ pub fn fcs(bytes: &[u8]) -> u16
     !with_rest(register, bytes, 4 * fours)
 }
 
-/// A law and no code: what the long division by the generator leaves is a rest of that division, and the only one.
+/// What the long division by the generator leaves is a rest of that division, and the only one.
 pub fn division_law()
     ensures is_rest { (bytes : List ℕ) → IsRest (dividend bytes) (remainder (dividend bytes)) }
     ensures only { (p : List Bool) (rest : List Bool) → IsRest p rest → rest ≡ remainder p }

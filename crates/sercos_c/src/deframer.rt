@@ -32,7 +32,7 @@ fn feed(deframer: &mut Deframer, bits: &[u8], count: usize) -> u8
     DONE
 }
 
-// The same for a station.
+// Feeds bits to a station, if it is a deframer.
 fn feed_station(station: &mut Station, bits: &[u8], count: usize) -> u8
     ensures closed { (result == closed) ≡ not (is_deframer (Some station.old)) }
     ensures status { (before : List Bool) → HoldsFed before (Some station.old) → result ≡ feed_status (length before) (length bits.now) count }
@@ -67,7 +67,7 @@ fn finish(
     read_frame(deframer, out, written, why)
 }
 
-// The same for a station.
+// Ends the input of a station, if it is a deframer.
 fn finish_station(
     station: &mut Station,
     out: &mut [u8],

@@ -110,7 +110,7 @@ fn at_of(drive: &Drive, out: &mut [u8], written: &mut usize, start: &mut u16) ->
     }
 }
 
-// The same for a station.
+// Writes the AT of a station, if it is a drive.
 fn at(station: &Station, out: &mut [u8], written: &mut usize, start: &mut u16) -> u8
     ensures closed { (result == closed) ≡ not (is_drive (Some station.now)) }
     ensures said { (d : DriveView) (rate : ℕ) (h : List DriveCall) → HoldsDrive (Some station.now) d rate h
@@ -172,7 +172,7 @@ fn element_if(
     element_of(drive, idn, element, out, written, code)
 }
 
-// The same for a station.
+// Writes an element of a data block of a station, if it is a drive.
 fn element(
     station: &Station,
     idn: u16,

@@ -19,7 +19,7 @@ use crate::station::Station;
 use crate::status::CLOSED;
 use std::alloc::Global;
 
-// The same for a station.
+// Writes the MST of a station, if it is a master.
 fn mst(station: &Station, out: &mut [u8], written: &mut usize) -> u8
     ensures closed { (result == closed) ≡ not (is_master (Some station.now)) }
     ensures said { (d : DocumentView) (h : List Call) → HoldsMaster (Some station.now) d h → IsPut (mst_said (past_of d h)) out.old out.new written.new result }
@@ -31,7 +31,7 @@ fn mst(station: &Station, out: &mut [u8], written: &mut usize) -> u8
     }
 }
 
-// The same for a station.
+// Hands a station what came back of its MST, if it is a master.
 fn hear_mst(station: &mut Station, arrived: bool, content: &[u8]) -> u8
     ensures closed { (result == closed) ≡ not (is_master (Some station.old)) }
     ensures status { (result ≡ done) ⊎ (result ≡ closed) }
@@ -44,7 +44,7 @@ fn hear_mst(station: &mut Station, arrived: bool, content: &[u8]) -> u8
     }
 }
 
-// The same for a station.
+// Hands a station an AT, if it is a master.
 fn hear_at(station: &mut Station, content: &[u8]) -> u8
     ensures closed { (result == closed) ≡ not (is_master (Some station.old)) }
     ensures status { (result ≡ done) ⊎ (result ≡ closed) }
@@ -57,7 +57,7 @@ fn hear_at(station: &mut Station, content: &[u8]) -> u8
     }
 }
 
-// The same for a station.
+// Writes the MDT of a station, if it is a master.
 fn mdt(station: &mut Station, out: &mut [u8], written: &mut usize, start: &mut u16) -> u8
     ensures closed { (result == closed) ≡ not (is_master (Some station.old)) }
     ensures fault { is_master (Some station.old) ≡ true → length out.old < 2048 → IsNothing write_fault out.old out.new written.new result × ((start.new ≡ start.old) × ((Some station.new) ≡ (Some station.old))) }
@@ -71,7 +71,7 @@ fn mdt(station: &mut Station, out: &mut [u8], written: &mut usize, start: &mut u
     }
 }
 
-// The same for a station.
+// Ends the cycle of a station, if it is a master.
 fn end_cycle(station: &mut Station) -> u8
     ensures closed { (result == closed) ≡ not (is_master (Some station.old)) }
     ensures status { (result ≡ done) ⊎ (result ≡ closed) }
@@ -84,7 +84,7 @@ fn end_cycle(station: &mut Station) -> u8
     }
 }
 
-// The same for a station.
+// Restarts a station, if it is a master.
 fn restart(station: &mut Station) -> u8
     ensures closed { (result == closed) ≡ not (is_master (Some station.old)) }
     ensures status { (result ≡ done) ⊎ (result ≡ closed) }
@@ -97,7 +97,7 @@ fn restart(station: &mut Station) -> u8
     }
 }
 
-// The same for a station.
+// Tells the phase that a station commands, if it is a master.
 fn command(station: &Station, phase: &mut u8) -> u8
     ensures closed { (result == closed) ≡ not (is_master (Some station.now)) }
     ensures status { (result ≡ done) ⊎ (result ≡ closed) }
@@ -111,7 +111,7 @@ fn command(station: &Station, phase: &mut u8) -> u8
     }
 }
 
-// The same for a station.
+// Writes the lines of what a station reports, if it is a master.
 fn events(station: &Station, out: &mut [u8], written: &mut usize) -> u8
     ensures closed { is_master (Some station.now) ≡ false → result ≡ closed }
     ensures written { (d : DocumentView) (h : List Call) → HoldsMaster (Some station.now) d h → IsText (cycle_text (wishes_of d.setup) (record_of (reported_in h) (reported d h))) out.old out.new written.new result }

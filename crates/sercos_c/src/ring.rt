@@ -15,7 +15,7 @@ use crate::station::Station;
 use crate::status::CLOSED;
 use std::alloc::Global;
 
-// The same for a station.
+// Writes the head of the trace of a station, if it is a ring.
 fn head(station: &Station, out: &mut [u8], written: &mut usize) -> u8
     ensures closed { (result == closed) ≡ not (is_ring (Some station.now)) }
     ensures written { (d : DocumentView) (j : List CycleView) → HoldsRing (Some station.now) d j → IsText (header_text (wishes_of d.setup)) out.old out.new written.new result }
@@ -27,7 +27,7 @@ fn head(station: &Station, out: &mut [u8], written: &mut usize) -> u8
     }
 }
 
-// The same for a station.
+// Makes the next cycle of a station, if it is a ring.
 fn cycle(station: &mut Station) -> u8
     ensures closed { (result == closed) ≡ not (is_ring (Some station.old)) }
     ensures status { (d : DocumentView) (j : List CycleView) → HoldsRing (Some station.old) d j → result ≡ (if nat_lt (length j) d.setup.cycles then done else answer_no) }
@@ -41,7 +41,7 @@ fn cycle(station: &mut Station) -> u8
     }
 }
 
-// The same for a station.
+// Writes the lines of the newest cycle of a station, if it is a ring.
 fn lines(station: &Station, out: &mut [u8], written: &mut usize) -> u8
     ensures closed { is_ring (Some station.now) ≡ false → result ≡ closed }
     ensures written { (d : DocumentView) (j : List CycleView) → HoldsRing (Some station.now) d j → IsText (lines_of_newest (wishes_of d.setup) j) out.old out.new written.new result }
@@ -53,7 +53,7 @@ fn lines(station: &Station, out: &mut [u8], written: &mut usize) -> u8
     }
 }
 
-// The same for a station.
+// Writes the last line of the trace of a station, if it is a ring.
 fn end(station: &Station, out: &mut [u8], written: &mut usize) -> u8
     ensures closed { (result == closed) ≡ not (is_ring (Some station.now)) }
     ensures written { (d : DocumentView) (j : List CycleView) → HoldsRing (Some station.now) d j → IsText (end_text (totals_of (reverse j))) out.old out.new written.new result }

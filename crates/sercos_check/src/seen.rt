@@ -196,15 +196,6 @@ impl Seen {
         first_broken(&kept)
     }
 
-    // The address of a telegram is a byte, and so is its slave.
-    fn show_bytes(sent: &Sent, found: &Found)
-        ensures address { address_of sent.now < 256 }
-        ensures slave { found.now.wish.slave < 256 }
-    {
-        let _address = address_of(sent);
-        let _slave = found.wish.slave;
-    }
-
     /// Returns the lowest rule, 1 to 9, that a telegram breaks after those so far; `None` if it keeps all. The rules are those
     /// of this profile on order, frame, layout, phase, start, gap, recovery, transition and end.
     #[tactic(auto, using(crate::proofs::StandsLemmas::broken_stands))]
@@ -213,7 +204,7 @@ impl Seen {
         requires found { found.now ≡ found_for w.now sent.now }
         ensures { (before : List Told) → SeenStandsFor self.now w.now before → result ≡ broken_rule w.now before (record { cycle = cycle; sent = sent.now }) }
     {
-        Seen::show_bytes(sent, found);
+        prove!(address_of(sent) <= 255 && found.wish.slave <= 255);
         self.broken_by(w, cycle, sent, found)
     }
 
@@ -286,7 +277,7 @@ impl Seen {
         requires { found.now ≡ found_for w.now sent.now }
         ensures { (before : List Told) → SeenStandsFor self.old w.now before → SeenStandsFor self.new w.now (record { cycle = cycle; sent = sent.now } ∷ before) }
     {
-        Seen::show_bytes(sent, found);
+        prove!(address_of(sent) <= 255 && found.wish.slave <= 255);
         match sent.kind {
             Kind::Mst => self.begin(cycle, sent, found),
             Kind::At => self.note_at(w, sent, found),

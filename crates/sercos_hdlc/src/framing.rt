@@ -97,7 +97,7 @@ pub fn frame_len(content: &[u8]) -> u32
     len
 }
 
-/// A law, without code. Every content of 1 to 2048 bytes has exactly one frame, `frame_of`. A frame has no more bits than `wire_bits`
+/// Every content of 1 to 2048 bytes has exactly one frame, `frame_of`. A frame has no more bits than `wire_bits`
 /// of its content's length, so each fits into a [`BitBuf`]. No frame is a proper prefix of another, so a frame is read again from its
 /// own bits alone.
 pub fn framing_law()

@@ -110,7 +110,7 @@ pub fn unframe(bits: &BitBuf, out: &mut Content) -> Result<usize, BadFrame>
     deframer.finish(out)
 }
 
-/// A law, without code: no rule applies iff the bits are a frame, and they are that of one content alone.
+/// No rule applies iff the bits are a frame, and they are that of one content alone.
 pub fn frame_law()
     ensures frame { (bits : List Bool) → reason_of bits ≡ None
         → IsFrame (content_of (plain bits)) bits }

@@ -8,7 +8,7 @@ ghost use Rattle.sercos_idn.specs.declared.attribute.Attribute.{Attribute};
 
 use crate::code::Code;
 
-/// A law, without code: if a text is refused at a place, the bytes before it begin the text of an identifier number, and
+/// If a text is refused at a place, the bytes before it begin the text of an identifier number, and
 /// with the byte at the place they don't. If the place is the end of the text, the text is incomplete. A number above 4095
 /// is refused at its first digit once all four digits are there; the bytes before any other place may begin such a number,
 /// too.
@@ -16,14 +16,14 @@ pub fn place_law()
     ensures { (text : List ℕ) (place : ℕ) → idn_fault text ≡ Some place → IsRefusedAt text place }
 {}
 
-/// A law and no code: the word of an attribute has 32 bits and no fault, and the attribute that it is is that one.
+/// The word of an attribute has 32 bits and no fault, and the attribute that it is is that one.
 pub fn attribute_law()
     ensures small { (a : Attribute) → a.factor < 2 ^ 16 → attribute_word a < 2 ^ 32 }
     ensures sound { (a : Attribute) → a.factor < 2 ^ 16 → attribute_fault (attribute_word a) ≡ None }
     ensures back { (a : Attribute) → a.factor < 2 ^ 16 → attribute_of (attribute_word a) ≡ a }
 {}
 
-/// A law, without code: the information word of each error code that is the same for all elements. The words are this
+/// The information word of each error code that is the same for all elements. The words are this
 /// profile's.
 pub fn code_law()
     ensures not_open { Code.NOT_OPEN.raw ≡ 0x0001 }

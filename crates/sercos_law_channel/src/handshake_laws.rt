@@ -16,7 +16,7 @@ ghost use Rattle.sercos_law_channel.specs.Handshake.RunLaws.{StandsNoLater, Stan
 ghost use Rattle.sercos_law_channel.specs.Handshake.Exact.{RunsAreExact};
 ghost use Rattle.sercos_law_channel.specs.Handshake.Values.{HoldsNewest, StaysProtected, StaysQuiet, StaysFixed, StaysWritten};
 
-/// A law, without code: each move of the two ends keeps them in step. The drive's handshake bit is whether the number of
+/// Each move of the two ends keeps them in step. The drive's handshake bit is whether the number of
 /// steps that it accepted is odd; and a record joins them if its bit differs from that.
 pub fn handshake_law()
     ensures hears { Hears }
@@ -26,7 +26,7 @@ pub fn handshake_law()
     ensures joins { (t : Taken) (h : List Taken) → log_of (t ∷ h) ≡ with_taken t (reply_of t (log_of h)) (log_of h) }
 {}
 
-/// A law, without code: if both ends are in step, what the drive has accepted falls into the parts of the requests, one after
+/// If both ends are in step, what the drive has accepted falls into the parts of the requests, one after
 /// the other: each part are the steps of one request, as far as it got, with the answers that the master took. So the laws on
 /// transfers hold of each part.
 pub fn parts_law()

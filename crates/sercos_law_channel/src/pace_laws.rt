@@ -62,7 +62,7 @@ pub fn cost_law()
     ensures since { (busy : ℕ) → RecoversSince busy }
 {}
 
-/// A law and no code: what the requests of a start-up cost, one by one and together, and each request after it.
+/// What the requests of a start-up cost, one by one and together, and each request after it.
 pub fn jobs_law()
     ensures requests { CostsRequests }
     ensures word_read { (busy : ℕ) → WordReadCosts busy }
@@ -75,7 +75,7 @@ pub fn jobs_law()
     ensures request { (busy : ℕ) → RequestCosts busy }
 {}
 
-/// A law, without code: the calls of the master's channel in a run are allowed and yield the requests that were begun, and
+/// The calls of the master's channel in a run are allowed and yield the requests that were begun, and
 /// the channel counts the age of the open step, if each open step is sent. A run's newest cycle without its fall makes a run
 /// too. So, while every telegram arrives and the checks are passed, no channel counts more than the busy time before a
 /// cycle's end, and no fall is caused by the drive.
@@ -87,7 +87,7 @@ pub fn calls_law()
     ensures late { (busy : ℕ) → NoneLate busy }
 {}
 
-/// A law and no code: a check that is set and ends well counts as passed from its end on, and its cancel after that leaves
+/// A check that is set and ends well counts as passed from its end on, and its cancel after that leaves
 /// it so.
 pub fn passes_law()
     ensures setting { PassesBySetting }

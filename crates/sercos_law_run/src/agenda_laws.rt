@@ -10,7 +10,7 @@ ghost use Rattle.sercos_law_run.specs.Agenda.Events.{AreTold, AreToldAtRestart};
 // Laws on what the master does on the channel of one drive, after any calls.
 use sercos_step::steps_law;
 
-/// A law, without code: regardless of the calls of the master, the channel of each drive goes through moves. Within a cycle the drive is
+/// Regardless of the calls of the master, the channel of each drive goes through moves. Within a cycle the drive is
 /// identified, its first status is received, the plan is made, or the next task begins; then the cycle ends, or the epoch does.
 pub fn channel_law()
     ensures moves { CallsAreMoves }

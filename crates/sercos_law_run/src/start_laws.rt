@@ -8,7 +8,7 @@ ghost use Rattle.sercos_law_run.specs.Start.Answers.{AsksAsRing, SaysLength, NoA
 ghost use Rattle.sercos_law_run.specs.Start.Held.{WritesStartUp, HoldsPlan};
 ghost use Rattle.sercos_law_run.specs.Start.RingSlots.{RingKeepsApart, RingSendsApart};
 
-/// A law, without code: what an identifier number adds to a telegram is the same by a drive's store and by its description,
+/// What an identifier number adds to a telegram is the same by a drive's store and by its description,
 /// regardless of what was written, and so are the lengths of AT and data record. If the drive holds the start-up values of a plan
 /// that fits, its check for phase 3 finds nothing.
 pub fn start_up_law()
@@ -17,7 +17,7 @@ pub fn start_up_law()
     ensures passes { PlanPassesCheck }
 {}
 
-/// A law and no code: accepted writes and the lists of the checks leave the store that of the drive, so the same writes are
+/// Accepted writes and the lists of the checks leave the store that of the drive, so the same writes are
 /// refused as at opening. Of the start-up values only the cycle time can be refused, and it is refused exactly if it is outside
 /// the drive's limits. With a cycle time within them, the check for phase 4 names exactly those of the drive's own blocks that
 /// are outside their limits. The operation data of a built-in block are the same in every cycle until they are written.
@@ -33,7 +33,7 @@ pub fn store_of_law()
     ensures steady { BuiltInIsSteady }
 {}
 
-/// A law and no code: while the master writes the start-up values one after the other, the store holds those written so far, as
+/// While the master writes the start-up values one after the other, the store holds those written so far, as
 /// they were written. No write to another block, and no list of a check, changes them, and in phases 3 and 4 they are write
 /// protected. The check for phase 3 can be set in phase 2 alone, and that for phase 4 in phase 3 alone.
 pub fn held_values_law()
@@ -45,13 +45,13 @@ pub fn held_values_law()
     ensures whole { StoresStartUpWhole }
 {}
 
-/// A law and no code: which of a drive's own blocks are outside their limits is the same during the whole start-up as at opening.
+/// Which of a drive's own blocks are outside their limits is the same during the whole start-up as at opening.
 pub fn own_block_law()
     ensures stay { OwnStay }
     ensures opening { OwnAtOpening }
 {}
 
-/// A law, without code: regardless of what was written, each word of a write on the service channel is refused as at opening. Of
+/// Regardless of what was written, each word of a write on the service channel is refused as at opening. Of
 /// the words of the start-up values only that of the cycle time can be refused, and it is refused iff it is outside the drive's
 /// limits. A ring's planner input is valid. The check for phase 3 ends well, and that for phase 4 iff no own block is outside its
 /// limits. The stop after a failed check has the drive's whole list.
@@ -65,7 +65,7 @@ pub fn cause_law()
     ensures whole { StopsWithList }
 {}
 
-/// A law, without code: by its drives' answers the master's planner input is the ring's, and no attribute that is configured stops
+/// By its drives' answers the master's planner input is the ring's, and no attribute that is configured stops
 /// it. What it then writes are the start-up values, and a drive that holds them holds the plan.
 pub fn answer_law()
     ensures asks { AsksAsRing }
@@ -76,7 +76,7 @@ pub fn answer_law()
     ensures holds { HoldsPlan }
 {}
 
-/// A law, without code: if each drive in phase 3 or 4 holds the start-up values of a plan that fits, the telegrams of a cycle are
+/// If each drive in phase 3 or 4 holds the start-up values of a plan that fits, the telegrams of a cycle are
 /// apart, and keep the times that the drives declare, even if ATs are missing.
 pub fn ring_slot_law()
     ensures apart { RingKeepsApart }

@@ -1,4 +1,4 @@
-// Laws and no code.
+// How the totals of a run are counted.
 ghost use Rattle.std.specs.Prelude.{◌≡◌, ℕ, ◌+◌, ◌<◌, List, [], ◌∷◌, ◌++◌, reverse, length, IfSome};
 ghost use Rattle.sercos_step.specs.declared.request.Job.{Job};
 ghost use Rattle.sercos_timing.specs.Views.{WishesView};
@@ -13,7 +13,7 @@ ghost use Rattle.sercos_law_run.specs.Totals.Totals.{totals_of};
 
 use sercos_master::master_law;
 
-/// A law, without code. The plan that is reported in a cycle has a time and a position for each drive.
+/// The plan that is reported in a cycle has a time and a position for each drive.
 pub fn plan_law()
     ensures starts { (r : RingView) (jobs : List Job) (carry : Carry) (restarts : Restarts) (t : CycleView) (j : List CycleView) → IsNext r jobs carry restarts t j →
         IfSome t.events.plan (λ p. length p.t1 ≡ length (wishes_of r).drives) }
@@ -23,7 +23,7 @@ pub fn plan_law()
     master_law();
 }
 
-/// A law and no code. The totals of cycles and one more, counted one by one, and that there is room for 50,000 of them.
+/// The totals of cycles and one more, counted one by one, and that there is room for 50,000 of them.
 pub fn totals_law()
     ensures none { none_made ≡ totals_of [] }
     ensures more { (cycles : List CycleView) (made : CycleView) → totals_of (cycles ++ made ∷ []) ≡ with_cycle (totals_of cycles) made }

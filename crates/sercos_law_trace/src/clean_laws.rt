@@ -1,4 +1,4 @@
-// Laws and no code.
+// Which rules of a capture the trace of a run keeps.
 ghost use Rattle.sercos_law_trace.specs.Clean.Ruled.{RunsFitLines, RunsKeepRules};
 ghost use Rattle.sercos_law_trace.specs.Clean.Traces.{RunsAreClean, RunsFitOthers, RunsFitReports, TracesAreClean};
 

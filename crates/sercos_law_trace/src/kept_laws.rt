@@ -1,11 +1,11 @@
-// A law and no code.
+// What stays of a complete write.
 ghost use Rattle.sercos_law_trace.specs.Told.Writes.{WritesAreKept};
 
 use sercos_law_channel::{transfer_law, values_law};
 use sercos_law_run::{agenda_law, channel_law, headline_law, report_law};
 use sercos_master::master_law;
 
-/// A law, without code. In a run without undetected damage, regardless of losses and restarts: if a write of operation data is reported
+/// In a run without undetected damage, regardless of losses and restarts: if a write of operation data is reported
 /// as complete, and no later request to the drive writes to the same block, then the drive has the block, and after the last cycle its
 /// store has the bytes of this write there. The bytes of a write that is not a list are filled up with zeros to whole words, at least
 /// one. No start-up changes them: the blocks that it writes are write protected in phase 4, in which all requests are made.

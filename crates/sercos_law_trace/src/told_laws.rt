@@ -1,9 +1,9 @@
-// A law and no code.
+// What is reported of a complete read.
 ghost use Rattle.sercos_law_trace.specs.Told.Reads.{ReadsAreExact};
 
 use sercos_law_run::headline_law;
 
-/// A law, without code. In a run without undetected damage, the bytes reported of a complete read of operation data are those of the
+/// In a run without undetected damage, the bytes reported of a complete read of operation data are those of the
 /// block in the drive's store in the one cycle in which the drive accepted the selection of that read's own transfer.
 pub fn told_law()
     ensures reads { ReadsAreExact }

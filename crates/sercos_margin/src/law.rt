@@ -6,7 +6,7 @@ ghost use Rattle.sercos_timing.specs.Valid.{IsValid};
 ghost use Rattle.sercos_margin.specs.Margins.{greatest, declared, with_time, with_cycle, margin_of, HasPlan, IsMargin};
 ghost use Rattle.sercos_margin.specs.declared.changes.Time.{Time};
 
-/// A law and no code. A plan that fits where one time of a drive is v also fits where it is less; and a plan that fits with a
+/// A plan that fits where one time of a drive is v also fits where it is less; and a plan that fits with a
 /// cycle time, which is the control unit cycle time too, also fits with each longer one. So the value of
 /// a time that is found by trying one after the other is how far it can go.
 pub fn margin_law()

@@ -6,7 +6,7 @@ use sercos_law_run::{
     tolerance_law, undisturbed_law,
 };
 
-/// A law and no code. The cycles of a ring that may be opened with its requests are a run. In each of them no request is reported a second
+/// The cycles of a ring that may be opened with its requests are a run. In each of them no request is reported a second
 /// time. In each, up to the first arrival that is unseen, all is kept that is promised of it, the planner's answer to the ring's
 /// requirements predicts it, the ring recovers in time, it bears sparse faults without a fall, and it returns after others while these go
 /// on; up to the first that is disturbed, the start-up goes as it should. If the link is harmless, no arrival is unseen. And whatever

@@ -1,4 +1,4 @@
-// A law and no code.
+// What the least times of a ring are.
 ghost use Rattle.sercos_timing.specs.Views.{WishesView};
 ghost use Rattle.sercos_timing.specs.Order.{sent};
 ghost use Rattle.sercos_timing.specs.Valid.{IsValid};
@@ -6,7 +6,7 @@ ghost use Rattle.sercos_plan.specs.LeastTimes.{least_t1, least_t2, least_t3};
 ghost use Rattle.sercos_plan.specs.ChainOf.{chain_of};
 ghost use Rattle.sercos_planning.specs.LeastTimes.{AreLeast, IsLeastChain};
 
-/// A law, without code. The least times of a ring keep the inequalities 1 to 7 between its time slots, whether a plan fits or not, and no
+/// The least times of a ring keep the inequalities 1 to 7 between its time slots, whether a plan fits or not, and no
 /// times that keep these are less, at any place. The links of the chain that proves that none fits are at these times.
 #[tactic(auto, using(crate::proofs::LeastTimesLemmas::are_least, crate::proofs::LeastTimesLemmas::least_chain))]
 pub fn least_law()

@@ -1,4 +1,4 @@
-// Laws and no code.
+// What a replay reports.
 ghost use Rattle.std.specs.Prelude.{◌≡◌, ℕ, ◌<◌, true, List, [], ◌∷◌, length, None};
 ghost use Rattle.sercos_step.specs.declared.request.Job.{Job};
 ghost use Rattle.sercos_block.specs.Views.{DriveView, RingView};
@@ -18,7 +18,7 @@ ghost use Rattle.sercos_replay.specs.Asking.{Replays};
 
 use sercos_law_run::typed_law;
 
-/// A law, without code. In a clean capture no cycle goes back. What a replay reports of it is the first place that differs, if its
+/// In a clean capture no cycle goes back. What a replay reports of it is the first place that differs, if its
 /// telegram is there or the capture has one of a later place. Lines that are not telegrams don't affect a replay.
 pub fn capture_law()
     ensures clean { (before : List Line) (line : Line) → IsClean (line ∷ before) → GoesOn before line }
@@ -27,7 +27,7 @@ pub fn capture_law()
     ensures telegrams { (lines : List Line) → cycles_of lines ≡ cycles_of (telegrams lines) }
 {}
 
-/// A law, without code. The capture of a run in which nothing is disturbed agrees: no drive and no master deviates from its rules. The
+/// The capture of a run in which nothing is disturbed agrees: no drive and no master deviates from its rules. The
 /// numbers of ring and requests are in their types' ranges, so that each telegram is the content of its frame.
 pub fn agreement_law()
     ensures drive { (r : RingView) (jobs : List Job) (carry : Carry) (restarts : Restarts) (j : List CycleView) (index : ℕ) → is_ring r ≡ true →
@@ -40,7 +40,7 @@ pub fn agreement_law()
     typed_law();
 }
 
-/// A law, without code. `Done` is the answer iff an input is that of a replay and no place differs, and `No` iff one does, or the capture
+/// `Done` is the answer iff an input is that of a replay and no place differs, and `No` iff one does, or the capture
 /// breaks a rule. Whenever an input is that of a replay, the answer is the first place that differs, or the number of cycles.
 #[tactic(auto, using(crate::proofs::AskingLemmas::replays))]
 pub fn asking_law()

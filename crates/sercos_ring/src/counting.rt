@@ -94,13 +94,6 @@ pub fn count_cycle(totals: &mut Totals, made: &CycleRecord)
     totals.phase4 = first_in_4(totals.phase4, made.phase, made.cycle);
 }
 
-// A cycle has at most 66 telegrams.
-fn show_sent(made: &CycleRecord)
-    ensures { length made.now.sent ≤ 66 }
-{
-    let _count = made.sent.len();
-}
-
 /// Counts a cycle that a ring has made.
 pub fn count_made(totals: &mut Totals, made: &CycleRecord)
     requires made { IsMade made.now }
@@ -109,6 +102,6 @@ pub fn count_made(totals: &mut Totals, made: &CycleRecord)
     ensures few { IsFew made.now }
 {
     ring_law();
-    show_sent(made);
+    prove!(made.sent.len() <= 66);
     count_cycle(totals, made);
 }

@@ -1,4 +1,4 @@
-// A law and no code.
+// What the cycles of a ring are.
 ghost use Rattle.std.specs.Prelude.{◌≡◌, true, List, length};
 ghost use Rattle.sercos_step.specs.declared.request.Job.{Job};
 ghost use Rattle.sercos_block.specs.Views.{RingView};
@@ -11,7 +11,7 @@ ghost use Rattle.sercos_ring.specs.declared.ring.Ring.{Ring};
 
 use sercos_script::BitLink;
 
-/// A law, without code. The cycles that a ring stands for are a run of a valid setup, as many as it has made.
+/// The cycles that a ring stands for are a run of a valid setup, as many as it has made.
 pub fn standing_law<L: BitLink>()
     ensures run { (ring : Ring L) (r : RingView) (jobs : List Job) (carry : Carry) (restarts : Restarts) (j : List CycleView) →
         RingStandsFor L.carry L.restart ring r jobs carry restarts j → IsRun r jobs carry restarts j }

@@ -7,7 +7,7 @@ ghost use Rattle.sercos_service_drive.specs.Log.{Taken};
 ghost use Rattle.sercos_service_drive.specs.Replies.{log_of};
 ghost use Rattle.sercos_service_drive.specs.Writes.{Write, AreAlike, AreThose, with_added, writes_of, blocks_with, added_on};
 
-/// Laws, without code. A drive's writes grow by what a record adds. A write changes the operation data of blocks and nothing
+/// A drive's writes grow by what a record adds. A write changes the operation data of blocks and nothing
 /// else of them. And it was allowed: the store has no cause against its bytes in the phase of its last word, with the same
 /// blocks except for their operation data.
 pub fn writes_law()

@@ -5,7 +5,7 @@ ghost use Rattle.sercos_show.specs.SpelledLine.{IsLine};
 ghost use Rattle.sercos_show.specs.Places.{IsRefusedAt};
 ghost use Rattle.sercos_show.specs.declared.line.LineKind.{LineKind};
 
-/// A law, without code: a line of `show` has no fault iff it is the line `KIND COUNT HEX` of some bits, which are then those
+/// A line of `show` has no fault iff it is the line `KIND COUNT HEX` of some bits, which are then those
 /// that are read, with that kind. So a line is read as one list of bits at most, of one kind, and each list of at most 19696
 /// bits has a line of each kind.
 pub fn line_law()
@@ -17,7 +17,7 @@ pub fn line_law()
         → (line : List ℕ) × IsLine kind line bits }
 {}
 
-/// A law, without code: if a line is refused at a place, the bytes before it begin a line of some bits, and with the byte at
+/// If a line is refused at a place, the bytes before it begin a line of some bits, and with the byte at
 /// the place they don't. If the place is the end of the line, the line is incomplete. There are two exceptions: a COUNT above
 /// 19696 is refused at its first digit, and a pair of digits at its first digit, if only its second one shows that a bit after
 /// the last one is 1.

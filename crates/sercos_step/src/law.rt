@@ -10,7 +10,7 @@ ghost use Rattle.sercos_step.specs.Words.{words_told, bytes_read};
 ghost use Rattle.sercos_step.specs.Steps.{steps_of, next_step, outcome_of, AreAnswers};
 ghost use Rattle.sercos_step.specs.Counts.{CountsAnswers, HasAtMost, AttributeTakes, ValueTakes, ListTakes, ValueWriteTakes, ListWriteTakes, CommandTakes, CommandTakesSteps, RequestTakes};
 
-/// Laws, without code. A step that was known stays as it was, regardless of the word after it. A transfer that goes on has a
+/// A step that was known stays as it was, regardless of the word after it. A transfer that goes on has a
 /// next step. A read and a write end with their 517th answer at the latest. What is written reads back: a list of at most
 /// 1024 bytes, and a value of an even number of bytes.
 pub fn steps_law()
@@ -25,7 +25,7 @@ pub fn steps_law()
         bytes_read s (words_told s bytes) ≡ bytes }
 {}
 
-/// Laws, without code. A complete transfer has exactly the number of answers that its request, the attribute and the words
+/// A complete transfer has exactly the number of answers that its request, the attribute and the words
 /// read determine, and any other transfer has at most that many: three for an attribute, four for a value of one word that is
 /// read or written, and 5 + k for a list of k words that is read or written. A command whose status isn't 7 at the end of its
 /// time or later has at most four answers, and one more for each whole period of the time.

@@ -2,7 +2,7 @@ ghost use Rattle.std.specs.Prelude.{◌≡◌, ℕ, ◌+◌, ◌-◌, ◌<◌, �
 ghost use Rattle.sercos_telegram.specs.Spells.{all_drives, record_bytes, SpellsRecord};
 ghost use Rattle.sercos_telegram.specs.declared.words.Control.{Control};
 
-/// A law, without code: in an MDT that begins with the address of all drives, a record that was appended is at the
+/// In an MDT that begins with the address of all drives, a record that was appended is at the
 /// position that was its length before, regardless of the records that follow. So it is read back there.
 pub fn joint_law()
     ensures { (control : Control) (info : ℕ) (before values after : List ℕ) →

@@ -7,14 +7,14 @@ ghost use Rattle.sercos_timing.specs.Named.{IsFirstBroken};
 ghost use Rattle.sercos_timing.specs.Tests.{TellsValid};
 ghost use Rattle.sercos_timing.specs.declared.fitting.Broken.{Broken};
 
-/// A law and no code: where `fits` names an inequality and a drive, that inequality fails for that drive, each AT sent
+/// Where `fits` names an inequality and a drive, that inequality fails for that drive, each AT sent
 /// before keeps it, and each inequality of a smaller number is kept.
 pub fn first_broken_law()
     ensures { (w : WishesView) (p : PlanView) (b : Broken) → IsValid w → length p.t1 ≡ length w.drives → length p.position ≡ length w.drives
         → first_broken w p ≡ Some b → IsFirstBroken w p b }
 {}
 
-/// A law, without code: a test on the planner's input, which can be computed, decides whether a plan may be requested
+/// A test on the planner's input, which can be computed, decides whether a plan may be requested
 /// for it.
 pub fn valid_law()
     ensures { TellsValid }

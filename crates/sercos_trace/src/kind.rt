@@ -126,7 +126,7 @@ pub(crate) fn template_for(kind: LineKind) -> &'static [u8]
     }
 }
 
-/// A law, without code. A space, or nothing, follows each field of a kind's template: so a line that is written of values of the
+/// A space, or nothing, follows each field of a kind's template: so a line that is written of values of the
 /// template's fields is a line of that kind, and is read as these values, by the law on lines.
 pub fn template_law()
     ensures { (kind : LineKind) → is_template (template_of kind) ≡ true }

@@ -9,5 +9,5 @@ returns-in-Ok-open_document c = (
   c.in-Ok.ensures.value,
   c.in-Ok-open_document.ensures,
   ring_run c.kept_law.ensures.kept c.clean_law.ensures.clean c.in-Ok.document c.show_opened.ensures c.in-Ok.ensures.jobs.few
-      (subst (λ (d : DocumentView). 1 ≤ d.setup.cycles) c.document.view_is c.show_cycles.ensures),
+      (subst (λ (d : DocumentView). 1 ≤ d.setup.cycles) c.document.view_is (rw (← c.cycles_of.ensures.value) c.cycles_of.ensures.some)),
 )
