@@ -11,7 +11,7 @@ use Rattle.sercos_master.specs.declared.master.AnyMaster.{AnyMaster}
 use Rattle.sercos_master.specs.Reports.{plan_told}
 use Rattle.sercos_law_run.proofs.Totals.Bounds.{HasEach, due_each, or_each, positions_of, starts_of, wished}
 use Rattle.sercos_c.specs.Texts.{has_each, has_slots}
-use Rattle.sercos_c.specs.Records.{record_of}
+use Rattle.sercos_c.specs.Records.{silent_record}
 use Rattle.sercos_c.proofs.RingLemmas.{slots_for}
 use Rattle.sercos_c.specs.Masters.{past_of, reported, reported_in, has_master, StandsFor}
 
@@ -33,7 +33,7 @@ reported_each law d (HearAt content ∷ h) = reported_each law d h
 reported_each law d (Mdt ∷ h) = reported_each law d h
 
 pub slots_reported : PlanLaw → (d : DocumentView) (h : List Call) (w : WishesView) (made : CycleView) → w ≡ wishes_of d.setup
-    → made ≡ record_of (reported_in h) (reported d h) → has_slots w made ≡ true
+    → made ≡ silent_record (reported_in h) (reported d h) → has_slots w made ≡ true
 slots_reported law d h w made is made_is =
     let plan : made.events.plan ≡ (reported d h).plan = ap (λ v. v.events.plan) made_is in
     let n = length w.drives in

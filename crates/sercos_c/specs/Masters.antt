@@ -11,7 +11,7 @@ use Rattle.sercos_master.specs.Any.{AnyStandsFor}
 use Rattle.sercos_master.specs.Reports.{events_told, restart_told}
 use Rattle.sercos_master.specs.Says.{Sent}
 use Rattle.sercos_drive.specs.Kept.{counted}
-use Rattle.sercos_c.specs.Records.{no_events, record_of}
+use Rattle.sercos_c.specs.Records.{no_events, silent_record}
 use Rattle.sercos_document.specs.declared.refusal.BadDocument.{BadDocument}
 use Rattle.sercos_document.specs.declared.refusal.BadDocument.TheVariants as bad
 use Rattle.sercos_c.specs.Statuses.{done, answer_no, refused}
@@ -63,7 +63,7 @@ StandsFor (Some m) d h = AnyStandsFor m (known_of d.setup) d.jobs h
 pub record MasterStandsFor (m : MasterStation) (d : DocumentView) (h : List Call) : Type 0 where
   pub stands : StandsFor m.master d h
   pub wishes_is : m.wishes ≡ wishes_of d.setup
-  pub record_is : m.record.value ≡ record_of (reported_in h) (reported d h)
+  pub record_is : m.record.value ≡ silent_record (reported_in h) (reported d h)
   pub ended_is : m.ended ≡ counted (ends h)
 
 abbrev pub is_master : Option Station → Bool

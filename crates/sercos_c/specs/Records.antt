@@ -11,5 +11,5 @@ abbrev pub of_nothing : ℕ → List SentView → CycleView
 of_nothing cycle sent = record { cycle = cycle; phase = 0; sent = sent; moves = []; events = no_events; unseen = 0 }
 
 -- the record of a cycle that has these events alone
-abbrev pub record_of : ℕ → EventsView → CycleView
-record_of cycle events = record { cycle = cycle; phase = 0; sent = []; moves = []; events = events; unseen = 0 }
+abbrev pub silent_record : ℕ → EventsView → CycleView
+silent_record cycle events = record { cycle = cycle; phase = 0; sent = []; moves = []; events = events; unseen = 0 }

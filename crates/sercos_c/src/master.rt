@@ -8,7 +8,7 @@ ghost use Rattle.sercos_master.specs.Annals.{Call, HearMst, HearAt, Mdt, End, Re
 ghost use Rattle.sercos_master.specs.Says.{mst_said, mdt_said};
 ghost use Rattle.sercos_c.specs.Statuses.{done, closed, write_fault};
 ghost use Rattle.sercos_c.specs.Room.{IsNothing, IsPut};
-ghost use Rattle.sercos_c.specs.Records.{record_of};
+ghost use Rattle.sercos_c.specs.Records.{silent_record};
 ghost use Rattle.sercos_c.specs.Texts.{IsText};
 ghost use Rattle.sercos_c.specs.Drives.{arrival};
 ghost use Rattle.sercos_c.specs.Masters.{is_master, past_of, reported, reported_in, HoldsMaster, IsSent};
@@ -114,7 +114,7 @@ fn command(station: &Station, phase: &mut u8) -> u8
 // Writes the lines of what a station reports, if it is a master.
 fn events(station: &Station, out: &mut [u8], written: &mut usize) -> u8
     ensures closed { is_master (Some station.now) ≡ false → result ≡ closed }
-    ensures written { (d : DocumentView) (h : List Call) → HoldsMaster (Some station.now) d h → IsText (cycle_text (wishes_of d.setup) (record_of (reported_in h) (reported d h))) out.old out.new written.new result }
+    ensures written { (d : DocumentView) (h : List Call) → HoldsMaster (Some station.now) d h → IsText (cycle_text (wishes_of d.setup) (silent_record (reported_in h) (reported d h))) out.old out.new written.new result }
     ensures nothing { result ≡ closed → (out.new ≡ out.old) × (written.new ≡ written.old) }
 {
     match station {
@@ -266,7 +266,7 @@ pub extern "C" fn sercos_master_events(
 ) -> u8
     ensures kept { master.new.held.value ≡ master.old.held.value }
     ensures closed { is_master master.old.held.value ≡ false → result ≡ closed }
-    ensures written { (d : DocumentView) (h : List Call) → HoldsMaster master.old.held.value d h → IsText (cycle_text (wishes_of d.setup) (record_of (reported_in h) (reported d h))) out.old out.new written.new result }
+    ensures written { (d : DocumentView) (h : List Call) → HoldsMaster master.old.held.value d h → IsText (cycle_text (wishes_of d.setup) (silent_record (reported_in h) (reported d h))) out.old out.new written.new result }
     ensures nothing { result ≡ closed → (out.new ≡ out.old) × (written.new ≡ written.old) }
 {
     let Some(station) = take_out(alloc, master) else {

@@ -9,7 +9,7 @@ ghost use Rattle.sercos_seat.specs.Ring.{Known, known_of, tasks_for};
 ghost use Rattle.sercos_step.specs.declared.request.Job.{Job};
 ghost use Rattle.sercos_master.specs.Any.{AnyStandsFor};
 ghost use Rattle.sercos_master.specs.Reports.{restart_told};
-ghost use Rattle.sercos_c.specs.Records.{no_events, of_nothing, record_of};
+ghost use Rattle.sercos_c.specs.Records.{no_events, of_nothing, silent_record};
 ghost use Rattle.sercos_c.specs.Statuses.{done, closed, write_fault};
 ghost use Rattle.sercos_c.specs.Room.{IsNothing, IsPut};
 ghost use Rattle.sercos_c.specs.Texts.{IsText};
@@ -162,7 +162,7 @@ impl MasterStation {
     pub(crate) fn events(&self, out: &mut [u8], written: &mut usize) -> u8
         ensures closed { has_master self.now.master ≡ false → result ≡ closed }
         ensures written { (d : DocumentView) (h : List Call) → MasterStandsFor self.now d h →
-            IsText (cycle_text (wishes_of d.setup) (record_of (reported_in h) (reported d h))) out.old out.new written.new result }
+            IsText (cycle_text (wishes_of d.setup) (silent_record (reported_in h) (reported d h))) out.old out.new written.new result }
         ensures nothing { result ≡ closed → (out.new ≡ out.old) × (written.new ≡ written.old) }
     {
         master_law();
