@@ -57,6 +57,7 @@ pub mod TwoStops
 pub mod Reached
 pub mod LateSteps
 pub mod LaterStops
+pub mod Cited
 pub mod StartUpEnds
 pub mod OwnInside
 pub mod SetsFour

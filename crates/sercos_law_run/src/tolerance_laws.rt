@@ -11,8 +11,6 @@ ghost use Rattle.sercos_law_run.specs.Tolerance.Rises.{RisesSparse};
 ghost use Rattle.sercos_law_run.specs.Tolerance.Sparse.{CalmIsSparse, OneOfThreeIsSparse};
 ghost use Rattle.sercos_law_run.specs.Tolerance.TwoLasts.{TwoSparse};
 
-use crate::undisturbed_laws::undisturbed_law;
-
 /// A law over every run of a ring without undetected damage, over every link. Take any point at which phase 0 is commanded next: the
 /// opening, a fall, a restart of the master. Losses and restarts before it don't matter. From there on, as long as no station restarts and
 /// the disturbed cycles are sparse, the ring bears them, however many they are. They are sparse if neither of the two cycles before a
@@ -54,6 +52,4 @@ pub fn tolerance_law()
     ensures rises_anyway { RisesAnyway }
     ensures ends_anyway { EndsAnyway }
     ensures returns { ReturnsWhileSparse }
-{
-    undisturbed_law();
-}
+{}

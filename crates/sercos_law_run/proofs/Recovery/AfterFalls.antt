@@ -16,7 +16,6 @@ use Rattle.sercos_law_run.specs.Views.RingViews.{behind_mdt}
 use Rattle.sercos_law_run.specs.Held.Opened.{IsOpened}
 use Rattle.sercos_law_run.specs.Undisturbed.Ends.{StaysAtItsEnd}
 use Rattle.sercos_law_run.specs.Undisturbed.EpochStarts.{StartsAtFall, StartsAtRestart, StartsEpoch}
-use Rattle.sercos_law_run.specs.Undisturbed.Fit.{FitsInThree, OwnFitsInFour}
 use Rattle.sercos_law_run.specs.Undisturbed.Reports.{ReportsInTime}
 use Rattle.sercos_law_run.specs.Undisturbed.StartUps.{AgesUndisturbed, AnswersUndisturbed, NoneFalls, StaysUpUndisturbed, TellsNoFallUndisturbed}
 use Rattle.sercos_law_run.specs.Undisturbed.StopsInTwo.{StopsForTheCycleTime, StopsForThePlan}
@@ -27,6 +26,7 @@ use Rattle.sercos_law_run.proofs.Undisturbed.WholeRuns.{caused}
 use Rattle.sercos_law_run.specs.Recovery.AfterFalls.{AfterFall, StartsAgain}
 use Rattle.sercos_law_run.proofs.Recovery.EpochStops.{once_since, told_since}
 use Rattle.sercos_law_run.proofs.Recovery.Stretches.{rest_runs}
+use Rattle.sercos_law_run.proofs.Undisturbed.Cited.{fits_in_three, own_fits_in_four}
 
 -- a fall that is told is one of the ring, or a restart
 pub fell_so : (o : Option Fall) (b : Bool) (e f : EventsView) (x : Fall) → f.fall ≡ None → option_or o (if b then e else f).fall ≡ Some x → (is_some o ≡ true) ⊎ (b ≡ true)
@@ -34,8 +34,9 @@ fell_so (Some y) b e f x quiet told = inl refl
 fell_so None true e f x quiet told = inr refl
 fell_so None false e f x quiet told = let same : None ≡ Some x = sym quiet ∙ told in absurd (cc)
 
-module _ (at_fall : StartsAtFall) (at_restart : StartsAtRestart) (tells : TellsNoFallUndisturbed) (rises : RisesIfRight) (fit : FitsInThree) (own : OwnFitsInFour) (at_end : StaysAtItsEnd) (outcome : EndsStartUp) (ages : AgesUndisturbed) (answers : AnswersUndisturbed) (reports : ReportsInTime) (up : StaysUpUndisturbed)
-    (r : RingView) (jobs : List Job) (carry : Carry) (restarts : Restarts) (opened : IsOpened r jobs) where
+module _ (at_fall : StartsAtFall) (at_restart : StartsAtRestart) (tells : TellsNoFallUndisturbed) (rises : RisesIfRight)
+    (at_end : StaysAtItsEnd) (outcome : EndsStartUp) (ages : AgesUndisturbed) (answers : AnswersUndisturbed) (reports : ReportsInTime)
+    (up : StaysUpUndisturbed) (r : RingView) (jobs : List Job) (carry : Carry) (restarts : Restarts) (opened : IsOpened r jobs) where
   -- then an epoch begins
   epoch_begins : (f : CycleView) (before : List CycleView) (x : Fall) → IsNext r jobs carry restarts f before → f.events.fall ≡ Some x → StartsEpoch r jobs carry restarts (f ∷ before)
   epoch_begins f before x next told = elim (fell_so (fall_of (known_of r) (behind_mdt r jobs carry restarts f.sent before)) (restarts (length before) 0) (restart_told (known_of r) (looks_back r jobs (master_calls r carry restarts before)) no_events)
@@ -50,8 +51,8 @@ module _ (at_fall : StartsAtFall) (at_restart : StartsAtRestart) (tells : TellsN
   starts_again t cycles before run clear starts calm = record {
     tells = tells r jobs carry restarts t cycles before opened run clear starts calm;
     rises = λ late right. rises r jobs carry restarts t cycles before opened run clear starts calm late right;
-    right = λ four. (fit r jobs carry restarts t (cycles ++ before) opened run clear (let low : 3 ≤ t.phase = omega (arith, four) in low), λ k below. own r jobs carry restarts t (cycles ++ before) k opened run clear below four);
-    fit = λ late. fit r jobs carry restarts t (cycles ++ before) opened run clear late;
+    right = λ four. (fits_in_three r jobs carry restarts t (cycles ++ before) opened run clear (let low : 3 ≤ t.phase = omega (arith, four) in low), λ k below. own_fits_in_four r jobs carry restarts t (cycles ++ before) k opened run clear below four);
+    fit = λ late. fits_in_three r jobs carry restarts t (cycles ++ before) opened run clear late;
     stays = λ u older is four. (at_end r jobs carry restarts t u older before opened (subst (λ (l : List CycleView). IsRun r jobs carry restarts (t ∷ (l ++ before))) is run) (subst (λ (l : List CycleView). IsClear (t ∷ (l ++ before))) is clear) starts
         (subst (λ (l : List CycleView). AreUndisturbed r carry restarts (t ∷ l) before) is calm)).0 four;
     ends = λ late. by (outcome r jobs carry restarts t cycles before opened run clear starts calm late);
@@ -76,6 +77,6 @@ module _ (at_fall : StartsAtFall) (at_restart : StartsAtRestart) (tells : TellsN
   after_fall_in t f cycles before x run clear calm told =
       starts_again t cycles (f ∷ before) run clear (epoch_begins f before x (rest_runs r jobs carry restarts (t ∷ cycles) (f ∷ before) run).1 told) calm
 
-pub after_fall : StartsAtFall → StartsAtRestart → TellsNoFallUndisturbed → RisesIfRight → FitsInThree → OwnFitsInFour → StaysAtItsEnd → EndsStartUp → AgesUndisturbed → AnswersUndisturbed → ReportsInTime → StaysUpUndisturbed → AfterFall
-after_fall at_fall at_restart tells rises fit own at_end outcome ages answers reports up r jobs carry restarts t f cycles before x opened run clear calm told =
-    after_fall_in at_fall at_restart tells rises fit own at_end outcome ages answers reports up r jobs carry restarts opened t f cycles before x run clear calm told
+pub after_fall : StartsAtFall → StartsAtRestart → TellsNoFallUndisturbed → RisesIfRight → StaysAtItsEnd → EndsStartUp → AgesUndisturbed → AnswersUndisturbed → ReportsInTime → StaysUpUndisturbed → AfterFall
+after_fall at_fall at_restart tells rises at_end outcome ages answers reports up r jobs carry restarts t f cycles before x opened run clear calm told =
+    after_fall_in at_fall at_restart tells rises at_end outcome ages answers reports up r jobs carry restarts opened t f cycles before x run clear calm told

@@ -24,9 +24,7 @@ use Rattle.sercos_law_run.proofs.Held.Runs.{holding}
 use Rattle.sercos_law_run.proofs.Headline.HeadlineRuns.{all_stand, first_store, spelled_in, stored_in}
 use Rattle.sercos_law_run.proofs.Headline.StopRuns.{IsFollowed, no_plan_made}
 use Rattle.sercos_law_run.proofs.Headline.WellRuns.{event_stop}
-use Rattle.sercos_law_run.specs.Undisturbed.Fit.{FitsInThree, OwnFitsInFour}
-use Rattle.sercos_law_run.specs.Undisturbed.StopsInTwo.{StopsForTheCycleTime, StopsForThePlan, StopsInTwo}
-use Rattle.sercos_law_run.specs.Undisturbed.StopsLater.{NoStopInFour, StopsInThree}
+use Rattle.sercos_law_run.specs.Undisturbed.StopsInTwo.{StopsForTheCycleTime, StopsForThePlan}
 use Rattle.sercos_law_run.specs.Undisturbed.WholeRuns.{StopsForCause}
 use Rattle.sercos_law_run.proofs.Undisturbed.JobsBegun.{asked_now, begun_then}
 use Rattle.sercos_law_run.proofs.Undisturbed.WholeRuns.{caused}
@@ -36,10 +34,10 @@ use Rattle.sercos_law_run.proofs.Recovery.LateDown.{phase_now}
 use Rattle.sercos_block.proofs.RingLemmas.{IsRing-is_ring}
 use Rattle.sercos_law_run.proofs.Cited.{reads_well}
 use Rattle.sercos_master.proofs.Planned.{is_planned}
+use Rattle.sercos_law_run.proofs.Undisturbed.Cited.{fits_in_three, never_stops_in_four, own_fits_in_four, stops_in_three, stops_in_two}
 
-module _ (stops_two : StopsInTwo) (stops_three : StopsInThree) (none_four : NoStopInFour) (fit : FitsInThree) (own : OwnFitsInFour)
-    (r : RingView) (jobs : List Job) (carry : Carry) (restarts : Restarts) (opened : IsOpened r jobs) (t : CycleView) (j : List CycleView)
-    (run : IsRun r jobs carry restarts (t ∷ j)) (clear : IsClear (t ∷ j)) where
+module _ (r : RingView) (jobs : List Job) (carry : Carry) (restarts : Restarts) (opened : IsOpened r jobs) (t : CycleView)
+    (j : List CycleView) (run : IsRun r jobs carry restarts (t ∷ j)) (clear : IsClear (t ∷ j)) where
   abbrev now : Past
   now = behind_mdt r jobs carry restarts t.sent j
 
@@ -97,11 +95,11 @@ module _ (stops_two : StopsInTwo) (stops_three : StopsInThree) (none_four : NoSt
         let none = early_in r jobs carry restarts (middle r carry restarts t.sent j) (let same = phase_is in omega (arith, same, soon)) in
         let both : None ≡ Some x = sym none ∙ is in absurd (cc)
     | inr late ↦ elim (cases_eq t.phase 2) [
-      | inl two ↦ by (stops_two r jobs carry restarts t j x opened run clear two is)
+      | inl two ↦ by (stops_in_two r jobs carry restarts t j x opened run clear two is)
       | inr not_two ↦ elim (cases_eq t.phase 3) [
-        | inl three ↦ caused r jobs carry restarts t j x (inr (inr (stops_three r jobs carry restarts t j x opened run clear three is)))
+        | inl three ↦ caused r jobs carry restarts t j x (inr (inr (stops_in_three r jobs carry restarts t j x opened run clear three is)))
         | inr not_three ↦
-            let none = none_four r jobs carry restarts t j opened run clear (let most = low in omega (arith, late, most, not_two, not_three)) in
+            let none = never_stops_in_four r jobs carry restarts t j opened run clear (let most = low in omega (arith, late, most, not_two, not_three)) in
             let both : None ≡ Some x = sym none ∙ is in absurd (cc)
       ]
     ]
@@ -117,7 +115,7 @@ module _ (stops_two : StopsInTwo) (stops_three : StopsInThree) (none_four : NoSt
     chain = λ c is. no_plan_made r jobs opened (first_store r jobs carry restarts opened) (middle r carry restarts t.sent j)
         (λ k. stays (view_of r jobs carry restarts k t j) ∷ views_of r jobs carry restarts k j) followed c
         (event_stop r jobs carry restarts t j (stop.NoFit c) run.1 is);
-    fit = λ late. fit r jobs carry restarts t j opened run clear late;
-    right = λ four. (fit r jobs carry restarts t j opened run clear (omega (arith, four)), λ k below. own r jobs carry restarts t j k opened run clear below four);
+    fit = λ late. fits_in_three r jobs carry restarts t j opened run clear late;
+    right = λ four. (fits_in_three r jobs carry restarts t j opened run clear (omega (arith, four)), λ k below. own_fits_in_four r jobs carry restarts t j k opened run clear below four);
     stops = λ x is. cause x (event_stop r jobs carry restarts t j x run.1 is);
   }

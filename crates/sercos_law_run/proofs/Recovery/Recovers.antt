@@ -19,13 +19,11 @@ use Rattle.sercos_law_run.specs.Journal.Runs.{begins, IsClear, IsRun}
 use Rattle.sercos_law_run.proofs.Typed.Mdts.{phase_low}
 use Rattle.sercos_law_run.specs.Views.RingViews.{behind_mdt, views_of}
 use Rattle.sercos_law_run.specs.Held.Opened.{IsOpened}
-use Rattle.sercos_law_run.specs.Undisturbed.Ends.{ComesToPhaseFour}
 use Rattle.sercos_law_run.specs.Undisturbed.EpochStarts.{StartsAtFall, StartsEpoch}
-use Rattle.sercos_law_run.specs.Undisturbed.Fit.{FitsInThree, OwnFitsInFour}
 use Rattle.sercos_law_run.specs.Undisturbed.Reports.{HaveTold, left_after, request_cycles, waiting_after}
 use Rattle.sercos_law_run.specs.Undisturbed.StartUps.{NoneFalls, StaysUpUndisturbed, TellsNoFall}
-use Rattle.sercos_law_run.specs.Undisturbed.StopsInTwo.{StopsForTheCycleTime, StopsForThePlan, StopsInTwo}
-use Rattle.sercos_law_run.specs.Undisturbed.StopsLater.{IsRight, NoStopInFour, StopsForTheCheck, StopsInThree}
+use Rattle.sercos_law_run.specs.Undisturbed.StopsInTwo.{StopsForTheCycleTime, StopsForThePlan}
+use Rattle.sercos_law_run.specs.Undisturbed.StopsLater.{IsRight, StopsForTheCheck}
 use Rattle.sercos_law_run.specs.Undisturbed.Undisturbed.{AreUndisturbed, IsUndisturbed}
 use Rattle.sercos_law_run.proofs.Undisturbed.Answered.{tells_in}
 use Rattle.sercos_law_run.proofs.Undisturbed.Comes.{calm_in}
@@ -50,6 +48,7 @@ use Rattle.sercos_law_run.proofs.Recovery.SpareStops.{falls_anyway}
 use Rattle.sercos_law_run.proofs.Recovery.Stretches.{rest_clear, rest_runs}
 use Rattle.sercos_block.proofs.RingLemmas.{IsRing-is_ring}
 use Rattle.sercos_law_channel.proofs.Cited.{rest_since}
+use Rattle.sercos_law_run.proofs.Undisturbed.Cited.{fits_in_three, never_stops_in_four, own_fits_in_four, stops_in_three, stops_in_two}
 
 -- WHAT ENDS ALIKE: of two ways to write a list, the longer end goes on from the shorter one.
 record IsSuffix (r : RingView) (carry : Carry) (restarts : Restarts) (base rest : List CycleView) : Type 0 where
@@ -80,8 +79,7 @@ ComesIn r jobs carry restarts tail = (first : CycleView) (before : List CycleVie
     IsStretch r jobs carry restarts (t ∷ cycles) first before → startup_bound r + tail ≤ length cycles + 1 →
     (t.phase ≡ 4) ⊎ (is_some (behind_mdt r jobs carry restarts t.sent (cycles ++ first ∷ before)).stop ≡ true)
 
-module _ (r : RingView) (jobs : List Job) (carry : Carry) (restarts : Restarts) (opened : IsOpened r jobs) (stops_two : StopsInTwo)
-    (stops_three : StopsInThree) (none_four : NoStopInFour) (fit : FitsInThree) (own : OwnFitsInFour) (stays_up : StaysUpUndisturbed)
+module _ (r : RingView) (jobs : List Job) (carry : Carry) (restarts : Restarts) (opened : IsOpened r jobs) (stays_up : StaysUpUndisturbed)
     (at_fall : StartsAtFall) (fall tail : ℕ) (room : slowest r.drives + length r.drives + 47 ≤ fall)
     (spared : (n : ℕ) → IsSpared r 65 n → n + 3 ≤ fall) (ends : EndsIn r jobs carry restarts tail)
     (comes : ComesIn r jobs carry restarts tail) where
@@ -90,7 +88,7 @@ module _ (r : RingView) (jobs : List Job) (carry : Carry) (restarts : Restarts) 
 
   -- phase 4 says that the ring is right
   right : (t : CycleView) (j : List CycleView) → IsRun r jobs carry restarts (t ∷ j) → IsClear (t ∷ j) → t.phase ≡ 4 → IsRight r
-  right t j run clear four = (fit r jobs carry restarts t j opened run clear (omega (arith, four)), λ k below. own r jobs carry restarts t j k opened run clear below four)
+  right t j run clear four = (fits_in_three r jobs carry restarts t j opened run clear (omega (arith, four)), λ k below. own_fits_in_four r jobs carry restarts t j k opened run clear below four)
 
   abbrev IsCause : CycleView → List CycleView → Stop → Type 0
   IsCause t j x = StopsForThePlan r x ⊎ (StopsForTheCycleTime r x ⊎ StopsForTheCheck r (behind_mdt r jobs carry restarts t.sent j) x)
@@ -102,11 +100,11 @@ module _ (r : RingView) (jobs : List Job) (carry : Carry) (restarts : Restarts) 
   at_stop : (t : CycleView) (j : List CycleView) (x : Stop) → IsRun r jobs carry restarts (t ∷ j) → IsClear (t ∷ j) → fall_of (known_of r) (behind_mdt r jobs carry restarts t.sent j) ≡ None → 2 ≤ t.phase → (behind_mdt r jobs carry restarts t.sent j).stop ≡ Some x
       → IsBack r t j
   at_stop t j x run clear stays late is = elim (cases_eq t.phase 2) [
-    | inl two ↦ stands t j x run stays is (by (stops_two r jobs carry restarts t j x opened run clear two is))
+    | inl two ↦ stands t j x run stays is (by (stops_in_two r jobs carry restarts t j x opened run clear two is))
     | inr not_two ↦ elim (cases_eq t.phase 3) [
-      | inl three ↦ stands t j x run stays is (inr (inr (stops_three r jobs carry restarts t j x opened run clear three is)))
+      | inl three ↦ stands t j x run stays is (inr (inr (stops_in_three r jobs carry restarts t j x opened run clear three is)))
       | inr not_three ↦
-          let none = none_four r jobs carry restarts t j opened run clear (omega (arith, late, low, not_two, not_three)) in
+          let none = never_stops_in_four r jobs carry restarts t j opened run clear (omega (arith, late, low, not_two, not_three)) in
           let both : None ≡ Some x = sym none ∙ is in absurd (cc)
     ]
   ]
@@ -176,7 +174,7 @@ module _ (r : RingView) (jobs : List Job) (carry : Carry) (restarts : Restarts) 
         (λ k below. not_down cycles first before run.0 clear.0 stretch late k below (up k below)) falls
 
     in_time : (d : ℕ) → d < length r.drives → IsDown r jobs carry restarts d (first ∷ before) → IsSpared r 65 (length cycles)
-    in_time d there down = falls_anyway r jobs carry restarts opened d there stops_two stops_three f cycles first before run clear stretch calm late falls down
+    in_time d there down = falls_anyway r jobs carry restarts opened d there f cycles first before run clear stretch calm late falls down
 
   -- THE FIRST UNDISTURBED CYCLE after `lost`
   module _ (lost : CycleView) (before : List CycleView) where
@@ -393,7 +391,7 @@ module _ (r : RingView) (jobs : List Job) (carry : Carry) (restarts : Restarts) 
         by (inr x) = subst TellsAt (sym x.is) (fell_then x.newer x.one x.older (subst (λ (l : List CycleView). IsRun r jobs carry restarts l) x.is run) (subst (λ (l : List CycleView). IsClear l) x.is clear) x.calm x.calm_then x.stays x.falls)
 
   -- WHAT IS LEFT of the requests to a drive
-  module _ (reaches : ComesToPhaseFour) (k : ℕ) (below : k < length r.drives) (n i : ℕ) where
+  module _ (k : ℕ) (below : k < length r.drives) (n i : ℕ) where
     abbrev left_now : List CycleView → ℕ
     left_now j = length (left_after r jobs carry restarts j k)
 
@@ -453,7 +451,7 @@ module _ (r : RingView) (jobs : List Job) (carry : Carry) (restarts : Restarts) 
         none_then : (behind_mdt r jobs carry restarts c.one.sent (c.older ++ first ∷ older)).stop ≡ None
         none_then = sym (stop_after r jobs carry restarts c.one (c.older ++ first ∷ older) c.on_older.1.stays)
             ∙ none_along r jobs carry restarts (t ∷ c.newer) (c.one ∷ (c.older ++ first ∷ older)) on_cut
-            (stop_after r jobs carry restarts t (c.newer ++ c.one ∷ (c.older ++ first ∷ older)) on_cut.1.stays ∙ none_four r jobs carry restarts t (c.newer ++ c.one ∷ (c.older ++ first ∷ older)) opened run_cut clear_cut four)
+            (stop_after r jobs carry restarts t (c.newer ++ c.one ∷ (c.older ++ first ∷ older)) on_cut.1.stays ∙ never_stops_in_four r jobs carry restarts t (c.newer ++ c.one ∷ (c.older ++ first ∷ older)) opened run_cut clear_cut four)
 
         one_four : c.one.phase ≡ 4
         one_four = elim (comes first older late up c.one c.older one_run.0 one_run.1
@@ -477,7 +475,7 @@ module _ (r : RingView) (jobs : List Job) (carry : Carry) (restarts : Restarts) 
 
         pub left_up : (xs : List CycleView) → xs ++ base ≡ t ∷ (newer ++ first ∷ older) → AreUndisturbed r carry restarts xs base → left_now base ≤ n + suc i → left_now (t ∷ (newer ++ first ∷ older)) ≤ n
         left_up xs is calm enough = subst (λ (l : List CycleView). left_now (t ∷ l) ≤ n) (sym c.is)
-            (left_in_time none_four r jobs carry restarts opened k below t c.newer c.one (c.older ++ first ∷ older) run_cut clear_cut on_cut
+            (left_in_time r jobs carry restarts opened k below t c.newer c.one (c.older ++ first ∷ older) run_cut clear_cut on_cut
             c.calm_newer c.on_older.1 one_four four n i (let count = c.long in omega (arith, count))
             (let few = left_then xs is calm in omega (arith, few, enough)))
 
@@ -492,7 +490,7 @@ module _ (r : RingView) (jobs : List Job) (carry : Carry) (restarts : Restarts) 
           → LeftAt (cycles ++ lost ∷ before)
       start_left [] run clear starts calm = λ four long enough. absurd (omega (arith, long, room))
       start_left (t ∷ cycles) run clear starts calm = λ four long enough.
-          left_in_epoch reaches none_four r jobs carry restarts opened t cycles (lost ∷ before) run clear starts calm four k below n i
+          left_in_epoch r jobs carry restarts opened t cycles (lost ∷ before) run clear starts calm four k below n i
           (let parts = length-append cycles (lost ∷ before) in omega (arith, parts, room, long)) (waiting_few (lost ∷ before) starts enough)
 
       -- with the first undisturbed cycle
@@ -505,7 +503,7 @@ module _ (r : RingView) (jobs : List Job) (carry : Carry) (restarts : Restarts) 
           never : t.phase ≡ 4 → length before + fall + startup_bound r + tail + suc i * request_cycles r k ≤ length (newer ++ first ∷ lost ∷ before) → (d : ℕ) → d < length r.drives → IsDown r jobs carry restarts d (first ∷ lost ∷ before) → ⊥
           never four long d there down =
               let is = falls_in_time r jobs carry restarts opened d there (t ∷ newer) first (lost ∷ before) run clear stretch late
-              (stop_after r jobs carry restarts t (newer ++ first ∷ lost ∷ before) stretch.stays.1 ∙ none_four r jobs carry restarts t (newer ++ first ∷ lost ∷ before) opened run clear four)
+              (stop_after r jobs carry restarts t (newer ++ first ∷ lost ∷ before) stretch.stays.1 ∙ never_stops_in_four r jobs carry restarts t (newer ++ first ∷ lost ∷ before) opened run clear four)
               down in
               let most = spared (suc (length newer)) is in
               let parts = length-append newer (first ∷ lost ∷ before) in omega (arith, parts, most, long)
@@ -558,9 +556,8 @@ module _ (r : RingView) (jobs : List Job) (carry : Carry) (restarts : Restarts) 
           let soon_is = falls_in lost before one older run_then clear_then calm_then stays falls in
           let length_is = length-append newer (one ∷ (older ++ lost ∷ before)) in
           let few = left_fewer (one ∷ older) (lost ∷ before) run_then clear_then calm_then in
-          left_in_epoch reaches none_four r jobs carry restarts opened t newer (one ∷ (older ++ lost ∷ before)) run clear starts calm four k
-          below n i (omega (arith, soon_is, length_is, long))
-          (waiting_few (one ∷ (older ++ lost ∷ before)) starts (omega (arith, few, enough)))
+          left_in_epoch r jobs carry restarts opened t newer (one ∷ (older ++ lost ∷ before)) run clear starts calm four k below n i
+          (omega (arith, soon_is, length_is, long)) (waiting_few (one ∷ (older ++ lost ∷ before)) starts (omega (arith, few, enough)))
 
       pub left_at_last : (cycles : List CycleView) → IsRun r jobs carry restarts (cycles ++ lost ∷ before) → IsClear (cycles ++ lost ∷ before) → AreUndisturbed r carry restarts cycles (lost ∷ before) → LeftAt (cycles ++ lost ∷ before)
       left_at_last cycles run clear calm = by (fell_or_not lost before cycles calm)
@@ -570,7 +567,7 @@ module _ (r : RingView) (jobs : List Job) (carry : Carry) (restarts : Restarts) 
           by (inr x) = subst LeftAt (sym x.is) (fell_left x.newer x.one x.older (subst (λ (l : List CycleView). IsRun r jobs carry restarts l) x.is run) (subst (λ (l : List CycleView). IsClear l) x.is clear) x.calm x.calm_then x.stays x.falls)
 
   -- SO THE REQUESTS THAT WERE LEFT ARE REPORTED IN TIME.
-  module _ (reaches : ComesToPhaseFour) (lost : CycleView) (before : List CycleView) where
+  module _ (lost : CycleView) (before : List CycleView) where
     reports_after : (t : CycleView) (cycles : List CycleView) → IsRun r jobs carry restarts (t ∷ (cycles ++ lost ∷ before)) → IsClear (t ∷ (cycles ++ lost ∷ before)) → AreUndisturbed r carry restarts (t ∷ cycles) (lost ∷ before) → t.phase ≡ 4
         → (k i : ℕ) (x : Option ℕ) → k < length r.drives → slice_get (left_after r jobs carry restarts (lost ∷ before) k) i ≡ Some x → length before + fall + startup_bound r + tail + (i + 1) * request_cycles r k ≤ length (cycles ++ lost ∷ before)
         → (number : ℕ) × (x ≡ Some number) × HaveTold (t ∷ cycles) number
@@ -587,7 +584,7 @@ module _ (r : RingView) (jobs : List Job) (carry : Carry) (restarts : Restarts) 
         rest = beyond (suc i) (length (left_after r jobs carry restarts (lost ∷ before) k)) (omega (arith, low))
 
         few : length (left_after r jobs carry restarts (t ∷ (cycles ++ lost ∷ before)) k) ≤ rest.0
-        few = left_at_last reaches k below rest.0 i lost before (t ∷ cycles) run clear calm four
+        few = left_at_last k below rest.0 i lost before (t ∷ cycles) run clear calm four
             (let same : (i + 1) * request_cycles r k ≡ suc i * request_cycles r k = grind arith in omega (arith, same, long)) (let count = rest.1 in omega (arith, count))
 
         early_is : i < length told.numbers

@@ -10,13 +10,10 @@ use Rattle.sercos_trace.specs.Views.{CycleView}
 use Rattle.sercos_script.specs.Links.{Carry, Restarts}
 use Rattle.sercos_law_run.specs.Journal.Runs.{IsClear, IsRun}
 use Rattle.sercos_law_run.specs.Held.Opened.{IsOpened}
-use Rattle.sercos_law_run.specs.Undisturbed.Ends.{ComesToPhaseFour}
 use Rattle.sercos_law_run.specs.Undisturbed.EpochStarts.{StartsAtFall}
-use Rattle.sercos_law_run.specs.Undisturbed.Fit.{FitsInThree, OwnFitsInFour}
 use Rattle.sercos_law_run.specs.Undisturbed.Reports.{HaveTold, left_after, request_cycles}
 use Rattle.sercos_law_run.specs.Undisturbed.StartUps.{StaysUpUndisturbed, TellsNoFall}
-use Rattle.sercos_law_run.specs.Undisturbed.StopsInTwo.{StopsInTwo}
-use Rattle.sercos_law_run.specs.Undisturbed.StopsLater.{EndsStartUp, IsRight, NoStopInFour, RisesIfRight, StopsInThree}
+use Rattle.sercos_law_run.specs.Undisturbed.StopsLater.{EndsStartUp, IsRight, RisesIfRight}
 use Rattle.sercos_law_run.specs.Undisturbed.Undisturbed.{AreUndisturbed}
 use Rattle.sercos_law_run.proofs.Undisturbed.NeverFalls.{busy_low}
 use Rattle.sercos_law_run.specs.Recovery.AfterFalls.{AfterFall}
@@ -26,8 +23,8 @@ use Rattle.sercos_law_run.proofs.Recovery.FallsInTime.{greatest_low}
 use Rattle.sercos_law_run.proofs.Bounds.FallCycles.{fall_room, fixed_room, spared_few}
 use Rattle.sercos_law_run.proofs.Recovery.Recovers.{ComesIn, EndsIn, back_after, reports_now, tells_after}
 use Rattle.sercos_law_run.proofs.Recovery.UpInThree.{lasts_if_right, lasts_with_list}
-use Rattle.sercos_law_run.proofs.Undisturbed.StartUpEnds.{ReadyIfEnded}
 use Rattle.sercos_block.proofs.RingLemmas.{IsRing-is_ring}
+use Rattle.sercos_law_run.proofs.Undisturbed.Cited.{fits_in_three, never_stops_in_four, own_fits_in_four}
 
 -- A ring that is right has no stop.
 pub right_four : (r : RingView) (t : CycleView) (j : List CycleView) → IsRight r → IsBack r t j → t.phase ≡ 4
@@ -39,9 +36,8 @@ right_four r t j right (inr (x, stands, inr (inl cycle))) = absurd (elim cycle.r
 ])
 right_four r t j right (inr (x, stands, inr (inr check))) = absurd (false≢true (sym (right.1 check.place check.there) ∙ check.outside))
 
-module _ (r : RingView) (jobs : List Job) (carry : Carry) (restarts : Restarts) (opened : IsOpened r jobs) (stops_two : StopsInTwo)
-    (stops_three : StopsInThree) (none_four : NoStopInFour) (fit : FitsInThree) (own : OwnFitsInFour) (outcome : EndsStartUp)
-    (rises : RisesIfRight) (ready : ReadyIfEnded) (stays_up : StaysUpUndisturbed) (at_fall : StartsAtFall) where
+module _ (r : RingView) (jobs : List Job) (carry : Carry) (restarts : Restarts) (opened : IsOpened r jobs) (outcome : EndsStartUp)
+    (rises : RisesIfRight) (stays_up : StaysUpUndisturbed) (at_fall : StartsAtFall) where
   some_drive : 1 ≤ length r.drives
   some_drive = (IsRing-is_ring r opened.valid).some
 
@@ -66,18 +62,18 @@ module _ (r : RingView) (jobs : List Job) (carry : Carry) (restarts : Restarts) 
   ends_right : IsRight r → EndsIn r jobs carry restarts 0
   ends_right right t cycles before run clear starts calm long =
       let four = rises r jobs carry restarts t cycles before opened run clear starts calm (omega (arith, long)) right in
-      inl (four, none_four r jobs carry restarts t (cycles ++ before) opened run clear four, right)
+      inl (four, never_stops_in_four r jobs carry restarts t (cycles ++ before) opened run clear four, right)
 
   comes_right : IsRight r → ComesIn r jobs carry restarts 0
   comes_right right first before late up t cycles run clear stretch long =
-      comes_back r jobs carry restarts opened first before late up 0 (lasts_if_right r jobs carry restarts opened ready right) t cycles run
+      comes_back r jobs carry restarts opened first before late up 0 (lasts_if_right r jobs carry restarts opened right) t cycles run
       clear stretch long
 
   -- phase 4 says that the ring is right
   right_in : (t : CycleView) (j : List CycleView) → IsRun r jobs carry restarts (t ∷ j) → IsClear (t ∷ j) → t.phase ≡ 4 → IsRight r
   right_in t j run clear four = (
-    fit r jobs carry restarts t j opened run clear (omega (arith, four)),
-    λ k below. own r jobs carry restarts t j k opened run clear
+    fits_in_three r jobs carry restarts t j opened run clear (omega (arith, four)),
+    λ k below. own_fits_in_four r jobs carry restarts t j k opened run clear
         below four,
   )
 
@@ -94,29 +90,27 @@ module _ (r : RingView) (jobs : List Job) (carry : Carry) (restarts : Restarts) 
     same_length = ap (λ (l : List CycleView). length l) is
 
     tells_now : length before + fall_cycles r ≤ length j → TellsNoFall t
-    tells_now long = tells_after r jobs carry restarts opened stops_two stops_three none_four fit own stays_up at_fall (fall_cycles r)
-        refusal room (spared_few r) ends_refused comes_refused lost before (t ∷ cycles) run_is clear_is calm (subst (λ (l : List CycleView). length before + fall_cycles r ≤ length l) is long)
+    tells_now long = tells_after r jobs carry restarts opened stays_up at_fall (fall_cycles r) refusal room (spared_few r) ends_refused
+        comes_refused lost before (t ∷ cycles) run_is clear_is calm (subst (λ (l : List CycleView). length before + fall_cycles r ≤ length l) is long)
 
     back_now : length before + fall_cycles r + startup_bound r + 41 * (slowest r.drives + 2) ≤ length j → IsBack r t j
-    back_now long = subst (λ (l : List CycleView). IsBack r t l) (sym is) (back_after r jobs carry restarts opened stops_two stops_three
-        none_four fit own stays_up at_fall (fall_cycles r) refusal room (spared_few r) ends_refused comes_refused lost before (t ∷ cycles)
-        run_is clear_is calm
+    back_now long = subst (λ (l : List CycleView). IsBack r t l) (sym is) (back_after r jobs carry restarts opened stays_up at_fall
+        (fall_cycles r) refusal room (spared_few r) ends_refused comes_refused lost before (t ∷ cycles) run_is clear_is calm
         (subst (λ (l : List CycleView). length before + fall_cycles r + startup_bound r + 41 * (slowest r.drives + 2) ≤ length l) is long))
 
     rises_now : length before + return_cycles r ≤ length j → IsRight r → t.phase ≡ 4
-    rises_now long right = right_four r t (cycles ++ lost ∷ before) right (back_after r jobs carry restarts opened stops_two stops_three
-        none_four fit own stays_up at_fall (fall_cycles r) 0 room (spared_few r) (ends_right right) (comes_right right) lost before
-        (t ∷ cycles) run_is clear_is calm (let same = same_length in omega (arith, long, same)))
+    rises_now long right = right_four r t (cycles ++ lost ∷ before) right (back_after r jobs carry restarts opened stays_up at_fall
+        (fall_cycles r) 0 room (spared_few r) (ends_right right) (comes_right right) lost before (t ∷ cycles) run_is clear_is
+        calm (let same = same_length in omega (arith, long, same)))
 
-    module _ (reaches : ComesToPhaseFour) where
+    module _ where
       reports_soon : t.phase ≡ 4 → (k i : ℕ) (x : Option ℕ) → k < length r.drives
           → slice_get (left_after r jobs carry restarts (lost ∷ before) k) i ≡ Some x
           → length before + return_cycles r + (i + 1) * request_cycles r k ≤ length j → (number : ℕ) × (x ≡ Some number)
           × HaveTold (t ∷ cycles) number
       reports_soon four k i x below got long =
-          reports_now r jobs carry restarts opened stops_two stops_three none_four fit own stays_up at_fall (fall_cycles r) 0 room
-          (spared_few r) (ends_right right) (comes_right right) reaches lost before t j cycles run clear is calm four k i x below got
-          (omega (arith, long))
+          reports_now r jobs carry restarts opened stays_up at_fall (fall_cycles r) 0 room (spared_few r) (ends_right right)
+          (comes_right right) lost before t j cycles run clear is calm four k i x below got (omega (arith, long))
         where
           right : IsRight r
           right = right_in t j run clear four
@@ -125,22 +119,22 @@ module _ (r : RingView) (jobs : List Job) (carry : Carry) (restarts : Restarts) 
   fixed : fall_cycles r + startup_bound r + 41 * (slowest r.drives + 2) ≤ recovery_bound r
   fixed = fixed_room r some_drive slow
 
-  pub recovers_in : AfterFall → ComesToPhaseFour → (t : CycleView) (j : List CycleView) → IsRun r jobs carry restarts (t ∷ j)
-      → IsClear (t ∷ j) → RecoversIn r jobs carry restarts t j
-  recovers_in again reaches t j run clear = record {
+  pub recovers_in : AfterFall → (t : CycleView) (j : List CycleView) → IsRun r jobs carry restarts (t ∷ j) → IsClear (t ∷ j)
+      → RecoversIn r jobs carry restarts t j
+  recovers_in again t j run clear = record {
     after_fall = λ cycles before f x is calm told. again r jobs carry restarts t f cycles before x opened
         (subst (λ (l : List CycleView). IsRun r jobs carry restarts (t ∷ l)) is run) (subst (λ (l : List CycleView). IsClear (t ∷ l)) is
         clear) calm told;
     back = λ cycles before lost is calm long. back_now t j run clear cycles before lost is calm (longer (length before) (length j) long);
     tells = λ cycles before lost is calm long. tells_now t j run clear cycles before lost is calm
         (let most = longer (length before) (length j) long in omega (arith, most));
-    reports = λ cycles before lost is calm four k i x below got long. reports_soon t j run clear cycles before lost is calm reaches four k i
-        x below got (let least = fixed in omega (arith, least, long));
+    reports = λ cycles before lost is calm four k i x below got long. reports_soon t j run clear cycles before lost is calm four k i x below
+        got (let least = fixed in omega (arith, least, long));
     sooner = record {
       tells = λ cycles before lost is calm long. tells_now t j run clear cycles before lost is calm long;
       rises = λ cycles before lost is calm long right. rises_now t j run clear cycles before lost is calm long right;
       back = λ cycles before lost is calm long. back_now t j run clear cycles before lost is calm (omega (arith, long));
-      reports = λ cycles before lost is calm four k i x below got long. reports_soon t j run clear cycles before lost is calm reaches four k i x below got long;
+      reports = λ cycles before lost is calm four k i x below got long. reports_soon t j run clear cycles before lost is calm four k i x below got long;
     };
   }
     where

@@ -24,8 +24,8 @@ use Rattle.sercos_law_run.specs.Journal.Runs.{drive_at, looks_back, master_calls
 use Rattle.sercos_law_run.specs.Views.RingViews.{behind_ats, behind_mdt, request_of, view_of, views_of}
 use Rattle.sercos_law_run.proofs.Views.Members.{members_count}
 use Rattle.sercos_law_run.specs.Held.Opened.{IsOpened}
-use Rattle.sercos_law_run.specs.Undisturbed.StopsInTwo.{StopsForTheCycleTime, StopsForThePlan, StopsInTwo}
-use Rattle.sercos_law_run.specs.Undisturbed.StopsLater.{StopsForTheCheck, StopsInThree}
+use Rattle.sercos_law_run.specs.Undisturbed.StopsInTwo.{StopsForTheCycleTime, StopsForThePlan}
+use Rattle.sercos_law_run.specs.Undisturbed.StopsLater.{StopsForTheCheck}
 use Rattle.sercos_law_run.specs.Undisturbed.Undisturbed.{IsUndisturbed}
 use Rattle.sercos_law_run.proofs.Undisturbed.Comes.{calm_in}
 use Rattle.sercos_law_run.proofs.Undisturbed.JobsBegun.{begun_end}
@@ -47,6 +47,7 @@ use Rattle.sercos_law_run.proofs.Recovery.Limits.{ages_to_limit, open_age}
 use Rattle.sercos_law_run.proofs.Recovery.NoFallLater.{few_open}
 use Rattle.sercos_law_run.proofs.Recovery.Stretches.{ages_down_in, newest_up, rest_clear, rest_runs, stays_down_in}
 use Rattle.sercos_law_run.proofs.Recovery.Turns.{opens_in_turn}
+use Rattle.sercos_law_run.proofs.Undisturbed.Cited.{stops_in_three, stops_in_two}
 
 -- A STEP WITH AN AGE is open.
 pub open_of_age : (past : List View) → 1 ≤ age_in past → is_some (open_in (epoch_begun past)) ≡ true
@@ -193,7 +194,7 @@ module _ (r : RingView) (jobs : List Job) (carry : Carry) (restarts : Restarts) 
             let age = ap (λ (n : ℕ). age_in (views_of r jobs carry restarts n (u ∷ (cycles ++ first ∷ before)))) same in
             let one = grows.0 in omega (arith, age, one, old))
 
-    module _ (stops_two : StopsInTwo) (stops_three : StopsInThree) (f : CycleView) where
+    module _ (f : CycleView) where
       -- a fall in the second cycle of phase 3 at the latest: some step is at its limit
       at_limit : (u : CycleView) (cycles : List CycleView) (first : CycleView) (before : List CycleView) → IsRun r jobs carry restarts (f ∷ u ∷ (cycles ++ first ∷ before)) → IsClear (f ∷ u ∷ (cycles ++ first ∷ before))
           → IsStretch r jobs carry restarts (u ∷ cycles) first before → IsUndisturbed r carry restarts f (u ∷ (cycles ++ first ∷ before)) → 2 ≤ first.phase → u.phase ≤ 2
@@ -264,8 +265,8 @@ module _ (r : RingView) (jobs : List Job) (carry : Carry) (restarts : Restarts) 
           by : t.phase ≤ 2 → (o : Option Stop) → (behind_mdt r jobs carry restarts t.sent (cycles ++ first ∷ before)).stop ≡ o → IsSpared r 63 (length cycles)
           by low None none = few_in_two r jobs carry restarts opened d there t cycles first before run.0 clear.0 earlier late low none down
           by low (Some y) is = absurd (no_rise_with y
-              (stops_two r jobs carry restarts t (cycles ++ first ∷ before) y opened run.0 clear.0 phases.0 is) (behind_mdt r jobs carry restarts u.sent (t ∷ (cycles ++ first ∷ before)))
-              (stops_three r jobs carry restarts u (t ∷ (cycles ++ first ∷ before)) y opened run clear phases.1 kept))
+              (stops_in_two r jobs carry restarts t (cycles ++ first ∷ before) y opened run.0 clear.0 phases.0 is) (behind_mdt r jobs carry restarts u.sent (t ∷ (cycles ++ first ∷ before)))
+              (stops_in_three r jobs carry restarts u (t ∷ (cycles ++ first ∷ before)) y opened run clear phases.1 kept))
             where
               phases : (t.phase ≡ 2) × (u.phase ≡ 3)
               phases = elim (phase_after r jobs carry restarts opened u t (cycles ++ first ∷ before) run clear stretch.stays.0.1 quiet d there) [

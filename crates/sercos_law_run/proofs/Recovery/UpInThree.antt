@@ -46,7 +46,7 @@ use Rattle.sercos_law_run.proofs.Undisturbed.PhaseTwo.{listed_all}
 use Rattle.sercos_law_run.proofs.Undisturbed.Reached.{all_checked_in}
 use Rattle.sercos_law_run.proofs.Undisturbed.Sections.{never_idle}
 use Rattle.sercos_law_run.proofs.Undisturbed.ShortLists.{few_blocks, lists_short, longest_list}
-use Rattle.sercos_law_run.proofs.Undisturbed.StartUpEnds.{ReadyIfEnded}
+use Rattle.sercos_law_run.proofs.Undisturbed.Cited.{ReadyIfEnded}
 use Rattle.sercos_law_run.specs.Recovery.Stretches.{IsDown, IsStretch}
 use Rattle.sercos_law_run.proofs.Recovery.DownSince.{shorter, up_all}
 use Rattle.sercos_law_run.proofs.Recovery.EpochStops.{same_start}
@@ -57,6 +57,7 @@ use Rattle.sercos_law_run.proofs.Recovery.UpSections.{answers_more, ended_by, go
 use Rattle.sercos_law_channel.proofs.Cited.{rest_since}
 use Rattle.sercos_law_channel.proofs.Pace.JobCosts.{list_read_costs}
 use Rattle.sercos_law_run.proofs.Cited.{tasks_end}
+use Rattle.sercos_law_run.proofs.Undisturbed.Cited.{is_ready_if_ended}
 
 some_plan_is : (o : Option PlanView) → is_some o ≡ true → (p : PlanView) × (o ≡ Some p)
 some_plan_is None some = cc
@@ -197,8 +198,8 @@ module _ (r : RingView) (jobs : List Job) (carry : Carry) (restarts : Restarts) 
       let slow = busy_slowest r k below in omega (arith, lasts, busy, slow)
 
   -- and none if the ring is right.
-  pub lasts_if_right : ReadyIfEnded → IsRight r → LastsInThree r jobs carry restarts 0
-  lasts_if_right ready right k below [] first before run clear stretch three up = omega arith
-  lasts_if_right ready right k below (t ∷ cycles) first before run clear stretch three up =
-      let lasts = without_list r jobs carry restarts opened k below t cycles first before run clear stretch three up ready
+  pub lasts_if_right : IsRight r → LastsInThree r jobs carry restarts 0
+  lasts_if_right right k below [] first before run clear stretch three up = omega arith
+  lasts_if_right right k below (t ∷ cycles) first before run clear stretch three up =
+      let lasts = without_list r jobs carry restarts opened k below t cycles first before run clear stretch three up is_ready_if_ended
       (right.1 k below) in omega (arith, lasts)

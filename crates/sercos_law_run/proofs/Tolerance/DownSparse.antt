@@ -22,15 +22,14 @@ use Rattle.sercos_law_run.specs.Held.Opened.{IsOpened}
 use Rattle.sercos_law_run.proofs.Headline.HeadlineRuns.{all_stand}
 use Rattle.sercos_law_run.specs.Undisturbed.Sections.{AreInTwo}
 use Rattle.sercos_law_run.specs.Undisturbed.StartUps.{NoneFalls}
-use Rattle.sercos_law_run.specs.Undisturbed.StopsInTwo.{StopsInTwo, StopsForTheCycleTime, StopsForThePlan}
-use Rattle.sercos_law_run.specs.Undisturbed.StopsLater.{StopsInThree, StopsForTheCheck}
+use Rattle.sercos_law_run.specs.Undisturbed.StopsInTwo.{StopsForTheCycleTime, StopsForThePlan}
+use Rattle.sercos_law_run.specs.Undisturbed.StopsLater.{StopsForTheCheck}
 use Rattle.sercos_law_run.specs.Undisturbed.Undisturbed.{IsUndisturbed}
 use Rattle.sercos_law_run.specs.Undisturbed.ViewsSince.{views_since}
 use Rattle.sercos_law_run.proofs.Undisturbed.JobsBegun.{begun_end}
 use Rattle.sercos_law_run.proofs.Undisturbed.PhaseTwo.{listed_all, section_two, sum_within}
 use Rattle.sercos_law_run.proofs.Undisturbed.Sections.{none_idle}
 use Rattle.sercos_law_run.proofs.Undisturbed.Small.{some_is}
-use Rattle.sercos_law_run.proofs.Undisturbed.StartUpEnds.{ReadyIfEnded}
 use Rattle.sercos_law_run.specs.Recovery.Stretches.{IsDown}
 use Rattle.sercos_law_run.proofs.Recovery.DownSince.{NeverRestarts, never_open, open_at_most}
 use Rattle.sercos_law_run.proofs.Recovery.FallsInTime.{goes_on_in_two, stop_before}
@@ -58,6 +57,7 @@ use Rattle.sercos_law_run.proofs.Tolerance.Steps.{oldest, young_at_last}
 use Rattle.sercos_law_run.proofs.Views.ViewRuns.{views_count}
 use Rattle.sercos_law_channel.proofs.Pace.CallAges.{stays_a_run}
 use Rattle.sercos_law_run.proofs.Cited.{work_in_turn}
+use Rattle.sercos_law_run.proofs.Undisturbed.Cited.{stops_in_three, stops_in_two}
 
 -- no stop goes with the rise to phase 3
 no_rise_with : {r : RingView} (x : Stop) → StopsForThePlan r x ⊎ StopsForTheCycleTime r x → (p : Past) → StopsForTheCheck r p x → ⊥
@@ -95,8 +95,7 @@ here_is : (p m : ℕ) → at_place p m p ≡ m
 unfolding at_place
 here_is p m = ap (λ (b : Bool). if b then m else 0) (eq-eqb p p refl)
 
-module _ (in_two : StopsInTwo) (in_three : StopsInThree) (ready : ReadyIfEnded) (r : RingView) (jobs : List Job) (carry : Carry)
-    (restarts : Restarts) (opened : IsOpened r jobs) where
+module _ (r : RingView) (jobs : List Job) (carry : Carry) (restarts : Restarts) (opened : IsOpened r jobs) where
   abbrev Held : (ℕ → Type 0) → ℕ → CycleView → List CycleView → Type 0
   Held among n t j = IsHeld r jobs carry restarts opened among n t j
 
@@ -457,9 +456,9 @@ module _ (in_two : StopsInTwo) (in_three : StopsInThree) (ready : ReadyIfEnded) 
                 let few = falls_sparse (t ∷ l) run.0 clear.0 sparse.0 stays.0
                 (stop_after r jobs carry restarts t (l ++ f ∷ b) stays.0.1 ∙ none) in omega (arith, few)
             by_stop are (Some y) is = absurd (no_rise_with y
-                (in_two r jobs carry restarts t (l ++ f ∷ b) y opened run.0 clear.0 are.0 is)
+                (stops_in_two r jobs carry restarts t (l ++ f ∷ b) y opened run.0 clear.0 are.0 is)
                 (behind_mdt r jobs carry restarts u.sent (t ∷ (l ++ f ∷ b)))
-                (in_three r jobs carry restarts u (t ∷ (l ++ f ∷ b)) y opened run clear are.1 kept))
+                (stops_in_three r jobs carry restarts u (t ∷ (l ++ f ∷ b)) y opened run clear are.1 kept))
               where
                 after : (looks_back r jobs (master_calls r carry restarts (t ∷ (l ++ f ∷ b)))).stop ≡ Some y
                 after = stop_after r jobs carry restarts t (l ++ f ∷ b) stays.0.1 ∙ is

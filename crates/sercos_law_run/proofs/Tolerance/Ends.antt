@@ -27,10 +27,8 @@ use Rattle.sercos_law_run.proofs.Held.Runs.{drive_got}
 use Rattle.sercos_law_run.proofs.Headline.HeadlineRuns.{first_store}
 use Rattle.sercos_law_run.proofs.Typed.Mdts.{phase_low}
 use Rattle.sercos_law_run.specs.Undisturbed.EpochStarts.{StartsEpoch}
-use Rattle.sercos_law_run.specs.Undisturbed.Fit.{FitsInThree, OwnFitsInFour}
 use Rattle.sercos_law_run.specs.Undisturbed.Jobs.{AreAt, jobs_of}
-use Rattle.sercos_law_run.specs.Undisturbed.StopsInTwo.{StopsInTwo}
-use Rattle.sercos_law_run.specs.Undisturbed.StopsLater.{IsRight, NoStopInFour, StopsInThree}
+use Rattle.sercos_law_run.specs.Undisturbed.StopsLater.{IsRight}
 use Rattle.sercos_law_run.specs.Undisturbed.WholeRuns.{HasTold, StopsForCause}
 use Rattle.sercos_law_run.proofs.Undisturbed.InTime.{steps_fit, within_bound}
 use Rattle.sercos_law_run.proofs.Undisturbed.JobsBegun.{places_now}
@@ -57,6 +55,7 @@ use Rattle.sercos_law_run.proofs.Tolerance.ThreeLasts.{planned, sum_split, three
 use Rattle.sercos_law_run.proofs.Tolerance.TwoLasts.{two_sparse}
 use Rattle.sercos_law_channel.proofs.Pace.JobCosts.{list_read_costs, reads_cost, writes_cost}
 use Rattle.sercos_law_run.proofs.Bounds.BoundSums.{is_below_greatest}
+use Rattle.sercos_law_run.proofs.Undisturbed.Cited.{fits_in_three, never_stops_in_four, own_fits_in_four, stops_in_three, stops_in_two}
 
 -- A LIST cut after its newest items: n are left.
 record IsLeft (begun : List Begun) (n : ℕ) : Type 0 where
@@ -81,8 +80,7 @@ at_old : (all : List Request) (recent old : List Begun) → AreAt all (recent ++
 at_old all [] old are = are
 at_old all (b ∷ recent) old are = at_old all recent old are.0
 
-module _ (in_two : StopsInTwo) (in_three : StopsInThree) (in_four : NoStopInFour) (fit : FitsInThree) (own : OwnFitsInFour) (r : RingView)
-    (jobs : List Job) (carry : Carry) (restarts : Restarts) (opened : IsOpened r jobs) where
+module _ (r : RingView) (jobs : List Job) (carry : Carry) (restarts : Restarts) (opened : IsOpened r jobs) where
   abbrev Borne : CycleView → List CycleView → Type 0
   Borne t j = IsBorne r jobs carry restarts opened t j
 
@@ -191,8 +189,8 @@ module _ (in_two : StopsInTwo) (in_three : StopsInThree) (in_four : NoStopInFour
       up four = inl (
         four,
         (
-          fit r jobs carry restarts t (cycles ++ before) opened run clear (omega (arith, four)),
-          λ k below. own r jobs carry restarts t (cycles ++ before) k opened run clear below four,
+          fits_in_three r jobs carry restarts t (cycles ++ before) opened run clear (omega (arith, four)),
+          λ k below. own_fits_in_four r jobs carry restarts t (cycles ++ before) k opened run clear below four,
         ),
       )
 
@@ -201,13 +199,13 @@ module _ (in_two : StopsInTwo) (in_three : StopsInThree) (in_four : NoStopInFour
       cause x is = caused r jobs carry restarts t (cycles ++ before) x (elim (cases_lt t.phase 2) [
         | inl early ↦ absurd (never_early (omega (arith, early)))
         | inr later ↦ elim (cases_eq t.phase 2) [
-          | inl is_two ↦ elim (in_two r jobs carry restarts t (cycles ++ before) x opened run clear is_two is) [
+          | inl is_two ↦ elim (stops_in_two r jobs carry restarts t (cycles ++ before) x opened run clear is_two is) [
             | inl plan ↦ inl plan
             | inr cycle ↦ inr (inl cycle)
           ]
           | inr other ↦ elim (cases_eq t.phase 3) [
-            | inl is_three ↦ inr (inr (in_three r jobs carry restarts t (cycles ++ before) x opened run clear is_three is))
-            | inr more_than ↦ absurd (none_some x (sym (in_four r jobs carry restarts t (cycles ++ before) opened run clear
+            | inl is_three ↦ inr (inr (stops_in_three r jobs carry restarts t (cycles ++ before) x opened run clear is_three is))
+            | inr more_than ↦ absurd (none_some x (sym (never_stops_in_four r jobs carry restarts t (cycles ++ before) opened run clear
                 (let most = high in omega (arith, later, other, more_than, most))) ∙ is))
           ]
         ]

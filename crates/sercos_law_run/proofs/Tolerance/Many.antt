@@ -22,12 +22,9 @@ use Rattle.sercos_law_run.proofs.Held.Runs.{drive_got, small}
 use Rattle.sercos_law_run.proofs.Headline.HeadlineRuns.{all_stand, first_store}
 use Rattle.sercos_law_run.proofs.Typed.Mdts.{phase_low}
 use Rattle.sercos_law_run.specs.Undisturbed.EpochStarts.{StartsEpoch}
-use Rattle.sercos_law_run.specs.Undisturbed.Fit.{FitsInThree, OwnFitsInFour}
-use Rattle.sercos_law_run.specs.Undisturbed.StopsInTwo.{StopsInTwo}
-use Rattle.sercos_law_run.specs.Undisturbed.StopsLater.{IsRight, NoStopInFour, StopsInThree}
+use Rattle.sercos_law_run.specs.Undisturbed.StopsLater.{IsRight}
 use Rattle.sercos_law_run.proofs.Undisturbed.PhaseTwo.{listed_all, sum_within}
 use Rattle.sercos_law_run.proofs.Undisturbed.ShortLists.{few_blocks, longest_list, lists_short}
-use Rattle.sercos_law_run.proofs.Undisturbed.StartUpEnds.{ReadyIfEnded}
 use Rattle.sercos_law_run.proofs.Undisturbed.StopStays.{none_before}
 use Rattle.sercos_law_run.specs.Tolerance.Ends.{IsUpOrStopped}
 use Rattle.sercos_law_run.specs.Tolerance.Many.{own_costs, slow_bound, slow_startup_of}
@@ -44,6 +41,7 @@ use Rattle.sercos_law_run.proofs.Tolerance.Rises.{few_in, none_in_three, none_in
 use Rattle.sercos_law_run.proofs.Tolerance.ThreeLasts.{check_fit, sum_split, without, without_mono}
 use Rattle.sercos_law_channel.proofs.Cited.{in_cost}
 use Rattle.sercos_law_run.proofs.Bounds.BoundSums.{is_below_greatest}
+use Rattle.sercos_law_run.proofs.Undisturbed.Cited.{is_ready_if_ended}
 
 -- NUMBERS: the cycles of phase 2, and of phase 3 with x steps more
 two_fits_in : (d : DriveView) → two_cycles d ≤ slow_startup_of d
@@ -67,8 +65,7 @@ was_low false n m le = le
 abbrev three_steps : DriveView → ℕ
 three_steps d = 78 + 4 * listed d + 2 * d.command
 
-module _ (in_two : StopsInTwo) (in_three : StopsInThree) (in_four : NoStopInFour) (fit : FitsInThree) (own : OwnFitsInFour)
-    (ready : ReadyIfEnded) (r : RingView) (jobs : List Job) (carry : Carry) (restarts : Restarts) (opened : IsOpened r jobs) where
+module _ (r : RingView) (jobs : List Job) (carry : Carry) (restarts : Restarts) (opened : IsOpened r jobs) where
   abbrev Borne : CycleView → List CycleView → Type 0
   Borne t j = IsBorne r jobs carry restarts opened t j
 
@@ -142,12 +139,12 @@ module _ (in_two : StopsInTwo) (in_three : StopsInThree) (in_four : NoStopInFour
       stands.sound (costs_in r jobs carry restarts opened (u ∷ (cycles ++ before)) e.run e.clear k below) (lists_short r jobs carry restarts k
       (ring_drive r k (drive_at r k) opened.valid (drive_got r k below)).blocks (few_blocks r k opened.valid below)
       (first_store r jobs carry restarts opened k below).ascending (u ∷ (cycles ++ before))) in
-      let fits = all_fit in_two in_three in_four fit own r jobs carry restarts opened u (cycles ++ before) e.run e.clear
-      (borne u cycles before starts e) three_is k below in
+      let fits = all_fit r jobs carry restarts opened u (cycles ++ before) e.run e.clear (borne u cycles before starts e) three_is k
+      below in
       let steps = few_steps (drive_at r k).busy (accepted k (u ∷ (cycles ++ before))) (120 + 4 * listed (drive_at r k))
       (2 * (drive_at r k).command) (omega (arith, cost, fits)) in omega (arith, steps)
 
-  -- NOT SO LATE, if a drive that isn't ready has at most x steps more in phase 3
+  -- NOT SO LATE, if a drive that isn't is_ready_if_ended has at most x steps more in phase 3
   module _ (x extra : ℕ) (room : (k : ℕ) → k < length r.drives → ((drive_at r k).busy + 2) * x ≤ extra + (drive_at r k).busy + 2)
       (t : CycleView) (cycles before : List CycleView) (starts : StartsEpoch r jobs carry restarts before) (e : Epoch (t ∷ cycles) before)
       (steps : (u : CycleView) (rest : List CycleView) → Epoch (u ∷ rest) before → u.phase ≡ 3 → (n : Unready u (rest ++ before)) → accepted n.place (u ∷ (rest ++ before)) ≤ three_steps (drive_at r n.place) + x)
@@ -239,23 +236,23 @@ module _ (in_two : StopsInTwo) (in_three : StopsInThree) (in_four : NoStopInFour
       epoch = record { run = run; clear = clear; sparse = sparse }
 
       stop_two : t.phase ≡ 2 → (behind_mdt r jobs carry restarts t.sent (cycles ++ before)).stop ≡ None
-      stop_two is_two = none_in_two in_two in_three ready r jobs carry restarts opened t (cycles ++ before) run clear is_two right _ refl
+      stop_two is_two = none_in_two r jobs carry restarts opened t (cycles ++ before) run clear is_two right _ refl
 
       stop_three : t.phase ≡ 3 → (behind_mdt r jobs carry restarts t.sent (cycles ++ before)).stop ≡ None
-      stop_three is_three = none_in_three in_two in_three ready r jobs carry restarts opened t (cycles ++ before) run clear is_three right _ refl
+      stop_three is_three = none_in_three r jobs carry restarts opened t (cycles ++ before) run clear is_three right _ refl
 
       few : (u : CycleView) (rest : List CycleView) → Epoch (u ∷ rest) before → u.phase ≡ 3
           → (n : Unready u (rest ++ before)) → accepted n.place (u ∷ (rest ++ before)) ≤ three_steps (drive_at r n.place) + 0
       few u rest all u_three n = few_accepted u rest before starts all u_three n.place n.there
-          (few_in in_two in_three ready r jobs carry restarts opened u (rest ++ before) all.run all.clear (borne u rest before starts all)
-          right n.place n.there n.unready)
+          (few_in r jobs carry restarts opened u (rest ++ before) all.run all.clear (borne u rest before starts all) right n.place n.there
+          n.unready)
 
   -- THE END in any case
   pub ends_anyway : (t : CycleView) (cycles before : List CycleView) → IsRun r jobs carry restarts (t ∷ (cycles ++ before))
       → IsClear (t ∷ (cycles ++ before)) → StartsEpoch r jobs carry restarts before → AreSparse r carry restarts (t ∷ cycles) before
       → slow_bound r + 41 * (slowest r.drives + 2) + own_costs r jobs carry restarts cycles before ≤ length cycles
       → IsUpOrStopped r t cycles
-  ends_anyway t cycles before run clear starts sparse long = end_by in_two in_three in_four fit own r jobs carry restarts opened t cycles before run
+  ends_anyway t cycles before run clear starts sparse long = end_by r jobs carry restarts opened t cycles before run
       clear starts sparse
       (λ early. early_long 42 (41 * (slowest r.drives + 2)) room t cycles before starts epoch few long early)
       (λ low none. never_so_late 42 (41 * (slowest r.drives + 2)) room t cycles before starts epoch few long (λ is_two. none)

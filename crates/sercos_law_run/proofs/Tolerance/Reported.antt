@@ -20,7 +20,6 @@ use Rattle.sercos_law_run.proofs.Held.Runs.{small}
 use Rattle.sercos_law_run.proofs.Headline.HeadlineRuns.{all_stand, first_store}
 use Rattle.sercos_law_run.specs.Undisturbed.EpochStarts.{StartsEpoch}
 use Rattle.sercos_law_run.specs.Undisturbed.Reports.{HaveTold, left_after, request_cycles, waiting_after}
-use Rattle.sercos_law_run.specs.Undisturbed.StopsLater.{NoStopInFour}
 use Rattle.sercos_law_run.specs.Undisturbed.ViewsSince.{views_since}
 use Rattle.sercos_law_run.proofs.Undisturbed.Carried.{are_carried}
 use Rattle.sercos_law_run.proofs.Undisturbed.CommandRuns.{first_commands}
@@ -52,7 +51,7 @@ fewer false n m low = omega (arith, low)
 some_times : (i c : ℕ) → c ≤ suc i * c
 some_times i c = grind arith
 
-module _ (no_stop : NoStopInFour) (r : RingView) (jobs : List Job) (carry : Carry) (restarts : Restarts) (opened : IsOpened r jobs) where
+module _ (r : RingView) (jobs : List Job) (carry : Carry) (restarts : Restarts) (opened : IsOpened r jobs) where
   abbrev Borne : CycleView → List CycleView → Type 0
   Borne t j = IsBorne r jobs carry restarts opened t j
 
@@ -255,7 +254,7 @@ module _ (no_stop : NoStopInFour) (r : RingView) (jobs : List Job) (carry : Carr
           → length (left_after r jobs carry restarts (t ∷ (cycles ++ before)) k) ≤ m
       few m most = subst (λ (l : List CycleView). length (left_after r jobs carry restarts (t ∷ l) k) ≤ m) (sym c.is)
           (left_waiting r jobs carry restarts opened k below (IsSpared k below) (goes_so k below)
-          (lasts_sparse k below) no_stop t c.newer c.one (c.older ++ before) run_cut clear_cut
+          (lasts_sparse k below) t c.newer c.one (c.older ++ before) run_cut clear_cut
           (c.those, subst (λ (l : List CycleView). IsSpared k below t l) c.is those.1) c.one_is c.four four i
           (let is = n.1 in let count = c.long in omega (arith, is, count)) m
           (subst (λ (l : List Task). length l ≤ m + suc i) (sym (waits_along r jobs carry restarts c.older before

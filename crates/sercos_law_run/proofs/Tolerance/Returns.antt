@@ -18,14 +18,12 @@ use Rattle.sercos_law_run.specs.Views.RingViews.{behind_mdt, view_of, views_of}
 use Rattle.sercos_law_run.specs.Held.Opened.{IsOpened}
 use Rattle.sercos_law_run.specs.Undisturbed.EpochStarts.{StartsEpoch}
 use Rattle.sercos_law_run.specs.Undisturbed.StartUps.{NoneFalls, TellsNoFall}
-use Rattle.sercos_law_run.specs.Undisturbed.StopsInTwo.{StopsInTwo}
-use Rattle.sercos_law_run.specs.Undisturbed.StopsLater.{IsRight, StopsInThree, NoStopInFour}
+use Rattle.sercos_law_run.specs.Undisturbed.StopsLater.{IsRight}
 use Rattle.sercos_law_run.specs.Undisturbed.Undisturbed.{IsUndisturbed}
 use Rattle.sercos_law_run.proofs.Undisturbed.Answered.{tells_going}
 use Rattle.sercos_law_run.proofs.Undisturbed.InTime.{within_bound}
 use Rattle.sercos_law_run.proofs.Undisturbed.PhaseTwo.{section_two}
 use Rattle.sercos_law_run.proofs.Undisturbed.PhaseZero.{starts_at_fall, starts_at_restart}
-use Rattle.sercos_law_run.proofs.Undisturbed.StartUpEnds.{ReadyIfEnded}
 use Rattle.sercos_law_run.specs.Recovery.Stretches.{IsDown}
 use Rattle.sercos_law_run.proofs.Recovery.EarlyPhases.{up_in_one}
 use Rattle.sercos_law_run.proofs.Recovery.EpochStops.{same_start}
@@ -42,7 +40,6 @@ use Rattle.sercos_law_run.proofs.Tolerance.Rises.{rises_sparse}
 use Rattle.sercos_law_run.proofs.Tolerance.Settles.{IsSettled, early_few, first_held, settles}
 use Rattle.sercos_trace.specs.declared.events.Stop.{Stop}
 use Rattle.sercos_law_run.proofs.Typed.Mdts.{phase_low}
-use Rattle.sercos_law_run.specs.Undisturbed.Fit.{FitsInThree, OwnFitsInFour}
 use Rattle.sercos_law_run.specs.Undisturbed.WholeRuns.{StopsForCause}
 use Rattle.sercos_law_run.proofs.Undisturbed.Small.{none_some}
 use Rattle.sercos_law_run.proofs.Undisturbed.StopStays.{none_before}
@@ -53,6 +50,7 @@ use Rattle.sercos_law_run.proofs.Recovery.Returns.{right_four}
 use Rattle.sercos_law_run.proofs.Tolerance.Ends.{ends_so}
 use Rattle.sercos_block.proofs.RingLemmas.{IsRing-is_ring}
 use Rattle.sercos_law_channel.proofs.Pace.CallAges.{stays_a_run}
+use Rattle.sercos_law_run.proofs.Undisturbed.Cited.{never_stops_in_four, stops_in_three, stops_in_two}
 
 never_both : (b : Bool) → b ≡ true → b ≡ false → ⊥
 never_both true on off = cc
@@ -189,8 +187,7 @@ once_sparse tolerates r jobs carry restarts t j opened run clear cycles before l
     let x = cut_at_fall r carry restarts t cycles (lost ∷ before) sparse fallen in
     (tolerates r jobs carry restarts t j opened run clear x.newer x.before (is ∙ x.is) x.anew x.sparse).tells
 
-module _ (in_two : StopsInTwo) (in_three : StopsInThree) (ready : ReadyIfEnded) (in_four : NoStopInFour) (fit : FitsInThree)
-    (own : OwnFitsInFour) (r : RingView) (jobs : List Job) (carry : Carry) (restarts : Restarts) (opened : IsOpened r jobs) where
+module _ (r : RingView) (jobs : List Job) (carry : Carry) (restarts : Restarts) (opened : IsOpened r jobs) where
   some_drive : 0 < length r.drives
   some_drive = let some = (IsRing-is_ring r opened.valid).some in omega (arith, some)
 
@@ -243,11 +240,11 @@ module _ (in_two : StopsInTwo) (in_three : StopsInThree) (ready : ReadyIfEnded) 
     settled_or_few = elim (down_or_up r jobs carry restarts (f ∷ u ∷ b)) [
       | inl found ↦ inl (record {
         none = λ none.
-            let few = falls_sparse in_two in_three ready r jobs carry restarts opened f (u ∷ b) calm (late_if found.0 found.1 found.2)
-            found.0 found.1 found.2 held newer run clear sparse stays none in omega (arith, few);
+            let few = falls_sparse r jobs carry restarts opened f (u ∷ b) calm (late_if found.0 found.1 found.2) found.0 found.1 found.2
+            held newer run clear sparse stays none in omega (arith, few);
         falls = λ g run_g clear_g sparse_g falls.
-            fall_sparse in_two in_three ready r jobs carry restarts opened f (u ∷ b) calm (late_if found.0 found.1 found.2) found.0 found.1
-            found.2 held g newer run_g clear_g (sparse, sparse_g) stays falls;
+            fall_sparse r jobs carry restarts opened f (u ∷ b) calm (late_if found.0 found.1 found.2) found.0 found.1 found.2 held g newer
+            run_g clear_g (sparse, sparse_g) stays falls;
       })
       | inr up ↦ elim (settles r jobs carry restarts opened f (u ∷ b)
           (first_held r jobs carry restarts opened (λ k. k < length r.drives) (λ k below. below) f u b run_f clear_f calm stays_before
@@ -619,13 +616,13 @@ module _ (in_two : StopsInTwo) (in_three : StopsInThree) (ready : ReadyIfEnded) 
         | inl low ↦ absurd (none_some x (sym (early_in r jobs carry restarts (middle r carry restarts t.sent j)
             (let same = phase_now r jobs carry restarts t j run.1 in omega (arith, same, low))) ∙ is))
         | inr late ↦ elim (cases_eq t.phase 2) [
-          | inl at_two ↦ elim (in_two r jobs carry restarts t j x opened run clear at_two is) [
+          | inl at_two ↦ elim (stops_in_two r jobs carry restarts t j x opened run clear at_two is) [
             | inl plan ↦ inl plan
             | inr cycle ↦ inr (inl cycle)
           ]
           | inr other ↦ elim (cases_eq t.phase 3) [
-            | inl at_three ↦ inr (inr (in_three r jobs carry restarts t j x opened run clear at_three is))
-            | inr more_than ↦ absurd (none_some x (sym (in_four r jobs carry restarts t j opened run clear
+            | inl at_three ↦ inr (inr (stops_in_three r jobs carry restarts t j x opened run clear at_three is))
+            | inr more_than ↦ absurd (none_some x (sym (never_stops_in_four r jobs carry restarts t j opened run clear
                 (let most = phase_low (known_of r) (tasks_for (known_of r) jobs) (begins r carry restarts j) in
                 let same = run.1.phase in omega (arith, late, other, more_than, most, same))) ∙ is))
           ]
@@ -700,8 +697,7 @@ module _ (in_two : StopsInTwo) (in_three : StopsInThree) (ready : ReadyIfEnded) 
       → (t.phase ≡ 4) × TellsNoFall t
   rises_back right lost before disturbed t cycles run clear sparse long =
       let back = back_again lost before disturbed 0 (λ v newer since_then run_v clear_v base sparse_v enough. inl (
-        rises_sparse in_two in_three ready r jobs carry restarts opened v newer since_then run_v clear_v base sparse_v right
-            (omega (arith, enough)),
+        rises_sparse r jobs carry restarts opened v newer since_then run_v clear_v base sparse_v right (omega (arith, enough)),
         right,
       )) t cycles run clear sparse (omega (arith, long)) in
       (right_four r t (cycles ++ lost ∷ before) right back.0, back.1)
@@ -713,8 +709,7 @@ module _ (in_two : StopsInTwo) (in_three : StopsInThree) (ready : ReadyIfEnded) 
       ≤ length (cycles ++ lost ∷ before) → IsBack r t (cycles ++ lost ∷ before) × TellsNoFall t
   ends_back lost before disturbed t cycles run clear sparse long =
       back_again lost before disturbed (41 * (slowest r.drives + 2)) (λ v newer since_then run_v clear_v base sparse_v enough.
-      ends_so in_two in_three in_four fit own r jobs carry restarts opened v newer since_then run_v clear_v base sparse_v
-      enough) t cycles run clear sparse
+      ends_so r jobs carry restarts opened v newer since_then run_v clear_v base sparse_v enough) t cycles run clear sparse
       long
 
   -- RECOVERY WHILE SPARSE FAULTS GO ON

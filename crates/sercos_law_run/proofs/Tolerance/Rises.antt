@@ -20,11 +20,9 @@ use Rattle.sercos_law_run.specs.Views.RingViews.{behind_mdt, views_of}
 use Rattle.sercos_law_run.specs.Held.Opened.{IsOpened}
 use Rattle.sercos_law_run.proofs.Held.Runs.{drive_got}
 use Rattle.sercos_law_run.proofs.Typed.Mdts.{phase_low}
-use Rattle.sercos_law_run.specs.Undisturbed.StopsInTwo.{StopsInTwo}
-use Rattle.sercos_law_run.specs.Undisturbed.StopsLater.{IsRight, StopsInThree}
+use Rattle.sercos_law_run.specs.Undisturbed.StopsLater.{IsRight}
 use Rattle.sercos_law_run.proofs.Undisturbed.InTime.{within_bound}
 use Rattle.sercos_law_run.proofs.Undisturbed.JobsBegun.{begun_now}
-use Rattle.sercos_law_run.proofs.Undisturbed.StartUpEnds.{ReadyIfEnded}
 use Rattle.sercos_law_run.specs.Tolerance.Early.{early_costs}
 use Rattle.sercos_law_run.specs.Tolerance.Losses.{disturbances}
 use Rattle.sercos_law_run.specs.Tolerance.Rises.{start_costs}
@@ -35,9 +33,9 @@ use Rattle.sercos_law_run.proofs.Tolerance.NotYet.{AtRise, InEarly, InThree, InT
 use Rattle.sercos_law_run.proofs.Tolerance.ThreeLasts.{three_sparse}
 use Rattle.sercos_law_run.proofs.Tolerance.TwoLasts.{two_sparse}
 use Rattle.sercos_law_run.proofs.Bounds.BoundSums.{is_below_greatest}
+use Rattle.sercos_law_run.proofs.Undisturbed.Cited.{is_ready_if_ended, stops_in_three, stops_in_two}
 
-module _ (in_two : StopsInTwo) (in_three : StopsInThree) (ready : ReadyIfEnded) (r : RingView) (jobs : List Job) (carry : Carry)
-    (restarts : Restarts) (opened : IsOpened r jobs) where
+module _ (r : RingView) (jobs : List Job) (carry : Carry) (restarts : Restarts) (opened : IsOpened r jobs) where
   abbrev back : List CycleView → Past
   back j = looks_back r jobs (master_calls r carry restarts j)
 
@@ -62,7 +60,7 @@ module _ (in_two : StopsInTwo) (in_three : StopsInThree) (ready : ReadyIfEnded) 
   pub none_in_two : (t : CycleView) (j : List CycleView) → IsRun r jobs carry restarts (t ∷ j) → IsClear (t ∷ j) → t.phase ≡ 2 → IsRight r
       → (o : Option Stop) → (behind_mdt r jobs carry restarts t.sent j).stop ≡ o → o ≡ None
   none_in_two t j run clear is_two right None is = refl
-  none_in_two t j run clear is_two right (Some x) is = absurd (elim (in_two r jobs carry restarts t j x opened run clear is_two is) [
+  none_in_two t j run clear is_two right (Some x) is = absurd (elim (stops_in_two r jobs carry restarts t j x opened run clear is_two is) [
     | inl plan ↦ plan.none right.0.plan right.0.fits
     | inr cycle ↦ elim cycle.refuses.outside [
       | inl low ↦ (let less = low.0 in let within_low = right.0.low cycle.refuses.place cycle.refuses.there in
@@ -76,7 +74,7 @@ module _ (in_two : StopsInTwo) (in_three : StopsInThree) (ready : ReadyIfEnded) 
       → (o : Option Stop) → (behind_mdt r jobs carry restarts t.sent j).stop ≡ o → o ≡ None
   none_in_three t j run clear is_three right None is = refl
   none_in_three t j run clear is_three right (Some x) is =
-      let check = in_three r jobs carry restarts t j x opened run clear is_three is in
+      let check = stops_in_three r jobs carry restarts t j x opened run clear is_three is in
       absurd (false≢true (sym (right.1 check.failed.place check.there) ∙ check.outside))
 
   -- PHASE 4 IN TIME
@@ -88,7 +86,7 @@ module _ (in_two : StopsInTwo) (in_three : StopsInThree) (ready : ReadyIfEnded) 
       (λ (l : List Begun). length (outcomes_in l) ≤ reads_count (member (known_of r) k) + 12) begun
       (elim (cases_lt (reads_count (member (known_of r) k) + 12) (length (outcomes (behind_mdt r jobs carry restarts u.sent j) k))) [
         | inl ended ↦ absurd (false≢true (sym (ap (λ (l : List Begun). is_ready (member (known_of r) k) (outcomes_in l)) begun ∙ unready)
-            ∙ ready r jobs carry restarts opened u j run clear k there (right.1 k there) ended))
+            ∙ is_ready_if_ended r jobs carry restarts opened u j run clear k there (right.1 k there) ended))
         | inr less ↦ omega (arith, less)
       ])
     where

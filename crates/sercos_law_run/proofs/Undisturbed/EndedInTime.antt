@@ -32,7 +32,6 @@ use Rattle.sercos_law_run.specs.Held.Opened.{IsOpened}
 use Rattle.sercos_law_run.proofs.Held.Runs.{small}
 use Rattle.sercos_law_run.proofs.Headline.HeadlineRuns.{all_stand, first_store}
 use Rattle.sercos_law_run.specs.Undisturbed.Reports.{request_cycles}
-use Rattle.sercos_law_run.specs.Undisturbed.StopsLater.{NoStopInFour}
 use Rattle.sercos_law_run.specs.Tolerance.Losses.{GoesOn}
 use Rattle.sercos_law_run.specs.Undisturbed.ViewsSince.{views_since}
 use Rattle.sercos_law_run.proofs.Undisturbed.BehindRests.{Follow, follow_on}
@@ -51,6 +50,7 @@ use Rattle.sercos_law_run.proofs.Undisturbed.Small.{first_is}
 use Rattle.sercos_law_run.proofs.Undisturbed.StopStays.{stop_after}
 use Rattle.sercos_law_channel.proofs.Cited.{always_opens, rest_since}
 use Rattle.sercos_law_channel.proofs.Pace.TimedCommands.{comes_timed}
+use Rattle.sercos_law_run.proofs.Undisturbed.Cited.{never_stops_in_four}
 
 -- THE REQUEST AT WORK: all that were begun before it have ended.
 record IsAlone (n : ℕ) (begun : List Begun) : Type 0 where
@@ -236,7 +236,7 @@ module _ (r : RingView) (jobs : List Job) (carry : Carry) (restarts : Restarts) 
           omega (arith, less, long)
 
   -- SO THE REQUESTS END IN TIME, from a cycle of phase 4 on: of those that waited when the epoch began, the first m have ended in it.
-  module _ (no_stop : NoStopInFour) (one : CycleView) (old : List CycleView) (one_is : P one old) (one_four : one.phase ≡ 4) (m : ℕ)
+  module _ (one : CycleView) (old : List CycleView) (one_is : P one old) (one_four : one.phase ≡ 4) (m : ℕ)
       (at_one : reads_count (member (known_of r) k) + (13 + m) ≤ length (outcomes (behind_mdt r jobs carry restarts one.sent old) k)) where
     first_one : IsGoing r jobs carry restarts one old
     first_one = going one old one_is
@@ -291,7 +291,7 @@ module _ (r : RingView) (jobs : List Job) (carry : Carry) (restarts : Restarts) 
             let times = one_time_more i (request_cycles r k) in
             let none = zero_times i (request_cycles r k) (omega (arith, short)) (omega (arith, times, long, short)) in
             never_so_long (m + i) t cycles one old run clear all one_is one_four t_four
-            (no_stop r jobs carry restarts t (cycles ++ one ∷ old) opened run clear t_four) waits (let ended = at_one in omega
+            (never_stops_in_four r jobs carry restarts t (cycles ++ one ∷ old) opened run clear t_four) waits (let ended = at_one in omega
             (arith, ended, none)) few_ended (omega (arith, times, long, short))
 
         -- and after a later one
@@ -301,7 +301,7 @@ module _ (r : RingView) (jobs : List Job) (carry : Carry) (restarts : Restarts) 
             → request_cycles r k ≤ length cycles → ⊥
         never few_ended waits enough =
             never_so_long (m + i) t c.newer c.one (c.older ++ one ∷ old) run_cut clear_cut all_cut c.those_older.1
-            (four_in c.one c.older cut_run.0 old_run.0 on_older) t_four (no_stop r jobs carry restarts t (c.newer ++ c.one ∷
+            (four_in c.one c.older cut_run.0 old_run.0 on_older) t_four (never_stops_in_four r jobs carry restarts t (c.newer ++ c.one ∷
             (c.older ++ one ∷ old)) opened run_cut clear_cut t_four)
             (subst (λ (l : List Task). m + i < length l) (sym (waits_along r jobs carry restarts c.older (one ∷ old) on_older.0 k
             ∙ waits_along r jobs carry restarts (one ∷ []) old (tt, first_one) k)) waits)

@@ -35,8 +35,7 @@ use Rattle.sercos_law_run.proofs.Held.Extended.{Extends}
 use Rattle.sercos_law_run.proofs.Held.Runs.{holding}
 use Rattle.sercos_law_run.proofs.Headline.HeadlineRuns.{all_stand, first_store, keeps_all, spelled_in, stored_in}
 use Rattle.sercos_law_run.specs.Undisturbed.EpochStarts.{StartsEpoch}
-use Rattle.sercos_law_run.specs.Undisturbed.Ends.{HasBadCheck, ComesToPhaseFour}
-use Rattle.sercos_law_run.specs.Undisturbed.StopsLater.{NoStopInFour}
+use Rattle.sercos_law_run.specs.Undisturbed.Ends.{HasBadCheck}
 use Rattle.sercos_law_run.specs.Undisturbed.Undisturbed.{AreUndisturbed}
 use Rattle.sercos_law_run.specs.Undisturbed.ViewsSince.{views_since}
 use Rattle.sercos_law_run.proofs.Undisturbed.GoingCycles.{AreGoing, HasEndedBadly, IsGoing, badly_along, badly_more, four_along, longer_so, none_since, outcomes_grow, outcomes_kept, phase_before, run_rest, waits_along, waits_now}
@@ -44,10 +43,11 @@ use Rattle.sercos_law_run.proofs.Undisturbed.PassedCycles.{views_split}
 use Rattle.sercos_law_run.proofs.Undisturbed.Reached.{all_ready_in}
 use Rattle.sercos_law_run.proofs.Undisturbed.Sections.{some_open}
 use Rattle.sercos_law_run.proofs.Undisturbed.Small.{never_both}
-use Rattle.sercos_law_run.proofs.Undisturbed.StartUpEnds.{inside}
+use Rattle.sercos_law_run.proofs.Undisturbed.Cited.{inside}
 use Rattle.sercos_law_run.proofs.Undisturbed.StopStays.{none_before, stop_after}
 use Rattle.sercos_law_run.proofs.Agenda.Requests.{are_requests}
 use Rattle.sercos_law_run.proofs.Cited.{begins_tasks, work_in_four}
+use Rattle.sercos_law_run.proofs.Undisturbed.Cited.{comes_to_phase_four, never_stops_in_four}
 
 -- nothing is left of a list of which no more items are dropped than it has
 dropped_all : (xs : List Task) (n : ℕ) → drop n xs ≡ [] → length xs ≤ n
@@ -56,8 +56,8 @@ dropped_all (x ∷ xs) zero none = absurd (cc)
 dropped_all (x ∷ xs) (suc n) none = let less = dropped_all xs n none in omega (arith, less)
 
 -- PHASE 4 IS COMMANDED from the bound of a start-up on, if it is in a later cycle of the epoch.
-module _ (reaches : ComesToPhaseFour) (no_stop : NoStopInFour) (r : RingView) (jobs : List Job) (carry : Carry) (restarts : Restarts)
-    (opened : IsOpened r jobs) (t : CycleView) (newer : List CycleView) (one : CycleView) (older before : List CycleView)
+module _ (r : RingView) (jobs : List Job) (carry : Carry) (restarts : Restarts) (opened : IsOpened r jobs) (t : CycleView)
+    (newer : List CycleView) (one : CycleView) (older before : List CycleView)
     (run : IsRun r jobs carry restarts (t ∷ (newer ++ one ∷ (older ++ before)))) (clear : IsClear (t ∷ (newer ++ one ∷ (older ++ before))))
     (on : AreGoing r jobs carry restarts (t ∷ newer) (one ∷ (older ++ before)))
     (first : IsGoing r jobs carry restarts one (older ++ before)) (starts : StartsEpoch r jobs carry restarts before)
@@ -66,7 +66,7 @@ module _ (reaches : ComesToPhaseFour) (no_stop : NoStopInFour) (r : RingView) (j
   rest_run = run_rest r jobs carry restarts (t ∷ newer) (one ∷ (older ++ before)) run clear
 
   none_at : t.phase ≡ 4 → (looks_back r jobs (master_calls r carry restarts (t ∷ (newer ++ one ∷ (older ++ before))))).stop ≡ None
-  none_at four = stop_after r jobs carry restarts t (newer ++ one ∷ (older ++ before)) on.1.stays ∙ no_stop r jobs carry restarts t (newer ++ one ∷ (older ++ before)) opened run clear four
+  none_at four = stop_after r jobs carry restarts t (newer ++ one ∷ (older ++ before)) on.1.stays ∙ never_stops_in_four r jobs carry restarts t (newer ++ one ∷ (older ++ before)) opened run clear four
 
   none_then : t.phase ≡ 4 → (behind_mdt r jobs carry restarts one.sent (older ++ before)).stop ≡ None
   none_then four = sym (stop_after r jobs carry restarts one (older ++ before) first.stays)
@@ -91,7 +91,7 @@ module _ (reaches : ComesToPhaseFour) (no_stop : NoStopInFour) (r : RingView) (j
           ∙ all_ready_in (known_of r) (tasks_for (known_of r) jobs) (middle r carry restarts t.sent (newer ++ one ∷ (older ++ before))) (let now = on.1.now in omega (arith, now, four)) failed.place (inside r failed.place failed.there)
 
   pub four_since : startup_bound r ≤ length older → t.phase ≡ 4 → one.phase ≡ 4
-  four_since long four = by (reaches r jobs carry restarts one older before opened rest_run.0 rest_run.1 starts calm long)
+  four_since long four = by (comes_to_phase_four r jobs carry restarts one older before opened rest_run.0 rest_run.1 starts calm long)
     where
       by : (one.phase ≡ 4) ⊎ ((is_some (behind_mdt r jobs carry restarts one.sent (older ++ before)).stop ≡ true) ⊎ HasBadCheck r (looks_back r jobs (master_calls r carry restarts (older ++ before)))) → one.phase ≡ 4
       by (inl is) = is

@@ -8,22 +8,20 @@ use Rattle.sercos_block.specs.Views.{RingView}
 use Rattle.sercos_law_run.specs.Bounds.Bounds.{slowest}
 use Rattle.sercos_trace.specs.Views.{CycleView}
 use Rattle.sercos_trace.specs.declared.events.Stop.{Stop}
-use Rattle.sercos_command.specs.Checks.{is_outside}
 use Rattle.std.specs.List.{list_any}
 use Rattle.sercos_step.specs.declared.request.Outcome.{Outcome}
 use Rattle.sercos_seat.specs.Agenda.{is_ready, reads_count}
 use Rattle.sercos_seat.specs.Ring.{known_of, member, tasks_for}
 use Rattle.sercos_master.specs.Annals.{Past, fall_of, outcomes}
 use Rattle.sercos_script.specs.Links.{Carry, Restarts}
-use Rattle.sercos_law_run.specs.Journal.Runs.{drive_at, master_calls, looks_back, IsRun, IsClear}
+use Rattle.sercos_law_run.specs.Journal.Runs.{master_calls, looks_back, IsRun, IsClear}
 use Rattle.sercos_law_run.specs.Views.RingViews.{behind_mdt}
-use Rattle.sercos_law_run.proofs.Views.Members.{members_count}
 use Rattle.sercos_law_run.specs.Held.Opened.{IsOpened}
 use Rattle.sercos_law_run.specs.Undisturbed.Ends.{HasBadCheck}
 use Rattle.sercos_law_run.specs.Undisturbed.Undisturbed.{AreUndisturbed}
 use Rattle.sercos_law_run.specs.Undisturbed.EpochStarts.{StartsEpoch}
-use Rattle.sercos_law_run.specs.Undisturbed.StopsInTwo.{StopsForThePlan, StopsForTheCycleTime, StopsInTwo}
-use Rattle.sercos_law_run.specs.Undisturbed.StopsLater.{IsRight, NoStopInFour, StopsForTheCheck, StopsInThree}
+use Rattle.sercos_law_run.specs.Undisturbed.StopsInTwo.{StopsForThePlan, StopsForTheCycleTime}
+use Rattle.sercos_law_run.specs.Undisturbed.StopsLater.{IsRight, StopsForTheCheck}
 use Rattle.sercos_law_run.proofs.Undisturbed.CycleHeld.{fits_in}
 use Rattle.sercos_law_run.proofs.Typed.Mdts.{phase_low}
 use Rattle.sercos_law_run.proofs.Undisturbed.InTime.{within_bound}
@@ -33,19 +31,10 @@ use Rattle.sercos_law_run.proofs.Undisturbed.PhaseCounts.{end_kept}
 use Rattle.sercos_law_run.proofs.Undisturbed.PhaseRuns.{next_phase_is}
 use Rattle.sercos_law_run.proofs.Undisturbed.PhasesRise.{late_in}
 use Rattle.sercos_law_channel.proofs.Pace.CallAges.{none_late}
+use Rattle.sercos_law_run.proofs.Undisturbed.Cited.{is_ready_if_ended, never_stops_in_four, stops_in_three, stops_in_two}
 
-pub inside : (r : RingView) (k : ℕ) → k < length r.drives → k < length (known_of r).drives
-inside r k below = let count = members_count r in omega (arith, count, below)
-
--- a check for phase 4 that has ended, of a drive of which no own block was outside its limits, has ended well
-abbrev pub ReadyIfEnded : Type 0
-ReadyIfEnded = (r : RingView) (jobs : List Job) (carry : Carry) (restarts : Restarts) (opened : IsOpened r jobs) (t : CycleView) (j : List CycleView) → IsRun r jobs carry restarts (t ∷ j) → IsClear (t ∷ j) →
-    (k : ℕ) → k < length r.drives → list_any is_outside (drive_at r k).blocks ≡ false →
-    reads_count (member (known_of r) k) + 12 < length (outcomes (behind_mdt r jobs carry restarts t.sent j) k) → is_ready (member (known_of r) k) (outcomes (behind_mdt r jobs carry restarts t.sent j) k) ≡ true
-
-module _ (in_two : StopsInTwo) (in_three : StopsInThree) (in_four : NoStopInFour) (ready : ReadyIfEnded) (r : RingView) (jobs : List Job)
-    (carry : Carry) (restarts : Restarts) (opened : IsOpened r jobs) (t : CycleView) (cycles before : List CycleView)
-    (run : IsRun r jobs carry restarts (t ∷ (cycles ++ before))) (clear : IsClear (t ∷ (cycles ++ before)))
+module _ (r : RingView) (jobs : List Job) (carry : Carry) (restarts : Restarts) (opened : IsOpened r jobs) (t : CycleView)
+    (cycles before : List CycleView) (run : IsRun r jobs carry restarts (t ∷ (cycles ++ before))) (clear : IsClear (t ∷ (cycles ++ before)))
     (starts : StartsEpoch r jobs carry restarts before) (calm : AreUndisturbed r carry restarts (t ∷ cycles) before) where
   abbrev IsEnded : Type 0
   IsEnded = ((t.phase ≡ 4) × ((behind_mdt r jobs carry restarts t.sent (cycles ++ before)).stop ≡ None) × IsRight r)
@@ -55,7 +44,7 @@ module _ (in_two : StopsInTwo) (in_three : StopsInThree) (in_four : NoStopInFour
   in_phase_four : t.phase ≡ 4 → IsEnded
   in_phase_four four = inl (
     four,
-    in_four r jobs carry restarts t (cycles ++ before) opened run clear four,
+    never_stops_in_four r jobs carry restarts t (cycles ++ before) opened run clear four,
     (
       fits_in r jobs carry restarts opened t (cycles ++ before) run clear (omega (arith, four)),
       λ k below. own_fits r jobs carry restarts opened k below t (cycles ++ before) run clear four,
@@ -78,12 +67,12 @@ module _ (in_two : StopsInTwo) (in_three : StopsInThree) (in_four : NoStopInFour
       with_stop : (o : Option Stop) → (behind_mdt r jobs carry restarts t.sent (cycles ++ before)).stop ≡ o → is_some o ≡ true → IsEnded
       with_stop None is some = absurd (false≢true some)
       with_stop (Some x) is some = elim (cases_eq t.phase 2) [
-        | inl two ↦ elim (in_two r jobs carry restarts t (cycles ++ before) x opened run clear two is) [
+        | inl two ↦ elim (stops_in_two r jobs carry restarts t (cycles ++ before) x opened run clear two is) [
           | inl plan ↦ inr (x, is, inl plan)
           | inr cycle ↦ inr (x, is, inr (inl cycle))
         ]
         | inr not_two ↦ elim (cases_eq t.phase 3) [
-          | inl three ↦ inr (x, is, inr (inr (in_three r jobs carry restarts t (cycles ++ before) x opened run clear three is)))
+          | inl three ↦ inr (x, is, inr (inr (stops_in_three r jobs carry restarts t (cycles ++ before) x opened run clear three is)))
           | inr not_three ↦ let (low, high) = within long in in_phase_four (omega (arith, low, high, not_two, not_three))
         ]
       ]
@@ -106,7 +95,7 @@ module _ (in_two : StopsInTwo) (in_three : StopsInThree) (in_four : NoStopInFour
       → HasBadCheck r (looks_back r jobs (master_calls r carry restarts (u ∷ (rest ++ before)))) → ⊥
   ready_before right u rest runs clears calms failed =
       false≢true (sym failed.badly ∙ ap (is_ready (member (known_of r) failed.place)) same
-      ∙ ready r jobs carry restarts opened u (rest ++ before) runs clears failed.place failed.there (right.1 failed.place failed.there) (subst (λ (l : List Outcome). reads_count (member (known_of r) failed.place) + 12 < length l) same failed.ended))
+      ∙ is_ready_if_ended r jobs carry restarts opened u (rest ++ before) runs clears failed.place failed.there (right.1 failed.place failed.there) (subst (λ (l : List Outcome). reads_count (member (known_of r) failed.place) + 12 < length l) same failed.ended))
     where
       kept : fall_of (known_of r) (behind_mdt r jobs carry restarts u.sent (rest ++ before)) ≡ None
       kept = (never_falls r jobs carry restarts opened (u ∷ rest) before runs clears starts calms).stays.1

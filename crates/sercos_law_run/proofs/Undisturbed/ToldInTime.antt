@@ -34,10 +34,8 @@ use Rattle.sercos_law_run.specs.Views.RingViews.{behind_mdt}
 use Rattle.sercos_law_run.specs.Held.Opened.{IsOpened}
 use Rattle.sercos_law_run.proofs.Headline.HeadlineRuns.{keeps_all}
 use Rattle.sercos_law_run.proofs.Headline.OnceRuns.{restarts_so}
-use Rattle.sercos_law_run.specs.Undisturbed.Ends.{ComesToPhaseFour}
 use Rattle.sercos_law_run.specs.Undisturbed.EpochStarts.{StartsEpoch}
 use Rattle.sercos_law_run.specs.Undisturbed.Reports.{HaveTold, left_after, request_cycles, waiting_after}
-use Rattle.sercos_law_run.specs.Undisturbed.StopsLater.{NoStopInFour}
 use Rattle.sercos_law_run.specs.Undisturbed.Undisturbed.{AreUndisturbed}
 use Rattle.sercos_law_run.proofs.Undisturbed.EpochCycles.{AreOn, IsCut, IsOn, are_on, cut, going, goings}
 use Rattle.sercos_law_run.proofs.Undisturbed.GoingCycles.{AreAll, AreGoing, IsGoing, all_so, run_rest, waits_along, waits_now}
@@ -48,7 +46,7 @@ use Rattle.sercos_law_run.proofs.Undisturbed.OneRequest.{room}
 use Rattle.sercos_law_run.proofs.Undisturbed.PhaseCounts.{end_kept}
 use Rattle.sercos_law_run.proofs.Undisturbed.PhaseZero.{in_zero}
 use Rattle.sercos_law_run.proofs.Undisturbed.Small.{first_is, never_both}
-use Rattle.sercos_law_run.proofs.Undisturbed.StartUpEnds.{inside}
+use Rattle.sercos_law_run.proofs.Undisturbed.Cited.{inside}
 use Rattle.sercos_law_channel.proofs.Pace.WholeCycles.{recovers_in_time}
 use Rattle.sercos_law_run.proofs.Agenda.Requests.{are_requests}
 use Rattle.sercos_law_run.proofs.Cited.{begins_tasks, told_in_order}
@@ -352,7 +350,7 @@ module _ (r : RingView) (jobs : List Job) (carry : Carry) (restarts : Restarts) 
 module _ (r : RingView) (jobs : List Job) (carry : Carry) (restarts : Restarts) (opened : IsOpened r jobs) (k : ℕ)
     (below : k < length r.drives) (P : CycleView → List CycleView → Type 0)
     (goes : (t : CycleView) (j : List CycleView) → P t j → IsGoing r jobs carry restarts t j) (lasts : LastsShort r jobs carry restarts k P)
-    (no_stop : NoStopInFour) (t : CycleView) (cycles : List CycleView) (one : CycleView) (old : List CycleView)
+    (t : CycleView) (cycles : List CycleView) (one : CycleView) (old : List CycleView)
     (run : IsRun r jobs carry restarts (t ∷ (cycles ++ one ∷ old))) (clear : IsClear (t ∷ (cycles ++ one ∷ old)))
     (those : AreAll P (t ∷ cycles) (one ∷ old)) (one_is : P one old) (one_four : one.phase ≡ 4) (four : t.phase ≡ 4) (i : ℕ)
     (long : suc i * request_cycles r k ≤ suc (length cycles)) where
@@ -383,7 +381,7 @@ module _ (r : RingView) (jobs : List Job) (carry : Carry) (restarts : Restarts) 
 
   few : (x : ℕ) → x ≤ m.0 + suc i → x ≤ waits → length (left_after r jobs carry restarts (t ∷ (cycles ++ one ∷ old)) k) + x ≤ waits
   few x most low =
-      let ended = have_ended r jobs carry restarts opened k below P goes lasts no_stop one old one_is one_four m.0
+      let ended = have_ended r jobs carry restarts opened k below P goes lasts one old one_is one_four m.0
       (let is = m.1 in omega (arith, is)) (suc i) t cycles run clear those long x most low in
       let same = waits_t in
       let left_is = left_few r jobs carry restarts opened k below t (cycles ++ one ∷ old) run clear on.1 four x ended (omega (arith, same, low)) in
@@ -405,7 +403,7 @@ module _ (r : RingView) (jobs : List Job) (carry : Carry) (restarts : Restarts) 
   ]
 
 -- So it is in undisturbed cycles.
-module _ (no_stop : NoStopInFour) (r : RingView) (jobs : List Job) (carry : Carry) (restarts : Restarts) (opened : IsOpened r jobs) (k : ℕ)
+module _ (r : RingView) (jobs : List Job) (carry : Carry) (restarts : Restarts) (opened : IsOpened r jobs) (k : ℕ)
     (below : k < length r.drives) (t : CycleView) (cycles : List CycleView) (one : CycleView) (old : List CycleView)
     (run : IsRun r jobs carry restarts (t ∷ (cycles ++ one ∷ old))) (clear : IsClear (t ∷ (cycles ++ one ∷ old)))
     (on : AreOn r jobs carry restarts (t ∷ cycles) (one ∷ old)) (calm : AreUndisturbed r carry restarts cycles (one ∷ old))
@@ -414,12 +412,11 @@ module _ (no_stop : NoStopInFour) (r : RingView) (jobs : List Job) (carry : Carr
   pub left_in_time : length (left_after r jobs carry restarts (one ∷ old) k) ≤ n + suc i → length (left_after r jobs carry restarts (t ∷
       (cycles ++ one ∷ old)) k) ≤ n
   left_in_time enough = left_later r jobs carry restarts opened k below (IsOn r jobs carry restarts) (going r jobs carry restarts)
-      (lasts_undisturbed recovers_in_time r jobs carry restarts opened k below) no_stop t cycles one old run clear on first one_four four i
-      long n enough
+      (lasts_undisturbed recovers_in_time r jobs carry restarts opened k below) t cycles one old run clear on first one_four four i long n
+      enough
 
 -- THE REQUESTS ARE REPORTED IN TIME.
-module _ (reaches : ComesToPhaseFour) (no_stop : NoStopInFour) (r : RingView) (jobs : List Job) (carry : Carry) (restarts : Restarts)
-    (opened : IsOpened r jobs) where
+module _ (r : RingView) (jobs : List Job) (carry : Carry) (restarts : Restarts) (opened : IsOpened r jobs) where
   one_more_time : (i c : ℕ) → (i + 1) * c ≡ suc i * c
   one_more_time i c = grind arith
 
@@ -452,7 +449,7 @@ module _ (reaches : ComesToPhaseFour) (no_stop : NoStopInFour) (r : RingView) (j
     on_cut = (c.on, subst (λ (l : List CycleView). IsOn r jobs carry restarts t l) c.is on_epoch.1)
 
     one_four : c.one.phase ≡ 4
-    one_four = four_since reaches no_stop r jobs carry restarts opened t c.newer c.one c.older before run_cut clear_cut
+    one_four = four_since r jobs carry restarts opened t c.newer c.one c.older before run_cut clear_cut
         (goings r jobs carry restarts (t ∷ c.newer) (c.one ∷ (c.older ++ before)) on_cut)
         (going r jobs carry restarts c.one (c.older ++ before) c.on_older.1) starts c.calm
         (let is = later.1 in let rest = c.rest in omega (arith, is, rest)) four
@@ -461,7 +458,7 @@ module _ (reaches : ComesToPhaseFour) (no_stop : NoStopInFour) (r : RingView) (j
     left_in_epoch enough = subst (λ (l : List CycleView). length (left_after r jobs carry restarts (t ∷ l) k) ≤ n) (sym c.is)
         (left_waiting r jobs carry restarts opened k below (IsOn r jobs carry restarts)
         (going r jobs carry restarts)
-        (lasts_undisturbed recovers_in_time r jobs carry restarts opened k below) no_stop t c.newer c.one
+        (lasts_undisturbed recovers_in_time r jobs carry restarts opened k below) t c.newer c.one
         (c.older ++ before) run_cut clear_cut on_cut c.on_older.1 one_four four i
         (let is = later.1 in let count = c.long in omega (arith, is, count, long)) n
         (subst (λ (l : List Task). length l ≤ n + suc i) (sym (waits_along r jobs carry restarts c.older before

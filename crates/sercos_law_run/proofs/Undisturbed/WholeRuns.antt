@@ -18,7 +18,6 @@ use Rattle.sercos_law_run.specs.Views.RingViews.{behind_mdt, view_of, views_of}
 use Rattle.sercos_law_run.proofs.Views.Members.{member_is}
 use Rattle.sercos_law_run.specs.Held.Opened.{IsOpened}
 use Rattle.sercos_law_run.specs.Undisturbed.Ends.{StaysAtItsEnd}
-use Rattle.sercos_law_run.specs.Undisturbed.Fit.{FitsInThree, OwnFitsInFour}
 use Rattle.sercos_law_run.specs.Undisturbed.Reports.{ReportsInTime}
 use Rattle.sercos_law_run.specs.Undisturbed.StartUps.{AgesUndisturbed, AnswersUndisturbed, TellsNoFallUndisturbed}
 use Rattle.sercos_law_run.specs.Undisturbed.StopsInTwo.{StopsForTheCycleTime, StopsForThePlan}
@@ -27,6 +26,7 @@ use Rattle.sercos_law_run.specs.Undisturbed.Undisturbed.{AreUndisturbed, IsUndis
 use Rattle.sercos_law_run.specs.Undisturbed.WholeRuns.{HasTold, NeverDisturbed, StartsUp, StopsForCause}
 use Rattle.sercos_law_run.proofs.Undisturbed.StopOnce.{TellNoFall, told_once}
 use Rattle.sercos_law_run.proofs.Undisturbed.StopsTold.{stop_told_in}
+use Rattle.sercos_law_run.proofs.Undisturbed.Cited.{fits_in_three, own_fits_in_four}
 
 -- a journal after the empty one
 never_disturbed : (r : RingView) (carry : Carry) (restarts : Restarts) (j : List CycleView) → NeverDisturbed r carry restarts j → AreUndisturbed r carry restarts j []
@@ -47,9 +47,9 @@ caused r jobs carry restarts t j x (inr (inr check)) = inr (inr (record {
   fits = check.fits;
 }))
 
-module _ (clear : StaysClear) (tells : TellsNoFallUndisturbed) (rises : RisesIfRight) (fit : FitsInThree) (own : OwnFitsInFour) (at_end : StaysAtItsEnd) (outcome : EndsStartUp) (ages : AgesUndisturbed) (answers : AnswersUndisturbed)
-    (reports : ReportsInTime)
-    (r : RingView) (jobs : List Job) (carry : Carry) (restarts : Restarts) (opened : IsOpened r jobs) where
+module _ (clear : StaysClear) (tells : TellsNoFallUndisturbed) (rises : RisesIfRight) (at_end : StaysAtItsEnd) (outcome : EndsStartUp)
+    (ages : AgesUndisturbed) (answers : AnswersUndisturbed) (reports : ReportsInTime) (r : RingView) (jobs : List Job) (carry : Carry)
+    (restarts : Restarts) (opened : IsOpened r jobs) where
   abbrev All : List CycleView → Type 0
   All j = IsRun r jobs carry restarts j
 
@@ -69,8 +69,8 @@ module _ (clear : StaysClear) (tells : TellsNoFallUndisturbed) (rises : RisesIfR
     clear = clear_so;
     tells = tells r jobs carry restarts t j [] opened (long t j run) (all_clear t j run calm) refl calm_so;
     rises = λ late right. rises r jobs carry restarts t j [] opened (long t j run) (all_clear t j run calm) refl calm_so late right;
-    right = λ four. (fit r jobs carry restarts t j opened run clear_so (let low : 3 ≤ t.phase = omega (arith, four) in low), λ k below. own r jobs carry restarts t j k opened run clear_so below four);
-    fit = λ late. fit r jobs carry restarts t j opened run clear_so late;
+    right = λ four. (fits_in_three r jobs carry restarts t j opened run clear_so (let low : 3 ≤ t.phase = omega (arith, four) in low), λ k below. own_fits_in_four r jobs carry restarts t j k opened run clear_so below four);
+    fit = λ late. fits_in_three r jobs carry restarts t j opened run clear_so late;
     stays = λ u before is four. (at_end r jobs carry restarts t u before [] opened (long_before u before is) (clear_before u before is) refl (calm_before u before is)).0 four;
     ends = λ late. by (outcome r jobs carry restarts t j [] opened (long t j run) (all_clear t j run calm) refl calm_so late);
     once = λ x y told more. told_once r jobs carry restarts t j x y run (tell_none (t ∷ j) run calm) told more;

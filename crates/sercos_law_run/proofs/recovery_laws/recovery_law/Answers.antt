@@ -8,8 +8,6 @@ use Rattle.sercos_law_run.proofs.Recovery.Returns.{recovers_in}
 use Rattle.sercos_law_run.proofs.Recovery.SpareStops.{falls_anyway}
 use Rattle.sercos_law_run.proofs.Recovery.Stretches.{ages_down_in, keeps_up, stays_down_in}
 use Rattle.sercos_law_run.proofs.Recovery.UpInThree.{lasts_with_list}
-use Rattle.sercos_law_run.proofs.Undisturbed.LaterStops.{ready_if_ended}
-use Rattle.sercos_law_run.proofs.Undisturbed.StartUpEnds.{ReadyIfEnded, inside}
 use Rattle.sercos_law_run.specs.Bounds.Bounds.{slowest}
 use Rattle.std.proofs.Common.{◌+◌, ◌*◌}
 use Rattle.sercos_law_run.proofs.recovery_laws.recovery_law.Goals as goal
@@ -17,8 +15,6 @@ use Rattle.sercos_law_run.proofs.recovery_laws.recovery_law.Goals as goal
 pub returns : goal.returns
 returns c =
     let calm = c.undisturbed_law.ensures in
-    let ready : ReadyIfEnded = λ r jobs carry restarts opened t j run clear k below none ended.
-    ready_if_ended r jobs carry restarts opened t j run clear k below (inside r k below) none ended in
     record {
       up_or_down = λ r jobs carry restarts cycles first before opened run clear stretch k below.
           keeps_up r jobs carry restarts opened cycles first before run clear stretch k below;
@@ -31,19 +27,17 @@ returns c =
       falls = λ r jobs carry restarts t u j opened run clear none stays late k below down.
           falls_if_down r jobs carry restarts opened t u j run clear none stays late k below down;
       in_time = λ r jobs carry restarts t cycles first before opened run clear stretch calm late falls d there down.
-          falls_anyway r jobs carry restarts opened d there c.undisturbed_law.ensures.stops_two c.undisturbed_law.ensures.stops_three t
-          cycles first before run clear stretch calm late falls down;
+          falls_anyway r jobs carry restarts opened d there t cycles first before run clear stretch calm late falls down;
       soon = λ r jobs carry restarts t cycles first before opened run clear stretch calm late up falls.
           falls_soon r jobs carry restarts opened t cycles first before run clear stretch calm late up falls;
       comes_back = λ r jobs carry restarts t cycles first before opened run clear stretch late up long.
           comes_back r jobs carry restarts opened first before late up (41 * (slowest r.drives + 2))
           (lasts_with_list r jobs carry restarts opened) t cycles run clear stretch long;
-      after_fall = after_fall calm.fall calm.restart calm.tells calm.rises calm.fit calm.own calm.at_end calm.outcome calm.ages calm.answers calm.reports calm.stays;
+      after_fall = after_fall calm.fall calm.restart calm.tells calm.rises calm.at_end calm.outcome calm.ages calm.answers calm.reports calm.stays;
       predicts = λ r jobs carry restarts t j opened run clear.
-          is_predicted calm.stops_two calm.stops_three calm.none_four calm.fit calm.own r jobs carry restarts opened t j run clear;
+          is_predicted r jobs carry restarts opened t j run clear;
       recovers = λ r jobs carry restarts t j opened run clear.
-          recovers_in r jobs carry restarts opened calm.stops_two calm.stops_three calm.none_four calm.fit calm.own calm.outcome calm.rises
-          ready calm.stays calm.fall
-          (after_fall calm.fall calm.restart calm.tells calm.rises calm.fit calm.own calm.at_end calm.outcome calm.ages calm.answers calm.reports calm.stays)
-          calm.four t j run clear;
+          recovers_in r jobs carry restarts opened calm.outcome calm.rises calm.stays calm.fall
+          (after_fall calm.fall calm.restart calm.tells calm.rises calm.at_end calm.outcome calm.ages calm.answers calm.reports calm.stays)
+          t j run clear;
     }

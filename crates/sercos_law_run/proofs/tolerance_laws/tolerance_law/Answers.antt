@@ -1,6 +1,4 @@
 use Rattle.std.proofs.Common.{inl}
-use Rattle.sercos_law_run.proofs.Undisturbed.LaterStops.{ready_if_ended}
-use Rattle.sercos_law_run.proofs.Undisturbed.StartUpEnds.{ReadyIfEnded, inside}
 use Rattle.sercos_law_run.specs.Tolerance.Bears.{BearsSparse}
 use Rattle.sercos_law_run.specs.Tolerance.Ends.{EndsSparse}
 use Rattle.sercos_law_run.specs.Tolerance.Many.{EndsAnyway, RisesAnyway}
@@ -22,25 +20,16 @@ use Rattle.sercos_law_run.proofs.tolerance_laws.tolerance_law.Goals as goal
 
 pub returns : goal.returns
 returns c =
-    let ready : ReadyIfEnded = λ r jobs carry restarts opened t j run clear k below none ended.
-    ready_if_ended r jobs carry restarts opened t j run clear k below (inside r k below) none ended in
     let rises : RisesSparse = λ r jobs carry restarts t cycles before opened run clear starts sparse right long.
-    rises_sparse c.undisturbed_law.ensures.stops_two c.undisturbed_law.ensures.stops_three ready r jobs carry restarts opened t cycles
-    before run clear (inl starts) sparse right long in
+    rises_sparse r jobs carry restarts opened t cycles before run clear (inl starts) sparse right long in
     let reports : ReportsSparse = λ r jobs carry restarts t cycles before opened run clear starts sparse k i x below got long.
-    reports_sparse c.undisturbed_law.ensures.none_four r jobs carry restarts opened t cycles before run clear starts sparse k i x below got
-    long in
+    reports_sparse r jobs carry restarts opened t cycles before run clear starts sparse k i x below got long in
     let ends : EndsSparse = λ r jobs carry restarts t cycles before opened run clear starts sparse long.
-    ends_sparse c.undisturbed_law.ensures.stops_two c.undisturbed_law.ensures.stops_three c.undisturbed_law.ensures.none_four
-    c.undisturbed_law.ensures.fit c.undisturbed_law.ensures.own r jobs carry restarts opened t cycles before run clear starts sparse long in
+    ends_sparse r jobs carry restarts opened t cycles before run clear starts sparse long in
     let rises_anyway_so : RisesAnyway = λ r jobs carry restarts t cycles before opened run clear starts sparse right long.
-    rises_anyway c.undisturbed_law.ensures.stops_two c.undisturbed_law.ensures.stops_three c.undisturbed_law.ensures.none_four
-    c.undisturbed_law.ensures.fit c.undisturbed_law.ensures.own ready r jobs carry restarts opened t cycles before run clear starts sparse
-    right long in
+    rises_anyway r jobs carry restarts opened t cycles before run clear starts sparse right long in
     let ends_anyway_so : EndsAnyway = λ r jobs carry restarts t cycles before opened run clear starts sparse long.
-    ends_anyway c.undisturbed_law.ensures.stops_two c.undisturbed_law.ensures.stops_three c.undisturbed_law.ensures.none_four
-    c.undisturbed_law.ensures.fit c.undisturbed_law.ensures.own ready r jobs carry restarts opened t cycles before run clear starts sparse
-    long in
+    ends_anyway r jobs carry restarts opened t cycles before run clear starts sparse long in
     let bears : BearsSparse = λ r jobs carry restarts t cycles before opened run clear starts sparse.
     bears_sparse rises reports ends rises_anyway_so ends_anyway_so r jobs carry restarts opened t cycles before run clear starts sparse in
     record {
@@ -61,8 +50,7 @@ returns c =
       rises_anyway = rises_anyway_so;
       ends_anyway = ends_anyway_so;
       returns = λ r jobs carry restarts t j opened run clear.
-          returns_sparse c.undisturbed_law.ensures.stops_two c.undisturbed_law.ensures.stops_three ready c.undisturbed_law.ensures.none_four
-          c.undisturbed_law.ensures.fit c.undisturbed_law.ensures.own r jobs carry restarts opened (tolerates bears) t j run clear;
+          returns_sparse r jobs carry restarts opened (tolerates bears) t j run clear;
       two = λ r jobs carry restarts t cycles before opened run clear starts sparse is_two none.
           two_sparse r jobs carry restarts opened t cycles before run clear (inl starts) sparse is_two none;
     }

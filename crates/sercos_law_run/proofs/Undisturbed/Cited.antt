@@ -1,0 +1,58 @@
+-- What the laws on undisturbed cycles say of every clear run, as they state it.
+use Rattle.std.proofs.Common.{◌≡◌, ℕ, ◌+◌, ◌<◌, true, false, List, ◌∷◌, length, arith}
+use Rattle.sercos_step.specs.declared.request.Job.{Job}
+use Rattle.sercos_block.specs.Views.{RingView}
+use Rattle.sercos_trace.specs.Views.{CycleView}
+use Rattle.sercos_command.specs.Checks.{is_outside}
+use Rattle.std.specs.List.{list_any}
+use Rattle.sercos_seat.specs.Agenda.{is_ready, reads_count}
+use Rattle.sercos_seat.specs.Ring.{known_of, member}
+use Rattle.sercos_master.specs.Annals.{outcomes}
+use Rattle.sercos_script.specs.Links.{Carry, Restarts}
+use Rattle.sercos_law_run.specs.Journal.Runs.{drive_at, IsRun, IsClear}
+use Rattle.sercos_law_run.specs.Views.RingViews.{behind_mdt}
+use Rattle.sercos_law_run.proofs.Views.Members.{members_count}
+use Rattle.sercos_law_run.specs.Held.Opened.{IsOpened}
+use Rattle.sercos_law_run.specs.Undisturbed.Ends.{ComesToPhaseFour}
+use Rattle.sercos_law_run.specs.Undisturbed.Fit.{FitsInThree, OwnFitsInFour}
+use Rattle.sercos_law_run.specs.Undisturbed.StopsInTwo.{StopsInTwo}
+use Rattle.sercos_law_run.specs.Undisturbed.StopsLater.{NoStopInFour, StopsInThree}
+use Rattle.sercos_law_run.proofs.Undisturbed.CycleHeld.{fits_in}
+use Rattle.sercos_law_run.proofs.Undisturbed.InTime.{comes_to_four}
+use Rattle.sercos_law_run.proofs.Undisturbed.LaterStops.{no_stop_in_four, ready_if_ended, stop_in_three}
+use Rattle.sercos_law_run.proofs.Undisturbed.OwnFit.{own_fits}
+use Rattle.sercos_law_run.proofs.Undisturbed.RefusedStops.{refused_stop}
+use Rattle.sercos_law_run.proofs.Undisturbed.TwoStops.{stop_in_two}
+
+pub inside : (r : RingView) (k : ℕ) → k < length r.drives → k < length (known_of r).drives
+inside r k below = let count = members_count r in omega (arith, count, below)
+
+-- a check for phase 4 that has ended, of a drive of which no own block was outside its limits, has ended well
+abbrev pub ReadyIfEnded : Type 0
+ReadyIfEnded = (r : RingView) (jobs : List Job) (carry : Carry) (restarts : Restarts) (opened : IsOpened r jobs) (t : CycleView) (j : List CycleView) → IsRun r jobs carry restarts (t ∷ j) → IsClear (t ∷ j) →
+    (k : ℕ) → k < length r.drives → list_any is_outside (drive_at r k).blocks ≡ false →
+    reads_count (member (known_of r) k) + 12 < length (outcomes (behind_mdt r jobs carry restarts t.sent j) k) → is_ready (member (known_of r) k) (outcomes (behind_mdt r jobs carry restarts t.sent j) k) ≡ true
+
+pub is_ready_if_ended : ReadyIfEnded
+is_ready_if_ended r jobs carry restarts opened t j run clear k below none ended =
+    ready_if_ended r jobs carry restarts opened t j run clear k below (inside r k below) none ended
+
+pub stops_in_two : StopsInTwo
+stops_in_two r jobs carry restarts t j x opened run clear two is =
+    stop_in_two r jobs carry restarts opened t j run clear two (refused_stop r jobs carry restarts opened t j run clear two) x is
+
+pub stops_in_three : StopsInThree
+stops_in_three r jobs carry restarts t j x opened run clear three is = stop_in_three r jobs carry restarts opened t j run clear three x is
+
+pub never_stops_in_four : NoStopInFour
+never_stops_in_four r jobs carry restarts t j opened run clear four = no_stop_in_four r jobs carry restarts opened t j run clear four
+
+pub comes_to_phase_four : ComesToPhaseFour
+comes_to_phase_four r jobs carry restarts t cycles before opened run clear starts calm long =
+    comes_to_four r jobs carry restarts opened t cycles before run clear starts calm long
+
+pub fits_in_three : FitsInThree
+fits_in_three r jobs carry restarts t j opened run clear late = fits_in r jobs carry restarts opened t j run clear late
+
+pub own_fits_in_four : OwnFitsInFour
+own_fits_in_four r jobs carry restarts t j k opened run clear below four = own_fits r jobs carry restarts opened k below t j run clear four
