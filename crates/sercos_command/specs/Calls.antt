@@ -6,8 +6,8 @@ use Rattle.sercos_block.specs.declared.block.Block.{Block}
 use Rattle.sercos_command.specs.declared.commands.SetCommand.{SetCommand}
 use Rattle.sercos_command.specs.Settings.{ends_well, has_ended, status_by}
 
--- A write of 0 or 3 to a command in a cycle, with the blocks of that moment; a write to other operation data in a cycle;
--- phase 0.
+-- A write of 0 or 3 to a command in a cycle, with the blocks right after it, before a check that it sets writes its list; a write to
+-- other operation data in a cycle; the drive is in phase 0, or restarts.
 pub data Call : Type 0 where
   Wrote : (raw value cycle : ℕ) → List Block → Call
   Other : (cycle : ℕ) → Call
@@ -66,7 +66,7 @@ is_passed rate time check h cycle =
 abbrev pub status_of : ℕ → ℕ → List Call → ℕ → ℕ → ℕ
 status_of rate time h raw cycle = status_by time (setting_of rate raw h) cycle
 
--- The change bit in a cycle: some command that was written to is set and has ended.
+-- the numbers of the commands that were written to
 abbrev pub commands_in : List Call → List ℕ
 commands_in [] = []
 commands_in (Wrote raw value cycle blocks ∷ h) = raw ∷ commands_in h
@@ -76,6 +76,7 @@ commands_in (Reset ∷ h) = commands_in h
 abbrev pub is_ended : ℕ → ℕ → List Call → ℕ → ℕ → Bool
 is_ended rate time h cycle raw = unwrap_or (option_map (has_ended time cycle) (setting_of rate raw h)) false
 
+-- The change bit in a cycle: some command that was written to is set and has ended.
 abbrev pub change_of : ℕ → ℕ → List Call → ℕ → Bool
 change_of rate time h cycle = list_any (is_ended rate time h cycle) (commands_in h)
 
@@ -84,12 +85,12 @@ cycle_of (Wrote raw value cycle blocks) before = cycle
 cycle_of (Other cycle) before = cycle
 cycle_of Reset before = before
 
--- the cycle of the newest call
+-- the cycle of the newest call that has one, and 0 if there is none
 abbrev pub newest : List Call → ℕ
 newest [] = 0
 newest (c ∷ h) = cycle_of c (newest h)
 
--- the cycles of the calls don't descend
+-- no call is of an earlier cycle than the calls before it in time, which follow it in the list
 abbrev pub AreInOrder : List Call → Type 0
 AreInOrder [] = Unit {0}
 AreInOrder (c ∷ h) = AreInOrder h × (newest h ≤ newest (c ∷ h))

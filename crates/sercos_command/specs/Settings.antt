@@ -103,8 +103,8 @@ without_checks c = record c { passed_127 = None; passed_128 = None }
 abbrev pub without_settings : CommandsView → CommandsView
 without_settings c = record { rate = c.rate; time = c.time; set = []; passed_127 = None; passed_128 = None }
 
--- The blocks after a write to a command: a check that is set writes its list of what is unfit, S-0-0127 into S-0-0021 and
--- S-0-0128 into S-0-0022.
+-- The blocks after a write to a command: 3 to a check that isn't set writes the list of what is unfit, S-0-0127 into S-0-0021 and
+-- S-0-0128 into S-0-0022. A further 3, and a 0, write no list.
 unfoldable pub with_lists : CommandsView → ℕ → ℕ → List Block → List Block
 with_lists c raw value blocks =
     if not (value == to_cancel) && is_none (find_set raw c.set)

@@ -10,7 +10,7 @@ use Rattle.sercos_drive.specs.declared.hearing.Told.{Told}
 use Rattle.sercos_drive.specs.Heard.{DriveCall, Mst, Mdt, Restart, mst_got, mdt_got}
 use Rattle.sercos_drive.specs.Moments.{Moment, AtMst, AtMdt, AtRestart, phase_in, cycle_in, has_mst, has_missed, taken_in, writes_in, blocks_in, commands_in, calls_in}
 
--- whether the check for a rise to this phase is passed: check 127 for phase 3, check 128 for phase 4
+-- whether a rise to this phase is allowed: up to phase 2 always, to phase 3 if check 127 is passed, to phase 4 if check 128 is
 abbrev pub has_passed : DriveView → ℕ → ℕ → ℕ → List Moment → Bool
 has_passed d rate cycle phase past =
     nat_le phase 2

@@ -42,7 +42,8 @@ has_taken (AtMst cycle got phase ∷ past) = has_taken past
 has_taken (AtMdt took processed phase ∷ past) = took
 has_taken (AtRestart ∷ past) = false
 
--- whether the drive stood in phase 3 or 4 at the newest MDT's place and took no MDT; a restart forgets it
+-- Whether the drive was in phase 3 or 4 at the newest MDT's place and took no MDT; a restart forgets it. Phase 0 needs no case: before
+-- the drive is in phase 3 again, an MDT's place in a lower phase has cleared it.
 abbrev pub has_missed : List Moment → Bool
 has_missed [] = false
 has_missed (AtMst cycle got phase ∷ past) = has_missed past

@@ -126,7 +126,7 @@ is_awaited p k = if nat_le 3 p.now.phase then true else (nat_le 1 p.now.phase &&
 abbrev pub wanted_len : Known → Past → ℕ → ℕ
 wanted_len s p k = if nat_le 3 p.now.phase then at_len (member s k) (outcomes p k) else 4
 
--- The first AT of a drive in a cycle that reads is taken.
+-- An AT is taken if one is awaited from its drive, and it is the drive's first in this cycle with the wanted length and address.
 abbrev pub is_taken : Known → Past → ℕ → List ℕ → Bool
 is_taken s p k content = is_awaited p k && (not (p.now.heard k) && is_none (at_fault (member s k).address (wanted_len s p k) content))
 
@@ -264,7 +264,8 @@ after_mdt s p = sent_to (addressed_in s (ready_to_send s p)) (ready_to_send s p)
 
 -- THE END OF THE CYCLE. The first that holds of these makes the ring fall to phase 0. The own MST wasn't whole in two cycles in a
 -- row of phases 1 to 4; no AT was taken from a drive in two cycles in a row of phases 3 and 4; a step or an identification
--- has no answer up to the 64th cycle after the one in which it was first sent.
+-- has no answer up to the 64th cycle after the one in which it was first sent. Until a fall the phase never descends, so of two
+-- cycles in a row the phase of the earlier one is tested. A restart isn't among these: it is a fall at once.
 abbrev pub has_lost_mst : List Turn → Bool
 has_lost_mst (t ∷ before ∷ turns) = nat_le 1 before.phase && (not t.whole && not before.whole)
 has_lost_mst _ = false

@@ -64,7 +64,7 @@ cycles_in [] = 0
 cycles_in (EndCycle ∷ h) = cycles_in h + 1
 cycles_in (call ∷ h) = cycles_in h
 
--- A step of a channel was open when it was sent, n cycles ago, and no answer has been taken since.
+-- The open step of a channel was sent n cycles ago, perhaps not for the first time; since then no answer was taken and no request begun.
 pub record IsOpenFor (h : List Call) (n : ℕ) : Type 0 where
   pub newer : List Call
   pub older : List Call
@@ -79,7 +79,8 @@ AreTo k zero turns = Unit {0}
 AreTo k (suc n) [] = ⊥
 AreTo k (suc n) (t ∷ turns) = (t.phase ≡ 1) × (t.addressed ≡ Some k) × AreTo k n turns
 
--- StepLimit: in phase 1 the MDT was to the drive in this cycle and in the 64 before it; later its step is open for 64 cycles.
+-- StepLimit: in phase 1 the MDT was to the drive in this cycle and in the 64 before it; later its open step was sent 64 or more
+-- cycles ago.
 pub data IsLate (p : Past) (k : ℕ) : Type 0 where
   Identification : p.now.phase ≡ 1 → AreTo k 65 (p.now ∷ p.turns) → IsLate p k
   Step : (n : ℕ) → 64 ≤ n → IsOpenFor (p.calls k) n → IsLate p k

@@ -37,14 +37,15 @@ pub record KeepsTimes (rate : ℕ) (blocks : List Block) : Type 0 where
 abbrev pub EmptyKeepsTimes : Type 0
 EmptyKeepsTimes = (rate : ℕ) (blocks : List Block) → unfit_for_phase_3 rate blocks ≡ [] → KeepsTimes rate blocks
 
--- In phases 3 and 4 a drive has such a store, whatever it was handed, and whatever was written to it.
+-- In phases 3 and 4 the check for phase 3 finds nothing in a drive's store, so the store keeps its times, whatever the drive was handed
+-- and whatever was written. The drive's own blocks break no rule, and the store that it opens with is ascending and sound.
 abbrev pub FitInThree : Type 0
 FitInThree = (d : DriveView) (rate : ℕ) (h : List DriveCall) → blocks_fault [] d.blocks ≡ None → IsStore (store_of d)
     → 3 ≤ phase_at d rate h →
     unfit_for_phase_3 rate (store_at d rate h) ≡ []
 
--- So there a drive gets its record of each MDT to all drives that reads: it is tested whether the record lies within the MDT, and it
--- always does.
+-- So there a drive gets its record of each joint MDT with the right length and address: it is tested whether the record lies within the
+-- MDT, and it always does.
 abbrev pub AlwaysLies : Type 0
 AlwaysLies = (d : DriveView) (rate : ℕ) (h : List DriveCall) (content : List ℕ) → blocks_fault [] d.blocks ≡ None → IsStore (store_of d)
     → 3 ≤ phase_at d rate h →

@@ -62,7 +62,7 @@ missed_before d rate (Mdt content ∷ h) = misses d rate content h
 missed_before d rate (Restart ∷ h) = false
 
 -- The causes for which a drive goes to phase 0: an MST of another phase than its own, unless that is the next one and its check is passed;
--- no MST for the second time in a row; in phases 3 and 4 no MDT for the second time in a row; a restart.
+-- no MST for the second time in a row; in phases 3 and 4 no MDT taken for the second time in a row; a restart.
 pub data Drops (d : DriveView) (rate : ℕ) (call : DriveCall) (h : List DriveCall) : Type 0 where
   ByPhase : (cycle phase : ℕ) → (content : Option (List ℕ)) → call ≡ Mst cycle content → mst_got content ≡ Some phase
       → (phase ≡ phase_at d rate h → ⊥)
