@@ -23,7 +23,7 @@ ghost use Rattle.sercos_law_run.specs.Tolerance.TwoLasts.{TwoSparse};
 /// of the requests to it, and what the disturbed cycles cost: two cycles each in phase 2, one in 3 and 4. Up to phase 2, where one channel
 /// works after the other, a disturbed cycle counts once for all of them. Phases 0 and 1 last for eleven cycles and one for each drive at
 /// most, and ten for each cycle of phase 0 in which the own MST was lost, and two for each disturbed one of phase 1. Phases 0 to 2 together
-/// last for that, the reads and the writes of each drive, and two cycles for each disturbed one of phase 2 at most, unless there is a stop.
+/// last for that and one, the reads and the writes of each drive, and two cycles for each disturbed one of phase 2 at most, unless there is a stop.
 /// So if a plan fits the ring's requirements, the cycle time lies within each drive's limits, and no own block of a drive was outside its
 /// limits at opening, phase 4 is commanded within the bound of a start-up and these costs, with one cycle for each disturbed one of phase
 /// 3; and once commanded, it stays. However many cycles are disturbed, it is commanded within the bound of a start-up with each drive busy
